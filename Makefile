@@ -1,0 +1,43 @@
+# make            builds the proved program and leaves it as build/abootimg
+# make run        runs its main job, on the image that it holds
+# make test       the gate: every proof from nothing, the edits that must fail, the tests and the program's run
+# make install    copies the program to PREFIX/bin, by default /usr/local/bin
+# make compare    expands the images of examples/ beside simg2img
+# make bench      times expand and list against simg2img and dd
+#
+# All need rt, the command of the Rattle toolchain, on the path (rt version prints its line).
+
+RT ?= rt
+PREFIX ?= /usr/local
+DESTDIR ?=
+PROGRAM = build/abootimg
+
+.PHONY: all run test install compare bench clean
+
+all: $(PROGRAM)
+
+# rt builds only what it has proved; with no change since, it only runs it.
+.PHONY: $(PROGRAM)
+$(PROGRAM):
+	cd crates/abootimg && $(RT) run > /dev/null
+	mkdir -p build
+	cp crates/abootimg/out/abootimg $(PROGRAM)
+
+run: $(PROGRAM)
+	$(PROGRAM)
+
+test:
+	$(RT) ci
+
+install: $(PROGRAM)
+	install -d $(DESTDIR)$(PREFIX)/bin
+	install -m 755 $(PROGRAM) $(DESTDIR)$(PREFIX)/bin/abootimg
+
+compare: $(PROGRAM)
+	ABOOTIMG=$(PROGRAM) tools/compare_simg2img.sh
+
+bench: $(PROGRAM)
+	bench/expand.py --program $(PROGRAM)
+
+clean:
+	rm -rf build

@@ -1,0 +1,68 @@
+//! The file of a raw image, in which zeros may be holes.
+
+ghost use Rattle.std.specs.Io.{WritesAtMost};
+
+use std::fs::File;
+use std::io;
+use std::io::Write;
+use std::os::unix::fs::FileExt;
+
+/// Writes a raw image to a file that was just created or emptied.
+///
+/// A regular file is made longer by a hole where a write holds only zeros, since a hole reads as zeros: that takes no
+/// room and no time. So the file holds exactly what was written, after every call. A pipe and a device are given all
+/// bytes.
+#[derive(Drop)]
+pub struct RawFile {
+    file: File,
+    // How long the file is, where it is a regular one.
+    length: Option<u64>,
+}
+
+impl RawFile {
+    /// Begins at the front of this file, which is empty.
+    pub fn new(file: File) -> RawFile {
+        let is_regular = match file.metadata() {
+            Ok(metadata) => metadata.is_file(),
+            Err(_) => false,
+        };
+        let length = if is_regular { Some(0) } else { None };
+        RawFile { file, length }
+    }
+}
+
+impl Write for RawFile {
+    fn write(&mut self, bytes: &[u8]) -> io::Result<usize> {
+        let Some(length) = self.length else {
+            return self.file.write(bytes);
+        };
+        let n = write_behind(&self.file, length, bytes)?;
+        self.length = Some(length.saturating_add(n as u64));
+        Ok(n)
+    }
+
+    fn flush(&mut self) -> io::Result<()> {
+        Ok(())
+    }
+}
+
+// Writes at the end of a regular file, where zeros are a hole if the file can have one.
+fn write_behind(file: &File, length: u64, bytes: &[u8]) -> io::Result<usize>
+    ensures { WritesAtMost result bytes.now }
+{
+    if is_zero(bytes) {
+        let longer = length.saturating_add(bytes.len() as u64);
+        if file.set_len(longer).is_ok() {
+            return Ok(bytes.len());
+        }
+    }
+    file.write_at(bytes, length)
+}
+
+// Most data that isn't zero shows it at an end. What is left is looked at as a whole, which is fast.
+fn is_zero(bytes: &[u8]) -> bool {
+    match (bytes.first(), bytes.last()) {
+        (Some(0), Some(0)) => bytes.iter().fold(0u8, |all, byte| all | *byte) == 0,
+        _ => false,
+    }
+}

@@ -1,0 +1,15 @@
+use Rattle.std.proofs.Common.{◌≡◌, ◌<◌, arith, refl, sym, ◌∙◌}
+use Rattle.abt_chunks.proofs.Showing.{shown_next, more_index}
+use Rattle.abt_chunks.proofs.listing.Chunks.next.Goals as goal
+
+pub returns-in-Ok-clause-lists : goal.returns-in-Ok-clause-lists
+returns-in-Ok-clause-lists g c tells =
+    let s = c.args.self.now.walk in
+    let s1 = c.step.new.walk in
+    let s2 = c.pass.new.walk in
+    let first = rw c.in-Ok-More.field-0-is at (c.in-Ok-More.ensures.lists tells) in
+    let numbers = rw c.in-Ok-More.field-0-is at c.in-Ok-More.ensures.numbers in
+    let stands = rw c.in-Ok-More.field-0-is at c.in-Ok-More.ensures.stands in
+    let index = more_index s.phase s s1 _ c.args.self.now.between refl (λ o. (c.step.ensures.again o).0) stands numbers in
+    let some : 0 < s2.index = omega (arith, c.in-Ok.ensures.index, index.0) in
+    rw c.info.ensures (shown_next s s1 s2 _ _ _ c.args.self.now.between first (c.in-Ok.ensures.passes tells) c.in-Ok.ensures.settles.1 c.in-Ok.ensures.settles.0 some)

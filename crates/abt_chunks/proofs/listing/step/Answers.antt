@@ -1,0 +1,22 @@
+use Rattle.std.proofs.Common.{◌≡◌, ◌-◌, ◌+◌, ◌≤◌, ◌<◌, ◌++◌, ℕ, List, refl, take, drop, length, arith, ap, sym, ◌∙◌, take-append-drop, true, false}
+use Rattle.abt_chunks.specs.Expanding.{OnMore}
+use Rattle.abt_chunks.specs.Walking.{at_end}
+use Rattle.abt_chunks.proofs.Finishing.{fault_errs}
+use Rattle.abt_chunks.proofs.Showing.{lists_to, moves_on}
+use Rattle.abt_chunks.proofs.listing.step.Goals as goal
+
+pub returns-clause-lists : goal.returns-clause-lists
+returns-clause-lists g c tells =
+    let p = c.part-taken.ensures in
+    let r = c.part-taken.result.received in
+    let rem = g.I.Input.remaining c.args.input.now in
+    let left = g.I.Input.remaining c.part-taken.new.input in
+    let joined : take r rem ++ left ≡ rem = ap (λ (l : List ℕ). take r rem ++ l) (p.rest tells) ∙ take-append-drop r rem in
+    rw c.answer.ensures (lists_to c.part-taken.result.part c.args.walk.now c.part-taken.new.self (take r rem) left rem joined (p.lists tells left (λ f. refl)))
+
+pub returns-clause-moves : goal.returns-clause-moves
+returns-clause-moves g c =
+    let p = c.part-taken.ensures in
+    let r = c.part-taken.result.received in
+    let k : g.I.Input.given c.part-taken.new.input - g.I.Input.given c.args.input.now ≡ r = omega arith in
+    rw (k, c.answer.ensures) (moves_on c.part-taken.result.part c.args.walk.now c.part-taken.new.self r c.max-all.result p.moved p.empties (omega arith))

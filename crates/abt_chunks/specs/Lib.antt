@@ -1,0 +1,6 @@
+pub mod Ahead
+pub mod Listing
+pub mod Walking
+pub mod Expanding
+pub mod Whole
+pub mod Showing

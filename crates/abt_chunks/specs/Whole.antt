@@ -1,0 +1,39 @@
+-- What an expansion of a whole input answers and writes, in the words of what it is to be an image and to have a fault.
+use Rattle.std.specs.Prelude.{◌≡◌, ℕ, ◌*◌, List, ◌++◌, Option, Result, Ok, Err}
+use Rattle.abt_sparse.specs.declared.fault.SparseFault.{SparseFault}
+use Rattle.abt_sparse.specs.Block.{laid, expansion}
+use Rattle.abt_sparse.specs.Chunk.{Header, Chunk, classed}
+use Rattle.abt_sparse.specs.Fails.{Fails, Spells}
+use Rattle.abt_chunks.specs.declared.progress.Expanded.{Expanded}
+use Rattle.abt_chunks.specs.Expanding.{Begins, UnlessDevice}
+
+-- An image stands at the front of x, and rest behind it; its expansion was written, and the answer counts it.
+pub record Expansion (e : Expanded) (old new x rest : List ℕ) : Type 0 where
+  pub header : Header
+  pub chunks : List Chunk
+  pub spelled : Spells x header chunks rest
+  pub written : new ≡ old ++ expansion header.blk_sz (classed chunks)
+  pub blocks : e.blocks ≡ header.total_blks
+  pub bytes : e.bytes ≡ header.total_blks * header.blk_sz
+
+-- x has this fault; what comes before it was written: the blocks of the chunks before it, and the raw bytes that came
+pub record Refusal (f : SparseFault) (old new x : List ℕ) : Type 0 where
+  pub given : List (Option ℕ)
+  pub fails : Fails x f given
+  pub written : new ≡ old ++ laid given
+
+-- what is answered over an input x of which rest is left, save where a device failed
+abbrev pub Expands : Result Expanded SparseFault → List ℕ → List ℕ → List ℕ → List ℕ → Type 0
+Expands (Ok e) old new x rest = Expansion e old new x rest
+Expands (Err f) old new x rest = UnlessDevice f (Refusal f old new x)
+
+-- what bytes give where nothing was before, whether an image stands at their front or they have a fault
+pub data Gives (y : List ℕ) : List ℕ → Type 0 where
+  image : (h : Header) (cs : List Chunk) (rest : List ℕ) → Spells y h cs rest → Gives y (expansion h.blk_sz (classed cs))
+  fault : (f : SparseFault) (given : List (Option ℕ)) → Fails y f given → Gives y (laid given)
+
+-- what was written is a beginning of what the bytes y give
+pub record Begun (old new y : List ℕ) : Type 0 where
+  pub whole : List ℕ
+  pub gives : Gives y whole
+  pub begins : Begins new (old ++ whole)

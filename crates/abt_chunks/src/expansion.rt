@@ -1,0 +1,76 @@
+//! What an expander writes of each part of an image.
+
+ghost use Rattle.std.specs.Prelude.{◌≡◌, ◌<◌, ◌≤◌, ◌+◌, ◌-◌, ◌*◌, ◌++◌, OnOk, OnErr, length, take, replicate};
+ghost use Rattle.std.specs.List.{concat};
+ghost use Rattle.abt_chunks.specs.Expanding.{laid_by, IsQuiet, IsWords, IsWritable};
+
+use crate::walk::Part;
+use abt_io::{DeviceFault, Meter, Output, WORDS, Window, lay_word, write_out};
+
+/// Writes what a part gives where nothing was before, which of a gap is zeros. Raw bytes are taken from the window.
+pub fn write_part<O: Output>(
+    part: Part,
+    output: &mut O,
+    w: &mut Window,
+    m: &mut Meter,
+) -> Result<(), DeviceFault>
+    requires { IsWritable part }
+    ensures ok { OnOk result (O.written output.new ≡ O.written output.old ++ laid_by part w.old.bytes) }
+    ensures front { O.written output.new ≡ O.written output.old ++ take (length (O.written output.new) - length (O.written output.old)) (laid_by part w.old.bytes) }
+    ensures grown { length (O.written output.old) ≤ length (O.written output.new) }
+    ensures some { OnOk result (IsWords part → length (O.written output.old) < length (O.written output.new)) }
+    ensures quiet { IsQuiet part → output.new ≡ output.old }
+    ensures frame { O.write_frame output.new ≡ O.write_frame output.old }
+    ensures faults { O.write_faults output.old ≤ O.write_faults output.new }
+    ensures cause { OnErr result (O.write_faults output.old < O.write_faults output.new) }
+    ensures calls { O.writes output.new + 2 * length (O.written output.old) ≤ O.writes output.old + 2 * length (O.written output.new) + 1 }
+    ensures turns { m.new.turns.number + 2 * length (O.written output.old) ≤ m.old.turns.number + 2 * length (O.written output.new) + 16 }
+    ensures few { OnOk result (m.new.turns.number + 2 * length (O.written output.old) ≤ m.old.turns.number + 2 * length (O.written output.new) + 1) }
+    ensures steps { m.new.steps.number ≡ m.old.steps.number }
+    ensures greatest { m.new.greatest.number ≡ m.old.greatest.number }
+{
+    match part {
+        Part::Raw(n) => write_out(output, w.part(0, n), m),
+        Part::Words(word, n) => write_words(word, n, output, w, m),
+        Part::Skip(n) => write_words([0; 4], n, output, w, m),
+        _ => Ok(()),
+    }
+}
+
+/// Writes a word so many times: it is laid over the window once, and the window written as often as it takes.
+fn write_words<O: Output>(
+    word: [u8; 4],
+    n: u64,
+    output: &mut O,
+    w: &mut Window,
+    m: &mut Meter,
+) -> Result<(), DeviceFault>
+    requires { 0 < n }
+    ensures ok { OnOk result (O.written output.new ≡ O.written output.old ++ concat (replicate n word)) }
+    ensures front { O.written output.new ≡ O.written output.old ++ take (length (O.written output.new) - length (O.written output.old)) (concat (replicate n word)) }
+    ensures grown { length (O.written output.old) ≤ length (O.written output.new) }
+    ensures all { OnOk result (length (O.written output.new) ≡ length (O.written output.old) + 4 * n) }
+    ensures frame { O.write_frame output.new ≡ O.write_frame output.old }
+    ensures faults { O.write_faults output.old ≤ O.write_faults output.new }
+    ensures cause { OnErr result (O.write_faults output.old < O.write_faults output.new) }
+    ensures calls { O.writes output.new + 2 * length (O.written output.old) ≤ O.writes output.old + 2 * length (O.written output.new) + 1 }
+    ensures turns { m.new.turns.number + 2 * length (O.written output.old) ≤ m.old.turns.number + 2 * length (O.written output.new) + 16 }
+    ensures few { OnOk result (m.new.turns.number + 2 * length (O.written output.old) ≤ m.old.turns.number + 2 * length (O.written output.new)) }
+    ensures steps { m.new.steps.number ≡ m.old.steps.number }
+    ensures greatest { m.new.greatest.number ≡ m.old.greatest.number }
+{
+    let most = n.min(WORDS as u64) as usize;
+    lay_word(w, word, most, m);
+    w.is_whole();
+    let mut done = 0;
+    'writes: while done < n {
+        m.tick();
+        let some = (n - done).min(most as u64) as usize;
+        match write_out(output, w.part(0, 4 * some), m) {
+            Ok(()) => {}
+            Err(fault) => return Err(fault),
+        }
+        done += some as u64;
+    }
+    Ok(())
+}

@@ -1,0 +1,45 @@
+//! Sparse images (`sparse_format.h`) read forward through one window: expanded to an output, or listed chunk by chunk.
+//!
+//! What the layers above use is the contract of [`expand`]. It answers Ok exactly where an image stands at the front of
+//! the input and no device fails; then its expansion was written, and exactly that image was read. Otherwise it answers
+//! the fault that the bytes have, with what comes before it written. Beside it stands [`Walk::part`], the one step on
+//! which [`Expander`], [`Chunks`] and a flasher are built: whatever bytes follow, what lies ahead of a walk is what the
+//! step gives, and then what lies ahead of the walk behind it.
+//!
+//! No call takes memory. Bytes pass through the lent window, at most 65,536 of them in a step, and none is held over.
+//!
+//! | file | what is in it |
+//! |---|---|
+//! | `progress.rt` | what the machines answer: `Progress`, `Expanded`, `ChunkInfo` |
+//! | `walk.rt` | `Walk`, the state of the reading machine, with `Phase`, `Turn`, `Part`, `Taken` |
+//! | `kinds.rt` | what follows from a chunk's kind |
+//! | `place.rt` | what a walk does next |
+//! | `parts.rt` | `Walk::part`, one step of it |
+//! | `expansion.rt` | what is written of a part |
+//! | `expander.rt` | `Expander`, `expand` |
+//! | `listing.rt` | `Chunks` |
+//! | `laws.rt` | the law of listings |
+//!
+//! `specs/Whole.antt` says what an expansion answers, `specs/Listing.antt` and `specs/Showing.antt` what a listing shows,
+//! `specs/Ahead.antt` and `specs/Walking.antt` what the rest of an input gives to a walk.
+#![tactic(auto)]
+
+mod expander;
+mod expansion;
+mod kinds;
+mod laws;
+mod listing;
+mod parts;
+mod place;
+mod progress;
+mod walk;
+
+pub use abt_sparse::{ChunkHeader, ChunkKind, SparseFault, SparseHeader};
+pub use expander::{Expander, expand};
+pub use laws::listings_are_right;
+pub use listing::Chunks;
+pub use progress::{ChunkInfo, Expanded, Progress};
+pub use walk::{Part, Phase, Taken, Turn, Walk};
+
+#[cfg(test)]
+mod tests;

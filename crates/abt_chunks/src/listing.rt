@@ -1,0 +1,178 @@
+//! The chunks of a sparse image, one after the other.
+
+ghost use Rattle.std.specs.Prelude.{◌≡◌, ◌<◌, ◌≤◌, ◌+◌, ◌-◌, ◌*◌, IsTrue, MatchResult, OnOk, true, false, length, drop, max};
+ghost use Rattle.abt_chunks.specs.Expanding.{IsGoing, OnDone, OnMore, Rises, Stands, UnlessDevice};
+ghost use Rattle.abt_chunks.specs.Listing.{headless, listing_of};
+ghost use Rattle.abt_chunks.specs.Walking.{IsOver, MayEnd, Numbers, at_end, info_at, is_between, todo};
+ghost use Rattle.abt_chunks.specs.Showing.{IsFew, ListsTo, Lists_next, Opens, Passes, Settles, Stands_next};
+
+use crate::expander::answer;
+use crate::kinds::has_word;
+use crate::progress::{ChunkInfo, Progress};
+use crate::walk::{Phase, Walk};
+use abt_io::{Input, Meter, Window};
+use abt_sparse::{SparseFault, SparseHeader};
+
+/// Reads a sparse image chunk by chunk, and writes nothing. Between two calls it stands behind the image's header
+/// or behind a whole chunk.
+#[derive(Drop)]
+pub struct Chunks {
+    pub walk: Walk,
+    pub ghost between: { is_between walk.phase walk ≡ true },
+}
+
+/// One step of the reading machine, whose blocks go nowhere: the words of a fill or of a gap are passed at once.
+fn step<I: Input>(
+    walk: &mut Walk,
+    input: &mut I,
+    w: &mut Window,
+    m: &mut Meter,
+) -> Result<Progress, SparseFault>
+    ensures asked { I.given input.old ≤ I.given input.new × I.given input.new ≤ I.given input.old + 65536 }
+    ensures present { IsTrue I.tells → I.given input.new - I.given input.old ≤ length (I.remaining input.old) }
+    ensures rest { IsTrue I.tells → I.remaining input.new ≡ drop (I.given input.new - I.given input.old) (I.remaining input.old) }
+    ensures lists { IsTrue I.tells → ListsTo result walk.old walk.new (I.remaining input.old) (I.remaining input.new) }
+    ensures numbers { OnMore result (Numbers walk.old.phase walk.old walk.new (I.given input.new - I.given input.old)) }
+    ensures closes { OnDone result (MayEnd walk.old.phase walk.old) }
+    ensures stands { Stands result walk.new.phase }
+    ensures cause { IsGoing walk.old.phase → Rises result (I.read_faults input.old) (I.read_faults input.new) 0 0 }
+    ensures again { IsOver walk.old.phase → (walk.new ≡ walk.old) × (input.new ≡ input.old) }
+    ensures fewer { OnMore result (todo walk.new < todo walk.old) }
+    ensures read_frame { I.read_frame input.new ≡ I.read_frame input.old }
+    ensures read_faults { I.read_faults input.old ≤ I.read_faults input.new }
+    ensures reads { I.reads input.new ≤ I.reads input.old + (I.given input.new - I.given input.old) + 1 }
+    ensures moves { OnMore result (at_end walk.new ≡ false → 0 < I.given input.new - I.given input.old) }
+    ensures turns { m.new.turns.number ≤ m.old.turns.number + (I.given input.new - I.given input.old) + 1 }
+    ensures steps { m.new.steps.number ≡ m.old.steps.number + 1 }
+    ensures greatest { m.new.greatest.number ≡ max m.old.greatest.number (I.given input.new - I.given input.old) }
+{
+    let all = walk.words.max(1);
+    let taken = walk.part(all, all, input, w, m);
+    m.close_step(taken.received);
+    answer(taken.part)
+}
+
+/// Reads on to the end of the header or of the chunk that was begun.
+fn pass<I: Input>(
+    walk: &mut Walk,
+    input: &mut I,
+    w: &mut Window,
+    m: &mut Meter,
+) -> Result<(), SparseFault>
+    requires { walk.old.phase ≡ Phase.Body }
+    ensures given { I.given input.old ≤ I.given input.new }
+    ensures present { IsTrue I.tells → I.given input.new - I.given input.old ≤ length (I.remaining input.old) }
+    ensures rest { IsTrue I.tells → I.remaining input.new ≡ drop (I.given input.new - I.given input.old) (I.remaining input.old) }
+    ensures passes { IsTrue I.tells → Passes result walk.old walk.new (I.remaining input.old) (I.remaining input.new) }
+    ensures settles { Settles result walk.new }
+    ensures index { OnOk result (walk.new.index ≡ walk.old.index) }
+    ensures cause { Rises result (I.read_faults input.old) (I.read_faults input.new) 0 0 }
+    ensures read_frame { I.read_frame input.new ≡ I.read_frame input.old }
+    ensures read_faults { I.read_faults input.old ≤ I.read_faults input.new }
+    ensures reads { I.reads input.new ≤ I.reads input.old + 2 * (I.given input.new - I.given input.old) + 1 }
+    ensures turns { m.new.turns.number ≤ m.old.turns.number + 3 * (I.given input.new - I.given input.old) + 2 }
+    ensures steps { I.given input.new + 65536 * m.old.steps.number ≤ I.given input.old + 65536 * m.new.steps.number }
+    ensures greatest { m.new.greatest.number ≤ max m.old.greatest.number 65536 }
+{
+    'steps: while !walk.is_at_end() {
+        m.tick();
+        match step(walk, input, w, m) {
+            Ok(Progress::More) => {}
+            Ok(Progress::Done) => return Ok(()),
+            Err(fault) => return Err(fault),
+        }
+    }
+    Ok(())
+}
+
+/// What is shown of the chunk that has ended.
+fn info(walk: &Walk) -> ChunkInfo
+    ensures { result ≡ info_at walk.now }
+{
+    ChunkInfo {
+        index: walk.index.saturating_sub(1),
+        kind: walk.kind,
+        blocks: walk.blocks,
+        word: if has_word(walk.kind) {
+            walk.word
+        } else {
+            [0; 4]
+        },
+    }
+}
+
+impl Chunks {
+    /// Reads the header of the image, with its extra bytes. A refusal is the header's own (1 to 5), an input that
+    /// ends before it (10) or a failed read (11).
+    pub fn open<I: Input>(
+        input: &mut I,
+        w: &mut Window,
+        m: &mut Meter,
+    ) -> Result<Chunks, SparseFault>
+        ensures given { I.given input.old ≤ I.given input.new }
+        ensures present { IsTrue I.tells → I.given input.new - I.given input.old ≤ length (I.remaining input.old) }
+        ensures rest { IsTrue I.tells → I.remaining input.new ≡ drop (I.given input.new - I.given input.old) (I.remaining input.old) }
+        ensures opens { IsTrue I.tells → MatchResult result (λ chunks. Opens chunks.walk (I.remaining input.old) (I.remaining input.new)) (λ fault. UnlessDevice fault (listing_of (I.remaining input.old) ≡ headless fault)) }
+        ensures cause { Rises result (I.read_faults input.old) (I.read_faults input.new) 0 0 }
+        ensures read_frame { I.read_frame input.new ≡ I.read_frame input.old }
+        ensures read_faults { I.read_faults input.old ≤ I.read_faults input.new }
+        ensures calls { I.reads input.new ≤ I.reads input.old + 8 * (I.given input.new - I.given input.old) + 8 }
+        ensures turns { m.new.turns.number ≤ m.old.turns.number + 8 * (I.given input.new - I.given input.old) + 8 }
+        ensures steps { I.given input.new + 65536 * m.old.steps.number ≤ I.given input.old + 65536 * m.new.steps.number }
+        ensures greatest { m.new.greatest.number ≤ max m.old.greatest.number 65536 }
+    {
+        let mut walk = Walk::new();
+        m.tick();
+        match step(&mut walk, input, w, m) {
+            Ok(Progress::More) => {}
+            Ok(Progress::Done) => return Ok(Chunks { walk }),
+            Err(fault) => return Err(fault),
+        }
+        match pass(&mut walk, input, w, m) {
+            Ok(()) => Ok(Chunks { walk }),
+            Err(fault) => Err(fault),
+        }
+    }
+
+    /// The header of the image.
+    pub fn header(&self) -> SparseHeader
+        ensures { result ≡ self.now.walk.header }
+    {
+        self.walk.header
+    }
+
+    /// The next chunk, once its data has been read, and none behind the last one where the blocks of the chunks are
+    /// as many as the header says. After a fault and after none it answers that again, and reads nothing.
+    pub fn next<I: Input>(
+        &mut self,
+        input: &mut I,
+        w: &mut Window,
+        m: &mut Meter,
+    ) -> Result<Option<ChunkInfo>, SparseFault>
+        ensures given { I.given input.old ≤ I.given input.new }
+        ensures present { IsTrue I.tells → I.given input.new - I.given input.old ≤ length (I.remaining input.old) }
+        ensures rest { IsTrue I.tells → I.remaining input.new ≡ drop (I.given input.new - I.given input.old) (I.remaining input.old) }
+        ensures lists { IsTrue I.tells → Lists_next result self.old.walk self.new.walk (I.remaining input.old) (I.remaining input.new) }
+        ensures stands { Stands_next result self.new.walk.phase }
+        ensures cause { IsGoing self.old.walk.phase → Rises result (I.read_faults input.old) (I.read_faults input.new) 0 0 }
+        ensures again { IsOver self.old.walk.phase → (self.new.walk ≡ self.old.walk) × (input.new ≡ input.old) }
+        ensures read_frame { I.read_frame input.new ≡ I.read_frame input.old }
+        ensures read_faults { I.read_faults input.old ≤ I.read_faults input.new }
+        ensures calls { I.reads input.new ≤ I.reads input.old + 8 * (I.given input.new - I.given input.old) + 8 }
+        ensures turns { m.new.turns.number ≤ m.old.turns.number + 8 * (I.given input.new - I.given input.old) + 8 }
+        ensures few { IsFew result (I.given input.new - I.given input.old) (I.reads input.new - I.reads input.old) (m.new.turns.number - m.old.turns.number) }
+        ensures steps { I.given input.new + 65536 * m.old.steps.number ≤ I.given input.old + 65536 * m.new.steps.number }
+        ensures greatest { m.new.greatest.number ≤ max m.old.greatest.number 65536 }
+    {
+        m.tick();
+        match step(&mut self.walk, input, w, m) {
+            Ok(Progress::More) => {}
+            Ok(Progress::Done) => return Ok(None),
+            Err(fault) => return Err(fault),
+        }
+        match pass(&mut self.walk, input, w, m) {
+            Ok(()) => Ok(Some(info(&self.walk))),
+            Err(fault) => Err(fault),
+        }
+    }
+}

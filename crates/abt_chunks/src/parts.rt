@@ -1,0 +1,394 @@
+//! One step of a walk: the bytes for its turn are gathered in the window, and taken as a part of the image.
+//!
+//! Each function that takes a turn has the same clauses. `says`: what lies ahead is what the part gives, and then what
+//! lies ahead behind it, whatever bytes follow. `lists`: the same of what a listing shows. `short`: too few bytes are a
+//! fault. `leaves`, `moved`, `numbers`, `closes`, `empties`: the phase and the counts behind it. `inside`, `place`: where
+//! its bytes lie in the expanded image. `cause`: whose fault it is. `fewer`: less is left to do.
+
+ghost use Rattle.std.specs.Prelude.{◌≡◌, ◌≤◌, ◌<◌, ◌+◌, ℕ, List, [], length, IsTrue, true, false, ◌-◌, take, drop};
+ghost use Rattle.abt_sparse.specs.Reading.{kind_at, number_at};
+ghost use Rattle.abt_chunks.specs.Walking.{Says, Shows, Lists, Numbers, Empties, Closes, Leaves, Moved, Within, Caused, Told, AtTurn, IsOver, ask_of, needed_of, todo, place_of, upto_of, given_by, is_fault, goes_on};
+
+use crate::kinds::{counted_blocks, has_word, laid_words, length_of_data, raw_bytes};
+use crate::walk::{Part, Phase, Taken, Turn, Walk};
+use abt_io::{Input, Meter, Window, gather};
+use abt_sparse::{ChunkKind, SparseFault, header_of, u16_at, u32_at};
+
+impl Walk {
+    /// The header of the image, 28 bytes and its five checks.
+    fn take_header(&mut self, got: &[u8]) -> Part
+        requires here { AtTurn Turn.Header self.old }
+        requires asked { length got.now ≤ 28 }
+        ensures says { (t : List ℕ) → (length got.now < 28 → t ≡ []) → Says result self.old self.new got.now t }
+        ensures lists { (t : List ℕ) → (length got.now < 28 → t ≡ []) → Shows result self.old self.new got.now t }
+        ensures short { length got.now < 28 → IsTrue (is_fault result) }
+        ensures leaves { Leaves result self.new.phase }
+        ensures moved { Moved result (length got.now) }
+        ensures inside { place_of self.old + given_by result ≤ upto_of self.old }
+        ensures within { (fills skips : ℕ) → Within result fills skips }
+        ensures empties { (fills skips : ℕ) → Empties result self.old self.new fills skips }
+        ensures closes { Closes result self.old.phase self.old }
+        ensures cause { Caused result self.old.phase 1 0 }
+        ensures fewer { IsTrue (goes_on result) → todo self.new < todo self.old }
+        ensures numbers { IsTrue (goes_on result) → Numbers self.old.phase self.old self.new (length got.now) }
+        ensures place { IsTrue (goes_on result) → place_of self.new ≡ place_of self.old + given_by result }
+    {
+        if got.len() < 28 {
+            return self.fail(SparseFault::Truncated {
+                at: got.len() as u64,
+            });
+        }
+        match header_of(got) {
+            Ok(header) => {
+                *self = Walk {
+                    phase: Phase::Body,
+                    header,
+                    kind: ChunkKind::Skip,
+                    blocks: 0,
+                    due: false,
+                    word: [0; 4],
+                    index: 0,
+                    have: 0,
+                    extra: u32::from(header.file_hdr_sz) - 28,
+                    raw: 0,
+                    words: 0,
+                    position: 28,
+                };
+                Part::Nothing
+            }
+            Err(fault) => self.fail(fault),
+        }
+    }
+
+    /// Bytes of a header behind the part of it that this version knows. They are passed over.
+    fn take_extra(&mut self, got: &[u8]) -> Part
+        requires here { AtTurn Turn.Extra self.old }
+        requires asked { length got.now ≤ self.old.extra }
+        ensures says { (t : List ℕ) → (length got.now < 1 → t ≡ []) → Says result self.old self.new got.now t }
+        ensures lists { (t : List ℕ) → (length got.now < 1 → t ≡ []) → Shows result self.old self.new got.now t }
+        ensures short { length got.now < 1 → IsTrue (is_fault result) }
+        ensures leaves { Leaves result self.new.phase }
+        ensures moved { Moved result (length got.now) }
+        ensures inside { place_of self.old + given_by result ≤ upto_of self.old }
+        ensures within { (fills skips : ℕ) → Within result fills skips }
+        ensures empties { (fills skips : ℕ) → Empties result self.old self.new fills skips }
+        ensures closes { Closes result self.old.phase self.old }
+        ensures cause { Caused result self.old.phase 1 0 }
+        ensures fewer { IsTrue (goes_on result) → todo self.new < todo self.old }
+        ensures numbers { IsTrue (goes_on result) → Numbers self.old.phase self.old self.new (length got.now) }
+        ensures place { IsTrue (goes_on result) → place_of self.new ≡ place_of self.old + given_by result }
+    {
+        if got.is_empty() {
+            return self.fail(SparseFault::Truncated { at: self.position });
+        }
+        self.extra -= got.len() as u32;
+        self.position += got.len() as u64;
+        Part::Nothing
+    }
+
+    /// Raw bytes, which are blocks as they are. Those that came before the input ended count.
+    fn take_raw(&mut self, got: &[u8]) -> Part
+        requires here { AtTurn Turn.Raw self.old }
+        requires asked { length got.now ≤ self.old.raw }
+        ensures says { (t : List ℕ) → (length got.now < 1 → t ≡ []) → Says result self.old self.new got.now t }
+        ensures lists { (t : List ℕ) → (length got.now < 1 → t ≡ []) → Shows result self.old self.new got.now t }
+        ensures short { length got.now < 1 → IsTrue (is_fault result) }
+        ensures leaves { Leaves result self.new.phase }
+        ensures moved { Moved result (length got.now) }
+        ensures inside { place_of self.old + given_by result ≤ upto_of self.old }
+        ensures within { (fills skips : ℕ) → Within result fills skips }
+        ensures empties { (fills skips : ℕ) → Empties result self.old self.new fills skips }
+        ensures closes { Closes result self.old.phase self.old }
+        ensures cause { Caused result self.old.phase 1 0 }
+        ensures fewer { IsTrue (goes_on result) → todo self.new < todo self.old }
+        ensures numbers { IsTrue (goes_on result) → Numbers self.old.phase self.old self.new (length got.now) }
+        ensures place { IsTrue (goes_on result) → place_of self.new ≡ place_of self.old + given_by result }
+    {
+        if got.is_empty() {
+            return self.fail(SparseFault::Truncated { at: self.position });
+        }
+        self.raw -= got.len() as u64;
+        self.position += got.len() as u64;
+        Part::Raw(got.len())
+    }
+
+    /// The word of a fill, or the value of a checksum.
+    fn take_word(&mut self, got: &[u8]) -> Part
+        requires here { AtTurn Turn.Word self.old }
+        requires asked { length got.now ≤ 4 }
+        ensures says { (t : List ℕ) → (length got.now < 4 → t ≡ []) → Says result self.old self.new got.now t }
+        ensures lists { (t : List ℕ) → (length got.now < 4 → t ≡ []) → Shows result self.old self.new got.now t }
+        ensures short { length got.now < 4 → IsTrue (is_fault result) }
+        ensures leaves { Leaves result self.new.phase }
+        ensures moved { Moved result (length got.now) }
+        ensures inside { place_of self.old + given_by result ≤ upto_of self.old }
+        ensures within { (fills skips : ℕ) → Within result fills skips }
+        ensures empties { (fills skips : ℕ) → Empties result self.old self.new fills skips }
+        ensures closes { Closes result self.old.phase self.old }
+        ensures cause { Caused result self.old.phase 1 0 }
+        ensures fewer { IsTrue (goes_on result) → todo self.new < todo self.old }
+        ensures numbers { IsTrue (goes_on result) → Numbers self.old.phase self.old self.new (length got.now) }
+        ensures place { IsTrue (goes_on result) → place_of self.new ≡ place_of self.old + given_by result }
+    {
+        if got.len() < 4 {
+            let at = self.position + got.len() as u64;
+            return self.fail(SparseFault::Truncated { at });
+        }
+        self.word.copy_from_slice(got);
+        self.due = false;
+        self.position += 4;
+        Part::Nothing
+    }
+
+    /// The header of a chunk, twelve bytes.
+    fn take_chunk(&mut self, got: &[u8]) -> Part
+        requires here { AtTurn Turn.Chunk self.old }
+        requires asked { length got.now ≤ 12 }
+        ensures says { (t : List ℕ) → (length got.now < 12 → t ≡ []) → Says result self.old self.new got.now t }
+        ensures lists { (t : List ℕ) → (length got.now < 12 → t ≡ []) → Shows result self.old self.new got.now t }
+        ensures short { length got.now < 12 → IsTrue (is_fault result) }
+        ensures leaves { Leaves result self.new.phase }
+        ensures moved { Moved result (length got.now) }
+        ensures inside { place_of self.old + given_by result ≤ upto_of self.old }
+        ensures within { (fills skips : ℕ) → Within result fills skips }
+        ensures empties { (fills skips : ℕ) → Empties result self.old self.new fills skips }
+        ensures closes { Closes result self.old.phase self.old }
+        ensures cause { Caused result self.old.phase 1 0 }
+        ensures fewer { IsTrue (goes_on result) → todo self.new < todo self.old }
+        ensures numbers { IsTrue (goes_on result) → Numbers self.old.phase self.old self.new (length got.now) }
+        ensures place { IsTrue (goes_on result) → place_of self.new ≡ place_of self.old + given_by result }
+    {
+        if got.len() < 12 {
+            let end = self.position + got.len() as u64;
+            return self.fail(SparseFault::Truncated { at: end });
+        }
+        let code = u16_at(got, 0);
+        match ChunkKind::from_code(code) {
+            Some(kind) => self.take_known(got, kind),
+            None => self.fail(SparseFault::ChunkType {
+                chunk: self.index,
+                kind: code,
+            }),
+        }
+    }
+
+    /// The same, of a kind that the format knows: its length is checked, and then its blocks.
+    fn take_known(&mut self, got: &[u8], kind: ChunkKind) -> Part
+        requires here { AtTurn Turn.Chunk self.old }
+        requires whole { length got.now ≡ 12 }
+        requires known { kind_at (number_at 0 2 got.now) ≡ Some kind }
+        ensures says { (t : List ℕ) → Says result self.old self.new got.now t }
+        ensures lists { (t : List ℕ) → Shows result self.old self.new got.now t }
+        ensures leaves { Leaves result self.new.phase }
+        ensures moved { Moved result (length got.now) }
+        ensures inside { place_of self.old + given_by result ≤ upto_of self.old }
+        ensures within { (fills skips : ℕ) → Within result fills skips }
+        ensures empties { (fills skips : ℕ) → Empties result self.old self.new fills skips }
+        ensures closes { Closes result self.old.phase self.old }
+        ensures cause { Caused result self.old.phase 1 0 }
+        ensures fewer { IsTrue (goes_on result) → todo self.new < todo self.old }
+        ensures numbers { IsTrue (goes_on result) → Numbers self.old.phase self.old self.new (length got.now) }
+        ensures place { IsTrue (goes_on result) → place_of self.new ≡ place_of self.old + given_by result }
+    {
+        let blocks = u32_at(got, 4);
+        let total = u32_at(got, 8);
+        let header = self.header;
+        let length = length_of_data(header.blk_sz, kind, blocks);
+        if u64::from(total) != u64::from(header.chunk_hdr_sz) + length {
+            return self.fail(SparseFault::ChunkLength { chunk: self.index });
+        }
+        let counts = counted_blocks(kind, blocks);
+        if u64::from(header.total_blks) < u64::from(self.have) + u64::from(counts) {
+            return self.fail(SparseFault::TooManyBlocks { chunk: self.index });
+        }
+        *self = Walk {
+            phase: Phase::Body,
+            header,
+            kind,
+            blocks: counts,
+            due: has_word(kind),
+            word: self.word,
+            index: self.index + 1,
+            have: self.have + counts,
+            extra: u32::from(header.chunk_hdr_sz) - 12,
+            raw: raw_bytes(kind, blocks, header.blk_sz),
+            words: laid_words(kind, blocks, header.blk_sz),
+            position: self.position + 12,
+        };
+        Part::Nothing
+    }
+
+    /// Words of a fill, as many as are left and at most `most`. Nothing is read for them.
+    fn give_fill(&mut self, most: u64) -> Part
+        requires here { AtTurn Turn.Fill self.old }
+        requires some { 0 < most }
+        ensures says { (t : List ℕ) → Says result self.old self.new [] t }
+        ensures lists { (t : List ℕ) → Shows result self.old self.new [] t }
+        ensures leaves { Leaves result self.new.phase }
+        ensures words { Part.Words self.old.word (self.old.words - self.new.words) ≡ result }
+        ensures moved { Moved result 0 }
+        ensures inside { place_of self.old + given_by result ≤ upto_of self.old }
+        ensures within { (skips : ℕ) → Within result most skips }
+        ensures empties { (skips : ℕ) → Empties result self.old self.new most skips }
+        ensures closes { Closes result self.old.phase self.old }
+        ensures cause { Caused result Phase.Body 1 0 }
+        ensures fewer { todo self.new < todo self.old }
+        ensures numbers { Numbers self.old.phase self.old self.new 0 }
+        ensures place { place_of self.new ≡ place_of self.old + given_by result }
+    {
+        let n = self.words.min(most);
+        self.words -= n;
+        Part::Words(self.word, n)
+    }
+
+    /// Words of a gap, as many as are left and at most `most`. Nothing is read for them.
+    fn give_gap(&mut self, most: u64) -> Part
+        requires here { AtTurn Turn.Gap self.old }
+        requires some { 0 < most }
+        ensures says { (t : List ℕ) → Says result self.old self.new [] t }
+        ensures lists { (t : List ℕ) → Shows result self.old self.new [] t }
+        ensures leaves { Leaves result self.new.phase }
+        ensures gap { Part.Skip (self.old.words - self.new.words) ≡ result }
+        ensures moved { Moved result 0 }
+        ensures inside { place_of self.old + given_by result ≤ upto_of self.old }
+        ensures within { (fills : ℕ) → Within result fills most }
+        ensures empties { (fills : ℕ) → Empties result self.old self.new fills most }
+        ensures closes { Closes result self.old.phase self.old }
+        ensures cause { Caused result Phase.Body 1 0 }
+        ensures fewer { todo self.new < todo self.old }
+        ensures numbers { Numbers self.old.phase self.old self.new 0 }
+        ensures place { place_of self.new ≡ place_of self.old + given_by result }
+    {
+        let n = self.words.min(most);
+        self.words -= n;
+        Part::Skip(n)
+    }
+
+    /// Behind the last chunk: the blocks of all chunks are as many as the header says, or too few.
+    fn end(&mut self) -> Part
+        requires here { AtTurn Turn.End self.old }
+        ensures says { (t : List ℕ) → Says result self.old self.new [] t }
+        ensures lists { (t : List ℕ) → Shows result self.old self.new [] t }
+        ensures leaves { Leaves result self.new.phase }
+        ensures moved { Moved result 0 }
+        ensures inside { place_of self.old + given_by result ≤ upto_of self.old }
+        ensures within { (fills skips : ℕ) → Within result fills skips }
+        ensures empties { (fills skips : ℕ) → Empties result self.old self.new fills skips }
+        ensures closes { Closes result self.old.phase self.old }
+        ensures cause { Caused result self.old.phase 1 0 }
+        ensures over { goes_on result ≡ false }
+    {
+        if self.have != self.header.total_blks {
+            return self.fail(SparseFault::TooFewBlocks { have: self.have });
+        }
+        self.phase = Phase::Done;
+        Part::End
+    }
+
+    /// What was answered last, once more.
+    fn again(&self) -> Part
+        requires here { AtTurn Turn.Over self.now }
+        ensures says { (t : List ℕ) → Says result self.now self.now [] t }
+        ensures lists { (t : List ℕ) → Shows result self.now self.now [] t }
+        ensures leaves { Leaves result self.now.phase }
+        ensures moved { Moved result 0 }
+        ensures inside { place_of self.now + given_by result ≤ upto_of self.now }
+        ensures within { (fills skips : ℕ) → Within result fills skips }
+        ensures empties { (fills skips : ℕ) → Empties result self.now self.now fills skips }
+        ensures closes { Closes result self.now.phase self.now }
+        ensures cause { Caused result self.now.phase 1 0 }
+        ensures over { goes_on result ≡ false }
+    {
+        match self.phase {
+            Phase::Failed(fault) => Part::Fault(fault),
+            _ => Part::End,
+        }
+    }
+
+    /// Takes a turn with the bytes that came for it.
+    fn take(&mut self, turn: Turn, got: &[u8], fills: u64, skips: u64) -> Part
+        requires here { AtTurn turn self.old }
+        requires asked { length got.now ≤ ask_of turn self.old }
+        requires fills { 0 < fills }
+        requires skips { 0 < skips }
+        ensures says { (t : List ℕ) → (length got.now < needed_of turn → t ≡ []) → Says result self.old self.new got.now t }
+        ensures lists { (t : List ℕ) → (length got.now < needed_of turn → t ≡ []) → Shows result self.old self.new got.now t }
+        ensures short { length got.now < needed_of turn → IsTrue (is_fault result) }
+        ensures leaves { Leaves result self.new.phase }
+        ensures moved { Moved result (length got.now) }
+        ensures inside { place_of self.old + given_by result ≤ upto_of self.old }
+        ensures within { Within result fills skips }
+        ensures empties { Empties result self.old self.new fills skips }
+        ensures closes { Closes result self.old.phase self.old }
+        ensures cause { Caused result self.old.phase 1 0 }
+        ensures fewer { IsTrue (goes_on result) → todo self.new < todo self.old }
+        ensures numbers { IsTrue (goes_on result) → Numbers self.old.phase self.old self.new (length got.now) }
+        ensures place { IsTrue (goes_on result) → place_of self.new ≡ place_of self.old + given_by result }
+        ensures over { IsOver self.old.phase → self.new ≡ self.old }
+    {
+        match turn {
+            Turn::Header => self.take_header(got),
+            Turn::Extra => self.take_extra(got),
+            Turn::Raw => self.take_raw(got),
+            Turn::Word => self.take_word(got),
+            Turn::Fill => self.give_fill(fills),
+            Turn::Gap => self.give_gap(skips),
+            Turn::Chunk => self.take_chunk(got),
+            Turn::End => self.end(),
+            Turn::Over => self.again(),
+        }
+    }
+
+    /// One step: reads what comes next, at most a window, and tells what it gives. Raw bytes stand in the front of the
+    /// window. Of a fill it gives at most `fills` words of four bytes, of a gap at most `skips`.
+    pub fn part<I: Input>(
+        &mut self,
+        fills: u64,
+        skips: u64,
+        input: &mut I,
+        w: &mut Window,
+        m: &mut Meter,
+    ) -> Taken
+        requires fills { 0 < fills }
+        requires skips { 0 < skips }
+        // What was received, and what is left of the input.
+        ensures received { I.given input.new ≡ I.given input.old + result.received }
+        ensures small { result.received ≤ 65536 }
+        ensures present { IsTrue I.tells → result.received ≤ length (I.remaining input.old) }
+        ensures rest { IsTrue I.tells → I.remaining input.new ≡ drop result.received (I.remaining input.old) }
+        ensures window { IsTrue I.tells → take result.received w.new.bytes ≡ take result.received (I.remaining input.old) }
+        // What it says of the image: for every continuation t, and at a fault for what is really left.
+        ensures says { IsTrue I.tells → (t : List ℕ) → (is_fault result.part ≡ true → t ≡ I.remaining input.new) → Told result.part self.old self.new (take result.received (I.remaining input.old)) t }
+        ensures lists { IsTrue I.tells → (t : List ℕ) → (is_fault result.part ≡ true → t ≡ I.remaining input.new) → Lists result.part self.old self.new (take result.received (I.remaining input.old)) t }
+        ensures leaves { Leaves result.part self.new.phase }
+        ensures moved { Moved result.part result.received }
+        ensures inside { place_of self.old + given_by result.part ≤ upto_of self.old }
+        ensures within { Within result.part fills skips }
+        ensures empties { Empties result.part self.old self.new fills skips }
+        ensures closes { Closes result.part self.old.phase self.old }
+        ensures cause { Caused result.part self.old.phase (I.read_faults input.old) (I.read_faults input.new) }
+        ensures fewer { IsTrue (goes_on result.part) → todo self.new < todo self.old }
+        ensures numbers { IsTrue (goes_on result.part) → Numbers self.old.phase self.old self.new result.received }
+        ensures place { IsTrue (goes_on result.part) → place_of self.new ≡ place_of self.old + given_by result.part }
+        ensures over { IsOver self.old.phase → (self.new ≡ self.old) × (input.new ≡ input.old) }
+        ensures frame { I.read_frame input.new ≡ I.read_frame input.old }
+        ensures faults { I.read_faults input.old ≤ I.read_faults input.new }
+        ensures reads { I.reads input.new ≤ I.reads input.old + result.received + 1 }
+        ensures turns { m.new.turns.number ≤ m.old.turns.number + result.received + 1 }
+        ensures steps { m.new.steps.number ≡ m.old.steps.number }
+        ensures greatest { m.new.greatest.number ≡ m.old.greatest.number }
+    {
+        let turn = self.turn();
+        let ask = self.ask(turn);
+        w.is_whole();
+        let got = gather(input, w.part_mut(0, ask), m);
+        let part = match got.fault {
+            Some(fault) => self.fail(SparseFault::Read(fault)),
+            None => self.take(turn, w.part(0, got.count), fills, skips),
+        };
+        Taken {
+            part,
+            received: got.count as u32,
+        }
+    }
+}

@@ -1,0 +1,415 @@
+//! Expanding.
+
+ghost use Rattle.std.specs.Prelude.{◌<◌};
+
+use super::{IMAGE_A, IMAGE_C, IMAGE_E, IMAGE_OF_NOTHING, TOO_MANY};
+use crate::{Expanded, Expander, Progress, SparseFault, expand};
+use abt_io::{
+    Cut, DeviceFault, Faulty, Forward, FromRead, Meter, SliceOutput, SliceSource, ToWrite, Window,
+};
+use std::test::Fail;
+
+/// What image A expands to.
+const ROW_A: [u8; 12] = [65, 66, 67, 68, 4, 3, 2, 1, 0, 0, 0, 0];
+
+const DONE_A: Expanded = Expanded {
+    blocks: 3,
+    bytes: 12,
+};
+
+/// Expands where each device takes or gives at most so many bytes in a call.
+fn expanded(bytes: &[u8], most: usize, room: &mut [u8]) -> Result<Expanded, SparseFault>
+    requires { 0 < most }
+{
+    let mut input = Cut::new(Forward::new(SliceSource::new(bytes)), most);
+    let mut output = Cut::new(SliceOutput::new(room), most);
+    let mut w = Window::new();
+    let mut m = Meter::new();
+    expand(&mut input, &mut output, &mut w, &mut m)
+}
+
+/// So many bytes of image A's expansion stand in a room of nines, and no more.
+fn holds(room: &[u8; 14], count: usize) -> bool {
+    for i in 0..14 {
+        let want = if i < count && i < 12 { ROW_A[i] } else { 9 };
+        if room[i] != want {
+            return false;
+        }
+    }
+    true
+}
+
+/// Some beginning of it stands there.
+fn holds_some(room: &[u8; 14]) -> bool {
+    for count in 0..13 {
+        if holds(room, count) {
+            return true;
+        }
+    }
+    false
+}
+
+#[test]
+fn image_a(rt: HostRuntime) {
+    for most in [1, 13, 1000] {
+        let most = most.max(1);
+        let mut room = [9u8; 14];
+        assert_eq!(rt; expanded(&IMAGE_A, most, &mut room), Ok(DONE_A));
+        assert!(rt; holds(&room, 12));
+    }
+}
+
+#[test]
+fn any_minor(rt: HostRuntime) {
+    let mut image = IMAGE_A;
+    image[6] = 7;
+    let mut room = [9u8; 14];
+    assert_eq!(rt; expanded(&image, 1000, &mut room), Ok(DONE_A));
+    assert!(rt; holds(&room, 12));
+}
+
+#[test]
+fn nothing(rt: HostRuntime) {
+    let mut room = [9u8; 14];
+    assert_eq!(rt;
+        expanded(&IMAGE_OF_NOTHING, 13, &mut room),
+        Ok(Expanded {
+            blocks: 0,
+            bytes: 0
+        })
+    );
+    assert!(rt; holds(&room, 0));
+}
+
+#[test]
+fn behind_a_checksum(rt: HostRuntime) {
+    let mut image = [0x7Fu8; 89];
+    image[..88].copy_from_slice(&IMAGE_C);
+    let mut room = [9u8; 14];
+    {
+        let mut input = Forward::new(SliceSource::new(&image));
+        let mut output = SliceOutput::new(&mut room);
+        let mut w = Window::new();
+        let mut m = Meter::new();
+        assert_eq!(rt; expand(&mut input, &mut output, &mut w, &mut m), Ok(DONE_A));
+        assert_eq!(rt; input.position(), 88);
+        assert_eq!(rt; output.written(), ROW_A.as_slice());
+    }
+    assert!(rt; holds(&room, 12));
+}
+
+#[test]
+fn longer_headers(rt: HostRuntime) {
+    let mut room = [9u8; 14];
+    let mut input = Forward::new(SliceSource::new(&IMAGE_E));
+    let mut output = SliceOutput::new(&mut room);
+    let mut w = Window::new();
+    let mut m = Meter::new();
+    assert_eq!(rt;
+        expand(&mut input, &mut output, &mut w, &mut m),
+        Ok(Expanded {
+            blocks: 1,
+            bytes: 4
+        })
+    );
+    assert_eq!(rt; input.position(), 48);
+    assert_eq!(rt; output.written(), [0, 0, 0, 0].as_slice());
+}
+
+#[test]
+fn longer_headers_cut_off(rt: HostRuntime) {
+    let mut room = [9u8; 14];
+    assert_eq!(rt;
+        expanded(&IMAGE_E[..31], 13, &mut room),
+        Err(SparseFault::Truncated { at: 31 })
+    );
+    assert_eq!(rt;
+        expanded(&IMAGE_E[..47], 13, &mut room),
+        Err(SparseFault::Truncated { at: 47 })
+    );
+    assert!(rt; holds(&room, 0));
+}
+
+#[test]
+fn each_beginning(rt: HostRuntime) {
+    for m in 0..88 {
+        let came = if m < 40 {
+            0
+        } else if m < 44 {
+            m - 40
+        } else if m < 60 {
+            4
+        } else if m < 72 {
+            8
+        } else {
+            12
+        };
+        let mut room = [9u8; 14];
+        assert_eq!(rt;
+            expanded(&IMAGE_C[..m], 13, &mut room),
+            Err(SparseFault::Truncated { at: m as u64 })
+        );
+        assert!(rt; holds(&room, came));
+    }
+}
+
+/// The headers of an image of one raw chunk, 16,385 blocks of four bytes.
+const RAW_16_385: [u8; 40] = [
+    58, 255, 38, 237, 1, 0, 0, 0, 28, 0, 12, 0, 4, 0, 0, 0, 1, 0x40, 0, 0, 1, 0, 0, 0, 0, 0, 0, 0,
+    0xC1, 0xCA, 0, 0, 1, 0x40, 0, 0, 0x10, 0, 1, 0,
+];
+
+#[test]
+fn a_window_and_more(rt: HostRuntime) {
+    let mut image = [0u8; 65_580];
+    for i in 0..65_580 {
+        image[i] = (i % 251) as u8;
+    }
+    for (i, byte) in RAW_16_385.iter().enumerate() {
+        image[i] = *byte;
+    }
+    let mut room = [0u8; 65_540];
+    assert_eq!(rt;
+        expanded(&image, 65_536, &mut room),
+        Ok(Expanded {
+            blocks: 16_385,
+            bytes: 65_540
+        })
+    );
+    assert_eq!(rt; room.as_slice(), &image[40..]);
+}
+
+/// A fill of more words than the window holds: 40,000 of them.
+#[test]
+fn a_long_fill(rt: HostRuntime) {
+    let mut image = [0u8; 44];
+    image[..28].copy_from_slice(&IMAGE_OF_NOTHING);
+    image[16..20].copy_from_slice(&[0x40, 0x9C, 0, 0]);
+    image[20] = 1;
+    image[28..44].copy_from_slice(&[0xC2, 0xCA, 0, 0, 0x40, 0x9C, 0, 0, 16, 0, 0, 0, 5, 6, 7, 8]);
+    let mut room = [9u8; 160_001];
+    assert_eq!(rt;
+        expanded(&image, 65_536, &mut room),
+        Ok(Expanded {
+            blocks: 40_000,
+            bytes: 160_000
+        })
+    );
+    for i in 0..160_000 {
+        assert_eq!(rt; room[i] as usize, 5 + i % 4);
+    }
+    assert_eq!(rt; room[160_000], 9);
+}
+
+#[test]
+fn empty_chunks(rt: HostRuntime) {
+    let mut image = [0u8; 120_028];
+    image[..28].copy_from_slice(&IMAGE_OF_NOTHING);
+    image[20..24].copy_from_slice(&[0x10, 0x27, 0, 0]);
+    for i in 0..10_000 {
+        image[28 + 12 * i] = 0xC1;
+        image[29 + 12 * i] = 0xCA;
+        image[36 + 12 * i] = 12;
+    }
+    let mut room = [9u8; 14];
+    assert_eq!(rt;
+        expanded(&image, 1000, &mut room),
+        Ok(Expanded {
+            blocks: 0,
+            bytes: 0
+        })
+    );
+    assert!(rt; holds(&room, 0));
+}
+
+#[test]
+fn bad_headers(rt: HostRuntime) {
+    let mut room = [9u8; 14];
+    let mut image = IMAGE_A;
+    image[0] = 0;
+    assert_eq!(rt; expanded(&image, 13, &mut room), Err(SparseFault::Magic));
+    let mut image = IMAGE_A;
+    image[4] = 2;
+    assert_eq!(rt; expanded(&image, 13, &mut room), Err(SparseFault::Major(2)));
+    let mut image = IMAGE_E;
+    image[8] = 27;
+    assert_eq!(rt;
+        expanded(&image, 13, &mut room),
+        Err(SparseFault::FileHeaderSize(27))
+    );
+    let mut image = IMAGE_E;
+    image[10] = 11;
+    assert_eq!(rt;
+        expanded(&image, 13, &mut room),
+        Err(SparseFault::ChunkHeaderSize(11))
+    );
+    let mut image = IMAGE_A;
+    image[12] = 0;
+    assert_eq!(rt;
+        expanded(&image, 13, &mut room),
+        Err(SparseFault::BlockSize(0))
+    );
+    image[12] = 6;
+    assert_eq!(rt;
+        expanded(&image, 13, &mut room),
+        Err(SparseFault::BlockSize(6))
+    );
+    assert!(rt; holds(&room, 0));
+}
+
+#[test]
+fn bad_chunks(rt: HostRuntime) {
+    let mut room = [9u8; 14];
+    assert_eq!(rt;
+        expanded(&TOO_MANY, 13, &mut room),
+        Err(SparseFault::TooManyBlocks { chunk: 1 })
+    );
+    assert!(rt; holds(&room, 4));
+    let mut image = IMAGE_A;
+    image[16] = 4;
+    let mut room = [9u8; 14];
+    assert_eq!(rt;
+        expanded(&image, 13, &mut room),
+        Err(SparseFault::TooFewBlocks { have: 3 })
+    );
+    assert!(rt; holds(&room, 12));
+    let mut image = IMAGE_C;
+    image[80] = 12;
+    let mut room = [9u8; 14];
+    assert_eq!(rt;
+        expanded(&image, 13, &mut room),
+        Err(SparseFault::ChunkLength { chunk: 3 })
+    );
+    assert!(rt; holds(&room, 12));
+    let mut image = IMAGE_E;
+    image[40] = 12;
+    let mut room = [9u8; 14];
+    assert_eq!(rt;
+        expanded(&image, 13, &mut room),
+        Err(SparseFault::ChunkLength { chunk: 0 })
+    );
+    let mut image = IMAGE_A;
+    image[44] = 0xC5;
+    assert_eq!(rt;
+        expanded(&image, 13, &mut room),
+        Err(SparseFault::ChunkType {
+            chunk: 1,
+            kind: 0xCAC5
+        })
+    );
+    assert!(rt; holds(&room, 4));
+}
+
+#[test]
+fn blocks_of_a_checksum(rt: HostRuntime) {
+    let mut image = IMAGE_C;
+    image[76] = 7;
+    let mut room = [9u8; 14];
+    assert_eq!(rt; expanded(&image, 13, &mut room), Ok(DONE_A));
+    assert!(rt; holds(&room, 12));
+}
+
+#[test]
+fn full(rt: HostRuntime) {
+    let mut room = [9u8; 5];
+    assert_eq!(rt;
+        expanded(&IMAGE_A, 13, &mut room),
+        Err(SparseFault::Write(DeviceFault::Full))
+    );
+    assert_eq!(rt; room.as_slice(), [65, 66, 67, 68, 4].as_slice());
+}
+
+#[test]
+fn each_read_fails(rt: HostRuntime) {
+    let mut clean = false;
+    for n in 1..100 {
+        let mut room = [9u8; 14];
+        let answer = {
+            let mut input = Faulty::new(Cut::new(Forward::new(SliceSource::new(&IMAGE_A)), 5), n);
+            let mut output = SliceOutput::new(&mut room);
+            let mut w = Window::new();
+            let mut m = Meter::new();
+            expand(&mut input, &mut output, &mut w, &mut m)
+        };
+        if answer == Ok(DONE_A) {
+            assert!(rt; holds(&room, 12));
+            clean = true;
+            break;
+        }
+        assert_eq!(rt; answer, Err(SparseFault::Read(DeviceFault::Failed)));
+        assert!(rt; holds_some(&room));
+    }
+    assert!(rt; clean);
+}
+
+#[test]
+fn each_write_fails(rt: HostRuntime) {
+    let mut clean = false;
+    for n in 1..100 {
+        let mut room = [9u8; 14];
+        let answer = {
+            let mut input = Forward::new(SliceSource::new(&IMAGE_A));
+            let mut output = Faulty::new(Cut::new(SliceOutput::new(&mut room), 3), n);
+            let mut w = Window::new();
+            let mut m = Meter::new();
+            expand(&mut input, &mut output, &mut w, &mut m)
+        };
+        if answer == Ok(DONE_A) {
+            assert!(rt; holds(&room, 12));
+            clean = true;
+            break;
+        }
+        assert_eq!(rt; answer, Err(SparseFault::Write(DeviceFault::Failed)));
+        assert!(rt; holds_some(&room));
+    }
+    assert!(rt; clean);
+}
+
+/// Steps until the machine has answered something else than More, and then once more.
+fn stepped(bytes: &[u8], room: &mut [u8]) -> (Result<Progress, SparseFault>, u64, bool) {
+    let mut input = Forward::new(SliceSource::new(bytes));
+    let mut output = SliceOutput::new(room);
+    let mut w = Window::new();
+    let mut m = Meter::new();
+    let mut machine = Expander::open();
+    let mut last = Ok(Progress::More);
+    for _ in 0..100 {
+        last = machine.step(&mut input, &mut output, &mut w, &mut m);
+        if last != Ok(Progress::More) {
+            break;
+        }
+    }
+    let position = input.position();
+    let again = machine.step(&mut input, &mut output, &mut w, &mut m);
+    (
+        last,
+        position,
+        again == last && input.position() == position,
+    )
+}
+
+#[test]
+fn answers_again(rt: HostRuntime) {
+    let mut room = [9u8; 14];
+    let (last, position, same) = stepped(&IMAGE_A, &mut room);
+    assert_eq!(rt; last, Ok(Progress::Done));
+    assert_eq!(rt; position, 72);
+    assert!(rt; same);
+    assert!(rt; holds(&room, 12));
+    let mut room = [9u8; 14];
+    let (last, position, same) = stepped(&IMAGE_A[..42], &mut room);
+    assert_eq!(rt; last, Err(SparseFault::Truncated { at: 42 }));
+    assert_eq!(rt; position, 42);
+    assert!(rt; same);
+    assert!(rt; holds(&room, 2));
+}
+
+#[test]
+fn devices_that_tell_nothing(rt: HostRuntime) {
+    let mut room = [9u8; 14];
+    let mut input = FromRead::new(IMAGE_A.as_slice());
+    let mut output = ToWrite::new(room.as_mut_slice());
+    let mut w = Window::new();
+    let mut m = Meter::new();
+    assert_eq!(rt; expand(&mut input, &mut output, &mut w, &mut m), Ok(DONE_A));
+}

@@ -1,0 +1,92 @@
+-- An entry that is written is read, and what is read is spelled so.
+use Rattle.std.proofs.Common.{◌≡◌, ℕ, zero, suc, ◌+◌, ◌*◌, ◌<◌, ◌≤◌, ◌^◌, List, [], ◌∷◌, ◌++◌, length, take, drop, get_or, set, refl, sym, ap, ◌∙◌, append-nil, arith, length-append}
+use Rattle.std.proofs.lemmas.List.{drop_all, take_more, take_more_set, map-append, length-take-le}
+use Rattle.byteorder.specs.Endian.{little_bytes}
+use Rattle.byteorder.specs.Numbers.{length-bytes_low_first}
+use Rattle.abt_headers.specs.declared.entry.RamdiskEntry.{RamdiskEntry}
+use Rattle.abt_headers.specs.Field.{number_at, joined}
+use Rattle.abt_headers.specs.Entry.{words_at, words_fields, entry_fields, entry_record, entry_at, EntryFits}
+use Rattle.abt_headers.proofs.Fields.{IsBytes, next, next_number, part_here, number_here, part_field, field, joined_to, joined_rest, joined-append, put_more}
+
+words_again : (ws : List ℕ) (p : ℕ) (x rest : List ℕ) → ((i : ℕ) → get_or ws i 0 < 2 ^ 32) → drop p x ≡ joined_to (words_fields ws) rest → words_at p (length ws) x ≡ ws
+words_again [] p x rest h e = refl
+words_again (w ∷ ws) p x rest h e =
+    let f = number_here p 4 w x (joined_to (words_fields ws) rest) e (h 0) in
+    let r = words_again ws (p + 4) x rest (λ i. h (suc i)) (next_number p 4 w x (joined_to (words_fields ws) rest) e) in
+    rw (f, r) refl
+
+words_back : (k p : ℕ) (x rest : List ℕ) → p + 4 * k ≤ length x → IsBytes x → rest ≡ drop (p + 4 * k) x → joined_to (words_fields (words_at p k x)) rest ≡ drop p x
+words_back zero p x rest h k e = e ∙ ap (λ (n : ℕ). drop n x) (omega arith)
+words_back (suc n) p x rest h k e =
+    let same : p + 4 * suc n ≡ (p + 4) + 4 * n = omega arith in
+    field p 4 x _ (omega arith) k (words_back n (p + 4) x rest (omega arith) k (e ∙ ap (λ (m : ℕ). drop m x) same))
+
+pub entry_again : (e : RamdiskEntry) (x : List ℕ) → EntryFits e → x ≡ joined_to (entry_fields e) [] → entry_at x ≡ e
+unfolding entry_at
+entry_again e x fits e0 =
+    let f0 = number_here 0 4 e.ramdisk_size x _ e0 fits.ramdisk_size in
+    let e4 = next_number 0 4 e.ramdisk_size x _ e0 in
+    let f4 = number_here 4 4 e.ramdisk_offset x _ e4 fits.ramdisk_offset in
+    let e8 = next_number 4 4 e.ramdisk_offset x _ e4 in
+    let f8 = number_here 8 4 e.ramdisk_type x _ e8 fits.ramdisk_type in
+    let e12 = next_number 8 4 e.ramdisk_type x _ e8 in
+    let f12 = part_here 12 32 x e.name _ e12 fits.name in
+    let e44 = next 12 32 x e.name _ e12 fits.name in
+    let f44 : words_at 44 16 x ≡ e.board_id = ap (λ (n : ℕ). words_at 44 n x) (sym fits.board_long) ∙ words_again e.board_id 44 x [] fits.board_id e44 in
+    rw (f0, f4, f8, f12, f44) refl
+
+pub entry_back : (x : List ℕ) → length x ≡ 108 → IsBytes x → entry_record (entry_at x) ≡ x
+unfolding entry_at entry_record
+entry_back x n k =
+    let e44 = words_back 16 44 x [] (omega arith) k (sym (drop_all 108 x (omega arith))) in
+    let e12 = part_field 12 32 x _ e44 in
+    let e8 = field 8 4 x _ (omega arith) k e12 in
+    let e4 = field 4 4 x _ (omega arith) k e8 in
+    let e0 = field 0 4 x _ (omega arith) k e4 in
+    sym (append-nil (joined (entry_fields (entry_at x)))) ∙ joined_rest (entry_fields (entry_at x)) [] ∙ e0
+
+pub record_again : (e : RamdiskEntry) → EntryFits e → entry_at (entry_record e) ≡ e
+unfolding entry_record
+record_again e fits = entry_again e (joined (entry_fields e)) fits (sym (append-nil (joined (entry_fields e))) ∙ joined_rest (entry_fields e) [])
+
+words_snoc : (i p : ℕ) (x : List ℕ) → words_at p (i + 1) x ≡ words_at p i x ++ (number_at (p + 4 * i) 4 x ∷ [])
+words_snoc zero p x = let e : p ≡ p + 4 * 0 = omega arith in ap (λ (q : ℕ). number_at q 4 x ∷ []) e
+words_snoc (suc i) p x =
+    let same : (p + 4) + 4 * i ≡ p + 4 * suc i = omega arith in
+    let r = words_snoc i (p + 4) x in
+    let next : suc i + 1 ≡ suc (i + 1) = omega arith in
+    ap (λ (k : ℕ). words_at p k x) next
+    ∙ ap (λ (l : List ℕ). number_at p 4 x ∷ l) (r ∙ ap (λ (q : ℕ). words_at (p + 4) i x ++ (number_at q 4 x ∷ [])) same)
+
+pub word_more : (words bytes : List ℕ) (i v : ℕ) → i < length words → v ≡ number_at (44 + 4 * i) 4 bytes → take i words ≡ words_at 44 i bytes → take (i + 1) (set words i v) ≡ words_at 44 (i + 1) bytes
+word_more words bytes i v h e before =
+    take_more_set words i v h ∙ ap (λ (l : List ℕ). l ++ (v ∷ [])) before ∙ ap (λ (m : ℕ). words_at 44 i bytes ++ (m ∷ [])) e ∙ sym (words_snoc i 44 bytes)
+
+words_joined : (ws : List ℕ) (i : ℕ) → i < length ws → joined (words_fields (take (i + 1) ws)) ≡ joined (words_fields (take i ws)) ++ little_bytes 4 (get_or ws i 0)
+words_joined ws i h =
+    ap (λ (l : List ℕ). joined (words_fields l)) (take_more ws i 0 h)
+    ∙ ap joined (map-append (λ (w : ℕ). little_bytes 4 w) (take i ws) (get_or ws i 0 ∷ []))
+    ∙ joined-append (words_fields (take i ws)) (little_bytes 4 (get_or ws i 0) ∷ [])
+
+words_length : (ws : List ℕ) → length (joined (words_fields ws)) ≡ 4 * length ws
+words_length [] = omega arith
+words_length (w ∷ ws) = length-append (little_bytes 4 w) (joined (words_fields ws)) ∙ rw (words_length ws) (omega arith)
+
+pub record_length : (e : RamdiskEntry) → EntryFits e → length (entry_record e) ≡ 108
+unfolding entry_record
+record_length e fits =
+    let n : length e.name ≡ 32 = fits.name in
+    let w : length (joined (words_fields e.board_id)) ≡ 64 = words_length e.board_id ∙ ap (λ (k : ℕ). 4 * k) fits.board_long in
+    simp length-append (omega arith)
+
+pub bytes_more : (ws base now new b : List ℕ) (i : ℕ) → i < length ws → b ≡ little_bytes 4 (get_or ws i 0) → now ≡ joined (words_fields (take i ws)) ++ drop (4 * i) base → new ≡ take (4 * i) now ++ (b ++ drop (4 * i + length b) now)
+    → new ≡ joined (words_fields (take (i + 1) ws)) ++ drop (4 * (i + 1)) base
+bytes_more ws base now new b i h e before is =
+    let front = joined (words_fields (take i ws)) in
+    let long : length front ≡ 4 * i = words_length (take i ws) ∙ ap (λ (n : ℕ). 4 * n) (length-take-le i ws (omega arith)) in
+    let four : length b ≡ 4 = ap length e ∙ length-bytes_low_first 0 4 (get_or ws i 0) in
+    let last : 4 * i + 4 ≡ 4 * (i + 1) = omega arith in
+    let more = put_more front base now new b (4 * i) 4 long four before is in
+    more ∙ ap (λ (l : List ℕ). (front ++ l) ++ drop (4 * i + 4) base) e
+    ∙ ap (λ (l : List ℕ). l ++ drop (4 * i + 4) base) (sym (words_joined ws i h))
+    ∙ ap (λ (n : ℕ). joined (words_fields (take (i + 1) ws)) ++ drop n base) last

@@ -1,0 +1,60 @@
+-- How sections are laid one after another.
+use Rattle.std.proofs.Common.{◌≡◌, ℕ, zero, suc, ◌+◌, ◌-◌, ◌*◌, ◌<◌, ◌≤◌, ◌^◌, List, [], ◌∷◌, ◌++◌, length, get_or, take, drop, set, sym, ap, subst, ◌∙◌, append_assoc, arith, nat_lt, inl, inr}
+use Rattle.std.proofs.Math.Nat.{mul-le-mul_left, mul-le-mul_right, div-mul-le_self, lt-div-mul-add}
+use Rattle.std.proofs.lemmas.List.{take_more_set, drop_more}
+use Rattle.std.proofs.lemmas.Bool.{cases_Bool, ltb-true, ltb-false}
+use Rattle.std.proofs.lemmas.Grind.{div_ceil_times}
+use Rattle.std.specs.Int.{div_ceil}
+use Rattle.abt_headers.specs.declared.sections.Section.{Section}
+use Rattle.abt_headers.specs.declared.sections.Place.{Place}
+use Rattle.abt_headers.specs.Page.{pages}
+use Rattle.abt_headers.specs.Places.{places_from, EachLow}
+
+pub laid : (p k k' i : ℕ) (ps : List Place) (ss : List (Section × ℕ)) (d : Section × ℕ) → i < length ss → i < length ps → k' ≡ k + pages (get_or ss i d).1 p
+    → take (i + 1) (set ps i (record { kind = (get_or ss i d).0; at = p * k; size = (get_or ss i d).1 })) ++ places_from p k' (drop (i + 1) ss) ≡ take i ps ++ places_from p k (drop i ss)
+laid p k k' i ps ss d h l e =
+    let y : Place = record { kind = (get_or ss i d).0; at = p * k; size = (get_or ss i d).1 } in
+    ap (λ (t : List Place). t ++ places_from p k' (drop (i + 1) ss)) (take_more_set ps i y l)
+    ∙ append_assoc (take i ps) (y ∷ []) (places_from p k' (drop (i + 1) ss))
+    ∙ ap (λ (n : ℕ). take i ps ++ (y ∷ places_from p n (drop (i + 1) ss))) e
+    ∙ ap (λ (t : List (Section × ℕ)). take i ps ++ places_from p k t) (sym (drop_more ss i d h))
+
+pub few_pages : (q page size : ℕ) → q * page < size + page → 2048 ≤ page → size < 2 ^ 32 → q ≤ 2097153
+few_pages zero page size h p s = omega arith
+few_pages (suc q) page size h p s =
+    let e : suc q * page ≡ q * page + page = omega arith in
+    let m = mul-le-mul_left q p in
+    omega (arith, m, e)
+
+pub enough_pages : (n p : ℕ) → 0 < p → n ≤ pages n p * p
+enough_pages n p h = omega (arith, lt-div-mul-add {a = n + (p - 1)} {b = p} h)
+
+pub least_pages : (n p : ℕ) → 0 < p → pages n p * p < n + p
+least_pages n p h = omega (arith, div-mul-le_self (n + (p - 1)) p)
+
+-- a number of pages is settled by its two bounds
+one_count : (q r p n : ℕ) → n ≤ q * p → q * p < n + p → n ≤ r * p → r * p < n + p → q ≡ r
+one_count q r p n a b c d = elim (cases_Bool (nat_lt q r)) [ inl t ↦ absurd (apart q r p n (ltb-true _ _ t) a d) | inr t ↦ same q r p n (ltb-false _ _ t) b c ]
+  where
+    apart : (q r p n : ℕ) → q < r → n ≤ q * p → r * p < n + p → ⊥
+    apart q r p n h a d = let m : (q + 1) * p ≤ r * p = mul-le-mul_right p (omega arith) in let e : (q + 1) * p ≡ q * p + p = omega arith in omega arith
+
+    same : (q r p n : ℕ) → r ≤ q → q * p < n + p → n ≤ r * p → q ≡ r
+    same q r p n h b c = elim (cases_Bool (nat_lt r q)) [ inl t ↦ absurd (apart r q p n (ltb-true _ _ t) c b) | inr t ↦ let k : q ≤ r = ltb-false _ _ t in omega arith ]
+
+pub ceil_pages : (n p : ℕ) → 0 < p → div_ceil n p ≡ pages n p
+ceil_pages n p h = let b = div_ceil_times n p h in one_count (div_ceil n p) (pages n p) p n b.0 b.1 (enough_pages n p h) (least_pages n p h)
+
+each_more : (ps : List Place) (y : Place) → EachLow ps → y.at + y.size < 2 ^ 63 → EachLow (ps ++ (y ∷ []))
+each_more [] y h low zero q lt is = let at : q.at ≡ y.at = ap (λ (r : Place). r.at) is in let size : q.size ≡ y.size = ap (λ (r : Place). r.size) is in omega arith
+each_more [] y h low (suc i) q lt is = absurd (omega arith)
+each_more (p ∷ ps) y h low zero q lt is = h zero q (omega arith) is
+each_more (p ∷ ps) y h low (suc i) q lt is = each_more ps y (λ j r m e. h (suc j) r (omega arith) e) low i q (omega arith) is
+
+-- one place more that isn't far
+pub low_more : (ps : List Place) (i : ℕ) (y : Place) → i < length ps → EachLow (take i ps) → y.at + y.size < 2 ^ 63 → EachLow (take (i + 1) (set ps i y))
+low_more ps i y l h low = subst (λ (qs : List Place). EachLow qs) (sym (take_more_set ps i y l)) (each_more (take i ps) y h low)
+
+-- nor is that of a section behind few pages
+pub near : (page k size : ℕ) → page ≤ 131072 → k ≤ 10485767 → size < 2 ^ 32 → page * k + size < 2 ^ 63
+near page k size h l s = let m : page * k ≤ 131072 * k = mul-le-mul_right k h in omega arith

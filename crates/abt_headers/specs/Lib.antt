@@ -1,0 +1,10 @@
+pub mod Boot
+pub mod Entry
+pub mod Fault
+pub mod Field
+pub mod Fits
+pub mod Os
+pub mod Page
+pub mod Places
+pub mod Vendor
+pub mod VendorFits

@@ -1,0 +1,26 @@
+-- The sections of an image: their names, and where they stand.
+use Rattle.std.specs.Prelude.{◌≡◌, ℕ, ◌+◌, ◌*◌, ◌<◌, ◌^◌, List, [], ◌∷◌, length, get_or, codes}
+use Rattle.abt_headers.specs.declared.sections.Section.{Section}
+use Rattle.abt_headers.specs.declared.sections.Section.TheVariants.{Kernel, Ramdisk, Second, RecoveryDtbo, Dtb, Signature, VendorRamdisk, Table, Bootconfig}
+use Rattle.abt_headers.specs.declared.sections.Place.{Place}
+use Rattle.abt_headers.specs.Page.{pages}
+
+abbrev pub section_name : Section → List ℕ
+section_name Kernel = codes "kernel"
+section_name Ramdisk = codes "ramdisk"
+section_name Second = codes "second"
+section_name RecoveryDtbo = codes "recovery_dtbo"
+section_name Dtb = codes "dtb"
+section_name Signature = codes "signature"
+section_name VendorRamdisk = codes "vendor_ramdisk"
+section_name Table = codes "table"
+section_name Bootconfig = codes "bootconfig"
+
+-- sections of these sizes, the first behind k pages of p bytes, each at the first page boundary behind the one before
+abbrev pub places_from : ℕ → ℕ → List (Section × ℕ) → List Place
+places_from p k [] = []
+places_from p k (s ∷ ss) = record { kind = s.0; at = p * k; size = s.1 } ∷ places_from p (k + pages s.1 p) ss
+
+-- each place ends below 2^63, so that sums of offsets and sizes fit 64 bits
+abbrev pub EachLow : List Place → Type 0
+EachLow ps = (i : ℕ) (q : Place) → i < length ps → q ≡ get_or ps i q → q.at + q.size < 2 ^ 63

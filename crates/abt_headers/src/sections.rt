@@ -1,0 +1,163 @@
+//! The sections of an image: their names, and the places where they stand.
+
+ghost use Rattle.std.specs.Prelude.{◌≡◌, ◌+◌, ◌*◌, ◌≤◌, ◌<◌, ◌^◌, List, length, slice_index_or};
+ghost use Rattle.abt_headers.specs.Page as of_page;
+ghost use Rattle.abt_headers.specs.Places.{EachLow, places_from, section_name};
+
+use std::fmt;
+use std::marker::Model;
+
+/// What a section of an image holds.
+#[derive(Clone, Copy, Debug, PartialEq, Eq)]
+pub enum Section {
+    /// The kernel of a boot image.
+    Kernel,
+
+    /// The ramdisk of a boot image.
+    Ramdisk,
+
+    /// The second-stage boot loader of a boot image of versions 0 to 2.
+    Second,
+
+    /// The DTBO or ACPIO of a recovery image, in versions 1 and 2.
+    RecoveryDtbo,
+
+    /// The device tree blobs of a boot image of version 2 or a vendor boot image.
+    Dtb,
+
+    /// The boot signature of a boot image of version 4.
+    Signature,
+
+    /// The ramdisk of a vendor boot image, all fragments end to end in version 4.
+    VendorRamdisk,
+
+    /// The table of ramdisk fragments of a vendor boot image of version 4.
+    Table,
+
+    /// The bootconfig of a vendor boot image of version 4.
+    Bootconfig,
+}
+
+impl Section {
+    /// The section's name in texts and file names.
+    pub fn name(&self) -> &'static str
+        ensures { result.now ≡ section_name self.now }
+    {
+        match self {
+            Section::Kernel => "kernel",
+            Section::Ramdisk => "ramdisk",
+            Section::Second => "second",
+            Section::RecoveryDtbo => "recovery_dtbo",
+            Section::Dtb => "dtb",
+            Section::Signature => "signature",
+            Section::VendorRamdisk => "vendor_ramdisk",
+            Section::Table => "table",
+            Section::Bootconfig => "bootconfig",
+        }
+    }
+}
+
+/// Shows the name.
+impl fmt::Display for Section {
+    ghost use Rattle.std.specs.Prelude.{Some};
+    ghost use Rattle.std.specs.Fmt.{padded};
+    ghost use Rattle.abt_headers.specs.Places.{section_name};
+
+    ghost output = { λ section. Some (section_name section) };
+
+    ghost styled_output = { λ section spec. Some (padded spec (section_name section)) };
+
+    fn fmt<W: fmt::Write>(&self, f: &mut fmt::Formatter<W>) -> fmt::Result {
+        f.pad(self.name())
+    }
+}
+
+/// Where a section stands in an image.
+#[derive(Clone, Copy, Debug, PartialEq, Eq)]
+pub struct Place {
+    /// What stands there.
+    pub kind: Section,
+
+    /// The offset of its first byte in the image, a whole number of pages. It may be above 2^32.
+    pub at: u64,
+
+    /// How many bytes it has, without padding.
+    pub size: u32,
+}
+
+/// The sections of an image in their order, empty ones too: at most five.
+#[derive(Debug, Drop)]
+pub struct Sections {
+    places: [Place; 5],
+    count: usize,
+}
+
+impl Model for Sections {
+    ghost use Rattle.std.specs.Prelude.{◌≡◌, ◌≤◌, List, length, take};
+    ghost use Rattle.abt_headers.specs.declared.sections.Place.{Place};
+
+    ghost Value = { List Place };
+
+    ghost view = { λ s. take s.count s.places };
+
+    ghost invariant = { λ s. (s.count ≤ 5) × (length s.places ≡ 5) };
+}
+
+impl Sections {
+    /// How many sections there are.
+    pub fn count(&self) -> usize
+        ensures { result ≡ length self.now }
+    {
+        self.count
+    }
+
+    /// Where section `i` stands, counted from 0.
+    pub fn place(&self, i: usize) -> Place
+        requires { i < length self.now }
+        ensures { result ≡ slice_index_or self.now i result }
+    {
+        let places = &self.places[..self.count];
+        places[i]
+    }
+}
+
+/// How many pages of `page` bytes hold `size` bytes: the least number that does.
+pub fn pages(size: u64, page: u32) -> u64
+    requires { 0 < page }
+    ensures value { result ≡ of_page.pages size page }
+    ensures enough { size ≤ result * page }
+    ensures least { result * page < size + page }
+{
+    size.div_ceil(page as u64)
+}
+
+/// Lays sections of these sizes one behind another, each from a page boundary on and the first
+/// behind `first` pages.
+pub(crate) fn lay(page: u32, first: u64, sections: &[(Section, u32)]) -> Sections
+    requires count { length sections.now ≤ 5 }
+    requires low { 2048 ≤ page }
+    requires high { page ≤ 131072 }
+    requires first { first ≤ 2 }
+    ensures places { result ≡ places_from page first sections.now }
+    ensures low { EachLow result }
+{
+    let mut places = [Place {
+        kind: Section::Kernel,
+        at: 0,
+        size: 0,
+    }; 5];
+    let mut next = first;
+    for (i, section) in sections.iter().enumerate() {
+        let (kind, size) = *section;
+        places[i] = Place {
+            kind,
+            at: page as u64 * next,
+            size,
+        };
+        next += pages(size as u64, page);
+    }
+    Sections {
+        places,
+        count: sections.len(),
+    }
+}

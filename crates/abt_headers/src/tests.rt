@@ -1,0 +1,563 @@
+//! What no clause says: bytes that another program wrote, examples of each layout with places
+//! worked out by hand, the order of faults on real lengths, and texts.
+
+use crate::{
+    BootFront, BootHeader, DtbFields, DtboFields, HeaderFault, OsParts, OsVersion, PageSize,
+    RamdiskEntry, Section, Sections, ShortFront, VendorFront, VendorHeader, VendorTail, boot_again,
+    boot_long, entry_again, entry_long, front_decides, pages, vendor_again, vendor_front_decides,
+    vendor_long,
+};
+use std::process::Abort;
+use std::test::Fail;
+
+mod vectors;
+
+/// A record of `N` bytes with these runs of bytes, and zeros between them.
+fn record<const N: usize>(rt: &impl Abort, runs: &[(usize, &[u8])]) -> [u8; N] {
+    let mut record = [0; N];
+    let bytes = &mut record[..];
+    for (place, run) in runs {
+        assert!(rt; *place <= bytes.len() && run.len() <= bytes.len() - *place);
+        bytes[*place..*place + run.len()].copy_from_slice(run);
+    }
+    record
+}
+
+/// A text field: the text, and then zeros.
+fn text<const N: usize>(rt: &impl Abort, text: &[u8]) -> [u8; N] {
+    record(rt, &[(0, text)])
+}
+
+/// The record decodes to this header, and the header encodes to the record.
+fn decodes_to(rt: &impl Abort, record: &[u8], header: &BootHeader) {
+    assert_eq!(rt; BootHeader::decode(record), Ok(*header));
+    let mut out = [0xee; 1660];
+    let size = header.encode(&mut out);
+    assert_eq!(rt; size, record.len());
+    assert_eq!(rt; size, header.size());
+    for (i, byte) in out.iter().enumerate() {
+        let want = record.get(i).copied().unwrap_or(0xee);
+        assert_eq!(rt; *byte, want, "at {i}");
+    }
+}
+
+fn decodes_to_vendor(rt: &impl Abort, record: &[u8], header: &VendorHeader) {
+    assert_eq!(rt; VendorHeader::decode(record), Ok(*header));
+    let mut out = [0xee; 2128];
+    let size = header.encode(&mut out);
+    assert_eq!(rt; size, record.len());
+    assert_eq!(rt; size, header.size());
+    for (i, byte) in out.iter().enumerate() {
+        let want = record.get(i).copied().unwrap_or(0xee);
+        assert_eq!(rt; *byte, want, "at {i}");
+    }
+}
+
+#[test]
+fn mkbootimg_writes_boot_0(rt: HostRuntime) -> Result<(), Fail> {
+    let id = b"\xdcU\xf0k{\x12\x7f\x17\xfd\x9f\xa6\xe1\xca\x91\xd0$\x97\x82<\xa1";
+    let header = BootHeader::V0(BootFront {
+        kernel_size: 8,
+        kernel_addr: 0x1000_8000,
+        ramdisk_size: 11,
+        ramdisk_addr: 0x1100_0000,
+        second_size: 6,
+        second_addr: 0x10f0_0000,
+        tags_addr: 0x1000_0100,
+        page_size: PageSize::Of2048,
+        os_version: OsVersion::new(13, 0, 0, 2023, 5)?,
+        name: text(&rt, b"board0"),
+        cmdline: text(&rt, b"console=ttyS0 quiet"),
+        id: text(&rt, id),
+        extra_cmdline: [0; 1024],
+    });
+    decodes_to(&rt, &record::<1632>(&rt, &vectors::BOOT_0), &header);
+    assert_eq!(rt; header.version(), 0);
+    assert_eq!(rt; header.page_size(), 2048);
+    Ok(())
+}
+
+#[test]
+fn mkbootimg_writes_boot_1(rt: HostRuntime) -> Result<(), Fail> {
+    let id = b"SaXu\x81n6\x15\x91\x8e\x99\xa0\x155\xe5\xf3\x19/\x164";
+    let front = BootFront {
+        kernel_size: 8,
+        kernel_addr: 0x1000_8000,
+        ramdisk_size: 11,
+        ramdisk_addr: 0x1100_0000,
+        second_size: 0,
+        second_addr: 0,
+        tags_addr: 0x1000_0100,
+        page_size: PageSize::Of4096,
+        os_version: OsVersion::new(9, 8, 7, 2018, 12)?,
+        name: text(&rt, b"board1"),
+        cmdline: text(&rt, b"androidboot.slot=a"),
+        id: text(&rt, id),
+        extra_cmdline: [0; 1024],
+    };
+    let dtbo = DtboFields {
+        recovery_dtbo_size: 13,
+        recovery_dtbo_offset: 3 * 4096,
+        header_size: 1648,
+    };
+    let header = BootHeader::V1(front, dtbo);
+    decodes_to(&rt, &record::<1648>(&rt, &vectors::BOOT_1), &header);
+    assert_eq!(rt; header.version(), 1);
+    assert_eq!(rt; header.page_size(), 4096);
+    Ok(())
+}
+
+#[test]
+fn mkbootimg_writes_boot_2(rt: HostRuntime) -> Result<(), Fail> {
+    let id = b"0\x16\xad\x5c\xf5q\xc7\xf1u\xa4\xddv\x0b\xb3\xca\x5c_Ds8";
+    let front = BootFront {
+        kernel_size: 8,
+        kernel_addr: 0x1000_8000,
+        ramdisk_size: 11,
+        ramdisk_addr: 0x1100_0000,
+        second_size: 6,
+        second_addr: 0x10f0_0000,
+        tags_addr: 0x1000_0100,
+        page_size: PageSize::Of16384,
+        os_version: OsVersion::new(127, 127, 127, 2127, 11)?,
+        name: text(&rt, b"fifteen_letters"),
+        cmdline: text(&rt, b"loglevel=4"),
+        id: text(&rt, id),
+        extra_cmdline: [0; 1024],
+    };
+    let dtbo = DtboFields {
+        recovery_dtbo_size: 0,
+        recovery_dtbo_offset: 0,
+        header_size: 1660,
+    };
+    let dtb = DtbFields {
+        dtb_size: 11,
+        dtb_addr: 0x1_11f0_0000,
+    };
+    let header = BootHeader::V2(front, dtbo, dtb);
+    decodes_to(&rt, &record::<1660>(&rt, &vectors::BOOT_2), &header);
+    assert_eq!(rt; header.version(), 2);
+    assert_eq!(rt; header.page_size(), 16384);
+    Ok(())
+}
+
+// This `mkbootimg` writes 1,596 as the header's size, and 2,108 below: they are kept as read.
+#[test]
+fn mkbootimg_writes_boot_3(rt: HostRuntime) -> Result<(), Fail> {
+    let header = BootHeader::V3(ShortFront {
+        kernel_size: 8,
+        ramdisk_size: 11,
+        os_version: OsVersion::new(11, 0, 0, 2020, 9)?,
+        header_size: 1596,
+        reserved: [0; 16],
+        cmdline: text(&rt, b"init=/init"),
+    });
+    decodes_to(&rt, &record::<1580>(&rt, &vectors::BOOT_3), &header);
+    assert_eq!(rt; header.version(), 3);
+    assert_eq!(rt; header.page_size(), 4096);
+    Ok(())
+}
+
+#[test]
+fn mkbootimg_writes_vendor_3(rt: HostRuntime) {
+    let header = VendorHeader::V3(VendorFront {
+        page_size: PageSize::Of2048,
+        kernel_addr: 0x1000_8000,
+        ramdisk_addr: 0x1100_0000,
+        vendor_ramdisk_size: 18,
+        cmdline: text(&rt, b"firmware_class.path=/vendor"),
+        tags_addr: 0x1000_0100,
+        name: text(&rt, b"board3"),
+        header_size: 2108,
+        dtb_size: 11,
+        dtb_addr: 0x11f0_0000,
+    });
+    decodes_to_vendor(&rt, &record::<2112>(&rt, &vectors::VENDOR_3), &header);
+    assert_eq!(rt; header.version(), 3);
+    assert_eq!(rt; header.page_size(), 2048);
+}
+
+/// A boot header of versions 0 to 2 with these sizes.
+fn front(page_size: PageSize, kernel_size: u32, ramdisk_size: u32, second_size: u32) -> BootFront {
+    BootFront {
+        kernel_size,
+        kernel_addr: 0,
+        ramdisk_size,
+        ramdisk_addr: 0,
+        second_size,
+        second_addr: 0,
+        tags_addr: 0,
+        page_size,
+        os_version: OsVersion::from_raw(0),
+        name: [0; 16],
+        cmdline: [0; 512],
+        id: [0; 32],
+        extra_cmdline: [0; 1024],
+    }
+}
+
+fn dtbo(recovery_dtbo_size: u32) -> DtboFields {
+    DtboFields {
+        recovery_dtbo_size,
+        recovery_dtbo_offset: 0,
+        header_size: 0,
+    }
+}
+
+fn short_front(kernel_size: u32, ramdisk_size: u32) -> ShortFront {
+    ShortFront {
+        kernel_size,
+        ramdisk_size,
+        os_version: OsVersion::from_raw(0),
+        header_size: 0,
+        reserved: [7; 16],
+        cmdline: [0; 1536],
+    }
+}
+
+fn vendor_front(page_size: PageSize, vendor_ramdisk_size: u32, dtb_size: u32) -> VendorFront {
+    VendorFront {
+        page_size,
+        kernel_addr: 0,
+        ramdisk_addr: 0,
+        vendor_ramdisk_size,
+        cmdline: [0; 2048],
+        tags_addr: 0,
+        name: [0; 16],
+        header_size: 0,
+        dtb_size,
+        dtb_addr: 0,
+    }
+}
+
+/// The sections are these, at these places.
+fn stand_at(rt: &impl Abort, sections: &Sections, places: &[(Section, u64, u32)]) {
+    assert_eq!(rt; sections.count(), places.len());
+    for (i, (kind, at, size)) in places.iter().copied().enumerate() {
+        assert!(rt; i < sections.count());
+        let place = sections.place(i);
+        assert_eq!(rt; place.kind, kind);
+        assert_eq!(rt; place.at, at, "of {kind}");
+        assert_eq!(rt; place.size, size);
+    }
+}
+
+#[test]
+fn places_of_boot_images(rt: HostRuntime) {
+    let one = BootHeader::V0(front(PageSize::Of2048, 1, 0, 0));
+    let places = [
+        (Section::Kernel, 2048, 1),
+        (Section::Ramdisk, 4096, 0),
+        (Section::Second, 4096, 0),
+    ];
+    stand_at(&rt, &one.sections(), &places);
+
+    let dtb = DtbFields {
+        dtb_size: 2049,
+        dtb_addr: 0,
+    };
+    let five = BootHeader::V2(front(PageSize::Of2048, 3000, 1, 0), dtbo(5), dtb);
+    let places = [
+        (Section::Kernel, 2048, 3000),
+        (Section::Ramdisk, 6144, 1),
+        (Section::Second, 8192, 0),
+        (Section::RecoveryDtbo, 8192, 5),
+        (Section::Dtb, 10240, 2049),
+    ];
+    stand_at(&rt, &five.sections(), &places);
+
+    // A size that is a whole number of pages takes no page more.
+    let whole = BootHeader::V3(short_front(8192, 4096));
+    let places = [
+        (Section::Kernel, 4096, 8192),
+        (Section::Ramdisk, 12288, 4096),
+    ];
+    stand_at(&rt, &whole.sections(), &places);
+
+    let init_boot = BootHeader::V4(short_front(0, 5), 3);
+    let places = [
+        (Section::Kernel, 4096, 0),
+        (Section::Ramdisk, 4096, 5),
+        (Section::Signature, 8192, 3),
+    ];
+    stand_at(&rt, &init_boot.sections(), &places);
+}
+
+#[test]
+fn places_above_32_bits(rt: HostRuntime) {
+    let most = u32::MAX;
+    let large = BootHeader::V1(front(PageSize::Of131072, most, most, most), dtbo(most));
+    let places = [
+        (Section::Kernel, 131_072, most),
+        (Section::Ramdisk, 4_295_098_368, most),
+        (Section::Second, 8_590_065_664, most),
+        (Section::RecoveryDtbo, 12_885_032_960, most),
+    ];
+    stand_at(&rt, &large.sections(), &places);
+}
+
+#[test]
+fn places_of_vendor_boot_images(rt: HostRuntime) {
+    // The header takes two pages.
+    let three = VendorHeader::V3(vendor_front(PageSize::Of2048, 10, 3));
+    let places = [(Section::VendorRamdisk, 4096, 10), (Section::Dtb, 6144, 3)];
+    stand_at(&rt, &three.sections(), &places);
+
+    let tail = VendorTail {
+        table_size: 216,
+        entry_num: 2,
+        entry_size: 108,
+        bootconfig_size: 2,
+    };
+    let four = VendorHeader::V4(vendor_front(PageSize::Of4096, 12, 1), tail);
+    let places = [
+        (Section::VendorRamdisk, 4096, 12),
+        (Section::Dtb, 8192, 1),
+        (Section::Table, 12288, 216),
+        (Section::Bootconfig, 16384, 2),
+    ];
+    stand_at(&rt, &four.sections(), &places);
+    assert_eq!(rt; four.version(), 4);
+    assert_eq!(rt; four.page_size(), 4096);
+
+    let small_pages = VendorHeader::V4(vendor_front(PageSize::Of2048, 12, 1), tail);
+    let places = [
+        (Section::VendorRamdisk, 4096, 12),
+        (Section::Dtb, 6144, 1),
+        (Section::Table, 8192, 216),
+        (Section::Bootconfig, 10240, 2),
+    ];
+    stand_at(&rt, &small_pages.sections(), &places);
+
+    let none = VendorTail {
+        table_size: 0,
+        entry_num: 0,
+        entry_size: 108,
+        bootconfig_size: 0,
+    };
+    let empty = VendorHeader::V4(vendor_front(PageSize::Of4096, 0, 0), none);
+    let places = [
+        (Section::VendorRamdisk, 4096, 0),
+        (Section::Dtb, 4096, 0),
+        (Section::Table, 4096, 0),
+        (Section::Bootconfig, 4096, 0),
+    ];
+    stand_at(&rt, &empty.sections(), &places);
+}
+
+/// Of these bytes and this `header_version`, the first `length` are refused for this fault.
+fn refuses(rt: &impl Abort, bytes: &[u8; 1660], length: usize, fault: HeaderFault) {
+    assert!(rt; length <= 1660);
+    assert_eq!(rt; BootHeader::decode(&bytes[..length]), Err(fault));
+}
+
+#[test]
+fn boot_faults_in_order(rt: HostRuntime) {
+    let mut bytes = record::<1660>(&rt, &[(0, b"ANDROID!")]);
+    refuses(&rt, &bytes, 7, HeaderFault::Short { need: 8 });
+    refuses(&rt, &bytes, 43, HeaderFault::Short { need: 44 });
+    for (version, size) in [(0, 1632), (1, 1648), (2, 1660), (3, 1580), (4, 1584)] {
+        bytes[40] = version;
+        let fault = HeaderFault::Short { need: size };
+        refuses(&rt, &bytes, 44, fault);
+        refuses(&rt, &bytes, size as usize - 1, fault);
+    }
+    bytes[40] = 5;
+    refuses(&rt, &bytes, 44, HeaderFault::Version(5));
+    bytes[43] = 1;
+    refuses(&rt, &bytes, 1660, HeaderFault::Version(0x0100_0005));
+
+    let mut bytes = record::<1660>(&rt, &[(0, b"ANDROIDX")]);
+    refuses(&rt, &bytes, 7, HeaderFault::Short { need: 8 });
+    refuses(&rt, &bytes, 8, HeaderFault::Magic);
+    bytes[40] = 5;
+    refuses(&rt, &bytes, 1660, HeaderFault::Magic);
+}
+
+#[test]
+fn page_sizes(rt: HostRuntime) {
+    let mut bytes = record::<1660>(&rt, &[(0, b"ANDROID!")]);
+    for page in [0u32, 1, 1024, 2047, 3000, 4097, 262_144, 0x8000_0800] {
+        bytes[36..40].copy_from_slice(&page.to_le_bytes());
+        refuses(&rt, &bytes, 1632, HeaderFault::PageSize(page));
+        assert_eq!(rt; PageSize::from_bytes(page), None);
+    }
+    for page in [2048u32, 4096, 8192, 16384, 32768, 65536, 131_072] {
+        bytes[36..40].copy_from_slice(&page.to_le_bytes());
+        match BootHeader::decode(&bytes) {
+            Ok(header) => assert_eq!(rt; header.page_size(), page),
+            Err(fault) => assert!(rt; false, "{fault}"),
+        }
+    }
+    assert_eq!(rt; pages(0, 2048), 0);
+    assert_eq!(rt; pages(2048, 2048), 1);
+    assert_eq!(rt; pages(2049, 2048), 2);
+    assert_eq!(rt; pages(u64::MAX, 2), 0x8000_0000_0000_0000);
+}
+
+/// The first `length` of these bytes are refused for this fault.
+fn refuses_vendor(rt: &impl Abort, bytes: &[u8; 2128], length: usize, fault: HeaderFault) {
+    assert!(rt; length <= 2128);
+    assert_eq!(rt; VendorHeader::decode(&bytes[..length]), Err(fault));
+}
+
+#[test]
+fn vendor_faults_in_order(rt: HostRuntime) {
+    let mut bytes = record::<2128>(&rt, &[(0, b"VNDRBOOT")]);
+    refuses_vendor(&rt, &bytes, 7, HeaderFault::Short { need: 8 });
+    refuses_vendor(&rt, &bytes, 11, HeaderFault::Short { need: 12 });
+    refuses_vendor(&rt, &bytes, 12, HeaderFault::Version(0));
+    bytes[8] = 2;
+    refuses_vendor(&rt, &bytes, 12, HeaderFault::Version(2));
+    bytes[8] = 5;
+    refuses_vendor(&rt, &bytes, 12, HeaderFault::Version(5));
+    bytes[8] = 3;
+    refuses_vendor(&rt, &bytes, 2111, HeaderFault::Short { need: 2112 });
+    refuses_vendor(&rt, &bytes, 2112, HeaderFault::PageSize(0));
+    bytes[8] = 4;
+    refuses_vendor(&rt, &bytes, 2127, HeaderFault::Short { need: 2128 });
+    refuses_vendor(&rt, &bytes, 2128, HeaderFault::PageSize(0));
+
+    let boot = record::<2128>(&rt, &[(0, b"ANDROID!")]);
+    refuses_vendor(&rt, &boot, 2128, HeaderFault::Magic);
+}
+
+/// A vendor boot header of version 4 with these numbers for its table.
+fn with_table(rt: &impl Abort, size: u32, entries: u32, entry_size: u32) -> [u8; 2128] {
+    let front: &[u8] = b"VNDRBOOT\x04\x00\x00\x00\x00\x08";
+    let size = size.to_le_bytes();
+    let entries = entries.to_le_bytes();
+    let entry_size = entry_size.to_le_bytes();
+    record(
+        rt,
+        &[
+            (0, front),
+            (2112, &size),
+            (2116, &entries),
+            (2120, &entry_size),
+        ],
+    )
+}
+
+#[test]
+fn tables_of_whole_entries(rt: HostRuntime) {
+    let header = VendorHeader::V4(
+        vendor_front(PageSize::Of2048, 0, 0),
+        VendorTail {
+            table_size: 216,
+            entry_num: 2,
+            entry_size: 108,
+            bootconfig_size: 0,
+        },
+    );
+    decodes_to_vendor(&rt, &with_table(&rt, 216, 2, 108), &header);
+    for (size, entries, entry_size) in [
+        (216, 2, 107),
+        (215, 2, 108),
+        (216, 3, 108),
+        (108, 0, 108),
+        // 108 times this number of entries is 2^32 + 32.
+        (32, 39_768_216, 108),
+    ] {
+        let bytes = with_table(&rt, size, entries, entry_size);
+        refuses_vendor(&rt, &bytes, 2128, HeaderFault::Table);
+    }
+}
+
+#[test]
+fn entry_of_a_ramdisk_table(rt: HostRuntime) {
+    let mut bytes = record::<108>(
+        &rt,
+        &[
+            (0, b"\x05\x00\x00\x00\x07\x00\x00\x01\x02"),
+            (12, b"recovery"),
+        ],
+    );
+    bytes[44] = 0x11;
+    bytes[107] = 0x22;
+    let mut board_id = [0; 16];
+    board_id[0] = 0x11;
+    board_id[15] = 0x2200_0000;
+    let entry = RamdiskEntry {
+        ramdisk_size: 5,
+        ramdisk_offset: 0x0100_0007,
+        ramdisk_type: 2,
+        name: text(&rt, b"recovery"),
+        board_id,
+    };
+    assert_eq!(rt; RamdiskEntry::decode(&bytes), entry);
+    assert_eq!(rt; entry.encode(), bytes);
+}
+
+#[test]
+fn os_versions(rt: HostRuntime) -> Result<(), Fail> {
+    let os = OsVersion::new(13, 0, 0, 2023, 5)?;
+    assert_eq!(rt; os.raw(), 436_207_989);
+    assert_eq!(rt; os.raw().to_le_bytes(), [0x75, 0x01, 0x00, 0x1a]);
+    let parts = OsParts {
+        a: 13,
+        b: 0,
+        c: 0,
+        year: 2023,
+        month: 5,
+    };
+    assert_eq!(rt; OsVersion::from_raw(436_207_989).parts(), parts);
+    let all_ones = OsParts {
+        a: 127,
+        b: 127,
+        c: 127,
+        year: 2127,
+        month: 15,
+    };
+    assert_eq!(rt; OsVersion::from_raw(u32::MAX).parts(), all_ones);
+    for (a, b, c, year, month) in [
+        (128, 0, 0, 2023, 5),
+        (1, 128, 0, 2023, 5),
+        (1, 0, 128, 2023, 5),
+        (1, 0, 0, 1999, 5),
+        (1, 0, 0, 2128, 5),
+        (1, 0, 0, 2023, 0),
+        (1, 0, 0, 2023, 13),
+    ] {
+        assert_eq!(rt; OsVersion::new(a, b, c, year, month), Err(HeaderFault::Os));
+    }
+    Ok(())
+}
+
+#[test]
+fn texts(rt: HostRuntime) -> Result<(), Fail> {
+    for (fault, number, want) in [
+        (HeaderFault::Magic, 20, "20 Magic"),
+        (HeaderFault::Version(5), 21, "21 Version 5"),
+        (HeaderFault::PageSize(1024), 22, "22 PageSize 1024"),
+        (HeaderFault::Table, 23, "23 Table"),
+        (HeaderFault::Short { need: 44 }, 25, "25 Short need 44"),
+        (HeaderFault::Os, 28, "28 Os"),
+    ] {
+        assert_eq!(rt; fault.number(), number);
+        let shown = format!(in rt.alloc(); "{fault}")?;
+        assert_eq!(rt; shown.as_str(), want);
+    }
+    for (section, want) in [
+        (Section::Kernel, "[kernel  ]"),
+        (Section::RecoveryDtbo, "[recovery_dtbo]"),
+        (Section::VendorRamdisk, "[vendor_ramdisk]"),
+    ] {
+        let shown = format!(in rt.alloc(); "[{section:<8}]")?;
+        assert_eq!(rt; shown.as_str(), want);
+    }
+    Ok(())
+}
+
+// These say something and do nothing.
+#[test]
+fn laws() {
+    front_decides();
+    vendor_front_decides();
+    boot_again();
+    boot_long();
+    vendor_again();
+    vendor_long();
+    entry_again();
+    entry_long();
+}

@@ -1,0 +1,36 @@
+-- What is written part after part: bytes of a source, and zeros.
+use Rattle.std.proofs.Common.{◌≡◌, ℕ, ◌+◌, ◌-◌, ◌≤◌, List, ◌++◌, length, take, drop, replicate, sym, ap, ◌∙◌, append_assoc, arith}
+use Rattle.std.proofs.lemmas.List.{replicate-append-replicate, take-take, take-replicate, drop-drop}
+use Rattle.abt_io.proofs.Parts.{take_plus}
+
+-- one part more of the bytes from a place on
+pub copied_more : (w0 w w' s s' : List ℕ) (from at d : ℕ) → s' ≡ s → w ≡ w0 ++ take at (drop from s) → w' ≡ w ++ take d (drop (from + at) s') → w' ≡ w0 ++ take (at + d) (drop from s)
+copied_more w0 w w' s s' from at d same before e =
+    e ∙ ap (λ (l : List ℕ). w ++ take d (drop (from + at) l)) same
+    ∙ ap (λ (l : List ℕ). l ++ take d (drop (from + at) s)) before
+    ∙ append_assoc w0 (take at (drop from s)) (take d (drop (from + at) s))
+    ∙ ap (λ (l : List ℕ). w0 ++ (take at (drop from s) ++ take d l)) (sym (drop-drop at from s))
+    ∙ ap (λ (l : List ℕ). w0 ++ l) (take_plus at d (drop from s))
+
+-- what is written is a front of the n bytes
+pub as_front_of : (w0 w' l : List ℕ) (k n : ℕ) → w' ≡ w0 ++ take k l → length w' - length w0 ≡ k → k ≤ n → w' ≡ w0 ++ take (length w' - length w0) (take n l)
+as_front_of w0 w' l k n e long le =
+    e ∙ ap (λ (x : List ℕ). w0 ++ x) (sym (take-take k n l le)) ∙ ap (λ (j : ℕ). w0 ++ take j (take n l)) (sym long)
+
+-- a part of a window whose front is zeros
+pub zeros_part : (bytes part : List ℕ) (front ask : ℕ) → take front bytes ≡ replicate front 0 → part ≡ take ask bytes → ask ≤ front → part ≡ replicate ask 0
+zeros_part bytes part front ask laid e le =
+    e ∙ sym (take-take ask front bytes le) ∙ ap (λ (l : List ℕ). take ask l) laid ∙ take-replicate ask front 0 le
+
+pub zeros_more : (w0 w w' part : List ℕ) (at ask : ℕ) → w ≡ w0 ++ replicate at 0 → w' ≡ w ++ part → part ≡ replicate ask 0 → w' ≡ w0 ++ replicate (at + ask) 0
+zeros_more w0 w w' part at ask before e same =
+    e ∙ ap (λ (l : List ℕ). w ++ l) same ∙ ap (λ (l : List ℕ). l ++ replicate ask 0) before
+    ∙ append_assoc w0 (replicate at 0) (replicate ask 0) ∙ ap (λ (l : List ℕ). w0 ++ l) (replicate-append-replicate at ask 0)
+
+pub zeros_front : (w0 w w' part : List ℕ) (at ask n d : ℕ) → w ≡ w0 ++ replicate at 0 → w' ≡ w ++ take d part → part ≡ replicate ask 0 → d ≤ ask → at + ask ≤ n → length w' - length w0 ≡ at + d
+    → w' ≡ w0 ++ take (length w' - length w0) (replicate n 0)
+zeros_front w0 w w' part at ask n d before e same le room long =
+    let part_is : take d part ≡ replicate d 0 = ap (λ (l : List ℕ). take d l) same ∙ take-replicate d ask 0 le in
+    zeros_more w0 w w' (take d part) at d before e part_is
+    ∙ ap (λ (l : List ℕ). w0 ++ l) (sym (take-replicate (at + d) n 0 (omega arith)))
+    ∙ ap (λ (j : ℕ). w0 ++ take j (replicate n 0)) (sym long)

@@ -1,0 +1,25 @@
+-- It makes a value of no bytes, at the ghost value that a fresh one has.
+use Rattle.abt_io.proofs.Steps.{[], ◌∷◌, ◌⊛◌, split, refl, proved, vstruct, vnil, raw, ‵, ◌$◌, ◌∵◌, !, qed, done, keep, suffices, enter, no_more, returns, agg, alloc_all, pass_all, free_all, look_at, sets, owns, pure_i, alive, Stays, walk_of, says, ends_at, ftrue}
+use Rattle.abt_io.specs.contracts.log.Log.new as f
+use Rattle.abt_io.proofs.log.Log.new.Statement.{statement}
+use Rattle.abt_io.proofs.log.Log.new.Code as code
+use Rattle.abt_io.specs.contracts.log.Log.{the_row as R}
+use Rattle.abt_io.specs.Frame.{nothing_logged}
+
+abbrev stayed : Stays f.ended.signature.params f.ended.kept
+stayed = tt
+
+pub new_spec : {M : Type 1} → statement M
+new_spec 𝓤 𝓛 𝓜 𝓡 wired =
+    let c = f.clauses 𝓛 𝓜.mem 𝓡.returns in let W = walk_of 𝓛 f.ended stayed c in
+    proved 𝓛 f.ended stayed c 𝓜 𝓡 tt
+    f.Key.name code.function (code.unfolded 𝓤 𝓛.H 𝓜 𝓡 wired)
+    (λ κs. tt) (λ κs. tt) (λ κs qs bounds a _ are.
+    let y : W.Ghost = ((tt, tt, tt, tt, tt), tt) in
+    qed 𝓛 ((raw (alive 𝓛 f.signature tt tt) ⊛ ‵ (owns [] tt tt)) ∷ ‵ ftrue ∷ []) ∵ split ! $
+    enter ! _ _ _ _ _ $ alloc_all ! (λ l. pass_all ! refl tt $
+    sets ! (agg ! (no_more !)) refl (tt, tt) $
+    returns ! (look_at ! 0 refl) $ free_all ! refl $
+    suffices ! _ (ends_at 𝓛 f.ended stayed c y (vstruct vnil) (record { state = nothing_logged }) tt tt) $
+    says ! refl $ pure_i ! (R.own_val (record { state = nothing_logged }) (vstruct vnil ∷ [])) ((λ vss. (tt, tt)), tt) ((tt, (refl, tt)), tt) $
+    keep ! (1 ∷ 2 ∷ 0 ∷ []) $ done !))

@@ -1,0 +1,11 @@
+pub mod Bytes
+pub mod BytesLaws
+pub mod Cause
+pub mod Count
+pub mod Crash
+pub mod Frame
+pub mod FrameLaws
+pub mod Held
+pub mod Inner
+pub mod Moment
+pub mod Window

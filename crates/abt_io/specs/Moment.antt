@@ -1,0 +1,69 @@
+-- What a crash may leave on a partition.
+use Rattle.std.specs.Prelude.{◌≡◌, ℕ, ◌+◌, Bool, false, ◌&&◌, ◌||◌, nat_le, nat_lt, List, [], ◌∷◌, ◌++◌, length, take, drop, slice_get}
+use Rattle.std.specs.List.{AllByRecursion}
+
+-- a partition between two calls: what a read gives, the ranges (place and length) that a crash may leave with any bytes, and how many syncs have succeeded
+pub record Moment : Type 0 where
+  pub content : List ℕ
+  pub pending : List (ℕ × ℕ)
+  pub synced : ℕ
+
+-- what is known of a partition beside its content: the ranges that were written since the last sync that succeeded, the count of these syncs, and its moments, the newest first
+pub record Past : Type 0 where
+  pub pending : List (ℕ × ℕ)
+  pub synced : ℕ
+  pub moments : List Moment
+
+abbrev pub no_past : Past
+no_past = record { pending = []; synced = 0; moments = [] }
+
+-- the moment with this content
+abbrev pub moment_of : Past → List ℕ → Moment
+moment_of p content = record { content = content; pending = p.pending; synced = p.synced }
+
+-- with one more moment, which is now
+abbrev pub seen_at : Past → List ℕ → Past
+seen_at p content = record p { moments = moment_of p content ∷ p.moments }
+
+-- after a write of n bytes at a place, or a try
+abbrev pub wrote : Past → List ℕ → ℕ → ℕ → Past
+wrote p content at n = seen_at (record p { pending = (at, n) ∷ p.pending }) content
+
+-- after a sync that succeeded
+abbrev pub settled : Past → List ℕ → Past
+settled p content = seen_at (record p { pending = []; synced = p.synced + 1 }) content
+
+-- byte i is among the n bytes from `at` on
+abbrev pub in_range : ℕ → ℕ → ℕ → Bool
+in_range at n i = nat_le at i && nat_lt i (at + n)
+
+-- byte i is in one of these ranges
+abbrev pub is_pending : List (ℕ × ℕ) → ℕ → Bool
+is_pending [] i = false
+is_pending (r ∷ rs) i = in_range r.0 r.1 i || is_pending rs i
+
+-- a crash at this moment may leave q
+pub record MayLeave (m : Moment) (q : List ℕ) : Type 0 where
+  pub size : length q ≡ length m.content
+  pub kept : (i : ℕ) → is_pending m.pending i ≡ false → slice_get q i ≡ slice_get m.content i
+
+-- each byte that isn't touched keeps its value from m to n, and doesn't become pending
+pub record Keeps (touched : ℕ → Bool) (m n : Moment) : Type 0 where
+  pub size : length n.content ≡ length m.content
+  pub bytes : (i : ℕ) → touched i ≡ false → slice_get n.content i ≡ slice_get m.content i
+  pub pending : (i : ℕ) → touched i ≡ false → is_pending m.pending i ≡ false → is_pending n.pending i ≡ false
+
+-- old with these bytes at a place
+abbrev pub put_at : List ℕ → ℕ → List ℕ → List ℕ
+put_at old at bytes = take at old ++ bytes ++ drop (at + length bytes) old
+
+-- of moments, newest first: each that is in `new` and not yet in `old` has P, and nothing was forgotten
+pub record EachSince (old new : List Moment) (P : Moment → Type 0) : Type 0 where
+  pub fresh : List Moment
+  pub joined : new ≡ fresh ++ old
+  pub each : AllByRecursion P fresh
+
+-- through these moments, the oldest first, each call leaves what isn't touched as it was
+abbrev pub Through : (ℕ → Bool) → Moment → List Moment → Type 0
+Through touched m [] = Unit {0}
+Through touched m (n ∷ ns) = Keeps touched m n × Through touched n ns

@@ -1,0 +1,149 @@
+//! Bytes from a place of a source to an output, and zeros.
+
+ghost use Rattle.std.specs.Prelude.{◌≡◌, ◌<◌, ◌≤◌, ◌+◌, ◌-◌, ◌*◌, ◌^◌, ◌++◌, IsTrue, IfOk, IfErr, OnOk, OnErr, max, length, take, drop, replicate};
+ghost use Rattle.abt_io.specs.Cause.{CopyCause};
+
+use crate::{DeviceFault, Meter, Output, Source, WINDOW, Window, write_out};
+
+/// Why a copy stopped.
+#[derive(Clone, Copy, Debug, PartialEq, Eq, Drop)]
+pub enum CopyFault {
+    /// The source failed.
+    Read(DeviceFault),
+    /// The output failed.
+    Write(DeviceFault),
+    /// The source gave nothing where it had said that there are bytes.
+    Changed,
+}
+
+/// One step: reads at most `ask` bytes from a place on, by one read, and writes what came. It
+/// answers how many came, which is never 0.
+pub fn copy_step<S: Source, O: Output>(
+    source: &mut S,
+    at: u64,
+    ask: usize,
+    output: &mut O,
+    w: &mut Window,
+    m: &mut Meter,
+) -> Result<usize, CopyFault>
+    requires some { 0 < ask }
+    requires room { ask ≤ 65536 }
+    ensures counts { IfOk result (λ k. (0 < k) × (k ≤ ask) × (S.given source.new ≡ S.given source.old + k) × (length (O.written output.new) ≡ length (O.written output.old) + k)) }
+    ensures asked { S.given source.old ≤ S.given source.new × S.given source.new ≤ S.given source.old + ask }
+    ensures held { length (O.written output.old) ≤ length (O.written output.new) × length (O.written output.new) ≤ length (O.written output.old) + (S.given source.new - S.given source.old) }
+    ensures content { IsTrue S.tells → S.content source.new ≡ S.content source.old }
+    ensures size { IsTrue S.tells → S.size source.new ≡ S.size source.old }
+    ensures present { IsTrue S.tells → S.given source.new - S.given source.old ≤ length (S.content source.old) - at }
+    ensures front { IsTrue S.tells → O.written output.new ≡ O.written output.old ++ take (length (O.written output.new) - length (O.written output.old)) (drop at (S.content source.old)) }
+    ensures frame { S.read_frame source.new ≡ S.read_frame source.old }
+    ensures write_frame { O.write_frame output.new ≡ O.write_frame output.old }
+    ensures read_faults { S.read_faults source.old ≤ S.read_faults source.new }
+    ensures write_faults { O.write_faults output.old ≤ O.write_faults output.new }
+    ensures cause { IfErr result (λ e. CopyCause e (IsTrue S.tells → length (S.content source.old) ≤ at) (S.read_faults source.old) (S.read_faults source.new) (O.write_faults output.old) (O.write_faults output.new)) }
+    ensures reads { S.reads source.new ≡ S.reads source.old + 1 }
+    ensures writes { O.writes output.new ≤ O.writes output.old + (length (O.written output.new) - length (O.written output.old)) + 1 }
+    ensures turns { m.new.turns.number ≤ m.old.turns.number + (length (O.written output.new) - length (O.written output.old)) + 1 }
+    ensures steps { m.new.steps.number ≡ m.old.steps.number + 1 }
+    ensures greatest { m.new.greatest.number ≡ max m.old.greatest.number (S.given source.new - S.given source.old) }
+{
+    match source.read_at(at, w.part_mut(0, ask)) {
+        Ok(got) => {
+            if got == 0 {
+                m.close_step(0);
+                return Err(CopyFault::Changed);
+            }
+            let done = write_out(output, w.part(0, got), m);
+            m.close_step(got as u32);
+            match done {
+                Ok(()) => Ok(got),
+                Err(fault) => Err(CopyFault::Write(fault)),
+            }
+        }
+        Err(fault) => {
+            m.close_step(0);
+            Err(CopyFault::Read(fault))
+        }
+    }
+}
+
+/// Copies the `n` bytes from a place on, in steps of at most a window. `Changed` comes where the
+/// source ends before them.
+pub fn copy_range<S: Source, O: Output>(
+    source: &mut S,
+    from: u64,
+    n: u64,
+    output: &mut O,
+    w: &mut Window,
+    m: &mut Meter,
+) -> Result<(), CopyFault>
+    requires { from + n < 2 ^ 64 }
+    ensures written { IsTrue S.tells → OnOk result (O.written output.new ≡ O.written output.old ++ take n (drop from (S.content source.old))) }
+    ensures front { IsTrue S.tells → O.written output.new ≡ O.written output.old ++ take (length (O.written output.new) - length (O.written output.old)) (take n (drop from (S.content source.old))) }
+    ensures all { OnOk result (length (O.written output.new) ≡ length (O.written output.old) + n) }
+    ensures given { OnOk result (S.given source.new ≡ S.given source.old + n) }
+    ensures there { IsTrue S.tells → OnOk result (n ≤ length (S.content source.old) - from) }
+    ensures asked { S.given source.old ≤ S.given source.new × S.given source.new ≤ S.given source.old + n }
+    ensures least { length (O.written output.old) ≤ length (O.written output.new) }
+    ensures most { length (O.written output.new) ≤ length (O.written output.old) + n }
+    ensures held { length (O.written output.new) ≤ length (O.written output.old) + (S.given source.new - S.given source.old) }
+    ensures content { IsTrue S.tells → S.content source.new ≡ S.content source.old }
+    ensures size { IsTrue S.tells → S.size source.new ≡ S.size source.old }
+    ensures frame { S.read_frame source.new ≡ S.read_frame source.old }
+    ensures write_frame { O.write_frame output.new ≡ O.write_frame output.old }
+    ensures read_faults { S.read_faults source.old ≤ S.read_faults source.new }
+    ensures write_faults { O.write_faults output.old ≤ O.write_faults output.new }
+    ensures cause { IfErr result (λ e. CopyCause e (IsTrue S.tells → length (S.content source.old) < from + n) (S.read_faults source.old) (S.read_faults source.new) (O.write_faults output.old) (O.write_faults output.new)) }
+    ensures reads { S.reads source.new ≤ S.reads source.old + (S.given source.new - S.given source.old) + 1 }
+    ensures writes { O.writes output.new ≤ O.writes output.old + 2 * (length (O.written output.new) - length (O.written output.old)) + 1 }
+    ensures turns { m.new.turns.number ≤ m.old.turns.number + 3 * (length (O.written output.new) - length (O.written output.old)) + 2 }
+    ensures steps { (S.given source.new - S.given source.old) + 65536 * m.old.steps.number ≤ 65536 * m.new.steps.number }
+    ensures greatest { m.new.greatest.number ≤ max m.old.greatest.number 65536 }
+{
+    let mut at = 0;
+    while at < n {
+        m.tick();
+        let ask = (n - at).min(WINDOW as u64) as usize;
+        let got = copy_step(source, from + at, ask, output, w, m)?;
+        at += got as u64;
+    }
+    Ok(())
+}
+
+// Makes the front of the window zeros.
+fn lay_zeros(w: &mut Window, n: usize)
+    requires { n ≤ 65536 }
+    ensures { take n w.new.bytes ≡ replicate n 0 }
+{
+    w.part_mut(0, n).fill(0);
+}
+
+/// Writes `n` zeros. It receives nothing and closes no step.
+pub fn write_zeros<O: Output>(
+    output: &mut O,
+    n: u64,
+    w: &mut Window,
+    m: &mut Meter,
+) -> Result<(), DeviceFault>
+    ensures written { OnOk result (O.written output.new ≡ O.written output.old ++ replicate n 0) }
+    ensures front { O.written output.new ≡ O.written output.old ++ take (length (O.written output.new) - length (O.written output.old)) (replicate n 0) }
+    ensures all { OnOk result (length (O.written output.new) ≡ length (O.written output.old) + n) }
+    ensures least { length (O.written output.old) ≤ length (O.written output.new) }
+    ensures most { length (O.written output.new) ≤ length (O.written output.old) + n }
+    ensures write_frame { O.write_frame output.new ≡ O.write_frame output.old }
+    ensures write_faults { O.write_faults output.old ≤ O.write_faults output.new }
+    ensures cause { OnErr result (O.write_faults output.old < O.write_faults output.new) }
+    ensures writes { O.writes output.new ≤ O.writes output.old + 2 * (length (O.written output.new) - length (O.written output.old)) + 1 }
+    ensures turns { m.new.turns.number ≤ m.old.turns.number + 3 * (length (O.written output.new) - length (O.written output.old)) + 2 }
+    ensures steps { m.new.steps.number ≡ m.old.steps.number }
+    ensures greatest { m.new.greatest.number ≡ m.old.greatest.number }
+{
+    lay_zeros(w, n.min(WINDOW as u64) as usize);
+    let mut at = 0;
+    while at < n {
+        m.tick();
+        let ask = (n - at).min(WINDOW as u64) as usize;
+        write_out(output, w.part(0, ask), m)?;
+        at += ask as u64;
+    }
+    Ok(())
+}

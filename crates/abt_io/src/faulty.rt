@@ -1,0 +1,202 @@
+//! A device that fails once.
+
+ghost use Rattle.std.specs.Prelude.{◌≡◌, ◌+◌, ◌↔◌, IsTrue, min};
+ghost use Rattle.std.specs.Borrow.{sem};
+ghost use Rattle.abt_io.specs.Inner.{LendsInner};
+ghost use Rattle.abt_io.specs.FrameLaws.{counted_reading, counted_writing, counted_partition};
+
+use crate::{DeviceFault, Input, Output, Partition, Source, Spool, Tally};
+
+/// Fails its call number `at` (from 1): that call answers `Failed` and doesn't reach the device. All
+/// other calls pass. `read`, `read_at`, `write`, `write_at`, `sync` and `clear` count, `length` and
+/// `capacity` don't. It is of each kind that its device is of.
+#[derive(Drop)]
+pub struct Faulty<D> {
+    pub device: D,
+    pub at: u64,
+    pub seen: u64,
+    pub reads: Tally,
+    pub writes: Tally,
+    pub others: Tally,
+}
+
+impl<D> Faulty<D> {
+    /// A device whose call number `at` fails; at 0 none does.
+    pub fn new(device: D, at: u64) -> Faulty<D>
+        ensures device { result.device ≡ device }
+        ensures at { result.at ≡ at }
+        ensures seen { result.seen ≡ 0 }
+        ensures reads { result.reads.number ≡ 0 }
+        ensures writes { result.writes.number ≡ 0 }
+        ensures others { result.others.number ≡ 0 }
+    {
+        Faulty {
+            device,
+            at,
+            seen: 0,
+            reads: Tally::new(),
+            writes: Tally::new(),
+            others: Tally::new(),
+        }
+    }
+
+    /// The device in it, which is reached without a failure and without a count.
+    pub fn inner(&mut self) -> &mut D
+        ensures* writes_back { sem 𝓛 (LendsInner D.row self.entry result) }
+        ensures value { result.now ≡ self.old.device }
+    {
+        &mut self.device
+    }
+
+    // Counts a call, and says whether it is the one that fails.
+    fn fails(&mut self) -> bool
+        ensures device { self.new.device ≡ self.old.device }
+        ensures reads { self.new.reads.number ≡ self.old.reads.number }
+        ensures writes { self.new.writes.number ≡ self.old.writes.number }
+        ensures others { self.new.others.number ≡ self.old.others.number }
+        ensures at { self.new.at ≡ self.old.at }
+        ensures seen { self.new.seen ≡ min (self.old.seen + 1) u64.MAX }
+        ensures last { IsTrue result ↔ (self.new.seen ≡ self.old.at) }
+    {
+        self.seen = self.seen.saturating_add(1);
+        self.seen == self.at
+    }
+}
+
+impl<D: Input> Input for Faulty<D> {
+    ghost tells = { D.tells };
+
+    ghost remaining = { λ c. D.remaining c.device };
+
+    ghost reads = { λ c. D.reads c.device + c.reads.number };
+
+    ghost given = { λ c. D.given c.device };
+
+    ghost read_faults = { λ c. D.read_faults c.device + c.reads.number };
+
+    ghost read_frame = { λ c. record (D.read_frame c.device) { writes = (D.read_frame c.device).writes + c.writes.number; write_faults = (D.read_frame c.device).write_faults + c.writes.number; clears = (D.read_frame c.device).clears + c.others.number; clear_faults = (D.read_frame c.device).clear_faults + c.others.number } };
+
+    ghost are_bytes = { λ c t. D.are_bytes c.device t };
+
+    fn read(&mut self, out: &mut [u8]) -> Result<usize, DeviceFault> {
+        if self.fails() {
+            self.reads.add(1);
+            return Err(DeviceFault::Failed);
+        }
+        self.device.read(out)
+    }
+}
+
+impl<D: Output> Output for Faulty<D> {
+    ghost written = { λ c. D.written c.device };
+
+    ghost is_full = { λ c. D.is_full c.device };
+
+    ghost writes = { λ c. D.writes c.device + c.writes.number };
+
+    ghost write_faults = { λ c. D.write_faults c.device + c.writes.number };
+
+    ghost write_frame = { λ c. record (D.write_frame c.device) { reads = (D.write_frame c.device).reads + c.reads.number; read_faults = (D.write_frame c.device).read_faults + c.reads.number; clears = (D.write_frame c.device).clears + c.others.number; clear_faults = (D.write_frame c.device).clear_faults + c.others.number } };
+
+    fn write(&mut self, bytes: &[u8]) -> Result<usize, DeviceFault> {
+        if self.fails() {
+            self.writes.add(1);
+            return Err(DeviceFault::Failed);
+        }
+        self.device.write(bytes)
+    }
+}
+
+impl<D: Source> Source for Faulty<D> {
+    ghost tells = { D.tells };
+
+    ghost content = { λ c. D.content c.device };
+
+    ghost size = { λ c. D.size c.device };
+
+    ghost reads = { λ c. D.reads c.device + c.reads.number };
+
+    ghost given = { λ c. D.given c.device };
+
+    ghost read_faults = { λ c. D.read_faults c.device + c.reads.number };
+
+    ghost read_frame = { λ c. record (D.read_frame c.device) { puts = (D.read_frame c.device).puts + c.writes.number; syncs = (D.read_frame c.device).syncs + c.others.number; put_faults = (D.read_frame c.device).put_faults + c.writes.number + c.others.number } };
+
+    ghost sized = { λ c t. D.sized c.device t };
+
+    ghost are_bytes = { λ c t. D.are_bytes c.device t };
+
+    fn length(&self) -> u64 {
+        self.device.length()
+    }
+
+    fn read_at(&mut self, at: u64, out: &mut [u8]) -> Result<usize, DeviceFault> {
+        if self.fails() {
+            self.reads.add(1);
+            return Err(DeviceFault::Failed);
+        }
+        self.device.read_at(at, out)
+    }
+}
+
+impl<D: Partition> Partition for Faulty<D> {
+    ghost past = { λ c. D.past c.device };
+
+    ghost puts = { λ c. D.puts c.device + c.writes.number };
+
+    ghost taken = { λ c. D.taken c.device };
+
+    ghost syncs = { λ c. D.syncs c.device + c.others.number };
+
+    ghost put_faults = { λ c. D.put_faults c.device + c.writes.number + c.others.number };
+
+    ghost reading = { λ c. counted_partition _ _ (D.reading c.device) c.writes.number c.others.number };
+
+    fn write_at(&mut self, at: u64, bytes: &[u8]) -> Result<usize, DeviceFault> {
+        if self.fails() {
+            self.writes.add(1);
+            return Err(DeviceFault::Failed);
+        }
+        self.device.write_at(at, bytes)
+    }
+
+    fn sync(&mut self) -> Result<(), DeviceFault> {
+        if self.fails() {
+            self.others.add(1);
+            return Err(DeviceFault::Failed);
+        }
+        self.device.sync()
+    }
+}
+
+impl<D: Spool> Spool for Faulty<D> {
+    ghost size = { λ c. D.size c.device };
+
+    ghost gone = { λ c. D.gone c.device };
+
+    ghost cuts = { λ c. D.cuts c.device };
+
+    ghost clears = { λ c. D.clears c.device + c.others.number };
+
+    ghost clear_faults = { λ c. D.clear_faults c.device + c.others.number };
+
+    ghost reading = { λ c. counted_reading _ _ (D.reading c.device) c.writes.number c.others.number };
+
+    ghost writing = { λ c. counted_writing _ _ (D.writing c.device) c.reads.number c.others.number };
+
+    ghost held = { λ c t. D.held c.device t };
+
+    ghost filled = { λ c t. D.filled c.device t };
+
+    fn capacity(&self) -> u64 {
+        self.device.capacity()
+    }
+
+    fn clear(&mut self) -> Result<(), DeviceFault> {
+        if self.fails() {
+            self.others.add(1);
+            return Err(DeviceFault::Failed);
+        }
+        self.device.clear()
+    }
+}

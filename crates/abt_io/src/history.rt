@@ -1,0 +1,36 @@
+//! What a partition was through, which only contracts see. It takes no bytes at run time.
+
+ghost use Rattle.std.specs.Prelude.{◌≡◌};
+ghost use Rattle.std.specs.Borrow.{ftrue};
+ghost use Rattle.abt_io.specs.Moment.{Past, no_past, wrote, settled};
+
+use std::marker::Model;
+
+/// The ranges that are pending, the syncs that succeeded, and every moment of a partition.
+#[derive(Drop)]
+pub struct History {
+    pub ghost past: { Past },
+}
+
+impl Model for History {
+    ghost also_owns = { λ _. ftrue };
+}
+
+impl History {
+    /// Nothing has happened yet.
+    pub fn new() -> History
+        ensures { result.past ≡ no_past }
+    {
+        History {}
+    }
+
+    /// `_len` bytes from `_at` on were written, or may have been; `_now` is what a read gives now.
+    pub fn wrote(&mut self, _now: &[u8], _at: u64, _len: u64)
+        ensures { self.new.past ≡ wrote self.old.past _now.now _at _len }
+    {}
+
+    /// A sync succeeded; `_now` is what a read gives now.
+    pub fn settled(&mut self, _now: &[u8])
+        ensures { self.new.past ≡ settled self.old.past _now.now }
+    {}
+}

@@ -1,0 +1,31 @@
+//! Filling the window with one word.
+
+ghost use Rattle.std.specs.Prelude.{◌≡◌, ◌<◌, ◌≤◌, ◌+◌, ◌*◌, length, take, replicate};
+ghost use Rattle.std.specs.List.{concat};
+
+use crate::{Meter, Window};
+
+/// How many words of four bytes the window holds.
+pub const WORDS: usize = 16_384;
+
+/// Lays a word over the first `n` words of the window, by doubling what is laid: in 14 turns at
+/// most.
+pub fn lay_word(w: &mut Window, word: [u8; 4], n: usize, m: &mut Meter)
+    requires some { 0 < n }
+    requires room { n ≤ 16384 }
+    ensures laid { take (4 * n) w.new.bytes ≡ concat (replicate n word) }
+    ensures few { m.new.turns.number ≤ m.old.turns.number + 14 }
+    ensures turns { m.new.turns.number ≤ m.old.turns.number + n }
+    ensures steps { m.new.steps.number ≡ m.old.steps.number }
+    ensures greatest { m.new.greatest.number ≡ m.old.greatest.number }
+{
+    w.bytes[..4].copy_from_slice(&word);
+    let mut done = 1;
+    while done < n {
+        m.tick();
+        let more = done.min(n - done);
+        let (front, back) = w.bytes.split_at_mut(4 * done);
+        back[..4 * more].copy_from_slice(&front[..4 * more]);
+        done += more;
+    }
+}

@@ -1,0 +1,87 @@
+//! The devices that all bytes come from and go to, the window that they pass through, and the counts
+//! that say how much work was done.
+//!
+//! **What the layers above rely on** is `device`: five traits, whose clauses say of each call what it
+//! moves, what it leaves as it was, when it fails, and what a crash may leave. Everything above is
+//! generic over them, so what is proved there holds for every device. A device may tell its bytes:
+//! then contracts know its content. One that doesn't, as a file, is still bound by all clauses on
+//! counts, lengths and faults.
+//!
+//! No call of this crate takes memory. Values that only contracts see (`Tally`, `Log`, `History`) take
+//! no bytes at run time and change in no other way than by their own calls. They bind code that is
+//! generic over the traits: a caller that takes a concrete device apart could leave them behind.
+//!
+//! Files, in reading order:
+//!
+//! - `window`: the 65,536 bytes that are lent down to every call; `laying`: one word all over it.
+//! - `meter`, `tally`, `log`, `history`: what contracts count, with no bytes at run time.
+//! - `device`: the five traits. Their words stand in `specs/`: `Count`, `Bytes`, `Frame` (what a read
+//!   or a write leaves as it was), `Moment` (what a crash may leave), `Cause` (who failed).
+//! - `gathering`, `writing`, `pumping`, `copying`: the movers, generic over the traits.
+//! - `slices`, `partition`, `spool`, `crash` (with `pick`): devices over lent memory, which tell their
+//!   bytes; `bytes` and `cells` serve them.
+//! - `forward`: a source read from its front. `cut`, `faulty`, `marred`, `long`, `switch`: devices that
+//!   move little, fail, tear, lie or change, for tests.
+//! - `files`, `streams` (with `tries`): files, readers and writers, which tell nothing.
+//! - `laws`: how moments of a partition join.
+#![tactic(auto)]
+
+mod bytes;
+mod cells;
+mod copying;
+mod crash;
+mod cut;
+mod device;
+mod faulty;
+mod files;
+mod forward;
+mod gathering;
+mod history;
+mod laws;
+mod laying;
+mod log;
+mod long;
+mod marred;
+mod meter;
+mod partition;
+mod pick;
+mod pumping;
+mod slices;
+mod spool;
+mod streams;
+mod switch;
+mod tally;
+mod tries;
+mod window;
+mod writing;
+
+pub use bytes::are_bytes;
+pub use cells::Cells;
+pub use copying::{CopyFault, copy_range, copy_step, write_zeros};
+pub use crash::CrashPartition;
+pub use cut::Cut;
+pub use device::{DeviceFault, Input, Output, Partition, Source, Spool};
+pub use faulty::Faulty;
+pub use files::{FilePartition, FileSource, FileSpool};
+pub use forward::Forward;
+pub use gathering::{Gathered, gather, gather_at};
+pub use history::History;
+pub use laws::{moments_join, runs_join, untouched_bytes_last};
+pub use laying::{WORDS, lay_word};
+pub use log::Log;
+pub use long::Long;
+pub use marred::Marred;
+pub use meter::Meter;
+pub use partition::SlicePartition;
+pub use pick::Pick;
+pub use pumping::{MoveFault, pump, pump_step};
+pub use slices::{SliceOutput, SliceSource};
+pub use spool::SliceSpool;
+pub use streams::{FromRead, ToWrite};
+pub use switch::SwitchSource;
+pub use tally::Tally;
+pub use window::{WINDOW, Window};
+pub use writing::{write_all_at, write_out};
+
+#[cfg(test)]
+mod tests;

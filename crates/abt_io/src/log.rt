@@ -1,0 +1,38 @@
+//! All that a device was ever given, which only contracts see. It takes no bytes at run time.
+
+ghost use Rattle.std.specs.Prelude.{◌≡◌};
+ghost use Rattle.std.specs.Borrow.{ftrue};
+ghost use Rattle.abt_io.specs.Frame.{Logged, nothing_logged, and_bytes, and_cut};
+
+use std::marker::Model;
+
+/// The bytes that a device was given, and how many they were at each clear.
+#[derive(Drop)]
+pub struct Log {
+    pub ghost state: { Logged },
+}
+
+impl Model for Log {
+    ghost also_owns = { λ _. ftrue };
+}
+
+impl Log {
+    /// Nothing was given yet.
+    pub fn new() -> Log
+        ensures { result.state ≡ nothing_logged }
+    {
+        Log {}
+    }
+
+    /// The device took these bytes.
+    #[inline(always)]
+    pub fn append(&mut self, _bytes: &[u8])
+        ensures { self.new.state ≡ and_bytes self.old.state _bytes.now }
+    {}
+
+    /// The device was cleared.
+    #[inline(always)]
+    pub fn cut(&mut self)
+        ensures { self.new.state ≡ and_cut self.old.state }
+    {}
+}

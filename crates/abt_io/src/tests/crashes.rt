@@ -1,0 +1,77 @@
+//! A crash after each call of a small program, with each pick.
+
+ghost use Rattle.std.specs.Prelude.{◌≤◌};
+
+use crate::*;
+
+/// Writes `AB` from byte 1 on and makes it last, then the same with `CD` from byte 2 on.
+fn two_writes<P: Partition>(partition: &mut P) -> Result<(), DeviceFault>
+    requires { 4 ≤ P.size partition.old }
+{
+    partition.write_at(1, b"AB")?;
+    partition.sync()?;
+    partition.write_at(2, b"CD")?;
+    partition.sync()
+}
+
+/// What is left where call `n` fails, by the crash model.
+fn left(n: u64, pick: Pick) -> &'static [u8; 5] {
+    match (n, pick) {
+        (1, _) => b".....",
+        (2, Pick::Old) => b".....",
+        (2, Pick::New) => b".AB..",
+        (2, Pick::Byte(_)) => b".ZZ..",
+        (3, _) => b".AB..",
+        (4, Pick::Old) => b".AB..",
+        (4, Pick::New) => b".ACD.",
+        (4, Pick::Byte(_)) => b".AZZ.",
+        _ => b".ACD.",
+    }
+}
+
+#[test]
+fn crashed(rt: HostRuntime) {
+    for n in 1..=5u64 {
+        for pick in [Pick::Old, Pick::New, Pick::Byte(b'Z')] {
+            let mut now = *b".....";
+            let mut stable = [0u8; 5];
+            let mut touched = [7u8; 5];
+            {
+                let partition = CrashPartition::new(&mut now, &mut stable, &mut touched);
+                let mut partition = Faulty::new(partition, n);
+                assert_eq!(rt; two_writes(&mut partition).is_ok(), n == 5);
+                partition.inner().crash(pick);
+                // Nothing is touched now.
+                partition.inner().crash(Pick::Byte(b'!'));
+            }
+            assert_eq!(rt;
+                now.as_slice(),
+                left(n, pick).as_slice(),
+                "call {n}, {pick:?}"
+            );
+            assert_eq!(rt;
+                stable.as_slice(),
+                left(n, pick).as_slice(),
+                "call {n}, {pick:?}"
+            );
+            assert_eq!(rt; touched, [0u8; 5]);
+        }
+    }
+}
+
+#[test]
+fn torn(rt: HostRuntime) {
+    let mut now = *b"....";
+    let mut stable = [0u8; 4];
+    let mut touched = [0u8; 4];
+    {
+        let mut partition = Marred::new(
+            CrashPartition::new(&mut now, &mut stable, &mut touched),
+            2,
+            b'?',
+        );
+        assert_eq!(rt; two_writes(&mut partition).is_err(), true);
+        partition.partition.crash(Pick::New);
+    }
+    assert_eq!(rt; now.as_slice(), b".??.".as_slice());
+}

@@ -1,0 +1,123 @@
+//! Each call of each trait fails in turn, and does not reach the device.
+
+use super::{capacity_of, fault_at, length_of, partition_calls, spool_calls};
+use crate::*;
+
+#[test]
+fn spools(rt: HostRuntime) {
+    for n in 1..=4u64 {
+        let mut room = *b"....";
+        let mut out = *b"....";
+        {
+            let mut spool = Faulty::new(SliceSpool::new(&mut room), n);
+            assert_eq!(rt;
+                spool_calls(&mut spool, b"ab", &mut out),
+                (fault_at(n, 1), fault_at(n, 2), fault_at(n, 3)),
+                "call {n}"
+            );
+            assert_eq!(rt; capacity_of(&spool), 4);
+        }
+        let written = if n == 2 { *b"...." } else { *b"ab.." };
+        let read = if n == 2 || n == 3 { *b"...." } else { *b"ab.." };
+        assert_eq!(rt; room, written, "call {n}");
+        assert_eq!(rt; out, read, "call {n}");
+    }
+}
+
+#[test]
+fn partitions(rt: HostRuntime) {
+    for n in 1..=4u64 {
+        let mut room = *b"....";
+        let mut out = *b"..";
+        {
+            let mut partition = Faulty::new(SlicePartition::new(&mut room), n);
+            assert_eq!(rt;
+                partition_calls(&mut partition, 1, b"ab", &mut out),
+                (fault_at(n, 1), fault_at(n, 2), fault_at(n, 3)),
+                "call {n}"
+            );
+            assert_eq!(rt; length_of(&partition), 4);
+        }
+        let written = if n == 1 { *b"...." } else { *b".ab." };
+        let read = if n == 1 || n == 3 { *b".." } else { *b"ab" };
+        assert_eq!(rt; room, written, "call {n}");
+        assert_eq!(rt; out, read, "call {n}");
+    }
+}
+
+#[test]
+fn sources(rt: HostRuntime) {
+    for n in 1..=3u64 {
+        let mut room = [0u8; 4];
+        let mut output = SliceOutput::new(&mut room);
+        let mut source = Faulty::new(Cut::new(SliceSource::new(b"abcd"), 2), n);
+        let mut w = Window::new();
+        let mut m = Meter::new();
+        let copied = copy_range(&mut source, 0, 4, &mut output, &mut w, &mut m);
+        let fault = if n == 3 {
+            None
+        } else {
+            Some(CopyFault::Read(DeviceFault::Failed))
+        };
+        assert_eq!(rt; copied.err(), fault, "call {n}");
+        assert_eq!(rt;
+            output.written().len() as u64,
+            (2 * (n - 1)).min(4),
+            "call {n}"
+        );
+    }
+}
+
+#[test]
+fn streams(rt: HostRuntime) {
+    for n in 1..=3u64 {
+        let mut room = [0u8; 4];
+        let mut input = Faulty::new(Forward::new(SliceSource::new(b"abcd")), n);
+        let mut output = Faulty::new(Cut::new(SliceOutput::new(&mut room), 2), n);
+        let mut w = Window::new();
+        let mut m = Meter::new();
+        let moved = pump(&mut input, &mut output, 4, &mut w, &mut m);
+        let fault = match n {
+            1 => Some(MoveFault::Read(DeviceFault::Failed)),
+            2 => Some(MoveFault::Write(DeviceFault::Failed)),
+            _ => None,
+        };
+        assert_eq!(rt; moved.err(), fault, "call {n}");
+        assert_eq!(rt;
+            output.device.device.written().len() as u64,
+            (2 * (n - 1)).min(4),
+            "call {n}"
+        );
+    }
+}
+
+#[test]
+fn marred(rt: HostRuntime) {
+    let mut room = *b"......";
+    let mut m = Meter::new();
+    {
+        let mut partition = Marred::new(SlicePartition::new(&mut room), 3, 0xee);
+        assert_eq!(rt; write_all_at(&mut partition, 0, b"ab", &mut m), Ok(()));
+        assert_eq!(rt;
+            write_all_at(&mut partition, 2, b"cd", &mut m),
+            Err(DeviceFault::Failed)
+        );
+        assert_eq!(rt; write_all_at(&mut partition, 4, b"ef", &mut m), Ok(()));
+        assert_eq!(rt; partition.sync(), Ok(()));
+    }
+    assert_eq!(rt; room.as_slice(), b"ab\xee\xeeef".as_slice());
+    {
+        let mut partition = Marred::new(SlicePartition::new(&mut room), 3, 0xee);
+        assert_eq!(rt;
+            write_all_at(&mut partition, 2, b"cd", &mut m),
+            Err(DeviceFault::Failed)
+        );
+        let mut out = [0u8; 2];
+        assert_eq!(rt;
+            partition_calls(&mut partition, 2, b"cd", &mut out),
+            (None, None, None)
+        );
+        assert_eq!(rt; length_of(&partition), 6);
+    }
+    assert_eq!(rt; room.as_slice(), b"abcdef".as_slice());
+}

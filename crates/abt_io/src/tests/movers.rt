@@ -1,0 +1,138 @@
+//! The movers, over each device in memory.
+
+use super::{capacity_of, length_of, partition_calls, spool_calls};
+use crate::*;
+
+#[test]
+fn pumped(rt: HostRuntime) {
+    let mut room = [0u8; 8];
+    let mut forward = Cut::new(Forward::new(SliceSource::new(b"abcdefgh")), 3);
+    {
+        let mut output = Cut::new(SliceOutput::new(&mut room), 2);
+        let mut w = Window::new();
+        let mut m = Meter::new();
+        assert_eq!(rt; pump(&mut forward, &mut output, 7, &mut w, &mut m), Ok(7));
+        assert_eq!(rt; output.device.written(), b"abcdefg".as_slice());
+    }
+    assert_eq!(rt; forward.device.position(), 7);
+    assert_eq!(rt; room.as_slice(), b"abcdefg\0".as_slice());
+}
+
+#[test]
+fn full(rt: HostRuntime) {
+    let mut room = [0u8; 3];
+    let mut input = Forward::new(SliceSource::new(b"abcdefgh"));
+    let mut output = SliceOutput::new(&mut room);
+    let mut w = Window::new();
+    let mut m = Meter::new();
+    assert_eq!(rt;
+        pump(&mut input, &mut output, 8, &mut w, &mut m),
+        Err(MoveFault::Write(DeviceFault::Full))
+    );
+    assert_eq!(rt; output.written(), b"abc".as_slice());
+}
+
+#[test]
+fn copied(rt: HostRuntime) {
+    let mut room = [0u8; 8];
+    let mut output = SliceOutput::new(&mut room);
+    let mut source = Cut::new(SliceSource::new(b"abcdefgh"), 3);
+    let mut w = Window::new();
+    let mut m = Meter::new();
+    assert_eq!(rt;
+        copy_range(&mut source, 2, 5, &mut output, &mut w, &mut m),
+        Ok(())
+    );
+    assert_eq!(rt; write_zeros(&mut output, 2, &mut w, &mut m), Ok(()));
+    assert_eq!(rt; output.written(), b"cdefg\0\0".as_slice());
+    assert_eq!(rt;
+        copy_range(&mut source, 7, 2, &mut output, &mut w, &mut m),
+        Err(CopyFault::Changed)
+    );
+    assert_eq!(rt; output.written(), b"cdefg\0\0h".as_slice());
+}
+
+#[test]
+fn gathered(rt: HostRuntime) {
+    let mut out = [0u8; 4];
+    let mut m = Meter::new();
+    let mut source = Cut::new(SliceSource::new(b"abcdef"), 3);
+    assert_eq!(rt; gather_at(&mut source, 1, &mut out, &mut m).count, 4);
+    assert_eq!(rt; out.as_slice(), b"bcde".as_slice());
+    assert_eq!(rt; gather_at(&mut source, 4, &mut out, &mut m).count, 2);
+    let mut input = Faulty::new(Cut::new(Forward::new(SliceSource::new(b"abcdef")), 3), 2);
+    let found = gather(&mut input, &mut out, &mut m);
+    assert_eq!(rt; found.count, 3);
+    assert_eq!(rt; found.fault, Some(DeviceFault::Failed));
+}
+
+#[test]
+fn laid(rt: HostRuntime) {
+    let mut w = Window::new();
+    let mut m = Meter::new();
+    lay_word(&mut w, *b"abcd", 3, &mut m);
+    assert_eq!(rt; w.part(0, 13), b"abcdabcdabcd\0".as_slice());
+    lay_word(&mut w, *b"wxyz", WORDS, &mut m);
+    assert_eq!(rt; w.part(WINDOW - 4, WINDOW), b"wxyz".as_slice());
+}
+
+#[test]
+fn put(rt: HostRuntime) {
+    let mut room = [0u8; 6];
+    let mut out = [0u8; 2];
+    let mut m = Meter::new();
+    {
+        let mut partition = Cut::new(SlicePartition::new(&mut room), 2);
+        assert_eq!(rt; length_of(&partition), 6);
+        assert_eq!(rt; write_all_at(&mut partition, 1, b"abcde", &mut m), Ok(()));
+        assert_eq!(rt;
+            partition_calls(&mut partition, 2, b"xyz", &mut out),
+            (None, None, None)
+        );
+    }
+    assert_eq!(rt; out.as_slice(), b"xy".as_slice());
+    assert_eq!(rt; room.as_slice(), b"\0axyde".as_slice());
+}
+
+#[test]
+fn spooled(rt: HostRuntime) {
+    let mut room = [0u8; 4];
+    let mut out = [0u8; 6];
+    let mut m = Meter::new();
+    let mut spool = Cut::new(SliceSpool::new(&mut room), 3);
+    assert_eq!(rt; capacity_of(&spool), 4);
+    assert_eq!(rt;
+        write_out(&mut spool, b"abcdef", &mut m),
+        Err(DeviceFault::Full)
+    );
+    assert_eq!(rt; gather(&mut spool, &mut out, &mut m).count, 4);
+    assert_eq!(rt; out.as_slice(), b"abcd\0\0".as_slice());
+    assert_eq!(rt;
+        spool_calls(&mut spool, b"xyz", &mut out),
+        (None, None, None)
+    );
+    assert_eq!(rt; gather(&mut spool, &mut out[3..], &mut m).count, 0);
+    assert_eq!(rt; out.as_slice(), b"xyzd\0\0".as_slice());
+}
+
+#[test]
+fn claimed(rt: HostRuntime) {
+    let mut out = [0u8; 4];
+    let mut m = Meter::new();
+    let mut long = Long::new(SliceSource::new(b"abc"), 1 << 32);
+    assert_eq!(rt; length_of(&long), 1 << 32);
+    assert_eq!(rt; gather_at(&mut long, 0, &mut out, &mut m).count, 3);
+}
+
+#[test]
+fn switched(rt: HostRuntime) {
+    let mut out = [0u8; 4];
+    let mut m = Meter::new();
+    let mut source = SwitchSource::new(b"abc", b"wxyz", 2);
+    assert_eq!(rt; length_of(&source), 3);
+    // Three bytes, and then the end.
+    assert_eq!(rt; gather_at(&mut source, 0, &mut out, &mut m).count, 3);
+    assert_eq!(rt; length_of(&source), 4);
+    assert_eq!(rt; gather_at(&mut source, 0, &mut out, &mut m).count, 4);
+    assert_eq!(rt; out.as_slice(), b"wxyz".as_slice());
+}

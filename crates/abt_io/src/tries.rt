@@ -1,0 +1,87 @@
+//! System calls that are tried again where a signal came in between.
+//!
+//! Each is tried at most 2^64 - 1 times: the loops are `for` loops over a range, so they end. Every
+//! error, and a write of a nonempty list that took nothing, is `Failed`.
+
+ghost use Rattle.std.specs.Prelude.{◌<◌, ◌≤◌, IfOk, IfSome, length};
+ghost use Rattle.abt_io.specs.Count.{count_of};
+
+use crate::DeviceFault;
+use std::fs::File;
+use std::io;
+use std::io::{ErrorKind, Read, Write};
+use std::os::unix::fs::FileExt;
+
+// What the answer of a call that has to move at least `least` bytes comes to: nothing where a signal
+// came in between, so that the call is tried again.
+fn moved(answer: io::Result<usize>, least: usize) -> Option<Result<usize, DeviceFault>>
+    ensures within { IfSome result (λ r. count_of r ≤ count_of answer) }
+    ensures progress { IfSome result (λ r. IfOk r (λ n. least ≤ n)) }
+{
+    match answer {
+        Ok(n) => {
+            if n < least {
+                return Some(Err(DeviceFault::Failed));
+            }
+            Some(Ok(n))
+        }
+        Err(error) => {
+            if error.kind() == ErrorKind::Interrupted {
+                return None;
+            }
+            Some(Err(DeviceFault::Failed))
+        }
+    }
+}
+
+/// One positioned read.
+pub(crate) fn read_at(file: &File, at: u64, out: &mut [u8]) -> Result<usize, DeviceFault>
+    ensures { count_of result ≤ length out.new }
+{
+    for _ in 0..u64::MAX {
+        if let Some(answer) = moved(file.read_at(out, at), 0) {
+            return answer;
+        }
+    }
+    Err(DeviceFault::Failed)
+}
+
+/// One positioned write.
+pub(crate) fn write_at(file: &File, at: u64, bytes: &[u8]) -> Result<usize, DeviceFault>
+    ensures within { count_of result ≤ length bytes.now }
+    ensures progress { IfOk result (λ n. 0 < length bytes.now → 0 < n) }
+{
+    let least = bytes.len().min(1);
+    for _ in 0..u64::MAX {
+        if let Some(answer) = moved(file.write_at(bytes, at), least) {
+            return answer;
+        }
+    }
+    Err(DeviceFault::Failed)
+}
+
+/// One read.
+pub(crate) fn read<R: Read>(reader: &mut R, out: &mut [u8]) -> Result<usize, DeviceFault>
+    ensures { count_of result ≤ length out.new }
+{
+    for _ in 0..u64::MAX {
+        if let Some(answer) = moved(reader.read(out), 0) {
+            return answer;
+        }
+    }
+    Err(DeviceFault::Failed)
+}
+
+/// One write.
+pub(crate) fn write<W: Write>(writer: &mut W, bytes: &[u8]) -> Result<usize, DeviceFault>
+    ensures within { count_of result ≤ length bytes.now }
+    ensures progress { IfOk result (λ n. 0 < length bytes.now → 0 < n) }
+{
+    let least = bytes.len().min(1);
+    for _ in 0..u64::MAX {
+        if let Some(answer) = moved(writer.write(bytes), least) {
+            return answer;
+        }
+    }
+    Err(DeviceFault::Failed)
+}

@@ -1,0 +1,66 @@
+//! Writing all of some bytes: to an output, and to a place of a partition.
+
+ghost use Rattle.std.specs.Prelude.{◌≡◌, ◌<◌, ◌≤◌, ◌+◌, ◌-◌, ◌^◌, ◌++◌, IsTrue, OnOk, OnErr, length, take};
+ghost use Rattle.abt_io.specs.Moment.{Keeps, EachSince, in_range, moment_of, put_at};
+
+use crate::{DeviceFault, Meter, Output, Partition};
+
+/// Writes all of these bytes. Where it fails, a front of them is written, as far as `front` says.
+pub fn write_out<O: Output>(output: &mut O, bytes: &[u8], m: &mut Meter) -> Result<(), DeviceFault>
+    requires { length bytes.now ≤ 65536 }
+    ensures ok { OnOk result (O.written output.new ≡ O.written output.old ++ bytes.now) }
+    ensures front { O.written output.new ≡ O.written output.old ++ take (length (O.written output.new) - length (O.written output.old)) bytes.now }
+    ensures all { OnOk result (length (O.written output.new) ≡ length (O.written output.old) + length bytes.now) }
+    ensures grown { length (O.written output.old) ≤ length (O.written output.new) }
+    ensures within { length (O.written output.new) ≤ length (O.written output.old) + length bytes.now }
+    ensures frame { O.write_frame output.new ≡ O.write_frame output.old }
+    ensures faults { O.write_faults output.old ≤ O.write_faults output.new }
+    ensures cause { OnErr result (O.write_faults output.old < O.write_faults output.new) }
+    ensures calls { O.writes output.new + length (O.written output.old) ≤ O.writes output.old + length (O.written output.new) + 1 }
+    ensures turns { m.new.turns.number + length (O.written output.old) ≤ m.old.turns.number + length (O.written output.new) + 1 }
+    ensures steps { m.new.steps.number ≡ m.old.steps.number }
+    ensures greatest { m.new.greatest.number ≡ m.old.greatest.number }
+{
+    let mut at = 0;
+    while at < bytes.len() {
+        m.tick();
+        at += output.write(&bytes[at..])?;
+    }
+    Ok(())
+}
+
+/// Writes all of these bytes at a place. Where it fails, the range may hold any bytes; all others are
+/// as they were.
+pub fn write_all_at<P: Partition>(
+    partition: &mut P,
+    at: u64,
+    bytes: &[u8],
+    m: &mut Meter,
+) -> Result<(), DeviceFault>
+    requires window { length bytes.now ≤ 65536 }
+    requires fits { at + length bytes.now ≤ P.size partition.old }
+    requires below { at + length bytes.now < 2 ^ 64 }
+    ensures size { P.size partition.new ≡ P.size partition.old }
+    ensures written { IsTrue P.tells → OnOk result (P.content partition.new ≡ put_at (P.content partition.old) at bytes.now) }
+    ensures kept { IsTrue P.tells → Keeps (in_range at (length bytes.now)) (moment_of (P.past partition.old) (P.content partition.old)) (moment_of (P.past partition.new) (P.content partition.new)) }
+    ensures moments { IsTrue P.tells → EachSince (P.past partition.old).moments (P.past partition.new).moments (Keeps (in_range at (length bytes.now)) (moment_of (P.past partition.old) (P.content partition.old))) }
+    ensures synced { (P.past partition.new).synced ≡ (P.past partition.old).synced }
+    ensures calls { P.puts partition.new ≤ P.puts partition.old + length bytes.now }
+    ensures syncs { P.syncs partition.new ≡ P.syncs partition.old }
+    ensures faults { P.put_faults partition.old ≤ P.put_faults partition.new }
+    ensures cause { OnErr result (P.put_faults partition.old < P.put_faults partition.new) }
+    ensures turns { m.new.turns.number ≤ m.old.turns.number + length bytes.now }
+    ensures taken { P.taken partition.old ≤ P.taken partition.new }
+    ensures all { OnOk result (P.taken partition.new ≡ P.taken partition.old + length bytes.now) }
+    ensures few_calls { P.puts partition.new + P.taken partition.old ≤ P.puts partition.old + P.taken partition.new + 1 }
+    ensures few_turns { m.new.turns.number + P.taken partition.old ≤ m.old.turns.number + P.taken partition.new + 1 }
+    ensures steps { m.new.steps.number ≡ m.old.steps.number }
+    ensures greatest { m.new.greatest.number ≡ m.old.greatest.number }
+{
+    let mut done = 0;
+    while done < bytes.len() {
+        m.tick();
+        done += partition.write_at(at + done as u64, &bytes[done..])?;
+    }
+    Ok(())
+}

@@ -1,0 +1,169 @@
+-- A cutter from stage to stage.
+use Rattle.std.proofs.Common.{◌≡◌, ℕ, zero, suc, ◌+◌, ◌-◌, ◌*◌, ◌<◌, ◌≤◌, nat_le, nat_lt, Bool, true, false, List, [], ◌∷◌, ◌++◌, length, map, take, drop, replicate, refl, sym, ap, subst, ◌∙◌, append_assoc, append-nil, arith, inl, inr, ◌⊎◌, length-append, length-drop, leb-true, le-leb, Option, Some, None, ◌^◌, if◌then◌else◌}
+use Rattle.std.proofs.lemmas.Bool.{cases_Bool, ltb-true, ltb-false}
+use Rattle.std.proofs.lemmas.List.{length-take-le, length-replicate, take_all}
+use Rattle.std.proofs.Math.Seq.{take-append_seam}
+use Rattle.abt_sparse.specs.Block.{Block, Raw, Fill, Skip, AreBlocks}
+use Rattle.abt_sparse.specs.Runs.{runs, weight, framed, greedy, tail_parts, segments, Division}
+use Rattle.abt_sparse.specs.Chunk.{piece, header_record, plain_header, chunk_of_run}
+use Rattle.abt_sparse.proofs.Weights.{one_fits, fewest}
+use Rattle.abt_runs.specs.Part.{AllOf, is_end}
+use Rattle.abt_runs.specs.declared.part.Cursor.{Cursor}
+use Rattle.abt_runs.specs.declared.part.RunKind.TheVariants as kinds
+use Rattle.abt_pieces.specs.Plan.{between, FirstPiece, Ends}
+use Rattle.abt_pieces.specs.Gather.{frame, first_gatherer, Gathered, SoundGatherer, ToldGatherer}
+use Rattle.abt_pieces.specs.Outline.{IsPiece, IsOutline, blocks_of, segment_at, piece_at, first_part}
+use Rattle.abt_pieces.specs.Write.{chunks_of, rest_of, frame_of, SoundWriter, ToldWriter}
+use Rattle.abt_pieces.specs.declared.outline.Outline.{Outline}
+use Rattle.abt_pieces.specs.declared.plan.Planner.{Planner}
+use Rattle.abt_pieces.specs.declared.gather.Gatherer.{Gatherer}
+use Rattle.abt_pieces.specs.declared.write.Writer.{Writer}
+use Rattle.std.proofs.lemmas.List.{length-map}
+use Rattle.abt_pieces.specs.Cutter.{first_writer, has_more, SoundOutline, SoundCutter, ToldCutter, Made, segments_left, coming}
+use Rattle.abt_pieces.specs.declared.stage.Stage.{Stage}
+use Rattle.abt_pieces.specs.declared.stage.Stage.TheVariants.{Between, Done, Failed}
+use Rattle.abt_pieces.proofs.Framing.{length-frame}
+use Rattle.abt_pieces.proofs.Counting.{skips_all}
+
+-- the segment that was planned is the one to come
+pub piece_is : (b limit : ℕ) (l : List Block) (s e : ℕ) → FirstPiece b l limit s e → piece b (frame l s e) ≡ piece_at b limit l s
+piece_is b limit l s e h =
+    let seg : segment_at b limit l s ≡ between l s e = ap first_part h.cut in
+    let long : length (between l s e) ≡ e - s = length-take-le (e - s) (drop s l) (omega (arith, h.within, length-drop s l)) in
+    let rest : length l - (s + length (segment_at b limit l s)) ≡ length l - e = let z = ap length seg in omega (arith, z, long, h.order) in
+    sym (ap (λ (g : List Block). piece b (framed s g (length l - (s + length (segment_at b limit l s))))) seg ∙ ap (λ (n : ℕ). piece b (framed s (between l s e) n)) rest)
+
+-- a segment that goes no further has a block, where there is one
+pub moves : (b limit : ℕ) (l : List Block) (p : Planner) → 4 ≤ b → 64 + b ≤ limit → Ends b l limit p → p.first ≡ p.at.block → p.at.block < length l → ⊥
+moves b limit l p four room ends none more = go (drop p.at.block l) refl
+  where
+    go : (rest : List Block) → drop p.at.block l ≡ rest → ⊥
+    go [] e = let z = ap length e in omega (arith, z, length-drop p.at.block l, more)
+    go (x ∷ rest) e =
+        let z : limit < weight b (between l p.first p.at.block ++ x ∷ []) = ends.over x rest e in
+        let empty : between l p.first p.at.block ≡ [] = ap (λ (n : ℕ). take n (drop p.first l)) (let y : p.at.block - p.first ≡ 0 = omega (arith, none) in y) in
+        let one : limit < weight b (x ∷ []) = rw empty at z in
+        let le = leb-true (weight b (x ∷ [])) limit (one_fits limit b x four room) in
+        omega (arith, le, one)
+
+-- ---- a writer that begins
+
+pub frame_front : (l : List Block) (s e : ℕ) → take s (frame l s e) ≡ replicate s Skip
+frame_front l s e =
+    ap (λ (x : List Block). take s x) (append_assoc (replicate s Skip) (between l s e) (replicate (length l - e) Skip))
+    ∙ ap (λ (n : ℕ). take n (replicate s Skip ++ (between l s e ++ replicate (length l - e) Skip))) (sym (length-replicate {A = Block} s Skip))
+    ∙ take-append_seam (replicate s Skip) (between l s e ++ replicate (length l - e) Skip)
+
+pub gathered_first : (l : List Block) (e : ℕ) (c : Cursor) → c.block ≤ e → e ≤ length l → length (frame l c.block e) ≡ length l → Gathered (frame l c.block e) (first_gatherer c)
+gathered_first l e c order within long =
+    let none : c.block - c.block ≡ 0 = omega arith in
+    let all : AllOf kinds.Skip (take c.block (frame l c.block e)) = rw (frame_front l c.block e) (skips_all c.block) in
+    record { behind = omega arith; within = omega (arith, long); all = rw none (let z : c.block - 0 ≡ c.block = omega arith in rw z all) }
+
+pub sound_first : (W : Cursor → Type 0) (n e : ℕ) (c : Cursor) → c.block ≤ e → e ≤ n → W c → SoundGatherer W n c.block e (first_gatherer c)
+sound_first W n e c order within place = record {
+  order = omega arith;
+  inner = order;
+  past = within;
+  room = omega (arith, order, within);
+  behind_it = omega arith;
+  within = λ h. place;
+  behind = λ h. absurd (omega (arith, order, h));
+  ended = λ h. absurd cc;
+  raw = λ h s. absurd cc;
+}
+
+pub writer_sound : (W : Cursor → Type 0) (reach : Cursor → ℕ) (n b limit : ℕ) (c : Cursor) (o : Outline) → W c → limit < 2 ^ 32 → SoundOutline W n limit c.block o → SoundWriter W reach n b (first_writer c o)
+writer_sound W reach n b limit c o place small h = record {
+  gathering = rw h.first (sound_first W n o.piece.past c (omega (arith, h.first, h.order)) h.end place);
+  copies = tt;
+  small = omega (arith, h.long, small);
+}
+
+-- the piece is its header and its chunks
+pub header_first : (b n : ℕ) (l : List Block) (c : Cursor) (o : Outline) → n ≡ length l → c.block ≡ o.piece.first → IsOutline b l o → piece b (blocks_of l o.piece) ≡ header_record (plain_header b n o.chunks) ++ rest_of (frame_of l (first_writer c o)) (first_writer c o)
+header_first b n l c o same first h =
+    let f = blocks_of l o.piece in
+    let long : length f ≡ n = length-frame l o.piece.first o.piece.past h.is.order h.is.within ∙ sym same in
+    let count : length (map chunk_of_run (runs f)) ≡ o.chunks = length-map (runs f) chunk_of_run ∙ sym h.count in
+    let none : c.block - c.block ≡ 0 = omega arith in
+    ap (λ (k : ℕ). header_record (plain_header b k (length (map chunk_of_run (runs f)))) ++ chunks_of f) long
+    ∙ ap (λ (k : ℕ). header_record (plain_header b n k) ++ chunks_of f) count
+    ∙ ap (λ (k : ℕ). header_record (plain_header b n o.chunks) ++ chunks_of (drop k f)) (sym none)
+
+pub header_long : (b n k : ℕ) → length (header_record (plain_header b n k)) ≡ 28
+header_long b n k = refl
+
+pub writer_told : (P : Cursor → Type 0) (T : Cursor → ℕ) (b n : ℕ) (l : List Block) (c : Cursor) (o : Outline) → P c → n ≡ length l → c.block ≡ o.piece.first → IsOutline b l o → ToldWriter P T l (first_writer c o)
+writer_told P T b n l c o place same first h =
+    let f = blocks_of l o.piece in
+    let long = length-frame l o.piece.first o.piece.past h.is.order h.is.within in
+    let none : c.block - c.block ≡ 0 = omega arith in
+    let whole = header_first b n l c o same first h in
+    let total = ap length whole ∙ length-append (header_record (plain_header b n o.chunks)) (rest_of (frame_of l (first_writer c o)) (first_writer c o)) in
+    record {
+      gathering = record {
+        gathered = rw (← first) (gathered_first l o.piece.past c (omega (arith, first, h.is.order)) h.is.within (rw first long));
+        place = λ z. place;
+        raw = λ z s. absurd cc;
+      };
+      copies = tt;
+      count = rw none h.count;
+      long = omega (arith, h.is.long, total, header_long b n o.chunks);
+    }
+
+-- ---- a piece more
+
+pub made_first : (b limit : ℕ) (l : List Block) (s : ℕ) → s ≡ 0 → Made b limit l 0 (segments_left b limit l s Between)
+made_first b limit l s e = record { before = []; count = refl; all = rw e refl }
+
+pub made_more : (b limit : ℕ) (l : List Block) (made s e : ℕ) (st : Stage) → Made b limit l made (segments_left b limit l s Between) → FirstPiece b l limit s e → (e ≡ length l → st ≡ Done) → (e < length l → st ≡ Between) → Made b limit l (made + 1) (segments_left b limit l e st)
+made_more b limit l made s e st m h done more =
+    let fits : List Block → Bool = λ part. nat_le (weight b part) limit in
+    let one : segments limit b l ≡ m.before ++ (between l s e ∷ tail_parts fits (drop e l)) = m.all ∙ ap (λ (x : List (List Block)). m.before ++ x) h.cut in
+    let two : segments limit b l ≡ (m.before ++ between l s e ∷ []) ++ tail_parts fits (drop e l) = one ∙ sym (append_assoc m.before (between l s e ∷ []) (tail_parts fits (drop e l))) in
+    let count : length (m.before ++ between l s e ∷ []) ≡ made + 1 = omega (arith, length-append m.before (between l s e ∷ []), m.count) in
+    record { before = m.before ++ between l s e ∷ []; count = count; all = two ∙ ap (λ (x : List (List Block)). (m.before ++ between l s e ∷ []) ++ x) (left (drop e l) refl) }
+  where
+    left : (rest : List Block) → drop e l ≡ rest → tail_parts (λ part. nat_le (weight b part) limit) rest ≡ segments_left b limit l e st
+    left [] z = let d = done (let y = ap length z in omega (arith, y, length-drop e l, h.within)) in rw d refl
+    left (x ∷ rest) z = let d = more (let y = ap length z in omega (arith, y, length-drop e l)) in rw (d, z) refl
+
+greedy_some : (fits : List Block → Bool) (part rest : List Block) → 1 ≤ length (greedy fits part rest)
+greedy_some fits part [] = omega arith
+greedy_some fits part (x ∷ rest) = elim (cases_Bool (fits (part ++ x ∷ []))) [ inl e ↦ rw (e, length) (greedy_some fits (part ++ x ∷ []) rest) | inr e ↦ rw (e, length) (omega arith) ]
+
+-- what is left has a piece, unless it is done
+some_left : (b limit : ℕ) (l : List Block) (s : ℕ) (st : Stage) → (if has_more st then 1 else 0) ≤ length (segments_left b limit l s st)
+some_left b limit l s Between = greedy_some (λ part. nat_le (weight b part) limit) [] (drop s l)
+some_left b limit l s Done = omega arith
+some_left b limit l s (Failed f) = greedy_some (λ part. nat_le (weight b part) limit) [] (drop s l)
+
+pub least_pieces : (b limit : ℕ) (l : List Block) (made s : ℕ) (st : Stage) (parts : List (List Block)) → Made b limit l made (segments_left b limit l s st) → Division limit b l parts → made + (if has_more st then 1 else 0) ≤ length parts
+least_pieces b limit l made s st parts m d =
+    let a = ap length m.all ∙ length-append m.before (segments_left b limit l s st) in
+    omega (arith, a, m.count, some_left b limit l s st, fewest limit b l parts d)
+
+-- a cutter behind a piece more
+pub told_more : (P : Cursor → Type 0) (W : Cursor → Type 0) (b n limit made : ℕ) (l : List Block) (start : Cursor) (o : Outline) (st : Stage) → ToldCutter P b l limit made start Between → SoundOutline W n limit start.block o → n ≡ length l → FirstPiece b l limit start.block o.piece.past → P o.next
+    → (o.piece.past ≡ n → st ≡ Done) → (o.piece.past < n → st ≡ Between) → ToldCutter P b l limit (made + 1) o.next st
+told_more P W b n limit made l start o st h sound same first place done more = record {
+  place = place;
+  cuts = rw (← sound.past) (made_more b limit l made start.block o.piece.past st h.cuts first (λ e. done (omega (arith, e, same))) (λ e. more (omega (arith, e, same))));
+}
+
+pub sound_more : (W : Cursor → Type 0) (n b limit made : ℕ) (start : Cursor) (o : Outline) (st : Stage) → SoundCutter W n b limit made start Between → SoundOutline W n limit start.block o → (o.piece.past ≡ n → st ≡ Done) → (o.piece.past < n → st ≡ Between) → SoundCutter W n b limit (made + 1) o.next st
+sound_more W n b limit made start o st h sound done more =
+    let m = h.left refl in
+    record {
+      granted = h.granted;
+      within = sound.within;
+      few = omega (arith, m, sound.first, sound.order, sound.past);
+      left = λ e. at (o.piece.past) refl e;
+    }
+  where
+    at : (p : ℕ) → o.piece.past ≡ p → has_more st ≡ true → made + 1 ≤ o.next.block
+    at p z e = elim (cases_Bool (nat_lt o.piece.past n)) [
+      | inl l ↦ let y = sound.moves (ltb-true o.piece.past n l) in let m = h.left refl in omega (arith, y, m, sound.first, sound.past)
+      | inr l ↦ let d = done (let y = ltb-false o.piece.past n l in omega (arith, y, sound.end)) in absurd (let y : has_more st ≡ false = ap has_more d in cc)
+    ]

@@ -1,0 +1,9 @@
+pub mod Classes
+pub mod Counting
+pub mod Planning
+pub mod Framing
+pub mod Gathering
+pub mod Writing
+pub mod Going
+pub mod Fronts
+pub mod Cutting

@@ -1,0 +1,53 @@
+use Rattle.std.proofs.Common.{arith, ap, sym, ◌∙◌, ◌≡◌, ◌≤◌, IsTrue, Some, None, refl, ◌-◌}
+use Rattle.abt_pieces.proofs.Fronts.{not_told}
+use Rattle.abt_pieces.proofs.Going.{PartFrom, is_copying, some_of, next_sound, next_writer, write_copies}
+use Rattle.abt_pieces.proofs.write.Writer.next_raw.Goals as goal
+
+pub returns-in-Some-clause-sound : goal.returns-in-Some-clause-sound
+returns-in-Some-clause-sound g c =
+    let e = c.in-Ok.ensures in
+    let h = is_copying _ _ _ _ c.args.self.now c.args.copying c.requires.is c.requires.sound in
+    let is = sym (rw c.block_size-size.ensures at c.and_part.ensures) ∙ c.in-Some.is in
+    let z = next_sound _ _ (g.R.BlockRuns.left c.args.runs.now) _ _ _ _ _ (g.R.BlockRuns.count c.args.runs.now) c.args.copying c.in-Some.next c.in-Ok.part h c.requires.whole (omega (arith, c.requires.sound.gathering.room))
+    (record { next = e.moved; capped = e.capped.raw; within = e.within; here = (e.here.0, e.here.1); reached = e.reached; shorter = e.on; ended = λ q. (e.at_end q).0 }) is in
+    record { gathering = c.requires.sound.gathering; copies = z.sound; small = c.requires.sound.small }
+
+pub returns-in-Some-clause-left : goal.returns-in-Some-clause-left
+returns-in-Some-clause-left g c =
+    let e = c.in-Ok.ensures in
+    let h = is_copying _ _ _ _ c.args.self.now c.args.copying c.requires.is c.requires.sound in
+    let is = sym (rw c.block_size-size.ensures at c.and_part.ensures) ∙ c.in-Some.is in
+    let z = next_sound _ _ (g.R.BlockRuns.left c.args.runs.now) _ _ _ _ _ (g.R.BlockRuns.count c.args.runs.now) c.args.copying c.in-Some.next c.in-Ok.part h c.requires.whole (omega (arith, c.requires.sound.gathering.room))
+    (record { next = e.moved; capped = e.capped.raw; within = e.within; here = (e.here.0, e.here.1); reached = e.reached; shorter = e.on; ended = λ q. (e.at_end q).0 }) is in
+    write_copies _ _ _ _ refl refl (rw c.requires.is z.fewer)
+
+pub returns-in-Some-clause-told : goal.returns-in-Some-clause-told
+returns-in-Some-clause-told g c tells =
+    let e = c.in-Ok.ensures in
+    let o = c.requires.opened tells in
+    let is = sym (rw c.block_size-size.ensures at c.and_part.ensures) ∙ c.in-Some.is in
+    let x = next_writer _ _ _ _ _ _ _ c.args.self.now c.args.copying c.in-Ok.part c.requires.is c.requires.sound (sym (g.met.R.BlockRuns.long c.args.runs.now _ o)) (g.met.R.BlockRuns.are_blocks c.args.runs.now _ o) c.requires.whole (c.requires.told tells)
+    (e.part tells) (e.place tells) (e.here_place tells) e.here.0 (e.stands tells) e.capped.raw in
+    let same = some_of x.0 c.in-Some.next (sym x.1 ∙ is) in
+    let t = rw same at x.2.told in
+    record { gathering = t.gathering; copies = t.copies; count = t.count; long = (let z : c.args.self.now.bytes ≡ c.args.self.now.bytes - 0 = omega arith in z) ∙ t.long }
+
+pub returns-in-Some-clause-rest : goal.returns-in-Some-clause-rest
+returns-in-Some-clause-rest g c tells =
+    let e = c.in-Ok.ensures in
+    let o = c.requires.opened tells in
+    let is = sym (rw c.block_size-size.ensures at c.and_part.ensures) ∙ c.in-Some.is in
+    let x = next_writer _ _ _ _ _ _ _ c.args.self.now c.args.copying c.in-Ok.part c.requires.is c.requires.sound (sym (g.met.R.BlockRuns.long c.args.runs.now _ o)) (g.met.R.BlockRuns.are_blocks c.args.runs.now _ o) c.requires.whole (c.requires.told tells)
+    (e.part tells) (e.place tells) (e.here_place tells) e.here.0 (e.stands tells) e.capped.raw in
+    let same = some_of x.0 c.in-Some.next (sym x.1 ∙ is) in
+    rw same at x.2.rest
+
+pub returns-in-None-clause-cause : goal.returns-in-None-clause-cause
+returns-in-None-clause-cause g c = not_told _ (λ tells.
+    let e = c.in-Ok.ensures in
+    let o = c.requires.opened tells in
+    let is = sym (rw c.block_size-size.ensures at c.and_part.ensures) ∙ c.in-None.is in
+    let x = next_writer _ _ _ _ _ _ _ c.args.self.now c.args.copying c.in-Ok.part c.requires.is c.requires.sound (sym (g.met.R.BlockRuns.long c.args.runs.now _ o)) (g.met.R.BlockRuns.are_blocks c.args.runs.now _ o) c.requires.whole (c.requires.told tells)
+    (e.part tells) (e.place tells) (e.here_place tells) e.here.0 (e.stands tells) e.capped.raw in
+    let z : Some x.0 ≡ None = sym x.1 ∙ is in
+    absurd cc)

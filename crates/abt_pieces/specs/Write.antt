@@ -1,0 +1,139 @@
+-- A piece that is being written, and what of it is still to come.
+use Rattle.std.specs.Prelude.{◌≡◌, ℕ, zero, suc, ◌+◌, ◌-◌, ◌*◌, ◌^◌, ◌≤◌, ◌<◌, Bool, true, false, List, [], ◌∷◌, ◌++◌, length, take, drop, map, Option, Some, None, ⊤, ◌⊎◌, ◌==◌, ◌&&◌, not, if◌then◌else◌}
+use Rattle.std.specs.List.{flat_map}
+use Rattle.abt_sparse.specs.declared.kind.ChunkKind.TheVariants as chunks
+use Rattle.abt_sparse.specs.Block.{Block}
+use Rattle.abt_sparse.specs.Runs.{runs}
+use Rattle.abt_sparse.specs.Chunk.{plain, chunk_of_run}
+use Rattle.abt_sparse.specs.ChunkHead.{chunk_record}
+use Rattle.abt_runs.specs.Part.{AllOf, raw_of, is_end}
+use Rattle.abt_runs.specs.declared.part.RunKind.{RunKind}
+use Rattle.abt_runs.specs.declared.part.RunKind.TheVariants as kinds
+use Rattle.abt_runs.specs.declared.part.Cursor.{Cursor}
+use Rattle.abt_runs.specs.declared.part.Run.{Run}
+use Rattle.abt_pieces.specs.Plan.{between}
+use Rattle.abt_pieces.specs.Contents.{head_len, data_len}
+use Rattle.abt_pieces.specs.Gather.{frame, SoundGatherer, ToldGatherer, look_left}
+use Rattle.abt_pieces.specs.declared.fault.PieceFault.{PieceFault}
+use Rattle.abt_pieces.specs.declared.fault.PieceFault.TheVariants.{Read, Write, TooLarge, SourceChanged, BadBlock, LimitTooSmall}
+use Rattle.abt_pieces.specs.declared.gather.Gatherer.{Gatherer}
+use Rattle.abt_pieces.specs.declared.write.Copying.{Copying}
+use Rattle.abt_pieces.specs.declared.write.Writer.{Writer}
+
+-- the header of a chunk of n blocks, of so many bytes in total, and the word of a fill
+abbrev pub front_bytes : RunKind → ℕ → ℕ → List ℕ
+front_bytes kinds.Raw n total = chunk_record (record { kind = chunks.Raw; blocks = n; total = total }) 0
+front_bytes (kinds.Fill w) n total = chunk_record (record { kind = chunks.Fill; blocks = n; total = total }) 0 ++ w
+front_bytes kinds.Skip n total = chunk_record (record { kind = chunks.Skip; blocks = n; total = total }) 0
+front_bytes kinds.End n total = []
+
+-- the chunks of these blocks
+abbrev pub chunks_of : List Block → List ℕ
+chunks_of l = flat_map plain (map chunk_of_run (runs l))
+
+-- the block at which the open run begins
+abbrev pub begins : Gatherer → ℕ
+begins g = g.at.block - g.count
+
+-- what is left of the raw run whose header stands already, and which goes up to block u
+abbrev pub to_copy : List Block → ℕ → Option Copying → List ℕ
+to_copy f u None = []
+to_copy f u (Some c) = drop c.done (raw_of (between f c.here.block u))
+
+-- what is left of the piece of the blocks f
+abbrev pub rest_of : List Block → Writer → List ℕ
+rest_of f w = to_copy f (begins w.gatherer) w.copying ++ chunks_of (drop (begins w.gatherer) f)
+
+abbrev pub frame_of : List Block → Writer → List Block
+frame_of l w = frame l w.first w.past
+
+-- ---- the numbers, whatever the source gave
+
+pub record IsCopying (W : Cursor → Type 0) (reach : Cursor → ℕ) (b s e u bytes : ℕ) (c : Copying) : Type 0 where
+  pub first : s ≤ c.here.block
+  pub order : c.here.block ≤ c.next.block
+  pub until : c.next.block ≤ u
+  pub past : u ≤ e
+  pub part : c.size ≡ (c.next.block - c.here.block) * b
+  pub copied : c.done ≤ c.size
+  pub total : c.left + c.done ≡ (u - c.here.block) * b
+  pub some : 0 < c.left
+  pub room : c.left ≤ bytes
+  pub here : W c.here
+  pub next : W c.next
+  pub reached : c.size ≤ reach c.here
+
+abbrev pub SoundCopying : (Cursor → Type 0) → (Cursor → ℕ) → ℕ → ℕ → ℕ → ℕ → ℕ → Option Copying → Type 0
+SoundCopying W reach b s e u bytes None = ⊤
+SoundCopying W reach b s e u bytes (Some c) = IsCopying W reach b s e u bytes c
+
+pub record SoundWriter (W : Cursor → Type 0) (reach : Cursor → ℕ) (n b : ℕ) (w : Writer) : Type 0 where
+  pub gathering : SoundGatherer W n w.first w.past w.gatherer
+  pub copies : SoundCopying W reach b w.first w.past (begins w.gatherer) w.bytes w.copying
+  pub small : w.bytes < 2 ^ 32
+
+-- ---- what is known of a source that tells its bytes
+
+pub record ToldCopy (P : Cursor → Type 0) (together : Cursor → ℕ) (f : List Block) (u : ℕ) (c : Copying) : Type 0 where
+  pub here : P c.here
+  pub next : P c.next
+  pub all : AllOf kinds.Raw (between f c.here.block u)
+  pub stands : c.next.block - c.here.block ≤ together c.here
+
+abbrev pub ToldCopying : (Cursor → Type 0) → (Cursor → ℕ) → List Block → ℕ → Option Copying → Type 0
+ToldCopying P together f u None = ⊤
+ToldCopying P together f u (Some c) = ToldCopy P together f u c
+
+pub record ToldWriter (P : Cursor → Type 0) (together : Cursor → ℕ) (l : List Block) (w : Writer) : Type 0 where
+  pub gathering : ToldGatherer P l w.first w.past w.gatherer
+  pub copies : ToldCopying P together (frame_of l w) (begins w.gatherer) w.copying
+  pub count : w.chunks ≡ length (runs (drop (begins w.gatherer) (frame_of l w)))
+  pub long : w.bytes ≡ length (rest_of (frame_of l w) w)
+
+-- ---- a writer that goes on
+
+-- where the copying of a run begins, if it is raw
+abbrev pub starts : RunKind → Cursor → ℕ → Option Copying
+starts kinds.Raw here bytes = Some (record { here = here; next = here; size = 0; done = 0; left = bytes })
+starts (kinds.Fill w) here bytes = None
+starts kinds.Skip here bytes = None
+starts kinds.End here bytes = None
+
+-- how long the chunk of q blocks is
+abbrev pub chunk_len : RunKind → ℕ → ℕ → ℕ
+chunk_len k q b = head_len k + data_len k q b
+
+-- with the front of a run's chunk written
+abbrev pub chunk_begun : Writer → Run → ℕ → Writer
+chunk_begun w r b = record { first = w.first; past = w.past; gatherer = w.gatherer; copying = starts r.kind r.here (data_len r.kind r.blocks b); chunks = w.chunks - 1; bytes = w.bytes - head_len r.kind }
+
+-- why the front of a chunk is not written
+abbrev pub ChunkCause : PieceFault → ℕ → ℕ → ℕ → ℕ → ℕ → Type 0
+ChunkCause SourceChanged chunks bytes need faults faults' = (chunks ≡ 0) ⊎ (bytes < need)
+ChunkCause (Write f) chunks bytes need faults faults' = faults < faults'
+ChunkCause (Read f) chunks bytes need faults faults' = ⊥
+ChunkCause TooLarge chunks bytes need faults faults' = ⊥
+ChunkCause (BadBlock n) chunks bytes need faults faults' = ⊥
+ChunkCause (LimitTooSmall n) chunks bytes need faults faults' = ⊥
+
+-- with the part behind the one that is copied: None where that is not raw
+abbrev pub raw_part : RunKind → Copying → Run → ℕ → Option Copying
+raw_part kinds.Raw c r b = Some (record { here = r.here; next = r.next; size = r.blocks * b; done = 0; left = c.left })
+raw_part (kinds.Fill w) c r b = None
+raw_part kinds.Skip c r b = None
+raw_part kinds.End c r b = None
+
+abbrev pub next_copying : Copying → Run → ℕ → Option Copying
+next_copying c r b = if (r.blocks == 0) && not (is_end r.kind) then Some (record { here = c.here; next = r.next; size = c.size; done = c.done; left = c.left }) else raw_part r.kind c r b
+
+-- with n bytes more copied
+abbrev pub copied_on : Copying → ℕ → Option Copying
+copied_on c n = if c.left == n then None else Some (record { here = c.here; next = c.next; size = c.size; done = c.done + n; left = c.left - n })
+
+-- how many steps there can be before the end of a piece
+abbrev pub copy_left : (Cursor → ℕ) → Option Copying → ℕ
+copy_left left None = 0
+copy_left left (Some c) = c.left + left c.next
+
+unfoldable pub write_left : (Cursor → ℕ) → ℕ → Writer → ℕ
+write_left left n w = look_left left n w.past w.gatherer * 2 ^ 65 + copy_left left w.copying

@@ -1,0 +1,96 @@
+//! What stands in front of a chunk's blocks.
+ghost use Rattle.std.specs.Prelude.{◌≡◌, ◌<◌, ◌≤◌, ◌+◌, ◌-◌, ◌%◌, ◌^◌, ◌++◌, OnOk, OnErr, IfErr, length, take};
+ghost use Rattle.abt_sparse.specs.Chunk.{header_record, plain_header};
+ghost use Rattle.abt_pieces.specs.Contents.{head_len as length_of_head};
+ghost use Rattle.abt_pieces.specs.Write.{front_bytes};
+
+use crate::contents::head_len;
+use abt_io::{DeviceFault, Meter, Output, write_out};
+use abt_runs::RunKind;
+use abt_sparse::{ChunkHeader, ChunkKind, SparseHeader};
+
+fn side_by_side(header: [u8; 12], word: [u8; 4]) -> [u8; 16]
+    ensures { result ≡ header ++ word }
+{
+    let mut out = [0; 16];
+    out[..12].copy_from_slice(&header);
+    out[12..].copy_from_slice(&word);
+    out
+}
+
+/// The header of a chunk, and behind it the word of a fill.
+fn chunk_front(kind: RunKind, blocks: u32, total: u32) -> [u8; 16]
+    ensures { take (length_of_head kind) result ≡ front_bytes kind blocks total }
+{
+    let (kind, word) = match kind {
+        RunKind::Raw => (ChunkKind::Raw, [0; 4]),
+        RunKind::Fill(word) => (ChunkKind::Fill, word),
+        RunKind::Skip | RunKind::End => (ChunkKind::Skip, [0; 4]),
+    };
+    let header = ChunkHeader {
+        kind,
+        blocks,
+        total,
+    };
+    side_by_side(header.encode(), word)
+}
+
+/// Writes what stands in front of a chunk's blocks: its header (`chunk_header_t`), and the word of a fill.
+pub fn write_front<O: Output>(
+    output: &mut O,
+    kind: RunKind,
+    blocks: u32,
+    total: u32,
+    m: &mut Meter,
+) -> Result<(), DeviceFault>
+    ensures ok { OnOk result (O.written output.new ≡ O.written output.old ++ front_bytes kind blocks total) }
+    ensures front { O.written output.new ≡ O.written output.old ++ take (length (O.written output.new) - length (O.written output.old)) (front_bytes kind blocks total) }
+    ensures grown { length (O.written output.old) ≤ length (O.written output.new) }
+    ensures within { length (O.written output.new) ≤ length (O.written output.old) + length_of_head kind }
+    ensures whole { OnOk result (length (O.written output.new) ≡ length (O.written output.old) + length_of_head kind) }
+    ensures frame { O.write_frame output.new ≡ O.write_frame output.old }
+    ensures faults { O.write_faults output.old ≤ O.write_faults output.new }
+    ensures cause { OnErr result (O.write_faults output.old < O.write_faults output.new) }
+    ensures calls { O.writes output.new + length (O.written output.old) ≤ O.writes output.old + length (O.written output.new) + 1 }
+    ensures turns { m.new.turns.number + length (O.written output.old) ≤ m.old.turns.number + length (O.written output.new) + 1 }
+    ensures steps { m.new.steps.number ≡ m.old.steps.number }
+    ensures greatest { m.new.greatest.number ≡ m.old.greatest.number }
+{
+    let bytes = chunk_front(kind, blocks, total);
+    write_out(output, &bytes[..head_len(kind) as usize], m)
+}
+
+/// Writes the header of a piece (`sparse_header_t`).
+pub fn write_header<O: Output>(
+    output: &mut O,
+    size: u32,
+    count: u32,
+    chunks: u32,
+    m: &mut Meter,
+) -> Result<(), DeviceFault>
+    requires some { 0 < size }
+    requires words { size % 4 ≡ 0 }
+    ensures ok { OnOk result (O.written output.new ≡ O.written output.old ++ header_record (plain_header size count chunks)) }
+    ensures front { O.written output.new ≡ O.written output.old ++ take (length (O.written output.new) - length (O.written output.old)) (header_record (plain_header size count chunks)) }
+    ensures grown { length (O.written output.old) ≤ length (O.written output.new) }
+    ensures within { length (O.written output.new) ≤ length (O.written output.old) + 28 }
+    ensures whole { OnOk result (length (O.written output.new) ≡ length (O.written output.old) + 28) }
+    ensures frame { O.write_frame output.new ≡ O.write_frame output.old }
+    ensures faults { O.write_faults output.old ≤ O.write_faults output.new }
+    ensures cause { OnErr result (O.write_faults output.old < O.write_faults output.new) }
+    ensures calls { O.writes output.new + length (O.written output.old) ≤ O.writes output.old + length (O.written output.new) + 1 }
+    ensures turns { m.new.turns.number + length (O.written output.old) ≤ m.old.turns.number + length (O.written output.new) + 1 }
+    ensures steps { m.new.steps.number ≡ m.old.steps.number }
+    ensures greatest { m.new.greatest.number ≡ m.old.greatest.number }
+{
+    let header = SparseHeader {
+        minor: 0,
+        file_hdr_sz: 28,
+        chunk_hdr_sz: 12,
+        blk_sz: size,
+        total_blks: count,
+        total_chunks: chunks,
+        image_checksum: 0,
+    };
+    write_out(output, &header.encode(), m)
+}

@@ -1,0 +1,37 @@
+//! Cutting an image into pieces for a download limit: each piece is a sparse image of its own.
+//!
+//! A piece of the segment from block `first` up to `past` is a whole sparse image with the same
+//! block size and number of blocks: don't care before the segment and behind it, and the segment
+//! between, each maximal run one chunk. It weighs at most the limit, and its segment is the longest
+//! that does.
+//!
+//! - `tail`, `plan`: weighing a segment part by part, and how far a piece goes;
+//! - `contents`, `outline`: the numbers of a piece, which its header needs first;
+//! - `gather`: the runs of a piece, each known whole before it is written;
+//! - `chunk`, `write`: headers, and writing a piece in steps that hold numbers alone;
+//! - `fault`: why all this is refused.
+#![tactic(auto)]
+
+mod chunk;
+mod contents;
+mod cutter;
+mod fault;
+mod gather;
+mod outline;
+mod plan;
+mod stage;
+mod tail;
+mod write;
+
+pub use contents::{Contents, copied_len, head_len};
+pub use cutter::{Cutter, least_limit, no_fewer_pieces};
+pub use fault::{PieceFault, run_fault};
+pub use gather::{Gatherer, framed_part};
+pub use outline::{Outline, Piece};
+pub use plan::{Planner, plan_piece};
+pub use stage::Stage;
+pub use tail::Tail;
+pub use write::{Copying, Writer, write_chunks};
+
+#[cfg(test)]
+mod tests;

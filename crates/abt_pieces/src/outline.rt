@@ -1,0 +1,75 @@
+//! A piece as it is planned: how far it goes, and the numbers that its header needs first.
+ghost use Rattle.std.specs.Prelude.{◌≡◌, ◌<◌, ◌≤◌, ◌+◌, ◌-◌, ◌^◌, ℕ, List, length};
+ghost use Rattle.abt_sparse.specs.Block.{Block, AreBlocks};
+ghost use Rattle.abt_pieces.specs.Contents.{with_part};
+ghost use Rattle.abt_pieces.specs.Plan.{Planned, Even, last_kind};
+ghost use Rattle.abt_pieces.specs.Outline.{IsOutline};
+
+use crate::contents::Contents;
+use crate::plan::Planner;
+use crate::tail::last;
+use abt_runs::{Cursor, RunKind};
+
+/// A piece of an image.
+#[derive(Clone, Copy, Debug, PartialEq, Eq, Drop)]
+pub struct Piece {
+    /// The first block of its segment.
+    pub first: u32,
+    /// The block behind its segment.
+    pub past: u32,
+    /// How many blocks of the segment are raw or fill.
+    pub written: u32,
+    /// The length of the piece, in bytes.
+    pub bytes: u64,
+}
+
+/// A planned piece, the number of its chunks and the place behind it.
+#[derive(Clone, Copy, Debug, PartialEq, Eq, Drop)]
+pub struct Outline {
+    pub piece: Piece,
+    pub chunks: u32,
+    pub next: Cursor,
+}
+
+/// The piece up to where a planner has come, of an image of so many blocks of `size` bytes.
+pub fn outlined(planner: &Planner, count: u32, size: u32) -> Outline
+    requires even { Even planner.now }
+    requires room { planner.now.weight < 2 ^ 32 }
+    requires within { planner.now.at.block ≤ count }
+    ensures first { result.piece.first ≡ planner.now.first }
+    ensures past { result.piece.past ≡ planner.now.at.block }
+    ensures next { result.next ≡ planner.now.at }
+    ensures bytes { result.piece.bytes ≤ planner.now.weight }
+    ensures least { 28 ≤ result.piece.bytes }
+    ensures exact { (l : List Block) → length l ≡ count → AreBlocks size l → Planned size l planner.now → IsOutline size l result }
+{
+    let contents = whole(planner, count, size);
+    Outline {
+        piece: Piece {
+            first: planner.first,
+            past: planner.at.block,
+            written: contents.written,
+            bytes: contents.bytes,
+        },
+        chunks: contents.chunks,
+        next: planner.at,
+    }
+}
+
+/// The numbers of the piece with what is skipped behind its segment.
+fn whole(planner: &Planner, count: u32, size: u32) -> Contents
+    requires even { Even planner.now }
+    requires room { planner.now.weight < 2 ^ 32 }
+    requires within { planner.now.at.block ≤ count }
+    ensures more { planner.now.at.block < count → result ≡ with_part planner.now.contents (last_kind planner.now.tail planner.now.at.block) RunKind.Skip (count - planner.now.at.block) size }
+    ensures same { count ≤ planner.now.at.block → result ≡ planner.now.contents }
+    ensures bytes { result.bytes ≤ planner.now.weight }
+    ensures least { 28 ≤ result.bytes }
+{
+    let contents = planner.contents;
+    if planner.at.block == count {
+        return contents;
+    }
+    let last = last(&planner.tail, planner.at.block);
+    contents.with(last, RunKind::Skip, count - planner.at.block, size)
+}

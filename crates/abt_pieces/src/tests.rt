@@ -1,0 +1,155 @@
+//! Published byte vectors of cutting, and each call once over fakes.
+use crate::*;
+use abt_io::{Cut, DeviceFault, Faulty, Meter, SliceOutput, SliceSource, Window};
+use abt_runs::RawRuns;
+use std::test::Fail;
+
+/// A fill block, a raw block and a last block of two bytes.
+const MIXED: &[u8] = b"AAAAAAAAABCDEFGHIJ";
+
+const FIRST: &[u8] =
+    b"\x3a\xff\x26\xed\x01\x00\x00\x00\x1c\x00\x0c\x00\x08\x00\x00\x00\x03\x00\x00\x00\x03\x00\x00\x00\x00\x00\x00\x00\xc2\xca\x00\x00\x01\x00\x00\x00\x10\x00\x00\x00AAAA\xc1\xca\x00\x00\x01\x00\x00\x00\x14\x00\x00\x00ABCDEFGH\xc3\xca\x00\x00\x01\x00\x00\x00\x0c\x00\x00\x00";
+
+const SECOND: &[u8] =
+    b"\x3a\xff\x26\xed\x01\x00\x00\x00\x1c\x00\x0c\x00\x08\x00\x00\x00\x03\x00\x00\x00\x02\x00\x00\x00\x00\x00\x00\x00\xc3\xca\x00\x00\x02\x00\x00\x00\x0c\x00\x00\x00\xc1\xca\x00\x00\x01\x00\x00\x00\x14\x00\x00\x00IJ\x00\x00\x00\x00\x00\x00";
+
+#[test]
+fn a_raw_image_in_two_pieces(rt: HostRuntime) -> Result<(), Fail> {
+    let mut source = Cut::new(SliceSource::new(MIXED), 3);
+    let mut w = Window::new();
+    let mut m = Meter::new();
+    let mut cutter = Cutter::open(RawRuns::open(&source, 8)?, 88)?;
+    assert!(rt; cutter.more());
+    let mut room = [0; 100];
+    let mut output = SliceOutput::new(&mut room);
+    let first = cutter.next_piece(&mut source, &mut output, &mut w, &mut m)?;
+    assert_eq!(rt;
+        first,
+        Some(Piece {
+            first: 0,
+            past: 2,
+            written: 2,
+            bytes: 76
+        })
+    );
+    assert_eq!(rt; output.written(), FIRST);
+    let mut room = [0; 100];
+    let mut output = SliceOutput::new(&mut room);
+    let second = cutter.next_piece(&mut source, &mut output, &mut w, &mut m)?;
+    assert_eq!(rt;
+        second,
+        Some(Piece {
+            first: 2,
+            past: 3,
+            written: 1,
+            bytes: 60
+        })
+    );
+    assert_eq!(rt; output.written(), SECOND);
+    assert!(rt; !cutter.more());
+    assert_eq!(rt;
+        cutter.next_piece(&mut source, &mut output, &mut w, &mut m)?,
+        None
+    );
+    Ok(())
+}
+
+#[test]
+fn a_piece_is_passed_over(rt: HostRuntime) -> Result<(), Fail> {
+    let mut source = SliceSource::new(MIXED);
+    let mut w = Window::new();
+    let mut m = Meter::new();
+    let mut cutter = Cutter::open(RawRuns::open(&source, 8)?, 88)?;
+    let first = cutter.skip_piece(&mut source, &mut w, &mut m)?;
+    assert_eq!(rt;
+        first,
+        Some(Piece {
+            first: 0,
+            past: 2,
+            written: 2,
+            bytes: 76
+        })
+    );
+    let mut room = [0; 100];
+    let mut output = SliceOutput::new(&mut room);
+    cutter.next_piece(&mut source, &mut output, &mut w, &mut m)?;
+    assert_eq!(rt; output.written(), SECOND);
+    assert_eq!(rt; cutter.skip_piece(&mut source, &mut w, &mut m)?, None);
+    Ok(())
+}
+
+#[test]
+fn an_image_of_no_blocks_is_one_piece(rt: HostRuntime) -> Result<(), Fail> {
+    let mut source = SliceSource::new(b"");
+    let mut w = Window::new();
+    let mut m = Meter::new();
+    let mut cutter = Cutter::open(RawRuns::open(&source, 4)?, 68)?;
+    let mut room = [0; 40];
+    let mut output = SliceOutput::new(&mut room);
+    let piece = cutter.next_piece(&mut source, &mut output, &mut w, &mut m)?;
+    assert_eq!(rt;
+        piece,
+        Some(Piece {
+            first: 0,
+            past: 0,
+            written: 0,
+            bytes: 28
+        })
+    );
+    assert_eq!(rt; output.written().len(), 28);
+    assert!(rt; !cutter.more());
+    Ok(())
+}
+
+#[test]
+fn a_limit_below_the_least_is_refused(rt: HostRuntime) -> Result<(), Fail> {
+    let source = SliceSource::new(MIXED);
+    assert_eq!(rt; least_limit(8), 72);
+    match Cutter::open(RawRuns::open(&source, 8)?, 71) {
+        Ok(_) => assert!(rt; false),
+        Err(fault) => {
+            assert_eq!(rt; fault, PieceFault::LimitTooSmall { least: 72 });
+            assert_eq!(rt; fault.number(), 16);
+        }
+    }
+    Ok(())
+}
+
+#[test]
+fn a_failing_source_or_output_is_answered_again(rt: HostRuntime) -> Result<(), Fail> {
+    let mut w = Window::new();
+    let mut m = Meter::new();
+    for n in 1..6 {
+        let mut source = Faulty::new(SliceSource::new(MIXED), n);
+        let mut cutter = Cutter::open(RawRuns::open(&source, 8)?, 88)?;
+        let mut room = [0; 100];
+        let mut output = SliceOutput::new(&mut room);
+        let fault = Err(PieceFault::Read(DeviceFault::Failed));
+        assert_eq!(rt;
+            cutter.next_piece(&mut source, &mut output, &mut w, &mut m),
+            fault
+        );
+        assert_eq!(rt;
+            cutter.next_piece(&mut source, &mut output, &mut w, &mut m),
+            fault
+        );
+        assert!(rt; FIRST.starts_with(output.written()));
+    }
+    for n in 1..4 {
+        let mut source = SliceSource::new(MIXED);
+        let mut cutter = Cutter::open(RawRuns::open(&source, 8)?, 88)?;
+        let mut room = [0; 100];
+        let mut output = Faulty::new(SliceOutput::new(&mut room), n);
+        let fault = Err(PieceFault::Write(DeviceFault::Failed));
+        assert_eq!(rt;
+            cutter.next_piece(&mut source, &mut output, &mut w, &mut m),
+            fault
+        );
+        assert_eq!(rt;
+            cutter.next_piece(&mut source, &mut output, &mut w, &mut m),
+            fault
+        );
+        assert!(rt; FIRST.starts_with(output.device.written()));
+    }
+    Ok(())
+}

@@ -1,0 +1,405 @@
+//! Writing one piece: a chunk for each of its runs.
+ghost use Rattle.std.specs.Prelude.{◌≡◌, ◌<◌, ◌≤◌, ◌+◌, ◌-◌, ◌*◌, ◌^◌, ◌++◌, IsTrue, IfOk, IfErr, OnOk, OnErr, length, take, drop, max, true, false};
+ghost use Rattle.abt_runs.specs.Part.{is_end as ends};
+ghost use Rattle.abt_pieces.specs.Fault.{HasCause};
+ghost use Rattle.abt_pieces.specs.Contents.{head_len as length_of_head, data_len};
+ghost use Rattle.abt_pieces.specs.Cutter.{first_writer};
+ghost use Rattle.abt_pieces.specs.Write.{front_bytes, chunk_len, chunk_begun, ChunkCause, starts, next_copying, copied_on, rest_of, frame_of, SoundWriter, ToldWriter, write_left};
+
+use crate::PieceFault;
+use crate::chunk::write_front;
+use crate::contents::{copied_len, head_len};
+use crate::fault::run_fault;
+use crate::gather::{Gatherer, is_end};
+use crate::outline::Outline;
+use abt_io::{Meter, Output, Source, WINDOW, Window, write_out};
+use abt_runs::{BlockRuns, Cursor, Run, RunKind};
+
+/// A raw run whose header stands already, and whose bytes are being copied part by part.
+#[derive(Clone, Copy, Debug, PartialEq, Eq, Drop)]
+pub struct Copying {
+    /// The place of the part that is being copied.
+    pub here: Cursor,
+    /// The place of the part behind it.
+    pub next: Cursor,
+    /// How many bytes the part has.
+    pub size: u64,
+    /// How many of these are copied.
+    pub done: u64,
+    /// How many bytes of the run are still to be copied.
+    pub left: u64,
+}
+
+/// Writes one piece, in steps. It holds numbers alone.
+#[derive(Clone, Copy, Debug, PartialEq, Eq, Drop)]
+pub struct Writer {
+    /// The first block of the segment.
+    pub first: u32,
+    /// The block behind the segment.
+    pub past: u32,
+    /// The run that is being gathered, behind what is written.
+    pub gatherer: Gatherer,
+    /// The raw run that is being copied, if one is.
+    pub copying: Option<Copying>,
+    /// How many chunks are still to be begun.
+    pub chunks: u32,
+    /// How many bytes of the piece are still to be written.
+    pub bytes: u64,
+}
+
+/// Where the copying of a run begins, if it is raw.
+fn copy_from(run: Run, bytes: u64) -> Option<Copying>
+    ensures { result ≡ starts run.kind run.here bytes }
+{
+    match run.kind {
+        RunKind::Raw => Some(Copying {
+            here: run.here,
+            next: run.here,
+            size: 0,
+            done: 0,
+            left: bytes,
+        }),
+        RunKind::Fill(_) | RunKind::Skip | RunKind::End => None,
+    }
+}
+
+impl Copying {
+    /// With the part behind the one that is copied, if that is raw.
+    fn and_part(self, part: Run, size: u32) -> Option<Copying>
+        ensures { result ≡ next_copying self part size }
+    {
+        if part.blocks == 0 && !is_end(part.kind) {
+            return Some(Copying {
+                next: part.next,
+                ..self
+            });
+        }
+        match part.kind {
+            RunKind::Raw => Some(Copying {
+                here: part.here,
+                next: part.next,
+                size: part.blocks as u64 * size as u64,
+                done: 0,
+                left: self.left,
+            }),
+            RunKind::Fill(_) | RunKind::Skip | RunKind::End => None,
+        }
+    }
+
+    /// With so many bytes more copied, if any are left then.
+    fn and_bytes(self, count: u64) -> Option<Copying>
+        requires left { count ≤ self.left }
+        requires done { self.done + count < 2 ^ 64 }
+        ensures { result ≡ copied_on self count }
+    {
+        if self.left == count {
+            return None;
+        }
+        Some(Copying {
+            done: self.done + count,
+            left: self.left - count,
+            ..self
+        })
+    }
+}
+
+impl Writer {
+    /// At the first chunk of a planned piece whose segment begins at a place.
+    pub fn begin(start: Cursor, outline: &Outline) -> Writer
+        ensures { result ≡ first_writer start outline.now }
+    {
+        Writer {
+            first: outline.piece.first,
+            past: outline.piece.past,
+            gatherer: Gatherer::begin(start),
+            copying: None,
+            chunks: outline.chunks,
+            bytes: outline.piece.bytes.saturating_sub(28),
+        }
+    }
+
+    /// Writes what stands in front of a run's blocks, where the piece as it was planned has room
+    /// for the run. Else the source has changed since.
+    fn begin_chunk<O: Output>(
+        &mut self,
+        run: Run,
+        size: u32,
+        output: &mut O,
+        m: &mut Meter,
+    ) -> Result<(), PieceFault>
+        requires small { self.old.bytes < 2 ^ 32 }
+        ensures ok { OnOk result (self.new ≡ chunk_begun self.old run size) }
+        ensures segment { (self.new.first ≡ self.old.first) × (self.new.past ≡ self.old.past) }
+        ensures room { OnOk result ((0 < self.old.chunks) × (chunk_len run.kind run.blocks size ≤ self.old.bytes)) }
+        ensures written { OnOk result (O.written output.new ≡ O.written output.old ++ front_bytes run.kind run.blocks (chunk_len run.kind run.blocks size)) }
+        ensures front { O.written output.new ≡ O.written output.old ++ take (length (O.written output.new) - length (O.written output.old)) (front_bytes run.kind run.blocks (chunk_len run.kind run.blocks size)) }
+        ensures grown { length (O.written output.old) ≤ length (O.written output.new) }
+        ensures within { length (O.written output.new) ≤ length (O.written output.old) + self.old.bytes }
+        ensures few { length (O.written output.new) ≤ length (O.written output.old) + 16 }
+        ensures whole { OnOk result (length (O.written output.new) ≡ length (O.written output.old) + length_of_head run.kind) }
+        ensures frame { O.write_frame output.new ≡ O.write_frame output.old }
+        ensures faults { O.write_faults output.old ≤ O.write_faults output.new }
+        ensures cause { IfErr result (λ e. ChunkCause e self.old.chunks self.old.bytes (chunk_len run.kind run.blocks size) (O.write_faults output.old) (O.write_faults output.new)) }
+        ensures calls { O.writes output.new + length (O.written output.old) ≤ O.writes output.old + length (O.written output.new) + 1 }
+        ensures turns { m.new.turns.number + length (O.written output.old) ≤ m.old.turns.number + length (O.written output.new) + 1 }
+        ensures steps { m.new.steps.number ≡ m.old.steps.number }
+        ensures greatest { m.new.greatest.number ≡ m.old.greatest.number }
+    {
+        let copied = copied_len(run.kind, run.blocks, size);
+        let head = head_len(run.kind);
+        if self.chunks == 0 || head + copied > self.bytes {
+            return Err(PieceFault::SourceChanged);
+        }
+        if let Err(fault) = write_front(output, run.kind, run.blocks, (head + copied) as u32, m) {
+            return Err(PieceFault::Write(fault));
+        }
+        self.chunks -= 1;
+        self.bytes -= head;
+        self.copying = copy_from(run, copied);
+        Ok(())
+    }
+
+    /// Looks for the end of the open run, and begins the chunk of a run that has ended. One step.
+    fn look<R: BlockRuns, S: Source, O: Output>(
+        &mut self,
+        runs: &mut R,
+        source: &mut S,
+        output: &mut O,
+        w: &mut Window,
+        m: &mut Meter,
+    ) -> Result<(), PieceFault>
+        requires sound { SoundWriter (R.within runs.old) (R.reach runs.old) (R.count runs.old) (R.size runs.old) self.old }
+        requires opened { IsTrue S.tells → R.opened runs.old (S.content source.old) }
+        requires told { IsTrue S.tells → ToldWriter (R.place runs.old (S.content source.old)) (R.together runs.old (S.content source.old)) (R.list runs.old (S.content source.old)) self.old }
+        requires none { self.old.copying ≡ None }
+        requires going { ends self.old.gatherer.kind ≡ false }
+        ensures same { runs.new ≡ runs.old }
+        ensures content { IsTrue S.tells → S.content source.new ≡ S.content source.old }
+        ensures frame { S.read_frame source.new ≡ S.read_frame source.old }
+        ensures sound { OnOk result (SoundWriter (R.within runs.old) (R.reach runs.old) (R.count runs.old) (R.size runs.old) self.new) }
+        ensures told { IsTrue S.tells → OnOk result (ToldWriter (R.place runs.old (S.content source.old)) (R.together runs.old (S.content source.old)) (R.list runs.old (S.content source.old)) self.new) }
+        ensures segment { (self.new.first ≡ self.old.first) × (self.new.past ≡ self.old.past) }
+        ensures grown { length (O.written output.old) ≤ length (O.written output.new) }
+        ensures within { length (O.written output.new) ≤ length (O.written output.old) + self.old.bytes }
+        ensures counted { OnOk result (length (O.written output.new) + self.new.bytes ≡ length (O.written output.old) + self.old.bytes) }
+        ensures few { length (O.written output.new) ≤ length (O.written output.old) + (S.given source.new - S.given source.old) + 80 }
+        ensures front { IsTrue S.tells → O.written output.new ≡ O.written output.old ++ take (length (O.written output.new) - length (O.written output.old)) (rest_of (frame_of (R.list runs.old (S.content source.old)) self.old) self.old) }
+        ensures rest { IsTrue S.tells → OnOk result (rest_of (frame_of (R.list runs.old (S.content source.old)) self.old) self.new ≡ drop (length (O.written output.new) - length (O.written output.old)) (rest_of (frame_of (R.list runs.old (S.content source.old)) self.old) self.old)) }
+        ensures write_frame { O.write_frame output.new ≡ O.write_frame output.old }
+        ensures write_faults { O.write_faults output.old ≤ O.write_faults output.new }
+        ensures cause { IfErr result (λ e. HasCause e S.tells (S.read_faults source.old) (S.read_faults source.new) (O.write_faults output.old) (O.write_faults output.new)) }
+        ensures left { OnOk result (write_left (R.left runs.old) (R.count runs.old) self.new < write_left (R.left runs.old) (R.count runs.old) self.old) }
+        ensures given { S.given source.old ≤ S.given source.new }
+        ensures received { S.given source.new ≤ S.given source.old + 65536 }
+        ensures steps { m.new.steps.number ≡ m.old.steps.number + 1 }
+        ensures greatest { m.new.greatest.number ≡ max m.old.greatest.number (S.given source.new - S.given source.old) }
+        ensures faults { S.read_faults source.old ≤ S.read_faults source.new }
+    {
+        let size = runs.block_size();
+        let mut gatherer = self.gatherer;
+        let run = match gatherer.gather(runs, source, self.first, self.past, w, m) {
+            Ok(run) => run,
+            Err(fault) => return Err(run_fault(fault)),
+        };
+        self.gatherer = gatherer;
+        match run {
+            Some(run) => self.begin_chunk(run, size, output, m),
+            None => Ok(()),
+        }
+    }
+
+    /// Finds the next part of the raw run that is being copied. One step.
+    fn next_raw<R: BlockRuns, S: Source>(
+        &mut self,
+        copying: Copying,
+        runs: &mut R,
+        source: &mut S,
+        w: &mut Window,
+        m: &mut Meter,
+    ) -> Result<(), PieceFault>
+        requires sound { SoundWriter (R.within runs.old) (R.reach runs.old) (R.count runs.old) (R.size runs.old) self.old }
+        requires opened { IsTrue S.tells → R.opened runs.old (S.content source.old) }
+        requires told { IsTrue S.tells → ToldWriter (R.place runs.old (S.content source.old)) (R.together runs.old (S.content source.old)) (R.list runs.old (S.content source.old)) self.old }
+        requires is { self.old.copying ≡ Some copying }
+        requires whole { copying.done ≡ copying.size }
+        ensures same { runs.new ≡ runs.old }
+        ensures content { IsTrue S.tells → S.content source.new ≡ S.content source.old }
+        ensures frame { S.read_frame source.new ≡ S.read_frame source.old }
+        ensures sound { OnOk result (SoundWriter (R.within runs.old) (R.reach runs.old) (R.count runs.old) (R.size runs.old) self.new) }
+        ensures told { IsTrue S.tells → OnOk result (ToldWriter (R.place runs.old (S.content source.old)) (R.together runs.old (S.content source.old)) (R.list runs.old (S.content source.old)) self.new) }
+        ensures segment { (self.new.first ≡ self.old.first) × (self.new.past ≡ self.old.past) }
+        ensures bytes { self.new.bytes ≡ self.old.bytes }
+        ensures rest { IsTrue S.tells → OnOk result (rest_of (frame_of (R.list runs.old (S.content source.old)) self.old) self.new ≡ rest_of (frame_of (R.list runs.old (S.content source.old)) self.old) self.old) }
+        ensures left { OnOk result (write_left (R.left runs.old) (R.count runs.old) self.new < write_left (R.left runs.old) (R.count runs.old) self.old) }
+        ensures given { S.given source.old ≤ S.given source.new }
+        ensures received { S.given source.new ≤ S.given source.old + 65536 }
+        ensures steps { m.new.steps.number ≡ m.old.steps.number + 1 }
+        ensures greatest { m.new.greatest.number ≡ max m.old.greatest.number (S.given source.new - S.given source.old) }
+        ensures faults { S.read_faults source.old ≤ S.read_faults source.new }
+        ensures cause { IfErr result (λ e. HasCause e S.tells (S.read_faults source.old) (S.read_faults source.new) 0 0) }
+    {
+        let until = self.gatherer.at.block - self.gatherer.count;
+        let size = runs.block_size();
+        let part = match runs.next_part(source, copying.next, until - copying.next.block, w, m) {
+            Ok(part) => part,
+            Err(fault) => return Err(run_fault(fault)),
+        };
+        match copying.and_part(part, size) {
+            Some(next) => {
+                self.copying = Some(next);
+                Ok(())
+            }
+            None => Err(PieceFault::SourceChanged),
+        }
+    }
+
+    /// Copies bytes of the raw run, up to a window. One step.
+    fn copy_bytes<R: BlockRuns, S: Source, O: Output>(
+        &mut self,
+        copying: Copying,
+        runs: &mut R,
+        source: &mut S,
+        output: &mut O,
+        w: &mut Window,
+        m: &mut Meter,
+    ) -> Result<(), PieceFault>
+        requires sound { SoundWriter (R.within runs.old) (R.reach runs.old) (R.count runs.old) (R.size runs.old) self.old }
+        requires opened { IsTrue S.tells → R.opened runs.old (S.content source.old) }
+        requires told { IsTrue S.tells → ToldWriter (R.place runs.old (S.content source.old)) (R.together runs.old (S.content source.old)) (R.list runs.old (S.content source.old)) self.old }
+        requires is { self.old.copying ≡ Some copying }
+        requires more { copying.done < copying.size }
+        ensures same { runs.new ≡ runs.old }
+        ensures content { IsTrue S.tells → S.content source.new ≡ S.content source.old }
+        ensures frame { S.read_frame source.new ≡ S.read_frame source.old }
+        ensures sound { OnOk result (SoundWriter (R.within runs.old) (R.reach runs.old) (R.count runs.old) (R.size runs.old) self.new) }
+        ensures told { IsTrue S.tells → OnOk result (ToldWriter (R.place runs.old (S.content source.old)) (R.together runs.old (S.content source.old)) (R.list runs.old (S.content source.old)) self.new) }
+        ensures segment { (self.new.first ≡ self.old.first) × (self.new.past ≡ self.old.past) }
+        ensures grown { length (O.written output.old) ≤ length (O.written output.new) }
+        ensures within { length (O.written output.new) ≤ length (O.written output.old) + self.old.bytes }
+        ensures counted { OnOk result (length (O.written output.new) + self.new.bytes ≡ length (O.written output.old) + self.old.bytes) }
+        ensures few { length (O.written output.new) ≤ length (O.written output.old) + (S.given source.new - S.given source.old) + 80 }
+        ensures front { IsTrue S.tells → O.written output.new ≡ O.written output.old ++ take (length (O.written output.new) - length (O.written output.old)) (rest_of (frame_of (R.list runs.old (S.content source.old)) self.old) self.old) }
+        ensures rest { IsTrue S.tells → OnOk result (rest_of (frame_of (R.list runs.old (S.content source.old)) self.old) self.new ≡ drop (length (O.written output.new) - length (O.written output.old)) (rest_of (frame_of (R.list runs.old (S.content source.old)) self.old) self.old)) }
+        ensures write_frame { O.write_frame output.new ≡ O.write_frame output.old }
+        ensures write_faults { O.write_faults output.old ≤ O.write_faults output.new }
+        ensures cause { IfErr result (λ e. HasCause e S.tells (S.read_faults source.old) (S.read_faults source.new) (O.write_faults output.old) (O.write_faults output.new)) }
+        ensures left { OnOk result (write_left (R.left runs.old) (R.count runs.old) self.new < write_left (R.left runs.old) (R.count runs.old) self.old) }
+        ensures given { S.given source.old ≤ S.given source.new }
+        ensures received { S.given source.new ≤ S.given source.old + 65536 }
+        ensures steps { m.new.steps.number ≡ m.old.steps.number + 1 }
+        ensures greatest { m.new.greatest.number ≡ max m.old.greatest.number (S.given source.new - S.given source.old) }
+        ensures faults { S.read_faults source.old ≤ S.read_faults source.new }
+    {
+        let ask = (copying.size - copying.done).min(WINDOW as u64) as usize;
+        w.is_whole();
+        let count = match runs.copy(source, copying.here, copying.done, w.part_mut(0, ask), m) {
+            Ok(count) => count,
+            Err(fault) => return Err(run_fault(fault)),
+        };
+        if let Err(fault) = write_out(output, w.part(0, count), m) {
+            return Err(PieceFault::Write(fault));
+        }
+        self.copying = copying.and_bytes(count as u64);
+        self.bytes -= count as u64;
+        Ok(())
+    }
+
+    /// Whether all that was planned is written. Else the source has changed since.
+    fn end(&self) -> Result<bool, PieceFault>
+        ensures whole { IfOk result (λ d. (d ≡ true) × (self.now.bytes ≡ 0) × (self.now.chunks ≡ 0)) }
+        ensures refused { IfErr result (λ e. (e ≡ PieceFault.SourceChanged) × ((self.now.bytes ≡ 0) × (self.now.chunks ≡ 0) → ⊥)) }
+    {
+        if self.chunks == 0 && self.bytes == 0 {
+            return Ok(true);
+        }
+        Err(PieceFault::SourceChanged)
+    }
+
+    /// One step of the piece: True where it is whole.
+    pub fn step<R: BlockRuns, S: Source, O: Output>(
+        &mut self,
+        runs: &mut R,
+        source: &mut S,
+        output: &mut O,
+        w: &mut Window,
+        m: &mut Meter,
+    ) -> Result<bool, PieceFault>
+        requires sound { SoundWriter (R.within runs.old) (R.reach runs.old) (R.count runs.old) (R.size runs.old) self.old }
+        requires opened { IsTrue S.tells → R.opened runs.old (S.content source.old) }
+        requires told { IsTrue S.tells → ToldWriter (R.place runs.old (S.content source.old)) (R.together runs.old (S.content source.old)) (R.list runs.old (S.content source.old)) self.old }
+        ensures same { runs.new ≡ runs.old }
+        ensures content { IsTrue S.tells → S.content source.new ≡ S.content source.old }
+        ensures frame { S.read_frame source.new ≡ S.read_frame source.old }
+        ensures sound { OnOk result (SoundWriter (R.within runs.old) (R.reach runs.old) (R.count runs.old) (R.size runs.old) self.new) }
+        ensures told { IsTrue S.tells → OnOk result (ToldWriter (R.place runs.old (S.content source.old)) (R.together runs.old (S.content source.old)) (R.list runs.old (S.content source.old)) self.new) }
+        ensures segment { (self.new.first ≡ self.old.first) × (self.new.past ≡ self.old.past) }
+        ensures grown { length (O.written output.old) ≤ length (O.written output.new) }
+        ensures within { length (O.written output.new) ≤ length (O.written output.old) + self.old.bytes }
+        ensures counted { OnOk result (length (O.written output.new) + self.new.bytes ≡ length (O.written output.old) + self.old.bytes) }
+        ensures few { length (O.written output.new) ≤ length (O.written output.old) + (S.given source.new - S.given source.old) + 80 }
+        ensures front { IsTrue S.tells → O.written output.new ≡ O.written output.old ++ take (length (O.written output.new) - length (O.written output.old)) (rest_of (frame_of (R.list runs.old (S.content source.old)) self.old) self.old) }
+        ensures rest { IsTrue S.tells → OnOk result (rest_of (frame_of (R.list runs.old (S.content source.old)) self.old) self.new ≡ drop (length (O.written output.new) - length (O.written output.old)) (rest_of (frame_of (R.list runs.old (S.content source.old)) self.old) self.old)) }
+        ensures write_frame { O.write_frame output.new ≡ O.write_frame output.old }
+        ensures write_faults { O.write_faults output.old ≤ O.write_faults output.new }
+        ensures cause { IfErr result (λ e. HasCause e S.tells (S.read_faults source.old) (S.read_faults source.new) (O.write_faults output.old) (O.write_faults output.new)) }
+        ensures left { IfOk result (λ d. d ≡ false → write_left (R.left runs.old) (R.count runs.old) self.new < write_left (R.left runs.old) (R.count runs.old) self.old) }
+        ensures ended { IfOk result (λ d. d ≡ true → (self.old.bytes ≡ 0) × (O.written output.new ≡ O.written output.old)) }
+        ensures given { S.given source.old ≤ S.given source.new }
+        ensures received { S.given source.new ≤ S.given source.old + 65536 }
+        ensures steps { m.new.steps.number ≡ m.old.steps.number + 1 }
+        ensures greatest { m.new.greatest.number ≡ max m.old.greatest.number (S.given source.new - S.given source.old) }
+        ensures faults { S.read_faults source.old ≤ S.read_faults source.new }
+    {
+        match self.copying {
+            Some(copying) => {
+                if copying.done == copying.size {
+                    self.next_raw(copying, runs, source, w, m)?;
+                } else {
+                    self.copy_bytes(copying, runs, source, output, w, m)?;
+                }
+                Ok(false)
+            }
+            None => {
+                if self.gatherer.is_done() {
+                    m.close_step(0);
+                    return self.end();
+                }
+                self.look(runs, source, output, w, m)?;
+                Ok(false)
+            }
+        }
+    }
+}
+
+/// Writes all chunks of a piece that are still to come.
+pub fn write_chunks<R: BlockRuns, S: Source, O: Output>(
+    from: Writer,
+    runs: &mut R,
+    source: &mut S,
+    output: &mut O,
+    w: &mut Window,
+    m: &mut Meter,
+) -> Result<(), PieceFault>
+    requires sound { SoundWriter (R.within runs.old) (R.reach runs.old) (R.count runs.old) (R.size runs.old) from }
+    requires opened { IsTrue S.tells → R.opened runs.old (S.content source.old) }
+    requires told { IsTrue S.tells → ToldWriter (R.place runs.old (S.content source.old)) (R.together runs.old (S.content source.old)) (R.list runs.old (S.content source.old)) from }
+    ensures same { runs.new ≡ runs.old }
+    ensures content { IsTrue S.tells → S.content source.new ≡ S.content source.old }
+    ensures frame { S.read_frame source.new ≡ S.read_frame source.old }
+    ensures write_frame { O.write_frame output.new ≡ O.write_frame output.old }
+    ensures grown { length (O.written output.old) ≤ length (O.written output.new) }
+    ensures within { length (O.written output.new) ≤ length (O.written output.old) + from.bytes }
+    ensures long { OnOk result (length (O.written output.new) ≡ length (O.written output.old) + from.bytes) }
+    ensures front { IsTrue S.tells → O.written output.new ≡ O.written output.old ++ take (length (O.written output.new) - length (O.written output.old)) (rest_of (frame_of (R.list runs.old (S.content source.old)) from) from) }
+    ensures whole { IsTrue S.tells → OnOk result (O.written output.new ≡ O.written output.old ++ rest_of (frame_of (R.list runs.old (S.content source.old)) from) from) }
+    ensures given { S.given source.old ≤ S.given source.new }
+    ensures faults { S.read_faults source.old ≤ S.read_faults source.new }
+    ensures write_faults { O.write_faults output.old ≤ O.write_faults output.new }
+    ensures cause { IfErr result (λ e. HasCause e S.tells (S.read_faults source.old) (S.read_faults source.new) (O.write_faults output.old) (O.write_faults output.new)) }
+{
+    let mut writer = from;
+    while !writer.step(runs, source, output, w, m)? {
+        m.tick();
+    }
+    Ok(())
+}

@@ -1,0 +1,10 @@
+pub mod AllWords
+pub mod Classes
+pub mod Charges
+pub mod Lanes
+pub mod Copied
+pub mod Alike
+pub mod Growing
+pub mod Opened
+pub mod Chunked
+pub mod Passing

@@ -1,0 +1,20 @@
+use Rattle.std.proofs.Common.{◌≡◌, ◌≤◌, ◌<◌, ◌+◌, ◌-◌, ◌*◌, ◌/◌, length}
+use Rattle.abt_runs.specs.Part.{AllOf}
+use Rattle.abt_runs.specs.Words.{kind_of_word}
+use Rattle.abt_runs.proofs.Classes.{classes}
+use Rattle.abt_runs.proofs.raw.leading.Given as goal
+
+abbrev pub invariant-loop-count : goal.invariant-loop-count
+invariant-loop-count l = record {
+  kind : l.kind ≡ kind_of_word l.word;
+  some : 0 < l.count;
+  within : l.count ≤ l.n;
+  at : l.at ≡ l.count * l.size;
+  all : AllOf (kind_of_word l.word) (classes l.size l.count l.blocks);
+  turns : 2 * l.m.turns.number + l.size / 2 ≤ 2 * l.fn.m.turns.number + l.at;
+  steps : l.m.steps.number ≡ l.fn.m.steps.number;
+  greatest : l.m.greatest.number ≡ l.fn.m.greatest.number;
+}
+
+abbrev pub decreases-loop-count : goal.decreases-loop-count
+decreases-loop-count l = l.n - l.count

@@ -1,0 +1,79 @@
+use Rattle.std.proofs.Common.{◌≡◌, ℕ, ◌+◌, ◌*◌, ◌-◌, ◌<◌, ◌≤◌, max, arith, ap, sym, ◌∙◌, subst, mul-le-mul_right, Bool}
+use Rattle.std.specs.Prelude.{IsTrue}
+use Rattle.abt_runs.specs.declared.part.Cursor.{Cursor}
+use Rattle.abt_runs.specs.declared.part.RunFault.{RunFault}
+use Rattle.abt_runs.specs.declared.part.RunFault.TheVariants.{Sparse, Read, TooLarge, SourceChanged, BadBlock}
+use Rattle.abt_runs.specs.Part.{Caused}
+use Rattle.abt_runs.proofs.Growing.{joins, rests, so_far, stops, is_full, next_is, blocks_are, here_is, none_is, raw_is, few_are, no_room}
+use Rattle.abt_runs.proofs.runs.BlockRuns.next_run.Goals as goal
+
+later : (e : RunFault) (tells : Bool) (a b c : ℕ) → a ≤ b → Caused e tells b c → Caused e tells a c
+later (Sparse f) tells a b c le h = h
+later (Read f) tells a b c le h = omega arith
+later TooLarge tells a b c le h = h
+later SourceChanged tells a b c le h = h
+later (BadBlock n) tells a b c le h = h
+
+at_least : (n size reach : ℕ) → 0 < n → n * size ≤ reach → size ≤ reach
+at_least n size reach some le = let m : 1 * size ≤ n * size = mul-le-mul_right size (let z : 1 ≤ n = omega arith in z) in omega arith
+
+turns_more : (t t0 t1 g g0 g1 s0 s1 one padding : ℕ) → t0 ≡ t → t1 ≤ t0 + 1 + 2 * (g1 - g) + 2 + padding → 4 * padding ≤ one → g0 ≤ g → g ≤ g1 → (a : ℕ) → t + (3 + one) * s0 ≤ a + 2 * (g - g0) + (3 + one) * s1 → t1 + (3 + one) * s0 ≤ a + 2 * (g1 - g0) + (3 + one) * (s1 + 1)
+turns_more t t0 t1 g g0 g1 s0 s1 one padding e few small le ge a h = let d : (3 + one) * (s1 + 1) ≡ (3 + one) * s1 + (3 + one) = omega arith in omega arith
+
+pub parts-preserved : goal.parts-preserved
+parts-preserved g c =
+    let runs = g.Self.BlockRuns in
+    let i = c.parts.invariant in
+    let e = c.in-Ok.ensures in
+    let self = c.args.self.now in
+    let x = g.S.Source.content c.args.source.now in
+    let r = c.parts.run in
+    let p = c.in-Ok.part in
+    let s = c.in-Some.longer in
+    let j = joins r p s (sym c.joined.ensures ∙ c.in-Some.is) in
+    let at : r.next.block ≡ c.args.from.block + r.blocks = i.next in
+    let moved : p.next.block ≡ r.next.block + p.blocks = e.moved in
+    let first : p.here.block ≡ r.next.block = e.here.0 in
+    let same : s.next ≡ p.next = next_is r p s j in
+    let blocks : s.blocks ≡ r.blocks + p.blocks = blocks_are r p s j in
+    let tick = c.tick.ensures in
+    let steps : c.next_part.new.m.steps.number ≡ c.parts.m.steps.number + 1 = e.steps ∙ ap (λ (n : ℕ). n + 1) tick.steps in
+    let padded = (g.met.Self.BlockRuns.padded c.parts.self r.next).0 in
+    record {
+      same = e.same ∙ i.same;
+      kept = λ t. e.content t ∙ i.kept t;
+      frame = e.frame ∙ i.frame;
+      so_far = λ t. so_far (runs.list self x) c.args.from.block r p s j (i.so_far t) (rw (i.same, i.kept t) at (e.part t));
+      here_place = λ t. here_is (λ (h : Cursor). runs.place self x h) r p s j (i.here_place t) (λ z. rw (i.same, i.kept t) at (e.here_place t)) (λ z n. rw (i.same, i.kept t) at (e.place t));
+      next_place = λ t. subst (λ (h : Cursor). runs.place self x h) (sym same) (rw (i.same, i.kept t) at (e.place t));
+      stands = λ t k. raw_is (λ (h : Cursor). 0 < runs.together self x h) r p s j i.none (i.stands t) (λ k' some. let f : p.blocks ≤ runs.together self x p.here = rw (i.same, i.kept t) at (e.stands t k') in omega arith) k;
+      here_within = here_is (λ (h : Cursor). runs.within self h) r p s j i.here_within (λ z. rw i.same at e.here.1) (λ z n. rw i.same at e.within);
+      next_within = subst (λ (h : Cursor). runs.within self h) (sym same) (rw i.same at e.within);
+      reached = λ k. raw_is (λ (h : Cursor). runs.size self ≤ runs.reach self h) r p s j i.none i.reached (λ k' some. at_least p.blocks (runs.size self) (runs.reach self p.here) some (rw i.same at (e.reached k'))) k;
+      here = here_is (λ (h : Cursor). h.block ≡ c.args.from.block) r p s j i.here (λ z. omega arith) (λ z n. omega arith);
+      next = ap (λ (h : Cursor). h.block) same ∙ (let z : p.next.block ≡ c.args.from.block + s.blocks = omega arith in z);
+      none = none_is r p s j i.none;
+      few = few_are c.args.cap r p s j i.none i.few (λ k. let f = e.capped.raw k in omega (arith, f, c.room-room.ensures));
+      more = omega (arith, i.more, e.given);
+      received = let a = i.received in let b = e.received in omega (arith, a, b, steps);
+      calls = let a = i.calls in let b = e.calls in omega (arith, a, b, steps, i.more, e.given);
+      turns = let a = i.turns in let b = e.turns in rw steps (rw i.same at (turns_more c.parts.m.turns.number c.parts.m.turns.number c.next_part.new.m.turns.number (g.S.Source.given c.parts.source) (g.S.Source.given c.args.source.now) (g.S.Source.given c.next_part.new.source) c.args.m.now.steps.number c.parts.m.steps.number (runs.one c.parts.self) (runs.padding c.parts.self r.next) (let z : c.parts.m.turns.number ≡ c.parts.m.turns.number = omega arith in z) (omega (arith, b, tick.turns)) padded i.more e.given c.args.m.now.turns.number (rw i.same a)));
+      greatest = let a = i.greatest in let b = e.greatest in let d = e.received in omega (arith, a, b, d, tick.greatest);
+      faults = omega (arith, i.faults, e.faults);
+    }
+
+pub returns-then-room-eq0-clause-run : goal.returns-then-room-eq0-clause-run
+returns-then-room-eq0-clause-run g c tells =
+    let i = c.parts.invariant in
+    let n = no_room c.args.cap c.parts.run.blocks c.parts.run.kind c.requires.some (sym c.room-room.ensures ∙ c.if-room-eq0.true) in
+    let few = i.few n.0 in
+    is_full c.args.cap _ c.args.from.block c.parts.run (i.so_far tells) n.0 (omega (arith, n.1, few)) c.requires.some
+
+pub returns-in-Err-clause-cause : goal.returns-in-Err-clause-cause
+returns-in-Err-clause-cause g c = later c.in-Err.fault _ _ _ _ c.parts.invariant.faults c.in-Err.ensures.cause
+
+pub returns-in-None-clause-run : goal.returns-in-None-clause-run
+returns-in-None-clause-run g c tells =
+    let i = c.parts.invariant in
+    let e = c.in-Ok.ensures in
+    stops c.args.cap _ c.args.from.block c.parts.run c.in-Ok.part (rests c.parts.run c.in-Ok.part (sym c.joined.ensures ∙ c.in-None.is)) (i.so_far tells) (rw (i.same, i.kept tells) at (e.part tells)) i.none i.few

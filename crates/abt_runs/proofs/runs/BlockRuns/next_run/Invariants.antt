@@ -1,0 +1,36 @@
+use Rattle.std.proofs.Common.{◌≡◌, ◌≤◌, ◌<◌, ◌+◌, ◌*◌, ◌-◌, max}
+use Rattle.std.specs.Prelude.{IsTrue}
+use Rattle.abt_runs.specs.declared.part.RunKind.TheVariants as kinds
+use Rattle.abt_runs.proofs.Growing.{SoFar}
+use Rattle.abt_runs.proofs.runs.BlockRuns.next_run.Given as goal
+
+abbrev pub invariant-parts : goal.invariant-parts
+invariant-parts g l =
+    let runs = g.Self.BlockRuns in
+    let content = g.S.Source.content in
+    let self = l.fn.self in
+    record {
+      same : l.self ≡ self;
+      kept : IsTrue g.S.Source.tells → content l.source ≡ content l.fn.source;
+      frame : g.S.Source.read_frame l.source ≡ g.S.Source.read_frame l.fn.source;
+      so_far : IsTrue g.S.Source.tells → SoFar (runs.list self (content l.fn.source)) l.fn.from.block l.run;
+      here_place : IsTrue g.S.Source.tells → runs.place self (content l.fn.source) l.run.here;
+      next_place : IsTrue g.S.Source.tells → runs.place self (content l.fn.source) l.run.next;
+      stands : IsTrue g.S.Source.tells → l.run.kind ≡ kinds.Raw → 0 < runs.together self (content l.fn.source) l.run.here;
+      here_within : runs.within self l.run.here;
+      next_within : runs.within self l.run.next;
+      reached : l.run.kind ≡ kinds.Raw → runs.size self ≤ runs.reach self l.run.here;
+      here : l.run.here.block ≡ l.fn.from.block;
+      next : l.run.next.block ≡ l.fn.from.block + l.run.blocks;
+      none : l.run.blocks ≡ 0 → l.run.kind ≡ kinds.End;
+      few : l.run.kind ≡ kinds.Raw → l.run.blocks ≤ l.cap;
+      more : g.S.Source.given l.fn.source ≤ g.S.Source.given l.source;
+      received : g.S.Source.given l.source + 65536 * l.fn.m.steps.number ≤ g.S.Source.given l.fn.source + 65536 * l.m.steps.number;
+      calls : g.S.Source.reads l.source + 2 * l.fn.m.steps.number ≤ g.S.Source.reads l.fn.source + (g.S.Source.given l.source - g.S.Source.given l.fn.source) + 2 * l.m.steps.number;
+      turns : l.m.turns.number + (3 + runs.one self) * l.fn.m.steps.number ≤ l.fn.m.turns.number + 2 * (g.S.Source.given l.source - g.S.Source.given l.fn.source) + (3 + runs.one self) * l.m.steps.number;
+      greatest : l.m.greatest.number ≤ max l.fn.m.greatest.number 65536;
+      faults : g.S.Source.read_faults l.fn.source ≤ g.S.Source.read_faults l.source;
+    }
+
+abbrev pub decreases-parts : goal.decreases-parts
+decreases-parts g l = g.Self.BlockRuns.left l.self l.run.next

@@ -1,0 +1,11 @@
+pub mod Number
+pub mod Part
+pub mod Words
+pub mod Whole
+pub mod Raw
+pub mod RawLaws
+pub mod Sparse
+pub mod Head
+pub mod Stage
+pub mod Verdict
+pub mod SparseLaws

@@ -1,0 +1,69 @@
+-- What a part of an image is.
+use Rattle.std.specs.Prelude.{◌≡◌, ℕ, ◌+◌, ◌*◌, ◌≤◌, ◌<◌, Bool, true, false, IsTrue, List, [], ◌∷◌, length, take, drop, replicate, ⊤, ◌==◌, nat_lt, nat_le, ◌&&◌, if◌then◌else◌}
+use Rattle.std.specs.List.{AllByRecursion, flat_map}
+use Rattle.abt_sparse.specs.Chunk.{raw_bytes}
+use Rattle.abt_sparse.specs.Block.{Block}
+use Rattle.abt_sparse.specs.Block as blocks
+use Rattle.abt_runs.specs.declared.part.Cursor.{Cursor}
+use Rattle.abt_runs.specs.declared.part.Run.{Run}
+use Rattle.abt_runs.specs.declared.part.RunKind.{RunKind}
+use Rattle.abt_runs.specs.declared.part.RunKind.TheVariants.{Raw, Fill, Skip, End}
+use Rattle.abt_runs.specs.declared.part.RunFault.{RunFault}
+use Rattle.abt_runs.specs.declared.part.RunFault.TheVariants.{Sparse, Read, TooLarge, SourceChanged, BadBlock}
+
+abbrev pub is_end : RunKind → Bool
+is_end End = true
+is_end k = false
+
+abbrev pub IsRaw : Block → Type 0
+IsRaw (blocks.Raw x) = ⊤
+IsRaw b = ⊥
+
+-- blocks that are all of one kind
+abbrev pub AllOf : RunKind → List Block → Type 0
+AllOf Raw xs = AllByRecursion IsRaw xs
+AllOf (Fill w) xs = xs ≡ replicate (length xs) (blocks.Fill w)
+AllOf Skip xs = xs ≡ replicate (length xs) blocks.Skip
+AllOf End xs = xs ≡ []
+
+-- the part r begins at block i of the image
+pub record PartOf (l : List Block) (i : ℕ) (r : Run) : Type 0 where
+  pub within : i + r.blocks ≤ length l
+  pub next : r.next.block ≡ i + r.blocks
+  pub all : AllOf r.kind (take r.blocks (drop i l))
+  pub ended : IsTrue (is_end r.kind) → i ≡ length l
+
+-- what is left grows less, unless this is the end
+abbrev pub MovesOn : (Cursor → ℕ) → Cursor → Run → Type 0
+MovesOn left from r = is_end r.kind ≡ false → left r.next < left from
+
+-- raw blocks are at most so many, and there are so many more before the next place
+pub record Capped (cap : ℕ) (r : Run) : Type 0 where
+  pub raw : r.kind ≡ Raw → r.blocks ≤ cap
+
+-- a device has failed, or one that tells nothing has changed
+abbrev pub Caused : RunFault → Bool → ℕ → ℕ → Type 0
+Caused (Read f) tells before after = before < after
+Caused SourceChanged tells before after = tells ≡ false
+Caused (Sparse f) tells before after = ⊥
+Caused TooLarge tells before after = ⊥
+Caused (BadBlock n) tells before after = ⊥
+
+-- what a part may read besides what it passes: where it begins inside a chunk, that chunk's header
+abbrev pub entry : Cursor → ℕ
+entry c = if c.used == 0 then 0 else 16
+
+-- how many blocks of a raw image are asked for next, where so many of those that were asked for were alike
+abbrev pub next_ask : ℕ → ℕ → ℕ → ℕ → ℕ
+next_ask ask asked blocks size = if nat_lt blocks asked then 1 else if (asked == ask) && nat_le (2 * ask * size) 65536 then 2 * ask else ask
+
+-- the bytes of raw blocks
+abbrev pub raw_of : List Block → List ℕ
+raw_of l = flat_map raw_bytes l
+
+-- how many bytes a part takes in a piece: raw blocks their bytes, and a chunk's header where they begin one
+abbrev pub piece_bytes : ℕ → ℕ → RunKind → ℕ → ℕ
+piece_bytes size used Raw n = (if used == 0 then 12 else 0) + n * size
+piece_bytes size used (Fill w) n = 16
+piece_bytes size used Skip n = 12
+piece_bytes size used End n = 0

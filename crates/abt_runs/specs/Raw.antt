@@ -1,0 +1,28 @@
+-- Places of a raw image.
+use Rattle.std.specs.Prelude.{◌≡◌, ℕ, ◌+◌, ◌-◌, ◌*◌, ◌≤◌, ◌<◌, ◌/◌, ◌%◌, ◌^◌, ◌==◌, nat_lt, if◌then◌else◌}
+use Rattle.abt_runs.specs.declared.part.RunFault.{RunFault}
+use Rattle.abt_runs.specs.declared.part.RunFault.TheVariants.{Sparse, Read, TooLarge, SourceChanged, BadBlock}
+use Rattle.abt_runs.specs.declared.part.Cursor.{Cursor}
+
+pub record RawPlace (blocks size : ℕ) (c : Cursor) : Type 0 where
+  pub within : c.block ≤ blocks
+  pub some : 0 < c.ask
+  pub window : c.ask * size ≤ 65536
+  pub passed : c.ask ≤ 2 * c.block + 1
+  pub used : c.used ≡ 0
+
+-- how many bytes a pass may have read: twice those passed, less what was asked for in advance
+abbrev pub raw_charge : ℕ → ℕ → ℕ → Cursor → ℕ
+raw_charge long blocks size c = if nat_lt c.block blocks then (2 * c.block + 1 - c.ask) * size else 2 * long
+
+-- why a raw image isn't opened
+abbrev pub Refused : RunFault → ℕ → ℕ → Type 0
+Refused (BadBlock n) size long = (n ≡ size) × ((4 ≤ size) × (size ≤ 65536) × (size % 4 ≡ 0) → ⊥)
+Refused TooLarge size long = (4 ≤ size) × (size ≤ 65536) × (size % 4 ≡ 0) × ((2 ^ 32 - 1) * size < long)
+Refused (Sparse f) size long = ⊥
+Refused (Read f) size long = ⊥
+Refused SourceChanged size long = ⊥
+
+-- how many words of the last block may be zeros that were not read
+abbrev pub raw_padding : ℕ → ℕ → Cursor → ℕ
+raw_padding blocks size c = if c.block + 1 == blocks then size / 4 else 0

@@ -1,0 +1,37 @@
+-- What is so at each stage of an opening.
+use Rattle.std.specs.Prelude.{◌≡◌, Bool, true, false, Result, Ok, Err, ⊤}
+use Rattle.abt_runs.specs.declared.part.RunFault.{RunFault}
+use Rattle.abt_runs.specs.declared.stage.Stage.{Stage}
+use Rattle.abt_runs.specs.declared.stage.Stage.TheVariants.{Header, Chunks, Done, Failed}
+use Rattle.abt_runs.specs.declared.stage.Progress.{Progress}
+use Rattle.abt_runs.specs.declared.stage.Progress.TheVariants as answers
+
+abbrev pub is_first : Stage → Bool
+is_first Header = true
+is_first s = false
+
+-- the image's header was read and is good
+abbrev pub is_behind : Stage → Bool
+is_behind Chunks = true
+is_behind Done = true
+is_behind s = false
+
+abbrev pub is_done : Stage → Bool
+is_done Done = true
+is_done s = false
+
+-- it answers what it answered before
+abbrev pub IsOver : Stage → Type 0
+IsOver Done = ⊤
+IsOver (Failed f) = ⊤
+IsOver s = ⊥
+
+-- the stage that an answer leaves
+abbrev pub Leaves : Result Progress RunFault → Stage → Type 0
+Leaves (Ok answers.More) s = s ≡ Chunks
+Leaves (Ok answers.Done) s = s ≡ Done
+Leaves (Err f) s = s ≡ Failed f
+
+abbrev pub is_more : Result Progress RunFault → Bool
+is_more (Ok answers.More) = true
+is_more r = false

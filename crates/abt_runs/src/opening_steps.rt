@@ -1,0 +1,286 @@
+//! The steps of an opening.
+ghost use Rattle.std.specs.Prelude.{◌≡◌, ◌<◌, ◌≤◌, ◌+◌, ◌-◌, ◌^◌, ℕ, List, IsTrue, IfOk, IfErr, OnOk, Result, Ok, Err, length, take, drop, max, true, false};
+ghost use Rattle.abt_sparse.specs.Chunk.{Header};
+ghost use Rattle.abt_sparse.specs.Reading.{outcome, kind_at, number_at};
+ghost use Rattle.abt_sparse.specs.View.{view};
+ghost use Rattle.abt_sparse.specs.declared.fault.SparseFault.{SparseFault as SparseFaults};
+ghost use Rattle.abt_runs.specs.Stage.{Leaves, IsOver, is_done, is_more};
+ghost use Rattle.abt_runs.specs.Verdict.{ComesTo, SameLength, CausedAt, IsFormat, ends, to_do};
+ghost use Rattle.abt_runs.specs.Head.{head_of};
+
+use crate::head::{CHUNK_HEADER, counted_blocks, data_length, head_at};
+use crate::reading::load;
+use crate::{Opening, Progress, RunFault, Stage};
+use abt_io::{Meter, Source, Window};
+use abt_sparse::{ChunkHeader, SparseFault, SparseHeader, header_of, u16_at};
+
+/// How long an image's header is, but for extra bytes.
+const FILE_HEADER: usize = 28;
+
+impl Opening {
+    /// An opening that has done nothing yet.
+    pub fn begin() -> Opening
+        ensures fresh { result.stage ≡ Stage.Header }
+        ensures told { (x : List ℕ) → ComesTo result x (ends (outcome x)) }
+    {
+        Opening {
+            stage: Stage::Header,
+            header: SparseHeader {
+                minor: 0,
+                file_hdr_sz: 28,
+                chunk_hdr_sz: 12,
+                blk_sz: 4,
+                total_blks: 0,
+                total_chunks: 0,
+                image_checksum: 0,
+            },
+            length: 0,
+            index: 0,
+            have: 0,
+            at: 0,
+        }
+    }
+
+    /// Whether the image is opened.
+    pub fn done(&self) -> bool
+        ensures { result ≡ is_done self.now.stage }
+    {
+        match self.stage {
+            Stage::Done => true,
+            Stage::Header | Stage::Chunks | Stage::Failed(_) => false,
+        }
+    }
+
+    /// Ends with a fault.
+    fn fail(&mut self, fault: RunFault) -> Result<Progress, RunFault>
+        ensures answer { result ≡ Err fault }
+        ensures failed { self.new.stage ≡ Stage.Failed fault }
+    {
+        self.stage = Stage::Failed(fault);
+        Err(fault)
+    }
+
+    /// The step over the bytes of the image's header, of a source that is so long.
+    fn take_header(&mut self, bytes: &[u8], size: u64) -> Result<Progress, RunFault>
+        requires here { self.old.stage ≡ Stage.Header }
+        requires whole { length bytes.now ≡ 28 }
+        requires long { 28 ≤ size }
+        ensures keeps { (x : List ℕ) → length x ≡ size → bytes.now ≡ take 28 x → (v : Result (Header × ℕ) SparseFaults) → ComesTo self.old x v → ComesTo self.new x v }
+        ensures leaves { Leaves result self.new.stage }
+        ensures on { OnOk result ((is_more result ≡ true) × (28 ≤ self.new.at) × (to_do self.new < to_do self.old)) }
+        ensures own { IfErr result IsFormat }
+    {
+        match header_of(bytes) {
+            Ok(header) => {
+                if size < u64::from(header.file_hdr_sz) {
+                    return self.fail(RunFault::Sparse(SparseFault::Truncated { at: size }));
+                }
+                *self = Opening {
+                    stage: Stage::Chunks,
+                    header,
+                    length: size,
+                    index: 0,
+                    have: 0,
+                    at: u64::from(header.file_hdr_sz),
+                };
+                Ok(Progress::More)
+            }
+            Err(fault) => self.fail(RunFault::Sparse(fault)),
+        }
+    }
+
+    /// The step over the bytes of a chunk's header.
+    fn take_chunk(&mut self, bytes: &[u8]) -> Result<Progress, RunFault>
+        requires here { self.old.stage ≡ Stage.Chunks }
+        requires more { self.old.index < self.old.header.total_chunks }
+        requires there { self.old.at + 12 ≤ self.old.length }
+        requires whole { length bytes.now ≡ 12 }
+        ensures keeps { (x : List ℕ) → bytes.now ≡ take 12 (drop self.old.at x) → (v : Result (Header × ℕ) SparseFaults) → ComesTo self.old x v → ComesTo self.new x v }
+        ensures leaves { Leaves result self.new.stage }
+        ensures on { OnOk result ((is_more result ≡ true) × (self.old.at + 12 ≤ self.new.at) × (to_do self.new < to_do self.old)) }
+        ensures own { IfErr result IsFormat }
+    {
+        match head_at(bytes) {
+            Some(chunk) => self.take_known(bytes, chunk),
+            None => self.fail(RunFault::Sparse(SparseFault::ChunkType {
+                chunk: self.index,
+                kind: u16_at(bytes, 0),
+            })),
+        }
+    }
+
+    /// The same where the type is known.
+    fn take_known(&mut self, bytes: &[u8], chunk: ChunkHeader) -> Result<Progress, RunFault>
+        requires here { self.old.stage ≡ Stage.Chunks }
+        requires more { self.old.index < self.old.header.total_chunks }
+        requires there { self.old.at + 12 ≤ self.old.length }
+        requires whole { length bytes.now ≡ 12 }
+        requires known { head_of bytes.now ≡ Some chunk }
+        ensures keeps { (x : List ℕ) → bytes.now ≡ take 12 (drop self.old.at x) → (v : Result (Header × ℕ) SparseFaults) → ComesTo self.old x v → ComesTo self.new x v }
+        ensures leaves { Leaves result self.new.stage }
+        ensures on { OnOk result ((is_more result ≡ true) × (self.old.at + 12 ≤ self.new.at) × (to_do self.new < to_do self.old)) }
+        ensures own { IfErr result IsFormat }
+    {
+        let header = self.header;
+        let data = data_length(header.blk_sz, chunk.kind, chunk.blocks);
+        if u64::from(chunk.total) != u64::from(header.chunk_hdr_sz) + data {
+            return self.fail(RunFault::Sparse(SparseFault::ChunkLength { chunk: self.index }));
+        }
+        let counts = counted_blocks(chunk.kind, chunk.blocks);
+        if u64::from(header.total_blks) < u64::from(self.have) + u64::from(counts) {
+            return self.fail(RunFault::Sparse(SparseFault::TooManyBlocks { chunk: self.index }));
+        }
+        if self.length - self.at < u64::from(chunk.total) {
+            return self.fail(RunFault::Sparse(SparseFault::Truncated { at: self.length }));
+        }
+        *self = Opening {
+            stage: Stage::Chunks,
+            header,
+            length: self.length,
+            index: self.index + 1,
+            have: self.have + counts,
+            at: self.at + u64::from(chunk.total),
+        };
+        Ok(Progress::More)
+    }
+
+    /// The step behind the last chunk.
+    fn end(&mut self) -> Result<Progress, RunFault>
+        requires here { self.old.stage ≡ Stage.Chunks }
+        requires last { self.old.header.total_chunks ≤ self.old.index }
+        ensures keeps { (x : List ℕ) (v : Result (Header × ℕ) SparseFaults) → ComesTo self.old x v → ComesTo self.new x v }
+        ensures leaves { Leaves result self.new.stage }
+        ensures over { OnOk result ((is_more result ≡ false) × (self.new.at ≡ self.old.at)) }
+        ensures own { IfErr result IsFormat }
+    {
+        if self.have != self.header.total_blks {
+            return self.fail(RunFault::Sparse(SparseFault::TooFewBlocks { have: self.have }));
+        }
+        self.stage = Stage::Done;
+        Ok(Progress::Done)
+    }
+
+    /// Reads the image's header.
+    fn read_header<S: Source>(
+        &mut self,
+        source: &mut S,
+        w: &mut Window,
+        m: &mut Meter,
+    ) -> Result<Progress, RunFault>
+        requires here { self.old.stage ≡ Stage.Header }
+        ensures keeps { IsTrue S.tells → (v : Result (Header × ℕ) SparseFaults) → ComesTo self.old (S.content source.old) v → ComesTo self.new (S.content source.old) v }
+        ensures leaves { Leaves result self.new.stage }
+        ensures fewer { is_more result ≡ true → to_do self.new < to_do self.old }
+        ensures charged { OnOk result (S.given source.new + self.old.at ≤ S.given source.old + self.new.at) }
+        ensures content { IsTrue S.tells → S.content source.new ≡ S.content source.old }
+        ensures frame { S.read_frame source.new ≡ S.read_frame source.old }
+        ensures given { S.given source.old ≤ S.given source.new × S.given source.new ≤ S.given source.old + 28 }
+        ensures some { is_more result ≡ true → S.given source.old + 12 ≤ S.given source.new }
+        ensures calls { S.reads source.new ≤ S.reads source.old + (S.given source.new - S.given source.old) + 1 }
+        ensures turns { m.new.turns.number ≤ m.old.turns.number + (S.given source.new - S.given source.old) + 1 }
+        ensures steps { m.new.steps.number ≡ m.old.steps.number + 1 }
+        ensures greatest { m.new.greatest.number ≡ max m.old.greatest.number (S.given source.new - S.given source.old) }
+        ensures faults { S.read_faults source.old ≤ S.read_faults source.new }
+        ensures cause { IfErr result (λ e. CausedAt self.old.stage e (S.read_faults source.old) (S.read_faults source.new) (IsTrue S.tells × SameLength self.old.stage self.old.length (S.content source.old))) }
+    {
+        let size = source.length();
+        if size < FILE_HEADER as u64 {
+            m.close_step(0);
+            return self.fail(RunFault::Sparse(SparseFault::Truncated { at: size }));
+        }
+        let loaded = load(source, 0, FILE_HEADER, w, m);
+        let answer = match loaded.fault {
+            Some(fault) => self.fail(fault),
+            None => self.take_header(w.part(0, FILE_HEADER), size),
+        };
+        m.close_step(loaded.received);
+        answer
+    }
+
+    /// Reads the next chunk's header.
+    fn read_chunk<S: Source>(
+        &mut self,
+        source: &mut S,
+        w: &mut Window,
+        m: &mut Meter,
+    ) -> Result<Progress, RunFault>
+        requires here { self.old.stage ≡ Stage.Chunks }
+        ensures keeps { IsTrue S.tells → (v : Result (Header × ℕ) SparseFaults) → ComesTo self.old (S.content source.old) v → ComesTo self.new (S.content source.old) v }
+        ensures leaves { Leaves result self.new.stage }
+        ensures fewer { is_more result ≡ true → to_do self.new < to_do self.old }
+        ensures charged { OnOk result (S.given source.new + self.old.at ≤ S.given source.old + self.new.at) }
+        ensures content { IsTrue S.tells → S.content source.new ≡ S.content source.old }
+        ensures frame { S.read_frame source.new ≡ S.read_frame source.old }
+        ensures given { S.given source.old ≤ S.given source.new × S.given source.new ≤ S.given source.old + 28 }
+        ensures some { is_more result ≡ true → S.given source.old + 12 ≤ S.given source.new }
+        ensures calls { S.reads source.new ≤ S.reads source.old + (S.given source.new - S.given source.old) + 1 }
+        ensures turns { m.new.turns.number ≤ m.old.turns.number + (S.given source.new - S.given source.old) + 1 }
+        ensures steps { m.new.steps.number ≡ m.old.steps.number + 1 }
+        ensures greatest { m.new.greatest.number ≡ max m.old.greatest.number (S.given source.new - S.given source.old) }
+        ensures faults { S.read_faults source.old ≤ S.read_faults source.new }
+        ensures cause { IfErr result (λ e. CausedAt self.old.stage e (S.read_faults source.old) (S.read_faults source.new) (IsTrue S.tells × SameLength self.old.stage self.old.length (S.content source.old))) }
+    {
+        if self.index == self.header.total_chunks {
+            m.close_step(0);
+            return self.end();
+        }
+        if source.length() != self.length {
+            m.close_step(0);
+            return self.fail(RunFault::SourceChanged);
+        }
+        if self.length - self.at < CHUNK_HEADER as u64 {
+            m.close_step(0);
+            return self.fail(RunFault::Sparse(SparseFault::Truncated { at: self.length }));
+        }
+        let loaded = load(source, self.at, CHUNK_HEADER, w, m);
+        let answer = match loaded.fault {
+            Some(fault) => self.fail(fault),
+            None => self.take_chunk(w.part(0, CHUNK_HEADER)),
+        };
+        m.close_step(loaded.received);
+        answer
+    }
+
+    /// One step: reads one header and tests it. It answers `More` until all chunks were passed and
+    /// their blocks counted, and `Done` or its fault again from then on, without a call of the
+    /// source.
+    ///
+    /// It refuses with 1 to 10 where the bytes are no sparse image, by the first fault from left to
+    /// right; with `Read` where the source has failed; and with `SourceChanged` where the source's
+    /// length is another than at the first step, or it gives nothing below it.
+    pub fn opening_step<S: Source>(
+        &mut self,
+        source: &mut S,
+        w: &mut Window,
+        m: &mut Meter,
+    ) -> Result<Progress, RunFault>
+        ensures keeps { IsTrue S.tells → (v : Result (Header × ℕ) SparseFaults) → ComesTo self.old (S.content source.old) v → ComesTo self.new (S.content source.old) v }
+        ensures leaves { Leaves result self.new.stage }
+        ensures fewer { is_more result ≡ true → to_do self.new < to_do self.old }
+        ensures again { IsOver self.old.stage → (self.new ≡ self.old) × (source.new ≡ source.old) }
+        ensures charged { OnOk result (S.given source.new + self.old.at ≤ S.given source.old + self.new.at) }
+        ensures content { IsTrue S.tells → S.content source.new ≡ S.content source.old }
+        ensures frame { S.read_frame source.new ≡ S.read_frame source.old }
+        ensures given { S.given source.old ≤ S.given source.new × S.given source.new ≤ S.given source.old + 28 }
+        ensures some { is_more result ≡ true → S.given source.old + 12 ≤ S.given source.new }
+        ensures calls { S.reads source.new ≤ S.reads source.old + (S.given source.new - S.given source.old) + 1 }
+        ensures turns { m.new.turns.number ≤ m.old.turns.number + (S.given source.new - S.given source.old) + 1 }
+        ensures steps { m.new.steps.number ≡ m.old.steps.number + 1 }
+        ensures greatest { m.new.greatest.number ≡ max m.old.greatest.number (S.given source.new - S.given source.old) }
+        ensures faults { S.read_faults source.old ≤ S.read_faults source.new }
+        ensures cause { IfErr result (λ e. CausedAt self.old.stage e (S.read_faults source.old) (S.read_faults source.new) (IsTrue S.tells × SameLength self.old.stage self.old.length (S.content source.old))) }
+    {
+        match self.stage {
+            Stage::Header => self.read_header(source, w, m),
+            Stage::Chunks => self.read_chunk(source, w, m),
+            Stage::Done => {
+                m.close_step(0);
+                Ok(Progress::Done)
+            }
+            Stage::Failed(fault) => {
+                m.close_step(0);
+                Err(fault)
+            }
+        }
+    }
+}

@@ -1,0 +1,59 @@
+//! Reading bytes of the source at a place into the window.
+ghost use Rattle.std.specs.Prelude.{◌≡◌, ◌<◌, ◌≤◌, ◌+◌, ◌^◌, IsTrue, IfSome, IfNone, length, take, drop};
+ghost use Rattle.abt_runs.specs.Part.{Caused};
+
+use crate::RunFault;
+use abt_io::{Meter, Source, Window, gather_at};
+
+/// How many bytes came, and why not all that were wanted.
+#[derive(Clone, Copy, Debug, PartialEq, Eq, Drop)]
+pub struct Loaded {
+    pub received: u32,
+    pub fault: Option<RunFault>,
+}
+
+/// Reads so many bytes from a place of the source to the front of the window.
+pub fn load<S: Source>(
+    source: &mut S,
+    at: u64,
+    want: usize,
+    w: &mut Window,
+    m: &mut Meter,
+) -> Loaded
+    requires window { want ≤ 65536 }
+    requires below { at + want < 2 ^ 64 }
+    requires there { IsTrue S.tells → at + want ≤ length (S.content source.old) }
+    ensures few { result.received ≤ want }
+    ensures whole { IfNone result.fault (result.received ≡ want) }
+    ensures bytes { IsTrue S.tells → IfNone result.fault (take want w.new.bytes ≡ take want (drop at (S.content source.old))) }
+    ensures content { IsTrue S.tells → S.content source.new ≡ S.content source.old }
+    ensures size { IsTrue S.tells → S.size source.new ≡ S.size source.old }
+    ensures frame { S.read_frame source.new ≡ S.read_frame source.old }
+    ensures given { S.given source.new ≡ S.given source.old + result.received }
+    ensures calls { S.reads source.new ≤ S.reads source.old + result.received + 1 }
+    ensures turns { m.new.turns.number ≤ m.old.turns.number + result.received + 1 }
+    ensures steps { m.new.steps.number ≡ m.old.steps.number }
+    ensures greatest { m.new.greatest.number ≡ m.old.greatest.number }
+    ensures faults { S.read_faults source.old ≤ S.read_faults source.new }
+    ensures cause { IfSome result.fault (λ e. Caused e S.tells (S.read_faults source.old) (S.read_faults source.new)) }
+{
+    w.is_whole();
+    let got = gather_at(source, at, w.part_mut(0, want), m);
+    let received = got.count as u32;
+    if let Some(fault) = got.fault {
+        return Loaded {
+            received,
+            fault: Some(RunFault::Read(fault)),
+        };
+    }
+    if got.count < want {
+        return Loaded {
+            received,
+            fault: Some(RunFault::SourceChanged),
+        };
+    }
+    Loaded {
+        received,
+        fault: None,
+    }
+}

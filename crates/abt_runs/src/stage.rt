@@ -1,0 +1,24 @@
+//! How far the opening of a sparse image has come, and what a step of it answers.
+use crate::RunFault;
+
+/// What a step answers that was not refused.
+#[derive(Clone, Copy, Debug, PartialEq, Eq, Drop)]
+pub enum Progress {
+    /// There is more to do.
+    More,
+    /// All is done.
+    Done,
+}
+
+/// What an opening does next.
+#[derive(Clone, Copy, Debug, PartialEq, Eq, Drop)]
+pub enum Stage {
+    /// It reads the image's header.
+    Header,
+    /// It reads the next chunk's header, or tests the count of blocks behind the last.
+    Chunks,
+    /// The image is opened.
+    Done,
+    /// It was refused so, and is again.
+    Failed(RunFault),
+}

@@ -1,0 +1,42 @@
+-- The image of a header that was made for fields and sizes is the canonical one.
+use Rattle.std.proofs.Common.{◌≡◌, ℕ, zero, suc, ◌+◌, ◌*◌, ◌≤◌, ◌<◌, ◌⊎◌, inl, inr, List, [], ◌∷◌, ◌++◌, length, take, map, replicate, ◌-◌, refl, sym, ap, ◌∙◌, arith}
+use Rattle.std.proofs.lemmas.List.{take_at}
+use Rattle.abt_headers.specs.declared.page.PageSize.{PageSize}
+use Rattle.abt_headers.specs.declared.boot.BootHeader.{BootHeader}
+use Rattle.abt_headers.specs.Page.{page_bytes, pages}
+use Rattle.abt_headers.specs.Boot.{boot_page, boot_size}
+use Rattle.abt_sections.specs.Fields.{BootFields, filled}
+use Rattle.abt_sections.specs.Layout.{laid_size}
+use Rattle.abt_sections.specs.BootCanon.{boot_header_for, boot_page_for, id_for, boot_image, boot_canon, image_size, boot_record_size, boot_image_size}
+
+pub canon_is : (s : BootFields) (page : PageSize) (sizes id : List ℕ) (h : BootHeader) (parts parts' : List (List ℕ)) → h ≡ boot_header_for s page sizes id → page ≡ boot_page_for s → sizes ≡ filled 5 (map length parts) → id ≡ id_for s.version parts → parts' ≡ parts → boot_image h parts' ≡ boot_canon s parts
+unfolding boot_canon
+canon_is s page sizes id h parts parts' a b c d e =
+    ap (λ (g : BootHeader). boot_image g parts') (a ∙ ap (λ (p : PageSize). boot_header_for s p sizes id) b ∙ ap (λ (z : List ℕ). boot_header_for s (boot_page_for s) z id) c ∙ ap (λ (i : List ℕ). boot_header_for s (boot_page_for s) (filled 5 (map length parts)) i) d)
+    ∙ ap (λ (l : List (List ℕ)). boot_image (boot_header_for s (boot_page_for s) (filled 5 (map length parts)) (id_for s.version parts)) l) e
+
+five : (v : ℕ) → v ≤ 4 → (v ≡ 0) ⊎ ((v ≡ 1) ⊎ ((v ≡ 2) ⊎ ((v ≡ 3) ⊎ (v ≡ 4))))
+five zero h = inl refl
+five (suc zero) h = inr (inl refl)
+five (suc (suc zero)) h = inr (inr (inl refl))
+five (suc (suc (suc zero))) h = inr (inr (inr (inl refl)))
+five (suc (suc (suc (suc zero)))) h = inr (inr (inr (inr refl)))
+five (suc (suc (suc (suc (suc v))))) h = absurd (omega arith)
+
+pub header_page : (s : BootFields) (sizes id : List ℕ) → s.version ≤ 4 → boot_page (boot_header_for s (boot_page_for s) sizes id) ≡ page_bytes (boot_page_for s)
+unfolding boot_header_for
+header_page s sizes id h = elim (five s.version h) [ inl e ↦ rw e refl | inr e ↦ elim e [ inl e ↦ rw e refl | inr e ↦ elim e [ inl e ↦ rw e refl | inr e ↦ elim e [ inl e ↦ rw e refl | inr e ↦ rw e refl ] ] ] ]
+
+pub header_size : (s : BootFields) (page : PageSize) (sizes id : List ℕ) → s.version ≤ 4 → boot_size (boot_header_for s page sizes id) ≡ boot_record_size s.version
+unfolding boot_header_for
+header_size s page sizes id h = elim (five s.version h) [ inl e ↦ rw e refl | inr e ↦ elim e [ inl e ↦ rw e refl | inr e ↦ elim e [ inl e ↦ rw e refl | inr e ↦ elim e [ inl e ↦ rw e refl | inr e ↦ rw e refl ] ] ] ]
+
+pub size_is : (s : BootFields) (page : PageSize) (sizes zs id : List ℕ) (h : BootHeader) (n : ℕ) → s.version ≤ 4 → h ≡ boot_header_for s page sizes id → page ≡ boot_page_for s → sizes ≡ filled 5 zs → n ≡ length zs → image_size (boot_page h) (boot_size h) (take n sizes) ≡ boot_image_size s zs
+size_is s page sizes zs id h n low a b c d =
+    let whole : h ≡ boot_header_for s (boot_page_for s) sizes id = a ∙ ap (λ (p : PageSize). boot_header_for s p sizes id) b in
+    let p : boot_page h ≡ page_bytes (boot_page_for s) = ap boot_page whole ∙ header_page s sizes id low in
+    let z : boot_size h ≡ boot_record_size s.version = ap boot_size whole ∙ header_size s (boot_page_for s) sizes id low in
+    let t : take n sizes ≡ zs = ap (take n) c ∙ take_at zs (replicate (5 - length zs) 0) n (sym d) in
+    ap (λ (q : ℕ). image_size q (boot_size h) (take n sizes)) p
+    ∙ ap (λ (q : ℕ). image_size (page_bytes (boot_page_for s)) q (take n sizes)) z
+    ∙ ap (λ (l : List ℕ). image_size (page_bytes (boot_page_for s)) (boot_record_size s.version) l) t

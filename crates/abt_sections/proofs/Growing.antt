@@ -1,0 +1,38 @@
+-- What an output was given, write after write.
+use Rattle.std.proofs.Common.{◌≡◌, ℕ, ◌+◌, ◌-◌, ◌≤◌, List, ◌++◌, length, min, take, refl, sym, ap, ◌∙◌, append_assoc, arith, length-append, length-take, append-nil}
+use Rattle.std.proofs.lemmas.List.{take-append-le, take_all}
+use Rattle.std.proofs.Math.Seq.{take-append-add}
+use Rattle.abt_sections.specs.Grown.{Begins}
+
+-- more could have come
+pub begins_stop : (a b x y : List ℕ) → Begins a b x → Begins a b (x ++ y)
+begins_stop a b x y e =
+    let k = length b - length a in
+    let short : k ≤ length x = omega (arith, ap length e, length-append a (take k x), length-take k x) in
+    e ∙ ap (λ (l : List ℕ). a ++ l) (sym (take-append-le k x y short))
+
+-- all of x, and then a beginning of y
+pub begins_then : (a b c x y : List ℕ) → b ≡ a ++ x → Begins b c y → length b ≤ length c → Begins a c (x ++ y)
+begins_then a b c x y all e le =
+    let j = length c - length b in
+    let k : length c - length a ≡ length x + j = omega (arith, ap length all, length-append a x) in
+    e ∙ ap (λ (l : List ℕ). l ++ take j y) all
+    ∙ append_assoc a x (take j y)
+    ∙ ap (λ (l : List ℕ). a ++ l) (sym (take-append-add x y j))
+    ∙ ap (λ (n : ℕ). a ++ take n (x ++ y)) (sym k)
+
+-- nothing came
+pub begins_none : (a x : List ℕ) → Begins a a x
+begins_none a x = let z : length a - length a ≡ 0 = omega arith in sym (ap (λ (n : ℕ). a ++ take n x) z ∙ simp (append-nil))
+
+-- all came
+pub begins_all : (a b x : List ℕ) → b ≡ a ++ x → Begins a b x
+begins_all a b x e =
+    let k : length x ≤ length b - length a = omega (arith, ap length e, length-append a x) in
+    e ∙ ap (λ (l : List ℕ). a ++ l) (sym (take_all (length b - length a) x k))
+
+pub begins_is : (a b x y : List ℕ) → x ≡ y → Begins a b x → Begins a b y
+begins_is a b x y same e = e ∙ ap (λ (l : List ℕ). a ++ take (length b - length a) l) same
+
+pub then_all : (a b c x y : List ℕ) → b ≡ a ++ x → c ≡ b ++ y → c ≡ a ++ (x ++ y)
+then_all a b c x y e h = h ∙ ap (λ (l : List ℕ). l ++ y) e ∙ append_assoc a x y

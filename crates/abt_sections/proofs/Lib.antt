@@ -1,0 +1,16 @@
+pub mod Beyond
+pub mod Bytes
+pub mod Canons
+pub mod Causes
+pub mod Digests
+pub mod Fronts
+pub mod Growing
+pub mod Laying
+pub mod Layouts
+pub mod Parts
+pub mod Sizing
+pub mod Tables
+pub mod TextFields
+pub mod VendorCanons
+pub mod VendorTables
+pub mod Zeros

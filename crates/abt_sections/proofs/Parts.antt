@@ -1,0 +1,38 @@
+-- Devices that are lent one after another, out of a slice.
+use Rattle.std.proofs.Common.{◌≡◌, ℕ, zero, suc, ◌+◌, ◌≤◌, ◌<◌, List, [], ◌∷◌, ◌++◌, length, take, map, get_or, set, refl, sym, ap, ◌∙◌, arith, replicate, ◌-◌}
+use Rattle.std.proofs.lemmas.List.{length-map, map-set, set-get_or, take_more, get_or_default, get_or_append_left}
+use Rattle.abt_sections.specs.Fields.{filled}
+
+pub get_map : {S T : Type 0} (f : S → T) (ps : List S) (i : ℕ) (d : S) → get_or (map f ps) i (f d) ≡ f (get_or ps i d)
+get_map f [] i d = refl
+get_map f (p ∷ ps) zero d = refl
+get_map f (p ∷ ps) (suc i) d = get_map f ps i d
+
+-- what one that was lent keeps, all keep
+pub kept : {S T : Type 0} (f : S → T) (ps : List S) (i : ℕ) (d s' : S) → f s' ≡ f (get_or ps i d) → map f (set ps i s') ≡ map f ps
+kept {S} {T} f ps i d s' same =
+    map-set f ps i s'
+    ∙ ap (λ (b : T). set (map f ps) i b) (same ∙ sym (get_map f ps i d))
+    ∙ set-get_or (map f ps) i (f d)
+
+-- the next of the parts
+pub next_part : {S T : Type 0} (f : S → T) (ps ps0 : List S) (i : ℕ) (d : S) → map f ps ≡ map f ps0 → i < length ps → take (i + 1) (map f ps0) ≡ take i (map f ps0) ++ (f (get_or ps i d) ∷ [])
+next_part {S} {T} f ps ps0 i d same h =
+    ap (λ (l : List T). take (i + 1) l) (sym same)
+    ∙ take_more (map f ps) i (f d) (omega (arith, length-map ps f))
+    ∙ ap (λ (b : T). take i (map f ps) ++ (b ∷ [])) (get_map f ps i d)
+    ∙ ap (λ (l : List T). take i l ++ (f (get_or ps i d) ∷ [])) same
+
+-- where the sizes are those of the parts, the next part's is the next of them
+pub part_size : {S : Type 0} (f : S → ℕ) (ps ps0 : List S) (i : ℕ) (d : S) (sizes : List ℕ) → map f ps ≡ map f ps0 → sizes ≡ filled 5 (map f ps0) → i < length ps → f (get_or ps i d) ≡ get_or sizes i 0
+part_size f ps ps0 i d sizes same is h =
+    let k : i < length (map f ps) = omega (arith, length-map ps f) in
+    sym (get_map f ps i d)
+    ∙ get_or_default (map f ps) i (f d) 0 k
+    ∙ sym (get_or_append_left (map f ps) (replicate (5 - length (map f ps)) 0) 0 i k)
+    ∙ ap (λ (l : List ℕ). get_or (filled 5 l) i 0) same
+    ∙ ap (λ (l : List ℕ). get_or l i 0) (sym is)
+
+-- what all keep, the next of them keeps
+pub part_same : {S T : Type 0} (f : S → T) (ps ps0 : List S) (i : ℕ) (d : S) → map f ps ≡ map f ps0 → f (get_or ps i d) ≡ f (get_or ps0 i d)
+part_same {S} {T} f ps ps0 i d same = sym (get_map f ps i d) ∙ ap (λ (l : List T). get_or l i (f d)) same ∙ get_map f ps0 i d

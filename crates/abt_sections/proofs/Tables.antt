@@ -1,0 +1,64 @@
+-- Sections that are there, and what stands in them.
+use Rattle.std.proofs.Common.{◌≡◌, ℕ, zero, suc, ◌+◌, ◌*◌, ◌≤◌, ◌<◌, Bool, true, false, cond, List, [], ◌∷◌, length, get_or, refl, sym, ap, ◌∙◌, arith, Option, Some, None, nat_lt, ◌&&◌}
+use Rattle.std.proofs.lemmas.Bool.{and_cases, ltb-false, lt-ltb, cases_Bool}
+use Rattle.abt_headers.specs.declared.sections.Place.{Place}
+use Rattle.abt_headers.specs.declared.sections.Section.{Section}
+use Rattle.abt_headers.specs.declared.sections.Section.TheVariants.{VendorRamdisk, Table}
+use Rattle.abt_headers.specs.declared.vendor.VendorFront.{VendorFront}
+use Rattle.abt_headers.specs.Page.{page_bytes, pages}
+use Rattle.abt_headers.specs.Vendor.{Tail, Vendor}
+use Rattle.abt_sections.specs.Header.{Header, OfBoot, OfVendor, places_of, fragment_count, table_at, ramdisk_at, ramdisk_size, HasWholeTable}
+use Rattle.abt_sections.specs.Open.{beyond, ends_beyond}
+
+here : (b : Bool) (s : Section) (o : Option Section) → cond b (Some s) o ≡ None → (b ≡ false) × (o ≡ None)
+here true s o e = absurd cc
+here false s o e = (refl, e)
+
+none_at : (p : Place) (ps : List Place) (n : ℕ) → beyond (p ∷ ps) n ≡ None → (ends_beyond p n ≡ false) × (beyond ps n ≡ None)
+unfolding beyond
+none_at p ps n e = here (ends_beyond p n) p.kind (beyond ps n) e
+
+ends_there : (p : Place) (n : ℕ) → ends_beyond p n ≡ false → 0 < p.size → p.at + p.size ≤ n
+ends_there p n e some =
+    let first = lt-ltb 0 p.size some in
+    ltb-false n (p.at + p.size) (ap (λ (b : Bool). b && nat_lt n (p.at + p.size)) (sym first) ∙ e)
+
+-- a section that isn't empty is there
+pub place_there : (ps : List Place) (n i : ℕ) (p : Place) → beyond ps n ≡ None → i < length ps → p ≡ get_or ps i p → 0 < p.size → p.at + p.size ≤ n
+place_there [] n i p e h is some = absurd (omega arith)
+place_there (q ∷ ps) n zero p e h is some =
+    let t : 0 < q.size = omega (arith, ap (λ (r : Place). r.size) is) in
+    let k = ends_there q n (none_at q ps n e).0 t in
+    omega (arith, k, ap (λ (r : Place). r.size) is, ap (λ (r : Place). r.at) is)
+place_there (q ∷ ps) n (suc i) p e h is some = place_there ps n i p (none_at q ps n e).1 (omega arith) is some
+
+whole_table : (f : VendorFront) (t : Tail) (n i : ℕ) → t.table_size ≡ 108 * t.entry_num → beyond (places_of (OfVendor (record { front = f; tail = Some t }))) n ≡ None → i < t.entry_num → table_at (OfVendor (record { front = f; tail = Some t })) + 108 * i + 108 ≤ n
+whole_table f t n i whole e h =
+    let h4 : Header = OfVendor (record { front = f; tail = Some t }) in
+    let p : Place = record { kind = Table; at = table_at h4; size = t.table_size } in
+    let k = place_there (places_of h4) n 2 p e (omega arith) refl (omega (arith, whole)) in
+    omega (arith, k, whole)
+
+vendor_entry : (f : VendorFront) (t : Option Tail) (n i : ℕ) → HasWholeTable (OfVendor (record { front = f; tail = t })) → beyond (places_of (OfVendor (record { front = f; tail = t }))) n ≡ None → i < fragment_count (OfVendor (record { front = f; tail = t })) → table_at (OfVendor (record { front = f; tail = t })) + 108 * i + 108 ≤ n
+vendor_entry f None n i whole e lt = absurd (omega arith)
+vendor_entry f (Some t) n i whole e lt = whole_table f t n i whole e lt
+
+-- an entry of the table is there
+pub entry_there : (h : Header) (n i : ℕ) → HasWholeTable h → beyond (places_of h) n ≡ None → i < fragment_count h → table_at h + 108 * i + 108 ≤ n
+entry_there (OfBoot h) n i whole e lt = absurd (omega arith)
+entry_there (OfVendor v) n i whole e lt = vendor_entry v.front v.tail n i whole e lt
+
+vendor_ramdisk : (f : VendorFront) (t : Option Tail) (n : ℕ) → beyond (places_of (OfVendor (record { front = f; tail = t }))) n ≡ None → 0 < f.vendor_ramdisk_size → ramdisk_at (OfVendor (record { front = f; tail = t })) + f.vendor_ramdisk_size ≤ n
+vendor_ramdisk f None n e some =
+    let h : Header = OfVendor (record { front = f; tail = None }) in
+    let p : Place = record { kind = VendorRamdisk; at = ramdisk_at h; size = f.vendor_ramdisk_size } in
+    place_there (places_of h) n 0 p e (omega arith) refl some
+vendor_ramdisk f (Some t) n e some =
+    let h : Header = OfVendor (record { front = f; tail = Some t }) in
+    let p : Place = record { kind = VendorRamdisk; at = ramdisk_at h; size = f.vendor_ramdisk_size } in
+    place_there (places_of h) n 0 p e (omega arith) refl some
+
+-- the vendor ramdisk is there
+pub ramdisk_there : (h : Header) (n : ℕ) → beyond (places_of h) n ≡ None → 0 < ramdisk_size h → ramdisk_at h + ramdisk_size h ≤ n
+ramdisk_there (OfBoot h) n e some = absurd (omega arith)
+ramdisk_there (OfVendor v) n e some = vendor_ramdisk v.front v.tail n e some

@@ -1,0 +1,19 @@
+use Rattle.std.proofs.Common.{◌≡◌, ◌≤◌, ◌<◌, ◌*◌, ℕ, length}
+use Rattle.std.specs.Prelude.{IsTrue}
+use Rattle.abt_sections.specs.Header.{view_of, entry_of}
+use Rattle.abt_sections.specs.Check.{sizes_before}
+use Rattle.abt_sections.proofs.fragment_table.fragments_fill.Given as goal
+
+abbrev pub invariant-loop-i : goal.invariant-loop-i
+invariant-loop-i g l =
+    let s = g.S.Source in
+    let h = view_of l.header in
+    record {
+      content : IsTrue s.tells → s.content l.source ≡ s.content l.fn.source;
+      size : IsTrue s.tells → s.size l.source ≡ s.size l.fn.source;
+      frame : s.read_frame l.source ≡ s.read_frame l.fn.source;
+      faults : s.read_faults l.fn.source ≤ s.read_faults l.source;
+      low : l.next ≤ 4294967295 * l.i;
+      next : IsTrue s.tells → l.next ≡ sizes_before (s.content l.fn.source) h l.i;
+      placed : IsTrue s.tells → (j : ℕ) → j < l.i → (entry_of (s.content l.fn.source) h j).ramdisk_offset ≡ sizes_before (s.content l.fn.source) h j;
+    }

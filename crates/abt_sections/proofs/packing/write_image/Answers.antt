@@ -1,0 +1,10 @@
+use Rattle.std.proofs.Common.{◌≡◌, map}
+use Rattle.abt_headers.specs.Boot.{boot_page, boot_record}
+use Rattle.abt_sections.specs.Layout.{padded, laid}
+use Rattle.abt_sections.proofs.Growing.{begins_then}
+use Rattle.abt_sections.proofs.packing.write_image.Goals as goal
+
+pub returns-clause-front : goal.returns-clause-front
+returns-clause-front g c = λ tells.
+    let h = c.args.header.now in
+    begins_then _ _ _ (padded (boot_page h) (boot_record h)) _ c.in-Ok.ensures.written (rw c.page_size.ensures.value at (c.write_parts.ensures.front tells)) c.write_parts.ensures.least

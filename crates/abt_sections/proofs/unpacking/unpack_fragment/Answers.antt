@@ -1,0 +1,13 @@
+use Rattle.std.proofs.Common.{◌≡◌, ◌<◌, ◌≤◌, ◌+◌, arith, length, ap}
+use Rattle.abt_sections.specs.Header.{view_of, places_of}
+use Rattle.abt_sections.proofs.Tables.{ramdisk_there}
+use Rattle.abt_sections.proofs.unpacking.unpack_fragment.Goals as goal
+
+pub returns-in-Err-Changed-clause-cause : goal.returns-in-Err-Changed-clause-cause
+returns-in-Err-Changed-clause-cause g c = λ tells opened.
+    let x = g.S.Source.content c.args.source.now in
+    let h = view_of c.args.image.now.header in
+    let within = c.in-Ok.ensures.within in
+    let there = ramdisk_there h (length x) opened.has.there (omega (arith, within, c.if-entry-eq0.false)) in
+    let gone = rw c.in-Err-Changed.field-0-is at c.in-Err-Changed.ensures.cause in
+    absurd (omega (arith, there, within, gone tells, c.table_of.ensures.ramdisk_at, ap length (c.in-Ok.ensures.content tells)))

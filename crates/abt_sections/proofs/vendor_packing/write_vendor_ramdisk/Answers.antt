@@ -1,0 +1,14 @@
+use Rattle.std.proofs.Common.{◌≡◌, ℕ, ◌+◌, ◌++◌, ap, sym, arith, length, length-append, map}
+use Rattle.std.specs.List.{concat}
+use Rattle.abt_sections.specs.Layout.{zeros_behind}
+use Rattle.abt_sections.proofs.Growing.{begins_then, begins_is}
+use Rattle.abt_sections.proofs.vendor_packing.write_vendor_ramdisk.Goals as goal
+
+pub returns-clause-front : goal.returns-clause-front
+returns-clause-front g c = λ tells.
+    let x = concat (map g.S.Source.content c.args.ramdisks.now) in
+    let w0 = g.O.Output.written c.args.output.now in
+    let e = c.in-Ok.ensures in
+    let long : c.args.size ≡ length x = omega (arith, ap length (e.written tells), length-append w0 x, e.all) in
+    begins_is _ _ _ _ (ap (λ (k : ℕ). x ++ zeros_behind k c.args.page) long)
+    (begins_then _ _ _ x _ (e.written tells) c.write_padding.ensures.front c.write_padding.ensures.least)

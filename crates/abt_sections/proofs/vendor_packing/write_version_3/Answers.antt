@@ -1,0 +1,25 @@
+use Rattle.std.proofs.Common.{◌≡◌, ◌≤◌, ◌++◌, arith, length, map}
+use Rattle.std.specs.List.{concat}
+use Rattle.abt_headers.specs.Vendor.{view, vendor_page, vendor_record}
+use Rattle.abt_sections.specs.Layout.{padded}
+use Rattle.abt_sections.proofs.Growing.{begins_then, begins_stop}
+use Rattle.abt_sections.proofs.vendor_packing.write_version_3.Goals as goal
+
+pub returns-in-Err-write_vendor_ramdisk-clause-front : goal.returns-in-Err-write_vendor_ramdisk-clause-front
+returns-in-Err-write_vendor_ramdisk-clause-front g c = λ tells.
+    let v = view c.args.header.now in
+    let page = vendor_page v in
+    let q = padded page (concat (map g.S.Source.content c.args.ramdisks.now)) in
+    let r = padded page (g.S.Source.content c.args.dtb.now) in
+    begins_then _ _ _ (padded page (vendor_record v)) (q ++ r) c.in-Ok.ensures.written
+    (begins_stop _ _ q r (rw c.page_size-page.ensures.value at (c.in-Err-write_vendor_ramdisk.ensures.front tells))) c.in-Err-write_vendor_ramdisk.ensures.least
+
+pub returns-clause-front : goal.returns-clause-front
+returns-clause-front g c = λ tells.
+    let v = view c.args.header.now in
+    let page = vendor_page v in
+    let q = padded page (concat (map g.S.Source.content c.args.ramdisks.now)) in
+    let r = padded page (g.S.Source.content c.args.dtb.now) in
+    let e = c.in-Ok-write_vendor_ramdisk.ensures in
+    begins_then _ _ _ (padded page (vendor_record v)) (q ++ r) c.in-Ok.ensures.written
+    (begins_then _ _ _ q r (rw c.page_size-page.ensures.value at (e.written tells)) (rw c.page_size-page.ensures.value at (c.write_part.ensures.front tells)) c.write_part.ensures.least) (omega (arith, e.least, c.write_part.ensures.least))

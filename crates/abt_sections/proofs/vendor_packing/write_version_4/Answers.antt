@@ -1,0 +1,42 @@
+use Rattle.std.proofs.Common.{◌≡◌, ◌≤◌, ℕ, List, [], ◌∷◌, ◌+◌, ◌*◌, ◌++◌, append_assoc, append-nil, arith, ap, sym, ◌∙◌, subst, length, length-append, map, get_or}
+use Rattle.std.specs.Prelude.{OnOk}
+use Rattle.abt_sections.specs.Layout.{padded, zeros_behind}
+use Rattle.abt_sections.specs.VendorCanon.{table_for}
+use Rattle.abt_sections.proofs.Growing.{begins_then, begins_stop, begins_is, then_all}
+use Rattle.abt_sections.proofs.vendor_packing.write_version_4.Goals as goal
+
+pub returns-in-Err-write_padding-clause-front : goal.returns-in-Err-write_padding-clause-front
+returns-in-Err-write_padding-clause-front g c = λ tells.
+    let page = c.args.page in
+    let t = table_for c.args.fragments.now (map g.S.Source.size c.args.ramdisks.now) 0 in
+    let w0 = g.O.Output.written c.args.output.now in
+    let e = c.in-Ok.ensures in
+    let long : get_or c.args.sizes.now 2 0 ≡ length t = omega (arith, ap length e.written, length-append w0 t, e.all, c.requires.table) in
+    begins_stop _ _ (padded page t) (padded page (g.S.Source.content c.args.bootconfig.now) ++ [])
+    (begins_is _ _ _ _ (ap (λ (k : ℕ). t ++ zeros_behind k page) long) (begins_then _ _ _ t _ e.written c.in-Err-write_padding.ensures.front c.in-Err-write_padding.ensures.least))
+
+pub returns-clause-written : goal.returns-clause-written
+returns-clause-written g c = λ tells.
+    let page = c.args.page in
+    let t = table_for c.args.fragments.now (map g.S.Source.size c.args.ramdisks.now) 0 in
+    let b = padded page (g.S.Source.content c.args.bootconfig.now) in
+    let w0 = g.O.Output.written c.args.output.now in
+    let e = c.in-Ok.ensures in
+    let p = c.in-Ok-write_padding.ensures in
+    let long : get_or c.args.sizes.now 2 0 ≡ length t = omega (arith, ap length e.written, length-append w0 t, e.all, c.requires.table) in
+    let first : g.O.Output.written c.write_padding.new.output ≡ w0 ++ padded page t = then_all _ _ _ t _ e.written p.written ∙ ap (λ (k : ℕ). w0 ++ (t ++ zeros_behind k page)) long in
+    let whole : g.O.Output.written c.write_padding.new.output ++ b ≡ w0 ++ (padded page t ++ (b ++ [])) =
+    ap (λ (l : List ℕ). l ++ b) first ∙ append_assoc w0 (padded page t) b ∙ ap (λ (l : List ℕ). w0 ++ (padded page t ++ l)) (sym (append-nil b)) in
+    subst (λ (l : List ℕ). OnOk c.write_part.result (g.O.Output.written c.write_part.new.output ≡ l)) whole (c.write_part.ensures.written tells)
+
+pub returns-clause-front : goal.returns-clause-front
+returns-clause-front g c = λ tells.
+    let page = c.args.page in
+    let t = table_for c.args.fragments.now (map g.S.Source.size c.args.ramdisks.now) 0 in
+    let b = padded page (g.S.Source.content c.args.bootconfig.now) in
+    let w0 = g.O.Output.written c.args.output.now in
+    let e = c.in-Ok.ensures in
+    let p = c.in-Ok-write_padding.ensures in
+    let long : get_or c.args.sizes.now 2 0 ≡ length t = omega (arith, ap length e.written, length-append w0 t, e.all, c.requires.table) in
+    let first : g.O.Output.written c.write_padding.new.output ≡ w0 ++ padded page t = then_all _ _ _ t _ e.written p.written ∙ ap (λ (k : ℕ). w0 ++ (t ++ zeros_behind k page)) long in
+    begins_then _ _ _ (padded page t) (b ++ []) first (begins_is _ _ _ _ (sym (append-nil b)) (c.write_part.ensures.front tells)) c.write_part.ensures.least

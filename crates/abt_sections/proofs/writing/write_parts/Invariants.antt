@@ -1,0 +1,21 @@
+use Rattle.std.proofs.Common.{◌≡◌, ◌≤◌, ◌+◌, ◌++◌, ℕ, List, length, map, take}
+use Rattle.std.specs.Prelude.{IsTrue}
+use Rattle.abt_sections.specs.Cause.{total}
+use Rattle.abt_sections.specs.Layout.{laid, laid_size}
+use Rattle.abt_sections.proofs.writing.write_parts.Given as goal
+
+abbrev pub invariant-loop-i : goal.invariant-loop-i
+invariant-loop-i g l =
+    let s = g.S.Source in
+    let o = g.O.Output in
+    record {
+      long : length l.parts ≡ length l.fn.parts;
+      content : IsTrue s.tells → map s.content l.parts ≡ map s.content l.fn.parts;
+      size : IsTrue s.tells → map s.size l.parts ≡ map s.size l.fn.parts;
+      frame : map s.read_frame l.parts ≡ map s.read_frame l.fn.parts;
+      written : IsTrue s.tells → o.written l.output ≡ o.written l.fn.output ++ laid l.page (take l.i (map s.content l.fn.parts));
+      all : length (o.written l.output) ≡ length (o.written l.fn.output) + laid_size l.page (take l.i l.sizes);
+      write_frame : o.write_frame l.output ≡ o.write_frame l.fn.output;
+      read_faults : total s.read_faults l.fn.parts ≤ total s.read_faults l.parts;
+      write_faults : o.write_faults l.fn.output ≤ o.write_faults l.output;
+    }

@@ -1,0 +1,12 @@
+pub mod BootCanon
+pub mod Cause
+pub mod Check
+pub mod Fault
+pub mod Fields
+pub mod Grown
+pub mod Header
+pub mod Id
+pub mod Layout
+pub mod Open
+pub mod Refusal
+pub mod VendorCanon

@@ -1,0 +1,305 @@
+//! Whether an image is what the packer would have written.
+
+ghost use Rattle.std.specs.Prelude.{◌≡◌, ◌<◌, ◌≤◌, ◌+◌, ◌-◌, ◌^◌, ◌++◌, ◌↔◌, IsTrue, IfOk, IfErr, OnOk, None, length, take, drop, slice_range};
+ghost use Rattle.abt_headers.specs.Places.{EachLow};
+ghost use Rattle.abt_sections.specs.Cause.{ReadCause};
+ghost use Rattle.abt_sections.specs.Check as check_spec;
+ghost use Rattle.abt_sections.specs.Header.{view_of, places_of};
+ghost use Rattle.abt_sections.specs.Layout as layout;
+ghost use Rattle.abt_sections.specs.Open.{IsOpened, beyond};
+
+use crate::boot_header::dtbo_offset;
+use crate::fault::SectionFault;
+use crate::fragment_table::fragments_fill;
+use crate::hashing::stored_id;
+use crate::image::{Image, ImageHeader};
+use crate::reading::{next_ask, read_front};
+use crate::texts::no_zero;
+use crate::writing::padding;
+use abt_headers::{BootFront, BootHeader, Sections, ShortFront, VendorHeader};
+use abt_io::{Meter, Source, Window};
+
+/// What checking an image found.
+#[derive(Clone, Copy, Debug, PartialEq, Eq)]
+pub struct Verdict {
+    /// All bytes from the end of the header and of each section to the next page boundary are there and zero.
+    pub padding: bool,
+    /// The id field is the id of the sections; true in versions without one.
+    pub id: bool,
+    /// `header_size` and `recovery_dtbo_offset` are what the packer writes, where the version has them.
+    pub offset: bool,
+    /// The bytes are those that the packer writes for these sections and fields.
+    pub canonical: bool,
+}
+
+// ---- padding
+
+fn all_zero(bytes: &[u8]) -> bool
+    ensures { result ≡ check_spec.all_zero bytes.now }
+{
+    for byte in bytes {
+        if *byte != 0 {
+            return false;
+        }
+    }
+    true
+}
+
+/// The `n` bytes at a place are there and zero.
+fn zeros_there<S: Source>(
+    source: &mut S,
+    at: u64,
+    n: u64,
+    w: &mut Window,
+    m: &mut Meter,
+) -> Result<bool, SectionFault>
+    ensures content { IsTrue S.tells → S.content source.new ≡ S.content source.old }
+    ensures size { IsTrue S.tells → S.size source.new ≡ S.size source.old }
+    ensures frame { S.read_frame source.new ≡ S.read_frame source.old }
+    ensures value { IsTrue S.tells → IfOk result (λ b. b ≡ check_spec.zeros_there (S.content source.old) at n) }
+    ensures faults { S.read_faults source.old ≤ S.read_faults source.new }
+    ensures cause { IfErr result (λ e. ReadCause e (S.read_faults source.old) (S.read_faults source.new) (IsTrue S.tells → ⊥)) }
+{
+    if n == 0 {
+        return Ok(true);
+    }
+    let length = source.length();
+    if at > length || n > length - at {
+        return Ok(false);
+    }
+    let mut done = 0;
+    while done < n {
+        m.tick();
+        let ask = next_ask(n - done);
+        match read_front(source, at + done, ask, w, m) {
+            Ok(()) => {}
+            Err(fault) => return Err(fault),
+        }
+        if !all_zero(w.part(0, ask)) {
+            return Ok(false);
+        }
+        done += ask as u64;
+    }
+    Ok(true)
+}
+
+/// Each section is padded.
+fn places_padded<S: Source>(
+    source: &mut S,
+    sections: &Sections,
+    page: u32,
+    w: &mut Window,
+    m: &mut Meter,
+) -> Result<bool, SectionFault>
+    requires some { 0 < page }
+    requires low { EachLow sections.now }
+    ensures content { IsTrue S.tells → S.content source.new ≡ S.content source.old }
+    ensures size { IsTrue S.tells → S.size source.new ≡ S.size source.old }
+    ensures frame { S.read_frame source.new ≡ S.read_frame source.old }
+    ensures value { IsTrue S.tells → IfOk result (λ b. b ≡ check_spec.padded_places (S.content source.old) page sections.now) }
+    ensures faults { S.read_faults source.old ≤ S.read_faults source.new }
+    ensures cause { IfErr result (λ e. ReadCause e (S.read_faults source.old) (S.read_faults source.new) (IsTrue S.tells → ⊥)) }
+{
+    for i in 0..sections.count() {
+        m.tick();
+        let place = sections.place(i);
+        let free = padding(place.size as u64, page);
+        match zeros_there(source, place.at + place.size as u64, free, w, m) {
+            Ok(true) => {}
+            Ok(false) => return Ok(false),
+            Err(fault) => return Err(fault),
+        }
+    }
+    Ok(true)
+}
+
+fn padding_holds<S: Source>(
+    header: &ImageHeader,
+    source: &mut S,
+    w: &mut Window,
+    m: &mut Meter,
+) -> Result<bool, SectionFault>
+    ensures content { IsTrue S.tells → S.content source.new ≡ S.content source.old }
+    ensures size { IsTrue S.tells → S.size source.new ≡ S.size source.old }
+    ensures frame { S.read_frame source.new ≡ S.read_frame source.old }
+    ensures value { IsTrue S.tells → IfOk result (λ b. b ≡ check_spec.padding_holds (S.content source.old) (view_of header.now)) }
+    ensures faults { S.read_faults source.old ≤ S.read_faults source.new }
+    ensures cause { IfErr result (λ e. ReadCause e (S.read_faults source.old) (S.read_faults source.new) (IsTrue S.tells → ⊥)) }
+{
+    let page = header.page_size();
+    let size = header.size() as u64;
+    match zeros_there(source, size, padding(size, page), w, m) {
+        Ok(true) => {}
+        Ok(false) => return Ok(false),
+        Err(fault) => return Err(fault),
+    }
+    places_padded(source, &header.sections(), page, w, m)
+}
+
+// ---- id
+
+fn id_holds<S: Source>(
+    header: &ImageHeader,
+    source: &mut S,
+    w: &mut Window,
+    m: &mut Meter,
+) -> Result<bool, SectionFault>
+    ensures content { IsTrue S.tells → S.content source.new ≡ S.content source.old }
+    ensures size { IsTrue S.tells → S.size source.new ≡ S.size source.old }
+    ensures frame { S.read_frame source.new ≡ S.read_frame source.old }
+    ensures value { IsTrue S.tells → IfOk result (λ b. IsTrue b ↔ check_spec.IdHolds (S.content source.old) (view_of header.now)) }
+    ensures faults { S.read_faults source.old ≤ S.read_faults source.new }
+    ensures cause { IfErr result (λ e. ReadCause e (S.read_faults source.old) (S.read_faults source.new) (IsTrue S.tells → beyond (places_of (view_of header.now)) (length (S.content source.old)) ≡ None → ⊥)) }
+{
+    let front = match header {
+        ImageHeader::Boot(BootHeader::V0(front)) => front,
+        ImageHeader::Boot(BootHeader::V1(front, _)) => front,
+        ImageHeader::Boot(BootHeader::V2(front, ..)) => front,
+        ImageHeader::Boot(BootHeader::V3(_)) => return Ok(true),
+        ImageHeader::Boot(BootHeader::V4(..)) => return Ok(true),
+        ImageHeader::Vendor(_) => return Ok(true),
+    };
+    match stored_id(source, &header.sections(), w, m) {
+        Ok(id) => Ok(front.id == id),
+        Err(fault) => Err(fault),
+    }
+}
+
+// ---- offset
+
+fn boot_offset_holds(header: &BootHeader) -> bool
+    ensures { result ≡ check_spec.boot_offset_holds header.now }
+{
+    match header {
+        BootHeader::V0(_) => true,
+        BootHeader::V1(f, d) => d.header_size == 1648
+            && d.recovery_dtbo_offset
+                == dtbo_offset(
+                    f.page_size.bytes(),
+                    f.kernel_size,
+                    f.ramdisk_size,
+                    f.second_size,
+                    d.recovery_dtbo_size,
+                ),
+        BootHeader::V2(f, d, _) => d.header_size == 1660
+            && d.recovery_dtbo_offset
+                == dtbo_offset(
+                    f.page_size.bytes(),
+                    f.kernel_size,
+                    f.ramdisk_size,
+                    f.second_size,
+                    d.recovery_dtbo_size,
+                ),
+        BootHeader::V3(f) => f.header_size == 1580,
+        BootHeader::V4(f, _) => f.header_size == 1584,
+    }
+}
+
+fn offset_holds(header: &ImageHeader) -> bool
+    ensures { result ≡ check_spec.offset_holds (view_of header.now) }
+{
+    match header {
+        ImageHeader::Boot(header) => boot_offset_holds(header),
+        ImageHeader::Vendor(VendorHeader::V3(front)) => front.header_size == 2112,
+        ImageHeader::Vendor(VendorHeader::V4(front, _)) => front.header_size == 2128,
+    }
+}
+
+// ---- texts
+
+/// A field is zero from its first zero byte on, and its last byte is zero.
+fn text_field(field: &[u8]) -> bool
+    ensures { result ≡ check_spec.text_field field.now }
+{
+    for i in 0..field.len() {
+        if field[i] == 0 {
+            return all_zero(&field[i..]);
+        }
+    }
+    false
+}
+
+/// The same of two fields that hold one text.
+fn long_text_field(front: &[u8], back: &[u8]) -> bool
+    ensures { result ≡ check_spec.text_field (front.now ++ back.now) }
+{
+    if text_field(front) {
+        return all_zero(back);
+    }
+    no_zero(front) && text_field(back)
+}
+
+fn front_texts(front: &BootFront) -> bool
+    ensures { result ≡ check_spec.front_texts front.now }
+{
+    text_field(&front.name) && long_text_field(&front.cmdline, &front.extra_cmdline)
+}
+
+fn short_texts(front: &ShortFront) -> bool
+    ensures { result ≡ check_spec.short_texts front.now }
+{
+    all_zero(&front.reserved) && text_field(&front.cmdline)
+}
+
+fn texts_hold(header: &ImageHeader) -> bool
+    ensures { result ≡ check_spec.texts_hold (view_of header.now) }
+{
+    match header {
+        ImageHeader::Boot(BootHeader::V0(front)) => front_texts(front),
+        ImageHeader::Boot(BootHeader::V1(front, _)) => front_texts(front),
+        ImageHeader::Boot(BootHeader::V2(front, ..)) => front_texts(front),
+        ImageHeader::Boot(BootHeader::V3(front)) => short_texts(front),
+        ImageHeader::Boot(BootHeader::V4(front, _)) => short_texts(front),
+        ImageHeader::Vendor(VendorHeader::V3(front)) => {
+            text_field(&front.name) && text_field(&front.cmdline)
+        }
+        ImageHeader::Vendor(VendorHeader::V4(front, _)) => {
+            text_field(&front.name) && text_field(&front.cmdline)
+        }
+    }
+}
+
+/// Checks an image against what the packer writes.
+///
+/// # Errors
+/// `Read`, and `SourceChanged` where the source isn't the opened one any more.
+pub fn check<S: Source>(
+    image: &Image,
+    source: &mut S,
+    w: &mut Window,
+    m: &mut Meter,
+) -> Result<Verdict, SectionFault>
+    ensures content { IsTrue S.tells → S.content source.new ≡ S.content source.old }
+    ensures size { IsTrue S.tells → S.size source.new ≡ S.size source.old }
+    ensures frame { S.read_frame source.new ≡ S.read_frame source.old }
+    ensures padding { IsTrue S.tells → IfOk result (λ v. v.padding ≡ check_spec.padding_holds (S.content source.old) (view_of image.now.header)) }
+    ensures id { IsTrue S.tells → IfOk result (λ v. IsTrue v.id ↔ check_spec.IdHolds (S.content source.old) (view_of image.now.header)) }
+    ensures offset { IfOk result (λ v. v.offset ≡ check_spec.offset_holds (view_of image.now.header)) }
+    ensures canonical { IsTrue S.tells → IfOk result (λ v. IsTrue v.canonical ↔ check_spec.IsCanonical (S.content source.old) (view_of image.now.header)) }
+    ensures faults { S.read_faults source.old ≤ S.read_faults source.new }
+    ensures cause { IfErr result (λ e. ReadCause e (S.read_faults source.old) (S.read_faults source.new) (IsTrue S.tells → IsOpened (S.content source.old) image.now → ⊥)) }
+{
+    if source.length() != image.length {
+        return Err(SectionFault::SourceChanged);
+    }
+    let header = &image.header;
+    let padding = match padding_holds(header, source, w, m) {
+        Ok(value) => value,
+        Err(fault) => return Err(fault),
+    };
+    let id = match id_holds(header, source, w, m) {
+        Ok(value) => value,
+        Err(fault) => return Err(fault),
+    };
+    let fill = match fragments_fill(header, source, w, m) {
+        Ok(value) => value,
+        Err(fault) => return Err(fault),
+    };
+    let offset = offset_holds(header);
+    Ok(Verdict {
+        padding,
+        id,
+        offset,
+        canonical: padding && id && offset && texts_hold(header) && fill,
+    })
+}

@@ -1,0 +1,215 @@
+//! The table of ramdisk fragments, which a vendor boot image of version 4 has.
+
+ghost use Rattle.std.specs.Prelude.{◌≡◌, ◌<◌, ◌≤◌, ◌+◌, ◌-◌, ◌*◌, ◌^◌, ℕ, IsTrue, IfOk, IfErr, OnOk, MatchBool, MatchResult, ◌↔◌, None, length, take, drop};
+ghost use Rattle.abt_headers.specs.Entry.{entry_at};
+ghost use Rattle.abt_sections.specs.Cause.{ReadCause, OpenCause};
+ghost use Rattle.abt_sections.specs.Header as header_spec;
+ghost use Rattle.abt_sections.specs.Open.{IsOpened, EntryRefusedAs, beyond};
+ghost use Rattle.abt_sections.specs.Check.{FragmentsFill, HasTable};
+
+use crate::fault::SectionFault;
+use crate::image::{Image, ImageHeader};
+use crate::reading::read_front;
+use abt_headers::{RamdiskEntry, VendorHeader, pages};
+use abt_io::{Meter, Source, Window};
+
+/// The table of an image, as its header gives it.
+#[derive(Clone, Copy)]
+pub(crate) struct Table {
+    /// Where the table begins.
+    pub(crate) at: u64,
+    /// How many entries it has.
+    pub(crate) count: u32,
+    /// Where the vendor ramdisk begins, and how many bytes it has.
+    pub(crate) ramdisk_at: u64,
+    pub(crate) ramdisk_size: u32,
+}
+
+/// The table of an image; one without entries where the version has none.
+pub(crate) fn table_of(header: &ImageHeader) -> Table
+    ensures at { result.at ≡ header_spec.table_at (header_spec.view_of header.now) }
+    ensures count { result.count ≡ header_spec.fragment_count (header_spec.view_of header.now) }
+    ensures ramdisk_at { result.ramdisk_at ≡ header_spec.ramdisk_at (header_spec.view_of header.now) }
+    ensures ramdisk_size { result.ramdisk_size ≡ header_spec.ramdisk_size (header_spec.view_of header.now) }
+    ensures whole { header_spec.HasWholeTable (header_spec.view_of header.now) }
+    ensures near { result.at < 2 ^ 62 }
+    ensures ramdisk_near { result.ramdisk_at < 2 ^ 62 }
+{
+    let front = match header {
+        ImageHeader::Boot(_) => {
+            return Table {
+                at: 0,
+                count: 0,
+                ramdisk_at: 0,
+                ramdisk_size: 0,
+            };
+        }
+        ImageHeader::Vendor(VendorHeader::V3(front)) => front,
+        ImageHeader::Vendor(VendorHeader::V4(front, _)) => front,
+    };
+    let page = header.page_size();
+    let first = pages(header.size() as u64, page);
+    let ramdisk = pages(front.vendor_ramdisk_size as u64, page);
+    let dtb = pages(front.dtb_size as u64, page);
+    Table {
+        at: page as u64 * (first + ramdisk + dtb),
+        count: entry_count(header),
+        ramdisk_at: page as u64 * first,
+        ramdisk_size: front.vendor_ramdisk_size,
+    }
+}
+
+/// How many entries the table has.
+pub(crate) fn entry_count(header: &ImageHeader) -> u32
+    ensures { result ≡ header_spec.fragment_count (header_spec.view_of header.now) }
+{
+    match header {
+        ImageHeader::Vendor(VendorHeader::V4(_, tail)) => tail.entry_num,
+        _ => 0,
+    }
+}
+
+/// One step: reads entry `i` of a table.
+fn read_entry<S: Source>(
+    table: &Table,
+    i: u32,
+    source: &mut S,
+    w: &mut Window,
+    m: &mut Meter,
+) -> Result<RamdiskEntry, SectionFault>
+    requires { table.now.at < 2 ^ 62 }
+    ensures content { IsTrue S.tells → S.content source.new ≡ S.content source.old }
+    ensures size { IsTrue S.tells → S.size source.new ≡ S.size source.old }
+    ensures frame { S.read_frame source.new ≡ S.read_frame source.old }
+    ensures entry { IsTrue S.tells → IfOk result (λ e. e ≡ entry_at (take 108 (drop (table.now.at + 108 * i) (S.content source.old)))) }
+    ensures faults { S.read_faults source.old ≤ S.read_faults source.new }
+    ensures cause { IfErr result (λ e. ReadCause e (S.read_faults source.old) (S.read_faults source.new) (IsTrue S.tells → table.now.at + 108 * i + 108 ≤ length (S.content source.old) → ⊥)) }
+{
+    match read_front(source, table.at + 108 * i as u64, 108, w, m) {
+        Ok(()) => {}
+        Err(fault) => return Err(fault),
+    }
+    let mut record = [0u8; 108];
+    record.copy_from_slice(w.part(0, 108));
+    Ok(RamdiskEntry::decode(&record))
+}
+
+/// A fragment ends within a vendor ramdisk of so many bytes.
+fn is_within(entry: &RamdiskEntry, ramdisk_size: u32) -> bool
+    ensures { IsTrue result ↔ (entry.now.ramdisk_offset + entry.now.ramdisk_size ≤ ramdisk_size) }
+{
+    entry.ramdisk_offset as u64 + entry.ramdisk_size as u64 <= ramdisk_size as u64
+}
+
+/// Tests that each fragment ends within the vendor ramdisk, of an image whose sections are there.
+pub(crate) fn check_entries<S: Source>(
+    header: &ImageHeader,
+    source: &mut S,
+    w: &mut Window,
+    m: &mut Meter,
+) -> Result<(), SectionFault>
+    ensures content { IsTrue S.tells → S.content source.new ≡ S.content source.old }
+    ensures size { IsTrue S.tells → S.size source.new ≡ S.size source.old }
+    ensures frame { S.read_frame source.new ≡ S.read_frame source.old }
+    ensures found { IsTrue S.tells → beyond (header_spec.places_of (header_spec.view_of header.now)) (length (S.content source.old)) ≡ None → MatchResult result (λ _. header_spec.EachWithin (S.content source.old) (header_spec.view_of header.now)) (λ f. EntryRefusedAs (S.content source.old) (header_spec.view_of header.now) f) }
+    ensures faults { S.read_faults source.old ≤ S.read_faults source.new }
+    ensures cause { IfErr result (λ e. OpenCause e (S.read_faults source.old) (S.read_faults source.new) (IsTrue S.tells → beyond (header_spec.places_of (header_spec.view_of header.now)) (length (S.content source.old)) ≡ None → ⊥)) }
+{
+    let table = table_of(header);
+    for i in 0..table.count {
+        m.tick();
+        let entry = match read_entry(&table, i, source, w, m) {
+            Ok(entry) => entry,
+            Err(fault) => return Err(fault),
+        };
+        if !is_within(&entry, table.ramdisk_size) {
+            return Err(SectionFault::Entry(i));
+        }
+    }
+    Ok(())
+}
+
+/// How many ramdisk fragments the table has: none but in a vendor boot image of version 4.
+pub fn fragments(image: &Image) -> u32
+    ensures { result ≡ header_spec.fragment_count (header_spec.view_of image.now.header) }
+{
+    entry_count(&image.header)
+}
+
+/// Entry `i` of the table.
+///
+/// # Errors
+/// `Read`, and `SourceChanged` where the source isn't the opened one any more, or the entry's fragment now ends past
+/// the vendor ramdisk.
+pub fn fragment<S: Source>(
+    image: &Image,
+    i: u32,
+    source: &mut S,
+    w: &mut Window,
+    m: &mut Meter,
+) -> Result<RamdiskEntry, SectionFault>
+    requires { i < header_spec.fragment_count (header_spec.view_of image.now.header) }
+    ensures content { IsTrue S.tells → S.content source.new ≡ S.content source.old }
+    ensures size { IsTrue S.tells → S.size source.new ≡ S.size source.old }
+    ensures frame { S.read_frame source.new ≡ S.read_frame source.old }
+    ensures entry { IsTrue S.tells → IfOk result (λ e. e ≡ header_spec.entry_of (S.content source.old) (header_spec.view_of image.now.header) i) }
+    ensures within { IfOk result (λ e. header_spec.IsWithin (header_spec.view_of image.now.header) e) }
+    ensures faults { S.read_faults source.old ≤ S.read_faults source.new }
+    ensures cause { IfErr result (λ e. ReadCause e (S.read_faults source.old) (S.read_faults source.new) (IsTrue S.tells → IsOpened (S.content source.old) image.now → ⊥)) }
+{
+    if source.length() != image.length {
+        return Err(SectionFault::SourceChanged);
+    }
+    let table = table_of(&image.header);
+    let entry = match read_entry(&table, i, source, w, m) {
+        Ok(entry) => entry,
+        Err(fault) => return Err(fault),
+    };
+    if !is_within(&entry, table.ramdisk_size) {
+        return Err(SectionFault::SourceChanged);
+    }
+    Ok(entry)
+}
+
+/// Whether the fragments lie end to end from 0 in table order and fill the vendor ramdisk, where there is a table.
+pub(crate) fn fragments_fill<S: Source>(
+    header: &ImageHeader,
+    source: &mut S,
+    w: &mut Window,
+    m: &mut Meter,
+) -> Result<bool, SectionFault>
+    ensures content { IsTrue S.tells → S.content source.new ≡ S.content source.old }
+    ensures size { IsTrue S.tells → S.size source.new ≡ S.size source.old }
+    ensures frame { S.read_frame source.new ≡ S.read_frame source.old }
+    ensures value { IsTrue S.tells → IfOk result (λ b. IsTrue b ↔ FragmentsFill (S.content source.old) (header_spec.view_of header.now)) }
+    ensures faults { S.read_faults source.old ≤ S.read_faults source.new }
+    ensures cause { IfErr result (λ e. ReadCause e (S.read_faults source.old) (S.read_faults source.new) (IsTrue S.tells → beyond (header_spec.places_of (header_spec.view_of header.now)) (length (S.content source.old)) ≡ None → ⊥)) }
+{
+    if !has_table(header) {
+        return Ok(true);
+    }
+    let table = table_of(header);
+    let mut next = 0u64;
+    for i in 0..table.count {
+        m.tick();
+        let entry = match read_entry(&table, i, source, w, m) {
+            Ok(entry) => entry,
+            Err(fault) => return Err(fault),
+        };
+        if entry.ramdisk_offset as u64 != next {
+            return Ok(false);
+        }
+        next += entry.ramdisk_size as u64;
+    }
+    Ok(next == table.ramdisk_size as u64)
+}
+
+/// The version has a table of ramdisk fragments.
+fn has_table(header: &ImageHeader) -> bool
+    ensures { MatchBool result (HasTable (header_spec.view_of header.now)) (HasTable (header_spec.view_of header.now) → ⊥) }
+{
+    match header {
+        ImageHeader::Vendor(VendorHeader::V4(..)) => true,
+        _ => false,
+    }
+}

@@ -1,0 +1,133 @@
+//! Packing a boot image.
+
+ghost use Rattle.std.specs.Prelude.{◌≡◌, ◌<◌, ◌≤◌, ◌+◌, ◌-◌, ◌*◌, ◌^◌, ◌++◌, IsTrue, IfOk, IfErr, OnOk, Err, length, map, take};
+ghost use Rattle.abt_headers.specs.Boot.{boot_page, boot_record, boot_size};
+ghost use Rattle.abt_headers.specs.Page as of_page;
+ghost use Rattle.abt_sections.specs.BootCanon as canon;
+ghost use Rattle.abt_sections.specs.Cause.{MoveCause, ReadCause, PackCause, total};
+ghost use Rattle.abt_sections.specs.Fields.{boot_fields, filled};
+ghost use Rattle.abt_sections.specs.Grown.{Begins};
+ghost use Rattle.abt_sections.specs.Layout as layout;
+ghost use Rattle.abt_sections.specs.Refusal.{boot_names, pack_boot_refusal, IfRefused};
+
+use crate::boot_header::{boot_header_for, check_boot_spec};
+use crate::fault::SectionFault;
+use crate::hashing::hash_parts;
+use crate::sizes::{boot_sizes, image_bytes};
+use crate::spec::{BootSpec, Packed};
+use crate::writing::{write_parts, write_record};
+use abt_headers::BootHeader;
+use abt_io::{Meter, Output, Source, Window};
+
+/// The id of the versions that have one, else zeros.
+fn id_for<S: Source>(
+    version: u32,
+    parts: &mut [S],
+    sizes: &[u32; 5],
+    w: &mut Window,
+    m: &mut Meter,
+) -> Result<[u8; 32], SectionFault>
+    requires { length parts.old ≤ 5 }
+    ensures content { IsTrue S.tells → map S.content parts.new ≡ map S.content parts.old }
+    ensures size { IsTrue S.tells → map S.size parts.new ≡ map S.size parts.old }
+    ensures frame { map S.read_frame parts.new ≡ map S.read_frame parts.old }
+    ensures id { IsTrue S.tells → IfOk result (λ d. d ≡ canon.id_for version (map S.content parts.old)) }
+    ensures faults { total S.read_faults parts.old ≤ total S.read_faults parts.new }
+    ensures cause { IfErr result (λ e. ReadCause e (total S.read_faults parts.old) (total S.read_faults parts.new) (IsTrue S.tells → sizes.now ≡ filled 5 (map S.size parts.old) → ⊥)) }
+{
+    if version < 3 {
+        hash_parts(parts, sizes, w, m)
+    } else {
+        Ok([0; 32])
+    }
+}
+
+/// Writes a boot header's record, and zeros up to a page boundary.
+fn write_header<O: Output>(
+    header: &BootHeader,
+    output: &mut O,
+    w: &mut Window,
+    m: &mut Meter,
+) -> Result<(), SectionFault>
+    ensures written { OnOk result (O.written output.new ≡ O.written output.old ++ layout.padded (boot_page header.now) (boot_record header.now)) }
+    ensures front { Begins (O.written output.old) (O.written output.new) (layout.padded (boot_page header.now) (boot_record header.now)) }
+    ensures least { length (O.written output.old) ≤ length (O.written output.new) }
+    ensures most { length (O.written output.new) ≤ length (O.written output.old) + of_page.pages (boot_size header.now) (boot_page header.now) * boot_page header.now }
+    ensures all { OnOk result (length (O.written output.new) ≡ length (O.written output.old) + of_page.pages (boot_size header.now) (boot_page header.now) * boot_page header.now) }
+    ensures write_frame { O.write_frame output.new ≡ O.write_frame output.old }
+    ensures write_faults { O.write_faults output.old ≤ O.write_faults output.new }
+    ensures cause { IfErr result (λ e. MoveCause e 0 0 (O.write_faults output.old) (O.write_faults output.new) ⊥) }
+{
+    let mut record = [0u8; 1660];
+    let size = header.encode(&mut record);
+    write_record(&record[..size], header.page_size(), output, w, m)
+}
+
+/// Writes the image of a header and parts that must have these sizes.
+fn write_image<S: Source, O: Output>(
+    header: &BootHeader,
+    parts: &mut [S],
+    sizes: &[u32; 5],
+    output: &mut O,
+    w: &mut Window,
+    m: &mut Meter,
+) -> Result<(), SectionFault>
+    requires { length parts.old ≤ 5 }
+    ensures content { IsTrue S.tells → map S.content parts.new ≡ map S.content parts.old }
+    ensures frame { map S.read_frame parts.new ≡ map S.read_frame parts.old }
+    ensures written { IsTrue S.tells → OnOk result (O.written output.new ≡ O.written output.old ++ canon.boot_image header.now (map S.content parts.old)) }
+    ensures front { IsTrue S.tells → Begins (O.written output.old) (O.written output.new) (canon.boot_image header.now (map S.content parts.old)) }
+    ensures least { length (O.written output.old) ≤ length (O.written output.new) }
+    ensures most { length (O.written output.new) ≤ length (O.written output.old) + canon.image_size (boot_page header.now) (boot_size header.now) (take (length parts.old) sizes.now) }
+    ensures all { OnOk result (length (O.written output.new) ≡ length (O.written output.old) + canon.image_size (boot_page header.now) (boot_size header.now) (take (length parts.old) sizes.now)) }
+    ensures write_frame { O.write_frame output.new ≡ O.write_frame output.old }
+    ensures read_faults { total S.read_faults parts.old ≤ total S.read_faults parts.new }
+    ensures write_faults { O.write_faults output.old ≤ O.write_faults output.new }
+    ensures cause { IfErr result (λ e. MoveCause e (total S.read_faults parts.old) (total S.read_faults parts.new) (O.write_faults output.old) (O.write_faults output.new) (IsTrue S.tells → sizes.now ≡ filled 5 (map S.size parts.old) → ⊥)) }
+{
+    match write_header(header, output, w, m) {
+        Ok(()) => {}
+        Err(fault) => return Err(fault),
+    }
+    write_parts(parts, sizes, header.page_size(), output, w, m)
+}
+
+/// Packs a boot image of these fields and parts: the bytes of `bootimg.h`, laid as `mkbootimg` lays them.
+///
+/// The parts stand in the order of the version's sections: kernel and ramdisk; then in versions 0 to 2 the second stage,
+/// from version 1 the recovery dtbo, in version 2 the dtb; in version 4 the signature. An absent part has length 0.
+/// Versions 0 to 2 read each part twice: for the id, and for its bytes.
+///
+/// # Errors
+/// Before anything is written, the first of: `Header(Version)`, `Header(PageSize)`, `Name`, `CommandLine`,
+/// `SectionTooLarge`. Then `Read`, `Write` and `SourceChanged` as they come: what stands is a beginning of the image.
+pub fn pack_boot<S: Source, O: Output>(
+    spec: &BootSpec,
+    parts: &mut [S],
+    output: &mut O,
+    w: &mut Window,
+    m: &mut Meter,
+) -> Result<Packed, SectionFault>
+    requires { spec.now.version ≤ 4 → length parts.old ≡ length (boot_names spec.now.version) }
+    ensures content { IsTrue S.tells → map S.content parts.new ≡ map S.content parts.old }
+    ensures frame { map S.read_frame parts.new ≡ map S.read_frame parts.old }
+    ensures write_frame { O.write_frame output.new ≡ O.write_frame output.old }
+    ensures refused { IfRefused (pack_boot_refusal (boot_fields spec.now) (map S.size parts.old)) (λ f. (result ≡ Err f) × (output.new ≡ output.old)) }
+    ensures written { IsTrue S.tells → OnOk result (O.written output.new ≡ O.written output.old ++ canon.boot_canon (boot_fields spec.now) (map S.content parts.old)) }
+    ensures front { IsTrue S.tells → Begins (O.written output.old) (O.written output.new) (canon.boot_canon (boot_fields spec.now) (map S.content parts.old)) }
+    ensures least { length (O.written output.old) ≤ length (O.written output.new) }
+    ensures most { length (O.written output.new) ≤ length (O.written output.old) + canon.boot_image_size (boot_fields spec.now) (map S.size parts.old) }
+    ensures packed { IfOk result (λ p. (p.bytes ≡ canon.boot_image_size (boot_fields spec.now) (map S.size parts.old)) × (length (O.written output.new) ≡ length (O.written output.old) + p.bytes)) }
+    ensures read_faults { total S.read_faults parts.old ≤ total S.read_faults parts.new }
+    ensures write_faults { O.write_faults output.old ≤ O.write_faults output.new }
+    ensures cause { IfErr result (λ e. PackCause (pack_boot_refusal (boot_fields spec.now) (map S.size parts.old)) e (total S.read_faults parts.old) (total S.read_faults parts.new) (O.write_faults output.old) (O.write_faults output.new) (IsTrue S.tells → ⊥)) }
+{
+    let page = check_boot_spec(spec)?;
+    let sizes = boot_sizes(spec.version, parts)?;
+    let id = id_for(spec.version, parts, &sizes, w, m)?;
+    let header = boot_header_for(spec, page, &sizes, id);
+    write_image(&header, parts, &sizes, output, w, m)?;
+    Ok(Packed {
+        bytes: image_bytes(header.page_size(), header.size(), &sizes, parts.len()),
+    })
+}

@@ -1,0 +1,51 @@
+//! Reading one ask from a source to the window's front.
+
+ghost use Rattle.std.specs.Prelude.{◌≡◌, ◌<◌, ◌≤◌, ◌+◌, ◌^◌, IsTrue, IfErr, OnOk, length, take, drop, slice_range};
+ghost use Rattle.abt_sections.specs.Cause.{ReadCause};
+
+use crate::fault::SectionFault;
+use abt_io::{Meter, Source, Window, gather_at};
+
+/// One step: reads the `ask` bytes from a place on.
+pub(crate) fn read_front<S: Source>(
+    source: &mut S,
+    at: u64,
+    ask: usize,
+    w: &mut Window,
+    m: &mut Meter,
+) -> Result<(), SectionFault>
+    requires room { ask ≤ 65536 }
+    requires below { at + ask < 2 ^ 64 }
+    ensures content { IsTrue S.tells → S.content source.new ≡ S.content source.old }
+    ensures size { IsTrue S.tells → S.size source.new ≡ S.size source.old }
+    ensures frame { S.read_frame source.new ≡ S.read_frame source.old }
+    ensures present { IsTrue S.tells → OnOk result (0 < ask → at + ask ≤ length (S.content source.old)) }
+    ensures bytes { IsTrue S.tells → OnOk result (slice_range w.new.bytes 0 ask ≡ take ask (drop at (S.content source.old))) }
+    ensures faults { S.read_faults source.old ≤ S.read_faults source.new }
+    ensures cause { IfErr result (λ e. ReadCause e (S.read_faults source.old) (S.read_faults source.new) (IsTrue S.tells → (0 < ask → at + ask ≤ length (S.content source.old)) → ⊥)) }
+    ensures steps { m.new.steps.number ≡ m.old.steps.number + 1 }
+{
+    w.is_whole();
+    let gathered = gather_at(source, at, w.part_mut(0, ask), m);
+    m.close_step(gathered.count as u32);
+    if let Some(fault) = gathered.fault {
+        return Err(SectionFault::Read(fault));
+    }
+    if gathered.count < ask {
+        return Err(SectionFault::SourceChanged);
+    }
+    Ok(())
+}
+
+/// How much of what is left one ask takes: up to a window.
+pub(crate) fn next_ask(left: u64) -> usize
+    ensures some { 0 < left → 0 < result }
+    ensures within { result ≤ left }
+    ensures room { result ≤ 65536 }
+{
+    if left < abt_io::WINDOW as u64 {
+        left as usize
+    } else {
+        abt_io::WINDOW
+    }
+}

@@ -1,0 +1,50 @@
+//! Text fields: a name or a command line, and then zeros.
+
+ghost use Rattle.std.specs.Prelude.{◌≡◌, ◌≤◌, ◌+◌, IsTrue, length, take, drop};
+ghost use Rattle.abt_sections.specs.Fields as fields;
+
+/// At most `most` bytes, none of them zero.
+pub(crate) fn is_text(most: usize, text: &[u8]) -> bool
+    ensures value { result ≡ fields.is_text most text.now }
+    ensures bound { IsTrue result → length text.now ≤ most }
+{
+    text.len() <= most && no_zero(text)
+}
+
+pub(crate) fn no_zero(text: &[u8]) -> bool
+    ensures { result ≡ fields.no_zero text.now }
+{
+    for byte in text {
+        if *byte == 0 {
+            return false;
+        }
+    }
+    true
+}
+
+/// These bytes, and then zeros.
+pub(crate) fn filled<const N: usize>(text: &[u8]) -> [u8; N]
+    requires { length text.now ≤ N }
+    ensures { result ≡ fields.filled N text.now }
+{
+    let mut out = [0; N];
+    out[..text.len()].copy_from_slice(text);
+    out
+}
+
+/// The first bytes of a text, as many as the field holds, and then zeros.
+pub(crate) fn filled_front<const N: usize>(text: &[u8]) -> [u8; N]
+    ensures { result ≡ fields.filled N (take N text.now) }
+{
+    let end = N.min(text.len());
+    filled(&text[..end])
+}
+
+/// The bytes of a text from a place on, and then zeros.
+pub(crate) fn filled_back<const N: usize>(text: &[u8], from: usize) -> [u8; N]
+    requires { length text.now ≤ from + N }
+    ensures { result ≡ fields.filled N (drop from text.now) }
+{
+    let start = from.min(text.len());
+    filled(&text[start..])
+}

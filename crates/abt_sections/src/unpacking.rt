@@ -1,0 +1,97 @@
+//! Taking sections and ramdisk fragments out of an image.
+
+ghost use Rattle.std.specs.Prelude.{◌≡◌, ◌<◌, ◌≤◌, ◌+◌, ◌-◌, ◌^◌, ◌++◌, IsTrue, IfErr, OnOk, length, slice_index_or};
+ghost use Rattle.abt_headers.specs.declared.sections.Place.{Place};
+ghost use Rattle.abt_sections.specs.Cause.{MoveCause};
+ghost use Rattle.abt_sections.specs.Grown.{Begins};
+ghost use Rattle.abt_sections.specs.Header as header_spec;
+ghost use Rattle.abt_sections.specs.Layout.{part_of};
+ghost use Rattle.abt_sections.specs.Open.{IsOpened};
+
+use crate::fault::SectionFault;
+use crate::fragment_table::{fragment, table_of};
+use crate::image::{Image, section};
+use abt_io::{CopyFault, Meter, Output, Source, Window, copy_range};
+
+/// Writes section `i` of an image.
+///
+/// # Errors
+/// `Read` and `Write` as they come, `SourceChanged` where the source isn't the opened one any more: what stands is a
+/// beginning of the section.
+pub fn unpack<S: Source, O: Output>(
+    image: &Image,
+    i: usize,
+    source: &mut S,
+    output: &mut O,
+    w: &mut Window,
+    m: &mut Meter,
+) -> Result<(), SectionFault>
+    requires { i < length (header_spec.places_of (header_spec.view_of image.now.header)) }
+    ensures content { IsTrue S.tells → S.content source.new ≡ S.content source.old }
+    ensures size { IsTrue S.tells → S.size source.new ≡ S.size source.old }
+    ensures frame { S.read_frame source.new ≡ S.read_frame source.old }
+    ensures write_frame { O.write_frame output.new ≡ O.write_frame output.old }
+    ensures written { (p : Place) → p ≡ slice_index_or (header_spec.places_of (header_spec.view_of image.now.header)) i p → IsTrue S.tells → OnOk result (O.written output.new ≡ O.written output.old ++ part_of (S.content source.old) p) }
+    ensures front { (p : Place) → p ≡ slice_index_or (header_spec.places_of (header_spec.view_of image.now.header)) i p → IsTrue S.tells → Begins (O.written output.old) (O.written output.new) (part_of (S.content source.old) p) }
+    ensures least { length (O.written output.old) ≤ length (O.written output.new) }
+    ensures most { (p : Place) → p ≡ slice_index_or (header_spec.places_of (header_spec.view_of image.now.header)) i p → length (O.written output.new) ≤ length (O.written output.old) + p.size }
+    ensures all { (p : Place) → p ≡ slice_index_or (header_spec.places_of (header_spec.view_of image.now.header)) i p → OnOk result (length (O.written output.new) ≡ length (O.written output.old) + p.size) }
+    ensures read_faults { S.read_faults source.old ≤ S.read_faults source.new }
+    ensures write_faults { O.write_faults output.old ≤ O.write_faults output.new }
+    ensures cause { IfErr result (λ e. MoveCause e (S.read_faults source.old) (S.read_faults source.new) (O.write_faults output.old) (O.write_faults output.new) (IsTrue S.tells → IsOpened (S.content source.old) image.now → ⊥)) }
+{
+    let place = section(image, i);
+    if source.length() != image.length {
+        return Err(SectionFault::SourceChanged);
+    }
+    if place.size == 0 {
+        return Ok(());
+    }
+    match copy_range(source, place.at, place.size as u64, output, w, m) {
+        Ok(()) => Ok(()),
+        Err(CopyFault::Read(fault)) => Err(SectionFault::Read(fault)),
+        Err(CopyFault::Write(fault)) => Err(SectionFault::Write(fault)),
+        Err(CopyFault::Changed) => Err(SectionFault::SourceChanged),
+    }
+}
+
+/// Writes ramdisk fragment `i` of a vendor boot image.
+///
+/// # Errors
+/// As `unpack`; `SourceChanged` also where the table's entry now ends past the vendor ramdisk.
+pub fn unpack_fragment<S: Source, O: Output>(
+    image: &Image,
+    i: u32,
+    source: &mut S,
+    output: &mut O,
+    w: &mut Window,
+    m: &mut Meter,
+) -> Result<(), SectionFault>
+    requires { i < header_spec.fragment_count (header_spec.view_of image.now.header) }
+    ensures content { IsTrue S.tells → S.content source.new ≡ S.content source.old }
+    ensures size { IsTrue S.tells → S.size source.new ≡ S.size source.old }
+    ensures frame { S.read_frame source.new ≡ S.read_frame source.old }
+    ensures write_frame { O.write_frame output.new ≡ O.write_frame output.old }
+    ensures written { IsTrue S.tells → OnOk result (O.written output.new ≡ O.written output.old ++ header_spec.fragment_of (S.content source.old) (header_spec.view_of image.now.header) i) }
+    ensures front { IsTrue S.tells → Begins (O.written output.old) (O.written output.new) (header_spec.fragment_of (S.content source.old) (header_spec.view_of image.now.header) i) }
+    ensures least { length (O.written output.old) ≤ length (O.written output.new) }
+    ensures most { length (O.written output.new) ≤ length (O.written output.old) + header_spec.ramdisk_size (header_spec.view_of image.now.header) }
+    ensures read_faults { S.read_faults source.old ≤ S.read_faults source.new }
+    ensures write_faults { O.write_faults output.old ≤ O.write_faults output.new }
+    ensures cause { IfErr result (λ e. MoveCause e (S.read_faults source.old) (S.read_faults source.new) (O.write_faults output.old) (O.write_faults output.new) (IsTrue S.tells → IsOpened (S.content source.old) image.now → ⊥)) }
+{
+    let entry = match fragment(image, i, source, w, m) {
+        Ok(entry) => entry,
+        Err(fault) => return Err(fault),
+    };
+    if entry.ramdisk_size == 0 {
+        return Ok(());
+    }
+    let at = table_of(&image.header).ramdisk_at + entry.ramdisk_offset as u64;
+    match copy_range(source, at, entry.ramdisk_size as u64, output, w, m) {
+        Ok(()) => Ok(()),
+        Err(CopyFault::Read(fault)) => Err(SectionFault::Read(fault)),
+        Err(CopyFault::Write(fault)) => Err(SectionFault::Write(fault)),
+        Err(CopyFault::Changed) => Err(SectionFault::SourceChanged),
+    }
+}

@@ -1,0 +1,295 @@
+//! Packing a vendor boot image.
+
+ghost use Rattle.std.specs.Prelude.{◌≡◌, ◌<◌, ◌≤◌, ◌+◌, ◌-◌, ◌*◌, ◌^◌, ◌++◌, ◌∷◌, [], IsTrue, IfOk, IfErr, OnOk, Err, length, map, take, drop, slice_index};
+ghost use Rattle.std.specs.List.{concat};
+ghost use Rattle.abt_headers.specs.Page as of_page;
+ghost use Rattle.abt_headers.specs.Vendor.{view, vendor_page, vendor_record, vendor_size};
+ghost use Rattle.abt_sections.specs.VendorCanon as canon;
+ghost use Rattle.abt_sections.specs.Cause.{MoveCause, PackCause, total};
+ghost use Rattle.abt_sections.specs.Fields.{vendor_fields};
+ghost use Rattle.abt_sections.specs.Grown.{Begins};
+ghost use Rattle.abt_sections.specs.Layout as layout;
+ghost use Rattle.abt_sections.specs.Refusal.{pack_vendor_refusal, IfRefused};
+
+use crate::fault::SectionFault;
+use crate::sizes::{image_bytes, vendor_sizes};
+use crate::spec::{FragmentSpec, Packed, VendorSpec};
+use crate::vendor_header::{check_vendor_spec, vendor_header_for};
+use crate::writing::{padding, write_bytes, write_padding, write_part, write_record};
+use abt_headers::{RamdiskEntry, VendorHeader};
+use abt_io::{Meter, Output, Source, Window, write_out};
+
+/// Writes a vendor header's record, and zeros up to a page boundary.
+fn write_vendor_header<O: Output>(
+    header: &VendorHeader,
+    output: &mut O,
+    w: &mut Window,
+    m: &mut Meter,
+) -> Result<(), SectionFault>
+    ensures written { OnOk result (O.written output.new ≡ O.written output.old ++ layout.padded (vendor_page (view header.now)) (vendor_record (view header.now))) }
+    ensures front { Begins (O.written output.old) (O.written output.new) (layout.padded (vendor_page (view header.now)) (vendor_record (view header.now))) }
+    ensures least { length (O.written output.old) ≤ length (O.written output.new) }
+    ensures most { length (O.written output.new) ≤ length (O.written output.old) + of_page.pages (vendor_size (view header.now)) (vendor_page (view header.now)) * vendor_page (view header.now) }
+    ensures all { OnOk result (length (O.written output.new) ≡ length (O.written output.old) + of_page.pages (vendor_size (view header.now)) (vendor_page (view header.now)) * vendor_page (view header.now)) }
+    ensures write_frame { O.write_frame output.new ≡ O.write_frame output.old }
+    ensures write_faults { O.write_faults output.old ≤ O.write_faults output.new }
+    ensures cause { IfErr result (λ e. MoveCause e 0 0 (O.write_faults output.old) (O.write_faults output.new) ⊥) }
+{
+    let mut record = [0u8; 2128];
+    let size = header.encode(&mut record);
+    write_record(&record[..size], header.page_size(), output, w, m)
+}
+
+/// Copies ramdisks one after another, which must have so many bytes together.
+fn write_ramdisks<S: Source, O: Output>(
+    ramdisks: &mut [S],
+    size: u32,
+    output: &mut O,
+    w: &mut Window,
+    m: &mut Meter,
+) -> Result<(), SectionFault>
+    ensures content { IsTrue S.tells → map S.content ramdisks.new ≡ map S.content ramdisks.old }
+    ensures size { IsTrue S.tells → map S.size ramdisks.new ≡ map S.size ramdisks.old }
+    ensures frame { map S.read_frame ramdisks.new ≡ map S.read_frame ramdisks.old }
+    ensures written { IsTrue S.tells → OnOk result (O.written output.new ≡ O.written output.old ++ concat (map S.content ramdisks.old)) }
+    ensures front { IsTrue S.tells → Begins (O.written output.old) (O.written output.new) (concat (map S.content ramdisks.old)) }
+    ensures least { length (O.written output.old) ≤ length (O.written output.new) }
+    ensures most { length (O.written output.new) ≤ length (O.written output.old) + size }
+    ensures all { OnOk result (length (O.written output.new) ≡ length (O.written output.old) + size) }
+    ensures write_frame { O.write_frame output.new ≡ O.write_frame output.old }
+    ensures read_faults { total S.read_faults ramdisks.old ≤ total S.read_faults ramdisks.new }
+    ensures write_faults { O.write_faults output.old ≤ O.write_faults output.new }
+    ensures cause { IfErr result (λ e. MoveCause e (total S.read_faults ramdisks.old) (total S.read_faults ramdisks.new) (O.write_faults output.old) (O.write_faults output.new) (IsTrue S.tells → total S.size ramdisks.old ≡ size → ⊥)) }
+{
+    let mut left = size;
+    for i in 0..ramdisks.len() {
+        m.tick();
+        let ramdisk = &mut ramdisks[i];
+        let n = ramdisk.length();
+        if n > left as u64 {
+            return Err(SectionFault::SourceChanged);
+        }
+        match write_bytes(ramdisk, n as u32, output, w, m) {
+            Ok(()) => {}
+            Err(fault) => return Err(fault),
+        }
+        left -= n as u32;
+    }
+    if left > 0 {
+        return Err(SectionFault::SourceChanged);
+    }
+    Ok(())
+}
+
+/// The entry of a fragment of so many bytes at a place of the vendor ramdisk.
+fn entry_for(fragment: &FragmentSpec, size: u32, offset: u32) -> RamdiskEntry
+    ensures { result ≡ canon.entry_for fragment.now size offset }
+{
+    RamdiskEntry {
+        ramdisk_size: size,
+        ramdisk_offset: offset,
+        ramdisk_type: fragment.kind,
+        name: fragment.name,
+        board_id: fragment.board_id,
+    }
+}
+
+/// Writes the table: an entry for each fragment, which lie end to end and have so many bytes together.
+fn write_table<S: Source, O: Output>(
+    fragments: &[FragmentSpec],
+    ramdisks: &[S],
+    size: u32,
+    output: &mut O,
+    m: &mut Meter,
+) -> Result<(), SectionFault>
+    requires { length fragments.now ≡ length ramdisks.now }
+    ensures written { OnOk result (O.written output.new ≡ O.written output.old ++ canon.table_for fragments.now (map S.size ramdisks.now) 0) }
+    ensures front { Begins (O.written output.old) (O.written output.new) (canon.table_for fragments.now (map S.size ramdisks.now) 0) }
+    ensures least { length (O.written output.old) ≤ length (O.written output.new) }
+    ensures most { length (O.written output.new) ≤ length (O.written output.old) + 108 * length fragments.now }
+    ensures all { OnOk result (length (O.written output.new) ≡ length (O.written output.old) + 108 * length fragments.now) }
+    ensures write_frame { O.write_frame output.new ≡ O.write_frame output.old }
+    ensures write_faults { O.write_faults output.old ≤ O.write_faults output.new }
+    ensures cause { IfErr result (λ e. MoveCause e 0 0 (O.write_faults output.old) (O.write_faults output.new) (total S.size ramdisks.now ≡ size → ⊥)) }
+{
+    let mut offset = 0u32;
+    for i in 0..ramdisks.len() {
+        m.tick();
+        let n = ramdisks[i].length();
+        if n > (size - offset) as u64 {
+            return Err(SectionFault::SourceChanged);
+        }
+        let entry = entry_for(&fragments[i], n as u32, offset);
+        match write_out(output, &entry.encode(), m) {
+            Ok(()) => {}
+            Err(fault) => return Err(SectionFault::Write(fault)),
+        }
+        offset += n as u32;
+    }
+    Ok(())
+}
+
+/// Writes the vendor ramdisk, which is the ramdisks end to end, and zeros up to a page boundary.
+fn write_vendor_ramdisk<S: Source, O: Output>(
+    ramdisks: &mut [S],
+    size: u32,
+    page: u32,
+    output: &mut O,
+    w: &mut Window,
+    m: &mut Meter,
+) -> Result<(), SectionFault>
+    requires { 0 < page }
+    ensures content { IsTrue S.tells → map S.content ramdisks.new ≡ map S.content ramdisks.old }
+    ensures size { IsTrue S.tells → map S.size ramdisks.new ≡ map S.size ramdisks.old }
+    ensures frame { map S.read_frame ramdisks.new ≡ map S.read_frame ramdisks.old }
+    ensures written { IsTrue S.tells → OnOk result (O.written output.new ≡ O.written output.old ++ layout.padded page (concat (map S.content ramdisks.old))) }
+    ensures front { IsTrue S.tells → Begins (O.written output.old) (O.written output.new) (layout.padded page (concat (map S.content ramdisks.old))) }
+    ensures least { length (O.written output.old) ≤ length (O.written output.new) }
+    ensures most { length (O.written output.new) ≤ length (O.written output.old) + of_page.pages size page * page }
+    ensures all { OnOk result (length (O.written output.new) ≡ length (O.written output.old) + of_page.pages size page * page) }
+    ensures write_frame { O.write_frame output.new ≡ O.write_frame output.old }
+    ensures read_faults { total S.read_faults ramdisks.old ≤ total S.read_faults ramdisks.new }
+    ensures write_faults { O.write_faults output.old ≤ O.write_faults output.new }
+    ensures cause { IfErr result (λ e. MoveCause e (total S.read_faults ramdisks.old) (total S.read_faults ramdisks.new) (O.write_faults output.old) (O.write_faults output.new) (IsTrue S.tells → total S.size ramdisks.old ≡ size → ⊥)) }
+{
+    let _free = padding(size as u64, page);
+    match write_ramdisks(ramdisks, size, output, w, m) {
+        Ok(()) => {}
+        Err(fault) => return Err(fault),
+    }
+    write_padding(size as u64, page, output, w, m)
+}
+
+/// Writes the table and the bootconfig, each with zeros up to a page boundary.
+fn write_version_4<S: Source, O: Output>(
+    fragments: &[FragmentSpec],
+    ramdisks: &[S],
+    bootconfig: &mut S,
+    sizes: &[u32; 4],
+    page: u32,
+    output: &mut O,
+    w: &mut Window,
+    m: &mut Meter,
+) -> Result<(), SectionFault>
+    requires some { 0 < page }
+    requires count { length fragments.now ≡ length ramdisks.now }
+    requires table { slice_index sizes.now 2 ≡ 108 * length fragments.now }
+    ensures content { IsTrue S.tells → S.content bootconfig.new ≡ S.content bootconfig.old }
+    ensures frame { S.read_frame bootconfig.new ≡ S.read_frame bootconfig.old }
+    ensures written { IsTrue S.tells → OnOk result (O.written output.new ≡ O.written output.old ++ layout.laid page (canon.table_for fragments.now (map S.size ramdisks.now) 0 ∷ S.content bootconfig.old ∷ [])) }
+    ensures front { IsTrue S.tells → Begins (O.written output.old) (O.written output.new) (layout.laid page (canon.table_for fragments.now (map S.size ramdisks.now) 0 ∷ S.content bootconfig.old ∷ [])) }
+    ensures least { length (O.written output.old) ≤ length (O.written output.new) }
+    ensures most { length (O.written output.new) ≤ length (O.written output.old) + layout.laid_size page (drop 2 sizes.now) }
+    ensures all { OnOk result (length (O.written output.new) ≡ length (O.written output.old) + layout.laid_size page (drop 2 sizes.now)) }
+    ensures write_frame { O.write_frame output.new ≡ O.write_frame output.old }
+    ensures read_faults { S.read_faults bootconfig.old ≤ S.read_faults bootconfig.new }
+    ensures write_faults { O.write_faults output.old ≤ O.write_faults output.new }
+    ensures cause { IfErr result (λ e. MoveCause e (S.read_faults bootconfig.old) (S.read_faults bootconfig.new) (O.write_faults output.old) (O.write_faults output.new) (IsTrue S.tells → total S.size ramdisks.now ≡ slice_index sizes.now 0 → S.size bootconfig.old ≡ slice_index sizes.now 3 → ⊥)) }
+{
+    match write_table(fragments, ramdisks, sizes[0], output, m) {
+        Ok(()) => {}
+        Err(fault) => return Err(fault),
+    }
+    match write_padding(sizes[2] as u64, page, output, w, m) {
+        Ok(()) => {}
+        Err(fault) => return Err(fault),
+    }
+    write_part(bootconfig, sizes[3], page, output, w, m)
+}
+
+/// Writes the record, the vendor ramdisk and the dtb, each with zeros up to a page boundary.
+fn write_version_3<S: Source, O: Output>(
+    header: &VendorHeader,
+    ramdisks: &mut [S],
+    dtb: &mut S,
+    sizes: &[u32; 4],
+    output: &mut O,
+    w: &mut Window,
+    m: &mut Meter,
+) -> Result<(), SectionFault>
+    ensures content { IsTrue S.tells → map S.content ramdisks.new ≡ map S.content ramdisks.old }
+    ensures size { IsTrue S.tells → map S.size ramdisks.new ≡ map S.size ramdisks.old }
+    ensures frame { map S.read_frame ramdisks.new ≡ map S.read_frame ramdisks.old }
+    ensures dtb_content { IsTrue S.tells → S.content dtb.new ≡ S.content dtb.old }
+    ensures dtb_frame { S.read_frame dtb.new ≡ S.read_frame dtb.old }
+    ensures written { IsTrue S.tells → OnOk result (O.written output.new ≡ O.written output.old ++ canon.first_sections (view header.now) (concat (map S.content ramdisks.old)) (S.content dtb.old)) }
+    ensures front { IsTrue S.tells → Begins (O.written output.old) (O.written output.new) (canon.first_sections (view header.now) (concat (map S.content ramdisks.old)) (S.content dtb.old)) }
+    ensures least { length (O.written output.old) ≤ length (O.written output.new) }
+    ensures most { length (O.written output.new) ≤ length (O.written output.old) + canon.first_size (view header.now) (slice_index sizes.now 0) (slice_index sizes.now 1) }
+    ensures all { OnOk result (length (O.written output.new) ≡ length (O.written output.old) + canon.first_size (view header.now) (slice_index sizes.now 0) (slice_index sizes.now 1)) }
+    ensures write_frame { O.write_frame output.new ≡ O.write_frame output.old }
+    ensures read_faults { total S.read_faults ramdisks.old ≤ total S.read_faults ramdisks.new }
+    ensures dtb_faults { S.read_faults dtb.old ≤ S.read_faults dtb.new }
+    ensures write_faults { O.write_faults output.old ≤ O.write_faults output.new }
+    ensures cause { IfErr result (λ e. MoveCause e (total S.read_faults ramdisks.old + S.read_faults dtb.old) (total S.read_faults ramdisks.new + S.read_faults dtb.new) (O.write_faults output.old) (O.write_faults output.new) (IsTrue S.tells → total S.size ramdisks.old ≡ slice_index sizes.now 0 → S.size dtb.old ≡ slice_index sizes.now 1 → ⊥)) }
+{
+    let page = header.page_size();
+    match write_vendor_header(header, output, w, m) {
+        Ok(()) => {}
+        Err(fault) => return Err(fault),
+    }
+    match write_vendor_ramdisk(ramdisks, sizes[0], page, output, w, m) {
+        Ok(()) => {}
+        Err(fault) => return Err(fault),
+    }
+    write_part(dtb, sizes[1], page, output, w, m)
+}
+
+/// Packs a vendor boot image of these fields, fragments and parts: the bytes of `bootimg.h`, laid as `mkbootimg` lays
+/// them, the fragments end to end in the order of the table.
+///
+/// Version 3 has one ramdisk, no fragment and an empty bootconfig; version 4 a fragment for each ramdisk. An absent
+/// part has length 0.
+///
+/// # Errors
+/// Before anything is written, the first of: `Header(Version)`, `Header(PageSize)`, `Name`, `CommandLine`,
+/// `SectionTooLarge`. Then `Read`, `Write` and `SourceChanged` as they come: what stands is a beginning of the image.
+pub fn pack_vendor<S: Source, O: Output>(
+    spec: &VendorSpec,
+    fragments: &[FragmentSpec],
+    ramdisks: &mut [S],
+    dtb: &mut S,
+    bootconfig: &mut S,
+    output: &mut O,
+    w: &mut Window,
+    m: &mut Meter,
+) -> Result<Packed, SectionFault>
+    requires three { spec.now.version ≡ 3 → (length fragments.now ≡ 0) × (length ramdisks.old ≡ 1) × (S.size bootconfig.old ≡ 0) }
+    requires four { spec.now.version ≡ 4 → length fragments.now ≡ length ramdisks.old }
+    ensures content { IsTrue S.tells → map S.content ramdisks.new ≡ map S.content ramdisks.old }
+    ensures dtb_content { IsTrue S.tells → S.content dtb.new ≡ S.content dtb.old }
+    ensures bootconfig_content { IsTrue S.tells → S.content bootconfig.new ≡ S.content bootconfig.old }
+    ensures frame { map S.read_frame ramdisks.new ≡ map S.read_frame ramdisks.old }
+    ensures dtb_frame { S.read_frame dtb.new ≡ S.read_frame dtb.old }
+    ensures bootconfig_frame { S.read_frame bootconfig.new ≡ S.read_frame bootconfig.old }
+    ensures write_frame { O.write_frame output.new ≡ O.write_frame output.old }
+    ensures refused { IfRefused (pack_vendor_refusal (vendor_fields spec.now) (canon.vendor_sizes_for (total S.size ramdisks.old) (S.size dtb.old) (length fragments.now) (S.size bootconfig.old))) (λ f. (result ≡ Err f) × (output.new ≡ output.old)) }
+    ensures written { IsTrue S.tells → OnOk result (O.written output.new ≡ O.written output.old ++ canon.vendor_canon (vendor_fields spec.now) (canon.vendor_parts fragments.now (map S.content ramdisks.old) (S.content dtb.old) (S.content bootconfig.old))) }
+    ensures front { IsTrue S.tells → Begins (O.written output.old) (O.written output.new) (canon.vendor_canon (vendor_fields spec.now) (canon.vendor_parts fragments.now (map S.content ramdisks.old) (S.content dtb.old) (S.content bootconfig.old))) }
+    ensures least { length (O.written output.old) ≤ length (O.written output.new) }
+    ensures most { length (O.written output.new) ≤ length (O.written output.old) + canon.vendor_image_size (vendor_fields spec.now) (canon.vendor_sizes_for (total S.size ramdisks.old) (S.size dtb.old) (length fragments.now) (S.size bootconfig.old)) }
+    ensures packed { IfOk result (λ p. (p.bytes ≡ canon.vendor_image_size (vendor_fields spec.now) (canon.vendor_sizes_for (total S.size ramdisks.old) (S.size dtb.old) (length fragments.now) (S.size bootconfig.old))) × (length (O.written output.new) ≡ length (O.written output.old) + p.bytes)) }
+    ensures read_faults { total S.read_faults ramdisks.old ≤ total S.read_faults ramdisks.new }
+    ensures dtb_faults { S.read_faults dtb.old ≤ S.read_faults dtb.new }
+    ensures bootconfig_faults { S.read_faults bootconfig.old ≤ S.read_faults bootconfig.new }
+    ensures write_faults { O.write_faults output.old ≤ O.write_faults output.new }
+    ensures cause { IfErr result (λ e. PackCause (pack_vendor_refusal (vendor_fields spec.now) (canon.vendor_sizes_for (total S.size ramdisks.old) (S.size dtb.old) (length fragments.now) (S.size bootconfig.old))) e (total S.read_faults ramdisks.old + S.read_faults dtb.old + S.read_faults bootconfig.old) (total S.read_faults ramdisks.new + S.read_faults dtb.new + S.read_faults bootconfig.new) (O.write_faults output.old) (O.write_faults output.new) (IsTrue S.tells → ⊥)) }
+{
+    let page = check_vendor_spec(spec)?;
+    let sizes = vendor_sizes(fragments.len(), ramdisks, dtb, bootconfig)?;
+    let header = vendor_header_for(spec, page, &sizes, fragments.len() as u32);
+    let bytes = page.bytes();
+    write_version_3(&header, ramdisks, dtb, &sizes, output, w, m)?;
+    if spec.version == 3 {
+        return Ok(Packed {
+            bytes: image_bytes(bytes, 2112, &sizes, 2),
+        });
+    }
+    match write_version_4(fragments, ramdisks, bootconfig, &sizes, bytes, output, w, m) {
+        Ok(()) => {}
+        Err(fault) => return Err(fault),
+    }
+    Ok(Packed {
+        bytes: image_bytes(bytes, 2128, &sizes, 4),
+    })
+}

@@ -1,0 +1,14 @@
+pub mod Field
+pub mod Block
+pub mod Runs
+pub mod Chunk
+pub mod Reading
+pub mod Fails
+pub mod Gains
+pub mod Number
+pub mod View
+pub mod ChunkHead
+pub mod Pieces
+pub mod Mending
+pub mod Laws
+pub mod Worked

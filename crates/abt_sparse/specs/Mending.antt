@@ -1,0 +1,10 @@
+-- What a stop may leave of a device that the pieces of an image are flashed to, so that flashing on mends it.
+use Rattle.std.specs.Prelude.{◌≡◌, ℕ, ◌*◌, ◌<◌, List, length, None, slice_index, slice_index_or}
+use Rattle.abt_sparse.specs.Block.{Block, cells, over}
+
+-- A device that held p before holds q: as p at every byte that the image does not write, and as p under the image at
+-- every byte of its first so many blocks. What else the image writes may be anything.
+pub record Mendable (b : ℕ) (blocks : List Block) (p q : List ℕ) (first : ℕ) : Type 0 where
+  pub long : length q ≡ length p
+  pub outside : (i : ℕ) → i < length p → slice_index_or (cells b blocks) i None ≡ None → slice_index q i ≡ slice_index p i
+  pub before : (i : ℕ) → i < length p → i < first * b → slice_index q i ≡ slice_index (over p (cells b blocks)) i
