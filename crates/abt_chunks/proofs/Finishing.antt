@@ -1,5 +1,5 @@
 -- What is written, finished by what is ahead.
-use Rattle.std.proofs.Common.{◌≡◌, ℕ, zero, suc, ◌+◌, ◌-◌, ◌*◌, ◌<◌, ◌≤◌, Bool, true, false, List, [], ◌∷◌, ◌++◌, length, take, drop, map, replicate, Option, Some, None, Result, Ok, Err, refl, sym, ap, subst, ◌∙◌, append_assoc, append-nil, arith, take-append-drop, lt-ltb, ne_eqb, inl, inr}
+use Rattle.std.proofs.Common.{◌≡◌, ℕ, zero, suc, ◌+◌, ◌-◌, ◌*◌, Bool, true, false, List, [], ◌++◌, take, drop, replicate, Option, Result, Ok, Err, refl, sym, ap, subst, ◌∙◌, append_assoc, append-nil, arith, take-append-drop, lt-ltb, ne_eqb, inl, inr}
 use Rattle.std.proofs.lemmas.Bool.{cases_Bool}
 use Rattle.std.specs.Prelude.{IsTrue, OnOk, is_err, if◌then◌else◌, ◌==◌, nat_lt}
 use Rattle.std.specs.List.{concat}
@@ -13,8 +13,8 @@ use Rattle.abt_chunks.specs.declared.walk.Phase.TheVariants as phases
 use Rattle.abt_chunks.specs.declared.walk.Walk.{Walk}
 use Rattle.abt_chunks.specs.declared.walk.Part.{Part}
 use Rattle.abt_chunks.specs.declared.walk.Part.TheVariants as parts
-use Rattle.abt_chunks.specs.Ahead.{Ahead, stopping, before, somes, fills, gaps, finish, seen, seen_chunks, chunks_ahead, body_ahead, walk}
-use Rattle.abt_chunks.specs.Walking.{Says, Told, Leaves, Moved, is_fault, ahead, ahead_in, owed, owed_in, owed_of}
+use Rattle.abt_chunks.specs.Ahead.{Ahead, before, somes, fills, gaps, finish, seen, seen_chunks, chunks_ahead, body_ahead, walk}
+use Rattle.abt_chunks.specs.Walking.{Told, Leaves, Moved, is_fault, ahead, ahead_in, owed, owed_in, owed_of}
 use Rattle.abt_chunks.specs.Expanding.{laid_by, answer_of, Stands, Unless, UnlessDevice, Begins}
 use Rattle.abt_chunks.specs.declared.progress.Expanded.{Expanded}
 use Rattle.abt_io.proofs.Parts.{take_plus}

@@ -1,14 +1,14 @@
 -- What a listing shows, from one place to the next.
-use Rattle.std.proofs.Common.{◌≡◌, ℕ, zero, suc, ◌+◌, ◌-◌, ◌*◌, ◌<◌, ◌≤◌, Bool, true, false, cond, if◌then◌else◌, List, [], ◌∷◌, ◌++◌, length, take, drop, Option, Some, None, Result, Ok, Err, refl, sym, ap, subst, ◌∙◌, append-nil, arith, inl, inr, zero-add, length-append, length-drop, length-take, drop-drop, take-append-drop, not, ◌==◌, ◌&&◌, nat_lt, ltb-false, ltb-true, le-ltb, lt-ltb, eqb-true, eq-eqb, ne_eqb}
+use Rattle.std.proofs.Common.{◌≡◌, ℕ, zero, suc, ◌+◌, ◌-◌, ◌*◌, ◌<◌, ◌≤◌, Bool, true, false, if◌then◌else◌, List, [], ◌∷◌, ◌++◌, length, take, drop, Some, Ok, Err, refl, sym, ap, ◌∙◌, arith, inl, inr, zero-add, length-append, ◌==◌, ◌&&◌, nat_lt, ltb-false, ltb-true, le-ltb, lt-ltb, eqb-true, eq-eqb, ne_eqb}
 use Rattle.std.proofs.lemmas.Bool.{cases_Bool}
-use Rattle.std.proofs.lemmas.List.{drop_all, take_at, drop_at, drop-take}
+use Rattle.std.proofs.lemmas.List.{take_at, drop_at, drop-take}
 use Rattle.abt_sparse.specs.declared.fault.SparseFault.{SparseFault}
 use Rattle.abt_sparse.specs.declared.fault.SparseFault.TheVariants.{TooFewBlocks, Truncated, Read, Write}
 use Rattle.abt_sparse.specs.declared.kind.ChunkKind.{ChunkKind}
 use Rattle.abt_sparse.specs.declared.kind.ChunkKind.TheVariants as kinds
 use Rattle.abt_sparse.specs.Block.{split}
-use Rattle.abt_sparse.specs.Chunk.{Header, Chunk, Raws, Fills, Skips, Crc}
-use Rattle.abt_sparse.specs.Reading.{checked_header, data_len, counted, chunk_from, partial_of, ChunkRead, Got, Bad, chunk_at, ChunksRead, Done, Failed, behind, chunks_at}
+use Rattle.abt_sparse.specs.Chunk.{Header, Chunk}
+use Rattle.abt_sparse.specs.Reading.{checked_header, data_len, counted, chunk_from, partial_of, Got, Bad, chunk_at, ChunksRead, Done, Failed, behind, chunks_at}
 use Rattle.abt_sparse.proofs.Exactly.{chunks-got, chunks-bad}
 use Rattle.abt_sparse.specs.View.{view}
 use Rattle.abt_chunks.specs.declared.progress.ChunkInfo.{ChunkInfo}
@@ -18,9 +18,9 @@ use Rattle.abt_chunks.specs.declared.walk.Walk.{Walk}
 use Rattle.abt_chunks.specs.declared.walk.Part.{Part}
 use Rattle.abt_chunks.specs.declared.walk.Part.TheVariants as parts
 use Rattle.abt_chunks.specs.Ahead.{due_of, raw_of}
-use Rattle.abt_chunks.specs.Listing.{no_word, info_of, infos, Listing, headless, listed, listing_from, listing_behind, listing_of}
-use Rattle.abt_chunks.specs.Walking.{SpentBy, lacking, word_shown, begun_shown, head_shown, shown_before, begun_listing, is_spent, at_end, with_begun, yet_begun, upcoming, upcoming_in, breaking, head_in, info_at, Shows, Lists}
-use Rattle.abt_chunks.proofs.Onward.{drop_past, take_past, shorter, GoodHead, good_at, header-front}
+use Rattle.abt_chunks.specs.Listing.{no_word, info_of, Listing, headless, listed, listing_from, listing_of}
+use Rattle.abt_chunks.specs.Walking.{SpentBy, lacking, word_shown, head_shown, shown_before, begun_listing, is_spent, at_end, with_begun, yet_begun, upcoming, upcoming_in, breaking, head_in, info_at, Shows, Lists}
+use Rattle.abt_chunks.proofs.Onward.{drop_past, shorter, GoodHead, good_at, header-front}
 
 -- ---- within a chunk
 

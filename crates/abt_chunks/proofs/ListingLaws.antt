@@ -1,11 +1,11 @@
 -- What a listing is, apart from how it is found.
-use Rattle.std.proofs.Common.{◌≡◌, ℕ, zero, suc, ◌+◌, ◌-◌, ◌<◌, ◌≤◌, List, [], ◌∷◌, ◌++◌, length, drop, Option, Some, None, Result, Ok, Err, true, false, refl, sym, ap, ◌∙◌, append_assoc, append-nil, arith, length-append, nat_lt, lt-ltb, le-ltb}
-use Rattle.std.proofs.lemmas.List.{drop_at}
+use Rattle.std.proofs.Common.{◌≡◌, ℕ, suc, ◌+◌, ◌<◌, ◌≤◌, List, [], ◌∷◌, ◌++◌, length, Some, Result, Ok, Err, true, false, refl, ap, ◌∙◌, append-nil, arith, length-append, nat_lt, lt-ltb, le-ltb}
 use Rattle.abt_sparse.specs.declared.fault.SparseFault.{SparseFault}
 use Rattle.abt_sparse.specs.declared.fault.SparseFault.TheVariants.{TooFewBlocks, Truncated}
 use Rattle.abt_sparse.specs.Chunk.{Header, IsHeader, header_record, Chunk, count, SpellsChunks}
 use Rattle.abt_sparse.specs.Reading.{checked_header}
 use Rattle.abt_sparse.specs.Fails.{ChunkFails, Front, HeaderFails, Spells, SpellsHeader, counted_in}
+use Rattle.abt_sparse.proofs.Exactly.{behind_header}
 use Rattle.abt_sparse.proofs.Fields.{checked-again}
 use Rattle.abt_sparse.proofs.ChunkLaws.{spells_got}
 use Rattle.abt_sparse.proofs.Failing.{header_failed, chunk_failed}
@@ -31,14 +31,10 @@ shown_chunks h size (c ∷ cs) i have y rest s few room =
 listing_behind_header : (x : List ℕ) (h : Header) (after : List ℕ) → SpellsHeader x h after → listing_of x ≡ listing_from h (length x) 0 0 after
 unfolding listing_of
 listing_behind_header x h after s =
-    let parts : x ≡ (header_record h ++ s.extra) ++ after = s.spelled ∙ sym (append_assoc (header_record h) s.extra after) in
-    let front : length (header_record h ++ s.extra) ≡ h.file_hdr_sz = omega (arith, s.extra_long) in
-    let long : length x ≡ h.file_hdr_sz + length after = ap length parts ∙ omega (arith, length-append (header_record h ++ s.extra) after, front) in
-    let good : checked_header x ≡ Ok h = rw s.spelled (checked-again h (s.extra ++ after) s.fits) in
-    let rest : drop h.file_hdr_sz x ≡ after = ap (λ (t : List ℕ). drop h.file_hdr_sz t) parts ∙ drop_at (header_record h ++ s.extra) after h.file_hdr_sz front in
-    let t : nat_lt (length x) 28 ≡ false = le-ltb _ _ (omega (arith, long, s.fits.file_hdr_sz.0)) in
-    let u : nat_lt (length x) h.file_hdr_sz ≡ false = le-ltb _ _ (omega (arith, long)) in
-    rw (t, good, u, rest) refl
+    let b = behind_header x h after s in
+    let t : nat_lt (length x) 28 ≡ false = le-ltb _ _ b.0 in
+    let u : nat_lt (length x) h.file_hdr_sz ≡ false = le-ltb _ _ b.2 in
+    rw (t, b.1, u, b.3) refl
 
 listing_of_front : (x : List ℕ) (h : Header) (cs : List Chunk) (y : List ℕ) → Front x h cs y → listing_of x ≡ shown_before (infos 0 cs) (listing_from h (length x) (length cs) (counted_in cs) y)
 listing_of_front x h cs y f =

@@ -1,29 +1,27 @@
 -- What is ahead, from one place to the next.
-use Rattle.std.proofs.Common.{◌≡◌, ℕ, zero, suc, ◌+◌, ◌-◌, ◌*◌, ◌/◌, ◌%◌, ◌<◌, ◌≤◌, Bool, true, false, cond, List, [], ◌∷◌, ◌++◌, length, get_or, take, drop, map, replicate, Option, Some, None, Result, Ok, Err, refl, sym, ap, subst, ◌∙◌, append_assoc, append-nil, arith, inl, inr, ◌⊎◌, length-drop, length-take, length-append, drop-drop, take-append-drop, zero-mul, not, ◌==◌, ◌||◌, nat_lt, ltb-false, ltb-true, le-ltb, lt-ltb, eqb-true, eq-eqb, ne_eqb, get_or-drop}
+use Rattle.std.proofs.Common.{◌≡◌, ℕ, zero, suc, ◌+◌, ◌-◌, ◌*◌, ◌/◌, ◌%◌, ◌<◌, ◌≤◌, Bool, true, false, cond, List, [], ◌++◌, length, get_or, take, drop, map, replicate, Option, Some, None, Result, Ok, Err, refl, sym, ap, subst, ◌∙◌, append_assoc, arith, inl, inr, length-drop, length-take, length-append, drop-drop, take-append-drop, zero-mul, not, ◌==◌, ◌||◌, nat_lt, ltb-false, ltb-true, le-ltb, lt-ltb, eq-eqb, ne_eqb, get_or-drop}
 use Rattle.std.specs.List.{concat}
 use Rattle.std.proofs.lemmas.Bool.{cases_Bool}
-use Rattle.std.proofs.lemmas.List.{map-append, drop-append-le, get_or_append_left, drop_all, take_at, drop_at, drop-take, take-append-le, nil_from_length, replicate-append-replicate}
-use Rattle.std.proofs.Math.Seq.{drop-append-add, take-append-add}
-use Rattle.byteorder.specs.Endian.{little_number, little_from}
+use Rattle.std.proofs.lemmas.List.{map-append, get_or_append_left, drop_all, take_at, drop_at, drop-take, nil_from_length, replicate-append-replicate}
+use Rattle.std.proofs.Math.Seq.{drop-append-add}
+use Rattle.byteorder.specs.Endian.{little_from}
 use Rattle.abt_sparse.specs.declared.fault.SparseFault.{SparseFault}
 use Rattle.abt_sparse.specs.declared.fault.SparseFault.TheVariants.{Magic, Major, FileHeaderSize, ChunkHeaderSize, BlockSize, Truncated, TooFewBlocks, ChunkType, ChunkLength, TooManyBlocks, Read, Write}
 use Rattle.abt_sparse.specs.declared.kind.ChunkKind.{ChunkKind}
 use Rattle.abt_sparse.specs.declared.kind.ChunkKind.TheVariants as kinds
-use Rattle.abt_sparse.specs.Block.{Block, Raw, Fill, Skip, cells, laid, split}
-use Rattle.abt_sparse.specs.Chunk.{Header, Chunk, Raws, Fills, Skips, Crc, blocks_of, classed}
-use Rattle.abt_sparse.specs.Reading.{number_at, header_at, checked_header, kind_at, data_len, counted, chunk_from, partial_of, ChunkRead, Got, Bad, chunk_body, chunk_known, chunk_at, ChunksRead, Done, Failed, behind, chunks_at, body_at, Outcome, Image, Fault, outcome_of, outcome}
-use Rattle.abt_sparse.proofs.Lay.{cells-append, cells-skips, words-add, laid-append, laid_some, laid_none}
+use Rattle.abt_sparse.specs.Block.{Raw, Fill, Skip, cells, split}
+use Rattle.abt_sparse.specs.Chunk.{Header, Chunk, blocks_of, classed}
+use Rattle.abt_sparse.specs.Reading.{number_at, header_at, checked_header, kind_at, data_len, counted, chunk_from, partial_of, Got, Bad, chunk_at, ChunksRead, Done, Failed, behind, chunks_at, body_at, outcome_of, outcome}
+use Rattle.abt_io.proofs.Words.{take_past, words_add}
+use Rattle.abt_sparse.proofs.Lay.{cells-append, cells-skips}
 use Rattle.abt_sparse.proofs.Exactly.{chunks-got, chunks-bad}
 use Rattle.abt_chunks.specs.Walking.{SpentBy}
-use Rattle.abt_chunks.specs.Ahead.{Ahead, stopping, before, somes, fills, gaps, seen_chunks, seen, chunks_ahead, word_then, body_ahead, walk, raw_of, due_of, words_of, left_of, finish}
+use Rattle.abt_chunks.specs.Ahead.{Ahead, stopping, before, somes, fills, gaps, seen_chunks, seen, chunks_ahead, body_ahead, walk, raw_of, due_of, words_of, left_of}
 
 -- ---- lists
 
 pub drop_past : {A : Type 0} (c t : List A) (n e : ℕ) → length c ≡ n → n ≤ e → drop e (c ++ t) ≡ drop (e - n) t
 drop_past c t n e l le = ap (λ (j : ℕ). drop j (c ++ t)) (let j : e ≡ length c + (e - n) = omega arith in j) ∙ drop-append-add c t (e - n)
-
-pub take_past : {A : Type 0} (c t : List A) (n e : ℕ) → length c ≡ n → n ≤ e → take e (c ++ t) ≡ c ++ take (e - n) t
-take_past c t n e l le = ap (λ (j : ℕ). take j (c ++ t)) (let j : e ≡ length c + (e - n) = omega arith in j) ∙ take-append-add c t (e - n)
 
 -- a test on a length, behind n bytes
 pub shorter : (c t : List ℕ) (n e : ℕ) → length c ≡ n → n ≤ e → nat_lt (length (c ++ t)) e ≡ nat_lt (length t) (e - n)
@@ -84,7 +82,7 @@ pub past_fill : (h : Header) (i have raw words : ℕ) (word : List ℕ) (size : 
 unfolding body_ahead
 past_fill h i have raw words word size y n le =
     let e : words ≡ n + (words - n) = omega arith in
-    let f : fills words word ≡ fills n word ++ fills (words - n) word = ap (λ (j : ℕ). fills j word) e ∙ ap somes (words-add n (words - n) word) ∙ map-append (λ (x : ℕ). Some x) (concat (replicate n word)) (concat (replicate (words - n) word)) in
+    let f : fills words word ≡ fills n word ++ fills (words - n) word = ap (λ (j : ℕ). fills j word) e ∙ ap somes (words_add n (words - n) word) ∙ map-append (λ (x : ℕ). Some x) (concat (replicate n word)) (concat (replicate (words - n) word)) in
     no_extra kinds.Fill false h i have raw words word size y
     ∙ ap (λ (cs : List (Option ℕ)). before cs (chunks_ahead h size i have y)) f
     ∙ before-append (fills n word) (fills (words - n) word) (chunks_ahead h size i have y)
@@ -173,7 +171,7 @@ fill_cells b zero w = rw zero-mul refl
 fill_cells b (suc n) w =
     ap (λ (r : List (Option ℕ)). fills (b / 4) w ++ r) (fill_cells b n w)
     ∙ sym (map-append (λ (x : ℕ). Some x) (concat (replicate (b / 4) w)) (concat (replicate (n * (b / 4)) w)))
-    ∙ ap somes (sym (words-add (b / 4) (n * (b / 4)) w)) ∙ ap (λ (j : ℕ). fills j w) (omega arith)
+    ∙ ap somes (sym (words_add (b / 4) (n * (b / 4)) w)) ∙ ap (λ (j : ℕ). fills j w) (omega arith)
 
 skip_cells : (b n : ℕ) → b % 4 ≡ 0 → cells b (replicate n Skip) ≡ gaps (n * (b / 4))
 skip_cells b n four = cells-skips b n ∙ ap (λ (j : ℕ). replicate j None) (words_long b n four) where

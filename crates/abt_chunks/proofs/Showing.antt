@@ -1,5 +1,5 @@
 -- From a step of the machine to the answers of a listing.
-use Rattle.std.proofs.Common.{◌≡◌, ℕ, ◌+◌, ◌-◌, ◌<◌, ◌≤◌, Bool, true, false, List, [], ◌∷◌, ◌++◌, length, take, drop, Option, Some, None, Result, Ok, Err, refl, sym, ap, ◌∙◌, arith, ◌==◌, if◌then◌else◌, ne_eqb, eq-eqb}
+use Rattle.std.proofs.Common.{◌≡◌, ℕ, ◌+◌, ◌<◌, ◌≤◌, Bool, true, false, List, [], ◌∷◌, ◌++◌, length, Err, refl, sym, ap, ◌∙◌, arith, ◌==◌, if◌then◌else◌, ne_eqb, eq-eqb}
 use Rattle.abt_sparse.specs.declared.fault.SparseFault.{SparseFault}
 use Rattle.abt_sparse.specs.declared.fault.SparseFault.TheVariants as faults
 use Rattle.abt_sparse.specs.View.{view}
@@ -9,10 +9,10 @@ use Rattle.abt_chunks.specs.declared.walk.Phase.TheVariants as phases
 use Rattle.abt_chunks.specs.declared.walk.Walk.{Walk}
 use Rattle.abt_chunks.specs.declared.walk.Part.{Part}
 use Rattle.abt_chunks.specs.declared.walk.Part.TheVariants as parts
-use Rattle.abt_chunks.specs.Expanding.{answer_of, OnMore, UnlessDevice}
+use Rattle.abt_chunks.specs.Expanding.{answer_of, OnMore}
 use Rattle.abt_chunks.specs.Listing.{Listing, listing_from, listing_of}
-use Rattle.abt_chunks.specs.Walking.{IsOver, Numbers, Moved, is_between, yet_in, yet_begun, at_end, Empties, Lists, Shows, breaking, info_at, shown_before, upcoming, upcoming_in, with_begun, yet}
-use Rattle.abt_chunks.specs.Showing.{Breaks, ListsTo}
+use Rattle.abt_chunks.specs.Walking.{IsOver, Numbers, Moved, is_between, yet_in, yet_begun, at_end, Empties, Lists, info_at, shown_before, upcoming, upcoming_in, with_begun, yet}
+use Rattle.abt_chunks.specs.Showing.{ListsTo}
 use Rattle.abt_chunks.proofs.Listed.{ended_listing, upcoming_header}
 
 pub moves_on : (q : Part) (s s' : Walk) (r m : ℕ) → Moved q r → Empties q s s' m m → s.words ≤ m → OnMore (answer_of q) (at_end s' ≡ false → 0 < r)

@@ -1,8 +1,7 @@
 -- Turns of a walk.
-use Rattle.std.proofs.Common.{◌≡◌, ℕ, ◌+◌, ◌-◌, ◌<◌, ◌≤◌, Bool, true, false, List, [], ◌++◌, min, arith}
+use Rattle.std.proofs.Common.{ℕ, ◌≤◌, List, arith}
 use Rattle.abt_sparse.specs.declared.fault.SparseFault.{SparseFault}
 use Rattle.abt_sparse.specs.declared.fault.SparseFault.TheVariants as faults
-use Rattle.abt_chunks.specs.declared.walk.Phase.{Phase}
 use Rattle.abt_chunks.specs.declared.walk.Phase.TheVariants as phases
 use Rattle.abt_chunks.specs.declared.walk.Walk.{Walk}
 use Rattle.abt_chunks.specs.declared.walk.Part.{Part}

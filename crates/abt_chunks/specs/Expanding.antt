@@ -1,5 +1,5 @@
 -- What an expander writes of each part, and what its steps answer.
-use Rattle.std.specs.Prelude.{◌≡◌, ℕ, ◌+◌, ◌*◌, ◌<◌, ◌≤◌, List, [], ◌++◌, length, take, replicate, Result, Ok, Err}
+use Rattle.std.specs.Prelude.{◌≡◌, ℕ, ◌*◌, ◌<◌, ◌≤◌, List, [], ◌++◌, take, replicate, Result, Ok, Err}
 use Rattle.std.specs.List.{concat}
 use Rattle.abt_sparse.specs.declared.fault.SparseFault.{SparseFault}
 use Rattle.abt_sparse.specs.declared.fault.SparseFault.TheVariants as faults
@@ -9,10 +9,6 @@ use Rattle.abt_chunks.specs.declared.walk.Phase.{Phase}
 use Rattle.abt_chunks.specs.declared.walk.Phase.TheVariants as phases
 use Rattle.abt_chunks.specs.declared.progress.Progress.{Progress}
 use Rattle.abt_chunks.specs.declared.progress.Progress.TheVariants as answers
-use Rattle.abt_chunks.specs.declared.progress.Expanded.{Expanded}
-use Rattle.abt_sparse.specs.Block.{laid, expansion}
-use Rattle.abt_sparse.specs.Chunk.{classed}
-use Rattle.abt_sparse.specs.Reading.{Outcome, Image, Fault}
 
 -- the bytes that a part lays, raw ones from the front of the window
 abbrev pub laid_by : Part → List ℕ → List ℕ

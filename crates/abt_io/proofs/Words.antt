@@ -6,10 +6,10 @@ use Rattle.std.proofs.lemmas.List.{take_at}
 use Rattle.std.proofs.Math.Nat.{pow-le-pow_right, two-pow-succ, suc-add}
 use Rattle.std.proofs.Math.Seq.{take-append-add}
 
-take_past : {A : Type 0} (c t : List A) (n e : ℕ) → length c ≡ n → n ≤ e → take e (c ++ t) ≡ c ++ take (e - n) t
+pub take_past : {A : Type 0} (c t : List A) (n e : ℕ) → length c ≡ n → n ≤ e → take e (c ++ t) ≡ c ++ take (e - n) t
 take_past c t n e l le = ap (λ (j : ℕ). take j (c ++ t)) (let j : e ≡ length c + (e - n) = omega arith in j) ∙ take-append-add c t (e - n)
 
-words_add : (m n : ℕ) (w : List ℕ) → concat (replicate (m + n) w) ≡ concat (replicate m w) ++ concat (replicate n w)
+pub words_add : (m n : ℕ) (w : List ℕ) → concat (replicate (m + n) w) ≡ concat (replicate m w) ++ concat (replicate n w)
 words_add zero n w = rw zero-add refl
 words_add (suc m) n w = rw suc-add (ap (λ (r : List ℕ). w ++ r) (words_add m n w) ∙ sym (append_assoc w (concat (replicate m w)) (concat (replicate n w))))
 
@@ -17,7 +17,8 @@ pub length_words : (n : ℕ) (w : List ℕ) → length w ≡ 4 → length (conca
 length_words zero w l = refl
 length_words (suc n) w l = omega (arith, length-append w (concat (replicate n w)), length_words n w l)
 
-front_words : (d more : ℕ) (w : List ℕ) → length w ≡ 4 → more ≤ d → take (4 * more) (concat (replicate d w)) ≡ concat (replicate more w)
+-- so many words are a front of more
+pub front_words : (d more : ℕ) (w : List ℕ) → length w ≡ 4 → more ≤ d → take (4 * more) (concat (replicate d w)) ≡ concat (replicate more w)
 front_words d more w l le =
     ap (λ (j : ℕ). take (4 * more) (concat (replicate j w))) (let e : d ≡ more + (d - more) = omega arith in e)
     ∙ ap (λ (xs : List ℕ). take (4 * more) xs) (words_add more (d - more) w)

@@ -161,7 +161,8 @@ is_so x fits = elim (cases_Bool (nat_lt (length x) 28)) [
 
 -- ---- and nothing else is so
 
-behind_header : (x : List ℕ) (h : Header) (after : List ℕ) → SpellsHeader x h after → (28 ≤ length x) × (checked_header x ≡ Ok h) × (h.file_hdr_sz ≤ length x) × (drop h.file_hdr_sz x ≡ after)
+-- what stands behind a header that is spelled
+pub behind_header : (x : List ℕ) (h : Header) (after : List ℕ) → SpellsHeader x h after → (28 ≤ length x) × (checked_header x ≡ Ok h) × (h.file_hdr_sz ≤ length x) × (drop h.file_hdr_sz x ≡ after)
 behind_header x h after s =
     let parts : x ≡ (header_record h ++ s.extra) ++ after = s.spelled ∙ sym (append_assoc (header_record h) s.extra after) in
     let front : length (header_record h ++ s.extra) ≡ h.file_hdr_sz = omega (arith, s.extra_long) in

@@ -1,5 +1,5 @@
 -- Laying cells over a device, one list after the other, and flashing the pieces of an image in turn.
-use Rattle.std.proofs.Common.{◌≡◌, ℕ, suc, zero, ◌+◌, ◌*◌, ◌/◌, ◌%◌, ◌<◌, List, [], ◌∷◌, ◌++◌, length, replicate, map, get_or, take, drop, refl, sym, ap, ◌∙◌, nat_le, append_assoc, append-nil, arith, length-append, zero-mul, zero-add, suc-add, Some, None, Option}
+use Rattle.std.proofs.Common.{◌≡◌, ℕ, suc, zero, ◌+◌, ◌*◌, ◌/◌, ◌%◌, ◌<◌, List, [], ◌∷◌, ◌++◌, length, replicate, map, get_or, take, drop, refl, sym, ap, ◌∙◌, nat_le, append_assoc, append-nil, arith, length-append, zero-mul, Some, None, Option}
 use Rattle.std.specs.Prelude.{unwrap_or}
 use Rattle.std.specs.List.{AllByRecursion, concat}
 use Rattle.std.proofs.lemmas.List.{map-append, length-map, length-replicate, replicate-append-replicate}
@@ -129,10 +129,6 @@ laid_none (suc n) = ap (λ (r : List ℕ). 0 ∷ r) (laid_none n)
 
 pub expansion-cons : (b : ℕ) (x : Block) (l : List Block) → expansion b (x ∷ l) ≡ laid (cells_of b (block_bytes b x)) ++ expansion b l
 expansion-cons b x l = laid-append (cells_of b (block_bytes b x)) (cells b l)
-
-pub words-add : (m n : ℕ) (w : List ℕ) → concat (replicate (m + n) w) ≡ concat (replicate m w) ++ concat (replicate n w)
-words-add zero n w = rw zero-add refl
-words-add (suc m) n w = rw suc-add (ap (λ (r : List ℕ). w ++ r) (words-add m n w) ∙ sym (append_assoc w (concat (replicate m w)) (concat (replicate n w))))
 
 -- the segments of an image in turn
 pub segments_in_turn : (b : ℕ) (p : List ℕ) (l : List Block) (limit : ℕ) → b % 4 ≡ 0 → AreBlocks b l → flashed_all b p (frames 0 (segments limit b l)) ≡ over p (cells b l)

@@ -1,14 +1,11 @@
-use Rattle.std.proofs.Common.{◌≡◌, ◌<◌, ◌≤◌, ◌+◌, ◌-◌, ◌*◌, ◌++◌, Result, ℕ, List, [], length, take, drop, arith, ap, sym, ◌∙◌, true, subst, append-nil, length-drop, take-append-drop, refl, Ok, Err}
-use Rattle.std.specs.Prelude.{IsTrue}
+use Rattle.std.proofs.Common.{◌≡◌, ◌<◌, ◌≤◌, ◌+◌, ◌-◌, ◌*◌, ◌++◌, Result, ℕ, List, length, take, arith, ap, ◌∙◌, append-nil, length-drop, take-append-drop, refl, Ok}
 use Rattle.abt_sparse.specs.Reading.{outcome}
 use Rattle.abt_sparse.specs.declared.fault.SparseFault.{SparseFault}
 use Rattle.abt_chunks.specs.declared.progress.Progress.{Progress}
 use Rattle.abt_chunks.specs.declared.progress.Progress.TheVariants.{More}
 use Rattle.abt_sparse.specs.View.{view}
 use Rattle.abt_io.proofs.Parts.{rest_more}
-use Rattle.abt_chunks.specs.Ahead.{Ahead, seen, finish}
-use Rattle.abt_chunks.specs.Walking.{ahead}
-use Rattle.abt_chunks.specs.Expanding.{UnlessDevice}
+use Rattle.abt_chunks.specs.Ahead.{Ahead, seen}
 use Rattle.abt_chunks.proofs.Finishing.{told_more, begun_more, image_ends, refusal, unless_map, expansion_found, refused_found, begun_found}
 use Rattle.abt_io.specs.BytesLaws.{bytes_of_take}
 use Rattle.abt_sparse.proofs.Exactly.{is_so}

@@ -1,7 +1,4 @@
-use Rattle.std.proofs.Common.{◌≡◌, ◌-◌, ◌+◌, ◌≤◌, ◌<◌, ◌++◌, ℕ, List, refl, take, drop, length, arith, ap, sym, ◌∙◌, take-append-drop, true, false}
-use Rattle.abt_chunks.specs.Expanding.{OnMore}
-use Rattle.abt_chunks.specs.Walking.{at_end}
-use Rattle.abt_chunks.proofs.Finishing.{fault_errs}
+use Rattle.std.proofs.Common.{◌≡◌, ◌-◌, ◌++◌, ℕ, List, refl, take, arith, ap, ◌∙◌, take-append-drop}
 use Rattle.abt_chunks.proofs.Showing.{lists_to, moves_on}
 use Rattle.abt_chunks.proofs.listing.step.Goals as goal
 

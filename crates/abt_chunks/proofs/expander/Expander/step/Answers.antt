@@ -1,7 +1,4 @@
-use Rattle.std.proofs.Common.{◌≡◌, ◌+◌, ◌-◌, ℕ, List, length, take, arith, ap, sym, ◌∙◌, true, subst}
-use Rattle.std.specs.Prelude.{IsTrue, is_err}
-use Rattle.abt_chunks.specs.Walking.{is_fault}
-use Rattle.abt_chunks.specs.Expanding.{answer_of, laid_by}
+use Rattle.std.proofs.Common.{◌≡◌, ◌-◌, take, arith}
 use Rattle.abt_chunks.proofs.Finishing.{onward, begins, fault_errs, held_part}
 use Rattle.abt_chunks.proofs.expander.Expander.step.Goals as goal
 

@@ -1,4 +1,4 @@
-use Rattle.std.proofs.Common.{◌≡◌, ◌<◌, arith, refl, sym, ◌∙◌}
+use Rattle.std.proofs.Common.{◌<◌, arith, refl}
 use Rattle.abt_chunks.proofs.Showing.{shown_next, more_index}
 use Rattle.abt_chunks.proofs.listing.Chunks.next.Goals as goal
 

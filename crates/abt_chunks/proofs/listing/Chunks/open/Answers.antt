@@ -1,4 +1,4 @@
-use Rattle.std.proofs.Common.{◌≡◌, arith, refl, sym, ◌∙◌}
+use Rattle.std.proofs.Common.{◌≡◌, arith}
 use Rattle.abt_chunks.proofs.Showing.{shown_open}
 use Rattle.abt_chunks.proofs.listing.Chunks.open.Goals as goal
 

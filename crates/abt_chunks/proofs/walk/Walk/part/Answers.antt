@@ -1,7 +1,6 @@
-use Rattle.std.proofs.Common.{rules, ◌≡◌, ◌≤◌, ◌<◌, ◌+◌, ℕ, List, [], length, IsTrue, true, false, ◌-◌, take, drop, ◌++◌, arith, ap, ◌∙◌, sym, subst, refl, length-take, length-drop, min}
-use Rattle.std.specs.Prelude.{IsNone}
+use Rattle.std.proofs.Common.{◌≡◌, ◌≤◌, ◌<◌, ℕ, List, length, ◌-◌, take, drop, ◌++◌, arith, ap, ◌∙◌, subst, refl, length-take, length-drop, min}
 use Rattle.std.proofs.lemmas.List.{drop_all, take-append-le}
-use Rattle.abt_chunks.specs.Walking.{Says, Shows, Leaves, Moved, Within, Caused, Told, AtTurn, IsOver, ask_of, needed_of, todo, is_fault, goes_on}
+use Rattle.abt_chunks.specs.Walking.{Says, Shows, ask_of, needed_of}
 use Rattle.abt_chunks.proofs.Turns.{told, needed_asked}
 use Rattle.abt_chunks.proofs.Listed.{lists}
 use Rattle.abt_chunks.proofs.walk.Walk.part.Goals as goal

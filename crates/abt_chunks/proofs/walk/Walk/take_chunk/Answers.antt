@@ -1,6 +1,6 @@
-use Rattle.std.proofs.Common.{length, ◌+◌, ◌++◌, ◌<◌, arith, ◌≡◌, ap, sym, ◌∙◌, append-nil, ℕ}
+use Rattle.std.proofs.Common.{length, ◌+◌, ◌++◌, arith, ◌≡◌, ap, sym, ◌∙◌, append-nil}
 use Rattle.abt_sparse.specs.View.{view}
-use Rattle.abt_sparse.specs.Reading.{number_at, kind_at}
+use Rattle.abt_sparse.specs.Reading.{kind_at}
 use Rattle.abt_chunks.proofs.Onward.{spent, short_head, bad_kind}
 use Rattle.abt_chunks.proofs.Onward.{short_head_at, bad_kind_at}
 use Rattle.abt_chunks.proofs.Listed.{bad_listing, ended}

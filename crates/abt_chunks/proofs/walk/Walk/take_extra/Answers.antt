@@ -1,7 +1,7 @@
-use Rattle.std.proofs.Common.{length, ◌+◌, ◌++◌, ◌<◌, arith, ◌≡◌, ap, sym, ◌∙◌, length-append, eqb-true, refl, false}
+use Rattle.std.proofs.Common.{length, ◌+◌, ◌++◌, arith, ◌≡◌, ap, sym, ◌∙◌, length-append, eqb-true, refl, false}
 use Rattle.abt_sparse.specs.View.{view}
 use Rattle.abt_chunks.proofs.Onward.{short_extra, past_extra}
-use Rattle.std.proofs.Common.{◌-◌, ℕ}
+use Rattle.std.proofs.Common.{ℕ}
 use Rattle.abt_sparse.specs.declared.fault.SparseFault.TheVariants.{Truncated}
 use Rattle.abt_chunks.specs.Walking.{begun_listing}
 use Rattle.abt_chunks.proofs.Listed.{upcoming_body, short_listing, open_extra, extra_passed}

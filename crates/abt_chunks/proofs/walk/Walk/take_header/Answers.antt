@@ -1,4 +1,4 @@
-use Rattle.std.proofs.Common.{length, ◌+◌, arith, ◌≡◌, append-nil}
+use Rattle.std.proofs.Common.{length, arith, ◌≡◌, append-nil}
 use Rattle.abt_sparse.specs.View.{view}
 use Rattle.abt_chunks.proofs.Onward.{short_header, past_header, bad_header, header_own}
 use Rattle.abt_chunks.proofs.Turns.{caused_own}

@@ -1,6 +1,6 @@
-use Rattle.std.proofs.Common.{length, ◌+◌, ◌*◌, ◌++◌, ◌<◌, cond, arith, ◌≡◌, ◌≤◌, ap, sym, ◌∙◌, length-append, refl, ℕ}
+use Rattle.std.proofs.Common.{length, ◌+◌, ◌*◌, ◌++◌, ◌<◌, cond, arith, ◌≡◌, ◌≤◌, ap, sym, ◌∙◌, length-append, ℕ}
 use Rattle.abt_sparse.specs.Reading.{number_at, counted, data_len}
-use Rattle.abt_chunks.specs.Ahead.{left_of, raw_of, words_of, due_of}
+use Rattle.abt_chunks.specs.Ahead.{left_of}
 use Rattle.abt_sparse.specs.View.{view}
 use Rattle.abt_chunks.proofs.Onward.{spent, bad_length, bad_room, past_head, GoodHead, left_new, left_spent, data_parts}
 use Rattle.std.proofs.Common.{true}

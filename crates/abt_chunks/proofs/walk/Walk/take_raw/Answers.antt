@@ -1,8 +1,8 @@
-use Rattle.std.proofs.Common.{length, ◌+◌, ◌++◌, ◌<◌, [], arith, ◌≡◌, ap, sym, ◌∙◌, length-append, eqb-true, refl}
+use Rattle.std.proofs.Common.{length, ◌+◌, ◌++◌, [], arith, ◌≡◌, ap, sym, ◌∙◌, length-append, eqb-true, refl}
 use Rattle.std.proofs.lemmas.List.{nil_from_length}
 use Rattle.abt_sparse.specs.View.{view}
 use Rattle.abt_chunks.proofs.Onward.{short_raw, past_raw}
-use Rattle.std.proofs.Common.{◌-◌, ℕ, false, rules}
+use Rattle.std.proofs.Common.{ℕ, false}
 use Rattle.abt_sparse.specs.declared.fault.SparseFault.TheVariants.{Truncated}
 use Rattle.abt_chunks.specs.Walking.{begun_listing, lacking}
 use Rattle.abt_chunks.proofs.Listed.{upcoming_body, short_listing, open_raw, raw_behind}
