@@ -1,10 +1,11 @@
 -- What a pass over a raw image reads.
-use Rattle.std.proofs.Common.{◌≡◌, ℕ, ◌+◌, ◌-◌, ◌*◌, ◌<◌, ◌≤◌, Bool, true, false, ◌&&◌, ◌==◌, nat_lt, nat_le, min, refl, sym, ap, ◌∙◌, arith, inl, inr, ltb-true, ltb-false, mul-le-mul_right, if◌then◌else◌, eqb-true, eq-eqb, leb-true, leb-false, ◌/◌, ◌%◌}
+use Rattle.std.proofs.Common.{◌≡◌, ℕ, ◌+◌, ◌-◌, ◌*◌, ◌<◌, ◌≤◌, true, false, ◌&&◌, ◌==◌, nat_lt, nat_le, min, ap, arith, inl, inr, ltb-true, ltb-false, mul-le-mul_right, if◌then◌else◌, eqb-true, eq-eqb, leb-true, leb-false, ◌/◌, ◌%◌}
 use Rattle.std.proofs.lemmas.Bool.{cases_Bool, lt-ltb, and_parts}
-use Rattle.abt_runs.specs.Part.{next_ask, piece_bytes}
+use Rattle.abt_runs.specs.Part.{next_ask, piece_bytes, afresh}
 use Rattle.abt_runs.specs.declared.part.RunKind.{RunKind}
 use Rattle.abt_runs.specs.declared.part.RunKind.TheVariants as kinds
 use Rattle.abt_runs.specs.Raw.{raw_charge, RawPlace}
+use Rattle.abt_runs.specs.RawLaws.{raw_passed}
 use Rattle.abt_runs.specs.declared.part.Cursor.{Cursor}
 
 -- the next ask is one, or what was asked again, or twice that where all of it was alike
@@ -104,3 +105,23 @@ raw_takes k size used i q next some e =
 
 pub minus_zero : (n : ℕ) → n - 0 ≡ n
 minus_zero n = omega arith
+
+-- what copying may have read before a place: behind raw blocks what of them is in the source more
+pub raw_copies : (len size i q next : ℕ) → next ≡ i + q → min len (i * size) + min (q * size) (len - i * size) ≤ min len (next * size)
+raw_copies len size i q next e =
+    let d : (i + q) * size ≡ i * size + q * size = omega arith in
+    rw e (omega arith)
+
+pub raw_onward : (len size i next : ℕ) → i ≤ next → min len (i * size) ≤ min len (next * size)
+raw_onward len size i next le = let m : i * size ≤ next * size = mul-le-mul_right size le in omega arith
+
+-- a place has no more than a later one that is asked for anew
+pub raw_first : (len blocks size : ℕ) (c d : Cursor) → 4 ≤ size → len ≤ blocks * size → blocks * size < len + size → RawPlace blocks size c → c.block ≤ d.block → raw_charge len blocks size c ≤ raw_charge len blocks size (afresh d)
+raw_first len blocks size c d some covers last place le = elim (cases_Bool (nat_lt d.block blocks)) [
+  | inl e ↦
+      let lt = ltb-true d.block blocks e in
+      let lt' = lt-ltb c.block blocks (omega arith) in
+      let m : (2 * c.block + 1 - c.ask) * size ≤ (2 * d.block + 1 - 1) * size = mul-le-mul_right size (let z : 2 * c.block + 1 - c.ask ≤ 2 * d.block + 1 - 1 = omega (arith, place.some) in z) in
+      rw (e, lt') m
+  | inr e ↦ rw e (raw_passed len blocks size c some covers last place).0
+]

@@ -1,27 +1,25 @@
 -- The chunk that stands at a place of an opened image, and its parts.
-use Rattle.std.proofs.Common.{◌≡◌, ℕ, zero, suc, ◌+◌, ◌-◌, ◌*◌, ◌<◌, ◌≤◌, Bool, true, false, IsTrue, ◌&&◌, List, [], ◌∷◌, ◌++◌, length, take, drop, map, replicate, Option, Some, None, refl, sym, ap, subst, ◌∙◌, arith, inl, inr, ◌==◌, nat_lt, ltb-false, ltb-true, eqb-true, length-drop, length-append, append_assoc, if◌then◌else◌, not, mul-le-mul_right}
-use Rattle.std.specs.List.{AllByRecursion, flat_map, concat}
+use Rattle.std.proofs.Common.{◌≡◌, ℕ, zero, suc, ◌+◌, ◌-◌, ◌*◌, ◌<◌, ◌≤◌, Bool, true, false, IsTrue, ◌&&◌, List, [], ◌∷◌, ◌++◌, length, take, drop, map, replicate, Option, Some, refl, sym, ap, subst, ◌∙◌, arith, inl, inr, ◌==◌, nat_lt, ltb-false, ltb-true, eqb-true, length-drop, length-append, append_assoc, not, mul-le-mul_right}
+use Rattle.std.specs.List.{AllByRecursion, concat}
 use Rattle.std.proofs.lemmas.Bool.{cases_Bool, and_parts}
 use Rattle.std.proofs.lemmas.Grind.{flat_map-append}
-use Rattle.std.proofs.lemmas.List.{drop-drop, length-take-le, length-map, length-replicate, drop-append-le, take-append-le, take-replicate, drop-take, take-take, take-map, drop-map}
+use Rattle.std.proofs.lemmas.List.{drop-drop, length-map, length-replicate, drop-append-le, take-append-le, take-replicate, drop-take, take-take, take-map, drop-map}
 use Rattle.std.proofs.Math.Seq.{drop-append-add, take-add}
 use Rattle.abt_sparse.specs.declared.kind.ChunkKind.{ChunkKind}
 use Rattle.abt_sparse.specs.declared.kind.ChunkKind.TheVariants as kinds
 use Rattle.abt_sparse.specs.declared.chunk_header.ChunkHeader.{ChunkHeader}
-use Rattle.abt_sparse.specs.declared.fault.SparseFault.{SparseFault}
 use Rattle.abt_sparse.specs.Block.{Block, Raw, Fill, Skip, split}
-use Rattle.abt_sparse.specs.Chunk.{Header, Chunk, Raws, Fills, Skips, Crc, count, blocks_of, classed}
-use Rattle.abt_sparse.specs.Reading.{number_at, kind_at, data_len, counted, chunk_from, ChunkRead, Got, Bad, chunk_at, ChunksRead, Done, Failed, behind, chunks_at, Outcome, Image, Fault, outcome}
+use Rattle.abt_sparse.specs.Chunk.{Header, Chunk, count, blocks_of, classed}
+use Rattle.abt_sparse.specs.Reading.{number_at, kind_at, data_len, counted, chunk_from, ChunkRead, Got, Bad, chunk_at, ChunksRead, Done, Failed, behind, chunks_at, Image, outcome}
 use Rattle.abt_sparse.specs.Fails.{counted_in}
 use Rattle.abt_sparse.proofs.Exactly.{chunks-got, chunks-bad}
-use Rattle.abt_sparse.proofs.ChunkLaws.{GoodChunk, Made, got_made}
+use Rattle.abt_sparse.proofs.ChunkLaws.{got_made}
 use Rattle.abt_runs.specs.Part.{AllOf, IsRaw, PartOf, is_end, raw_of}
 use Rattle.abt_runs.specs.Sparse.{SparseOpened, blocks_in, sparse_list, Inside, SparsePlace, raw_blocks, blocks_together, data_place}
 use Rattle.abt_runs.specs.SparseLaws.{length-split', count_is, counted-classed, done_list, done_rest, image_rest, through}
 use Rattle.abt_runs.specs.Head.{head_of, head_of_kind, is_raw, HeadFits, has_word, class_of_kind, behind_chunk, part_of_chunk}
 use Rattle.abt_runs.specs.declared.part.Cursor.{Cursor}
 use Rattle.abt_runs.specs.declared.part.Run.{Run}
-use Rattle.abt_runs.specs.declared.part.RunKind.{RunKind}
 use Rattle.abt_runs.specs.declared.part.RunKind.TheVariants as classes
 use Rattle.abt_runs.proofs.Opened.{number_taken}
 
@@ -51,7 +49,7 @@ head_is bytes y k n total is long kind blocks all =
     let t : number_at 8 4 bytes ≡ total = sym (number_taken 8 4 12 bytes y is long (omega arith)) ∙ all in
     ap (λ (o : Option ChunkKind). head_of_kind o bytes) (ap kind_at a ∙ kind) ∙ (rw (b, t) refl)
 
-going_on : (b : ℕ) (k : ChunkKind) (n used : ℕ) (d : List ℕ) (cs : List Chunk) → Inside used (chunk_from b k n d ∷ cs) → 0 < used → (k ≡ kinds.Raw) × (used < n)
+pub going_on : (b : ℕ) (k : ChunkKind) (n used : ℕ) (d : List ℕ) (cs : List Chunk) → Inside used (chunk_from b k n d ∷ cs) → 0 < used → (k ≡ kinds.Raw) × (used < n)
 going_on b k n zero d cs h some = absurd (omega arith)
 going_on b kinds.Raw n (suc u) d cs h some = (refl, omega (arith, h, length-split' b n d))
 going_on b kinds.Fill n (suc u) d cs h some = absurd h
@@ -76,7 +74,7 @@ stand_on h long image x bytes c o p is left left_is ch m next r ds end s g =
     let same_rest : o.rest ≡ p.rest = image_rest (sym o.is_image ∙ p.is_image) in
     let y_long : length y ≡ length x - c.at = length-drop c.at x in
     let within : c.at + made.total ≤ length x = omega (arith, good.whole, y_long, good.long) in
-    let short : length end ≤ length next = (through h (length x) left (c.chunk + 1) (counted_in p.before + m) next ds end s).short in
+    let short : length end ≤ length next = omega (arith, (through h (length x) left (c.chunk + 1) (counted_in p.before + m) next ds end s).long) in
     let next_long : length next ≡ length x - (c.at + made.total) = ap length next_is ∙ length-drop (c.at + made.total) x in
     let here : Inside c.used (chunk_of h x c k ∷ ds) = subst (λ (d : Chunk). Inside c.used (d ∷ ds)) (sym ch_is) (subst (λ (cs : List Chunk). Inside c.used cs) (sym list) p.inside) in (
       k,

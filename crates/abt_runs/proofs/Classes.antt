@@ -1,12 +1,12 @@
 -- The classes of blocks that stand together.
-use Rattle.std.proofs.Common.{◌≡◌, ℕ, zero, suc, ◌+◌, ◌-◌, ◌*◌, ◌/◌, ◌%◌, ◌<◌, ◌≤◌, Bool, true, false, List, [], ◌∷◌, ◌++◌, length, take, drop, map, replicate, refl, sym, ap, ◌∙◌, arith, inl, inr, bytes_eq, Option, Some, None, min, IsTrue, subst, append_assoc, length-append, length-drop, append-nil, nat_le, leb-true, leb-false, mul-le-mul_right}
+use Rattle.std.proofs.Common.{◌≡◌, ℕ, zero, suc, ◌+◌, ◌-◌, ◌*◌, ◌/◌, ◌≤◌, Bool, false, List, [], ◌∷◌, ◌++◌, length, take, drop, map, replicate, refl, sym, ap, ◌∙◌, arith, inl, inr, bytes_eq, Option, Some, None, min, IsTrue, subst, length-append, length-drop, append-nil, nat_le, leb-true, leb-false, mul-le-mul_right}
 use Rattle.std.specs.Prelude.{slice_range, IfNone}
 use Rattle.abt_runs.specs.declared.part.RunFault.{RunFault}
 use Rattle.std.specs.List.{list_all, AllByRecursion}
 use Rattle.std.proofs.lemmas.Bool.{cases_Bool}
 use Rattle.std.proofs.lemmas.List.{drop-drop, take_all, length-take-le, length-replicate, take-append-le, drop-append-le, take-map, drop-map, take-replicate}
-use Rattle.std.proofs.Math.Seq.{take-append_seam, take-append-add, take-add}
-use Rattle.abt_sparse.specs.Block.{Block, Raw, Fill, Skip, split, class_of, classify, filled_to, block_count}
+use Rattle.std.proofs.Math.Seq.{take-append_seam, take-append-add}
+use Rattle.abt_sparse.specs.Block.{Block, Fill, Skip, split, class_of, classify, block_count}
 use Rattle.abt_runs.specs.Words.{word_of, kind_of_word}
 use Rattle.abt_runs.specs.Part.{AllOf, IsRaw, is_end}
 use Rattle.abt_runs.specs.declared.part.RunKind.{RunKind}

@@ -1,10 +1,10 @@
 -- The bytes of raw blocks of a raw image.
-use Rattle.std.proofs.Common.{◌≡◌, ℕ, zero, suc, ◌+◌, ◌-◌, ◌*◌, ◌/◌, ◌<◌, ◌≤◌, List, [], ◌∷◌, ◌++◌, length, take, drop, map, replicate, refl, sym, ap, ◌∙◌, arith, inl, inr, subst, bytes_eq, nat_le, leb-true, leb-false, length-append, length-drop, mul-le-mul_right}
-use Rattle.std.specs.List.{list_all, AllByRecursion, flat_map}
+use Rattle.std.proofs.Common.{◌≡◌, ℕ, zero, suc, ◌+◌, ◌-◌, ◌*◌, ◌/◌, ◌≤◌, List, ◌++◌, length, take, drop, replicate, refl, sym, ap, ◌∙◌, arith, inl, inr, subst, bytes_eq, length-drop}
+use Rattle.std.specs.List.{list_all, AllByRecursion}
 use Rattle.std.proofs.lemmas.Bool.{cases_Bool}
-use Rattle.std.proofs.lemmas.List.{drop-drop, take-take, drop-append-le, take-append-le, take-replicate, length-replicate}
+use Rattle.std.proofs.lemmas.List.{drop-drop, take-take, drop-append-le, take-append-le, take-replicate}
 use Rattle.std.proofs.Math.Seq.{take-add, drop-append-add}
-use Rattle.abt_sparse.specs.Block.{Block, Raw, Fill, Skip, split, class_of, classify, filled_to, block_count}
+use Rattle.abt_sparse.specs.Block.{Block, split, class_of, classify, filled_to, block_count}
 use Rattle.abt_sparse.specs.Chunk.{raw_bytes}
 use Rattle.abt_runs.specs.Part.{AllOf, IsRaw}
 use Rattle.abt_runs.specs.declared.part.RunKind.TheVariants as kinds

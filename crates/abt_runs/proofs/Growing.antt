@@ -1,11 +1,11 @@
 -- Runs that grow by parts.
-use Rattle.std.proofs.Common.{◌≡◌, ℕ, zero, suc, ◌+◌, ◌-◌, ◌*◌, ◌<◌, ◌≤◌, ◌==◌, Bool, true, false, IsTrue, List, [], ◌∷◌, ◌++◌, length, take, drop, min, refl, sym, ap, subst, ◌∙◌, arith, inl, inr, ◌⊎◌, Option, Some, None, if◌then◌else◌, eqb-true, eq-eqb, length-drop, length-append}
+use Rattle.std.proofs.Common.{◌≡◌, ℕ, zero, suc, ◌+◌, ◌-◌, ◌<◌, ◌≤◌, ◌==◌, true, false, List, [], ◌∷◌, ◌++◌, length, take, drop, min, refl, sym, ap, subst, ◌∙◌, arith, inl, inr, Some, None, if◌then◌else◌, eqb-true, length-drop, length-append}
 use Rattle.std.proofs.lemmas.Bool.{cases_Bool}
-use Rattle.std.proofs.lemmas.List.{drop-drop, length-take-le, take-append-drop, take_all}
+use Rattle.std.proofs.lemmas.List.{drop-drop, length-take-le, take-append-drop}
 use Rattle.std.proofs.Math.Seq.{take-add}
 use Rattle.abt_sparse.specs.Block.{Block}
 use Rattle.abt_sparse.specs.Runs.{runs}
-use Rattle.abt_runs.specs.Part.{AllOf, PartOf, is_end}
+use Rattle.abt_runs.specs.Part.{AllOf, PartOf, is_end, entry}
 use Rattle.abt_runs.specs.Whole.{alike_kinds, first_of, first_run, cut_at, RunOf, and_part, room_in}
 use Rattle.abt_runs.proofs.Alike.{kind_of, kind_is, Ended, runs_apart, runs_front, alike_same, all_append, not_end_some}
 use Rattle.abt_runs.specs.declared.part.Cursor.{Cursor}
@@ -219,6 +219,28 @@ few_are cap r p _ (grows h z n e) none few more k =
     let f = few k in
     let m = more (sym (alike_same r.kind p.kind e) ∙ k) in
     omega (arith, m, f, raw_room cap r.blocks r.kind k)
+
+-- a run that has grown by as much as it had room for has none
+pub room_after : (cap : ℕ) (r p s : Run) → Joins r p s → (r.blocks ≡ 0 → r.kind ≡ kinds.End) → 0 < room_in r.kind r.blocks cap → p.kind ≡ kinds.Raw → p.blocks ≡ room_in r.kind r.blocks cap → room_in s.kind s.blocks cap ≡ 0
+room_after cap r p _ (moves h z n) none some raw e = absurd (omega arith)
+room_after cap r p _ (stays h z n) none some raw e = absurd (omega arith)
+room_after cap r p _ (begins h z n) none some raw e = let all : room_in r.kind r.blocks cap ≡ cap = ap (λ (j : RunKind). room_in j r.blocks cap) (none n) in omega (arith, e, all, raw_room cap p.blocks p.kind raw)
+room_after cap r p _ (grows h z n k) none some raw e =
+    let mine : r.kind ≡ kinds.Raw = alike_same r.kind p.kind k ∙ raw in
+    omega (arith, e, raw_room cap r.blocks r.kind mine, raw_room cap (r.blocks + p.blocks) r.kind mine)
+
+pub room_most : (cap n : ℕ) (k : RunKind) → room_in k n cap ≤ cap
+room_most cap n kinds.Raw = omega arith
+room_most cap n (kinds.Fill w) = omega arith
+room_most cap n kinds.Skip = omega arith
+room_most cap n kinds.End = omega arith
+
+-- so where it goes on, it does at a chunk's beginning
+pub entry_after : (cap : ℕ) (r p s : Run) → Joins r p s → (r.blocks ≡ 0 → r.kind ≡ kinds.End) → 0 < room_in r.kind r.blocks cap → (0 < p.next.used → (p.kind ≡ kinds.Raw) × (p.blocks ≡ room_in r.kind r.blocks cap)) → 0 < room_in s.kind s.blocks cap → entry p.next ≡ 0
+entry_after cap r p s j none some stops more = elim (cases_Bool (p.next.used == 0)) [
+  | inl z ↦ rw z refl
+  | inr z ↦ absurd (let f = stops (not_zero p.next.used z) in omega (arith, room_after cap r p s j none some f.0 f.1))
+]
 
 pub no_room : (cap n : ℕ) (k : RunKind) → 0 < cap → room_in k n cap ≡ 0 → (k ≡ kinds.Raw) × (cap ≤ n)
 no_room cap n kinds.Raw some e = (refl, omega arith)

@@ -1,13 +1,12 @@
 -- Lanes of 32 bytes.
-use Rattle.std.proofs.Common.{◌≡◌, ℕ, zero, suc, ◌+◌, ◌-◌, ◌*◌, ◌/◌, ◌%◌, ◌^◌, ◌<◌, ◌≤◌, Bool, true, false, ◌&&◌, not, List, [], ◌∷◌, ◌++◌, length, take, drop, map, replicate, refl, sym, ap, ◌∙◌, arith, inl, inr, bytes_eq, eqb, eqb-true, eq-eqb, cond, Option, None, length-append, length-drop, ◌⊎◌}
-use Rattle.std.specs.List.{list_all, concat}
-use Rattle.std.proofs.lemmas.Bool.{cases_Bool, and_parts, and_from}
-use Rattle.std.proofs.lemmas.List.{drop-drop, length-take-le, length-map}
+use Rattle.std.proofs.Common.{◌≡◌, ℕ, zero, suc, ◌+◌, ◌-◌, ◌*◌, ◌/◌, ◌%◌, ◌^◌, ◌≤◌, Bool, true, false, ◌&&◌, not, List, [], ◌∷◌, ◌++◌, length, take, drop, map, replicate, refl, sym, ap, ◌∙◌, arith, inl, inr, bytes_eq, eqb, eqb-true, eq-eqb, cond, None, length-drop}
+use Rattle.std.specs.List.{concat}
+use Rattle.std.proofs.lemmas.Bool.{cases_Bool}
+use Rattle.std.proofs.lemmas.List.{drop-drop, length-take-le}
 use Rattle.std.proofs.lemmas.Simd.{tops_compared, mask_l-mod, length-zip2}
 use Rattle.std.proofs.Math.Seq.{take-add}
 use lib.Lanes.{zip2, mask_l, top}
 use mir.Syntax.{w8}
-use Rattle.abt_sparse.specs.Block.{split}
 use Rattle.abt_sparse.proofs.RunLaws.{same_bytes, bytes_same}
 use Rattle.abt_runs.specs.Words.{word_of, all_words}
 use Rattle.abt_runs.proofs.AllWords.{all-fails}

@@ -8,3 +8,4 @@ pub mod Growing
 pub mod Opened
 pub mod Chunked
 pub mod Passing
+pub mod Ordered

@@ -1,14 +1,13 @@
 -- An opening from one place to the next.
-use Rattle.std.proofs.Common.{◌≡◌, ℕ, zero, suc, ◌+◌, ◌-◌, ◌*◌, ◌%◌, ◌<◌, ◌≤◌, Bool, true, false, cond, List, [], ◌∷◌, ◌++◌, length, get_or, take, drop, Option, Some, None, Result, Ok, Err, refl, sym, ap, subst, ◌∙◌, arith, inl, inr, length-drop, length-append, take-append-drop, not, ◌==◌, ◌||◌, nat_lt, ltb-false, ltb-true, le-ltb, lt-ltb, eqb-true, eq-eqb, ne_eqb, get_or-drop}
-use Rattle.std.proofs.lemmas.Bool.{cases_Bool}
+use Rattle.std.proofs.Common.{◌≡◌, ℕ, zero, suc, ◌+◌, ◌-◌, ◌*◌, ◌%◌, ◌<◌, ◌≤◌, Bool, true, false, cond, List, [], ◌++◌, length, get_or, take, drop, Option, Some, None, Result, Ok, Err, refl, sym, ap, subst, ◌∙◌, arith, length-drop, take-append-drop, not, ◌==◌, ◌||◌, nat_lt, le-ltb, lt-ltb, eq-eqb, ne_eqb, get_or-drop}
 use Rattle.std.proofs.lemmas.List.{get_or_append_left, length-take-le, drop-drop}
-use Rattle.byteorder.specs.Endian.{little_number, little_from}
+use Rattle.byteorder.specs.Endian.{little_from}
 use Rattle.abt_sparse.specs.declared.fault.SparseFault.{SparseFault}
 use Rattle.abt_sparse.specs.declared.fault.SparseFault.TheVariants.{Magic, Major, FileHeaderSize, ChunkHeaderSize, BlockSize, Truncated, TooFewBlocks, ChunkType, ChunkLength, TooManyBlocks}
 use Rattle.abt_sparse.specs.declared.kind.ChunkKind.{ChunkKind}
 use Rattle.abt_sparse.specs.Number.{number_of}
 use Rattle.abt_sparse.specs.Chunk.{Header, Chunk}
-use Rattle.abt_sparse.specs.Reading.{number_at, header_at, checked_header, kind_at, data_len, counted, chunk_from, partial_of, ChunkRead, Got, Bad, chunk_body, chunk_known, chunk_at, ChunksRead, Done, Failed, behind, chunks_at, body_at, Outcome, Image, Fault, outcome_of, outcome}
+use Rattle.abt_sparse.specs.Reading.{number_at, header_at, checked_header, kind_at, data_len, counted, chunk_from, partial_of, Got, Bad, chunk_body, chunk_at, ChunksRead, Done, Failed, behind, chunks_at, body_at, outcome_of, outcome}
 use Rattle.abt_sparse.proofs.Exactly.{chunks-got, chunks-bad}
 use Rattle.std.specs.Prelude.{IsTrue}
 use Rattle.abt_io.specs.declared.device.DeviceFault.{DeviceFault}

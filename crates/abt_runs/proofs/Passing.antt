@@ -1,5 +1,5 @@
 -- The numbers of a part of a chunk.
-use Rattle.std.proofs.Common.{◌≡◌, ℕ, zero, suc, ◌+◌, ◌-◌, ◌*◌, ◌<◌, ◌≤◌, Bool, true, false, List, refl, sym, ap, ◌∙◌, arith, inl, inr, ◌==◌, eqb-true, if◌then◌else◌, mul-le-mul_right}
+use Rattle.std.proofs.Common.{◌≡◌, ℕ, zero, suc, ◌+◌, ◌-◌, ◌*◌, ◌<◌, ◌≤◌, true, false, List, refl, ap, ◌∙◌, arith, inl, inr, ◌==◌, eqb-true, mul-le-mul_right}
 use Rattle.std.proofs.lemmas.Bool.{cases_Bool}
 use Rattle.abt_sparse.specs.declared.kind.ChunkKind.{ChunkKind}
 use Rattle.abt_sparse.specs.declared.kind.ChunkKind.TheVariants as kinds
@@ -8,7 +8,7 @@ use Rattle.abt_sparse.specs.Chunk.{Header}
 use Rattle.abt_sparse.specs.Reading.{data_len, counted}
 use Rattle.abt_runs.specs.Part.{entry, piece_bytes}
 use Rattle.abt_runs.specs.Sparse.{SparseWithin, sparse_charge, data_place}
-use Rattle.abt_runs.specs.Head.{HeadFits, has_word, class_of_kind, behind_chunk}
+use Rattle.abt_runs.specs.Head.{HeadFits, has_word, class_of_kind}
 use Rattle.abt_runs.specs.declared.part.Cursor.{Cursor}
 use Rattle.abt_runs.specs.declared.part.Run.{Run}
 use Rattle.abt_runs.specs.declared.part.RunKind.{RunKind}
@@ -16,7 +16,7 @@ use Rattle.abt_runs.specs.declared.part.RunKind.TheVariants as classes
 use Rattle.abt_runs.proofs.Chunked.{Parts, passes, stops, ends, none_left, raw_counts, class_raw, left_some}
 
 -- of a raw chunk: the data up to a block
-raw_total : (h : Header) (image : ℕ) (c : Cursor) (k : ChunkHeader) → HeadFits h image c k → k.kind ≡ kinds.Raw → k.total ≡ h.chunk_hdr_sz + k.blocks * h.blk_sz
+pub raw_total : (h : Header) (image : ℕ) (c : Cursor) (k : ChunkHeader) → HeadFits h image c k → k.kind ≡ kinds.Raw → k.total ≡ h.chunk_hdr_sz + k.blocks * h.blk_sz
 raw_total h image c k f e = f.total ∙ ap (λ (j : ChunkKind). h.chunk_hdr_sz + data_len h.blk_sz j k.blocks) e
 
 -- a place's charge, in both its cases
@@ -66,6 +66,11 @@ pub here_block : (h : Header) (image : ℕ) (c : Cursor) (k : ChunkHeader) (word
 here_block h image c k word cap _ w f (passes none) = let n = none_left h image c k f none in omega (arith, n.0, n.1)
 here_block h image c k word cap _ w f (stops raw less) = refl
 here_block h image c k word cap _ w f (ends more few) = refl
+
+pub here_used : (c : Cursor) (k : ChunkHeader) (word : List ℕ) (cap : ℕ) (r : Run) → Parts k word c cap r → r.here.used ≤ c.used
+here_used c k word cap _ (passes none) = omega arith
+here_used c k word cap _ (stops raw less) = omega arith
+here_used c k word cap _ (ends more few) = omega arith
 
 pub here_charge : (h : Header) (image : ℕ) (c : Cursor) (k : ChunkHeader) (word : List ℕ) (cap : ℕ) (r : Run) → 12 ≤ h.chunk_hdr_sz → HeadFits h image c k → Parts k word c cap r → sparse_charge h c ≤ sparse_charge h r.here
 here_charge h image c k word cap _ hdr f (passes none) = omega (arith, charge_inside h image c k (sparse_charge h c) hdr f (charged h c))
@@ -137,11 +142,14 @@ entered c some = elim (cases_Bool (c.used == 0)) [
 ]
 
 -- the charge behind blocks of a raw chunk
-charge_in : (h : Header) (c : Cursor) → 0 < c.used → sparse_charge h c ≡ c.at + (h.chunk_hdr_sz + c.used * h.blk_sz)
+pub charge_in : (h : Header) (c : Cursor) → 0 < c.used → sparse_charge h c ≡ c.at + (h.chunk_hdr_sz + c.used * h.blk_sz)
 charge_in h c some = elim (cases_Bool (c.used == 0)) [
   | inl z ↦ absurd (omega (arith, eqb-true c.used 0 z))
   | inr z ↦ rw z refl
 ]
+
+pub charge_least : (h : Header) (c : Cursor) → c.at ≤ sparse_charge h c
+charge_least h c = omega arith
 
 -- what a part adds to the charge: at least a chunk's header where it begins one, and the data that it passes
 pub data Adds (h : Header) (c : Cursor) (k : ChunkHeader) (before after : ℕ) (r : Run) : Type 0 where
@@ -225,3 +233,26 @@ data_low h image c w = by_charge (sparse_charge h c) (charged h c) w.charge
     by_charge : (n : ℕ) → Charged h c n → n ≤ image → data_place h c ≤ image + h.chunk_hdr_sz
     by_charge _ (fresh z) le = let none : c.used * h.blk_sz ≡ 0 = ap (λ (m : ℕ). m * h.blk_sz) z ∙ (let y : 0 * h.blk_sz ≡ 0 = omega arith in y) in omega arith
     by_charge _ (within some) le = omega arith
+
+grown : (h : Header) (c : Cursor) (k : ChunkHeader) (before after : ℕ) (r : Run) → Adds h c k before after r → before ≤ after
+grown h c k before after r (begun z le) = omega arith
+grown h c k before after r (begun_raw z raw kind le) = omega arith
+grown h c k before after r (goes_on u kind le) = omega arith
+
+-- from a part's first block to the place behind its last
+pub here_next : (h : Header) (image : ℕ) (c : Cursor) (k : ChunkHeader) (word : List ℕ) (cap : ℕ) (r : Run) → HeadFits h image c k → 0 < cap → Parts k word c cap r → sparse_charge h r.here ≤ sparse_charge h r.next
+here_next h image c k word cap _ f some (passes none) = omega arith
+here_next h image c k word cap r f some (stops raw less) = grown h c k (sparse_charge h c) (sparse_charge h r.next) r (adds h image c k word cap r f some (stops raw less))
+here_next h image c k word cap r f some (ends more few) = grown h c k (sparse_charge h c) (sparse_charge h r.next) r (adds h image c k word cap r f some (ends more few))
+
+-- raw blocks take at least their bytes
+pub raw_copies : (h : Header) (image : ℕ) (c : Cursor) (k : ChunkHeader) (word : List ℕ) (cap : ℕ) (r : Run) → 12 ≤ h.chunk_hdr_sz → HeadFits h image c k → 0 < cap → Parts k word c cap r → r.kind ≡ classes.Raw → sparse_charge h r.here + r.blocks * h.blk_sz ≤ sparse_charge h r.next
+raw_copies h image c k word cap r hdr f some p kind = from_here r p kind (takes h image c k word cap r (sparse_charge h c) (sparse_charge h r.next) hdr f p (adds h image c k word cap r f some p))
+  where
+    least : (j : RunKind) (n : ℕ) → j ≡ classes.Raw → n * h.blk_sz ≤ piece_bytes h.blk_sz c.used j n
+    least j n e = rw e (omega arith)
+
+    from_here : (q : Run) → Parts k word c cap q → q.kind ≡ classes.Raw → piece_bytes h.blk_sz c.used q.kind q.blocks + sparse_charge h c ≤ sparse_charge h q.next → sparse_charge h q.here + q.blocks * h.blk_sz ≤ sparse_charge h q.next
+    from_here _ (passes none) e le = absurd cc
+    from_here q (stops raw less) e le = omega (arith, least q.kind q.blocks e)
+    from_here q (ends more few) e le = omega (arith, least q.kind q.blocks e)

@@ -1,5 +1,5 @@
 -- What a part of an image is.
-use Rattle.std.specs.Prelude.{◌≡◌, ℕ, ◌+◌, ◌*◌, ◌≤◌, ◌<◌, Bool, true, false, IsTrue, List, [], ◌∷◌, length, take, drop, replicate, ⊤, ◌==◌, nat_lt, nat_le, ◌&&◌, if◌then◌else◌}
+use Rattle.std.specs.Prelude.{◌≡◌, ℕ, ◌+◌, ◌*◌, ◌≤◌, ◌<◌, Bool, true, false, IsTrue, List, [], length, take, drop, replicate, ⊤, ◌==◌, nat_lt, nat_le, ◌&&◌, if◌then◌else◌}
 use Rattle.std.specs.List.{AllByRecursion, flat_map}
 use Rattle.abt_sparse.specs.Chunk.{raw_bytes}
 use Rattle.abt_sparse.specs.Block.{Block}
@@ -52,6 +52,22 @@ Caused (BadBlock n) tells before after = ⊥
 -- what a part may read besides what it passes: where it begins inside a chunk, that chunk's header
 abbrev pub entry : Cursor → ℕ
 entry c = if c.used == 0 then 0 else 16
+
+-- the same place, where the asks of a raw image begin again with one block
+abbrev pub afresh : Cursor → Cursor
+afresh c = record c { ask = 1 }
+
+-- of all places before this block or a later one it is the first: neither copying nor a pass has read less up to another
+abbrev pub Earliest : (Cursor → Type 0) → (Cursor → ℕ) → (Cursor → ℕ) → Cursor → Type 0
+Earliest IsPlace copied charge c = (d : Cursor) → IsPlace d → c.block ≤ d.block → (copied c ≤ copied d) × (charge c ≤ charge (afresh d))
+
+-- a place is one afresh: no less has been read before it, and no more is to pass
+pub record Afresh (W : Cursor → Type 0) (charges takes copies lefts : Cursor → ℕ) (c : Cursor) : Type 0 where
+  pub within : W (afresh c)
+  pub charge : charges c ≤ charges (afresh c)
+  pub taken : takes c ≤ takes (afresh c)
+  pub copied : copies c ≤ copies (afresh c)
+  pub left : lefts (afresh c) ≤ lefts c
 
 -- how many blocks of a raw image are asked for next, where so many of those that were asked for were alike
 abbrev pub next_ask : ℕ → ℕ → ℕ → ℕ → ℕ

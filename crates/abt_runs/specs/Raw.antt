@@ -1,5 +1,6 @@
 -- Places of a raw image.
-use Rattle.std.specs.Prelude.{◌≡◌, ℕ, ◌+◌, ◌-◌, ◌*◌, ◌≤◌, ◌<◌, ◌/◌, ◌%◌, ◌^◌, ◌==◌, nat_lt, if◌then◌else◌}
+use Rattle.std.specs.Prelude.{◌≡◌, ℕ, ◌+◌, ◌-◌, ◌*◌, ◌≤◌, ◌<◌, ◌/◌, ◌%◌, ◌^◌, ◌==◌, nat_lt, min, if◌then◌else◌}
+use Rattle.std.proofs.Props.{props}
 use Rattle.abt_runs.specs.declared.part.RunFault.{RunFault}
 use Rattle.abt_runs.specs.declared.part.RunFault.TheVariants.{Sparse, Read, TooLarge, SourceChanged, BadBlock}
 use Rattle.abt_runs.specs.declared.part.Cursor.{Cursor}
@@ -11,9 +12,19 @@ pub record RawPlace (blocks size : ℕ) (c : Cursor) : Type 0 where
   pub passed : c.ask ≤ 2 * c.block + 1
   pub used : c.used ≡ 0
 
+pub RawPlace-prop : (blocks size : ℕ) (c : Cursor) → IsProp (RawPlace blocks size c)
+RawPlace-prop blocks size c = Prim.hlevel props
+
 -- how many bytes a pass may have read: twice those passed, less what was asked for in advance
 abbrev pub raw_charge : ℕ → ℕ → ℕ → Cursor → ℕ
 raw_charge long blocks size c = if nat_lt c.block blocks then (2 * c.block + 1 - c.ask) * size else 2 * long
+
+-- how many of its bytes are before a place, and how many of the first n bytes behind it
+abbrev pub raw_before : ℕ → ℕ → Cursor → ℕ
+raw_before long size c = min long (c.block * size)
+
+abbrev pub raw_held : ℕ → ℕ → Cursor → ℕ → ℕ
+raw_held long size c n = min n (long - c.block * size)
 
 -- why a raw image isn't opened
 abbrev pub Refused : RunFault → ℕ → ℕ → Type 0

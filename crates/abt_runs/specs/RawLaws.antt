@@ -1,12 +1,13 @@
 -- What holds of a raw image.
-use Rattle.std.specs.Prelude.{◌≡◌, ℕ, zero, suc, ◌+◌, ◌-◌, ◌*◌, ◌/◌, ◌%◌, ◌^◌, ◌≤◌, ◌<◌, Bool, true, false, List, [], ◌∷◌, ◌++◌, length, take, drop, map, replicate, refl, bytes_eq, nat_le, nat_lt, ◌==◌}
-use Rattle.std.proofs.Common.{arith, ap, sym, ◌∙◌, inl, inr, length-append, length-drop, length-take-le, mul-le-mul_left, leb-true, leb-false, ltb-true, eqb-true, mul-le-mul_right}
+use Rattle.std.specs.Prelude.{◌≡◌, ℕ, zero, suc, ◌+◌, ◌-◌, ◌*◌, ◌/◌, ◌%◌, ◌^◌, ◌≤◌, ◌<◌, List, length, take, drop, map, replicate, refl, bytes_eq, nat_le, nat_lt, ◌==◌}
+use Rattle.std.proofs.Common.{arith, ap, ◌∙◌, inl, inr, length-append, length-drop, length-take-le, mul-le-mul_left, leb-true, leb-false, ltb-true, eqb-true, mul-le-mul_right}
 use Rattle.std.proofs.lemmas.List.{length-map, length-replicate}
 use Rattle.std.proofs.lemmas.Bool.{cases_Bool}
 use Rattle.std.specs.List.{list_all, AllByRecursion}
-use Rattle.abt_runs.specs.Raw.{RawPlace, raw_charge, raw_padding}
+use Rattle.abt_runs.specs.Raw.{RawPlace, raw_charge, raw_padding, raw_before, raw_held}
+use Rattle.abt_runs.specs.Part.{Afresh, afresh}
 use Rattle.abt_runs.specs.declared.part.Cursor.{Cursor}
-use Rattle.abt_sparse.specs.Block.{Block, Raw, Fill, Skip, IsBlock, AreBlocks, classify, class_of, split, filled_to, block_count}
+use Rattle.abt_sparse.specs.Block.{IsBlock, AreBlocks, classify, class_of, split, filled_to, block_count}
 
 pub length-split : (b n : ℕ) (y : List ℕ) → length (split b n y) ≡ n
 length-split b zero y = refl
@@ -65,6 +66,30 @@ raw_passed len blocks size c some covers last h = (
   ],
   mul-le-mul_right (size + 16) h.within,
 )
+
+pub raw_copied_fits : (len size : ℕ) (c : Cursor) → raw_before len size c ≤ len
+raw_copied_fits len size c = omega arith
+
+pub raw_held_grows : (len size : ℕ) (c : Cursor) (m n : ℕ) → m ≤ n → (raw_held len size c m ≤ raw_held len size c n) × (raw_held len size c n ≤ n)
+raw_held_grows len size c m n le = (omega arith, omega arith)
+
+pub raw_place_afresh : (blocks size : ℕ) (c : Cursor) → RawPlace blocks size c → RawPlace blocks size (afresh c)
+raw_place_afresh blocks size c h =
+    let m : 1 * size ≤ c.ask * size = mul-le-mul_right size (let z : 1 ≤ c.ask = omega (arith, h.some) in z) in
+    record { within = h.within; some = omega arith; window = omega (arith, m, h.window); passed = omega arith; used = h.used }
+
+pub raw_afresh : (len blocks size : ℕ) (c : Cursor) → RawPlace blocks size c
+    → Afresh (λ d. RawPlace blocks size d) (λ d. raw_charge len blocks size d) (λ d. d.block * (size + 16)) (λ d. raw_before len size d) (λ d. blocks - d.block) c
+raw_afresh len blocks size c h = record {
+  within = raw_place_afresh blocks size c h;
+  charge = elim (cases_Bool (nat_lt c.block blocks)) [
+    | inl e ↦ let m : (2 * c.block + 1 - c.ask) * size ≤ (2 * c.block + 1 - 1) * size = mul-le-mul_right size (let z : 2 * c.block + 1 - c.ask ≤ 2 * c.block + 1 - 1 = omega (arith, h.some) in z) in rw e m
+    | inr e ↦ rw e (omega arith)
+  ];
+  taken = omega arith;
+  copied = omega arith;
+  left = omega arith;
+}
 
 pub raw_spared : (len blocks size : ℕ) → 4 ≤ size → blocks * size < len + size → (blocks - 1) * size ≤ len
 raw_spared len zero size some last = omega arith

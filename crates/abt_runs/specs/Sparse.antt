@@ -1,7 +1,8 @@
 -- A sparse image that was opened, and places in it.
 use Rattle.std.specs.Prelude.{◌≡◌, ℕ, zero, suc, ◌+◌, ◌-◌, ◌*◌, ◌≤◌, ◌<◌, ◌==◌, List, [], ◌∷◌, ◌++◌, length, drop, if◌then◌else◌, ⊤}
+use Rattle.std.specs.Coded.{le_prop}
 use Rattle.abt_sparse.specs.Block.{Block}
-use Rattle.abt_sparse.specs.Chunk.{Header, Chunk, Raws, classed}
+use Rattle.abt_sparse.specs.Chunk.{Header, Chunk, Raws, Fills, Skips, Crc, classed}
 use Rattle.abt_sparse.specs.Reading.{ChunkRead, Got, Done, chunk_at, chunks_at, Outcome, Image, Fault, outcome}
 use Rattle.abt_sparse.specs.Fails.{counted_in}
 use Rattle.abt_runs.specs.declared.part.Cursor.{Cursor}
@@ -50,6 +51,20 @@ pub record SparseWithin (h : Header) (image : ℕ) (c : Cursor) : Type 0 where
   pub used : c.used ≤ c.block
   pub charge : sparse_charge h c ≤ image
   pub going : 0 < c.used → c.chunk < h.total_chunks
+
+pub SparseWithin-prop : (h : Header) (image : ℕ) (c : Cursor) → IsProp (SparseWithin h image c)
+SparseWithin-prop h image c = Prim.hlevel (le_prop)
+
+-- how many bytes chunks take with their headers
+abbrev pub chunk_length : Header → Chunk → ℕ
+chunk_length h (Raws blocks) = h.chunk_hdr_sz + length blocks * h.blk_sz
+chunk_length h (Fills word n) = h.chunk_hdr_sz + 4
+chunk_length h (Skips n) = h.chunk_hdr_sz + 0
+chunk_length h (Crc word) = h.chunk_hdr_sz + 4
+
+abbrev pub lengths : Header → List Chunk → ℕ
+lengths h [] = 0
+lengths h (c ∷ cs) = chunk_length h c + lengths h cs
 
 -- where the raw data from a place on begins
 abbrev pub data_place : Header → Cursor → ℕ

@@ -1,5 +1,5 @@
 -- What holds of a sparse image that was opened.
-use Rattle.std.specs.Prelude.{◌≡◌, ℕ, zero, suc, ◌+◌, ◌-◌, ◌*◌, ◌^◌, ◌≤◌, ◌<◌, ◌==◌, nat_lt, Bool, true, false, List, [], ◌∷◌, ◌++◌, length, take, drop, map, replicate, Result, Ok, Err, refl}
+use Rattle.std.specs.Prelude.{◌≡◌, ℕ, zero, suc, ◌+◌, ◌-◌, ◌*◌, ◌^◌, ◌≤◌, ◌<◌, ◌==◌, nat_lt, false, List, [], ◌∷◌, ◌++◌, length, take, drop, map, replicate, Result, Ok, Err, refl}
 use Rattle.std.proofs.Common.{arith, ap, sym, subst, ◌∙◌, inl, inr, length-append, length-drop, length-take-le, eqb-true, ltb-false}
 use Rattle.std.proofs.lemmas.Bool.{cases_Bool}
 use Rattle.std.proofs.lemmas.List.{length-map, length-replicate}
@@ -13,7 +13,8 @@ use Rattle.abt_sparse.specs.Reading.{checked_header, data_len, counted, chunk_fr
 use Rattle.abt_sparse.specs.Fails.{counted_in}
 use Rattle.abt_sparse.proofs.Exactly.{chunks-got, chunks-bad}
 use Rattle.abt_sparse.proofs.ChunkLaws.{got_made}
-use Rattle.abt_runs.specs.Sparse.{SparseOpened, blocks_in, sparse_list, SparsePlace}
+use Rattle.abt_runs.specs.Sparse.{SparseOpened, blocks_in, sparse_list, SparsePlace, chunk_length, lengths, SparseWithin, sparse_charge}
+use Rattle.abt_runs.specs.Part.{Afresh, afresh}
 use Rattle.abt_runs.specs.declared.part.Cursor.{Cursor}
 
 -- ---- a chunk's blocks
@@ -27,6 +28,12 @@ count_is b kinds.Raw n d = length-split' b n d
 count_is b kinds.Fill n d = refl
 count_is b kinds.Skip n d = refl
 count_is b kinds.Crc n d = refl
+
+length_is : (h : Header) (k : ChunkKind) (n : ℕ) (d : List ℕ) → chunk_length h (chunk_from h.blk_sz k n d) ≡ h.chunk_hdr_sz + data_len h.blk_sz k n
+length_is h kinds.Raw n d = ap (λ (m : ℕ). h.chunk_hdr_sz + m * h.blk_sz) (length-split' h.blk_sz n d)
+length_is h kinds.Fill n d = refl
+length_is h kinds.Skip n d = refl
+length_is h kinds.Crc n d = refl
 
 pub counted-classed : (cs : List Chunk) → counted_in cs ≡ length (classed cs)
 counted-classed [] = refl
@@ -66,7 +73,7 @@ both_good b (x ∷ xs) ys h k = (h.0, both_good b xs ys h.1 k)
 pub record Through (h : Header) (have : ℕ) (y : List ℕ) (cs : List Chunk) (rest : List ℕ) : Type 0 where
   pub total : have + counted_in cs ≡ h.total_blks
   pub good : AllByRecursion (IsBlock h.blk_sz) (classed cs)
-  pub short : length rest ≤ length y
+  pub long : length y ≡ lengths h cs + length rest
 
 pub done_list : {cs cs' : List Chunk} {r r' : List ℕ} → Done cs r ≡ Done cs' r' → cs ≡ cs'
 done_list {cs} {cs'} {r} {r'} e = cc
@@ -81,7 +88,7 @@ through h size zero i have y cs rest e = elim (cases_Bool (have == h.total_blks)
       let f : Done [] y ≡ Done cs rest = rw (t, chunks_at) at e in
       let none : [] ≡ cs = done_list f in
       let same : y ≡ rest = done_rest f in
-      subst (λ (ds : List Chunk). Through h have y ds rest) none (record { total = omega (arith, eqb-true have h.total_blks t); good = tt; short = omega (arith, ap length same) })
+      subst (λ (ds : List Chunk). Through h have y ds rest) none (record { total = omega (arith, eqb-true have h.total_blks t); good = tt; long = omega (arith, ap length same) })
   | inr t ↦ absurd (let f : Failed _ [] [] ≡ Done cs rest = rw (t, chunks_at) at e in cc)
 ]
 through h size (suc left) i have y cs rest e = step (chunk_at h size i have y) refl (λ n more ds end s. through h size left (i + 1) (have + n) more ds end s)
@@ -93,7 +100,8 @@ through h size (suc left) i have y cs rest e = step (chunk_at h size i have y) r
         let g : Done (c ∷ ds) end ≡ Done cs rest = ap (λ (t : ChunksRead). behind c t) (sym s) ∙ sym (chunks-got h size i have left y c n more r) ∙ e in
         let t = ih ds end s in
         let made = got_made h size i have y c n more r in
-        let shorter : length more ≤ length y = omega (arith, ap length made.good.rest_is, length-drop made.total y) in
+        let more_long : length y ≡ made.total + length more = omega (arith, ap length made.good.rest_is, length-drop made.total y, made.good.whole) in
+        let mine_long : chunk_length h c ≡ made.total = ap (λ (d : Chunk). chunk_length h d) (sym made.c_is) ∙ length_is h made.k made.n made.d ∙ sym made.good.total_right in
         let counts : count c ≡ n = ap count (sym made.c_is) ∙ count_is h.blk_sz made.k made.n made.d ∙ made.m_is in
         let room : length (take made.total y) ≡ made.total = length-take-le made.total y made.good.whole in
         let data_long : length made.d ≡ data_len h.blk_sz made.k made.n = omega (arith, ap length made.good.data_is, length-drop h.chunk_hdr_sz (take made.total y), room, made.good.total_right) in
@@ -101,7 +109,7 @@ through h size (suc left) i have y cs rest e = step (chunk_at h size i have y) r
         subst (λ (ds' : List Chunk). Through h have y ds' rest) (done_list g) (record {
           total = omega (arith, t.total, counts);
           good = both_good h.blk_sz (blocks_of c) (classed ds) mine t.good;
-          short = omega (arith, t.short, shorter, ap length (done_rest g));
+          long = omega (arith, t.long, more_long, mine_long, ap length (done_rest g));
         })
 
     step : (r : ChunkRead) → chunk_at h size i have y ≡ r
@@ -119,7 +127,7 @@ pub record Parted (x : List ℕ) (h : Header) (cs : List Chunk) (rest : List ℕ
 image_header : {h h' : Header} {cs cs' : List Chunk} {r r' : List ℕ} → Image h cs r ≡ Image h' cs' r' → h ≡ h'
 image_header {h} {h'} {cs} {cs'} {r} {r'} e = cc
 
-image_chunks : {h h' : Header} {cs cs' : List Chunk} {r r' : List ℕ} → Image h cs r ≡ Image h' cs' r' → cs ≡ cs'
+pub image_chunks : {h h' : Header} {cs cs' : List Chunk} {r r' : List ℕ} → Image h cs r ≡ Image h' cs' r' → cs ≡ cs'
 image_chunks {h} {h'} {cs} {cs'} {r} {r'} e = cc
 
 pub image_rest : {h h' : Header} {cs cs' : List Chunk} {r r' : List ℕ} → Image h cs r ≡ Image h' cs' r' → r ≡ r'
@@ -171,6 +179,22 @@ sparse_one b = omega arith
 
 pub sparse_left : (blocks chunks block chunk : ℕ) → blocks < 2 ^ 32 → chunks < 2 ^ 32 → (blocks - block) + (chunks - chunk) < 2 ^ 64
 sparse_left blocks chunks block chunk few fewer = omega arith
+
+pub sparse_held_grows : (m n : ℕ) → m ≤ n → (m ≤ n) × (n ≤ n)
+sparse_held_grows m n le = (le, omega arith)
+
+pub sparse_place_afresh : (h : Header) (x : List ℕ) (c : Cursor) → SparsePlace h x c → SparsePlace h x (afresh c)
+sparse_place_afresh h x c p = record { before = p.before; after = p.after; rest = p.rest; is_image = p.is_image; ahead = p.ahead; chunk = p.chunk; block = p.block; inside = p.inside }
+
+pub sparse_afresh : (h : Header) (image : ℕ) (c : Cursor) → SparseWithin h image c
+    → Afresh (λ d. SparseWithin h image d) (λ d. sparse_charge h d) (λ d. sparse_charge h d) (λ d. sparse_charge h d) (λ d. (h.total_blks - d.block) + (h.total_chunks - d.chunk)) c
+sparse_afresh h image c w = record {
+  within = record { chunk = w.chunk; block = w.block; used = w.used; charge = w.charge; going = w.going };
+  charge = omega arith;
+  taken = omega arith;
+  copied = omega arith;
+  left = omega arith;
+}
 
 pub sparse_spared : (n image : ℕ) → (n - 1) * 0 ≤ image
 sparse_spared n image = omega arith

@@ -5,7 +5,7 @@ use Rattle.abt_sparse.specs.Runs.{runs}
 use Rattle.abt_runs.specs.Part.{AllOf, is_end}
 use Rattle.abt_runs.specs.declared.part.Run.{Run}
 use Rattle.abt_runs.specs.declared.part.RunKind.{RunKind}
-use Rattle.abt_runs.specs.declared.part.RunKind.TheVariants.{Raw, Fill, Skip, End}
+use Rattle.abt_runs.specs.declared.part.RunKind.TheVariants.{Raw, Fill, Skip}
 
 -- blocks of these classes make one run
 abbrev pub alike_kinds : RunKind → RunKind → Bool

@@ -3,8 +3,8 @@ ghost use Rattle.std.specs.Prelude.{◌≡◌, ◌<◌, ◌≤◌, ◌+◌, ◌-
 ghost use Rattle.abt_sparse.specs.Block.{split, class_of, classify};
 ghost use Rattle.abt_runs.specs.Part.{AllOf, Caused, is_end, next_ask};
 ghost use Rattle.abt_runs.specs.Words.{kind_of_word};
-ghost use Rattle.abt_runs.specs.Raw.{RawPlace, raw_charge, raw_padding, Refused};
-ghost use Rattle.abt_runs.specs.RawLaws.{raw_left, raw_long, raw_are_blocks, own_size, raw_passed, raw_spared, raw_economy, raw_padded};
+ghost use Rattle.abt_runs.specs.Raw.{RawPlace, RawPlace-prop, raw_charge, raw_padding, raw_before, raw_held, Refused};
+ghost use Rattle.abt_runs.specs.RawLaws.{raw_left, raw_long, raw_are_blocks, own_size, raw_passed, raw_copied_fits, raw_held_grows, raw_place_afresh, raw_afresh, raw_spared, raw_economy, raw_padded};
 
 use crate::reading::{Loaded, load};
 use crate::{BlockRuns, Cursor, Run, RunFault, RunKind, equal_word};
@@ -211,6 +211,8 @@ impl BlockRuns for RawRuns {
 
     ghost within = { λ s c. RawPlace s.blocks s.size c };
 
+    ghost within_alike = { λ s c. RawPlace-prop s.blocks s.size c };
+
     ghost place = { λ s x c. RawPlace s.blocks s.size c };
 
     ghost left = { λ s c. s.blocks - c.block };
@@ -233,6 +235,10 @@ impl BlockRuns for RawRuns {
 
     ghost together = { λ s x c. s.blocks - c.block };
 
+    ghost copied = { λ s c. raw_before s.length s.size c };
+
+    ghost held = { λ s c n. raw_held s.length s.size c n };
+
     ghost long = { λ s x e. raw_long s.length s.blocks s.size x s.some s.covers s.last e };
 
     ghost are_blocks = { λ s x e. raw_are_blocks s.length s.blocks s.size x s.some s.covers s.last e };
@@ -246,6 +252,14 @@ impl BlockRuns for RawRuns {
     ghost left_fits = { λ s c h. raw_left s.blocks c s.fits };
 
     ghost passed = { λ s c h. raw_passed s.length s.blocks s.size c s.some s.covers s.last h };
+
+    ghost copied_fits = { λ s c h. raw_copied_fits s.length s.size c };
+
+    ghost held_grows = { λ s c m n. raw_held_grows s.length s.size c m n };
+
+    ghost afresh_within = { λ s c h. raw_afresh s.length s.blocks s.size c h };
+
+    ghost afresh_place = { λ s x c h. raw_place_afresh s.blocks s.size c h };
 
     ghost spared = { λ s. raw_spared s.length s.blocks s.size s.some s.last };
 

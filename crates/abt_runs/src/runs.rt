@@ -1,9 +1,9 @@
 //! The trait of opened images: what is known of one, and how it is read in repeated passes.
-ghost use Rattle.std.specs.Prelude.{◌≡◌, ◌<◌, ◌≤◌, ◌+◌, ◌-◌, ◌*◌, ◌%◌, ◌^◌, ℕ, List, IsTrue, IfOk, IfErr, OnOk, length, take, drop, max, true};
+ghost use Rattle.std.specs.Prelude.{◌≡◌, ◌<◌, ◌≤◌, ◌+◌, ◌-◌, ◌*◌, ◌%◌, ◌^◌, ℕ, List, IsTrue, IfOk, IfErr, OnOk, length, take, drop, min, max, true, false};
 ghost use Rattle.abt_io.specs.Count.{count_of};
 ghost use Rattle.abt_sparse.specs.Block.{Block, AreBlocks};
 ghost use Rattle.abt_runs.specs.declared.part.Cursor.{Cursor};
-ghost use Rattle.abt_runs.specs.Part.{PartOf, AllOf, MovesOn, Capped, Caused, entry, is_end, raw_of, piece_bytes};
+ghost use Rattle.abt_runs.specs.Part.{PartOf, AllOf, MovesOn, Capped, Caused, Earliest, Afresh, afresh, entry, is_end, raw_of, piece_bytes};
 ghost use Rattle.abt_runs.specs.Whole.{RunOf};
 
 use crate::whole::{joined, room};
@@ -31,6 +31,9 @@ pub trait BlockRuns {
 
     /// Whether the numbers of a place are within what was found at opening.
     ghost within: { Self → Cursor → Type 0 };
+
+    /// That they are has one proof at most.
+    ghost within_alike: { (s : Self) (c : Cursor) → IsProp (within s c) };
 
     /// Whether a place is one of the image that these bytes are.
     ghost place: { Self → List ℕ → Cursor → Type 0 };
@@ -65,6 +68,13 @@ pub trait BlockRuns {
     /// How many blocks do stand together there.
     ghost together: { Self → List ℕ → Cursor → ℕ };
 
+    /// How many bytes copying the raw blocks before a place may have read.
+    ghost copied: { Self → Cursor → ℕ };
+
+    /// How many of the first bytes of the raw blocks at a place are in the source: the zeros that
+    /// fill up a raw image's last block are not.
+    ghost held: { Self → Cursor → ℕ → ℕ };
+
     /// How many bytes a block has.
     fn block_size(&self) -> u32
         ensures { result ≡ size self.now };
@@ -77,12 +87,14 @@ pub trait BlockRuns {
     fn start(&self) -> Cursor
         ensures first { result.block ≡ 0 }
         ensures unused { result.used ≡ 0 }
+        ensures fresh { result.ask ≡ 1 }
         ensures within { within self.now result }
         ensures place { (x : List ℕ) → opened self.now x → place self.now x result };
 
     /// One step's worth of blocks of one class from a place on, at most `cap` of them where they
     /// are raw. It need not be maximal, and may hold no block where the place moves on; the end
-    /// alone is `RunKind::End`. The call is one step: it ends with `close_step` of what was read.
+    /// alone is `RunKind::End`, and alone reads nothing. The call is one step: it ends with
+    /// `close_step` of what was read.
     ///
     /// It refuses with `Read` where the source has failed, and with `SourceChanged` where the
     /// source is no longer the one that was opened.
@@ -106,7 +118,11 @@ pub trait BlockRuns {
         ensures stands { IsTrue S.tells → IfOk result (λ r. r.kind ≡ RunKind.Raw → r.blocks ≤ together self.old (S.content source.old) r.here) }
         ensures within { IfOk result (λ r. within self.old r.next) }
         ensures here { IfOk result (λ r. (r.here.block ≡ from.block) × within self.old r.here × (charge self.old from ≤ charge self.old r.here)) }
+        ensures inside { IfOk result (λ r. r.here.used ≤ from.used) }
         ensures reached { IfOk result (λ r. r.kind ≡ RunKind.Raw → r.blocks * size self.old ≤ reach self.old r.here) }
+        ensures first { IsTrue S.tells → IfOk result (λ r. 0 < r.blocks → Earliest (λ d. within self.old d × place self.old (S.content source.old) d) (copied self.old) (charge self.old) r.next) }
+        ensures anew { IfOk result (λ r. charge self.old (afresh r.here) ≤ charge self.old r.here) }
+        ensures not_past { IsTrue S.tells → IfOk result (λ r. (d : Cursor) → within self.old d → place self.old (S.content source.old) d → d.block ≡ from.block + cap → r.blocks ≤ cap) }
         ensures moved { IfOk result (λ r. r.next.block ≡ from.block + r.blocks) }
         ensures capped { IfOk result (λ r. Capped cap r) }
         ensures on { IfOk result (λ r. MovesOn (left self.old) from r) }
@@ -115,12 +131,16 @@ pub trait BlockRuns {
         ensures at_end { IfOk result (λ r. is_end r.kind ≡ true → (from.block ≡ count self.old) × (r.blocks ≡ 0)) }
         ensures charged { IfOk result (λ r. S.given source.new + charge self.old from ≤ S.given source.old + charge self.old r.next + entry from) }
         ensures takes { IfOk result (λ r. piece_bytes (size self.old) from.used r.kind r.blocks + taken self.old from ≤ taken self.old r.next) }
+        ensures copies { IfOk result (λ r. r.kind ≡ RunKind.Raw → copied self.old r.here + held self.old r.here (r.blocks * size self.old) ≤ copied self.old r.next) }
+        ensures onward { IfOk result (λ r. (copied self.old from ≤ copied self.old r.here) × (copied self.old r.here ≤ copied self.old r.next)) }
         ensures given { S.given source.old ≤ S.given source.new }
+        ensures fetched { IfOk result (λ r. is_end r.kind ≡ false → S.given source.old < S.given source.new) }
         ensures ended { IfOk result (λ r. is_end r.kind ≡ true → S.given source.new ≡ S.given source.old) }
         ensures most { S.given source.new ≤ S.given source.old + 16 + cap * one self.old }
         ensures received { S.given source.new ≤ S.given source.old + 65536 }
         ensures calls { S.reads source.new ≤ S.reads source.old + (S.given source.new - S.given source.old) + 2 }
         ensures turns { m.new.turns.number ≤ m.old.turns.number + 2 * (S.given source.new - S.given source.old) + 2 + padding self.old from }
+        ensures filled_up { IfOk result (λ r. 0 < padding self.old from → 0 < r.blocks) }
         ensures steps { m.new.steps.number ≡ m.old.steps.number + 1 }
         ensures greatest { m.new.greatest.number ≡ max m.old.greatest.number (S.given source.new - S.given source.old) }
         ensures faults { S.read_faults source.old ≤ S.read_faults source.new }
@@ -151,6 +171,7 @@ pub trait BlockRuns {
         ensures some { IfOk result (λ n. 0 < length out.new → 0 < n) }
         ensures bytes { IsTrue S.tells → IfOk result (λ n. (q : ℕ) → q ≤ together self.old (S.content source.old) here → AllOf RunKind.Raw (take q (drop here.block (list self.old (S.content source.old)))) → at + n ≤ q * size self.old → take n out.new ≡ take n (drop at (raw_of (take q (drop here.block (list self.old (S.content source.old))))))) }
         ensures given { S.given source.old ≤ S.given source.new × S.given source.new ≤ S.given source.old + count_of result }
+        ensures read { S.given source.new + held self.old here at ≤ S.given source.old + held self.old here (at + count_of result) }
         ensures few { IfOk result (λ n. n ≤ 80 + (S.given source.new - S.given source.old)) }
         ensures calls { S.reads source.new ≤ S.reads source.old + 1 }
         ensures turns { m.new.turns.number ≡ m.old.turns.number }
@@ -185,6 +206,7 @@ pub trait BlockRuns {
         ensures reached { IfOk result (λ r. r.kind ≡ RunKind.Raw → size self.old ≤ reach self.old r.here) }
         ensures moved { IfOk result (λ r. (r.here.block ≡ from.block) × (r.next.block ≡ from.block + r.blocks)) }
         ensures capped { IfOk result (λ r. Capped cap r) }
+        ensures charged { IfOk result (λ r. S.given source.new + charge self.old from ≤ S.given source.old + charge self.old r.next + entry from + min 65536 (16 + cap * one self.old)) }
         ensures given { S.given source.old ≤ S.given source.new }
         ensures received { S.given source.new + 65536 * m.old.steps.number ≤ S.given source.old + 65536 * m.new.steps.number }
         ensures calls { S.reads source.new + 2 * m.old.steps.number ≤ S.reads source.old + (S.given source.new - S.given source.old) + 2 * m.new.steps.number }
@@ -236,6 +258,18 @@ pub trait BlockRuns {
 
     /// A pass reads no more than a whole one, and what is taken is no more than by all blocks.
     ghost passed: { (s : Self) (c : Cursor) → within s c → (charge s c ≤ pass s) × (taken s c ≤ most_taken s) };
+
+    /// Copying reads no more than the image.
+    ghost copied_fits: { (s : Self) (c : Cursor) → within s c → copied s c ≤ image s };
+
+    /// Of more bytes no fewer are in the source, and never more than there are.
+    ghost held_grows: { (s : Self) (c : Cursor) (m n : ℕ) → m ≤ n → (held s c m ≤ held s c n) × (held s c n ≤ n) };
+
+    /// A place is one, too, where one block is asked for: no less has been read before it then, and no more is to pass.
+    ghost afresh_within: { (s : Self) (c : Cursor) → within s c → Afresh (within s) (charge s) (taken s) (copied s) (left s) c };
+
+    /// So it is in the image that these bytes are.
+    ghost afresh_place: { (s : Self) (x : List ℕ) (c : Cursor) → place s x c → place s x (afresh c) };
 
     /// All blocks but one are within the image, of which so much is read to tell their classes.
     ghost spared: { (s : Self) → (count s - 1) * one s ≤ image s };

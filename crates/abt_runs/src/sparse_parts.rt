@@ -5,8 +5,8 @@ ghost use Rattle.abt_sparse.specs.View.{view};
 ghost use Rattle.abt_sparse.specs.declared.chunk_header.ChunkHeader.{ChunkHeader as Heads};
 ghost use Rattle.abt_runs.specs.Part.{Caused};
 ghost use Rattle.abt_runs.specs.Head.{head_of, HeadFits, has_word as wants_word, class_of_kind, part_of_chunk, is_raw as raws};
-ghost use Rattle.abt_runs.specs.Sparse.{SparseOpened, SparsePlace, SparseWithin, sparse_list, sparse_charge, data_place, blocks_together};
-ghost use Rattle.abt_runs.specs.SparseLaws.{sparse_long, sparse_are_blocks, sparse_one, sparse_left, sparse_spared, sparse_economy, sparse_padded};
+ghost use Rattle.abt_runs.specs.Sparse.{SparseOpened, SparsePlace, SparseWithin, SparseWithin-prop, sparse_list, sparse_charge, data_place, blocks_together};
+ghost use Rattle.abt_runs.specs.SparseLaws.{sparse_long, sparse_are_blocks, sparse_one, sparse_left, sparse_held_grows, sparse_place_afresh, sparse_afresh, sparse_spared, sparse_economy, sparse_padded};
 
 use crate::head::{CHUNK_HEADER, counted_blocks, data_length, head_at};
 use crate::reading::load;
@@ -200,6 +200,8 @@ impl BlockRuns for SparseRuns {
 
     ghost within = { λ s c. SparseWithin (view s.header) s.image c };
 
+    ghost within_alike = { λ s c. SparseWithin-prop (view s.header) s.image c };
+
     ghost place = { λ s x c. SparsePlace (view s.header) x c };
 
     ghost left = { λ s c. (s.header.total_blks - c.block) + (s.header.total_chunks - c.chunk) };
@@ -222,6 +224,10 @@ impl BlockRuns for SparseRuns {
 
     ghost together = { λ s x c. blocks_together (view s.header) x c };
 
+    ghost copied = { λ s c. sparse_charge (view s.header) c };
+
+    ghost held = { λ s c n. n };
+
     ghost long = { λ s x e. sparse_long (view s.header) s.length s.image x e };
 
     ghost are_blocks = { λ s x e. sparse_are_blocks (view s.header) s.length s.image x e };
@@ -235,6 +241,14 @@ impl BlockRuns for SparseRuns {
     ghost left_fits = { λ s c h. sparse_left s.header.total_blks s.header.total_chunks c.block c.chunk s.few_blocks s.few_chunks };
 
     ghost passed = { λ s c h. (h.charge, h.charge) };
+
+    ghost copied_fits = { λ s c h. h.charge };
+
+    ghost held_grows = { λ s c m n. sparse_held_grows m n };
+
+    ghost afresh_within = { λ s c h. sparse_afresh (view s.header) s.image c h };
+
+    ghost afresh_place = { λ s x c h. sparse_place_afresh (view s.header) x c h };
 
     ghost spared = { λ s. sparse_spared s.header.total_blks s.image };
 

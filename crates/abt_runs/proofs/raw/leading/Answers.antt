@@ -1,7 +1,4 @@
-use Rattle.std.proofs.Common.{arith, rules, ◌∙◌, sym, ◌*◌, ◌/◌, ◌≤◌, ◌+◌, ◌≡◌, subst, ap}
-use Rattle.std.specs.Prelude.{IsTrue}
-use Rattle.abt_runs.specs.Words.{kind_of_word}
-use Rattle.abt_runs.specs.Part.{is_end}
+use Rattle.std.proofs.Common.{arith, rules, ◌∙◌}
 use Rattle.abt_runs.proofs.Classes.{leading_on, not_end}
 use Rattle.abt_runs.proofs.raw.leading.Goals as goal
 

@@ -1,4 +1,4 @@
-use Rattle.std.proofs.Common.{◌≡◌, ◌≤◌, ◌<◌, ◌+◌, ◌-◌, ◌*◌, ◌/◌, length}
+use Rattle.std.proofs.Common.{◌≡◌, ◌≤◌, ◌<◌, ◌+◌, ◌-◌, ◌*◌, ◌/◌}
 use Rattle.abt_runs.specs.Part.{AllOf}
 use Rattle.abt_runs.specs.Words.{kind_of_word}
 use Rattle.abt_runs.proofs.Classes.{classes}

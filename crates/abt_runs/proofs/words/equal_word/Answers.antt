@@ -1,4 +1,4 @@
-use Rattle.std.proofs.Common.{rules, arith, ◌∙◌, sym, ap, refl, List, ℕ, ◌≡◌, take, replicate}
+use Rattle.std.proofs.Common.{arith, ◌∙◌, sym, ap, List, ℕ, replicate}
 use Rattle.std.specs.List.{concat}
 use Rattle.abt_runs.proofs.AllWords.{all-next, all-not}
 use Rattle.abt_runs.proofs.Lanes.{lanes_next, lanes_not}

@@ -1,4 +1,4 @@
-use Rattle.std.proofs.Common.{arith, ap, sym, ◌∙◌, ◌≡◌, ◌<◌, ◌-◌, ℕ, length, Err}
+use Rattle.std.proofs.Common.{arith, ap, sym, ◌∙◌, ◌<◌, ◌-◌, ℕ, length, Err}
 use Rattle.abt_sparse.specs.View.{view}
 use Rattle.abt_sparse.specs.declared.fault.SparseFault.TheVariants.{Truncated}
 use Rattle.abt_runs.proofs.Opened.{short_ends, failed_is, from_chunks}

@@ -1,4 +1,4 @@
-use Rattle.std.proofs.Common.{arith, ap, sym, subst, ◌∙◌, ◌≡◌, ◌<◌, ◌≤◌, ℕ, length, IfErr, Result, Err}
+use Rattle.std.proofs.Common.{arith, ap, sym, ◌∙◌, ◌≡◌, ◌<◌, ◌≤◌, ℕ, length, IfErr, Result, Err}
 use Rattle.abt_sparse.specs.View.{view}
 use Rattle.abt_sparse.specs.Number.{number_of}
 use Rattle.abt_sparse.specs.declared.fault.SparseFault.{SparseFault}

@@ -1,4 +1,4 @@
-use Rattle.std.proofs.Common.{arith, ◌∙◌, sym, ap, ◌≡◌, ◌≤◌, ◌*◌, ◌+◌, List, ℕ, length, take, drop, replicate, ◌++◌, ◌-◌}
+use Rattle.std.proofs.Common.{arith, ◌∙◌, sym, ap, ◌≡◌, ◌≤◌, ◌*◌, ◌+◌, ℕ, length, take, drop, replicate, ◌++◌, ◌-◌}
 use Rattle.std.proofs.lemmas.List.{take-append-le, length-take-le}
 use Rattle.std.proofs.Math.Seq.{take-append_seam}
 use Rattle.abt_sparse.specs.Block.{block_count}

@@ -1,9 +1,7 @@
-use Rattle.std.proofs.Common.{arith, ◌∙◌, sym, ap, refl, ◌≡◌, ◌*◌, ◌≤◌, ◌+◌, ◌-◌, List, ℕ, min, length, map, mul-le-mul_right, subst, take, drop, ◌++◌, replicate}
-use Rattle.abt_sparse.specs.Block.{classify, block_count, Block}
-use Rattle.abt_runs.specs.Part.{AllOf}
+use Rattle.std.proofs.Common.{arith, rules, ◌∙◌, ap, refl, ◌≡◌, ◌*◌, ◌≤◌, ◌-◌, ℕ, min, length, mul-le-mul_right}
 use Rattle.abt_runs.specs.RawLaws.{raw_long, raw_count}
 use Rattle.abt_runs.proofs.Classes.{raw_all, never, if_none}
-use Rattle.abt_runs.proofs.Charges.{raw_charged, charge_fresh, raw_turns, raw_takes, minus_zero}
+use Rattle.abt_runs.proofs.Charges.{raw_charged, charge_fresh, raw_turns, raw_takes, raw_copies, raw_onward, raw_first, minus_zero}
 use Rattle.abt_runs.proofs.raw.RawRunsBlockRuns.next_part.Goals as goal
 
 pub returns-then-from-self-clause-part : goal.returns-then-from-self-clause-part
@@ -75,3 +73,28 @@ returns-clause-here g c =
     let w = c.requires.within in
     let a = c.asked-asked.ensures in
     (refl, record { within = w.within; some = omega arith; window = omega (arith, s.window); passed = omega arith; used = w.used }, charge_fresh s.length s.blocks s.size c.args.from (record c.args.from { ask = 1 }) (omega (arith, a.some, a.within)) w.some refl refl)
+
+pub returns-clause-copies : goal.returns-clause-copies
+returns-clause-copies g c kind =
+    let s = c.args.self.now in
+    raw_copies s.length s.size c.args.from.block c.leading-kind.result.1 c.after.result.block c.after.ensures.block
+
+pub returns-clause-onward : goal.returns-clause-onward
+returns-clause-onward g c =
+    let s = c.args.self.now in
+    (omega arith, raw_onward s.length s.size c.args.from.block c.after.result.block (omega (arith, c.after.ensures.block)))
+
+pub returns-clause-fetched : goal.returns-clause-fetched
+returns-clause-fetched g c not_end =
+    let s = c.args.self.now in
+    let a = c.asked-asked.ensures in
+    let w : c.load_filled-loaded.result.received ≡ c.min-want.result = if_none c.load_filled-loaded.result.fault c.in_default.is c.load_filled-loaded.ensures.whole in
+    let whole : 1 * s.size ≤ c.asked-asked.result * s.size = mul-le-mul_right s.size (let z : 1 ≤ c.asked-asked.result = omega (arith, a.some) in z) in
+    omega (arith, w, whole, s.some, c.min-want.ensures, c.place_of-at.ensures.within, c.load_filled-loaded.ensures.given)
+
+pub returns-clause-first : goal.returns-clause-first
+returns-clause-first g c tells some d is le =
+    let s = c.args.self.now in (
+      raw_onward s.length s.size c.after.result.block d.block le,
+      raw_first s.length s.blocks s.size c.after.result d s.some s.covers s.last (search rules) le,
+    )

@@ -1,10 +1,10 @@
-use Rattle.std.proofs.Common.{◌≡◌, ℕ, ◌+◌, ◌*◌, ◌-◌, ◌<◌, ◌≤◌, max, arith, ap, sym, ◌∙◌, subst, mul-le-mul_right, Bool}
-use Rattle.std.specs.Prelude.{IsTrue}
+use Rattle.std.proofs.Common.{◌≡◌, ℕ, ◌+◌, ◌*◌, ◌-◌, ◌<◌, ◌≤◌, arith, ap, sym, ◌∙◌, subst, refl, mul-le-mul_right, Bool}
 use Rattle.abt_runs.specs.declared.part.Cursor.{Cursor}
 use Rattle.abt_runs.specs.declared.part.RunFault.{RunFault}
 use Rattle.abt_runs.specs.declared.part.RunFault.TheVariants.{Sparse, Read, TooLarge, SourceChanged, BadBlock}
-use Rattle.abt_runs.specs.Part.{Caused}
-use Rattle.abt_runs.proofs.Growing.{joins, rests, so_far, stops, is_full, next_is, blocks_are, here_is, none_is, raw_is, few_are, no_room}
+use Rattle.abt_runs.specs.Part.{Caused, entry}
+use Rattle.abt_runs.specs.Whole.{room_in}
+use Rattle.abt_runs.proofs.Growing.{joins, rests, so_far, stops, is_full, next_is, blocks_are, here_is, none_is, raw_is, few_are, no_room, entry_after, room_most}
 use Rattle.abt_runs.proofs.runs.BlockRuns.next_run.Goals as goal
 
 later : (e : RunFault) (tells : Bool) (a b c : ℕ) → a ≤ b → Caused e tells b c → Caused e tells a c
@@ -38,6 +38,9 @@ parts-preserved g c =
     let blocks : s.blocks ≡ r.blocks + p.blocks = blocks_are r p s j in
     let tick = c.tick.ensures in
     let steps : c.next_part.new.m.steps.number ≡ c.parts.m.steps.number + 1 = e.steps ∙ ap (λ (n : ℕ). n + 1) tick.steps in
+    let room : 0 < room_in r.kind r.blocks c.args.cap = omega (arith, c.if-room-eq0.false, c.room-room.ensures) in
+    let read : g.S.Source.given c.next_part.new.source + runs.charge self r.next ≤ g.S.Source.given c.parts.source + runs.charge self p.next + entry r.next = rw i.same at e.charged in
+    let paid : g.S.Source.given c.next_part.new.source + runs.charge self c.args.from ≤ g.S.Source.given c.args.source.now + runs.charge self p.next + entry c.args.from = omega (arith, read, i.going room) in
     let padded = (g.met.Self.BlockRuns.padded c.parts.self r.next).0 in
     record {
       same = e.same ∙ i.same;
@@ -54,6 +57,8 @@ parts-preserved g c =
       next = ap (λ (h : Cursor). h.block) same ∙ (let z : p.next.block ≡ c.args.from.block + s.blocks = omega arith in z);
       none = none_is r p s j i.none;
       few = few_are c.args.cap r p s j i.none i.few (λ k. let f = e.capped.raw k in omega (arith, f, c.room-room.ensures));
+      charged = omega (arith, paid, ap (λ (h : Cursor). runs.charge self h) same);
+      going = λ more. let none : entry s.next ≡ 0 = ap entry same ∙ entry_after c.args.cap r p s j i.none room (λ u. let f = e.stops u in (f.0, f.1 ∙ c.room-room.ensures)) more in omega (arith, paid, none, ap (λ (h : Cursor). runs.charge self h) same);
       more = omega (arith, i.more, e.given);
       received = let a = i.received in let b = e.received in omega (arith, a, b, steps);
       calls = let a = i.calls in let b = e.calls in omega (arith, a, b, steps, i.more, e.given);
@@ -77,3 +82,25 @@ returns-in-None-clause-run g c tells =
     let i = c.parts.invariant in
     let e = c.in-Ok.ensures in
     stops c.args.cap _ c.args.from.block c.parts.run c.in-Ok.part (rests c.parts.run c.in-Ok.part (sym c.joined.ensures ∙ c.in-None.is)) (i.so_far tells) (rw (i.same, i.kept tells) at (e.part tells)) i.none i.few
+
+pub returns-in-None-clause-charged : goal.returns-in-None-clause-charged
+returns-in-None-clause-charged g c =
+    let runs = g.Self.BlockRuns in
+    let i = c.parts.invariant in
+    let e = c.in-Ok.ensures in
+    let self = c.args.self.now in
+    let r = c.parts.run in
+    let few : c.room-room.result * runs.one self ≤ c.args.cap * runs.one self = mul-le-mul_right (runs.one self) (let z : c.room-room.result ≤ c.args.cap = omega (arith, c.room-room.ensures, room_most c.args.cap r.blocks r.kind) in z) in
+    let most : g.S.Source.given c.next_part.new.source ≤ g.S.Source.given c.parts.source + 16 + c.room-room.result * runs.one self = rw i.same at e.most in
+    omega (arith, few, most, e.received, i.charged)
+
+pub returns-in-None-clause-turns : goal.returns-in-None-clause-turns
+returns-in-None-clause-turns g c =
+    let runs = g.Self.BlockRuns in
+    let i = c.parts.invariant in
+    let e = c.in-Ok.ensures in
+    let tick = c.tick.ensures in
+    let steps : c.next_part.new.m.steps.number ≡ c.parts.m.steps.number + 1 = e.steps ∙ ap (λ (n : ℕ). n + 1) tick.steps in
+    let padded = (g.met.Self.BlockRuns.padded c.parts.self c.parts.run.next).0 in
+    let one : runs.one c.parts.self ≡ runs.one c.args.self.now = rw i.same refl in
+    rw steps (omega (arith, i.turns, e.turns, tick.turns, padded, one, i.more, e.given))

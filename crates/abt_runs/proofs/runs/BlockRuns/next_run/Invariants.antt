@@ -1,6 +1,8 @@
 use Rattle.std.proofs.Common.{◌≡◌, ◌≤◌, ◌<◌, ◌+◌, ◌*◌, ◌-◌, max}
 use Rattle.std.specs.Prelude.{IsTrue}
 use Rattle.abt_runs.specs.declared.part.RunKind.TheVariants as kinds
+use Rattle.abt_runs.specs.Part.{entry}
+use Rattle.abt_runs.specs.Whole.{room_in}
 use Rattle.abt_runs.proofs.Growing.{SoFar}
 use Rattle.abt_runs.proofs.runs.BlockRuns.next_run.Given as goal
 
@@ -24,6 +26,8 @@ invariant-parts g l =
       next : l.run.next.block ≡ l.fn.from.block + l.run.blocks;
       none : l.run.blocks ≡ 0 → l.run.kind ≡ kinds.End;
       few : l.run.kind ≡ kinds.Raw → l.run.blocks ≤ l.cap;
+      charged : g.S.Source.given l.source + runs.charge self l.fn.from ≤ g.S.Source.given l.fn.source + runs.charge self l.run.next + entry l.fn.from;
+      going : 0 < room_in l.run.kind l.run.blocks l.cap → g.S.Source.given l.source + runs.charge self l.fn.from + entry l.run.next ≤ g.S.Source.given l.fn.source + runs.charge self l.run.next + entry l.fn.from;
       more : g.S.Source.given l.fn.source ≤ g.S.Source.given l.source;
       received : g.S.Source.given l.source + 65536 * l.fn.m.steps.number ≤ g.S.Source.given l.fn.source + 65536 * l.m.steps.number;
       calls : g.S.Source.reads l.source + 2 * l.fn.m.steps.number ≤ g.S.Source.reads l.fn.source + (g.S.Source.given l.source - g.S.Source.given l.fn.source) + 2 * l.m.steps.number;

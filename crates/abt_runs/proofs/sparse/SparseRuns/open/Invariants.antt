@@ -2,7 +2,7 @@ use Rattle.std.proofs.Common.{◌≡◌, ◌≤◌, ◌+◌, ◌*◌, ◌-◌, m
 use Rattle.std.specs.Prelude.{IsTrue}
 use Rattle.abt_sparse.specs.Reading.{outcome}
 use Rattle.abt_runs.specs.Stage.{IsOver}
-use Rattle.abt_runs.specs.Verdict.{ComesTo, SameLength, ends, to_do}
+use Rattle.abt_runs.specs.Verdict.{ComesTo, ends, to_do}
 use Rattle.abt_runs.proofs.sparse.SparseRuns.open.Given as goal
 
 abbrev pub invariant-steps : goal.invariant-steps

@@ -1,5 +1,4 @@
-use Rattle.std.proofs.Common.{◌≡◌, ℕ, ◌+◌, ◌-◌, ◌*◌, ◌<◌, ◌≤◌, Bool, true, false, List, length, take, drop, Option, Some, None, refl, sym, ap, subst, ◌∙◌, arith}
-use Rattle.std.specs.Prelude.{IsTrue}
+use Rattle.std.proofs.Common.{◌≡◌, ℕ, ◌+◌, ◌<◌, true, List, take, drop, refl, sym, ap, subst, ◌∙◌, arith}
 use Rattle.abt_sparse.specs.View.{view}
 use Rattle.abt_runs.specs.Head.{has_word, part_of_chunk}
 use Rattle.abt_runs.specs.Sparse.{sparse_charge}
@@ -7,9 +6,10 @@ use Rattle.abt_runs.specs.SparseLaws.{sparse_long}
 use Rattle.abt_sparse.specs.declared.chunk_header.ChunkHeader.{ChunkHeader}
 use Rattle.abt_runs.specs.declared.part.Cursor.{Cursor}
 use Rattle.abt_runs.specs.declared.part.Run.{Run}
-use Rattle.abt_runs.proofs.Classes.{if_none, never}
-use Rattle.abt_runs.proofs.Chunked.{Parts, parts, Standing, standing, standing_as, part_is, next_place, here_place, stand_together, at_last, not_telling}
-use Rattle.abt_runs.proofs.Passing.{next_within, here_within, here_block, here_charge, raw_reach, adds, read_charged, takes}
+use Rattle.abt_runs.proofs.Classes.{if_none}
+use Rattle.abt_runs.proofs.Chunked.{Parts, parts, standing, standing_as, part_is, next_place, here_place, stand_together, at_last, not_telling}
+use Rattle.abt_runs.proofs.Passing.{next_within, here_within, here_block, here_used, here_charge, raw_reach, adds, read_charged, takes, here_next, raw_copies}
+use Rattle.abt_runs.proofs.Ordered.{next_first, not_past}
 use Rattle.abt_runs.proofs.sparse_parts.SparseRunsBlockRuns.next_part.Goals as goal
 
 pub returns-then-from-self-2-clause-cause : goal.returns-then-from-self-2-clause-cause
@@ -123,6 +123,12 @@ returns-in-None-fault-clause-here g c =
       here_charge (view s.header) s.image c.args.from k word c.args.cap c.part_of.result s.chunk_header c.in-Some-chunk_here.ensures.fits p,
     )
 
+pub returns-in-None-fault-clause-inside : goal.returns-in-None-fault-clause-inside
+returns-in-None-fault-clause-inside g c =
+    let k = c.in-Some-chunk_here.chunk in
+    let word = c.load_word-word.result.bytes in
+    here_used c.args.from k word c.args.cap c.part_of.result (cases k word c.args.from c.args.cap c.part_of.result c.part_of.ensures)
+
 pub returns-in-None-fault-clause-reached : goal.returns-in-None-fault-clause-reached
 returns-in-None-fault-clause-reached g c =
     let s = c.args.self.now in
@@ -151,3 +157,48 @@ returns-in-None-fault-clause-takes g c =
     let f = c.in-Some-chunk_here.ensures.fits in
     let p = cases k word c.args.from c.args.cap c.part_of.result c.part_of.ensures in
     takes h s.image c.args.from k word c.args.cap c.part_of.result (sparse_charge h c.args.from) (sparse_charge h c.part_of.result.next) s.chunk_header f p (adds h s.image c.args.from k word c.args.cap c.part_of.result f c.requires.some p)
+
+pub returns-in-None-fault-clause-copies : goal.returns-in-None-fault-clause-copies
+returns-in-None-fault-clause-copies g c kind =
+    let s = c.args.self.now in
+    let k = c.in-Some-chunk_here.chunk in
+    let word = c.load_word-word.result.bytes in
+    raw_copies (view s.header) s.image c.args.from k word c.args.cap c.part_of.result s.chunk_header c.in-Some-chunk_here.ensures.fits c.requires.some (cases k word c.args.from c.args.cap c.part_of.result c.part_of.ensures) kind
+
+pub returns-in-None-fault-clause-onward : goal.returns-in-None-fault-clause-onward
+returns-in-None-fault-clause-onward g c =
+    let s = c.args.self.now in
+    let k = c.in-Some-chunk_here.chunk in
+    let word = c.load_word-word.result.bytes in
+    let f = c.in-Some-chunk_here.ensures.fits in
+    let p = cases k word c.args.from c.args.cap c.part_of.result c.part_of.ensures in (
+      here_charge (view s.header) s.image c.args.from k word c.args.cap c.part_of.result s.chunk_header f p,
+      here_next (view s.header) s.image c.args.from k word c.args.cap c.part_of.result f c.requires.some p,
+    )
+
+pub returns-in-None-fault-clause-first : goal.returns-in-None-fault-clause-first
+returns-in-None-fault-clause-first g c tells some d is le =
+    let s = c.args.self.now in
+    let h = view s.header in
+    let x = g.S.Source.content c.args.source.now in
+    let k = c.in-Some-chunk_here.chunk in
+    let word = c.load_word-word.result.bytes in
+    let o = (c.requires.told tells).0 in
+    let lt : c.args.from.chunk < s.header.total_chunks = omega (arith, c.if-from-self.false, c.requires.within.chunk) in
+    let read = c.part.ensures.value ∙ if_none c.load-head.result.fault c.in_default.is (c.load-head.ensures.bytes tells) in
+    let st = standing_as h s.length s.image x c.part.result.now c.args.from k o (c.requires.told tells).1 lt read c.in-Some-chunk_here.ensures.read in
+    let first = next_first h s.length s.image x c.args.from k word c.args.cap c.part_of.result o st c.requires.some (cases k word c.args.from c.args.cap c.part_of.result c.part_of.ensures) some d is.0 is.1 le in
+    (first, first)
+
+pub returns-in-None-fault-clause-not_past : goal.returns-in-None-fault-clause-not_past
+returns-in-None-fault-clause-not_past g c tells d within place at =
+    let s = c.args.self.now in
+    let h = view s.header in
+    let x = g.S.Source.content c.args.source.now in
+    let k = c.in-Some-chunk_here.chunk in
+    let word = c.load_word-word.result.bytes in
+    let o = (c.requires.told tells).0 in
+    let lt : c.args.from.chunk < s.header.total_chunks = omega (arith, c.if-from-self.false, c.requires.within.chunk) in
+    let read = c.part.ensures.value ∙ if_none c.load-head.result.fault c.in_default.is (c.load-head.ensures.bytes tells) in
+    let st = standing_as h s.length s.image x c.part.result.now c.args.from k o (c.requires.told tells).1 lt read c.in-Some-chunk_here.ensures.read in
+    not_past h s.length s.image x c.args.from k word c.args.cap c.part_of.result o st c.requires.some (cases k word c.args.from c.args.cap c.part_of.result c.part_of.ensures) d within place at

@@ -1,4 +1,4 @@
-use Rattle.std.proofs.Common.{ap, sym, subst, ◌≡◌, ℕ}
+use Rattle.std.proofs.Common.{sym, subst, ℕ}
 use Rattle.abt_sparse.specs.View.{view}
 use Rattle.abt_runs.specs.Sparse.{SparsePlace}
 use Rattle.abt_runs.specs.SparseLaws.{sparse_start}
