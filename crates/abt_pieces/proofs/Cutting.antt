@@ -1,27 +1,25 @@
 -- A cutter from stage to stage.
-use Rattle.std.proofs.Common.{◌≡◌, ℕ, zero, suc, ◌+◌, ◌-◌, ◌*◌, ◌<◌, ◌≤◌, nat_le, nat_lt, Bool, true, false, List, [], ◌∷◌, ◌++◌, length, map, take, drop, replicate, refl, sym, ap, subst, ◌∙◌, append_assoc, append-nil, arith, inl, inr, ◌⊎◌, length-append, length-drop, leb-true, le-leb, Option, Some, None, ◌^◌, if◌then◌else◌}
+use Rattle.std.proofs.Common.{◌≡◌, ℕ, ◌+◌, ◌-◌, ◌<◌, ◌≤◌, nat_le, nat_lt, Bool, true, List, [], ◌∷◌, ◌++◌, length, map, take, drop, replicate, refl, sym, ap, ◌∙◌, append_assoc, arith, inl, inr, ◌⊎◌, length-append, length-drop, leb-true, ◌^◌, if◌then◌else◌}
 use Rattle.std.proofs.lemmas.Bool.{cases_Bool, ltb-true, ltb-false}
-use Rattle.std.proofs.lemmas.List.{length-take-le, length-replicate, take_all}
+use Rattle.std.proofs.lemmas.List.{length-take-le, length-replicate}
 use Rattle.std.proofs.Math.Seq.{take-append_seam}
-use Rattle.abt_sparse.specs.Block.{Block, Raw, Fill, Skip, AreBlocks}
+use Rattle.abt_sparse.specs.Block.{Block, Skip}
 use Rattle.abt_sparse.specs.Runs.{runs, weight, framed, greedy, tail_parts, segments, Division}
 use Rattle.abt_sparse.specs.Chunk.{piece, header_record, plain_header, chunk_of_run}
 use Rattle.abt_sparse.proofs.Weights.{one_fits, fewest}
-use Rattle.abt_runs.specs.Part.{AllOf, is_end}
+use Rattle.abt_runs.specs.Part.{AllOf}
 use Rattle.abt_runs.specs.declared.part.Cursor.{Cursor}
 use Rattle.abt_runs.specs.declared.part.RunKind.TheVariants as kinds
 use Rattle.abt_pieces.specs.Plan.{between, FirstPiece, Ends}
-use Rattle.abt_pieces.specs.Gather.{frame, first_gatherer, Gathered, SoundGatherer, ToldGatherer}
-use Rattle.abt_pieces.specs.Outline.{IsPiece, IsOutline, blocks_of, segment_at, piece_at, first_part}
+use Rattle.abt_pieces.specs.Gather.{frame, first_gatherer, Gathered, SoundGatherer}
+use Rattle.abt_pieces.specs.Outline.{IsOutline, blocks_of, segment_at, piece_at, first_part}
 use Rattle.abt_pieces.specs.Write.{chunks_of, rest_of, frame_of, SoundWriter, ToldWriter}
 use Rattle.abt_pieces.specs.declared.outline.Outline.{Outline}
 use Rattle.abt_pieces.specs.declared.plan.Planner.{Planner}
-use Rattle.abt_pieces.specs.declared.gather.Gatherer.{Gatherer}
-use Rattle.abt_pieces.specs.declared.write.Writer.{Writer}
 use Rattle.std.proofs.lemmas.List.{length-map}
-use Rattle.abt_pieces.specs.Cutter.{first_writer, has_more, SoundOutline, SoundCutter, ToldCutter, Made, segments_left, coming}
+use Rattle.abt_pieces.specs.Cutter.{first_writer, has_more, SoundOutline, ToldCutter, ToldStage, Made, segments_left}
 use Rattle.abt_pieces.specs.declared.stage.Stage.{Stage}
-use Rattle.abt_pieces.specs.declared.stage.Stage.TheVariants.{Between, Done, Failed}
+use Rattle.abt_pieces.specs.declared.stage.Stage.TheVariants.{Between, Plan, Begin, Write, Done, Failed}
 use Rattle.abt_pieces.proofs.Framing.{length-frame}
 use Rattle.abt_pieces.proofs.Counting.{skips_all}
 
@@ -136,6 +134,9 @@ greedy_some fits part (x ∷ rest) = elim (cases_Bool (fits (part ++ x ∷ [])))
 -- what is left has a piece, unless it is done
 some_left : (b limit : ℕ) (l : List Block) (s : ℕ) (st : Stage) → (if has_more st then 1 else 0) ≤ length (segments_left b limit l s st)
 some_left b limit l s Between = greedy_some (λ part. nat_le (weight b part) limit) [] (drop s l)
+some_left b limit l s (Plan p) = greedy_some (λ part. nat_le (weight b part) limit) [] (drop s l)
+some_left b limit l s (Begin o) = greedy_some (λ part. nat_le (weight b part) limit) [] (drop s l)
+some_left b limit l s (Write o w) = greedy_some (λ part. nat_le (weight b part) limit) [] (drop s l)
 some_left b limit l s Done = omega arith
 some_left b limit l s (Failed f) = greedy_some (λ part. nat_le (weight b part) limit) [] (drop s l)
 
@@ -144,26 +145,28 @@ least_pieces b limit l made s st parts m d =
     let a = ap length m.all ∙ length-append m.before (segments_left b limit l s st) in
     omega (arith, a, m.count, some_left b limit l s st, fewest limit b l parts d)
 
--- a cutter behind a piece more
-pub told_more : (P : Cursor → Type 0) (W : Cursor → Type 0) (b n limit made : ℕ) (l : List Block) (start : Cursor) (o : Outline) (st : Stage) → ToldCutter P b l limit made start Between → SoundOutline W n limit start.block o → n ≡ length l → FirstPiece b l limit start.block o.piece.past → P o.next
-    → (o.piece.past ≡ n → st ≡ Done) → (o.piece.past < n → st ≡ Between) → ToldCutter P b l limit (made + 1) o.next st
-told_more P W b n limit made l start o st h sound same first place done more = record {
-  place = place;
-  cuts = rw (← sound.past) (made_more b limit l made start.block o.piece.past st h.cuts first (λ e. done (omega (arith, e, same))) (λ e. more (omega (arith, e, same))));
-}
+-- a piece is left as long as it is begun
+left_same : (b limit : ℕ) (l : List Block) (s : ℕ) (st : Stage) → has_more st ≡ true → segments_left b limit l s st ≡ segments_left b limit l s Between
+left_same b limit l s Between h = refl
+left_same b limit l s (Plan p) h = refl
+left_same b limit l s (Begin o) h = refl
+left_same b limit l s (Write o w) h = refl
+left_same b limit l s Done h = absurd cc
+left_same b limit l s (Failed f) h = refl
 
-pub sound_more : (W : Cursor → Type 0) (n b limit made : ℕ) (start : Cursor) (o : Outline) (st : Stage) → SoundCutter W n b limit made start Between → SoundOutline W n limit start.block o → (o.piece.past ≡ n → st ≡ Done) → (o.piece.past < n → st ≡ Between) → SoundCutter W n b limit (made + 1) o.next st
-sound_more W n b limit made start o st h sound done more =
-    let m = h.left refl in
-    record {
-      granted = h.granted;
-      within = sound.within;
-      few = omega (arith, m, sound.first, sound.order, sound.past);
-      left = λ e. at (o.piece.past) refl e;
-    }
-  where
-    at : (p : ℕ) → o.piece.past ≡ p → has_more st ≡ true → made + 1 ≤ o.next.block
-    at p z e = elim (cases_Bool (nat_lt o.piece.past n)) [
-      | inl l ↦ let y = sound.moves (ltb-true o.piece.past n l) in let m = h.left refl in omega (arith, y, m, sound.first, sound.past)
-      | inr l ↦ let d = done (let y = ltb-false o.piece.past n l in omega (arith, y, sound.end)) in absurd (let y : has_more st ≡ false = ap has_more d in cc)
-    ]
+-- nothing is known of a stage between pieces
+untold : (P : Cursor → Type 0) (T : Cursor → ℕ) (b : ℕ) (l : List Block) (limit s : ℕ) (st : Stage) → (st ≡ Done) ⊎ (st ≡ Between) → ToldStage P T b l limit s st
+untold P T b l limit s st (inl e) = rw e tt
+untold P T b l limit s st (inr e) = rw e tt
+
+-- a cutter behind a piece more
+pub told_more : (P : Cursor → Type 0) (T : Cursor → ℕ) (W : Cursor → Type 0) (b n limit made : ℕ) (l : List Block) (start : Cursor) (o : Outline) (old st : Stage) → has_more old ≡ true → ToldCutter P T b l limit made start old → SoundOutline W n limit start.block o → n ≡ length l → FirstPiece b l limit start.block o.piece.past → P o.next
+    → (o.piece.past ≡ n → st ≡ Done) → (o.piece.past < n → st ≡ Between) → ToldCutter P T b l limit (made + 1) o.next st
+told_more P T W b n limit made l start o old st more h sound same first place done between = record {
+  place = place;
+  cuts = rw (← sound.past) (made_more b limit l made start.block o.piece.past st (rw (left_same b limit l start.block old more) at h.cuts) first (λ e. done (omega (arith, e, same))) (λ e. between (omega (arith, e, same))));
+  stage = untold P T b l limit o.next.block st (elim (cases_Bool (nat_lt o.piece.past n)) [
+    | inl e ↦ inr (between (ltb-true o.piece.past n e))
+    | inr e ↦ inl (done (let y = ltb-false o.piece.past n e in omega (arith, y, sound.end)))
+  ]);
+}

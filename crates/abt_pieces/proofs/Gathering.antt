@@ -26,7 +26,7 @@ pub record PartIn (W : Cursor → Type 0) (n e : ℕ) (at : Cursor) (r : Run) : 
 
 -- ---- the four cases
 
-data OnCase (g : Gatherer) (r : Run) : Type 0 where
+pub data OnCase (g : Gatherer) (r : Run) : Type 0 where
   still : r.blocks ≡ 0 → is_end r.kind ≡ false → gathered_on g r ≡ (record { kind = g.kind; count = g.count; from = g.from; at = r.next }, None) → OnCase g r
   begun : (0 < r.blocks) ⊎ (is_end r.kind ≡ true) → g.count ≡ 0 → gathered_on g r ≡ (begun_with r, None) → OnCase g r
   more : (0 < r.blocks) ⊎ (is_end r.kind ≡ true) → 0 < g.count → alike_kinds g.kind r.kind ≡ true → gathered_on g r ≡ (record { kind = g.kind; count = g.count + r.blocks; from = g.from; at = r.next }, None) → OnCase g r
@@ -41,7 +41,7 @@ goes g r e some = elim (cases_Bool (g.count == 0)) [
   ]
 ]
 
-on_case : (g : Gatherer) (r : Run) → OnCase g r
+pub on_case : (g : Gatherer) (r : Run) → OnCase g r
 on_case g r = elim (cases_Bool (r.blocks == 0)) [
   | inl z ↦ elim (cases_Bool (is_end r.kind)) [
     | inl e ↦ goes g r (rw (z, e) refl) (inr e)
@@ -158,7 +158,7 @@ less left n past g new end going shorter tail ended room = elim (cases_Bool (nat
     not_below : (x y : ℕ) → y ≤ x → nat_lt x y ≡ false
     not_below x y le = elim (cases_Bool (nat_lt x y)) [ inl h ↦ absurd (let z = ltb-true x y h in omega arith) | inr h ↦ h ]
 
-same_at : (g : Gatherer) (r : Run) → (gathered_on g r).0.at ≡ r.next
+pub same_at : (g : Gatherer) (r : Run) → (gathered_on g r).0.at ≡ r.next
 same_at g r = elim (on_case g r) [
   | still none going e ↦ rw e refl
   | begun some void e ↦ rw e refl

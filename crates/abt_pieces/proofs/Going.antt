@@ -15,7 +15,7 @@ use Rattle.abt_runs.proofs.Alike.{kind_of, kind_is}
 use Rattle.abt_pieces.specs.Plan.{between}
 use Rattle.abt_pieces.specs.Contents.{head_len, data_len}
 use Rattle.abt_pieces.specs.Gather.{frame, Closed, ClosedRun, RawFrom, SoundGatherer, ToldGatherer, look_left}
-use Rattle.abt_pieces.specs.Write.{front_bytes, chunks_of, chunk_len, begins, to_copy, rest_of, frame_of, IsCopying, SoundCopying, SoundWriter, ToldCopy, ToldCopying, ToldWriter, starts, chunk_begun, ChunkCause, raw_part, next_copying, copied_on, copy_left, write_left}
+use Rattle.abt_pieces.specs.Write.{front_bytes, chunks_of, chunk_len, begins, to_copy, rest_of, frame_of, IsCopying, SoundCopying, SoundWriter, ToldCopy, ToldCopying, ToldWriter, starts, chunk_begun, ChunkCause, raw_part, next_copying, copied_on, copy_left, write_left, passed_to}
 use Rattle.abt_pieces.specs.declared.gather.Gatherer.{Gatherer}
 use Rattle.abt_pieces.specs.declared.write.Copying.{Copying}
 use Rattle.abt_pieces.specs.declared.write.Writer.{Writer}
@@ -150,7 +150,7 @@ still_sound W reach n b w g none sound on = record { gathering = on; copies = rw
 abbrev pub copying_on : Writer → Option Copying → ℕ → Writer
 copying_on w c n = record { first = w.first; past = w.past; gatherer = w.gatherer; copying = c; chunks = w.chunks; bytes = w.bytes - n }
 
-data PartCase (c : Copying) (r : Run) (b : ℕ) : Type 0 where
+pub data PartCase (c : Copying) (r : Run) (b : ℕ) : Type 0 where
   void : r.blocks ≡ 0 → is_end r.kind ≡ false → next_copying c r b ≡ Some (record { here = c.here; next = r.next; size = c.size; done = c.done; left = c.left }) → PartCase c r b
   raws : r.kind ≡ kinds.Raw → next_copying c r b ≡ Some (record { here = r.here; next = r.next; size = r.blocks * b; done = 0; left = c.left }) → PartCase c r b
   other : (r.kind ≡ kinds.Raw → ⊥) → (0 < r.blocks) ⊎ (is_end r.kind ≡ true) → next_copying c r b ≡ None → PartCase c r b
@@ -161,7 +161,7 @@ by_kind c r b (kinds.Fill w) e t some = other (λ z. absurd cc) some (rw (t, e) 
 by_kind c r b kinds.Skip e t some = other (λ z. absurd cc) some (rw (t, e) refl)
 by_kind c r b kinds.End e t some = other (λ z. absurd cc) some (rw (t, e) refl)
 
-part_case : (c : Copying) (r : Run) (b : ℕ) → PartCase c r b
+pub part_case : (c : Copying) (r : Run) (b : ℕ) → PartCase c r b
 part_case c r b = elim (cases_Bool (r.blocks == 0)) [
   | inl z ↦ elim (cases_Bool (is_end r.kind)) [
     | inl e ↦ by_kind c r b r.kind refl (rw (z, e) refl) (inr e)
@@ -185,7 +185,7 @@ pub record NextPart (W : Cursor → Type 0) (reach left : Cursor → ℕ) (b s e
   pub sound : IsCopying W reach b s e u bytes c
   pub fewer : c.left + left c.next < old.left + left old.next
 
-mul_split : (x y z b : ℕ) → x ≤ y → y ≤ z → (z - x) * b ≡ (y - x) * b + (z - y) * b
+pub mul_split : (x y z b : ℕ) → x ≤ y → y ≤ z → (z - x) * b ≡ (y - x) * b + (z - y) * b
 mul_split x y z b low high = let e : z - x ≡ (y - x) + (z - y) = omega arith in rw e (omega arith)
 
 -- blocks are left where bytes are left
@@ -247,6 +247,13 @@ next_sound W reach left b s e u bytes n c d r h whole end p is = elim (part_case
   | other nay some same ↦ absurd (let z : Some d ≡ None = sym is ∙ same in cc)
 ]
 
+pub next_next : (c d : Copying) (r : Run) (b : ℕ) → next_copying c r b ≡ Some d → d.next ≡ r.next
+next_next c d r b is = elim (part_case c r b) [
+  | void gone going same ↦ ap (λ (x : Copying). x.next) (sym (some_of _ d (sym same ∙ is)))
+  | raws k same ↦ ap (λ (x : Copying). x.next) (sym (some_of _ d (sym same ∙ is)))
+  | other nay some same ↦ absurd (let z : Some d ≡ None = sym is ∙ same in cc)
+]
+
 -- a source that tells gives a raw part where a raw run was seen
 pub next_told : (P : Cursor → Type 0) (T : Cursor → ℕ) (W : Cursor → Type 0) (reach : Cursor → ℕ) (b bytes : ℕ) (l : List Block) (s e u : ℕ) (c : Copying) (r : Run) → s ≤ e → e ≤ length l → AreBlocks b (frame l s e) → IsCopying W reach b s e u bytes c → c.done ≡ c.size
     → ToldCopy P T (frame l s e) u c → PartOf l c.next.block r → P r.next → P r.here → r.here.block ≡ c.next.block → (r.kind ≡ kinds.Raw → r.blocks ≤ T r.here) → (r.kind ≡ kinds.Raw → r.blocks ≤ u - c.next.block)
@@ -284,11 +291,11 @@ next_told P T W reach b bytes l s e u c r order within good h whole told part ne
 
 -- ---- bytes of a raw run
 
-data CopyCase (c : Copying) (n : ℕ) : Type 0 where
+pub data CopyCase (c : Copying) (n : ℕ) : Type 0 where
   ended : c.left ≡ n → copied_on c n ≡ None → CopyCase c n
   goes : (c.left ≡ n → ⊥) → copied_on c n ≡ Some (record { here = c.here; next = c.next; size = c.size; done = c.done + n; left = c.left - n }) → CopyCase c n
 
-copy_case : (c : Copying) (n : ℕ) → CopyCase c n
+pub copy_case : (c : Copying) (n : ℕ) → CopyCase c n
 copy_case c n = elim (cases_Bool (c.left == n)) [
   | inl e ↦ ended (eqb-true c.left n e) (rw e refl)
   | inr e ↦ goes (eqb-false c.left n e) (rw e refl)
@@ -307,6 +314,12 @@ copied_sound W reach b s e u bytes n c h fits room = elim (copy_case c n) [
 pub copied_fewer : (left : Cursor → ℕ) (c : Copying) (n : ℕ) → 0 < n → n ≤ c.left → copy_left left (copied_on c n) < copy_left left (Some c)
 copied_fewer left c n some fits = elim (copy_case c n) [
   | ended z same ↦ rw same (omega arith)
+  | goes ne same ↦ rw same (omega arith)
+]
+
+pub copied_passes : (c : Copying) (n u : ℕ) → c.next.block ≤ u → c.next.block ≤ passed_to u (copied_on c n)
+copied_passes c n u le = elim (copy_case c n) [
+  | ended z same ↦ rw same le
   | goes ne same ↦ rw same (omega arith)
 ]
 

@@ -24,7 +24,7 @@ use Rattle.abt_pieces.specs.Contents.{opens, opens_len, data_len, held, with_par
 use Rattle.abt_pieces.proofs.Counting.{contents_on, skips_contents, skips_last, skips_all, runs_count, length_is}
 use Rattle.abt_pieces.proofs.Writing.{blocks_take, blocks_drop, blocks_append, blocks_skips}
 use Rattle.abt_sparse.specs.Chunk.{piece}
-use Rattle.abt_pieces.specs.Plan.{last_kind, front, Slim, Even, head_of, fill_gain_of, skip_tail, cap_of, gain_of, tail_after, tail_of, between, FirstPiece, Planned, Ends}
+use Rattle.abt_pieces.specs.Plan.{last_kind, front, Slim, Even, head_of, fill_gain_of, skip_tail, cap_of, gain_of, tail_after, tail_of, between, FirstPiece, Planned, Ends, rested}
 use Rattle.abt_pieces.specs.declared.tail.Tail.{Tail}
 use Rattle.abt_pieces.specs.declared.tail.Tail.TheVariants as tails
 
@@ -377,3 +377,14 @@ last_opens tails.Fresh (suc n) bytes weight s = (omega arith, omega (arith, s.0,
 last_opens tails.Skip at bytes weight s = (omega arith, omega (arith, s))
 last_opens tails.Raw at bytes weight s = (omega arith, omega (arith, s))
 last_opens (tails.Fill w) at bytes weight s = (omega arith, omega (arith, s))
+
+-- ---- a planner that goes no further
+
+pub planned_rests : (b : ℕ) (l : List Block) (p : Planner) → Planned b l p → Planned b l (rested p)
+planned_rests b l p h = record { order = h.order; within = h.within; weight = h.weight; tail = h.tail; last = h.last; contents = h.contents }
+
+pub even_rests : (p : Planner) → Even p → Even (rested p)
+even_rests p h = record { order = h.order; chunks = h.chunks; written = h.written; least = h.least; slim = h.slim }
+
+pub ends_rests : (b : ℕ) (l : List Block) (limit : ℕ) (p : Planner) → Ends b l limit p → Ends b l limit (rested p)
+ends_rests b l limit p h = record { over = h.over }

@@ -2,7 +2,7 @@
 use Rattle.std.specs.Prelude.{◌≡◌, ℕ, ◌+◌, ◌-◌, ◌≤◌, ◌<◌, Bool, true, false, IsTrue, List, [], ◌∷◌, ◌++◌, length, take, drop, nat_lt, ◌==◌, ◌&&◌, not, Option, Some, None, if◌then◌else◌}
 use Rattle.abt_sparse.specs.Block.{Block}
 use Rattle.abt_sparse.specs.Runs.{framed, runs}
-use Rattle.abt_runs.specs.Part.{AllOf, is_end}
+use Rattle.abt_runs.specs.Part.{AllOf, is_end, entry}
 use Rattle.abt_runs.specs.declared.part.RunKind.TheVariants as kinds
 use Rattle.abt_runs.specs.declared.part.Cursor.{Cursor}
 use Rattle.abt_runs.specs.declared.part.Run.{Run}
@@ -77,3 +77,12 @@ gathered_on g r =
 -- how many parts there can be before the end of a piece
 abbrev pub look_left : (Cursor → ℕ) → ℕ → ℕ → Gatherer → ℕ
 look_left left n past g = if nat_lt g.at.block past then left g.at + 3 else if nat_lt g.at.block n then 2 else if is_end g.kind then 0 else 1
+
+-- how many of these may read nothing: the part behind the segment, and the end
+abbrev pub silent_left : ℕ → ℕ → Gatherer → ℕ
+silent_left n past g = look_left (λ c. 0) n past g
+
+-- how many bytes a pass may have read before a place of a segment that ends at the place d: a segment that begins inside
+-- a chunk has that chunk's header read again
+abbrev pub gathered_to : (Cursor → ℕ) → ℕ → Cursor → Cursor → ℕ
+gathered_to charge past d c = if nat_lt c.block past then charge c + (16 - entry c) else charge d + 16

@@ -3,5 +3,9 @@ pub mod Plan
 pub mod Fault
 pub mod Gather
 pub mod Write
+pub mod Spent
 pub mod Outline
 pub mod Cutter
+pub mod Sparsify
+pub mod SpentStage
+pub mod Alike

@@ -8,6 +8,7 @@ use Rattle.abt_runs.specs.declared.part.RunKind.TheVariants as kinds
 use Rattle.abt_pieces.specs.declared.tail.Tail.{Tail}
 use Rattle.abt_pieces.specs.declared.tail.Tail.TheVariants as tails
 use Rattle.abt_pieces.specs.Contents.{IsContents, last_of}
+use Rattle.abt_runs.specs.Part.{afresh}
 use Rattle.abt_pieces.specs.declared.plan.Planner.{Planner}
 
 -- what a header of raw blocks adds, and what a fill adds
@@ -99,3 +100,11 @@ pub record FirstPiece (b : ℕ) (l : List Block) (limit s e : ℕ) : Type 0 wher
   pub within : e ≤ length l
   pub fits : weight b (between l s e) ≤ limit
   pub cut : greedy (λ part. nat_le (weight b part) limit) [] (drop s l) ≡ between l s e ∷ tail_parts (λ part. nat_le (weight b part) limit) (drop e l)
+
+-- how many words of the last of n blocks may have been compared without being read before block i
+abbrev pub last_words : ℕ → ℕ → ℕ → ℕ
+last_words one n i = if nat_lt i n then 0 else one
+
+-- where a planner ends: at a place from which the next piece begins afresh
+abbrev pub rested : Planner → Planner
+rested p = record { first = p.first; at = afresh p.at; tail = p.tail; weight = p.weight; contents = p.contents }

@@ -1,5 +1,5 @@
 -- A piece that is being written, and what of it is still to come.
-use Rattle.std.specs.Prelude.{◌≡◌, ℕ, zero, suc, ◌+◌, ◌-◌, ◌*◌, ◌^◌, ◌≤◌, ◌<◌, Bool, true, false, List, [], ◌∷◌, ◌++◌, length, take, drop, map, Option, Some, None, ⊤, ◌⊎◌, ◌==◌, ◌&&◌, not, if◌then◌else◌}
+use Rattle.std.specs.Prelude.{◌≡◌, ℕ, zero, suc, ◌+◌, ◌-◌, ◌*◌, ◌^◌, ◌≤◌, ◌<◌, Bool, true, false, List, [], ◌∷◌, ◌++◌, length, take, drop, map, Option, Some, None, ⊤, ◌⊎◌, ◌==◌, ◌&&◌, not, min, if◌then◌else◌}
 use Rattle.std.specs.List.{flat_map}
 use Rattle.abt_sparse.specs.declared.kind.ChunkKind.TheVariants as chunks
 use Rattle.abt_sparse.specs.Block.{Block}
@@ -11,7 +11,7 @@ use Rattle.abt_runs.specs.declared.part.RunKind.{RunKind}
 use Rattle.abt_runs.specs.declared.part.RunKind.TheVariants as kinds
 use Rattle.abt_runs.specs.declared.part.Cursor.{Cursor}
 use Rattle.abt_runs.specs.declared.part.Run.{Run}
-use Rattle.abt_pieces.specs.Plan.{between}
+use Rattle.abt_pieces.specs.Plan.{between, last_words}
 use Rattle.abt_pieces.specs.Contents.{head_len, data_len}
 use Rattle.abt_pieces.specs.Gather.{frame, SoundGatherer, ToldGatherer, look_left}
 use Rattle.abt_pieces.specs.declared.fault.PieceFault.{PieceFault}
@@ -137,3 +137,19 @@ copy_left left (Some c) = c.left + left c.next
 
 unfoldable pub write_left : (Cursor → ℕ) → ℕ → Writer → ℕ
 write_left left n w = look_left left n w.past w.gatherer * 2 ^ 65 + copy_left left w.copying
+
+-- ---- what its steps cost
+
+-- the block up to which raw runs have been passed to copy them
+abbrev pub passed_to : ℕ → Option Copying → ℕ
+passed_to u None = u
+passed_to u (Some c) = c.next.block
+
+-- how many words of the last of n blocks both passes may have compared without reading them
+unfoldable pub writer_words : ℕ → ℕ → Writer → ℕ
+writer_words one n w = last_words one n (min w.gatherer.at.block w.past) + last_words one n (min (passed_to (begins w.gatherer) w.copying) w.past)
+
+-- how many bytes a pass may have read before the next part of the raw run that is copied
+abbrev pub charge_of : (Cursor → ℕ) → Option Copying → ℕ
+charge_of charge None = 0
+charge_of charge (Some c) = charge c.next

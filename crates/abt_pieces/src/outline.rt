@@ -41,6 +41,7 @@ pub fn outlined(planner: &Planner, count: u32, size: u32) -> Outline
     ensures next { result.next ≡ planner.now.at }
     ensures bytes { result.piece.bytes ≤ planner.now.weight }
     ensures least { 28 ≤ result.piece.bytes }
+    ensures longer { result.piece.bytes ≤ planner.now.contents.bytes + 12 }
     ensures exact { (l : List Block) → length l ≡ count → AreBlocks size l → Planned size l planner.now → IsOutline size l result }
 {
     let contents = whole(planner, count, size);
@@ -65,6 +66,7 @@ fn whole(planner: &Planner, count: u32, size: u32) -> Contents
     ensures same { count ≤ planner.now.at.block → result ≡ planner.now.contents }
     ensures bytes { result.bytes ≤ planner.now.weight }
     ensures least { 28 ≤ result.bytes }
+    ensures longer { result.bytes ≤ planner.now.contents.bytes + 12 }
 {
     let contents = planner.contents;
     if planner.at.block == count {

@@ -3,7 +3,7 @@ ghost use Rattle.std.specs.Prelude.{◌≡◌, ◌<◌, ◌≤◌, ◌+◌, ◌-
 ghost use Rattle.abt_runs.specs.Part.{Caused, entry};
 ghost use Rattle.abt_sparse.specs.Block.{Block};
 ghost use Rattle.abt_pieces.specs.Contents.{contents_before};
-ghost use Rattle.abt_pieces.specs.Plan.{Planned, Even, Ends, FirstPiece};
+ghost use Rattle.abt_pieces.specs.Plan.{Planned, Even, Ends, FirstPiece, last_words, rested};
 
 use crate::contents::Contents;
 use crate::tail::{Tail, added, last, raw_cap};
@@ -70,9 +70,16 @@ impl Planner {
         ensures last { IfOk result (λ d. d ≡ true → S.given source.new ≤ S.given source.old + 32 + R.one runs.old) }
         ensures received { S.given source.new ≤ S.given source.old + 65536 }
         ensures at_end { IfOk result (λ d. d ≡ true → R.count runs.old ≤ self.old.at.block → S.given source.new ≡ S.given source.old) }
-        ensures still { IfOk result (λ d. d ≡ true → self.new ≡ self.old) }
+        ensures still { IfOk result (λ d. d ≡ true → self.new ≡ rested self.old) }
+        ensures rests { IfOk result (λ d. d ≡ true → (R.charge runs.old self.old.at ≤ R.charge runs.old self.new.at) × (R.taken runs.old self.old.at ≤ R.taken runs.old self.new.at) × (R.left runs.old self.new.at ≤ R.left runs.old self.old.at)) }
+        ensures onward { IfOk result (λ d. R.copied runs.old self.old.at ≤ R.copied runs.old self.new.at) }
         ensures inside { IfOk result (λ d. d ≡ false → 0 < self.new.at.used → (self.new.tail ≡ Tail.Raw) × (limit - self.new.weight < R.size runs.old)) }
         ensures stuck { 0 < self.old.at.used → self.old.tail ≡ Tail.Raw → limit - self.old.weight < R.size runs.old → IfOk result (λ d. d ≡ true) }
+        ensures takes { IfOk result (λ d. d ≡ false → self.new.contents.bytes + R.taken runs.old self.old.at ≤ self.old.contents.bytes + R.taken runs.old self.new.at + entry self.old.at) }
+        ensures fetched { IfOk result (λ d. d ≡ false → S.given source.old < S.given source.new) }
+        ensures calls { S.reads source.new ≤ S.reads source.old + (S.given source.new - S.given source.old) + 2 }
+        ensures turns { m.new.turns.number ≤ m.old.turns.number + 2 * (S.given source.new - S.given source.old) + 2 + R.padding runs.old self.old.at }
+        ensures words { IfOk result (λ d. d ≡ false → R.padding runs.old self.old.at + last_words (R.one runs.old) (R.count runs.old) self.old.at.block ≤ last_words (R.one runs.old) (R.count runs.old) self.new.at.block) }
         ensures steps { m.new.steps.number ≡ m.old.steps.number + 1 }
         ensures greatest { m.new.greatest.number ≡ max m.old.greatest.number (S.given source.new - S.given source.old) }
         ensures faults { S.read_faults source.old ≤ S.read_faults source.new }
@@ -83,6 +90,7 @@ impl Planner {
         let cap = raw_cap(&self.tail, room, size);
         let run = runs.next_part(source, self.at, cap, w, m)?;
         if let RunKind::End = run.kind {
+            self.at.ask = 1;
             return Ok(true);
         }
         if run.blocks == 0 {
@@ -91,6 +99,7 @@ impl Planner {
         }
         let (gain, tail) = added(&self.tail, run.kind, run.blocks, size);
         if gain > room {
+            self.at.ask = 1;
             return Ok(true);
         }
         let last = last(&self.tail, self.at.block);
@@ -127,10 +136,20 @@ pub fn plan_piece<R: BlockRuns, S: Source>(
     ensures even { IfOk result (λ p. Even p) }
     ensures charged { IfOk result (λ p. S.given source.new + R.charge runs.old from ≤ S.given source.old + R.charge runs.old p.at + 48 + R.one runs.old) }
     ensures charged_end { IfOk result (λ p. R.count runs.old ≤ p.at.block → S.given source.new + R.charge runs.old from ≤ S.given source.old + R.charge runs.old p.at + 16) }
+    ensures fresh { IfOk result (λ p. p.at.ask ≡ 1) }
+    ensures takes { IfOk result (λ p. p.contents.bytes + R.taken runs.old from ≤ R.taken runs.old p.at + 56) }
+    ensures given { S.given source.old ≤ S.given source.new }
+    ensures received { S.given source.new + 65536 * m.old.steps.number ≤ S.given source.old + 65536 * m.new.steps.number }
+    ensures most_received { m.new.greatest.number ≤ max m.old.greatest.number 65536 }
+    ensures calls { S.reads source.new ≤ S.reads source.old + 3 * (S.given source.new - S.given source.old) + 2 }
+    ensures turns { m.new.turns.number ≤ m.old.turns.number + 5 * (S.given source.new - S.given source.old) + 2 + 2 * R.one runs.old }
+    ensures words { IfOk result (λ p. m.new.turns.number + last_words (R.one runs.old) (R.count runs.old) from.block ≤ m.old.turns.number + 5 * (S.given source.new - S.given source.old) + 2 + last_words (R.one runs.old) (R.count runs.old) p.at.block + last_words (R.one runs.old) (R.count runs.old) (p.at.block + 1)) }
     ensures faults { S.read_faults source.old ≤ S.read_faults source.new }
     ensures cause { IfErr result (λ e. Caused e S.tells (S.read_faults source.old) (S.read_faults source.new)) }
 {
     let mut planner = Planner::begin(from);
-    while !planner.step(runs, source, limit, w, m)? {}
+    while !planner.step(runs, source, limit, w, m)? {
+        m.tick();
+    }
     Ok(planner)
 }

@@ -1,13 +1,33 @@
-//! Where a cutter stands.
+//! Where a cutter stands, and what a step of it answers.
 use crate::PieceFault;
+use crate::outline::{Outline, Piece};
+use crate::plan::Planner;
+use crate::write::Writer;
 
 /// Where a cutter stands between its calls.
 #[derive(Clone, Copy, Debug, PartialEq, Eq, Drop)]
 pub enum Stage {
     /// Before a piece.
     Between,
+    /// Planning a piece.
+    Plan(Planner),
+    /// Before the header of a planned piece.
+    Begin(Outline),
+    /// Writing the chunks of a planned piece.
+    Write(Outline, Writer),
     /// Behind the last piece.
     Done,
     /// Behind a fault, which is answered from now on.
     Failed(PieceFault),
+}
+
+/// What a step of cutting answers.
+#[derive(Clone, Copy, Debug, PartialEq, Eq, Drop)]
+pub enum PieceProgress {
+    /// The piece is begun, and the next step goes on with it.
+    More,
+    /// This piece is whole.
+    Piece(Piece),
+    /// The last piece is made. Every further step answers this again.
+    End,
 }

@@ -1,8 +1,18 @@
 //! Published byte vectors of cutting, and each call once over fakes.
+ghost use Rattle.std.specs.Prelude.{◌≡◌, IsTrue};
+ghost use Rattle.abt_pieces.specs.Cutter.{ToldCutter};
+
 use crate::*;
-use abt_io::{Cut, DeviceFault, Faulty, Meter, SliceOutput, SliceSource, Window};
-use abt_runs::RawRuns;
+use abt_io::{
+    Cut, DeviceFault, Faulty, Long, Meter, Output, SliceOutput, SliceSource, Source, Window,
+};
+use abt_runs::{BlockRuns, RawRuns};
 use std::test::Fail;
+
+mod counting;
+mod images;
+mod sparse_images;
+mod vectors;
 
 /// A fill block, a raw block and a last block of two bytes.
 const MIXED: &[u8] = b"AAAAAAAAABCDEFGHIJ";
@@ -51,6 +61,127 @@ fn a_raw_image_in_two_pieces(rt: HostRuntime) -> Result<(), Fail> {
         cutter.next_piece(&mut source, &mut output, &mut w, &mut m)?,
         None
     );
+    Ok(())
+}
+
+/// The next piece in at most 32 steps.
+fn stepped<R: BlockRuns + Drop, S: Source, O: Output>(
+    cutter: &mut Cutter<R>,
+    source: &mut S,
+    output: &mut O,
+    w: &mut Window,
+    m: &mut Meter,
+) -> Result<Option<Piece>, PieceFault>
+    requires opened { IsTrue S.tells → R.opened cutter.old.runs (S.content source.old) }
+    requires told { IsTrue S.tells → ToldCutter (R.place cutter.old.runs (S.content source.old)) (R.together cutter.old.runs (S.content source.old)) (R.size cutter.old.runs) (R.list cutter.old.runs (S.content source.old)) cutter.old.limit cutter.old.made cutter.old.start cutter.old.stage }
+    ensures runs { cutter.new.runs ≡ cutter.old.runs }
+    ensures content { IsTrue S.tells → S.content source.new ≡ S.content source.old }
+    ensures told { IsTrue S.tells → ToldCutter (R.place cutter.old.runs (S.content source.old)) (R.together cutter.old.runs (S.content source.old)) (R.size cutter.old.runs) (R.list cutter.old.runs (S.content source.old)) cutter.new.limit cutter.new.made cutter.new.start cutter.new.stage }
+{
+    'steps: for _ in 0..32 {
+        m.tick();
+        match cutter.step(source, output, w, m) {
+            Ok(PieceProgress::More) => {}
+            Ok(PieceProgress::Piece(piece)) => return Ok(Some(piece)),
+            Ok(PieceProgress::End) => return Ok(None),
+            Err(fault) => return Err(fault),
+        }
+    }
+    Ok(None)
+}
+
+#[test]
+fn step_by_step_the_pieces_are_the_same(rt: HostRuntime) -> Result<(), Fail> {
+    let mut source = Faulty::new(Cut::new(SliceSource::new(MIXED), 3), 0);
+    let mut w = Window::new();
+    let mut m = Meter::new();
+    let mut cutter = Cutter::open(RawRuns::open(&source, 8)?, 88)?;
+    let mut room = [0; 100];
+    let mut output = SliceOutput::new(&mut room);
+    let first = stepped(&mut cutter, &mut source, &mut output, &mut w, &mut m)?;
+    assert_eq!(rt;
+        first,
+        Some(Piece {
+            first: 0,
+            past: 2,
+            written: 2,
+            bytes: 76
+        })
+    );
+    assert_eq!(rt; output.written(), FIRST);
+    let mut room = [0; 100];
+    let mut output = SliceOutput::new(&mut room);
+    let second = stepped(&mut cutter, &mut source, &mut output, &mut w, &mut m)?;
+    assert_eq!(rt;
+        second,
+        Some(Piece {
+            first: 2,
+            past: 3,
+            written: 1,
+            bytes: 60
+        })
+    );
+    assert_eq!(rt; output.written(), SECOND);
+    let calls = source.seen;
+    assert_eq!(rt;
+        stepped(&mut cutter, &mut source, &mut output, &mut w, &mut m)?,
+        None
+    );
+    assert_eq!(rt; source.seen, calls);
+    assert!(rt; !cutter.more());
+    Ok(())
+}
+
+#[test]
+fn a_step_writes_little_more_than_it_received(rt: HostRuntime) -> Result<(), Fail> {
+    let mut bytes = [0; 400];
+    bytes[0] = 1;
+    bytes[200] = 1;
+    let mut source = Faulty::new(Cut::new(Long::new(SliceSource::new(&bytes), 400), 50), 0);
+    let mut w = Window::new();
+    let mut m = Meter::new();
+    let mut cutter = Cutter::open(RawRuns::open(&source, 200)?, 500)?;
+    let mut room = [0; 500];
+    let mut output = SliceOutput::new(&mut room);
+    'steps: for _ in 0..64 {
+        let calls = source.seen;
+        let before = output.written().len() as u64;
+        let progress = cutter.step(&mut source, &mut output, &mut w, &mut m)?;
+        let received = source.seen.saturating_sub(calls).saturating_mul(50);
+        assert!(rt;
+            output.written().len() as u64 <= before.saturating_add(received).saturating_add(80)
+        );
+        if let PieceProgress::Piece(piece) = progress {
+            assert_eq!(rt; piece.bytes, 440);
+            assert_eq!(rt; output.written().len(), 440);
+            return Ok(());
+        }
+        assert!(rt; cutter.more());
+    }
+    Err(Fail::new("the piece is not whole after 64 steps"))
+}
+
+#[test]
+fn a_step_behind_a_fault_calls_no_device(rt: HostRuntime) -> Result<(), Fail> {
+    let mut source = Faulty::new(SliceSource::new(MIXED), 1);
+    let mut w = Window::new();
+    let mut m = Meter::new();
+    let mut cutter = Cutter::open(RawRuns::open(&source, 8)?, 88)?;
+    let mut room = [0; 100];
+    let mut output = Faulty::new(SliceOutput::new(&mut room), 0);
+    let fault = Err(PieceFault::Read(DeviceFault::Failed));
+    assert_eq!(rt;
+        cutter.step(&mut source, &mut output, &mut w, &mut m),
+        fault
+    );
+    assert_eq!(rt; source.seen, 1);
+    assert_eq!(rt;
+        cutter.step(&mut source, &mut output, &mut w, &mut m),
+        fault
+    );
+    assert_eq!(rt; source.seen, 1);
+    assert_eq!(rt; output.seen, 0);
+    assert!(rt; cutter.more());
     Ok(())
 }
 

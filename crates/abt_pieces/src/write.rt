@@ -1,10 +1,14 @@
 //! Writing one piece: a chunk for each of its runs.
-ghost use Rattle.std.specs.Prelude.{◌≡◌, ◌<◌, ◌≤◌, ◌+◌, ◌-◌, ◌*◌, ◌^◌, ◌++◌, IsTrue, IfOk, IfErr, OnOk, OnErr, length, take, drop, max, true, false};
-ghost use Rattle.abt_runs.specs.Part.{is_end as ends};
+ghost use Rattle.std.specs.Prelude.{◌≡◌, ℕ, ◌<◌, ◌≤◌, ◌+◌, ◌-◌, ◌*◌, ◌^◌, ◌++◌, IsTrue, IfOk, IfErr, OnOk, OnErr, length, take, drop, min, max, true, false};
+ghost use Rattle.abt_runs.specs.Part.{is_end as ends, entry};
 ghost use Rattle.abt_pieces.specs.Fault.{HasCause};
 ghost use Rattle.abt_pieces.specs.Contents.{head_len as length_of_head, data_len};
 ghost use Rattle.abt_pieces.specs.Cutter.{first_writer};
-ghost use Rattle.abt_pieces.specs.Write.{front_bytes, chunk_len, chunk_begun, ChunkCause, starts, next_copying, copied_on, rest_of, frame_of, SoundWriter, ToldWriter, write_left};
+ghost use Rattle.abt_pieces.specs.Write.{front_bytes, chunk_len, chunk_begun, ChunkCause, starts, next_copying, copied_on, rest_of, frame_of, SoundWriter, ToldWriter, write_left, passed_to, writer_words, charge_of};
+ghost use Rattle.abt_pieces.specs.Gather.{silent_left, gathered_to};
+ghost use Rattle.abt_runs.specs.declared.part.Cursor.{Cursor};
+ghost use Rattle.abt_pieces.specs.Plan.{last_words};
+ghost use Rattle.abt_pieces.specs.Spent.{Spent};
 
 use crate::PieceFault;
 use crate::chunk::write_front;
@@ -190,6 +194,13 @@ impl Writer {
         ensures cause { IfErr result (λ e. HasCause e S.tells (S.read_faults source.old) (S.read_faults source.new) (O.write_faults output.old) (O.write_faults output.new)) }
         ensures left { OnOk result (write_left (R.left runs.old) (R.count runs.old) self.new < write_left (R.left runs.old) (R.count runs.old) self.old) }
         ensures given { S.given source.old ≤ S.given source.new }
+        ensures paid { OnOk result (silent_left (R.count runs.old) self.old.past self.new.gatherer < silent_left (R.count runs.old) self.old.past self.old.gatherer + (S.given source.new - S.given source.old)) }
+        ensures gathered { IsTrue S.tells → (d : Cursor) → R.within runs.old d → R.place runs.old (S.content source.old) d → d.block ≡ self.old.past → d.ask ≡ 1 → OnOk result (S.given source.new + gathered_to (R.charge runs.old) self.old.past d self.old.gatherer.at ≤ S.given source.old + gathered_to (R.charge runs.old) self.old.past d self.new.gatherer.at) }
+        ensures spends { IsTrue S.tells → (d : Cursor) → R.within runs.old d → R.place runs.old (S.content source.old) d → d.block ≡ self.old.past → d.ask ≡ 1 → (s t : ℕ) → Spent (λ c. R.within runs.old c × R.place runs.old (S.content source.old) c) (R.charge runs.old) (R.copied runs.old) (R.held runs.old) d s t self.old → OnOk result (Spent (λ c. R.within runs.old c × R.place runs.old (S.content source.old) c) (R.charge runs.old) (R.copied runs.old) (R.held runs.old) d s (t + (S.given source.new - S.given source.old)) self.new) }
+        ensures calls { S.reads source.new ≤ S.reads source.old + (S.given source.new - S.given source.old) + 2 }
+        ensures write_calls { O.writes output.new + length (O.written output.old) ≤ O.writes output.old + length (O.written output.new) + 1 }
+        ensures turns { m.new.turns.number + last_words (R.one runs.old) (R.count runs.old) (min self.old.gatherer.at.block self.old.past) ≤ m.old.turns.number + 2 * (S.given source.new - S.given source.old) + (length (O.written output.new) - length (O.written output.old)) + 3 + R.one runs.old }
+        ensures words { OnOk result (m.new.turns.number + writer_words (R.one runs.old) (R.count runs.old) self.old ≤ m.old.turns.number + 2 * (S.given source.new - S.given source.old) + (length (O.written output.new) - length (O.written output.old)) + 3 + writer_words (R.one runs.old) (R.count runs.old) self.new) }
         ensures received { S.given source.new ≤ S.given source.old + 65536 }
         ensures steps { m.new.steps.number ≡ m.old.steps.number + 1 }
         ensures greatest { m.new.greatest.number ≡ max m.old.greatest.number (S.given source.new - S.given source.old) }
@@ -232,6 +243,13 @@ impl Writer {
         ensures rest { IsTrue S.tells → OnOk result (rest_of (frame_of (R.list runs.old (S.content source.old)) self.old) self.new ≡ rest_of (frame_of (R.list runs.old (S.content source.old)) self.old) self.old) }
         ensures left { OnOk result (write_left (R.left runs.old) (R.count runs.old) self.new < write_left (R.left runs.old) (R.count runs.old) self.old) }
         ensures given { S.given source.old ≤ S.given source.new }
+        ensures gatherer { self.new.gatherer ≡ self.old.gatherer }
+        ensures fetched { OnOk result (S.given source.old < S.given source.new) }
+        ensures charged { OnOk result (S.given source.new + R.charge runs.old copying.next ≤ S.given source.old + charge_of (R.charge runs.old) self.new.copying + entry copying.next) }
+        ensures spends { IsTrue S.tells → (d : Cursor) → R.within runs.old d → R.place runs.old (S.content source.old) d → d.block ≡ self.old.past → d.ask ≡ 1 → (s t : ℕ) → Spent (λ c. R.within runs.old c × R.place runs.old (S.content source.old) c) (R.charge runs.old) (R.copied runs.old) (R.held runs.old) d s t self.old → OnOk result (Spent (λ c. R.within runs.old c × R.place runs.old (S.content source.old) c) (R.charge runs.old) (R.copied runs.old) (R.held runs.old) d s (t + (S.given source.new - S.given source.old)) self.new) }
+        ensures calls { S.reads source.new ≤ S.reads source.old + (S.given source.new - S.given source.old) + 2 }
+        ensures turns { m.new.turns.number + last_words (R.one runs.old) (R.count runs.old) (min copying.next.block self.old.past) ≤ m.old.turns.number + 2 * (S.given source.new - S.given source.old) + 2 + R.one runs.old }
+        ensures words { OnOk result (m.new.turns.number + writer_words (R.one runs.old) (R.count runs.old) self.old ≤ m.old.turns.number + 2 * (S.given source.new - S.given source.old) + 2 + writer_words (R.one runs.old) (R.count runs.old) self.new) }
         ensures received { S.given source.new ≤ S.given source.old + 65536 }
         ensures steps { m.new.steps.number ≡ m.old.steps.number + 1 }
         ensures greatest { m.new.greatest.number ≡ max m.old.greatest.number (S.given source.new - S.given source.old) }
@@ -285,6 +303,14 @@ impl Writer {
         ensures cause { IfErr result (λ e. HasCause e S.tells (S.read_faults source.old) (S.read_faults source.new) (O.write_faults output.old) (O.write_faults output.new)) }
         ensures left { OnOk result (write_left (R.left runs.old) (R.count runs.old) self.new < write_left (R.left runs.old) (R.count runs.old) self.old) }
         ensures given { S.given source.old ≤ S.given source.new }
+        ensures gatherer { self.new.gatherer ≡ self.old.gatherer }
+        ensures put { OnOk result (length (O.written output.old) < length (O.written output.new)) }
+        ensures copies { OnOk result (S.given source.new + R.held runs.old copying.here copying.done ≤ S.given source.old + R.held runs.old copying.here (copying.done + (length (O.written output.new) - length (O.written output.old)))) }
+        ensures spends { IsTrue S.tells → (d : Cursor) → R.within runs.old d → R.place runs.old (S.content source.old) d → d.block ≡ self.old.past → d.ask ≡ 1 → (s t : ℕ) → Spent (λ c. R.within runs.old c × R.place runs.old (S.content source.old) c) (R.charge runs.old) (R.copied runs.old) (R.held runs.old) d s t self.old → OnOk result (Spent (λ c. R.within runs.old c × R.place runs.old (S.content source.old) c) (R.charge runs.old) (R.copied runs.old) (R.held runs.old) d s (t + (S.given source.new - S.given source.old)) self.new) }
+        ensures calls { S.reads source.new ≤ S.reads source.old + 1 }
+        ensures write_calls { O.writes output.new + length (O.written output.old) ≤ O.writes output.old + length (O.written output.new) + 1 }
+        ensures turns { m.new.turns.number ≤ m.old.turns.number + (length (O.written output.new) - length (O.written output.old)) + 1 }
+        ensures words { OnOk result (writer_words (R.one runs.old) (R.count runs.old) self.old ≤ writer_words (R.one runs.old) (R.count runs.old) self.new) }
         ensures received { S.given source.new ≤ S.given source.old + 65536 }
         ensures steps { m.new.steps.number ≡ m.old.steps.number + 1 }
         ensures greatest { m.new.greatest.number ≡ max m.old.greatest.number (S.given source.new - S.given source.old) }
@@ -345,6 +371,17 @@ impl Writer {
         ensures left { IfOk result (λ d. d ≡ false → write_left (R.left runs.old) (R.count runs.old) self.new < write_left (R.left runs.old) (R.count runs.old) self.old) }
         ensures ended { IfOk result (λ d. d ≡ true → (self.old.bytes ≡ 0) × (O.written output.new ≡ O.written output.old)) }
         ensures given { S.given source.old ≤ S.given source.new }
+        ensures paid { IfOk result (λ d. d ≡ false → silent_left (R.count runs.old) self.old.past self.new.gatherer < silent_left (R.count runs.old) self.old.past self.old.gatherer + (S.given source.new - S.given source.old) + (length (O.written output.new) - length (O.written output.old))) }
+        ensures gathered { IsTrue S.tells → self.old.copying ≡ None → (d : Cursor) → R.within runs.old d → R.place runs.old (S.content source.old) d → d.block ≡ self.old.past → d.ask ≡ 1 → IfOk result (λ _. S.given source.new + gathered_to (R.charge runs.old) self.old.past d self.old.gatherer.at ≤ S.given source.old + gathered_to (R.charge runs.old) self.old.past d self.new.gatherer.at) }
+        ensures kept { (c : Copying) → self.old.copying ≡ Some c → IfOk result (λ _. self.new.gatherer ≡ self.old.gatherer) }
+        ensures charged { (c : Copying) → self.old.copying ≡ Some c → c.done ≡ c.size → IfOk result (λ _. S.given source.new + R.charge runs.old c.next ≤ S.given source.old + charge_of (R.charge runs.old) self.new.copying + entry c.next) }
+        ensures copies { (c : Copying) → self.old.copying ≡ Some c → c.done < c.size → IfOk result (λ _. S.given source.new + R.held runs.old c.here c.done ≤ S.given source.old + R.held runs.old c.here (c.done + (length (O.written output.new) - length (O.written output.old)))) }
+        ensures spends { IsTrue S.tells → (d : Cursor) → R.within runs.old d → R.place runs.old (S.content source.old) d → d.block ≡ self.old.past → d.ask ≡ 1 → (s t : ℕ) → Spent (λ c. R.within runs.old c × R.place runs.old (S.content source.old) c) (R.charge runs.old) (R.copied runs.old) (R.held runs.old) d s t self.old → IfOk result (λ _. Spent (λ c. R.within runs.old c × R.place runs.old (S.content source.old) c) (R.charge runs.old) (R.copied runs.old) (R.held runs.old) d s (t + (S.given source.new - S.given source.old)) self.new) }
+        ensures spent { IsTrue S.tells → (d : Cursor) → R.within runs.old d → R.place runs.old (S.content source.old) d → d.block ≡ self.old.past → d.ask ≡ 1 → (s t : ℕ) → Spent (λ c. R.within runs.old c × R.place runs.old (S.content source.old) c) (R.charge runs.old) (R.copied runs.old) (R.held runs.old) d s t self.old → IfOk result (λ done. done ≡ true → t + (S.given source.new - S.given source.old) ≤ 2 * R.charge runs.old d + R.copied runs.old d + 32) }
+        ensures calls { S.reads source.new ≤ S.reads source.old + (S.given source.new - S.given source.old) + 2 }
+        ensures write_calls { O.writes output.new + length (O.written output.old) ≤ O.writes output.old + length (O.written output.new) + 1 }
+        ensures turns { m.new.turns.number + writer_words (R.one runs.old) (R.count runs.old) self.old ≤ m.old.turns.number + 2 * (S.given source.new - S.given source.old) + (length (O.written output.new) - length (O.written output.old)) + 3 + 2 * R.one runs.old }
+        ensures words { IfOk result (λ d. m.new.turns.number + writer_words (R.one runs.old) (R.count runs.old) self.old ≤ m.old.turns.number + 2 * (S.given source.new - S.given source.old) + (length (O.written output.new) - length (O.written output.old)) + 3 + writer_words (R.one runs.old) (R.count runs.old) self.new) }
         ensures received { S.given source.new ≤ S.given source.old + 65536 }
         ensures steps { m.new.steps.number ≡ m.old.steps.number + 1 }
         ensures greatest { m.new.greatest.number ≡ max m.old.greatest.number (S.given source.new - S.given source.old) }
@@ -393,6 +430,13 @@ pub fn write_chunks<R: BlockRuns, S: Source, O: Output>(
     ensures front { IsTrue S.tells → O.written output.new ≡ O.written output.old ++ take (length (O.written output.new) - length (O.written output.old)) (rest_of (frame_of (R.list runs.old (S.content source.old)) from) from) }
     ensures whole { IsTrue S.tells → OnOk result (O.written output.new ≡ O.written output.old ++ rest_of (frame_of (R.list runs.old (S.content source.old)) from) from) }
     ensures given { S.given source.old ≤ S.given source.new }
+    ensures received { S.given source.new + 65536 * m.old.steps.number ≤ S.given source.old + 65536 * m.new.steps.number }
+    ensures most_received { m.new.greatest.number ≤ max m.old.greatest.number 65536 }
+    ensures spent { IsTrue S.tells → (d : Cursor) → R.within runs.old d → R.place runs.old (S.content source.old) d → d.block ≡ from.past → d.ask ≡ 1 → (s t : ℕ) → Spent (λ c. R.within runs.old c × R.place runs.old (S.content source.old) c) (R.charge runs.old) (R.copied runs.old) (R.held runs.old) d s t from → OnOk result (t + (S.given source.new - S.given source.old) ≤ 2 * R.charge runs.old d + R.copied runs.old d + 32) }
+    ensures calls { S.reads source.new ≤ S.reads source.old + 3 * (S.given source.new - S.given source.old) + 2 * (length (O.written output.new) - length (O.written output.old)) + 8 }
+    ensures write_calls { O.writes output.new ≤ O.writes output.old + (S.given source.new - S.given source.old) + 2 * (length (O.written output.new) - length (O.written output.old)) + 4 }
+    ensures turns { m.new.turns.number ≤ m.old.turns.number + 6 * (S.given source.new - S.given source.old) + 5 * (length (O.written output.new) - length (O.written output.old)) + 15 + 2 * R.one runs.old }
+    ensures words { OnOk result (from.past < R.count runs.old → m.new.turns.number ≤ m.old.turns.number + 6 * (S.given source.new - S.given source.old) + 5 * (length (O.written output.new) - length (O.written output.old)) + 15) }
     ensures faults { S.read_faults source.old ≤ S.read_faults source.new }
     ensures write_faults { O.write_faults output.old ≤ O.write_faults output.new }
     ensures cause { IfErr result (λ e. HasCause e S.tells (S.read_faults source.old) (S.read_faults source.new) (O.write_faults output.old) (O.write_faults output.new)) }

@@ -1,11 +1,11 @@
-use Rattle.std.proofs.Common.{◌≡◌, ◌≤◌, ◌<◌, ◌+◌, ◌-◌, ◌⊎◌, ℕ}
+use Rattle.std.proofs.Common.{◌≡◌, ◌≤◌, ◌<◌, ◌+◌, ◌-◌, ◌⊎◌, ◌*◌, max}
 use Rattle.abt_pieces.specs.declared.tail.Tail.TheVariants as tails
 use Rattle.std.specs.Prelude.{IsTrue}
-use Rattle.abt_pieces.specs.Plan.{Planned, Even}
+use Rattle.abt_pieces.specs.Plan.{Planned, Even, last_words}
 use Rattle.abt_pieces.proofs.plan.plan_piece.Given as goal
 
-abbrev pub invariant-loop : goal.invariant-loop
-invariant-loop g l =
+abbrev pub invariant-loop-m : goal.invariant-loop-m
+invariant-loop-m g l =
     let content = g.S.Source.content in
     record {
       same : l.runs ≡ l.fn.runs;
@@ -19,8 +19,15 @@ invariant-loop g l =
       room : l.planner.weight ≤ l.limit;
       charged : g.S.Source.given l.source + g.R.BlockRuns.charge l.fn.runs l.fn.from ≤ g.S.Source.given l.fn.source + g.R.BlockRuns.charge l.fn.runs l.planner.at + 16;
       inside : 0 < l.planner.at.used → ((l.planner.tail ≡ tails.Raw) × (l.limit - l.planner.weight < g.R.BlockRuns.size l.fn.runs)) ⊎ (g.S.Source.given l.source + g.R.BlockRuns.charge l.fn.runs l.fn.from ≤ g.S.Source.given l.fn.source + g.R.BlockRuns.charge l.fn.runs l.planner.at);
+      taken : l.planner.contents.bytes + g.R.BlockRuns.taken l.fn.runs l.fn.from ≤ 40 + g.R.BlockRuns.taken l.fn.runs l.planner.at + 16;
+      inside_taken : 0 < l.planner.at.used → ((l.planner.tail ≡ tails.Raw) × (l.limit - l.planner.weight < g.R.BlockRuns.size l.fn.runs)) ⊎ (l.planner.contents.bytes + g.R.BlockRuns.taken l.fn.runs l.fn.from ≤ 40 + g.R.BlockRuns.taken l.fn.runs l.planner.at);
+      given : g.S.Source.given l.fn.source ≤ g.S.Source.given l.source;
+      received : g.S.Source.given l.source + 65536 * l.fn.m.steps.number ≤ g.S.Source.given l.fn.source + 65536 * l.m.steps.number;
+      most : l.m.greatest.number ≤ max l.fn.m.greatest.number 65536;
+      calls : g.S.Source.reads l.source ≤ g.S.Source.reads l.fn.source + 3 * (g.S.Source.given l.source - g.S.Source.given l.fn.source);
+      turns : l.m.turns.number + last_words (g.R.BlockRuns.one l.fn.runs) (g.R.BlockRuns.count l.fn.runs) l.fn.from.block ≤ l.fn.m.turns.number + 5 * (g.S.Source.given l.source - g.S.Source.given l.fn.source) + last_words (g.R.BlockRuns.one l.fn.runs) (g.R.BlockRuns.count l.fn.runs) l.planner.at.block;
       faults : g.S.Source.read_faults l.fn.source ≤ g.S.Source.read_faults l.source;
     }
 
-abbrev pub decreases-loop : goal.decreases-loop
-decreases-loop g l = g.R.BlockRuns.left l.fn.runs l.planner.at
+abbrev pub decreases-loop-m : goal.decreases-loop-m
+decreases-loop-m g l = g.R.BlockRuns.left l.fn.runs l.planner.at

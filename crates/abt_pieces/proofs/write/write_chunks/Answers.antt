@@ -2,6 +2,8 @@ use Rattle.std.proofs.Common.{rules, arith, ◌∙◌, refl, sym, subst, ap, ◌
 use Rattle.std.proofs.lemmas.Result.{err_from_is_err_and}
 use Rattle.abt_pieces.proofs.Fronts.{front_join, rest_join, whole_join, nothing_more, nothing_less, no_bytes, cause_since}
 use Rattle.abt_pieces.specs.Write.{frame_of, rest_of}
+use Rattle.abt_pieces.proofs.Counts.{silent_most, writer_most, writer_none}
+use Rattle.abt_pieces.proofs.Spending.{spent_same, spent_joins}
 use Rattle.abt_pieces.proofs.write.write_chunks.Goals as goal
 
 pub loop-m-init : goal.loop-m-init
@@ -19,6 +21,12 @@ loop-m-init g c = record {
   front = λ tells. nothing_more _ _;
   rest = λ tells. nothing_less _ _;
   given = omega arith;
+  received = omega arith;
+  most = omega arith;
+  calls = omega arith;
+  write_calls = omega arith;
+  turns = omega arith;
+  spent = λ tells d within place is fresh s t h. spent_same _ _ _ _ d s t _ c.args.from h;
   faults = omega arith;
   write_faults = omega arith;
 }
@@ -53,6 +61,27 @@ loop-m-preserved g c =
           let r = rw (i.same, i.kept tells) at (o.rest tells) in
           rest_join _ _ _ _ _ _ i.grown e.grown (i.rest tells) (rw (e.segment.0, e.segment.1) r);
       given = omega (arith, e.given, i.given);
+      received = let a = i.received in let b = e.received in let d = c.tick.ensures.steps in let s = e.steps in omega (arith, a, b, d, s);
+      most = let a = i.most in let b = e.greatest in let d = c.tick.ensures.greatest in let r = e.received in omega (arith, a, b, d, r);
+      calls =
+          let a = i.calls in
+          let b = e.calls in
+          let p = rw (i.same, i.past) at (o.paid c.if-not-branch.true) in
+          omega (arith, a, b, p, i.given, e.given, i.grown, e.grown);
+      write_calls =
+          let a = i.write_calls in
+          let b = e.write_calls in
+          let p = rw (i.same, i.past) at (o.paid c.if-not-branch.true) in
+          omega (arith, a, b, p, i.given, e.given, i.grown, e.grown);
+      turns =
+          let a = i.turns in
+          let b = rw i.same at o.words in
+          let d = c.tick.ensures.turns in
+          let p = rw (i.same, i.past) at (o.paid c.if-not-branch.true) in
+          omega (arith, a, b, d, p, i.given, e.given, i.grown, e.grown);
+      spent = λ tells d within place is fresh s t h.
+          let step = rw (i.same, i.kept tells) at (o.spends tells) in
+          spent_joins _ _ _ _ d s t _ _ _ _ i.given e.given (step d within place (is ∙ sym i.past) fresh s _ (i.spent tells d within place is fresh s t h));
       faults = omega (arith, e.faults, i.faults);
       write_faults = omega (arith, e.write_faults, i.write_faults);
     }
@@ -88,3 +117,65 @@ returns-in_err-step-clause-cause g c =
     let i = c.loop-m.invariant in
     let p = err_from_is_err_and c.from_residual.result c.from_residual.ensures.1 in
     rw (p.1, p.2) (cause_since _ _ _ _ _ _ _ _ i.faults i.write_faults c.in_err-step.ensures.cause)
+
+pub returns-clause-calls : goal.returns-clause-calls
+returns-clause-calls g c =
+    let i = c.loop-m.invariant in
+    let e = c.step.ensures in
+    let s = silent_most (g.R.BlockRuns.count c.args.runs.now) c.args.from.past c.args.from.gatherer in
+    omega (arith, i.calls, e.calls, s, i.given, e.given, i.grown, e.grown)
+
+pub returns-in_err-step-clause-calls : goal.returns-in_err-step-clause-calls
+returns-in_err-step-clause-calls g c =
+    let i = c.loop-m.invariant in
+    let e = c.step.ensures in
+    let s = silent_most (g.R.BlockRuns.count c.args.runs.now) c.args.from.past c.args.from.gatherer in
+    omega (arith, i.calls, e.calls, s, i.given, e.given, i.grown, e.grown)
+
+pub returns-clause-write_calls : goal.returns-clause-write_calls
+returns-clause-write_calls g c =
+    let i = c.loop-m.invariant in
+    let e = c.step.ensures in
+    let s = silent_most (g.R.BlockRuns.count c.args.runs.now) c.args.from.past c.args.from.gatherer in
+    omega (arith, i.write_calls, e.write_calls, s, i.given, e.given, i.grown, e.grown)
+
+pub returns-in_err-step-clause-write_calls : goal.returns-in_err-step-clause-write_calls
+returns-in_err-step-clause-write_calls g c =
+    let i = c.loop-m.invariant in
+    let e = c.step.ensures in
+    let s = silent_most (g.R.BlockRuns.count c.args.runs.now) c.args.from.past c.args.from.gatherer in
+    omega (arith, i.write_calls, e.write_calls, s, i.given, e.given, i.grown, e.grown)
+
+pub returns-clause-turns : goal.returns-clause-turns
+returns-clause-turns g c =
+    let i = c.loop-m.invariant in
+    let e = c.step.ensures in
+    let s = silent_most (g.R.BlockRuns.count c.args.runs.now) c.args.from.past c.args.from.gatherer in
+    let t = rw i.same at e.turns in
+    omega (arith, i.turns, t, s, i.given, e.given, i.grown, e.grown)
+
+pub returns-in_err-step-clause-turns : goal.returns-in_err-step-clause-turns
+returns-in_err-step-clause-turns g c =
+    let i = c.loop-m.invariant in
+    let e = c.step.ensures in
+    let s = silent_most (g.R.BlockRuns.count c.args.runs.now) c.args.from.past c.args.from.gatherer in
+    let t = rw i.same at e.turns in
+    omega (arith, i.turns, t, s, i.given, e.given, i.grown, e.grown)
+
+pub returns-clause-words : goal.returns-clause-words
+returns-clause-words g c before =
+    let i = c.loop-m.invariant in
+    let e = c.step.ensures in
+    let s = silent_most (g.R.BlockRuns.count c.args.runs.now) c.args.from.past c.args.from.gatherer in
+    let t = rw i.same at c.in_ok-step.ensures.words in
+    let past = e.segment.1 ∙ i.past in
+    let z = writer_none (g.R.BlockRuns.one c.args.runs.now) (g.R.BlockRuns.count c.args.runs.now) c.step.new.self (rw past before) in
+    omega (arith, i.turns, t, z, s, i.given, e.given, i.grown, e.grown)
+
+pub returns-clause-spent : goal.returns-clause-spent
+returns-clause-spent g c tells d within place is fresh s t h =
+    let i = c.loop-m.invariant in
+    let e = c.step.ensures in
+    let step = rw (i.same, i.kept tells) at (c.in_ok-step.ensures.spent tells) in
+    let z = step d within place (is ∙ sym i.past) fresh s _ (i.spent tells d within place is fresh s t h) c.if-not-branch.false in
+    omega (arith, z, i.given, e.given)

@@ -1,4 +1,3 @@
-use Rattle.std.proofs.Common.{arith, ap, sym, refl, ◌∙◌, ◌≡◌, ◌+◌, ◌++◌, ◌<◌, ℕ, List, length, append_assoc}
 use Rattle.abt_pieces.proofs.cutter.Cutter.planned.Goals as goal
 
 pub returns-clause-exact : goal.returns-clause-exact

@@ -1,39 +1,40 @@
-use Rattle.std.proofs.Common.{arith, ap, sym, refl, ◌∙◌, ◌≡◌, ◌+◌, ◌++◌, ◌<◌, ℕ, List, length, append_assoc}
-use Rattle.abt_pieces.proofs.Fronts.{wrote_part, wrote_front, wrote_rest, front_join, whole_of}
-use Rattle.abt_pieces.proofs.Cutting.{writer_sound, header_first}
-use Rattle.abt_pieces.specs.Cutter.{first_writer}
-use Rattle.abt_pieces.specs.Write.{rest_of, frame_of}
+use Rattle.std.proofs.Common.{sym, refl, arith, ◌∙◌, ◌≡◌}
+use Rattle.abt_pieces.proofs.Cutting.{told_more}
+use Rattle.abt_pieces.proofs.Stepping.{piece_covers}
+use Rattle.abt_pieces.proofs.SpendingStages.{writing_goes, writing_ends}
 use Rattle.abt_pieces.proofs.cutter.Cutter.write.Goals as goal
 
-pub write_chunks-requires-clause-sound : goal.write_chunks-requires-clause-sound
-write_chunks-requires-clause-sound g c = rw c.begin-writer.ensures (writer_sound _ _ _ _ c.args.self.now.limit c.args.self.now.start c.args.outline c.requires.within (omega arith) c.requires.outline)
+pub returns-in-Ok-true-clause-told : goal.returns-in-Ok-true-clause-told
+returns-in-Ok-true-clause-told g c tells =
+    let e = c.in-Ok-true.ensures in
+    let p = c.pass.ensures in
+    let long = g.met.R.BlockRuns.long c.args.self.now.runs _ (c.requires.opened tells) in
+    let h = rw c.requires.at at (c.requires.told tells) in
+    let s = rw c.requires.at at c.args.self.now.sound in
+    rw (p.limit, p.made, p.start) (told_more _ _ (g.R.BlockRuns.within c.args.self.now.runs) _ (g.R.BlockRuns.count c.args.self.now.runs) _ _ _ c.args.self.now.start c.args.outline _ _ refl h s.stage.outline (sym long) h.stage.outline.greatest h.stage.outline.place (rw e.same at p.done) (rw e.same at p.between))
 
-pub returns-in-Err-clause-front : goal.returns-in-Err-clause-front
-returns-in-Err-clause-front g c tells =
-    let long = g.met.R.BlockRuns.long c.args.self.now.runs _ (c.requires.told tells).0 in
-    let whole = header_first _ _ _ c.args.self.now.start c.args.outline (sym long) (sym c.requires.outline.first) (c.requires.exact tells) in
-    wrote_part _ _ _ _ _ (rw (c.block_size-size.ensures, c.blocks-count.ensures) at c.in-Err.ensures.front) whole
+pub returns-in-Ok-true-clause-piece_words : goal.returns-in-Ok-true-clause-piece_words
+returns-in-Ok-true-clause-piece_words g c =
+    let s = rw c.requires.at at c.args.self.now.sound in
+    let past : c.step.new.self.past ≡ c.args.outline.piece.past = c.step.ensures.segment.1 ∙ s.stage.past in
+    let z = piece_covers (g.R.BlockRuns.one c.args.self.now.runs) (g.R.BlockRuns.count c.args.self.now.runs) c.args.outline.piece.past c.step.new.self past in
+    let t = c.in-Ok-true.ensures.words in
+    rw (c.requires.at, c.pass.ensures.piece) (omega (arith, t, z))
 
-pub returns-in-Ok-clause-front : goal.returns-in-Ok-clause-front
-returns-in-Ok-clause-front g c tells =
-    let long = g.met.R.BlockRuns.long c.args.self.now.runs _ (c.requires.told tells).0 in
-    let whole = header_first _ _ _ c.args.self.now.start c.args.outline (sym long) (sym c.requires.outline.first) (c.requires.exact tells) in
-    let ok = rw (c.block_size-size.ensures, c.blocks-count.ensures) at c.in_default.ensures.ok in
-    let e = c.in-Ok.ensures in
-    front_join _ _ _ _ _ c.in_default.ensures.grown e.grown (wrote_front _ _ _ _ _ ok whole) (wrote_rest _ _ _ _ _ ok whole) (rw c.begin-writer.ensures at (e.front tells))
+pub returns-in-Ok-false-clause-spends : goal.returns-in-Ok-false-clause-spends
+returns-in-Ok-false-clause-spends g c tells t spent =
+    let e = c.in-Ok-false.ensures in
+    let sound = (rw c.requires.at at c.args.self.now.sound).stage in
+    let told = (rw c.requires.at at (c.requires.told tells)).stage in
+    let h = rw c.requires.at at spent in
+    writing_goes _ _ _ _ _ _ t _ _ c.args.outline c.args.from c.step.new.self h (e.spends tells c.args.outline.next sound.outline.within told.outline.place (sym (sound.past ∙ sound.outline.past)) h.fresh h.begun h.total h.spent)
 
-pub returns-in-Err-write_chunks-clause-front : goal.returns-in-Err-write_chunks-clause-front
-returns-in-Err-write_chunks-clause-front g c tells =
-    let long = g.met.R.BlockRuns.long c.args.self.now.runs _ (c.requires.told tells).0 in
-    let whole = header_first _ _ _ c.args.self.now.start c.args.outline (sym long) (sym c.requires.outline.first) (c.requires.exact tells) in
-    let ok = rw (c.block_size-size.ensures, c.blocks-count.ensures) at c.in_default.ensures.ok in
-    let e = c.in-Err-write_chunks.ensures in
-    front_join _ _ _ _ _ c.in_default.ensures.grown e.grown (wrote_front _ _ _ _ _ ok whole) (wrote_rest _ _ _ _ _ ok whole) (rw c.begin-writer.ensures at (e.front tells))
-
-pub returns-in-Ok-clause-whole : goal.returns-in-Ok-clause-whole
-returns-in-Ok-clause-whole g c tells =
-    let long = g.met.R.BlockRuns.long c.args.self.now.runs _ (c.requires.told tells).0 in
-    let whole = header_first _ _ _ c.args.self.now.start c.args.outline (sym long) (sym c.requires.outline.first) (c.requires.exact tells) in
-    let ok = rw (c.block_size-size.ensures, c.blocks-count.ensures) at c.in_default.ensures.ok in
-    let all = rw c.begin-writer.ensures at (c.in-Ok.ensures.whole tells) in
-    whole_of _ _ _ _ _ _ ok all whole
+pub returns-in-Ok-true-clause-spent : goal.returns-in-Ok-true-clause-spent
+returns-in-Ok-true-clause-spent g c tells t spent =
+    let e = c.in-Ok-true.ensures in
+    let p = c.pass.ensures in
+    let sound = (rw c.requires.at at c.args.self.now.sound).stage in
+    let told = (rw c.requires.at at (c.requires.told tells)).stage in
+    let h = rw c.requires.at at spent in
+    let z = e.spent tells c.args.outline.next sound.outline.within told.outline.place (sym (sound.past ∙ sound.outline.past)) h.fresh h.begun h.total h.spent c.in-Ok-true.field-0-test in
+    rw (p.piece, p.start) (writing_ends _ _ _ _ _ _ t _ _ c.args.outline c.args.from h z)

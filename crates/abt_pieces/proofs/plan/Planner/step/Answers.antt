@@ -1,14 +1,14 @@
-use Rattle.std.proofs.Common.{rules, arith, ◌∙◌, refl, sym, subst, ◌≡◌, ℕ, ◌-◌, ◌<◌}
-use Rattle.abt_runs.specs.Part.{Capped}
-use Rattle.abt_pieces.specs.Plan.{cap_of}
-use Rattle.abt_pieces.proofs.Planning.{planned_on, ends_here, last_ask}
+use Rattle.std.proofs.Common.{rules, arith, ap, ◌-◌}
+use Rattle.abt_pieces.proofs.Planning.{planned_on, ends_here, last_ask, ends_rests}
+use Rattle.abt_pieces.specs.declared.contents.Contents.{Contents}
+use Rattle.abt_pieces.proofs.Counts.{words_on, takes_on}
 use Rattle.abt_pieces.proofs.plan.Planner.step.Goals as goal
 
 pub returns-then-gain-room-clause-ends : goal.returns-then-gain-room-clause-ends
 returns-then-gain-room-clause-ends g c tells =
     let e = c.in_ok-run.ensures in
     let size = g.met.R.BlockRuns.sized c.args.runs.now in
-    λ _. ends_here _ _ _ c.args.self.now c.in_ok-run.run' _ (omega (arith, size)) (c.requires.planned tells) (e.part tells) (omega arith) c.requires.room (rw (c.raw_cap-cap.ensures, c.block_size-size.ensures) at e.capped) (rw c.block_size-size.ensures at c.added-gain.ensures.gain) (omega arith)
+    λ _. ends_rests _ _ _ _ (ends_here _ _ _ c.args.self.now c.in_ok-run.run' _ (omega (arith, size)) (c.requires.planned tells) (e.part tells) (omega arith) c.requires.room (rw (c.raw_cap-cap.ensures, c.block_size-size.ensures) at e.capped) (rw c.block_size-size.ensures at c.added-gain.ensures.gain) (omega arith))
 
 pub returns-clause-planned : goal.returns-clause-planned
 returns-clause-planned g c tells =
@@ -32,3 +32,17 @@ returns-then-gain-room-clause-at_end g c _ over =
     let e = c.in_ok-run.ensures in
     let b = g.met.R.BlockRuns.bounded c.args.runs.now c.in_ok-run.run'.next e.within in
     absurd (omega (arith, b, e.moved))
+
+pub returns-clause-takes : goal.returns-clause-takes
+returns-clause-takes g c _ =
+    let e = c.in_ok-run.ensures in
+    let w = rw c.block_size-size.ensures at c.with-self.ensures in
+    let bytes = ap (λ (x : Contents). x.bytes) w in
+    let t = takes_on c.last-last.result c.in_ok-run.run'.kind c.args.self.now.at.used c.in_ok-run.run'.blocks _ c.args.self.now.contents.bytes _ _ (λ used. (e.goes_on used).0) (search rules) e.takes in
+    omega (arith, bytes, t)
+
+pub returns-clause-words : goal.returns-clause-words
+returns-clause-words g c _ =
+    let e = c.in_ok-run.ensures in
+    let p = g.met.R.BlockRuns.padded c.args.runs.now c.args.self.now.at in
+    words_on _ _ _ _ _ c.in_ok-run.run'.blocks p.0 p.1 e.filled_up e.moved

@@ -1,8 +1,9 @@
-use Rattle.std.proofs.Common.{arith, ap, sym, ◌∙◌, ◌≡◌, ◌≤◌, ◌+◌, ◌-◌, ◌++◌, IsTrue, Some, None, refl, length, take, drop, List, ℕ}
+use Rattle.std.proofs.Common.{arith, sym, ◌∙◌, ◌≤◌, ◌+◌, refl}
 use Rattle.std.proofs.lemmas.List.{take-append-drop}
 use Rattle.abt_pieces.proofs.Fronts.{wrote_front, wrote_rest, wrote_part}
-use Rattle.abt_pieces.proofs.Going.{is_copying, copied_writer, part_front, part_room, write_copies, copied_fewer}
-use Rattle.abt_pieces.specs.Write.{rest_of}
+use Rattle.abt_pieces.proofs.Going.{is_copying, copied_writer, part_front, part_room, write_copies, copied_fewer, copied_passes}
+use Rattle.abt_pieces.proofs.Counts.{writer_copies}
+use Rattle.abt_pieces.proofs.Spending.{spent_copies}
 use Rattle.abt_pieces.proofs.write.Writer.copy_bytes.Goals as goal
 
 pub returns-in-Err-write_out-clause-front : goal.returns-in-Err-write_out-clause-front
@@ -49,3 +50,19 @@ returns-clause-left g c =
     let room = part_room _ _ _ _ _ _ _ c.args.copying h in
     let some = c.in-Ok.ensures.some (omega (arith, c.copy.auto.out, c.part_mut.ensures.long, c.min-ask.ensures, c.requires.more)) in
     write_copies _ _ _ _ refl refl (rw (c.and_bytes-self.ensures, c.requires.is) (copied_fewer _ c.args.copying c.in-Ok.count some (omega (arith, room, fits))))
+
+pub returns-clause-words : goal.returns-clause-words
+returns-clause-words g c =
+    let h = is_copying _ _ _ _ c.args.self.now c.args.copying c.requires.is c.requires.sound in
+    writer_copies _ _ c.args.self.now _ refl refl (rw (c.and_bytes-self.ensures, c.requires.is) (copied_passes c.args.copying c.in-Ok.count _ h.until))
+
+pub returns-clause-spends : goal.returns-clause-spends
+returns-clause-spends g c tells d within place is fresh s t spent =
+    let fits : c.args.copying.done + c.in-Ok.count ≤ c.args.copying.size = omega (arith, c.in-Ok.ensures.within, c.copy.auto.out, c.part_mut.ensures.long, c.min-ask.ensures, c.requires.more) in
+    let h = is_copying _ _ _ _ c.args.self.now c.args.copying c.requires.is c.requires.sound in
+    let some = g.met.R.BlockRuns.sized c.args.runs.now in
+    let grows = g.met.R.BlockRuns.held_grows c.args.runs.now c.args.copying.here (c.args.copying.done + c.in-Ok.count) c.args.copying.size fits in
+    record {
+      gathering = spent.gathering;
+      copies = rw c.and_bytes-self.ensures (spent_copies _ _ _ _ _ _ _ _ _ _ _ s t _ _ _ c.in-Ok.count c.args.copying (omega (arith, some)) h fits c.in-Ok.ensures.given.0 grows.0 c.in-Ok.ensures.read (rw c.requires.is at spent.copies));
+    }

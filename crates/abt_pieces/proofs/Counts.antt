@@ -1,0 +1,219 @@
+-- What steps cost, summed.
+use Rattle.std.proofs.Common.{◌≡◌, ◌==◌, if◌then◌else◌, ℕ, zero, suc, ◌+◌, ◌-◌, ◌*◌, ◌<◌, ◌≤◌, nat_lt, min, Bool, true, false, refl, sym, ap, ◌∙◌, arith, inl, inr, Option, Some, None, Result, Ok, Err, OnOk}
+use Rattle.std.proofs.lemmas.Bool.{cases_Bool, ltb-true, ltb-false, lt-ltb}
+use Rattle.abt_runs.specs.Part.{is_end, piece_bytes, entry}
+use Rattle.abt_runs.specs.Whole.{alike_kinds}
+use Rattle.abt_runs.specs.declared.part.Cursor.{Cursor}
+use Rattle.abt_runs.specs.declared.part.Run.{Run}
+use Rattle.abt_runs.specs.declared.part.RunKind.{RunKind}
+use Rattle.abt_runs.specs.declared.part.RunKind.TheVariants as kinds
+use Rattle.abt_pieces.specs.Contents.{opens_len, data_len, contents_before}
+use Rattle.abt_pieces.specs.Plan.{last_words}
+use Rattle.abt_pieces.specs.Gather.{ClosedRun, SoundGatherer, gathered_on, silent_left, gathered_to}
+use Rattle.abt_pieces.specs.Write.{begins, starts, passed_to, writer_words, chunk_begun}
+use Rattle.abt_pieces.specs.declared.write.Copying.{Copying}
+use Rattle.abt_pieces.specs.declared.write.Writer.{Writer}
+use Rattle.abt_pieces.specs.declared.fault.PieceFault.{PieceFault}
+use Rattle.abt_pieces.proofs.Going.{gathering}
+use Rattle.abt_pieces.specs.declared.gather.Gatherer.{Gatherer}
+use Rattle.abt_pieces.proofs.Gathering.{left_on}
+
+pub not_below : (x y : ℕ) → y ≤ x → nat_lt x y ≡ false
+not_below x y le = elim (cases_Bool (nat_lt x y)) [ inl h ↦ absurd (let z = ltb-true x y h in omega arith) | inr h ↦ h ]
+
+-- ---- the words of the last block
+
+-- a part of q blocks counts them once
+pub words_on : (p one n i j q : ℕ) → 4 * p ≤ one → (0 < p → i + 1 ≡ n) → (0 < p → 0 < q) → j ≡ i + q → p + last_words one n i ≤ last_words one n j
+words_on p one n i j q small end some e = elim (cases_Bool (nat_lt 0 p)) [
+  | inl a ↦
+      let pos = ltb-true 0 p a in
+      let last = end pos in
+      let more = some pos in
+      let h : nat_lt i n ≡ true = lt-ltb i n (omega arith) in
+      let k : nat_lt j n ≡ false = not_below j n (omega arith) in
+      rw (h, k) (omega arith)
+  | inr a ↦
+      let none = ltb-false 0 p a in
+      elim (cases_Bool (nat_lt i n)) [
+        | inl h ↦ rw h (omega arith)
+        | inr h ↦
+            let over = ltb-false i n h in
+            let k : nat_lt j n ≡ false = not_below j n (omega arith) in
+            rw (h, k) (omega arith)
+      ]
+]
+
+pub words_further : (one n i j : ℕ) → i ≤ j → last_words one n i ≤ last_words one n j
+words_further one n i j le = elim (cases_Bool (nat_lt i n)) [
+  | inl h ↦ rw h (omega arith)
+  | inr h ↦ let over = ltb-false i n h in let k : nat_lt j n ≡ false = not_below j n (omega arith) in rw (h, k) (omega arith)
+]
+
+pub words_most : (one n i : ℕ) → last_words one n i ≤ one
+words_most one n i = elim (cases_Bool (nat_lt i n)) [ inl h ↦ rw h (omega arith) | inr h ↦ rw h (omega arith) ]
+
+pub words_top : (p one n i : ℕ) → 4 * p ≤ one → (0 < p → i + 1 ≡ n) → p + last_words one n i ≤ one
+words_top p one n i small end = let a = words_on p one n i (i + 1) 1 small end (λ h. omega arith) refl in let b = words_most one n (i + 1) in omega arith
+
+pub words_none : (one n i : ℕ) → i < n → last_words one n i ≡ 0
+words_none one n i lt = let h : nat_lt i n ≡ true = lt-ltb i n lt in rw h refl
+
+-- the same of a part within a segment
+pub segment_words : (p one n i j q past : ℕ) → 4 * p ≤ one → (0 < p → i + 1 ≡ n) → (0 < p → 0 < q) → j ≡ i + q → i < past → past ≤ n → p + last_words one n (min i past) ≤ last_words one n (min j past)
+segment_words p one n i j q past small end some e low within =
+    let a : min i past ≡ i = omega arith in
+    rw a (words_on p one n i (min j past) (min j past - i) small end (λ h. let s = some h in let z : 0 < min j past - i = omega arith in z) (let z : min j past ≡ i + (min j past - i) = omega arith in z))
+
+pub segment_top : (p one n i past : ℕ) → 4 * p ≤ one → (0 < p → i + 1 ≡ n) → i < past → p + last_words one n (min i past) ≤ one
+segment_top p one n i past small end low = let a : min i past ≡ i = omega arith in rw a (words_top p one n i small end)
+
+pub segment_further : (one n i j past : ℕ) → i ≤ j → last_words one n (min i past) ≤ last_words one n (min j past)
+segment_further one n i j past le = words_further one n (min i past) (min j past) (omega arith)
+
+-- ---- steps that read nothing
+
+pub silent_most : (n past : ℕ) (g : Gatherer) → silent_left n past g ≤ 3
+silent_most n past g = elim (cases_Bool (nat_lt g.at.block past)) [
+  | inl a ↦ rw a (omega arith)
+  | inr a ↦ elim (cases_Bool (nat_lt g.at.block n)) [
+    | inl b ↦ rw (a, b) (omega arith)
+    | inr b ↦ elim (cases_Bool (is_end g.kind)) [ inl c ↦ rw (a, b, c) (omega arith) | inr c ↦ rw (a, b, c) (omega arith) ]
+  ]
+]
+
+pub paid_on : (within : Cursor → Type 0) (n first past d : ℕ) (g : Gatherer) (r : Run) → SoundGatherer within n first past g → is_end g.kind ≡ false → (g.at.block < past → 0 < d) → (past ≤ g.at.block → r.next.block ≡ n) → (g.at.block ≡ n → is_end r.kind ≡ true)
+    → silent_left n past (gathered_on g r).0 < silent_left n past g + d
+paid_on within n first past d g r h going reads tail ended = elim (cases_Bool (nat_lt g.at.block past)) [
+  | inl a ↦ let some = reads (ltb-true g.at.block past a) in let most = silent_most n past (gathered_on g r).0 in let same : silent_left n past g ≡ 3 = rw a refl in omega arith
+  | inr a ↦ let over = ltb-false g.at.block past a in let less = left_on (λ c. 0) within n first past g r h going (λ low _. absurd (omega arith)) tail ended in omega arith
+]
+
+-- ---- what a part takes in a piece
+
+pub takes_on : (j k : RunKind) (used q size bytes t t' : ℕ) → (0 < used → k ≡ kinds.Raw) → is_end k ≡ false → piece_bytes size used k q + t ≤ t' → bytes + (opens_len j k + data_len k q size) + t ≤ bytes + t' + (if used == 0 then 0 else 16)
+takes_on j kinds.Raw used q size bytes t t' inside going h = elim (cases_Bool (used == 0)) [
+  | inl z ↦ let e : 12 + q * size + t ≤ t' = rw z at h in elim (cases_Bool (alike_kinds j kinds.Raw)) [ inl a ↦ rw (z, a) (omega arith) | inr a ↦ rw (z, a) (omega arith) ]
+  | inr z ↦ let e : 0 + q * size + t ≤ t' = rw z at h in elim (cases_Bool (alike_kinds j kinds.Raw)) [ inl a ↦ rw (z, a) (omega arith) | inr a ↦ rw (z, a) (omega arith) ]
+]
+takes_on j (kinds.Fill w) used q size bytes t t' inside going h = elim (cases_Bool (alike_kinds j (kinds.Fill w))) [ inl a ↦ rw a (omega arith) | inr a ↦ rw a (omega arith) ]
+takes_on j kinds.Skip used q size bytes t t' inside going h = elim (cases_Bool (alike_kinds j kinds.Skip)) [ inl a ↦ rw a (omega arith) | inr a ↦ rw a (omega arith) ]
+takes_on j kinds.End used q size bytes t t' inside going h = absurd cc
+
+pub begin_bytes : (n : ℕ) → (contents_before n).bytes ≤ 40
+begin_bytes zero = omega arith
+begin_bytes (suc n) = omega arith
+
+-- ---- a writer that goes on
+
+pub writer_most : (one n : ℕ) (w : Writer) → writer_words one n w ≤ 2 * one
+unfolding writer_words
+writer_most one n w =
+    let a = words_most one n (min w.gatherer.at.block w.past) in
+    let b = words_most one n (min (passed_to (begins w.gatherer) w.copying) w.past) in
+    omega (arith, a, b)
+
+pub writer_none : (one n : ℕ) (w : Writer) → w.past < n → writer_words one n w ≡ 0
+unfolding writer_words
+writer_none one n w lt =
+    let a = words_none one n (min w.gatherer.at.block w.past) (omega arith) in
+    let b = words_none one n (min (passed_to (begins w.gatherer) w.copying) w.past) (omega arith) in
+    omega (arith, a, b)
+
+-- it has looked on
+pub writer_looks : (one n t t' : ℕ) (w v : Writer) → v.past ≡ w.past → passed_to (begins w.gatherer) w.copying ≤ passed_to (begins v.gatherer) v.copying
+    → t + last_words one n (min w.gatherer.at.block w.past) ≤ t' + last_words one n (min v.gatherer.at.block w.past) → t + writer_words one n w ≤ t' + writer_words one n v
+unfolding writer_words
+writer_looks one n t t' w v e le h =
+    let m = segment_further one n (passed_to (begins w.gatherer) w.copying) (passed_to (begins v.gatherer) v.copying) w.past le in
+    rw e (omega (arith, m, h))
+
+-- it has passed raw blocks
+pub writer_passes : (one n t t' : ℕ) (w v : Writer) → v.past ≡ w.past → v.gatherer ≡ w.gatherer
+    → t + last_words one n (min (passed_to (begins w.gatherer) w.copying) w.past) ≤ t' + last_words one n (min (passed_to (begins w.gatherer) v.copying) w.past) → t + writer_words one n w ≤ t' + writer_words one n v
+unfolding writer_words
+writer_passes one n t t' w v e f h = rw (e, f) (omega (arith, h))
+
+pub writer_copies : (one n : ℕ) (w v : Writer) → v.past ≡ w.past → v.gatherer ≡ w.gatherer → passed_to (begins w.gatherer) w.copying ≤ passed_to (begins w.gatherer) v.copying → writer_words one n w ≤ writer_words one n v
+unfolding writer_words
+writer_copies one n w v e f le =
+    let m = segment_further one n (passed_to (begins w.gatherer) w.copying) (passed_to (begins w.gatherer) v.copying) w.past le in
+    rw (e, f) (omega (arith, m))
+
+pub writer_looked : (one n t t' : ℕ) (w : Writer) → t + last_words one n (min w.gatherer.at.block w.past) ≤ t' + one → t + writer_words one n w ≤ t' + 2 * one
+unfolding writer_words
+writer_looked one n t t' w h = let b = words_most one n (min (passed_to (begins w.gatherer) w.copying) w.past) in omega (arith, b, h)
+
+pub writer_passed : (one n t t' : ℕ) (w : Writer) (c : Copying) → w.copying ≡ Some c → t + last_words one n (min c.next.block w.past) ≤ t' + one → t + writer_words one n w ≤ t' + 2 * one
+unfolding writer_words
+writer_passed one n t t' w c is h =
+    let a = words_most one n (min w.gatherer.at.block w.past) in
+    let p : passed_to (begins w.gatherer) w.copying ≡ c.next.block = ap (λ (o : Option Copying). passed_to (begins w.gatherer) o) is in
+    rw p (omega (arith, a, h))
+
+-- a chunk is begun where the blocks before it have been passed
+starts_passes : (k : RunKind) (here : Cursor) (m u v : ℕ) → (k ≡ kinds.Raw → here.block ≡ u) → u ≤ v → u ≤ passed_to v (starts k here m)
+starts_passes kinds.Raw here m u v same le = let z = same refl in omega arith
+starts_passes (kinds.Fill w) here m u v same le = le
+starts_passes kinds.Skip here m u v same le = le
+starts_passes kinds.End here m u v same le = le
+
+pub begun_passes : (W : Cursor → Type 0) (n b : ℕ) (w : Writer) (g : Gatherer) (r : Run) → w.copying ≡ None → SoundGatherer W n w.first w.past w.gatherer → ClosedRun w.gatherer g r
+    → passed_to (begins w.gatherer) w.copying ≤ passed_to (begins g) (starts r.kind r.here (data_len r.kind r.blocks b))
+begun_passes W n b w g r none sound run =
+    let u = begins w.gatherer in
+    let raw : r.kind ≡ kinds.Raw → r.here.block ≡ u = λ e. let z = sound.raw (sym run.kind ∙ e) run.some in ap (λ (c : Cursor). c.block) run.here ∙ (let y : w.gatherer.from.block ≡ w.gatherer.at.block - w.gatherer.count = omega (arith, z.whole) in y) in
+    rw none (starts_passes r.kind r.here (data_len r.kind r.blocks b) u (begins g) raw (omega (arith, run.start)))
+
+pub chunk_words : {A : Type 0} (W : Cursor → Type 0) (n b one t t' : ℕ) (w : Writer) (g : Gatherer) (r : Run) (res : Result A PieceFault) (v : Writer) → w.copying ≡ None → SoundGatherer W n w.first w.past w.gatherer → ClosedRun w.gatherer g r
+    → t + last_words one n (min w.gatherer.at.block w.past) ≤ t' + last_words one n (min g.at.block w.past) → OnOk res (v ≡ chunk_begun (gathering w g) r b) → OnOk res (t + writer_words one n w ≤ t' + writer_words one n v)
+chunk_words W n b one t t' w g r (Ok x) v none sound run h e = rw e (writer_looks one n t t' w (chunk_begun (gathering w g) r b) refl (begun_passes W n b w g r none sound run) h)
+chunk_words W n b one t t' w g r (Err f) v none sound run h e = tt
+
+pub chunk_paid : {A : Type 0} (b n m : ℕ) (w : Writer) (g : Gatherer) (r : Run) (res : Result A PieceFault) (v : Writer) → silent_left n w.past g < m → OnOk res (v ≡ chunk_begun (gathering w g) r b) → OnOk res (silent_left n w.past v.gatherer < m)
+chunk_paid b n m w g r (Ok x) v h e = rw e h
+chunk_paid b n m w g r (Err f) v h e = tt
+
+pub still_passes : (w : Writer) (g : Gatherer) → w.copying ≡ None → w.gatherer.count ≤ w.gatherer.at.block → g.count ≤ g.at.block → g.at.block + w.gatherer.count ≡ w.gatherer.at.block + g.count → passed_to (begins w.gatherer) w.copying ≤ passed_to (begins g) w.copying
+still_passes w g none old new grows = rw none (let z : begins w.gatherer ≤ begins g = omega arith in z)
+
+pub skip_opens : (j : RunKind) → opens_len j kinds.Skip ≤ 12
+skip_opens j = elim (cases_Bool (alike_kinds j kinds.Skip)) [ inl a ↦ rw a (omega arith) | inr a ↦ rw a (omega arith) ]
+
+-- ---- what a pass reads
+
+pub entry_most : (c : Cursor) → entry c ≤ 16
+entry_most c = elim (cases_Bool (c.used == 0)) [ inl e ↦ rw e (omega arith) | inr e ↦ rw e (omega arith) ]
+
+pub entry_none : (c : Cursor) → c.used ≡ 0 → entry c ≡ 0
+entry_none c e = rw e refl
+
+-- a part that does not come to the end of the segment
+pub gathers_on : (charge : Cursor → ℕ) (past given given' : ℕ) (d at next : Cursor) → at.block < past → next.block < past → next.used ≡ 0 → given' + charge at ≤ given + charge next + entry at
+    → given' + gathered_to charge past d at ≤ given + gathered_to charge past d next
+gathers_on charge past given given' d at next low low' used h =
+    let a = lt-ltb at.block past low in
+    let b = lt-ltb next.block past low' in
+    let e = entry_most at in
+    let z = entry_none next used in
+    rw (a, b) (omega (arith, e, z, h))
+
+-- one that does
+pub gathers_end : (charge : Cursor → ℕ) (past given given' : ℕ) (d at next n : Cursor) → at.block < past → past ≤ n.block → charge next ≤ charge d → given' + charge at ≤ given + charge next + entry at
+    → given' + gathered_to charge past d at ≤ given + gathered_to charge past d n
+gathers_end charge past given given' d at next n low over fits h =
+    let a = lt-ltb at.block past low in
+    let b = not_below n.block past over in
+    let e = entry_most at in
+    rw (a, b) (omega (arith, e, fits, h))
+
+-- one behind it
+pub gathers_none : (charge : Cursor → ℕ) (past given : ℕ) (d at n : Cursor) → past ≤ at.block → past ≤ n.block → given + gathered_to charge past d at ≤ given + gathered_to charge past d n
+gathers_none charge past given d at n over over' =
+    let a = not_below at.block past over in
+    let b = not_below n.block past over' in
+    rw (a, b) (omega arith)
+
+pub chunk_gathers : {A : Type 0} (b x y : ℕ) (f : Cursor → ℕ) (w : Writer) (g : Gatherer) (r : Run) (res : Result A PieceFault) (v : Writer) → x ≤ y + f g.at → OnOk res (v ≡ chunk_begun (gathering w g) r b) → OnOk res (x ≤ y + f v.gatherer.at)
+chunk_gathers b x y f w g r (Ok z) v h e = rw e h
+chunk_gathers b x y f w g r (Err t) v h e = tt

@@ -1,0 +1,130 @@
+-- A cutter from step to step.
+use Rattle.std.proofs.Common.{◌≡◌, ℕ, ◌+◌, ◌-◌, ◌<◌, ◌≤◌, ◌^◌, false, List, ◌++◌, length, take, drop, refl, sym, ap, ◌∙◌, arith, inl, inr, nat_lt, append_assoc, take-append-drop, ◌*◌}
+use Rattle.std.proofs.lemmas.Bool.{cases_Bool, ltb-true, ltb-false}
+use Rattle.abt_sparse.specs.Block.{Block}
+use Rattle.abt_sparse.specs.Chunk.{piece, header_record, plain_header}
+use Rattle.abt_runs.specs.declared.part.Cursor.{Cursor}
+use Rattle.abt_pieces.specs.Plan.{FirstPiece, last_words}
+use Rattle.abt_pieces.specs.Contents.{contents_before}
+use Rattle.abt_pieces.specs.Gather.{frame, first_gatherer, look_left}
+use Rattle.abt_pieces.specs.Outline.{blocks_of, piece_at}
+use Rattle.abt_pieces.specs.Write.{rest_of, frame_of, write_left, writer_words}
+use Rattle.abt_pieces.specs.Cutter.{first_writer, is_begun, so_far, coming, ToldOutline, ToldCutter, TakenPlan, planned_left, silent_cut, plan_words, piece_words}
+use Rattle.abt_pieces.specs.declared.outline.Piece.{Piece}
+use Rattle.abt_pieces.specs.declared.fault.PieceFault.{PieceFault}
+use Rattle.abt_pieces.specs.declared.outline.Outline.{Outline}
+use Rattle.abt_pieces.specs.declared.plan.Planner.{Planner}
+use Rattle.abt_pieces.specs.declared.write.Writer.{Writer}
+use Rattle.abt_pieces.specs.declared.stage.Stage.{Stage}
+use Rattle.abt_pieces.specs.declared.stage.Stage.TheVariants.{Between, Plan, Begin, Write, Done, Failed}
+use Rattle.abt_pieces.proofs.Counts.{words_none, words_most, words_top, writer_none, writer_most, begin_bytes}
+use Rattle.abt_pieces.proofs.Cutting.{piece_is, writer_told, header_first}
+
+-- ---- the header of a planned piece
+
+pub begun_told : (P : Cursor → Type 0) (T : Cursor → ℕ) (b n : ℕ) (l : List Block) (limit made : ℕ) (start : Cursor) (o : Outline) → n ≡ length l → o.piece.first ≡ start.block → ToldCutter P T b l limit made start (Begin o) → ToldCutter P T b l limit made start (Write o (first_writer start o))
+begun_told P T b n l limit made start o same first h = record {
+  place = h.place;
+  cuts = h.cuts;
+  stage = record { outline = h.stage; writer = writer_told P T b n l start o h.place same (sym first) h.stage.exact };
+}
+
+-- what is to come is the header and the chunks
+pub header_comes : (P : Cursor → Type 0) (b n limit : ℕ) (l : List Block) (start : Cursor) (o : Outline) → n ≡ length l → o.piece.first ≡ start.block → ToldOutline P b l limit start.block o → piece_at b limit l start.block ≡ header_record (plain_header b n o.chunks) ++ rest_of (frame_of l (first_writer start o)) (first_writer start o)
+header_comes P b n limit l start o same first h =
+    let one = piece_is b limit l start.block o.piece.past h.greatest in
+    let two : piece b (blocks_of l o.piece) ≡ piece b (frame l start.block o.piece.past) = ap (λ (k : ℕ). piece b (frame l k o.piece.past)) first in
+    sym one ∙ sym two ∙ header_first b n l start o same (sym first) h.exact
+
+-- ---- steps left
+
+pub planned_some : (left : Cursor → ℕ) (c : Cursor) → 2 ≤ planned_left left c
+unfolding planned_left
+planned_some left c = omega arith
+
+looks_first : (left : Cursor → ℕ) (n e : ℕ) (c : Cursor) → look_left left n e (first_gatherer c) ≤ left c + 3
+looks_first left n e c = elim (cases_Bool (nat_lt c.block e)) [
+  | inl h ↦ rw h (omega arith)
+  | inr h ↦ rw h (elim (cases_Bool (nat_lt c.block n)) [ inl k ↦ rw k (omega arith) | inr k ↦ rw k (omega arith) ])
+]
+
+pub first_left : (left : Cursor → ℕ) (n : ℕ) (c : Cursor) (o : Outline) → write_left left n (first_writer c o) < planned_left left c - 1
+unfolding write_left planned_left
+first_left left n c o = let z = looks_first left n o.piece.past c in omega (arith, z)
+
+-- ---- a piece from its first step on
+
+pub none_so_far : (st : Stage) → is_begun st ≡ false → so_far st ≡ 0
+none_so_far Between h = refl
+none_so_far (Plan p) h = absurd cc
+none_so_far (Begin o) h = absurd cc
+none_so_far (Write o w) h = absurd cc
+none_so_far Done h = refl
+none_so_far (Failed f) h = refl
+
+pub is_between : (st : Stage) → is_begun st ≡ false → (st ≡ Done → ⊥) → ((f : PieceFault) → st ≡ Failed f → ⊥) → st ≡ Between
+is_between Between h done failed = refl
+is_between (Plan p) h done failed = absurd cc
+is_between (Begin o) h done failed = absurd cc
+is_between (Write o w) h done failed = absurd cc
+is_between Done h done failed = absurd (done refl)
+is_between (Failed f) h done failed = absurd (failed f refl)
+
+-- what came is all of it
+pub whole_front : (w0 w1 w2 x c : List ℕ) (d : ℕ) → w1 ≡ w0 ++ take d x → c ≡ drop d x → w2 ≡ w1 ++ c → w2 ≡ w0 ++ x
+whole_front w0 w1 w2 x c d front rest all =
+    all ∙ ap (λ (y : List ℕ). y ++ c) front ∙ append_assoc w0 (take d x) c
+    ∙ ap (λ (y : List ℕ). w0 ++ (take d x ++ y)) rest ∙ ap (λ (y : List ℕ). w0 ++ y) (take-append-drop d x)
+
+-- the piece that was to come
+pub piece_came : (b limit : ℕ) (l : List Block) (s : ℕ) (p : Piece) (st : Stage) → st ≡ Between → p.first ≡ s → FirstPiece b l limit p.first p.past → coming b limit l s st ≡ piece b (blocks_of l p)
+piece_came b limit l s p st e first h = rw (e, ← first) (sym (piece_is b limit l p.first p.past h))
+
+-- ---- what the steps of a piece cost
+
+pub plan_covers : (p one n i : ℕ) → 4 * p ≤ one → (0 < p → i + 1 ≡ n) → p + last_words one n i ≤ plan_words one n i
+plan_covers p one n i small end = elim (cases_Bool (nat_lt (i + 1) n)) [
+  | inl a ↦
+      let lt = ltb-true (i + 1) n a in
+      let none : last_words one n i ≡ 0 = words_none one n i (omega (arith, lt)) in
+      elim (cases_Bool (nat_lt 0 p)) [ inl b ↦ absurd (let e = end (ltb-true 0 p b) in omega (arith, e, lt)) | inr b ↦ let z = ltb-false 0 p b in rw a (omega (arith, none, z)) ]
+  | inr a ↦ rw a (words_top p one n i small end)
+]
+
+pub plan_most : (one n e : ℕ) → plan_words one n e ≤ one
+plan_most one n e = elim (cases_Bool (nat_lt (e + 1) n)) [ inl a ↦ rw a (omega arith) | inr a ↦ rw a (omega arith) ]
+
+pub piece_covers : (one n e : ℕ) (w : Writer) → w.past ≡ e → plan_words one n e + writer_words one n w ≤ piece_words one n e
+piece_covers one n e w same = elim (cases_Bool (nat_lt (e + 1) n)) [
+  | inl a ↦ let lt = ltb-true (e + 1) n a in let none = writer_none one n w (omega (arith, same, lt)) in rw a (omega (arith, none))
+  | inr a ↦ elim (cases_Bool (nat_lt e n)) [
+    | inl b ↦ let lt = ltb-true e n b in let none = writer_none one n w (omega (arith, same, lt)) in rw (a, b) (omega (arith, none))
+    | inr b ↦ let most = writer_most one n w in rw (a, b) (omega (arith, most))
+  ]
+]
+
+-- a plan counts them where it ends, and where it has looked one block further
+pub piece_covers_plan : (one n e : ℕ) → last_words one n e + last_words one n (e + 1) ≤ piece_words one n e
+piece_covers_plan one n e = elim (cases_Bool (nat_lt (e + 1) n)) [
+  | inl a ↦ let lt = ltb-true (e + 1) n a in let none = words_none one n e (omega (arith, lt)) in let more = words_none one n (e + 1) lt in rw a (omega (arith, none, more))
+  | inr a ↦ elim (cases_Bool (nat_lt e n)) [
+    | inl b ↦ let lt = ltb-true e n b in let none = words_none one n e lt in let most = words_most one n (e + 1) in rw (a, b) (omega (arith, none, most))
+    | inr b ↦ let one_more = words_most one n (e + 1) in let most = words_most one n e in rw (a, b) (omega (arith, one_more, most))
+  ]
+]
+
+pub silent_unbegun : (n : ℕ) (st : Stage) → is_begun st ≡ false → silent_cut n st ≤ 6
+silent_unbegun n Between h = omega arith
+silent_unbegun n (Plan p) h = absurd cc
+silent_unbegun n (Begin o) h = absurd cc
+silent_unbegun n (Write o w) h = absurd cc
+silent_unbegun n Done h = omega arith
+silent_unbegun n (Failed f) h = omega arith
+
+-- a plan that has passed nothing
+pub plan_begins : (K : Cursor → ℕ) (b limit : ℕ) (start : Cursor) (p : Planner) → p.at ≡ start → p.contents ≡ contents_before start.block → TakenPlan K b limit start p
+plan_begins K b limit start p at contents =
+    let few = begin_bytes start.block in
+    let bytes : p.contents.bytes ≤ 40 = rw contents few in
+    let here : K p.at ≡ K start = ap K at in
+    record { most = omega (arith, bytes, here); inside = λ u other. omega (arith, bytes, here) }

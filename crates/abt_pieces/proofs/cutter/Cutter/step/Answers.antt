@@ -1,0 +1,56 @@
+use Rattle.std.proofs.Common.{arith, sym}
+use Rattle.abt_pieces.proofs.Fronts.{wrote_part}
+use Rattle.abt_pieces.proofs.Stepping.{begun_told, header_comes, first_left}
+use Rattle.abt_pieces.proofs.SpendingStages.{outline_writes, plan_begins_spent, nothing_read, more_of_ok}
+use Rattle.abt_pieces.proofs.cutter.Cutter.step.Goals as goal
+
+pub plan-requires-clause-told : goal.plan-requires-clause-told
+plan-requires-clause-told g c tells =
+    let e = c.begin.ensures in
+    let b = g.met.R.BlockRuns.bounded c.args.self.now.runs c.args.self.now.start c.args.self.now.sound.within in
+    let long = g.met.R.BlockRuns.long c.args.self.now.runs _ (c.requires.opened tells) in
+    record {
+      place = rw e.at (c.requires.told tells).place;
+      planned = e.planned _ _ (omega (arith, b, long));
+    }
+
+pub returns-in-Ok-clause-told : goal.returns-in-Ok-clause-told
+returns-in-Ok-clause-told g c tells =
+    let e = c.begin-in-Begin.ensures in
+    let long = g.met.R.BlockRuns.long c.args.self.now.runs _ (c.requires.opened tells) in
+    let s = rw c.in-Begin.is at c.args.self.now.sound in
+    let h = rw c.in-Begin.is at (c.requires.told tells) in
+    rw (e.rest.0, e.rest.1, e.rest.2, c.in-Ok.ensures.stage) (begun_told _ _ _ (g.R.BlockRuns.count c.args.self.now.runs) _ _ _ c.args.self.now.start c.in-Begin.outline (sym long) s.stage.first h)
+
+pub returns-in-Ok-clause-front : goal.returns-in-Ok-clause-front
+returns-in-Ok-clause-front g c tells =
+    let long = g.met.R.BlockRuns.long c.args.self.now.runs _ (c.requires.opened tells) in
+    let s = rw c.in-Begin.is at c.args.self.now.sound in
+    let h = rw c.in-Begin.is at (c.requires.told tells) in
+    rw c.in-Begin.is (wrote_part _ _ _ _ _ c.begin-in-Begin.ensures.front (header_comes _ _ (g.R.BlockRuns.count c.args.self.now.runs) _ _ c.args.self.now.start c.in-Begin.outline (sym long) s.stage.first h.stage))
+
+pub returns-in-Ok-clause-left : goal.returns-in-Ok-clause-left
+returns-in-Ok-clause-left g c = rw (c.in-Ok.ensures.stage, c.in-Begin.is) (first_left (g.R.BlockRuns.left c.args.self.now.runs) (g.R.BlockRuns.count c.args.self.now.runs) c.args.self.now.start c.in-Begin.outline)
+
+pub returns-in-Err-clause-front : goal.returns-in-Err-clause-front
+returns-in-Err-clause-front g c tells =
+    let long = g.met.R.BlockRuns.long c.args.self.now.runs _ (c.requires.opened tells) in
+    let s = rw c.in-Begin.is at c.args.self.now.sound in
+    let h = rw c.in-Begin.is at (c.requires.told tells) in
+    rw c.in-Begin.is (wrote_part _ _ _ _ _ c.begin-in-Begin.ensures.front (header_comes _ _ (g.R.BlockRuns.count c.args.self.now.runs) _ _ c.args.self.now.start c.in-Begin.outline (sym long) s.stage.first h.stage))
+
+pub returns-in-Ok-clause-spends : goal.returns-in-Ok-clause-spends
+returns-in-Ok-clause-spends g c tells t spent =
+    let s = rw c.in-Begin.is at c.args.self.now.sound in
+    let h = rw c.in-Begin.is at spent in
+    rw (c.in-Ok.ensures.stage) (nothing_read _ _ _ _ _ _ t _ c.in-Begin.outline _ (outline_writes _ _ _ _ _ _ c.args.self.now.start t c.in-Begin.outline s.stage.first h))
+
+pub returns-in-Between-clause-spends : goal.returns-in-Between-clause-spends
+returns-in-Between-clause-spends g c tells t spent =
+    let h = rw c.in-Between.is at spent in
+    more_of_ok c.plan.result _ (c.plan.ensures.spends t (plan_begins_spent _ _ _ _ c.args.self.now.start t c.begin.result c.begin.ensures.at h))
+
+pub returns-in-Plan-clause-spends : goal.returns-in-Plan-clause-spends
+returns-in-Plan-clause-spends g c tells t spent =
+    let h = rw c.in-Plan.is at spent in
+    more_of_ok c.plan-in-Plan.result _ (c.plan-in-Plan.ensures.spends t h)

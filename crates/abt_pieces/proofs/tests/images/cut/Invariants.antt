@@ -1,0 +1,11 @@
+use Rattle.std.proofs.Common.{◌≡◌, false}
+use Rattle.abt_pieces.specs.Cutter.{is_begun}
+use Rattle.abt_pieces.proofs.tests.images.cut.Given as goal
+
+abbrev pub invariant-loop : goal.invariant-loop
+invariant-loop g l =
+    let runs = l.initial.cutter.runs in
+    record {
+      same : l.cutter.runs ≡ runs;
+      unbegun : is_begun l.cutter.stage ≡ false;
+    }

@@ -1,0 +1,316 @@
+//! One step of cutting: a part of a plan, the header of a piece, or a part of its chunks.
+ghost use Rattle.std.specs.Prelude.{◌≡◌, ◌<◌, ◌≤◌, ◌+◌, ◌-◌, ◌*◌, ◌^◌, ◌++◌, ℕ, List, IsTrue, IfOk, IfErr, OnOk, OnErr, Ok, Err, length, take, drop, max, true, false, ◌⊎◌};
+ghost use Rattle.abt_sparse.specs.Block.{Block, AreBlocks};
+ghost use Rattle.abt_sparse.specs.Chunk.{header_record, plain_header};
+ghost use Rattle.abt_pieces.specs.Fault.{HasCause};
+ghost use Rattle.abt_pieces.specs.Plan.{Planned, Even, FirstPiece, last_words};
+ghost use Rattle.abt_pieces.specs.Outline.{IsPiece, IsOutline, piece_at};
+ghost use Rattle.abt_pieces.specs.Cutter.{SoundPlanner, SoundOutline, SoundWriting, SoundStage, SoundCutter, TakenPlan, TakenStage, silent_cut, cut_words, piece_words, ToldPlanner, ToldWriting, ToldStage, ToldCutter, is_more, OnMore, OnEnd, OnPiece, coming, is_begun, so_far, first_writer, planned_left, cut_left};
+ghost use Rattle.abt_pieces.specs.SpentStage.{SpentPlan, SpentStage, SpentPiece};
+ghost use Rattle.abt_pieces.specs.declared.stage.Stage.{Stage};
+ghost use Rattle.abt_pieces.specs.declared.stage.PieceProgress.{PieceProgress};
+
+use crate::PieceFault;
+use crate::chunk::write_header;
+use crate::cutter::Cutter;
+use crate::fault::run_fault;
+use crate::outline::{Outline, Piece, outlined};
+use crate::plan::Planner;
+use crate::stage::{PieceProgress, Stage};
+use crate::write::Writer;
+use abt_io::{Meter, Output, Source, Window};
+use abt_runs::{BlockRuns, Cursor};
+
+impl<R: BlockRuns + Drop> Cutter<R> {
+    /// The piece of a plan that goes no further. A source that has changed since it was opened may
+    /// have ended before the image does.
+    pub(crate) fn planned(&self, planner: &Planner) -> Result<Outline, PieceFault>
+        requires even { Even planner.now }
+        requires room { planner.now.weight ≤ self.now.limit }
+        requires at { R.within self.now.runs planner.now.at }
+        ensures sound { IfOk result (λ o. SoundOutline (R.within self.now.runs) (R.count self.now.runs) self.now.limit planner.now.first o) }
+        ensures exact { IfOk result (λ o. (l : List Block) → length l ≡ R.count self.now.runs → AreBlocks (R.size self.now.runs) l → Planned (R.size self.now.runs) l planner.now → IsOutline (R.size self.now.runs) l o) }
+        ensures longer { IfOk result (λ o. o.piece.bytes ≤ planner.now.contents.bytes + 12) }
+        ensures next { IfOk result (λ o. (o.next ≡ planner.now.at) × (o.piece.past ≡ planner.now.at.block)) }
+        ensures refused { IfErr result (λ e. (e ≡ PieceFault.SourceChanged) × (planner.now.first ≡ planner.now.at.block) × (planner.now.at.block < R.count self.now.runs)) }
+    {
+        let _limit = self.limit;
+        let count = self.runs.blocks();
+        let size = self.runs.block_size();
+        within_count(&self.runs, planner.at);
+        let outline = outlined(planner, count, size);
+        if outline.piece.first == outline.piece.past && outline.piece.past < count {
+            return Err(PieceFault::SourceChanged);
+        }
+        Ok(outline)
+    }
+
+    /// Goes behind a piece that is whole.
+    pub(crate) fn pass(&mut self, outline: Outline) -> Piece
+        requires few { self.old.made ≤ self.old.start.block }
+        requires outline { SoundOutline (R.within self.old.runs) (R.count self.old.runs) self.old.limit self.old.start.block outline }
+        ensures runs { self.new.runs ≡ self.old.runs }
+        ensures limit { self.new.limit ≡ self.old.limit }
+        ensures piece { result ≡ outline.piece }
+        ensures start { self.new.start ≡ outline.next }
+        ensures made { self.new.made ≡ self.old.made + 1 }
+        ensures done { outline.piece.past ≡ R.count self.old.runs → self.new.stage ≡ Stage.Done }
+        ensures between { outline.piece.past < R.count self.old.runs → self.new.stage ≡ Stage.Between }
+    {
+        let count = self.runs.blocks();
+        self.start = outline.next;
+        self.made += 1;
+        self.stage = if outline.piece.past == count {
+            Stage::Done
+        } else {
+            Stage::Between
+        };
+        outline.piece
+    }
+
+    /// The fault, which is answered from now on.
+    pub(crate) fn fail(&mut self, fault: PieceFault) -> PieceFault
+        requires few { self.old.made ≤ self.old.start.block }
+        ensures fault { result ≡ fault }
+        ensures stage { self.new.stage ≡ Stage.Failed fault }
+        ensures rest { (self.new.runs ≡ self.old.runs) × (self.new.limit ≡ self.old.limit) × (self.new.start ≡ self.old.start) × (self.new.made ≡ self.old.made) }
+    {
+        self.stage = Stage::Failed(fault);
+        fault
+    }
+
+    /// Plans one part more of the next piece. One step.
+    fn plan<S: Source>(
+        &mut self,
+        from: Planner,
+        source: &mut S,
+        w: &mut Window,
+        m: &mut Meter,
+    ) -> Result<PieceProgress, PieceFault>
+        requires few { self.old.made ≤ self.old.start.block }
+        requires sound { SoundPlanner (R.within self.old.runs) self.old.limit self.old.start.block from }
+        requires taken { TakenPlan (R.taken self.old.runs) (R.size self.old.runs) self.old.limit self.old.start from }
+        requires opened { IsTrue S.tells → R.opened self.old.runs (S.content source.old) }
+        requires told { IsTrue S.tells → ToldPlanner (R.place self.old.runs (S.content source.old)) (R.size self.old.runs) (R.list self.old.runs (S.content source.old)) from }
+        ensures runs { self.new.runs ≡ self.old.runs }
+        ensures rest { (self.new.limit ≡ self.old.limit) × (self.new.start ≡ self.old.start) × (self.new.made ≡ self.old.made) }
+        ensures content { IsTrue S.tells → S.content source.new ≡ S.content source.old }
+        ensures frame { S.read_frame source.new ≡ S.read_frame source.old }
+        ensures more { IfOk result (λ r. r ≡ PieceProgress.More) }
+        ensures begun { OnOk result ((is_begun self.new.stage ≡ true) × (so_far self.new.stage ≡ 0)) }
+        ensures sound { OnOk result (SoundStage (R.within self.old.runs) (R.reach self.old.runs) (R.count self.old.runs) (R.size self.old.runs) self.old.limit self.old.start.block self.new.stage) }
+        ensures told { IsTrue S.tells → OnOk result (ToldStage (R.place self.old.runs (S.content source.old)) (R.together self.old.runs (S.content source.old)) (R.size self.old.runs) (R.list self.old.runs (S.content source.old)) self.old.limit self.old.start.block self.new.stage) }
+        ensures coming { IsTrue S.tells → OnOk result (coming (R.size self.old.runs) self.old.limit (R.list self.old.runs (S.content source.old)) self.old.start.block self.new.stage ≡ piece_at (R.size self.old.runs) self.old.limit (R.list self.old.runs (S.content source.old)) self.old.start.block) }
+        ensures left { OnOk result (cut_left (R.left self.old.runs) (R.count self.old.runs) self.old.start self.new.stage < planned_left (R.left self.old.runs) self.old.start + R.left self.old.runs from.at) }
+        ensures refused { IfErr result (λ e. self.new.stage ≡ Stage.Failed e) }
+        ensures given { S.given source.old ≤ S.given source.new }
+        ensures received { S.given source.new ≤ S.given source.old + 65536 }
+        ensures steps { m.new.steps.number ≡ m.old.steps.number + 1 }
+        ensures greatest { m.new.greatest.number ≡ max m.old.greatest.number (S.given source.new - S.given source.old) }
+        ensures taken { OnOk result (TakenStage (R.taken self.old.runs) (R.size self.old.runs) self.old.limit self.old.start self.new.stage) }
+        ensures paid { OnOk result (silent_cut (R.count self.old.runs) self.new.stage < 6 + (S.given source.new - S.given source.old)) }
+        ensures spends { (t : ℕ) → SpentPlan (R.charge self.old.runs) (R.copied self.old.runs) (R.size self.old.runs) self.old.limit self.old.start t from → OnOk result (SpentStage (λ c. R.within self.old.runs c × R.place self.old.runs (S.content source.old) c) (R.charge self.old.runs) (R.copied self.old.runs) (R.held self.old.runs) (R.size self.old.runs) self.old.limit (R.count self.old.runs) (R.one self.old.runs) self.old.start (t + (S.given source.new - S.given source.old)) self.new.stage) }
+        ensures calls { S.reads source.new ≤ S.reads source.old + (S.given source.new - S.given source.old) + 2 }
+        ensures turns { m.new.turns.number + last_words (R.one self.old.runs) (R.count self.old.runs) from.at.block ≤ m.old.turns.number + 2 * (S.given source.new - S.given source.old) + 3 + 3 * R.one self.old.runs }
+        ensures words { OnOk result (m.new.turns.number + last_words (R.one self.old.runs) (R.count self.old.runs) from.at.block ≤ m.old.turns.number + 2 * (S.given source.new - S.given source.old) + 3 + cut_words (R.one self.old.runs) (R.count self.old.runs) self.old.start self.new.stage) }
+        ensures faults { S.read_faults source.old ≤ S.read_faults source.new }
+        ensures cause { IfErr result (λ e. HasCause e S.tells (S.read_faults source.old) (S.read_faults source.new) 0 0) }
+    {
+        let mut planner = from;
+        let limit = self.limit;
+        match planner.step(&mut self.runs, source, limit, w, m) {
+            Ok(false) => {
+                self.stage = Stage::Plan(planner);
+                Ok(PieceProgress::More)
+            }
+            Ok(true) => match self.planned(&planner) {
+                Ok(outline) => {
+                    self.stage = Stage::Begin(outline);
+                    Ok(PieceProgress::More)
+                }
+                Err(fault) => Err(self.fail(fault)),
+            },
+            Err(fault) => Err(self.fail(run_fault(fault))),
+        }
+    }
+
+    /// Writes the header of a planned piece. One step.
+    fn begin<O: Output>(
+        &mut self,
+        outline: Outline,
+        output: &mut O,
+        m: &mut Meter,
+    ) -> Result<(), PieceFault>
+        requires at { self.old.stage ≡ Stage.Begin outline }
+        ensures runs { self.new.runs ≡ self.old.runs }
+        ensures rest { (self.new.limit ≡ self.old.limit) × (self.new.start ≡ self.old.start) × (self.new.made ≡ self.old.made) }
+        ensures small { self.old.limit < 2 ^ 32 }
+        ensures write_frame { O.write_frame output.new ≡ O.write_frame output.old }
+        ensures stage { OnOk result (self.new.stage ≡ Stage.Write outline (first_writer self.old.start outline)) }
+        ensures grown { length (O.written output.old) ≤ length (O.written output.new) }
+        ensures within { length (O.written output.new) ≤ length (O.written output.old) + 28 }
+        ensures whole { OnOk result (length (O.written output.new) ≡ length (O.written output.old) + 28) }
+        ensures front { O.written output.new ≡ O.written output.old ++ take (length (O.written output.new) - length (O.written output.old)) (header_record (plain_header (R.size self.old.runs) (R.count self.old.runs) outline.chunks)) }
+        ensures refused { IfErr result (λ e. self.new.stage ≡ Stage.Failed e) }
+        ensures steps { m.new.steps.number ≡ m.old.steps.number + 1 }
+        ensures greatest { m.new.greatest.number ≡ m.old.greatest.number }
+        ensures write_calls { O.writes output.new + length (O.written output.old) ≤ O.writes output.old + length (O.written output.new) + 1 }
+        ensures turns { m.new.turns.number + length (O.written output.old) ≤ m.old.turns.number + length (O.written output.new) + 1 }
+        ensures write_faults { O.write_faults output.old ≤ O.write_faults output.new }
+        ensures cause { IfErr result (λ e. HasCause e true 0 0 (O.write_faults output.old) (O.write_faults output.new)) }
+    {
+        let _limit = self.limit;
+        let start = self.start;
+        let count = self.runs.blocks();
+        let size = self.runs.block_size();
+        let written = write_header(output, size, count, outline.chunks, m);
+        m.close_step(0);
+        match written {
+            Ok(()) => {
+                self.stage = Stage::Write(outline, Writer::begin(start, &outline));
+                Ok(())
+            }
+            Err(fault) => Err(self.fail(PieceFault::Write(fault))),
+        }
+    }
+
+    /// Writes one part more of a piece, or goes behind it where it is whole. One step.
+    fn write<S: Source, O: Output>(
+        &mut self,
+        outline: Outline,
+        from: Writer,
+        source: &mut S,
+        output: &mut O,
+        w: &mut Window,
+        m: &mut Meter,
+    ) -> Result<PieceProgress, PieceFault>
+        requires at { self.old.stage ≡ Stage.Write outline from }
+        requires opened { IsTrue S.tells → R.opened self.old.runs (S.content source.old) }
+        requires told { IsTrue S.tells → ToldCutter (R.place self.old.runs (S.content source.old)) (R.together self.old.runs (S.content source.old)) (R.size self.old.runs) (R.list self.old.runs (S.content source.old)) self.old.limit self.old.made self.old.start self.old.stage }
+        ensures runs { self.new.runs ≡ self.old.runs }
+        ensures limit { self.new.limit ≡ self.old.limit }
+        ensures content { IsTrue S.tells → S.content source.new ≡ S.content source.old }
+        ensures frame { S.read_frame source.new ≡ S.read_frame source.old }
+        ensures write_frame { O.write_frame output.new ≡ O.write_frame output.old }
+        ensures told { IsTrue S.tells → ToldCutter (R.place self.old.runs (S.content source.old)) (R.together self.old.runs (S.content source.old)) (R.size self.old.runs) (R.list self.old.runs (S.content source.old)) self.new.limit self.new.made self.new.start self.new.stage }
+        ensures begun { is_begun self.new.stage ≡ is_more result }
+        ensures more { OnMore result ((self.new.start ≡ self.old.start) × (self.new.made ≡ self.old.made)) }
+        ensures grown { length (O.written output.old) ≤ length (O.written output.new) }
+        ensures within { so_far self.old.stage + (length (O.written output.new) - length (O.written output.old)) ≤ self.old.limit }
+        ensures counted { OnMore result (so_far self.new.stage ≡ so_far self.old.stage + (length (O.written output.new) - length (O.written output.old))) }
+        ensures few { length (O.written output.new) ≤ length (O.written output.old) + (S.given source.new - S.given source.old) + 80 }
+        ensures front { IsTrue S.tells → O.written output.new ≡ O.written output.old ++ take (length (O.written output.new) - length (O.written output.old)) (coming (R.size self.old.runs) self.old.limit (R.list self.old.runs (S.content source.old)) self.old.start.block self.old.stage) }
+        ensures rest { IsTrue S.tells → OnMore result (coming (R.size self.old.runs) self.old.limit (R.list self.old.runs (S.content source.old)) self.old.start.block self.new.stage ≡ drop (length (O.written output.new) - length (O.written output.old)) (coming (R.size self.old.runs) self.old.limit (R.list self.old.runs (S.content source.old)) self.old.start.block self.old.stage)) }
+        ensures whole { IsTrue S.tells → OnPiece result (λ p. O.written output.new ≡ O.written output.old ++ coming (R.size self.old.runs) self.old.limit (R.list self.old.runs (S.content source.old)) self.old.start.block self.old.stage) }
+        ensures piece { OnPiece result (λ p. (p.first ≡ self.old.start.block) × (p.past ≡ self.new.start.block) × (p.bytes ≤ self.old.limit) × (p.bytes ≡ so_far self.old.stage + (length (O.written output.new) - length (O.written output.old))) × (self.new.made ≡ self.old.made + 1)) }
+        ensures exact { IsTrue S.tells → OnPiece result (λ p. IsPiece (R.size self.old.runs) (R.list self.old.runs (S.content source.old)) p × FirstPiece (R.size self.old.runs) (R.list self.old.runs (S.content source.old)) self.old.limit p.first p.past) }
+        ensures left { OnMore result (cut_left (R.left self.old.runs) (R.count self.old.runs) self.old.start self.new.stage < cut_left (R.left self.old.runs) (R.count self.old.runs) self.old.start self.old.stage) }
+        ensures refused { IfErr result (λ e. self.new.stage ≡ Stage.Failed e) }
+        ensures given { S.given source.old ≤ S.given source.new }
+        ensures received { S.given source.new ≤ S.given source.old + 65536 }
+        ensures steps { m.new.steps.number ≡ m.old.steps.number + 1 }
+        ensures greatest { m.new.greatest.number ≡ max m.old.greatest.number (S.given source.new - S.given source.old) }
+        ensures takes { OnPiece result (λ p. p.bytes + R.taken self.old.runs self.old.start ≤ R.taken self.old.runs self.new.start + 80) }
+        ensures paid { OnMore result (silent_cut (R.count self.old.runs) self.new.stage < silent_cut (R.count self.old.runs) self.old.stage + (S.given source.new - S.given source.old) + (length (O.written output.new) - length (O.written output.old))) }
+        ensures spends { IsTrue S.tells → (t : ℕ) → SpentStage (λ c. R.within self.old.runs c × R.place self.old.runs (S.content source.old) c) (R.charge self.old.runs) (R.copied self.old.runs) (R.held self.old.runs) (R.size self.old.runs) self.old.limit (R.count self.old.runs) (R.one self.old.runs) self.old.start t self.old.stage → OnMore result (SpentStage (λ c. R.within self.old.runs c × R.place self.old.runs (S.content source.old) c) (R.charge self.old.runs) (R.copied self.old.runs) (R.held self.old.runs) (R.size self.old.runs) self.old.limit (R.count self.old.runs) (R.one self.old.runs) self.old.start (t + (S.given source.new - S.given source.old)) self.new.stage) }
+        ensures spent { IsTrue S.tells → (t : ℕ) → SpentStage (λ c. R.within self.old.runs c × R.place self.old.runs (S.content source.old) c) (R.charge self.old.runs) (R.copied self.old.runs) (R.held self.old.runs) (R.size self.old.runs) self.old.limit (R.count self.old.runs) (R.one self.old.runs) self.old.start t self.old.stage → OnPiece result (λ p. SpentPiece (R.charge self.old.runs) (R.copied self.old.runs) (R.count self.old.runs) (R.one self.old.runs) p.past self.new.start (t + (S.given source.new - S.given source.old))) }
+        ensures calls { S.reads source.new ≤ S.reads source.old + (S.given source.new - S.given source.old) + 2 }
+        ensures write_calls { O.writes output.new + length (O.written output.old) ≤ O.writes output.old + length (O.written output.new) + 1 }
+        ensures turns { m.new.turns.number + cut_words (R.one self.old.runs) (R.count self.old.runs) self.old.start self.old.stage ≤ m.old.turns.number + 2 * (S.given source.new - S.given source.old) + (length (O.written output.new) - length (O.written output.old)) + 3 + 3 * R.one self.old.runs }
+        ensures words { OnMore result (m.new.turns.number + cut_words (R.one self.old.runs) (R.count self.old.runs) self.old.start self.old.stage ≤ m.old.turns.number + 2 * (S.given source.new - S.given source.old) + (length (O.written output.new) - length (O.written output.old)) + 3 + cut_words (R.one self.old.runs) (R.count self.old.runs) self.new.start self.new.stage) }
+        ensures piece_words { OnPiece result (λ p. m.new.turns.number + cut_words (R.one self.old.runs) (R.count self.old.runs) self.old.start self.old.stage ≤ m.old.turns.number + 2 * (S.given source.new - S.given source.old) + (length (O.written output.new) - length (O.written output.old)) + 3 + piece_words (R.one self.old.runs) (R.count self.old.runs) p.past) }
+        ensures faults { S.read_faults source.old ≤ S.read_faults source.new }
+        ensures write_faults { O.write_faults output.old ≤ O.write_faults output.new }
+        ensures unended { OnEnd result ⊥ }
+        ensures cause { IfErr result (λ e. (self.old.stage ≡ Stage.Failed e) ⊎ HasCause e S.tells (S.read_faults source.old) (S.read_faults source.new) (O.write_faults output.old) (O.write_faults output.new)) }
+    {
+        let mut writer = from;
+        match writer.step(&mut self.runs, source, output, w, m) {
+            Ok(false) => {
+                self.stage = Stage::Write(outline, writer);
+                Ok(PieceProgress::More)
+            }
+            Ok(true) => Ok(PieceProgress::Piece(self.pass(outline))),
+            Err(fault) => Err(self.fail(fault)),
+        }
+    }
+
+    /// One step of cutting: it plans a part more of the next piece, or writes its header, or writes
+    /// a part more of its chunks. It holds nothing over: it writes at most 80 bytes more than it
+    /// received from the source. A piece is answered when it is whole, and `End` behind the last;
+    /// then that is answered again, and no device called. It refuses as `next_piece` does, and then
+    /// answers the same fault again and calls no device.
+    pub fn step<S: Source, O: Output>(
+        &mut self,
+        source: &mut S,
+        output: &mut O,
+        w: &mut Window,
+        m: &mut Meter,
+    ) -> Result<PieceProgress, PieceFault>
+        requires opened { IsTrue S.tells → R.opened self.old.runs (S.content source.old) }
+        requires told { IsTrue S.tells → ToldCutter (R.place self.old.runs (S.content source.old)) (R.together self.old.runs (S.content source.old)) (R.size self.old.runs) (R.list self.old.runs (S.content source.old)) self.old.limit self.old.made self.old.start self.old.stage }
+        ensures runs { self.new.runs ≡ self.old.runs }
+        ensures limit { self.new.limit ≡ self.old.limit }
+        ensures content { IsTrue S.tells → S.content source.new ≡ S.content source.old }
+        ensures frame { S.read_frame source.new ≡ S.read_frame source.old }
+        ensures write_frame { O.write_frame output.new ≡ O.write_frame output.old }
+        ensures told { IsTrue S.tells → ToldCutter (R.place self.old.runs (S.content source.old)) (R.together self.old.runs (S.content source.old)) (R.size self.old.runs) (R.list self.old.runs (S.content source.old)) self.new.limit self.new.made self.new.start self.new.stage }
+        ensures begun { is_begun self.new.stage ≡ is_more result }
+        ensures more { OnMore result ((self.new.start ≡ self.old.start) × (self.new.made ≡ self.old.made)) }
+        ensures grown { length (O.written output.old) ≤ length (O.written output.new) }
+        ensures within { so_far self.old.stage + (length (O.written output.new) - length (O.written output.old)) ≤ self.old.limit }
+        ensures counted { OnMore result (so_far self.new.stage ≡ so_far self.old.stage + (length (O.written output.new) - length (O.written output.old))) }
+        ensures few { length (O.written output.new) ≤ length (O.written output.old) + (S.given source.new - S.given source.old) + 80 }
+        ensures front { IsTrue S.tells → O.written output.new ≡ O.written output.old ++ take (length (O.written output.new) - length (O.written output.old)) (coming (R.size self.old.runs) self.old.limit (R.list self.old.runs (S.content source.old)) self.old.start.block self.old.stage) }
+        ensures rest { IsTrue S.tells → OnMore result (coming (R.size self.old.runs) self.old.limit (R.list self.old.runs (S.content source.old)) self.old.start.block self.new.stage ≡ drop (length (O.written output.new) - length (O.written output.old)) (coming (R.size self.old.runs) self.old.limit (R.list self.old.runs (S.content source.old)) self.old.start.block self.old.stage)) }
+        ensures whole { IsTrue S.tells → OnPiece result (λ p. O.written output.new ≡ O.written output.old ++ coming (R.size self.old.runs) self.old.limit (R.list self.old.runs (S.content source.old)) self.old.start.block self.old.stage) }
+        ensures piece { OnPiece result (λ p. (p.first ≡ self.old.start.block) × (p.past ≡ self.new.start.block) × (p.bytes ≤ self.old.limit) × (p.bytes ≡ so_far self.old.stage + (length (O.written output.new) - length (O.written output.old))) × (self.new.made ≡ self.old.made + 1)) }
+        ensures exact { IsTrue S.tells → OnPiece result (λ p. IsPiece (R.size self.old.runs) (R.list self.old.runs (S.content source.old)) p × FirstPiece (R.size self.old.runs) (R.list self.old.runs (S.content source.old)) self.old.limit p.first p.past) }
+        ensures left { OnMore result (cut_left (R.left self.old.runs) (R.count self.old.runs) self.old.start self.new.stage < cut_left (R.left self.old.runs) (R.count self.old.runs) self.old.start self.old.stage) }
+        ensures refused { IfErr result (λ e. self.new.stage ≡ Stage.Failed e) }
+        ensures given { S.given source.old ≤ S.given source.new }
+        ensures received { S.given source.new ≤ S.given source.old + 65536 }
+        ensures steps { m.new.steps.number ≡ m.old.steps.number + 1 }
+        ensures greatest { m.new.greatest.number ≡ max m.old.greatest.number (S.given source.new - S.given source.old) }
+        ensures takes { OnPiece result (λ p. p.bytes + R.taken self.old.runs self.old.start ≤ R.taken self.old.runs self.new.start + 80) }
+        ensures paid { OnMore result (silent_cut (R.count self.old.runs) self.new.stage < silent_cut (R.count self.old.runs) self.old.stage + (S.given source.new - S.given source.old) + (length (O.written output.new) - length (O.written output.old))) }
+        ensures spends { IsTrue S.tells → (t : ℕ) → SpentStage (λ c. R.within self.old.runs c × R.place self.old.runs (S.content source.old) c) (R.charge self.old.runs) (R.copied self.old.runs) (R.held self.old.runs) (R.size self.old.runs) self.old.limit (R.count self.old.runs) (R.one self.old.runs) self.old.start t self.old.stage → OnMore result (SpentStage (λ c. R.within self.old.runs c × R.place self.old.runs (S.content source.old) c) (R.charge self.old.runs) (R.copied self.old.runs) (R.held self.old.runs) (R.size self.old.runs) self.old.limit (R.count self.old.runs) (R.one self.old.runs) self.old.start (t + (S.given source.new - S.given source.old)) self.new.stage) }
+        ensures spent { IsTrue S.tells → (t : ℕ) → SpentStage (λ c. R.within self.old.runs c × R.place self.old.runs (S.content source.old) c) (R.charge self.old.runs) (R.copied self.old.runs) (R.held self.old.runs) (R.size self.old.runs) self.old.limit (R.count self.old.runs) (R.one self.old.runs) self.old.start t self.old.stage → OnPiece result (λ p. SpentPiece (R.charge self.old.runs) (R.copied self.old.runs) (R.count self.old.runs) (R.one self.old.runs) p.past self.new.start (t + (S.given source.new - S.given source.old))) }
+        ensures calls { S.reads source.new ≤ S.reads source.old + (S.given source.new - S.given source.old) + 2 }
+        ensures write_calls { O.writes output.new + length (O.written output.old) ≤ O.writes output.old + length (O.written output.new) + 1 }
+        ensures turns { m.new.turns.number + cut_words (R.one self.old.runs) (R.count self.old.runs) self.old.start self.old.stage ≤ m.old.turns.number + 2 * (S.given source.new - S.given source.old) + (length (O.written output.new) - length (O.written output.old)) + 3 + 3 * R.one self.old.runs }
+        ensures words { OnMore result (m.new.turns.number + cut_words (R.one self.old.runs) (R.count self.old.runs) self.old.start self.old.stage ≤ m.old.turns.number + 2 * (S.given source.new - S.given source.old) + (length (O.written output.new) - length (O.written output.old)) + 3 + cut_words (R.one self.old.runs) (R.count self.old.runs) self.new.start self.new.stage) }
+        ensures piece_words { OnPiece result (λ p. m.new.turns.number + cut_words (R.one self.old.runs) (R.count self.old.runs) self.old.start self.old.stage ≤ m.old.turns.number + 2 * (S.given source.new - S.given source.old) + (length (O.written output.new) - length (O.written output.old)) + 3 + piece_words (R.one self.old.runs) (R.count self.old.runs) p.past) }
+        ensures faults { S.read_faults source.old ≤ S.read_faults source.new }
+        ensures write_faults { O.write_faults output.old ≤ O.write_faults output.new }
+        ensures cause { IfErr result (λ e. (self.old.stage ≡ Stage.Failed e) ⊎ HasCause e S.tells (S.read_faults source.old) (S.read_faults source.new) (O.write_faults output.old) (O.write_faults output.new)) }
+        ensures end { OnEnd result ((self.old.stage ≡ Stage.Done) × (output.new ≡ output.old) × (source.new ≡ source.old) × (self.new ≡ self.old)) }
+        ensures after_last { self.old.stage ≡ Stage.Done → result ≡ Ok PieceProgress.End }
+        ensures again { (f : PieceFault) → self.old.stage ≡ Stage.Failed f → (result ≡ Err f) × (output.new ≡ output.old) × (source.new ≡ source.old) × (self.new ≡ self.old) }
+    {
+        match self.stage {
+            Stage::Between => self.plan(Planner::begin(self.start), source, w, m),
+            Stage::Plan(planner) => self.plan(planner, source, w, m),
+            Stage::Begin(outline) => match self.begin(outline, output, m) {
+                Ok(()) => Ok(PieceProgress::More),
+                Err(fault) => Err(fault),
+            },
+            Stage::Write(outline, writer) => self.write(outline, writer, source, output, w, m),
+            Stage::Done => {
+                m.close_step(0);
+                Ok(PieceProgress::End)
+            }
+            Stage::Failed(fault) => {
+                m.close_step(0);
+                Err(fault)
+            }
+        }
+    }
+}
+
+/// A place is before one of the blocks, or behind the last.
+#[inline(always)]
+fn within_count<R: BlockRuns>(_runs: &R, _at: Cursor)
+    requires { R.within _runs.now _at }
+    ensures { _at.block ≤ R.count _runs.now }
+{}

@@ -1,0 +1,130 @@
+//! Sparse images, byte for byte. Their blocks have 4 bytes, except where a name says otherwise.
+
+/// Raw `ABCD`, fill 04030201 (1), don't care (1).
+#[rattlefmt::skip]
+pub const THREE_KINDS: [u8; 72] = [
+    0x3a, 0xff, 0x26, 0xed, 1, 0, 0, 0, 28, 0, 12, 0, 4, 0, 0, 0, 3, 0, 0, 0, 3, 0, 0, 0, 0, 0, 0, 0,
+    0xc1, 0xca, 0, 0, 1, 0, 0, 0, 16, 0, 0, 0, b'A', b'B', b'C', b'D',
+    0xc2, 0xca, 0, 0, 1, 0, 0, 0, 16, 0, 0, 0, 4, 3, 2, 1,
+    0xc3, 0xca, 0, 0, 1, 0, 0, 0, 12, 0, 0, 0,
+];
+
+/// Raw `ABCD`, fill 04030201 (1), raw `WXYZ`.
+#[rattlefmt::skip]
+pub const NO_GAP: [u8; 76] = [
+    0x3a, 0xff, 0x26, 0xed, 1, 0, 0, 0, 28, 0, 12, 0, 4, 0, 0, 0, 3, 0, 0, 0, 3, 0, 0, 0, 0, 0, 0, 0,
+    0xc1, 0xca, 0, 0, 1, 0, 0, 0, 16, 0, 0, 0, b'A', b'B', b'C', b'D',
+    0xc2, 0xca, 0, 0, 1, 0, 0, 0, 16, 0, 0, 0, 4, 3, 2, 1,
+    0xc1, 0xca, 0, 0, 1, 0, 0, 0, 16, 0, 0, 0, b'W', b'X', b'Y', b'Z',
+];
+
+/// Raw `ABCD`, don't care (1), raw `WXYZ`.
+#[rattlefmt::skip]
+pub const GAP_BETWEEN: [u8; 72] = [
+    0x3a, 0xff, 0x26, 0xed, 1, 0, 0, 0, 28, 0, 12, 0, 4, 0, 0, 0, 3, 0, 0, 0, 3, 0, 0, 0, 0, 0, 0, 0,
+    0xc1, 0xca, 0, 0, 1, 0, 0, 0, 16, 0, 0, 0, b'A', b'B', b'C', b'D',
+    0xc3, 0xca, 0, 0, 1, 0, 0, 0, 12, 0, 0, 0,
+    0xc1, 0xca, 0, 0, 1, 0, 0, 0, 16, 0, 0, 0, b'W', b'X', b'Y', b'Z',
+];
+
+/// The piece of three blocks that has the first: raw `ABCD`, don't care (2).
+#[rattlefmt::skip]
+pub const FIRST_OF_THREE: [u8; 56] = [
+    0x3a, 0xff, 0x26, 0xed, 1, 0, 0, 0, 28, 0, 12, 0, 4, 0, 0, 0, 3, 0, 0, 0, 2, 0, 0, 0, 0, 0, 0, 0,
+    0xc1, 0xca, 0, 0, 1, 0, 0, 0, 16, 0, 0, 0, b'A', b'B', b'C', b'D',
+    0xc3, 0xca, 0, 0, 2, 0, 0, 0, 12, 0, 0, 0,
+];
+
+/// The piece of three blocks that has the second: don't care (1), fill 04030201 (1), don't care (1).
+#[rattlefmt::skip]
+pub const SECOND_OF_THREE: [u8; 68] = [
+    0x3a, 0xff, 0x26, 0xed, 1, 0, 0, 0, 28, 0, 12, 0, 4, 0, 0, 0, 3, 0, 0, 0, 3, 0, 0, 0, 0, 0, 0, 0,
+    0xc3, 0xca, 0, 0, 1, 0, 0, 0, 12, 0, 0, 0,
+    0xc2, 0xca, 0, 0, 1, 0, 0, 0, 16, 0, 0, 0, 4, 3, 2, 1,
+    0xc3, 0xca, 0, 0, 1, 0, 0, 0, 12, 0, 0, 0,
+];
+
+/// The piece of three blocks that has the third: don't care (2), raw `WXYZ`.
+#[rattlefmt::skip]
+pub const THIRD_OF_THREE: [u8; 56] = [
+    0x3a, 0xff, 0x26, 0xed, 1, 0, 0, 0, 28, 0, 12, 0, 4, 0, 0, 0, 3, 0, 0, 0, 2, 0, 0, 0, 0, 0, 0, 0,
+    0xc3, 0xca, 0, 0, 2, 0, 0, 0, 12, 0, 0, 0,
+    0xc1, 0xca, 0, 0, 1, 0, 0, 0, 16, 0, 0, 0, b'W', b'X', b'Y', b'Z',
+];
+
+/// No block and no chunk.
+#[rattlefmt::skip]
+pub const EMPTY: [u8; 28] = [
+    0x3a, 0xff, 0x26, 0xed, 1, 0, 0, 0, 28, 0, 12, 0, 4, 0, 0, 0, 0, 0, 0, 0, 0, 0, 0, 0, 0, 0, 0, 0,
+];
+
+/// The header of an image without blocks in 10,000 chunks.
+#[rattlefmt::skip]
+pub const HEADER_OF_MANY: [u8; 28] = [
+    0x3a, 0xff, 0x26, 0xed, 1, 0, 0, 0, 28, 0, 12, 0, 4, 0, 0, 0, 0, 0, 0, 0, 0x10, 0x27, 0, 0, 0, 0, 0, 0,
+];
+
+/// A raw chunk without blocks.
+pub const NO_BLOCKS: [u8; 12] = [0xc1, 0xca, 0, 0, 0, 0, 0, 0, 12, 0, 0, 0];
+
+/// Don't care (2), raw (0), don't care (2), don't care (1).
+#[rattlefmt::skip]
+pub const GAPS: [u8; 76] = [
+    0x3a, 0xff, 0x26, 0xed, 1, 0, 0, 0, 28, 0, 12, 0, 4, 0, 0, 0, 5, 0, 0, 0, 4, 0, 0, 0, 0, 0, 0, 0,
+    0xc3, 0xca, 0, 0, 2, 0, 0, 0, 12, 0, 0, 0,
+    0xc1, 0xca, 0, 0, 0, 0, 0, 0, 12, 0, 0, 0,
+    0xc3, 0xca, 0, 0, 2, 0, 0, 0, 12, 0, 0, 0,
+    0xc3, 0xca, 0, 0, 1, 0, 0, 0, 12, 0, 0, 0,
+];
+
+/// Don't care (5).
+#[rattlefmt::skip]
+pub const ONE_GAP: [u8; 40] = [
+    0x3a, 0xff, 0x26, 0xed, 1, 0, 0, 0, 28, 0, 12, 0, 4, 0, 0, 0, 5, 0, 0, 0, 1, 0, 0, 0, 0, 0, 0, 0,
+    0xc3, 0xca, 0, 0, 5, 0, 0, 0, 12, 0, 0, 0,
+];
+
+/// Headers of 32 and 16 bytes, don't care (1).
+#[rattlefmt::skip]
+pub const LONG_HEADERS: [u8; 48] = [
+    0x3a, 0xff, 0x26, 0xed, 1, 0, 0, 0, 32, 0, 16, 0, 4, 0, 0, 0, 1, 0, 0, 0, 1, 0, 0, 0, 0, 0, 0, 0,
+    0xaa, 0xbb, 0xcc, 0xdd,
+    0xc3, 0xca, 0, 0, 1, 0, 0, 0, 16, 0, 0, 0, 0xee, 0xee, 0xee, 0xee,
+];
+
+/// Don't care (1).
+#[rattlefmt::skip]
+pub const SHORT_HEADERS: [u8; 40] = [
+    0x3a, 0xff, 0x26, 0xed, 1, 0, 0, 0, 28, 0, 12, 0, 4, 0, 0, 0, 1, 0, 0, 0, 1, 0, 0, 0, 0, 0, 0, 0,
+    0xc3, 0xca, 0, 0, 1, 0, 0, 0, 12, 0, 0, 0,
+];
+
+/// Don't care (4,294,967,295), the most that there can be.
+#[rattlefmt::skip]
+pub const MOST_BLOCKS: [u8; 40] = [
+    0x3a, 0xff, 0x26, 0xed, 1, 0, 0, 0, 28, 0, 12, 0, 4, 0, 0, 0, 0xff, 0xff, 0xff, 0xff, 1, 0, 0, 0, 0, 0, 0, 0,
+    0xc3, 0xca, 0, 0, 0xff, 0xff, 0xff, 0xff, 12, 0, 0, 0,
+];
+
+/// Fill 04030201 (1), in blocks of 4,294,967,292 bytes, the largest that there are.
+#[rattlefmt::skip]
+pub const LARGEST_BLOCK: [u8; 44] = [
+    0x3a, 0xff, 0x26, 0xed, 1, 0, 0, 0, 28, 0, 12, 0, 0xfc, 0xff, 0xff, 0xff, 1, 0, 0, 0, 1, 0, 0, 0, 0, 0, 0, 0,
+    0xc2, 0xca, 0, 0, 1, 0, 0, 0, 16, 0, 0, 0, 4, 3, 2, 1,
+];
+
+/// The header and the chunk header of 16,385 raw blocks, whose data is longer than a window.
+#[rattlefmt::skip]
+pub const FRONT_OF_LONG_CHUNK: [u8; 40] = [
+    0x3a, 0xff, 0x26, 0xed, 1, 0, 0, 0, 28, 0, 12, 0, 4, 0, 0, 0, 1, 0x40, 0, 0, 1, 0, 0, 0, 0, 0, 0, 0,
+    0xc1, 0xca, 0, 0, 1, 0x40, 0, 0, 0x10, 0, 1, 0,
+];
+
+/// The header of an image of 1,000 raw chunks of one block each.
+#[rattlefmt::skip]
+pub const HEADER_OF_THOUSAND: [u8; 28] = [
+    0x3a, 0xff, 0x26, 0xed, 1, 0, 0, 0, 28, 0, 12, 0, 4, 0, 0, 0, 0xe8, 0x03, 0, 0, 0xe8, 0x03, 0, 0, 0, 0, 0, 0,
+];
+
+/// The header of a raw chunk of one block.
+pub const ONE_RAW_BLOCK: [u8; 12] = [0xc1, 0xca, 0, 0, 1, 0, 0, 0, 16, 0, 0, 0];
