@@ -15,7 +15,7 @@ canon_is s page sizes id h parts parts' a b c d e =
     ap (λ (g : BootHeader). boot_image g parts') (a ∙ ap (λ (p : PageSize). boot_header_for s p sizes id) b ∙ ap (λ (z : List ℕ). boot_header_for s (boot_page_for s) z id) c ∙ ap (λ (i : List ℕ). boot_header_for s (boot_page_for s) (filled 5 (map length parts)) i) d)
     ∙ ap (λ (l : List (List ℕ)). boot_image (boot_header_for s (boot_page_for s) (filled 5 (map length parts)) (id_for s.version parts)) l) e
 
-five : (v : ℕ) → v ≤ 4 → (v ≡ 0) ⊎ ((v ≡ 1) ⊎ ((v ≡ 2) ⊎ ((v ≡ 3) ⊎ (v ≡ 4))))
+pub five : (v : ℕ) → v ≤ 4 → (v ≡ 0) ⊎ ((v ≡ 1) ⊎ ((v ≡ 2) ⊎ ((v ≡ 3) ⊎ (v ≡ 4))))
 five zero h = inl refl
 five (suc zero) h = inr (inl refl)
 five (suc (suc zero)) h = inr (inr (inl refl))

@@ -47,7 +47,7 @@ id_is f ps i digest id h e field =
     field ∙ ap (λ (l : List ℕ). l ++ replicate 12 0) e
     ∙ ap (λ (l : List (List ℕ)). sha1 (sized_parts l) ++ replicate 12 0) (take_all i (map f ps) (omega (arith, length-map ps f)))
 
-there_length : (x : List ℕ) (at n : ℕ) → (0 < n → at + n ≤ length x) → length (take n (drop at x)) ≡ n
+pub there_length : (x : List ℕ) (at n : ℕ) → (0 < n → at + n ≤ length x) → length (take n (drop at x)) ≡ n
 there_length x at zero h = refl
 there_length x at (suc n) h = let k = h (omega arith) in length-take-le (suc n) (drop at x) (omega (arith, length-drop at x, k))
 

@@ -15,7 +15,7 @@ use Rattle.abt_headers.proofs.VendorLaws as vendor
 use Rattle.abt_sections.specs.Layout.{padding, padded, laid, laid_out, Placed, Sized}
 use Rattle.abt_sections.specs.Header.{Header, OfBoot, OfVendor, HeaderFits, IsImage, record_of, size_of, page_of, sections_of, places_of}
 
-padded_length : (p : ℕ) (x : List ℕ) → 0 < p → length (padded p x) ≡ pages (length x) p * p
+pub padded_length : (p : ℕ) (x : List ℕ) → 0 < p → length (padded p x) ≡ pages (length x) p * p
 padded_length p x h = omega (arith, length-append x (replicate (padding (length x) p) 0), length-replicate {A = ℕ} (padding (length x) p) 0, enough_pages (length x) p h)
 
 placed : (p : ℕ) → 0 < p → (k : ℕ) (ss : List (Section × ℕ)) (parts : List (List ℕ)) (front rest x : List ℕ) → length front ≡ p * k → x ≡ front ++ (laid p parts ++ rest) → Sized ss parts → Placed x (places_from p k ss) parts
@@ -34,7 +34,7 @@ placed p h k (t ∷ ss) (q ∷ qs) front rest x n e s =
     let more : length (front ++ padded p q) ≡ p * (k + pages t.1 p) = length-append front (padded p q) ∙ rw (padded_length p q h, n, s.0, mul-add p k (pages t.1 p)) (omega arith) in
     (s.0, there, placed p h (k + pages t.1 p) ss qs (front ++ padded p q) rest x more (here ∙ sym (append_assoc front (padded p q) tail)) s.1)
 
-page_some : (p : PageSize) → 0 < page_bytes p
+pub page_some : (p : PageSize) → 0 < page_bytes p
 page_some Of2048 = omega arith
 page_some Of4096 = omega arith
 page_some Of8192 = omega arith
@@ -50,11 +50,11 @@ boot_some (V2 f d t) = page_some f.page_size
 boot_some (V3 f) = omega arith
 boot_some (V4 f s) = omega arith
 
-some_page : (h : Header) → 0 < page_of h
+pub some_page : (h : Header) → 0 < page_of h
 some_page (OfBoot h) = boot_some h
 some_page (OfVendor v) = page_some v.front.page_size
 
-long : (h : Header) → HeaderFits h → length (record_of h) ≡ size_of h
+pub long : (h : Header) → HeaderFits h → length (record_of h) ≡ size_of h
 long (OfBoot h) fits = boot.record_length h fits
 long (OfVendor v) fits = vendor.record_length v fits
 

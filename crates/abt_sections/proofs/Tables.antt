@@ -14,11 +14,11 @@ here : (b : Bool) (s : Section) (o : Option Section) → cond b (Some s) o ≡ N
 here true s o e = absurd cc
 here false s o e = (refl, e)
 
-none_at : (p : Place) (ps : List Place) (n : ℕ) → beyond (p ∷ ps) n ≡ None → (ends_beyond p n ≡ false) × (beyond ps n ≡ None)
+pub none_at : (p : Place) (ps : List Place) (n : ℕ) → beyond (p ∷ ps) n ≡ None → (ends_beyond p n ≡ false) × (beyond ps n ≡ None)
 unfolding beyond
 none_at p ps n e = here (ends_beyond p n) p.kind (beyond ps n) e
 
-ends_there : (p : Place) (n : ℕ) → ends_beyond p n ≡ false → 0 < p.size → p.at + p.size ≤ n
+pub ends_there : (p : Place) (n : ℕ) → ends_beyond p n ≡ false → 0 < p.size → p.at + p.size ≤ n
 ends_there p n e some =
     let first = lt-ltb 0 p.size some in
     ltb-false n (p.at + p.size) (ap (λ (b : Bool). b && nat_lt n (p.at + p.size)) (sym first) ∙ e)

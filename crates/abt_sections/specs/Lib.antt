@@ -1,6 +1,8 @@
 pub mod BootCanon
+pub mod Canonical
 pub mod Cause
 pub mod Check
+pub mod Entries
 pub mod Fault
 pub mod Fields
 pub mod Grown

@@ -5,7 +5,7 @@ use Rattle.abt_headers.specs.declared.sections.Section.{Section}
 use Rattle.abt_sections.specs.declared.fault.SectionFault.{SectionFault}
 use Rattle.abt_sections.specs.declared.fault.SectionFault.TheVariants as faults
 use Rattle.abt_sections.specs.declared.image.Image.{Image}
-use Rattle.abt_sections.specs.Header.{Header, view_of, header_at, places_of, fragment_count, entry_of, IsWithin, EachWithin}
+use Rattle.abt_sections.specs.Header.{Header, view_of, header_at, places_of, fragment_count, entry_of, IsWithin, EachWithin, IsImage}
 
 -- a place isn't empty and ends past n bytes
 abbrev pub ends_beyond : Place → ℕ → Bool
@@ -26,6 +26,13 @@ pub record IsFirstOutside (x : List ℕ) (h : Header) (i : ℕ) : Type 0 where
 pub record HasImage (x : List ℕ) (h : Header) : Type 0 where
   pub header : header_at x ≡ Ok h
   pub there : beyond (places_of h) (length x) ≡ None
+  pub within : EachWithin x h
+
+-- the same without reading: x is an image of h and some parts, each whole at its place, and every fragment is within the
+-- vendor ramdisk
+pub record IsWholeImage (x : List ℕ) (h : Header) : Type 0 where
+  pub parts : List (List ℕ)
+  pub image : IsImage x h parts
   pub within : EachWithin x h
 
 -- x begins with a header, and a section isn't whole
@@ -50,6 +57,18 @@ RefusedAs x faults.Name = ⊥
 RefusedAs x faults.CommandLine = ⊥
 RefusedAs x (faults.SectionTruncated s) = (h : Header) × IsTruncated x h s
 RefusedAs x (faults.SectionTooLarge s) = ⊥
+
+-- a device failed
+abbrev pub IsReadFault : SectionFault → Type 0
+IsReadFault (faults.Read f) = Unit {0}
+IsReadFault (faults.Write f) = ⊥
+IsReadFault faults.SourceChanged = ⊥
+IsReadFault (faults.Header f) = ⊥
+IsReadFault (faults.Entry i) = ⊥
+IsReadFault faults.Name = ⊥
+IsReadFault faults.CommandLine = ⊥
+IsReadFault (faults.SectionTruncated s) = ⊥
+IsReadFault (faults.SectionTooLarge s) = ⊥
 
 abbrev pub EntryRefusedAs : List ℕ → Header → SectionFault → Type 0
 EntryRefusedAs x h (faults.Read f) = Unit {0}

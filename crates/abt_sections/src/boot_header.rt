@@ -13,10 +13,11 @@ use crate::texts::{filled, filled_back, filled_front, is_text};
 use abt_headers::{
     BootFront, BootHeader, DtbFields, DtboFields, HeaderFault, PageSize, ShortFront, pages,
 };
+use abt_io::Meter;
 
 /// The page of the image, or what the fields are refused for.
 #[tactic(auto, unfolding(crate::specs::Refusal::boot_refusal))]
-pub(crate) fn check_boot_spec(spec: &BootSpec) -> Result<PageSize, SectionFault>
+pub(crate) fn check_boot_spec(spec: &BootSpec, m: &mut Meter) -> Result<PageSize, SectionFault>
     ensures refusal { MatchResult result (λ _. boot_refusal (boot_fields spec.now) ≡ None) (λ f. boot_refusal (boot_fields spec.now) ≡ Some f) }
     ensures version { OnOk result (spec.now.version ≤ 4) }
     ensures page { IfOk result (λ p. p ≡ canon.boot_page_for (boot_fields spec.now)) }
@@ -32,11 +33,11 @@ pub(crate) fn check_boot_spec(spec: &BootSpec) -> Result<PageSize, SectionFault>
             None => return Err(SectionFault::Header(HeaderFault::PageSize(spec.page))),
             Some(given) => page = given,
         }
-        if !is_text(15, spec.name) {
+        if !is_text(15, spec.name, m) {
             return Err(SectionFault::Name);
         }
     }
-    if !is_text(1535, spec.cmdline) {
+    if !is_text(1535, spec.cmdline, m) {
         return Err(SectionFault::CommandLine);
     }
     Ok(page)

@@ -3,6 +3,7 @@
 ghost use Rattle.std.specs.Prelude.{◌≡◌, ◌<◌, ◌≤◌, ◌+◌, ◌-◌, ◌^◌, ◌++◌, ◌↔◌, IsTrue, IfOk, IfErr, OnOk, None, length, take, drop, slice_range};
 ghost use Rattle.abt_headers.specs.Places.{EachLow};
 ghost use Rattle.abt_sections.specs.Cause.{ReadCause};
+ghost use Rattle.abt_sections.specs.Canonical.{StartsAsPacked};
 ghost use Rattle.abt_sections.specs.Check as check_spec;
 ghost use Rattle.abt_sections.specs.Header.{view_of, places_of};
 ghost use Rattle.abt_sections.specs.Layout as layout;
@@ -34,10 +35,11 @@ pub struct Verdict {
 
 // ---- padding
 
-fn all_zero(bytes: &[u8]) -> bool
+fn all_zero(bytes: &[u8], m: &mut Meter) -> bool
     ensures { result ≡ check_spec.all_zero bytes.now }
 {
     for byte in bytes {
+        m.tick();
         if *byte != 0 {
             return false;
         }
@@ -75,7 +77,7 @@ fn zeros_there<S: Source>(
             Ok(()) => {}
             Err(fault) => return Err(fault),
         }
-        if !all_zero(w.part(0, ask)) {
+        if !all_zero(w.part(0, ask), m) {
             return Ok(false);
         }
         done += ask as u64;
@@ -208,62 +210,60 @@ fn offset_holds(header: &ImageHeader) -> bool
 // ---- texts
 
 /// A field is zero from its first zero byte on, and its last byte is zero.
-fn text_field(field: &[u8]) -> bool
+fn text_field(field: &[u8], m: &mut Meter) -> bool
     ensures { result ≡ check_spec.text_field field.now }
 {
     for i in 0..field.len() {
+        m.tick();
         if field[i] == 0 {
-            return all_zero(&field[i..]);
+            return all_zero(&field[i..], m);
         }
     }
     false
 }
 
 /// The same of two fields that hold one text.
-fn long_text_field(front: &[u8], back: &[u8]) -> bool
+fn long_text_field(front: &[u8], back: &[u8], m: &mut Meter) -> bool
     ensures { result ≡ check_spec.text_field (front.now ++ back.now) }
 {
-    if text_field(front) {
-        return all_zero(back);
+    if text_field(front, m) {
+        return all_zero(back, m);
     }
-    no_zero(front) && text_field(back)
+    no_zero(front, m) && text_field(back, m)
 }
 
-fn front_texts(front: &BootFront) -> bool
+fn front_texts(front: &BootFront, m: &mut Meter) -> bool
     ensures { result ≡ check_spec.front_texts front.now }
 {
-    text_field(&front.name) && long_text_field(&front.cmdline, &front.extra_cmdline)
+    text_field(&front.name, m) && long_text_field(&front.cmdline, &front.extra_cmdline, m)
 }
 
-fn short_texts(front: &ShortFront) -> bool
+fn short_texts(front: &ShortFront, m: &mut Meter) -> bool
     ensures { result ≡ check_spec.short_texts front.now }
 {
-    all_zero(&front.reserved) && text_field(&front.cmdline)
+    all_zero(&front.reserved, m) && text_field(&front.cmdline, m)
 }
 
-fn texts_hold(header: &ImageHeader) -> bool
+fn texts_hold(header: &ImageHeader, m: &mut Meter) -> bool
     ensures { result ≡ check_spec.texts_hold (view_of header.now) }
 {
     match header {
-        ImageHeader::Boot(BootHeader::V0(front)) => front_texts(front),
-        ImageHeader::Boot(BootHeader::V1(front, _)) => front_texts(front),
-        ImageHeader::Boot(BootHeader::V2(front, ..)) => front_texts(front),
-        ImageHeader::Boot(BootHeader::V3(front)) => short_texts(front),
-        ImageHeader::Boot(BootHeader::V4(front, _)) => short_texts(front),
+        ImageHeader::Boot(BootHeader::V0(front)) => front_texts(front, m),
+        ImageHeader::Boot(BootHeader::V1(front, _)) => front_texts(front, m),
+        ImageHeader::Boot(BootHeader::V2(front, ..)) => front_texts(front, m),
+        ImageHeader::Boot(BootHeader::V3(front)) => short_texts(front, m),
+        ImageHeader::Boot(BootHeader::V4(front, _)) => short_texts(front, m),
         ImageHeader::Vendor(VendorHeader::V3(front)) => {
-            text_field(&front.name) && text_field(&front.cmdline)
+            text_field(&front.name, m) && text_field(&front.cmdline, m)
         }
         ImageHeader::Vendor(VendorHeader::V4(front, _)) => {
-            text_field(&front.name) && text_field(&front.cmdline)
+            text_field(&front.name, m) && text_field(&front.cmdline, m)
         }
     }
 }
 
-/// Checks an image against what the packer writes.
-///
-/// # Errors
-/// `Read`, and `SourceChanged` where the source isn't the opened one any more.
-pub fn check<S: Source>(
+/// Compares an image with what the packer writes, rule by rule.
+fn compare<S: Source>(
     image: &Image,
     source: &mut S,
     w: &mut Window,
@@ -300,6 +300,33 @@ pub fn check<S: Source>(
         padding,
         id,
         offset,
-        canonical: padding && id && offset && texts_hold(header) && fill,
+        canonical: padding && id && offset && texts_hold(header, m) && fill,
     })
+}
+
+/// Checks an image against what the packer writes.
+///
+/// An opened image is canonical exactly where its bytes begin with an image that the packer writes of some fields and
+/// parts that it takes.
+///
+/// # Errors
+/// `Read`, and `SourceChanged` where the source isn't the opened one any more.
+pub fn check<S: Source>(
+    image: &Image,
+    source: &mut S,
+    w: &mut Window,
+    m: &mut Meter,
+) -> Result<Verdict, SectionFault>
+    ensures content { IsTrue S.tells → S.content source.new ≡ S.content source.old }
+    ensures size { IsTrue S.tells → S.size source.new ≡ S.size source.old }
+    ensures frame { S.read_frame source.new ≡ S.read_frame source.old }
+    ensures padding { IsTrue S.tells → IfOk result (λ v. v.padding ≡ check_spec.padding_holds (S.content source.old) (view_of image.now.header)) }
+    ensures id { IsTrue S.tells → IfOk result (λ v. IsTrue v.id ↔ check_spec.IdHolds (S.content source.old) (view_of image.now.header)) }
+    ensures offset { IfOk result (λ v. v.offset ≡ check_spec.offset_holds (view_of image.now.header)) }
+    ensures canonical { IsTrue S.tells → IfOk result (λ v. IsTrue v.canonical ↔ check_spec.IsCanonical (S.content source.old) (view_of image.now.header)) }
+    ensures packed { IsTrue S.tells → IsOpened (S.content source.old) image.now → IfOk result (λ v. IsTrue v.canonical ↔ StartsAsPacked (S.content source.old)) }
+    ensures faults { S.read_faults source.old ≤ S.read_faults source.new }
+    ensures cause { IfErr result (λ e. ReadCause e (S.read_faults source.old) (S.read_faults source.new) (IsTrue S.tells → IsOpened (S.content source.old) image.now → ⊥)) }
+{
+    compare(image, source, w, m)
 }

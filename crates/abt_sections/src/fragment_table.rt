@@ -3,6 +3,7 @@
 ghost use Rattle.std.specs.Prelude.{◌≡◌, ◌<◌, ◌≤◌, ◌+◌, ◌-◌, ◌*◌, ◌^◌, ℕ, IsTrue, IfOk, IfErr, OnOk, MatchBool, MatchResult, ◌↔◌, None, length, take, drop};
 ghost use Rattle.abt_headers.specs.Entry.{entry_at};
 ghost use Rattle.abt_sections.specs.Cause.{ReadCause, OpenCause};
+ghost use Rattle.abt_sections.specs.Entries.{EntriesStand, HoldsEntry};
 ghost use Rattle.abt_sections.specs.Header as header_spec;
 ghost use Rattle.abt_sections.specs.Open.{IsOpened, EntryRefusedAs, beyond};
 ghost use Rattle.abt_sections.specs.Check.{FragmentsFill, HasTable};
@@ -12,6 +13,9 @@ use crate::image::{Image, ImageHeader};
 use crate::reading::read_front;
 use abt_headers::{RamdiskEntry, VendorHeader, pages};
 use abt_io::{Meter, Source, Window};
+
+/// How many entries fit the window.
+const WINDOW_ENTRIES: u32 = 606;
 
 /// The table of an image, as its header gives it.
 #[derive(Clone, Copy)]
@@ -94,6 +98,95 @@ fn read_entry<S: Source>(
     Ok(RamdiskEntry::decode(&record))
 }
 
+/// The entries of a table that stand at the window's front: from `first` up to `end`.
+#[derive(Clone, Copy)]
+struct Held {
+    first: u32,
+    end: u32,
+}
+
+/// One step where entry `i` is not among the entries at the window's front: reads it there, and behind it as many as
+/// there are and fit.
+fn hold_entry<S: Source>(
+    table: &Table,
+    i: u32,
+    held: Held,
+    source: &mut S,
+    w: &mut Window,
+    m: &mut Meter,
+) -> Result<Held, SectionFault>
+    requires near { table.now.at < 2 ^ 62 }
+    requires there { i < table.now.count }
+    requires from { held.first ≤ i }
+    requires to { i ≤ held.end }
+    requires few { held.end ≤ held.first + 606 }
+    requires last { held.end ≤ table.now.count }
+    requires stand { IsTrue S.tells → EntriesStand w.old.bytes (S.content source.old) table.now.at held.first held.end }
+    ensures content { IsTrue S.tells → S.content source.new ≡ S.content source.old }
+    ensures size { IsTrue S.tells → S.size source.new ≡ S.size source.old }
+    ensures frame { S.read_frame source.new ≡ S.read_frame source.old }
+    ensures stand { IsTrue S.tells → IfOk result (λ h. EntriesStand w.new.bytes (S.content source.old) table.now.at h.first h.end) }
+    ensures held { IfOk result (λ h. HoldsEntry h.first h.end i table.now.count) }
+    ensures faults { S.read_faults source.old ≤ S.read_faults source.new }
+    ensures cause { IfErr result (λ e. ReadCause e (S.read_faults source.old) (S.read_faults source.new) (IsTrue S.tells → table.now.at + 108 * table.now.count ≤ length (S.content source.old) → ⊥)) }
+{
+    if i < held.end {
+        return Ok(held);
+    }
+    let n = (table.count - i).min(WINDOW_ENTRIES);
+    match read_front(source, table.at + 108 * i as u64, 108 * n as usize, w, m) {
+        Ok(()) => {}
+        Err(fault) => return Err(fault),
+    }
+    Ok(Held {
+        first: i,
+        end: i + n,
+    })
+}
+
+/// Entry `j` of those at the window's front.
+fn entry_in(w: &Window, j: u32) -> RamdiskEntry
+    requires { j < 606 }
+    ensures { result ≡ entry_at (take 108 (drop (108 * j) w.now.bytes)) }
+{
+    let from = 108 * j as usize;
+    let mut record = [0u8; 108];
+    record.copy_from_slice(w.part(from, from + 108));
+    RamdiskEntry::decode(&record)
+}
+
+/// Entry `i` of a table whose entries are asked for in their order, a window of them at a time.
+fn next_entry<S: Source>(
+    table: &Table,
+    i: u32,
+    held: &mut Held,
+    source: &mut S,
+    w: &mut Window,
+    m: &mut Meter,
+) -> Result<RamdiskEntry, SectionFault>
+    requires near { table.now.at < 2 ^ 62 }
+    requires there { i < table.now.count }
+    requires from { held.old.first ≤ i }
+    requires to { i ≤ held.old.end }
+    requires few { held.old.end ≤ held.old.first + 606 }
+    requires last { held.old.end ≤ table.now.count }
+    requires stand { IsTrue S.tells → EntriesStand w.old.bytes (S.content source.old) table.now.at held.old.first held.old.end }
+    ensures content { IsTrue S.tells → S.content source.new ≡ S.content source.old }
+    ensures size { IsTrue S.tells → S.size source.new ≡ S.size source.old }
+    ensures frame { S.read_frame source.new ≡ S.read_frame source.old }
+    ensures entry { IsTrue S.tells → IfOk result (λ e. e ≡ entry_at (take 108 (drop (table.now.at + 108 * i) (S.content source.old)))) }
+    ensures stand { IsTrue S.tells → OnOk result (EntriesStand w.new.bytes (S.content source.old) table.now.at held.new.first held.new.end) }
+    ensures held { OnOk result (HoldsEntry held.new.first held.new.end i table.now.count) }
+    ensures faults { S.read_faults source.old ≤ S.read_faults source.new }
+    ensures cause { IfErr result (λ e. ReadCause e (S.read_faults source.old) (S.read_faults source.new) (IsTrue S.tells → table.now.at + 108 * table.now.count ≤ length (S.content source.old) → ⊥)) }
+{
+    match hold_entry(table, i, *held, source, w, m) {
+        Ok(now) => *held = now,
+        Err(fault) => return Err(fault),
+    }
+    Ok(entry_in(w, i - held.first))
+}
+
 /// A fragment ends within a vendor ramdisk of so many bytes.
 fn is_within(entry: &RamdiskEntry, ramdisk_size: u32) -> bool
     ensures { IsTrue result ↔ (entry.now.ramdisk_offset + entry.now.ramdisk_size ≤ ramdisk_size) }
@@ -116,9 +209,10 @@ pub(crate) fn check_entries<S: Source>(
     ensures cause { IfErr result (λ e. OpenCause e (S.read_faults source.old) (S.read_faults source.new) (IsTrue S.tells → beyond (header_spec.places_of (header_spec.view_of header.now)) (length (S.content source.old)) ≡ None → ⊥)) }
 {
     let table = table_of(header);
+    let mut held = Held { first: 0, end: 0 };
     for i in 0..table.count {
         m.tick();
-        let entry = match read_entry(&table, i, source, w, m) {
+        let entry = match next_entry(&table, i, &mut held, source, w, m) {
             Ok(entry) => entry,
             Err(fault) => return Err(fault),
         };
@@ -189,10 +283,11 @@ pub(crate) fn fragments_fill<S: Source>(
         return Ok(true);
     }
     let table = table_of(header);
+    let mut held = Held { first: 0, end: 0 };
     let mut next = 0u64;
     for i in 0..table.count {
         m.tick();
-        let entry = match read_entry(&table, i, source, w, m) {
+        let entry = match next_entry(&table, i, &mut held, source, w, m) {
             Ok(entry) => entry,
             Err(fault) => return Err(fault),
         };

@@ -131,7 +131,7 @@ pub fn image_id<S: Source>(
     ensures faults { total S.read_faults parts.old ≤ total S.read_faults parts.new }
     ensures cause { IfErr result (λ e. PackCause (size_refusal (boot_names version) (map S.size parts.old)) e (total S.read_faults parts.old) (total S.read_faults parts.new) 0 0 (IsTrue S.tells → ⊥)) }
 {
-    let sizes = boot_sizes(version, parts)?;
+    let sizes = boot_sizes(version, parts, m)?;
     hash_parts(parts, &sizes, w, m)
 }
 

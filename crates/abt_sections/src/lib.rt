@@ -16,7 +16,7 @@
 //! - `reading`, `hashing`: one ask from a source; the id.
 //! - `writing`, `packing`, `vendor_packing`: parts with their padding; whole images.
 //! - `image`, `opening`, `fragment_table`: an opened image, its sections and its ramdisk fragments.
-//! - `laws`: laws about these definitions, for the layers above.
+//! - `laws`: laws about these definitions, for the layers above; `inputs`: that what isn't refused is what they ask for.
 //! - `unpacking`, `checking`: taking parts out; comparing an image with what the packer writes.
 #![tactic(auto)]
 
@@ -26,6 +26,7 @@ mod fault;
 mod fragment_table;
 mod hashing;
 mod image;
+mod inputs;
 mod laws;
 mod opening;
 mod packing;
@@ -43,7 +44,8 @@ pub use fault::SectionFault;
 pub use fragment_table::{fragment, fragments};
 pub use hashing::image_id;
 pub use image::{Image, ImageHeader, section, sections};
-pub use laws::packed_is_image;
+pub use inputs::{boot_input, vendor_input};
+pub use laws::{canonical_is_packed, image_is_whole, packed_is_image};
 pub use opening::open;
 pub use packing::pack_boot;
 pub use spec::{BootSpec, FragmentSpec, Packed, VendorSpec};

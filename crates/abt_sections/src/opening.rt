@@ -57,10 +57,11 @@ fn ends_past(place: Place, length: u64) -> bool
 }
 
 /// The first section that isn't empty and ends past so many bytes.
-fn first_beyond(sections: &Sections, length: u64) -> Option<Section>
+fn first_beyond(sections: &Sections, length: u64, m: &mut Meter) -> Option<Section>
     ensures { result ≡ beyond sections.now length }
 {
     for i in 0..sections.count() {
+        m.tick();
         let place = sections.place(i);
         if ends_past(place, length) {
             return Some(place.kind);
@@ -118,7 +119,7 @@ pub fn open<S: Source>(source: &mut S, w: &mut Window, m: &mut Meter) -> Result<
         Ok(header) => header,
         Err(fault) => return Err(fault),
     };
-    if let Some(section) = first_beyond(&header.sections(), length) {
+    if let Some(section) = first_beyond(&header.sections(), length, m) {
         return Err(SectionFault::SectionTruncated { section });
     }
     match check_entries(&header, source, w, m) {

@@ -122,12 +122,12 @@ pub fn pack_boot<S: Source, O: Output>(
     ensures write_faults { O.write_faults output.old ≤ O.write_faults output.new }
     ensures cause { IfErr result (λ e. PackCause (pack_boot_refusal (boot_fields spec.now) (map S.size parts.old)) e (total S.read_faults parts.old) (total S.read_faults parts.new) (O.write_faults output.old) (O.write_faults output.new) (IsTrue S.tells → ⊥)) }
 {
-    let page = check_boot_spec(spec)?;
-    let sizes = boot_sizes(spec.version, parts)?;
+    let page = check_boot_spec(spec, m)?;
+    let sizes = boot_sizes(spec.version, parts, m)?;
     let id = id_for(spec.version, parts, &sizes, w, m)?;
     let header = boot_header_for(spec, page, &sizes, id);
     write_image(&header, parts, &sizes, output, w, m)?;
     Ok(Packed {
-        bytes: image_bytes(header.page_size(), header.size(), &sizes, parts.len()),
+        bytes: image_bytes(header.page_size(), header.size(), &sizes, parts.len(), m),
     })
 }

@@ -10,7 +10,7 @@ ghost use Rattle.abt_sections.specs.VendorCanon.{vendor_sizes_for};
 
 use crate::fault::SectionFault;
 use abt_headers::{Section, pages};
-use abt_io::Source;
+use abt_io::{Meter, Source};
 
 /// What section `i` of a boot image is.
 fn section_at(version: u32, i: usize) -> Section
@@ -29,12 +29,17 @@ fn section_at(version: u32, i: usize) -> Section
 }
 
 /// How large each part of a boot image is, or the first section that is too large. A version has at most five.
-pub(crate) fn boot_sizes<S: Source>(version: u32, parts: &[S]) -> Result<[u32; 5], SectionFault>
+pub(crate) fn boot_sizes<S: Source>(
+    version: u32,
+    parts: &[S],
+    m: &mut Meter,
+) -> Result<[u32; 5], SectionFault>
     requires { length parts.now ≡ length (boot_names version) }
     ensures { MatchResult result (λ z. (size_refusal (boot_names version) (map S.size parts.now) ≡ None) × (z ≡ filled 5 (map S.size parts.now))) (λ f. size_refusal (boot_names version) (map S.size parts.now) ≡ Some f) }
 {
     let mut sizes = [0; 5];
     for i in 0..parts.len() {
+        m.tick();
         let n = parts[i].length();
         if n > u32::MAX as u64 {
             return Err(SectionFault::SectionTooLarge {
@@ -47,11 +52,12 @@ pub(crate) fn boot_sizes<S: Source>(version: u32, parts: &[S]) -> Result<[u32; 5
 }
 
 /// How many bytes the ramdisks have together, where that is less than 2^32.
-fn ramdisks_size<S: Source>(ramdisks: &[S]) -> Option<u32>
+fn ramdisks_size<S: Source>(ramdisks: &[S], m: &mut Meter) -> Option<u32>
     ensures { MatchOption result (4294967295 < total S.size ramdisks.now) (λ n. n ≡ total S.size ramdisks.now) }
 {
     let mut sum = 0;
     for i in 0..ramdisks.len() {
+        m.tick();
         let n = ramdisks[i].length();
         if n > (u32::MAX - sum) as u64 {
             return None;
@@ -78,11 +84,12 @@ pub(crate) fn vendor_sizes<S: Source>(
     ramdisks: &[S],
     dtb: &S,
     bootconfig: &S,
+    m: &mut Meter,
 ) -> Result<[u32; 4], SectionFault>
     requires { count < 2 ^ 57 }
     ensures { let z = vendor_sizes_for (total S.size ramdisks.now) (S.size dtb.now) count (S.size bootconfig.now) in MatchResult result (λ r. (size_refusal vendor_names z ≡ None) × (r ≡ z)) (λ f. size_refusal vendor_names z ≡ Some f) }
 {
-    let ramdisk = match ramdisks_size(ramdisks) {
+    let ramdisk = match ramdisks_size(ramdisks, m) {
         Some(n) => n,
         None => {
             return Err(SectionFault::SectionTooLarge {
@@ -97,7 +104,13 @@ pub(crate) fn vendor_sizes<S: Source>(
 }
 
 /// How many bytes an image has, of its record's size and those of its first `count` sections.
-pub(crate) fn image_bytes(page: u32, header: usize, sizes: &[u32], count: usize) -> u64
+pub(crate) fn image_bytes(
+    page: u32,
+    header: usize,
+    sizes: &[u32],
+    count: usize,
+    m: &mut Meter,
+) -> u64
     requires low { 0 < page }
     requires high { page ≤ 131072 }
     requires short { header ≤ 2128 }
@@ -107,6 +120,7 @@ pub(crate) fn image_bytes(page: u32, header: usize, sizes: &[u32], count: usize)
 {
     let mut bytes = pages(header as u64, page) * page as u64;
     for i in 0..count {
+        m.tick();
         bytes += pages(sizes[i] as u64, page) * page as u64;
     }
     bytes

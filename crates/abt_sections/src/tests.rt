@@ -3,8 +3,9 @@
 ghost use Rattle.std.specs.Prelude.{◌≡◌};
 
 use crate::{
-    BootSpec, FragmentSpec, Image, SectionFault, VendorSpec, Verdict, check, fragment, fragments,
-    image_id, open, pack_boot, pack_vendor, section, sections, unpack, unpack_fragment,
+    BootSpec, FragmentSpec, Image, SectionFault, VendorSpec, Verdict, boot_input, check, fragment,
+    fragments, image_id, open, pack_boot, pack_vendor, section, sections, unpack, unpack_fragment,
+    vendor_input,
 };
 use abt_headers::{HeaderFault, OsVersion, Section};
 use abt_io::{Faulty, Long, Meter, SliceOutput, SliceSource, Window};
@@ -252,6 +253,7 @@ fn packs_an_init_boot(rt: HostRuntime) {
     ];
     let mut room = [1u8; 12288];
     let mut output = SliceOutput::new(&mut room);
+    boot_input(&boot(4, 2048), &parts);
     let packed = pack_boot(&boot(4, 2048), &mut parts, &mut output, &mut w, &mut m);
     assert!(rt; packed == Ok(crate::Packed { bytes: 12288 }));
     let image = opened(&rt, &room, &mut w, &mut m);
@@ -268,6 +270,7 @@ fn lays_a_vendor_image_of_version_3(rt: HostRuntime) {
     let mut none = SliceSource::new(&[]);
     let mut room = [1u8; 8192];
     let mut output = SliceOutput::new(&mut room);
+    vendor_input(&vendor(3, 2048), &[], &ramdisks, &dtb, &none, &mut m);
     let packed = pack_vendor(
         &vendor(3, 2048),
         &[],
@@ -387,6 +390,51 @@ fn refuses_a_bad_table(rt: HostRuntime) {
     put(&mut room, 2112, 215);
     let whole = open(&mut SliceSource::new(&room), &mut w, &mut m);
     assert!(rt; whole == Err(SectionFault::Header(HeaderFault::Table)));
+}
+
+/// A window holds 606 entries: the table of 607 takes two asks, behind the one for the header.
+#[test]
+fn reads_a_table_by_windows(rt: HostRuntime) {
+    let mut w = Window::new();
+    let mut m = Meter::new();
+    let mut room = [0u8; 73728];
+    let mut none: [SliceSource; 0] = [];
+    let mut dtb = SliceSource::new(&[]);
+    let mut bootconfig = SliceSource::new(&[]);
+    {
+        let mut output = SliceOutput::new(&mut room);
+        let packed = pack_vendor(
+            &vendor(4, 4096),
+            &[],
+            &mut none,
+            &mut dtb,
+            &mut bootconfig,
+            &mut output,
+            &mut w,
+            &mut m,
+        );
+        assert!(rt; packed == Ok(crate::Packed { bytes: 4096 }));
+    }
+    // A table of 65,556 bytes: 607 entries of empty fragments.
+    put(&mut room, 2112, 20);
+    put(&mut room, 2114, 1);
+    put(&mut room, 2116, 95);
+    put(&mut room, 2117, 2);
+    assert!(rt; fragments(&opened(&rt, &room, &mut w, &mut m)) == 607);
+    assert!(rt; checked(&rt, &room, &mut w, &mut m) == verdict(true, true, true, true));
+    let mut reads = 0;
+    for n in 1..9u64 {
+        if open(&mut Faulty::new(SliceSource::new(&room), n), &mut w, &mut m).is_err() {
+            reads = n;
+        }
+    }
+    assert!(rt; reads == 3);
+    put(&mut room, 69548, 1);
+    let last = open(&mut SliceSource::new(&room), &mut w, &mut m);
+    assert!(rt; last == Err(SectionFault::Entry(606)));
+    put(&mut room, 69440, 1);
+    let before = open(&mut SliceSource::new(&room), &mut w, &mut m);
+    assert!(rt; before == Err(SectionFault::Entry(605)));
 }
 
 #[test]

@@ -3,18 +3,21 @@
 ghost use Rattle.std.specs.Prelude.{◌≡◌, ◌≤◌, ◌+◌, IsTrue, length, take, drop};
 ghost use Rattle.abt_sections.specs.Fields as fields;
 
+use abt_io::Meter;
+
 /// At most `most` bytes, none of them zero.
-pub(crate) fn is_text(most: usize, text: &[u8]) -> bool
+pub(crate) fn is_text(most: usize, text: &[u8], m: &mut Meter) -> bool
     ensures value { result ≡ fields.is_text most text.now }
     ensures bound { IsTrue result → length text.now ≤ most }
 {
-    text.len() <= most && no_zero(text)
+    text.len() <= most && no_zero(text, m)
 }
 
-pub(crate) fn no_zero(text: &[u8]) -> bool
+pub(crate) fn no_zero(text: &[u8], m: &mut Meter) -> bool
     ensures { result ≡ fields.no_zero text.now }
 {
     for byte in text {
+        m.tick();
         if *byte == 0 {
             return false;
         }

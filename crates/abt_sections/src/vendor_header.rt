@@ -10,10 +10,11 @@ use crate::fault::SectionFault;
 use crate::spec::VendorSpec;
 use crate::texts::{filled, is_text};
 use abt_headers::{HeaderFault, PageSize, VendorFront, VendorHeader, VendorTail};
+use abt_io::Meter;
 
 /// The page of the image, or what the fields are refused for.
 #[tactic(auto, unfolding(crate::specs::Refusal::vendor_refusal))]
-pub(crate) fn check_vendor_spec(spec: &VendorSpec) -> Result<PageSize, SectionFault>
+pub(crate) fn check_vendor_spec(spec: &VendorSpec, m: &mut Meter) -> Result<PageSize, SectionFault>
     ensures refusal { MatchResult result (λ _. vendor_refusal (vendor_fields spec.now) ≡ None) (λ f. vendor_refusal (vendor_fields spec.now) ≡ Some f) }
     ensures low { OnOk result (3 ≤ spec.now.version) }
     ensures high { OnOk result (spec.now.version ≤ 4) }
@@ -28,10 +29,10 @@ pub(crate) fn check_vendor_spec(spec: &VendorSpec) -> Result<PageSize, SectionFa
         None => return Err(SectionFault::Header(HeaderFault::PageSize(spec.page))),
         Some(page) => page,
     };
-    if !is_text(15, spec.name) {
+    if !is_text(15, spec.name, m) {
         return Err(SectionFault::Name);
     }
-    if !is_text(2047, spec.cmdline) {
+    if !is_text(2047, spec.cmdline, m) {
         return Err(SectionFault::CommandLine);
     }
     Ok(page)

@@ -275,14 +275,14 @@ pub fn pack_vendor<S: Source, O: Output>(
     ensures write_faults { O.write_faults output.old ≤ O.write_faults output.new }
     ensures cause { IfErr result (λ e. PackCause (pack_vendor_refusal (vendor_fields spec.now) (canon.vendor_sizes_for (total S.size ramdisks.old) (S.size dtb.old) (length fragments.now) (S.size bootconfig.old))) e (total S.read_faults ramdisks.old + S.read_faults dtb.old + S.read_faults bootconfig.old) (total S.read_faults ramdisks.new + S.read_faults dtb.new + S.read_faults bootconfig.new) (O.write_faults output.old) (O.write_faults output.new) (IsTrue S.tells → ⊥)) }
 {
-    let page = check_vendor_spec(spec)?;
-    let sizes = vendor_sizes(fragments.len(), ramdisks, dtb, bootconfig)?;
+    let page = check_vendor_spec(spec, m)?;
+    let sizes = vendor_sizes(fragments.len(), ramdisks, dtb, bootconfig, m)?;
     let header = vendor_header_for(spec, page, &sizes, fragments.len() as u32);
     let bytes = page.bytes();
     write_version_3(&header, ramdisks, dtb, &sizes, output, w, m)?;
     if spec.version == 3 {
         return Ok(Packed {
-            bytes: image_bytes(bytes, 2112, &sizes, 2),
+            bytes: image_bytes(bytes, 2112, &sizes, 2, m),
         });
     }
     match write_version_4(fragments, ramdisks, bootconfig, &sizes, bytes, output, w, m) {
@@ -290,6 +290,6 @@ pub fn pack_vendor<S: Source, O: Output>(
         Err(fault) => return Err(fault),
     }
     Ok(Packed {
-        bytes: image_bytes(bytes, 2128, &sizes, 4),
+        bytes: image_bytes(bytes, 2128, &sizes, 4, m),
     })
 }

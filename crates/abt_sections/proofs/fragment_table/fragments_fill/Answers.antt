@@ -3,7 +3,7 @@ use Rattle.std.specs.Prelude.{IsTrue}
 use Rattle.abt_sections.specs.Header.{view_of, places_of}
 use Rattle.abt_sections.specs.Open.{beyond}
 use Rattle.abt_sections.proofs.Causes.{read_on}
-use Rattle.abt_sections.proofs.Tables.{entry_there}
+use Rattle.abt_sections.proofs.Entries.{table_there}
 use Rattle.abt_sections.proofs.fragment_table.fragments_fill.Goals as goal
 
 pub returns-in-Err-clause-cause : goal.returns-in-Err-clause-cause
@@ -15,7 +15,7 @@ returns-in-Err-clause-cause g c =
     let t = c.table_of-table.ensures in
     let h = view_of c.args.header.now in
     let now = c.loop-i.source in
-    let last : f c.read_entry.new.source ≤ f c.read_entry.new.source = omega arith in
-    read_on c.in-Err.fault (f c.args.source.now) (f now) (f c.read_entry.new.source) (f c.read_entry.new.source)
-    (IsTrue s.tells → c.table_of-table.result.at + 108 * c.loop-i.i + 108 ≤ length (s.content now) → ⊥) (IsTrue s.tells → beyond (places_of h) (length x) ≡ None → ⊥)
-    v.faults last (λ changed tells there. changed tells (omega (arith, entry_there h (length x) c.loop-i.i t.whole there (omega (arith, t.count)), t.at, ap length (v.content tells)))) c.in-Err.ensures.cause
+    let last : f c.next_entry.new.source ≤ f c.next_entry.new.source = omega arith in
+    read_on c.in-Err.fault (f c.args.source.now) (f now) (f c.next_entry.new.source) (f c.next_entry.new.source)
+    (IsTrue s.tells → c.table_of-table.result.at + 108 * c.table_of-table.result.count ≤ length (s.content now) → ⊥) (IsTrue s.tells → beyond (places_of h) (length x) ≡ None → ⊥)
+    v.faults last (λ changed tells there. changed tells (omega (arith, table_there h (length x) c.loop-i.i t.whole there (omega (arith, t.count)), t.at, t.count, ap length (v.content tells)))) c.in-Err.ensures.cause

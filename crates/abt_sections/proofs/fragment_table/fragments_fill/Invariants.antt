@@ -1,5 +1,6 @@
-use Rattle.std.proofs.Common.{◌≡◌, ◌≤◌, ◌<◌, ◌*◌, ℕ, length}
+use Rattle.std.proofs.Common.{◌≡◌, ◌+◌, ◌≤◌, ◌<◌, ◌*◌, ℕ, length}
 use Rattle.std.specs.Prelude.{IsTrue}
+use Rattle.abt_sections.specs.Entries.{EntriesStand}
 use Rattle.abt_sections.specs.Header.{view_of, entry_of}
 use Rattle.abt_sections.specs.Check.{sizes_before}
 use Rattle.abt_sections.proofs.fragment_table.fragments_fill.Given as goal
@@ -13,6 +14,11 @@ invariant-loop-i g l =
       size : IsTrue s.tells → s.size l.source ≡ s.size l.fn.source;
       frame : s.read_frame l.source ≡ s.read_frame l.fn.source;
       faults : s.read_faults l.fn.source ≤ s.read_faults l.source;
+      from : l.held.first ≤ l.i;
+      to : l.i ≤ l.held.end;
+      few : l.held.end ≤ l.held.first + 606;
+      last : l.held.end ≤ l.table.count;
+      stand : IsTrue s.tells → EntriesStand l.w.bytes (s.content l.fn.source) l.table.at l.held.first l.held.end;
       low : l.next ≤ 4294967295 * l.i;
       next : IsTrue s.tells → l.next ≡ sizes_before (s.content l.fn.source) h l.i;
       placed : IsTrue s.tells → (j : ℕ) → j < l.i → (entry_of (s.content l.fn.source) h j).ramdisk_offset ≡ sizes_before (s.content l.fn.source) h j;

@@ -1,0 +1,31 @@
+use Rattle.std.proofs.Common.{◌≡◌, ◌≤◌, ℕ, List, arith, length, ap, sym, ◌∙◌, None, Option}
+use Rattle.std.specs.Prelude.{IsTrue}
+use Rattle.abt_headers.specs.declared.sections.Section.{Section}
+use Rattle.abt_sections.specs.Header.{view_of, places_of}
+use Rattle.abt_sections.specs.Open.{beyond, IsOpened}
+use Rattle.abt_sections.proofs.Causes.{read_on}
+use Rattle.abt_sections.proofs.checking.compare.Goals as goal
+
+pub returns-in-Err-id_holds-clause-cause : goal.returns-in-Err-id_holds-clause-cause
+returns-in-Err-id_holds-clause-cause g c =
+    let s = g.S.Source in
+    let f = s.read_faults in
+    let ps = places_of (view_of c.args.image.now.header) in
+    let now = c.padding_holds.new.source in
+    let first : f c.args.source.now ≤ f now = omega (arith, c.in-Ok.ensures.faults) in
+    let last : f c.id_holds.new.source ≤ f c.id_holds.new.source = omega arith in
+    read_on c.in-Err-id_holds.fault (f c.args.source.now) (f now) (f c.id_holds.new.source) (f c.id_holds.new.source)
+    (IsTrue s.tells → beyond ps (length (s.content now)) ≡ None → ⊥) (IsTrue s.tells → IsOpened (s.content c.args.source.now) c.args.image.now → ⊥)
+    first last (λ changed tells opened. changed tells (ap (λ (l : List ℕ). beyond ps (length l)) (c.in-Ok.ensures.content tells) ∙ opened.has.there)) c.in-Err-id_holds.ensures.cause
+
+pub returns-in-Err-fragments_fill-clause-cause : goal.returns-in-Err-fragments_fill-clause-cause
+returns-in-Err-fragments_fill-clause-cause g c =
+    let s = g.S.Source in
+    let f = s.read_faults in
+    let ps = places_of (view_of c.args.image.now.header) in
+    let now = c.id_holds.new.source in
+    let first : f c.args.source.now ≤ f now = omega (arith, c.in-Ok.ensures.faults, c.id_holds.ensures.faults) in
+    let last : f c.fragments_fill.new.source ≤ f c.fragments_fill.new.source = omega arith in
+    read_on c.in-Err-fragments_fill.fault (f c.args.source.now) (f now) (f c.fragments_fill.new.source) (f c.fragments_fill.new.source)
+    (IsTrue s.tells → beyond ps (length (s.content now)) ≡ None → ⊥) (IsTrue s.tells → IsOpened (s.content c.args.source.now) c.args.image.now → ⊥)
+    first last (λ changed tells opened. changed tells (ap (λ (l : List ℕ). beyond ps (length l)) (c.id_holds.ensures.content tells ∙ c.in-Ok.ensures.content tells) ∙ opened.has.there)) c.in-Err-fragments_fill.ensures.cause
