@@ -2,8 +2,8 @@
 # make run        runs its main job, on the image that it holds
 # make test       the gate: every proof from nothing, the edits that must fail, the tests and the program's run
 # make install    copies the program to PREFIX/bin, by default /usr/local/bin
-# make compare    expands the images of examples/ beside simg2img
-# make bench      times expand and list against simg2img and dd
+# make compare    compares expand, sparse, cut, pack and unpack with AOSP's tools, byte for byte
+# make bench      times the commands against AOSP's tools (needs 6 GiB of disk)
 #
 # All need rt, the command of the Rattle toolchain, on the path (rt version prints its line).
 
@@ -35,9 +35,13 @@ install: $(PROGRAM)
 
 compare: $(PROGRAM)
 	ABOOTIMG=$(PROGRAM) tools/compare_simg2img.sh
+	ABOOTIMG=$(PROGRAM) tools/pieces_simg2img.sh
+	ABOOTIMG=$(PROGRAM) tools/mkbootimg_interop.sh
 
 bench: $(PROGRAM)
 	bench/expand.py --program $(PROGRAM)
+	bench/cut.py --program $(PROGRAM)
+	bench/boot.py --program $(PROGRAM)
 
 clean:
 	rm -rf build

@@ -1,3 +1,10 @@
 pub mod Demo
+pub mod Fault
+pub mod Fragment
+pub mod Info
+pub mod Listed
 pub mod Listing
+pub mod OsWord
+pub mod Pack
+pub mod Printed
 pub mod Shown

@@ -1,11 +1,18 @@
 //! Doing what the words ask for, and the exit status.
 
-ghost use Rattle.std.specs.Prelude.{◌≡◌, ◌≤◌, OnErr, OnOk};
+ghost use Rattle.std.specs.Prelude.{◌≡◌, ◌≤◌, IfErr, OnOk, if◌then◌else◌};
+ghost use Rattle.abootimg.specs.Fault.{is_usage};
 
+use crate::cut::cut_file;
 use crate::fault::{CommandFault, fault_text};
+use crate::info::info_file;
 use crate::listing::report_list;
+use crate::opening::{create, open};
+use crate::pack::pack_file;
 use crate::raw_file::RawFile;
+use crate::sparse::sparse_file;
 use crate::text::Text;
+use crate::unpack::unpack_file;
 use crate::words::{Order, order_of};
 use abt_chunks::{SparseFault, expand};
 use abt_io::{DeviceFault, FromRead, Meter, Output, ToWrite, Window};
@@ -13,7 +20,6 @@ use clap::error::ErrorKind;
 use std::alloc::Global;
 use std::convert::AsStr;
 use std::fs::File;
-use std::io;
 use std::rt::Files;
 
 /// Done.
@@ -57,13 +63,13 @@ pub fn run<R: Files<File = File>, S: AsStr, O: Output, E: Output>(
 /// The exit status of an outcome, whose fault is told to the user.
 pub fn status<E: Output>(outcome: Result<(), CommandFault>, err: &mut E) -> u8
     ensures done { OnOk outcome (result ≡ 0) }
-    ensures refused { OnErr outcome (result ≡ 1) }
+    ensures refused { IfErr outcome (λ fault. result ≡ (if is_usage fault then 2 else 1)) }
 {
     match outcome {
         Ok(()) => DONE,
         Err(fault) => {
             let _ = fault_text(&fault, err);
-            REFUSED
+            if fault.is_usage() { USAGE } else { REFUSED }
         }
     }
 }
@@ -75,7 +81,7 @@ fn print<O: Output>(error: &clap::Error, out: &mut O) -> Result<(), CommandFault
     text.finish().map_err(write_fault)
 }
 
-fn write_fault(fault: DeviceFault) -> CommandFault {
+pub(crate) fn write_fault(fault: DeviceFault) -> CommandFault {
     CommandFault::Sparse(SparseFault::Write(fault))
 }
 
@@ -90,6 +96,11 @@ fn obey<R: Files<File = File>, O: Output>(
     match order {
         Order::Expand { input, output } => expand_file(rt, alloc, input, output, out, w, m),
         Order::List { input } => list_file(rt, alloc, input, out, w, m),
+        Order::Pack(words) => pack_file(rt, alloc, &words, out, w, m),
+        Order::Info { input } => info_file(rt, alloc, input, out, w, m),
+        Order::Unpack { input, folder } => unpack_file(rt, alloc, input, folder, out, w, m),
+        Order::Sparse(order) => sparse_file(rt, alloc, order, out, w, m),
+        Order::Cut(order) => cut_file(rt, alloc, order, out, w, m),
     }
 }
 
@@ -123,29 +134,4 @@ fn list_file<R: Files<File = File>, O: Output>(
 ) -> Result<(), CommandFault> {
     let mut from = FromRead::new(open(rt, alloc, input)?);
     report_list(&mut from, out, w, m).map_err(CommandFault::Sparse)
-}
-
-// Opens a file to read.
-fn open<R: Files<File = File>>(rt: &R, alloc: Global, path: &str) -> Result<File, CommandFault> {
-    opened(File::open(rt, path), alloc, path)
-}
-
-// Opens a file to write, which is created or emptied.
-fn create<R: Files<File = File>>(rt: &R, alloc: Global, path: &str) -> Result<File, CommandFault> {
-    opened(File::create(rt, path), alloc, path)
-}
-
-fn opened(file: io::Result<File>, alloc: Global, path: &str) -> Result<File, CommandFault> {
-    match file {
-        Ok(file) => Ok(file),
-        Err(error) => {
-            if error.kind() == io::ErrorKind::OutOfMemory {
-                return Err(CommandFault::Memory);
-            }
-            match String::from_str(alloc, path) {
-                Ok(path) => Err(CommandFault::CannotOpen(path)),
-                Err(_) => Err(CommandFault::Memory),
-            }
-        }
-    }
 }

@@ -1,6 +1,12 @@
 //! What the program prints and answers: the texts, the faults and the exit statuses, which no clause says.
 
+mod boot_images;
 mod commands;
+mod cutting;
 mod images;
+mod infos;
 mod listings;
+mod packing;
+mod sparsing;
 mod texts;
+mod unpacking;

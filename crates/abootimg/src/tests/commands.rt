@@ -4,6 +4,7 @@ use crate::demo::IMAGE;
 use crate::run::run;
 use crate::tests::images::{WITH_CRC, libsparse, libsparse_raw};
 use abt_io::{Faulty, Meter, SliceOutput, Window};
+use std::convert::AsStr;
 use std::env::temp_dir;
 use std::fs::File;
 use std::process::Abort;
@@ -11,10 +12,10 @@ use std::rt::Files;
 use std::test::Fail;
 use std::{fs, process};
 
-// Runs the words, the first of which is the program's name, and expects these texts and this status.
-fn expect<R: Files<File = File> + AllocGlobal + Abort>(
+/// Runs the words, the first of which is the program's name, and expects these texts and this status.
+pub fn expect<R: Files<File = File> + AllocGlobal + Abort, S: AsStr>(
     rt: &R,
-    words: &[&str],
+    words: &[S],
     out_text: &str,
     err_text: &str,
     status: u8,
@@ -31,8 +32,8 @@ fn expect<R: Files<File = File> + AllocGlobal + Abort>(
     assert_eq!(rt; answered, status);
 }
 
-// A path in the folder for such files, which no other test takes.
-fn place(rt: &HostRuntime, name: &str) -> Result<String, Fail> {
+/// A path in the folder for such files, which no other test takes.
+pub fn place(rt: &HostRuntime, name: &str) -> Result<String, Fail> {
     let folder = temp_dir(rt)?;
     let folder = folder.as_str();
     let id = process::id(rt.process());
@@ -210,7 +211,7 @@ fn help_and_version_go_to_standard_output(rt: HostRuntime) {
 }
 
 // The first write to standard output fails.
-fn expect_write_fault<R: Files<File = File> + AllocGlobal + Abort>(rt: &R, words: &[&str]) {
+pub fn expect_write_fault<R: Files<File = File> + AllocGlobal + Abort>(rt: &R, words: &[&str]) {
     let mut w = Window::new();
     let mut m = Meter::new();
     let mut out_room = [0u8; 1500];

@@ -3,7 +3,9 @@
 use crate::demo::demo;
 use crate::fault::{CommandFault, fault_text};
 use abt_chunks::SparseFault;
+use abt_headers::{HeaderFault, Section};
 use abt_io::{Cut, DeviceFault, Faulty, Meter, SliceOutput, Window};
+use abt_sections::SectionFault;
 use std::process::Abort;
 use std::test::Fail;
 
@@ -74,6 +76,43 @@ fn each_fault_has_its_line(rt: HostRuntime) -> Result<(), Fail> {
         "abootimg: cannot open no/such file\n",
     );
     Ok(())
+}
+
+#[test]
+fn each_fault_of_a_boot_image_has_its_line(rt: HostRuntime) {
+    let header = |fault| SectionFault::Header(fault);
+    let lines = [
+        (
+            SectionFault::Read(DeviceFault::Failed),
+            "abootimg: 11 Read\n",
+        ),
+        (
+            SectionFault::Write(DeviceFault::Full),
+            "abootimg: 12 Write\n",
+        ),
+        (SectionFault::SourceChanged, "abootimg: 14 SourceChanged\n"),
+        (header(HeaderFault::Magic), "abootimg: 20 Magic\n"),
+        (header(HeaderFault::Version(5)), "abootimg: 21 Version 5\n"),
+        (
+            header(HeaderFault::PageSize(1024)),
+            "abootimg: 22 PageSize 1024\n",
+        ),
+        (header(HeaderFault::Table), "abootimg: 23 Table\n"),
+        (SectionFault::Entry(1), "abootimg: 24 Entry 1\n"),
+        (
+            header(HeaderFault::Short { need: 1632 }),
+            "abootimg: 25 Short need 1632\n",
+        ),
+        (
+            SectionFault::SectionTruncated {
+                section: Section::Bootconfig,
+            },
+            "abootimg: 29 SectionTruncated bootconfig\n",
+        ),
+    ];
+    for (fault, text) in lines {
+        expect_text(&rt, CommandFault::Section(fault), text);
+    }
 }
 
 #[test]
