@@ -1,7 +1,7 @@
 #!/usr/bin/env bash
 # Refuses each allocation of each command in turn: the Nth call of malloc, calloc or realloc, for N from 1 until a run ends
-# clean. Each run must print `abootimg: memory` and end with status 1, or give what it gives with memory. Nothing in the gate
-# runs this.
+# clean. Each run must print `abootimg: memory` and end with status 1, or give what it gives with memory. Pieces that `cut` had
+# written before stand, as its lines say. Nothing in the gate runs this.
 #
 #   tools/refuse_memory.sh           the program is $ABOOTIMG, or crates/abootimg/out/abootimg; needs gcc
 set -uo pipefail
@@ -10,7 +10,11 @@ program=$(realpath "${ABOOTIMG:-$here/crates/abootimg/out/abootimg}")
 work=$(mktemp -d)
 trap 'rm -rf "$work"' EXIT
 cp "$here/examples/libsparse_crc.simg" "$work/image.simg"
+cp "$here/examples/libsparse_crc.raw" "$work/plain.raw"
 cd "$work"
+# A boot image of version 0 with pages of 2,048 bytes and a kernel of one byte.
+{ printf 'ANDROID!\001' && head -c 27 /dev/zero && printf '\000\010' && head -c 2010 /dev/zero && printf 'K'; } > boot.img
+mkdir parts
 
 cat > refuse.c <<'C'
 #define _GNU_SOURCE
@@ -56,18 +60,40 @@ gcc -shared -fPIC -O1 -o refuse.so refuse.c -ldl
 run() { # N words
     local n=$1
     shift
-    rm -f raw.img
+    rm -f raw.img piece.* parts/*
     REFUSE=$n LD_PRELOAD=$work/refuse.so "$program" "$@" > out 2> err 9> told
     status=$?
 }
 
+# Each piece whose line is printed is whole, and the lines are the first of those that a run with memory prints.
+pieces_stand() {
+    local line number
+    while read -r line; do
+        [ "${line%% *}" = piece ] || continue
+        number=${line#piece }
+        number=${number%% *}
+        cmp -s "piece.$number" "want_pieces/piece.$number" || return 1
+    done < out
+    cmp -s -n "$(stat -c %s out)" out want_out
+}
+
 failed=0
-for words in "" "list image.simg" "expand image.simg raw.img" "list no-such-file" "nothing" "--help"; do
+for words in "" "list image.simg" "expand image.simg raw.img" "list no-such-file" "nothing" "--help" \
+    "pack --version 2 --kernel image.simg --dtb image.simg --name board --os 13.0.0-2023-05 raw.img" \
+    "pack --vendor --version 4 --dtb image.simg raw.img platform:a:image.simg none:b:image.simg" \
+    "pack --version 3 --signature image.simg raw.img" "pack --version 4 raw.img none:a:image.simg" \
+    "pack --version 4 --kernel no-such-file raw.img" \
+    "info boot.img" "unpack boot.img parts" "unpack boot.img none" \
+    "cut image.simg 1200 piece" "cut plain.raw 1200 piece --raw 1024" "cut no-such-file 1200 piece" \
+    "cut image.simg 1200 no-such-folder/piece" "cut image.simg 1k piece" \
+    "sparse plain.raw raw.img --block 1024" "sparse plain.raw no-such-folder/raw.img"; do
     # shellcheck disable=SC2086
     run 0 $words
     want_status=$status
     cp out want_out && cp err want_err
     rm -f want_raw && [ -f raw.img ] && cp raw.img want_raw
+    rm -rf want_parts && cp -r parts want_parts
+    rm -rf want_pieces && mkdir want_pieces && cp piece.* want_pieces 2> /dev/null
     wants=0
     for n in $(seq 100000); do
         # shellcheck disable=SC2086
@@ -75,8 +101,12 @@ for words in "" "list image.simg" "expand image.simg raw.img" "list no-such-file
         if [ $status = 1 ] && [ "$(cat err)" = 'abootimg: memory' ]; then
             wants=$((wants + 1))
         elif [ $status != $want_status ] || ! cmp -s out want_out || ! cmp -s err want_err ||
-            { [ -f want_raw ] && ! cmp -s raw.img want_raw; }; then
+            { [ -f want_raw ] && ! cmp -s raw.img want_raw; } || ! diff -r parts want_parts > /dev/null; then
             echo "abootimg $words: allocation $n refused: status $status, $(head -c 100 err)"
+            failed=1
+        fi
+        if ! pieces_stand; then
+            echo "abootimg $words: allocation $n refused: a piece before it does not stand"
             failed=1
         fi
         [ -s told ] || break
