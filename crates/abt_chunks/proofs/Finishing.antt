@@ -216,11 +216,11 @@ unfolding walk
 owed_walk k due h i have zero raw words word size = owed_body k due h i have raw words word size
 owed_walk k due h i have (suc extra) raw words word size = let t : nat_lt 0 (suc extra) ≡ true = lt-ltb _ _ (omega arith) in let e : (suc extra == 0) ≡ false = ne_eqb _ _ (λ q. absurd (omega (arith, q))) in rw (t, e) refl
 
-abbrev IsFine : Phase → Type 0
+abbrev pub IsFine : Phase → Type 0
 IsFine phases.Header = ⊥
 IsFine p = Unit {0}
 
-owed_at : (p : Phase) (s : Walk) → IsFine p → (ahead_in p s []).cells ≡ owed_in p s
+pub owed_at : (p : Phase) (s : Walk) → IsFine p → (ahead_in p s []).cells ≡ owed_in p s
 owed_at phases.Header s fine = absurd fine
 owed_at phases.Body s fine = owed_walk s.kind s.due (view s.header) s.index s.have s.extra s.raw s.words s.word (s.position + 0)
 owed_at phases.Done s fine = refl

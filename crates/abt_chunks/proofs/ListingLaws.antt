@@ -28,7 +28,7 @@ shown_chunks h size (c ∷ cs) i have y rest s few room =
     ∙ ap (λ (l : Listing). shown_before (info_of i c ∷ []) l) (rw (a, b) at (shown_chunks h size cs (i + 1) (have + count c) s.1 rest s.4 (omega (arith, few)) (omega (arith, room)))))
 
 -- behind a header that is spelled
-listing_behind_header : (x : List ℕ) (h : Header) (after : List ℕ) → SpellsHeader x h after → listing_of x ≡ listing_from h (length x) 0 0 after
+pub listing_behind_header : (x : List ℕ) (h : Header) (after : List ℕ) → SpellsHeader x h after → listing_of x ≡ listing_from h (length x) 0 0 after
 unfolding listing_of
 listing_behind_header x h after s =
     let b = behind_header x h after s in

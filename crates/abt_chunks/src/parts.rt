@@ -3,7 +3,8 @@
 //! Each function that takes a turn has the same clauses. `says`: what lies ahead is what the part gives, and then what
 //! lies ahead behind it, whatever bytes follow. `lists`: the same of what a listing shows. `short`: too few bytes are a
 //! fault. `leaves`, `moved`, `numbers`, `closes`, `empties`: the phase and the counts behind it. `inside`, `place`: where
-//! its bytes lie in the expanded image. `cause`: whose fault it is. `fewer`: less is left to do.
+//! its bytes lie in the expanded image. `header`: the header of the image stays once it has been read. `cause`: whose
+//! fault it is. `fewer`: less is left to do.
 
 ghost use Rattle.std.specs.Prelude.{◌≡◌, ◌≤◌, ◌<◌, ◌+◌, ℕ, List, [], length, IsTrue, true, false, ◌-◌, take, drop};
 ghost use Rattle.abt_sparse.specs.Reading.{kind_at, number_at};
@@ -28,6 +29,7 @@ impl Walk {
         ensures within { (fills skips : ℕ) → Within result fills skips }
         ensures empties { (fills skips : ℕ) → Empties result self.old self.new fills skips }
         ensures closes { Closes result self.old.phase self.old }
+        ensures header { self.old.phase ≡ Phase.Body → self.new.header ≡ self.old.header }
         ensures cause { Caused result self.old.phase 1 0 }
         ensures fewer { IsTrue (goes_on result) → todo self.new < todo self.old }
         ensures numbers { IsTrue (goes_on result) → Numbers self.old.phase self.old self.new (length got.now) }
@@ -73,6 +75,7 @@ impl Walk {
         ensures within { (fills skips : ℕ) → Within result fills skips }
         ensures empties { (fills skips : ℕ) → Empties result self.old self.new fills skips }
         ensures closes { Closes result self.old.phase self.old }
+        ensures header { self.old.phase ≡ Phase.Body → self.new.header ≡ self.old.header }
         ensures cause { Caused result self.old.phase 1 0 }
         ensures fewer { IsTrue (goes_on result) → todo self.new < todo self.old }
         ensures numbers { IsTrue (goes_on result) → Numbers self.old.phase self.old self.new (length got.now) }
@@ -99,6 +102,7 @@ impl Walk {
         ensures within { (fills skips : ℕ) → Within result fills skips }
         ensures empties { (fills skips : ℕ) → Empties result self.old self.new fills skips }
         ensures closes { Closes result self.old.phase self.old }
+        ensures header { self.old.phase ≡ Phase.Body → self.new.header ≡ self.old.header }
         ensures cause { Caused result self.old.phase 1 0 }
         ensures fewer { IsTrue (goes_on result) → todo self.new < todo self.old }
         ensures numbers { IsTrue (goes_on result) → Numbers self.old.phase self.old self.new (length got.now) }
@@ -125,6 +129,7 @@ impl Walk {
         ensures within { (fills skips : ℕ) → Within result fills skips }
         ensures empties { (fills skips : ℕ) → Empties result self.old self.new fills skips }
         ensures closes { Closes result self.old.phase self.old }
+        ensures header { self.old.phase ≡ Phase.Body → self.new.header ≡ self.old.header }
         ensures cause { Caused result self.old.phase 1 0 }
         ensures fewer { IsTrue (goes_on result) → todo self.new < todo self.old }
         ensures numbers { IsTrue (goes_on result) → Numbers self.old.phase self.old self.new (length got.now) }
@@ -153,6 +158,7 @@ impl Walk {
         ensures within { (fills skips : ℕ) → Within result fills skips }
         ensures empties { (fills skips : ℕ) → Empties result self.old self.new fills skips }
         ensures closes { Closes result self.old.phase self.old }
+        ensures header { self.old.phase ≡ Phase.Body → self.new.header ≡ self.old.header }
         ensures cause { Caused result self.old.phase 1 0 }
         ensures fewer { IsTrue (goes_on result) → todo self.new < todo self.old }
         ensures numbers { IsTrue (goes_on result) → Numbers self.old.phase self.old self.new (length got.now) }
@@ -185,6 +191,7 @@ impl Walk {
         ensures within { (fills skips : ℕ) → Within result fills skips }
         ensures empties { (fills skips : ℕ) → Empties result self.old self.new fills skips }
         ensures closes { Closes result self.old.phase self.old }
+        ensures header { self.old.phase ≡ Phase.Body → self.new.header ≡ self.old.header }
         ensures cause { Caused result self.old.phase 1 0 }
         ensures fewer { IsTrue (goes_on result) → todo self.new < todo self.old }
         ensures numbers { IsTrue (goes_on result) → Numbers self.old.phase self.old self.new (length got.now) }
@@ -231,6 +238,7 @@ impl Walk {
         ensures within { (skips : ℕ) → Within result most skips }
         ensures empties { (skips : ℕ) → Empties result self.old self.new most skips }
         ensures closes { Closes result self.old.phase self.old }
+        ensures header { self.old.phase ≡ Phase.Body → self.new.header ≡ self.old.header }
         ensures cause { Caused result Phase.Body 1 0 }
         ensures fewer { todo self.new < todo self.old }
         ensures numbers { Numbers self.old.phase self.old self.new 0 }
@@ -254,6 +262,7 @@ impl Walk {
         ensures within { (fills : ℕ) → Within result fills most }
         ensures empties { (fills : ℕ) → Empties result self.old self.new fills most }
         ensures closes { Closes result self.old.phase self.old }
+        ensures header { self.old.phase ≡ Phase.Body → self.new.header ≡ self.old.header }
         ensures cause { Caused result Phase.Body 1 0 }
         ensures fewer { todo self.new < todo self.old }
         ensures numbers { Numbers self.old.phase self.old self.new 0 }
@@ -275,6 +284,7 @@ impl Walk {
         ensures within { (fills skips : ℕ) → Within result fills skips }
         ensures empties { (fills skips : ℕ) → Empties result self.old self.new fills skips }
         ensures closes { Closes result self.old.phase self.old }
+        ensures header { self.old.phase ≡ Phase.Body → self.new.header ≡ self.old.header }
         ensures cause { Caused result self.old.phase 1 0 }
         ensures over { goes_on result ≡ false }
     {
@@ -320,6 +330,7 @@ impl Walk {
         ensures within { Within result fills skips }
         ensures empties { Empties result self.old self.new fills skips }
         ensures closes { Closes result self.old.phase self.old }
+        ensures header { self.old.phase ≡ Phase.Body → self.new.header ≡ self.old.header }
         ensures cause { Caused result self.old.phase 1 0 }
         ensures fewer { IsTrue (goes_on result) → todo self.new < todo self.old }
         ensures numbers { IsTrue (goes_on result) → Numbers self.old.phase self.old self.new (length got.now) }
@@ -366,6 +377,7 @@ impl Walk {
         ensures within { Within result.part fills skips }
         ensures empties { Empties result.part self.old self.new fills skips }
         ensures closes { Closes result.part self.old.phase self.old }
+        ensures header { self.old.phase ≡ Phase.Body → self.new.header ≡ self.old.header }
         ensures cause { Caused result.part self.old.phase (I.read_faults input.old) (I.read_faults input.new) }
         ensures fewer { IsTrue (goes_on result.part) → todo self.new < todo self.old }
         ensures numbers { IsTrue (goes_on result.part) → Numbers self.old.phase self.old self.new result.received }

@@ -13,6 +13,7 @@ impl Walk {
     pub fn fail(&mut self, fault: SparseFault) -> Part
         ensures part { result ≡ Part.Fault fault }
         ensures failed { self.new.phase ≡ Phase.Failed fault }
+        ensures header { self.new.header ≡ self.old.header }
     {
         self.phase = Phase::Failed(fault);
         Part::Fault(fault)
@@ -49,7 +50,7 @@ impl Walk {
     }
 
     /// Nothing is left of what was begun, the image's header or a chunk.
-    pub(crate) fn is_at_end(&self) -> bool
+    pub fn is_at_end(&self) -> bool
         ensures { result ≡ at_end self.now }
     {
         self.extra == 0 && nothing_left(self.kind, self.due, self.raw, self.words)

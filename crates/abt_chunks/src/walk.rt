@@ -91,6 +91,7 @@ pub struct Walk {
     pub position: u64,
     pub ghost counted: { index ≤ header.total_chunks },
     pub ghost room: { have ≤ header.total_blks },
+    pub ghost begun: { have ≤ 4294967295 * index },
     pub ghost laid: { left_of kind raw words ≤ have * header.blk_sz },
     pub ghost placed: { position + extra + raw + (if due then 4 else 0) ≤ 65535 + 4294967295 * index },
 }

@@ -5,7 +5,7 @@ use Rattle.std.proofs.Math.Seq.{drop-append-add}
 use Rattle.std.proofs.lemmas.Bool.Decides.{nat_tests}
 use Rattle.abt_io.proofs.Parts.{take_plus}
 use Rattle.std.specs.List.{AllByRecursion}
-use Rattle.abt_io.specs.Moment.{Moment, Past, Keeps, EachSince, Through, moment_of, wrote, settled, in_range, put_at}
+use Rattle.abt_io.specs.Moment.{Moment, Past, Keeps, KeepsUnsynced, EachSince, Through, moment_of, wrote, settled, in_range, put_at}
 
 -- one moment more, which is now
 pub one_more : (old new : Past) (content : List ℕ) → new.moments ≡ moment_of new content ∷ old.moments → EachSince old.moments new.moments (λ m. m ≡ moment_of new content)
@@ -65,12 +65,12 @@ keeps_within touched more a b f h = record {
 pub within_part : (at d k n i : ℕ) → d + k ≤ n → in_range at n i ≡ false → in_range (at + d) k i ≡ false
 within_part at d k n i le h = grind (arith, nat_tests)
 
--- one call more, which touches only what may be touched
-pub moment_more : (touched inner : ℕ → Bool) (m0 m m' : Moment) (a b c : List Moment) → ((i : ℕ) → touched i ≡ false → inner i ≡ false)
-    → Keeps touched m0 m → Keeps inner m m' → EachSince a b (Keeps touched m0) → EachSince b c (λ x. x ≡ m') → Keeps touched m0 m' × EachSince a c (Keeps touched m0)
-moment_more touched inner m0 m m' a b c f h k so_far now =
+-- one call more, which touches only what may be touched, and in which no sync succeeds
+pub unsynced_more : (touched inner : ℕ → Bool) (m0 m m' : Moment) (a b c : List Moment) → ((i : ℕ) → touched i ≡ false → inner i ≡ false)
+    → Keeps touched m0 m → Keeps inner m m' → EachSince a b (KeepsUnsynced touched m0) → EachSince b c (λ x. x ≡ m') → m'.synced ≡ m0.synced → Keeps touched m0 m' × EachSince a c (KeepsUnsynced touched m0)
+unsynced_more touched inner m0 m m' a b c f h k so_far now same =
     let kept = keeps_then touched m0 m m' h (keeps_within inner touched m m' f k) in
-    (kept, since_then a b c (Keeps touched m0) so_far (since_last b c m' (Keeps touched m0) kept now))
+    (kept, since_then a b c (KeepsUnsynced touched m0) so_far (since_last b c m' (KeepsUnsynced touched m0) record { kept = kept; synced = same } now))
 
 -- a write that goes on where the last one ended
 pub put_then : (c x y : List ℕ) (at : ℕ) → at + length x ≤ length c → put_at (put_at c at x) (at + length x) y ≡ put_at c at (x ++ y)

@@ -53,6 +53,11 @@ pub record Keeps (touched : ℕ → Bool) (m n : Moment) : Type 0 where
   pub bytes : (i : ℕ) → touched i ≡ false → slice_get n.content i ≡ slice_get m.content i
   pub pending : (i : ℕ) → touched i ≡ false → is_pending m.pending i ≡ false → is_pending n.pending i ≡ false
 
+-- the same, and no sync has succeeded from m to n
+pub record KeepsUnsynced (touched : ℕ → Bool) (m n : Moment) : Type 0 where
+  pub kept : Keeps touched m n
+  pub synced : n.synced ≡ m.synced
+
 -- old with these bytes at a place
 abbrev pub put_at : List ℕ → ℕ → List ℕ → List ℕ
 put_at old at bytes = take at old ++ bytes ++ drop (at + length bytes) old

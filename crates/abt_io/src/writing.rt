@@ -1,7 +1,7 @@
 //! Writing all of some bytes: to an output, and to a place of a partition.
 
 ghost use Rattle.std.specs.Prelude.{◌≡◌, ◌<◌, ◌≤◌, ◌+◌, ◌-◌, ◌^◌, ◌++◌, IsTrue, OnOk, OnErr, length, take};
-ghost use Rattle.abt_io.specs.Moment.{Keeps, EachSince, in_range, moment_of, put_at};
+ghost use Rattle.abt_io.specs.Moment.{Keeps, KeepsUnsynced, EachSince, in_range, moment_of, put_at};
 
 use crate::{DeviceFault, Meter, Output, Partition};
 
@@ -43,10 +43,13 @@ pub fn write_all_at<P: Partition>(
     ensures size { P.size partition.new ≡ P.size partition.old }
     ensures written { IsTrue P.tells → OnOk result (P.content partition.new ≡ put_at (P.content partition.old) at bytes.now) }
     ensures kept { IsTrue P.tells → Keeps (in_range at (length bytes.now)) (moment_of (P.past partition.old) (P.content partition.old)) (moment_of (P.past partition.new) (P.content partition.new)) }
-    ensures moments { IsTrue P.tells → EachSince (P.past partition.old).moments (P.past partition.new).moments (Keeps (in_range at (length bytes.now)) (moment_of (P.past partition.old) (P.content partition.old))) }
+    ensures moments { IsTrue P.tells → EachSince (P.past partition.old).moments (P.past partition.new).moments (KeepsUnsynced (in_range at (length bytes.now)) (moment_of (P.past partition.old) (P.content partition.old))) }
     ensures synced { (P.past partition.new).synced ≡ (P.past partition.old).synced }
     ensures calls { P.puts partition.new ≤ P.puts partition.old + length bytes.now }
     ensures syncs { P.syncs partition.new ≡ P.syncs partition.old }
+    ensures reads { P.reads partition.new ≡ P.reads partition.old }
+    ensures given { P.given partition.new ≡ P.given partition.old }
+    ensures read_faults { P.read_faults partition.new ≡ P.read_faults partition.old }
     ensures faults { P.put_faults partition.old ≤ P.put_faults partition.new }
     ensures cause { OnErr result (P.put_faults partition.old < P.put_faults partition.new) }
     ensures turns { m.new.turns.number ≤ m.old.turns.number + length bytes.now }

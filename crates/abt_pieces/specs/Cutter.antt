@@ -69,6 +69,13 @@ abbrev pub OnPiece : Result PieceProgress PieceFault → (Piece → Type 0) → 
 OnPiece (Ok (answers.Piece p)) P = P p
 OnPiece r P = ⊤
 
+-- behind a piece from block s up to e, of an image of n blocks: only the last piece ends with the image, and each other one has a block
+pub record Passed (n s e : ℕ) (st : Stage) : Type 0 where
+  pub moves : e < n → s < e
+  pub within : e ≤ n
+  pub between : e < n → st ≡ Between
+  pub done : n ≤ e → st ≡ Done
+
 -- ---- the numbers, whatever the source gave
 
 -- a plan of the piece that begins at block s

@@ -7,7 +7,7 @@ ghost use Rattle.abt_pieces.specs.Fault.{HasCause};
 ghost use Rattle.abt_pieces.specs.Plan.{FirstPiece};
 ghost use Rattle.abt_pieces.specs.Outline.{IsPiece, IsOutline, blocks_of};
 ghost use Rattle.abt_pieces.specs.Alike.{SoundCutter-prop};
-ghost use Rattle.abt_pieces.specs.Cutter.{SoundOutline, SoundCutter, ToldCutter, Made, segments_left, coming, has_more, is_begun, piece_words};
+ghost use Rattle.abt_pieces.specs.Cutter.{SoundOutline, SoundCutter, ToldCutter, Made, Passed, segments_left, coming, has_more, is_begun, piece_words};
 ghost use Rattle.abt_pieces.specs.SpentStage.{all_passes};
 ghost use Rattle.abt_pieces.specs.declared.stage.Stage.{Stage};
 
@@ -147,6 +147,8 @@ impl<R: BlockRuns + Drop> Cutter<R> {
         ensures grown { length (O.written output.old) ≤ length (O.written output.new) }
         ensures within { length (O.written output.new) ≤ length (O.written output.old) + self.old.limit }
         ensures front { IsTrue S.tells → O.written output.new ≡ O.written output.old ++ take (length (O.written output.new) - length (O.written output.old)) (coming (R.size self.old.runs) self.old.limit (R.list self.old.runs (S.content source.old)) self.old.start.block self.old.stage) }
+        ensures passed { IfOk result (λ o. IfSome o (λ p. Passed (R.count self.old.runs) p.first p.past self.new.stage)) }
+        ensures least { IfOk result (λ o. IfSome o (λ p. 28 ≤ p.bytes)) }
         ensures piece { IfOk result (λ o. IfSome o (λ p. (p.first ≡ self.old.start.block) × (p.past ≡ self.new.start.block) × (p.bytes ≤ self.old.limit) × (length (O.written output.new) ≡ length (O.written output.old) + p.bytes) × (self.new.made ≡ self.old.made + 1))) }
         ensures written { IsTrue S.tells → IfOk result (λ o. IfSome o (λ p. O.written output.new ≡ O.written output.old ++ piece_bytes (R.size self.old.runs) (blocks_of (R.list self.old.runs (S.content source.old)) p))) }
         ensures exact { IsTrue S.tells → IfOk result (λ o. IfSome o (λ p. IsPiece (R.size self.old.runs) (R.list self.old.runs (S.content source.old)) p)) }
@@ -161,9 +163,9 @@ impl<R: BlockRuns + Drop> Cutter<R> {
         ensures takes { IfOk result (λ o. IfSome o (λ p. p.bytes + R.taken self.old.runs self.old.start ≤ R.taken self.old.runs self.new.start + 80)) }
         ensures spent { IsTrue S.tells → IfOk result (λ o. IfSome o (λ p. S.given source.new + all_passes (R.charge self.old.runs) (R.copied self.old.runs) self.old.start ≤ S.given source.old + all_passes (R.charge self.old.runs) (R.copied self.old.runs) self.new.start + 80 + R.one self.old.runs)) }
         ensures spent_end { IsTrue S.tells → IfOk result (λ o. IfSome o (λ p. R.count self.old.runs ≤ p.past → S.given source.new + all_passes (R.charge self.old.runs) (R.copied self.old.runs) self.old.start ≤ S.given source.old + all_passes (R.charge self.old.runs) (R.copied self.old.runs) self.new.start + 48)) }
-        ensures calls { (S.reads source.new - S.reads source.old) + (O.writes output.new - O.writes output.old) ≤ 8 * ((S.given source.new - S.given source.old) + (length (O.written output.new) - length (O.written output.old))) + 512 }
-        ensures turns { m.new.turns.number ≤ m.old.turns.number + 8 * ((S.given source.new - S.given source.old) + (length (O.written output.new) - length (O.written output.old))) + 512 + 3 * R.one self.old.runs }
-        ensures words { IfOk result (λ o. IfSome o (λ p. m.new.turns.number ≤ m.old.turns.number + 8 * ((S.given source.new - S.given source.old) + (length (O.written output.new) - length (O.written output.old))) + 512 + piece_words (R.one self.old.runs) (R.count self.old.runs) p.past)) }
+        ensures calls { (S.reads source.new - S.reads source.old) + (O.writes output.new - O.writes output.old) ≤ 4 * ((S.given source.new - S.given source.old) + (length (O.written output.new) - length (O.written output.old))) + 24 }
+        ensures turns { m.new.turns.number ≤ m.old.turns.number + 6 * ((S.given source.new - S.given source.old) + (length (O.written output.new) - length (O.written output.old))) + 32 + 3 * R.one self.old.runs }
+        ensures words { IfOk result (λ o. IfSome o (λ p. m.new.turns.number ≤ m.old.turns.number + 6 * ((S.given source.new - S.given source.old) + (length (O.written output.new) - length (O.written output.old))) + 32 + piece_words (R.one self.old.runs) (R.count self.old.runs) p.past)) }
         ensures faults { S.read_faults source.old ≤ S.read_faults source.new }
         ensures write_faults { O.write_faults output.old ≤ O.write_faults output.new }
         ensures cause { IfErr result (λ e. (self.old.stage ≡ Stage.Failed e) ⊎ HasCause e S.tells (S.read_faults source.old) (S.read_faults source.new) (O.write_faults output.old) (O.write_faults output.new)) }
@@ -196,6 +198,8 @@ impl<R: BlockRuns + Drop> Cutter<R> {
         ensures frame { S.read_frame source.new ≡ S.read_frame source.old }
         ensures told { IsTrue S.tells → ToldCutter (R.place self.old.runs (S.content source.old)) (R.together self.old.runs (S.content source.old)) (R.size self.old.runs) (R.list self.old.runs (S.content source.old)) self.new.limit self.new.made self.new.start self.new.stage }
         ensures unbegun { is_begun self.new.stage ≡ false }
+        ensures passed { IfOk result (λ o. IfSome o (λ p. Passed (R.count self.old.runs) p.first p.past self.new.stage)) }
+        ensures least { IfOk result (λ o. IfSome o (λ p. 28 ≤ p.bytes)) }
         ensures piece { IfOk result (λ o. IfSome o (λ p. (p.first ≡ self.old.start.block) × (p.past ≡ self.new.start.block) × (p.bytes ≤ self.old.limit) × (self.new.made ≡ self.old.made + 1))) }
         ensures exact { IsTrue S.tells → IfOk result (λ o. IfSome o (λ p. IsPiece (R.size self.old.runs) (R.list self.old.runs (S.content source.old)) p)) }
         ensures greatest { IsTrue S.tells → IfOk result (λ o. IfSome o (λ p. FirstPiece (R.size self.old.runs) (R.list self.old.runs (S.content source.old)) self.old.limit p.first p.past)) }
@@ -208,9 +212,9 @@ impl<R: BlockRuns + Drop> Cutter<R> {
         ensures given { S.given source.old ≤ S.given source.new }
         ensures steps { S.given source.new + 65536 * m.old.steps.number ≤ S.given source.old + 65536 * m.new.steps.number }
         ensures received { m.new.greatest.number ≤ max m.old.greatest.number 65536 }
-        ensures calls { S.reads source.new ≤ S.reads source.old + 8 * (S.given source.new - S.given source.old) + 512 }
-        ensures turns { m.new.turns.number ≤ m.old.turns.number + 8 * (S.given source.new - S.given source.old) + 512 + 3 * R.one self.old.runs }
-        ensures words { IfOk result (λ o. IfSome o (λ p. m.new.turns.number ≤ m.old.turns.number + 8 * (S.given source.new - S.given source.old) + 512 + piece_words (R.one self.old.runs) (R.count self.old.runs) p.past)) }
+        ensures calls { S.reads source.new ≤ S.reads source.old + 3 * (S.given source.new - S.given source.old) + 2 }
+        ensures turns { m.new.turns.number ≤ m.old.turns.number + 5 * (S.given source.new - S.given source.old) + 2 + 2 * R.one self.old.runs }
+        ensures words { IfOk result (λ o. IfSome o (λ p. m.new.turns.number ≤ m.old.turns.number + 5 * (S.given source.new - S.given source.old) + 2 + piece_words (R.one self.old.runs) (R.count self.old.runs) p.past)) }
         ensures faults { S.read_faults source.old ≤ S.read_faults source.new }
         ensures cause { IfErr result (λ e. (self.old.stage ≡ Stage.Failed e) ⊎ HasCause e S.tells (S.read_faults source.old) (S.read_faults source.new) 0 0) }
     {

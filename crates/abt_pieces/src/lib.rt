@@ -39,7 +39,7 @@ pub use sparsify_count::Written;
 pub use sparsify_image::sparsify;
 pub use stage::{PieceProgress, Stage};
 pub use tail::Tail;
-pub use write::{Copying, Writer, write_chunks};
+pub use write::{Copying, Writer};
 
 #[cfg(test)]
 mod tests;

@@ -5,7 +5,7 @@ ghost use Rattle.abt_sparse.specs.Chunk.{header_record, plain_header};
 ghost use Rattle.abt_pieces.specs.Fault.{HasCause};
 ghost use Rattle.abt_pieces.specs.Plan.{Planned, Even, FirstPiece, last_words};
 ghost use Rattle.abt_pieces.specs.Outline.{IsPiece, IsOutline, piece_at};
-ghost use Rattle.abt_pieces.specs.Cutter.{SoundPlanner, SoundOutline, SoundWriting, SoundStage, SoundCutter, TakenPlan, TakenStage, silent_cut, cut_words, piece_words, ToldPlanner, ToldWriting, ToldStage, ToldCutter, is_more, OnMore, OnEnd, OnPiece, coming, is_begun, so_far, first_writer, planned_left, cut_left};
+ghost use Rattle.abt_pieces.specs.Cutter.{SoundPlanner, SoundOutline, SoundWriting, SoundStage, SoundCutter, TakenPlan, TakenStage, silent_cut, cut_words, piece_words, ToldPlanner, ToldWriting, ToldStage, ToldCutter, Passed, is_more, OnMore, OnEnd, OnPiece, coming, is_begun, so_far, first_writer, planned_left, cut_left};
 ghost use Rattle.abt_pieces.specs.SpentStage.{SpentPlan, SpentStage, SpentPiece};
 ghost use Rattle.abt_pieces.specs.declared.stage.Stage.{Stage};
 ghost use Rattle.abt_pieces.specs.declared.stage.PieceProgress.{PieceProgress};
@@ -202,6 +202,8 @@ impl<R: BlockRuns + Drop> Cutter<R> {
         ensures front { IsTrue S.tells → O.written output.new ≡ O.written output.old ++ take (length (O.written output.new) - length (O.written output.old)) (coming (R.size self.old.runs) self.old.limit (R.list self.old.runs (S.content source.old)) self.old.start.block self.old.stage) }
         ensures rest { IsTrue S.tells → OnMore result (coming (R.size self.old.runs) self.old.limit (R.list self.old.runs (S.content source.old)) self.old.start.block self.new.stage ≡ drop (length (O.written output.new) - length (O.written output.old)) (coming (R.size self.old.runs) self.old.limit (R.list self.old.runs (S.content source.old)) self.old.start.block self.old.stage)) }
         ensures whole { IsTrue S.tells → OnPiece result (λ p. O.written output.new ≡ O.written output.old ++ coming (R.size self.old.runs) self.old.limit (R.list self.old.runs (S.content source.old)) self.old.start.block self.old.stage) }
+        ensures passed { OnPiece result (λ p. Passed (R.count self.old.runs) p.first p.past self.new.stage) }
+        ensures least { OnPiece result (λ p. 28 ≤ p.bytes) }
         ensures piece { OnPiece result (λ p. (p.first ≡ self.old.start.block) × (p.past ≡ self.new.start.block) × (p.bytes ≤ self.old.limit) × (p.bytes ≡ so_far self.old.stage + (length (O.written output.new) - length (O.written output.old))) × (self.new.made ≡ self.old.made + 1)) }
         ensures exact { IsTrue S.tells → OnPiece result (λ p. IsPiece (R.size self.old.runs) (R.list self.old.runs (S.content source.old)) p × FirstPiece (R.size self.old.runs) (R.list self.old.runs (S.content source.old)) self.old.limit p.first p.past) }
         ensures left { OnMore result (cut_left (R.left self.old.runs) (R.count self.old.runs) self.old.start self.new.stage < cut_left (R.left self.old.runs) (R.count self.old.runs) self.old.start self.old.stage) }
@@ -264,6 +266,8 @@ impl<R: BlockRuns + Drop> Cutter<R> {
         ensures front { IsTrue S.tells → O.written output.new ≡ O.written output.old ++ take (length (O.written output.new) - length (O.written output.old)) (coming (R.size self.old.runs) self.old.limit (R.list self.old.runs (S.content source.old)) self.old.start.block self.old.stage) }
         ensures rest { IsTrue S.tells → OnMore result (coming (R.size self.old.runs) self.old.limit (R.list self.old.runs (S.content source.old)) self.old.start.block self.new.stage ≡ drop (length (O.written output.new) - length (O.written output.old)) (coming (R.size self.old.runs) self.old.limit (R.list self.old.runs (S.content source.old)) self.old.start.block self.old.stage)) }
         ensures whole { IsTrue S.tells → OnPiece result (λ p. O.written output.new ≡ O.written output.old ++ coming (R.size self.old.runs) self.old.limit (R.list self.old.runs (S.content source.old)) self.old.start.block self.old.stage) }
+        ensures passed { OnPiece result (λ p. Passed (R.count self.old.runs) p.first p.past self.new.stage) }
+        ensures least { OnPiece result (λ p. 28 ≤ p.bytes) }
         ensures piece { OnPiece result (λ p. (p.first ≡ self.old.start.block) × (p.past ≡ self.new.start.block) × (p.bytes ≤ self.old.limit) × (p.bytes ≡ so_far self.old.stage + (length (O.written output.new) - length (O.written output.old))) × (self.new.made ≡ self.old.made + 1)) }
         ensures exact { IsTrue S.tells → OnPiece result (λ p. IsPiece (R.size self.old.runs) (R.list self.old.runs (S.content source.old)) p × FirstPiece (R.size self.old.runs) (R.list self.old.runs (S.content source.old)) self.old.limit p.first p.past) }
         ensures left { OnMore result (cut_left (R.left self.old.runs) (R.count self.old.runs) self.old.start self.new.stage < cut_left (R.left self.old.runs) (R.count self.old.runs) self.old.start self.old.stage) }

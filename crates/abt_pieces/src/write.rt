@@ -372,10 +372,6 @@ impl Writer {
         ensures ended { IfOk result (λ d. d ≡ true → (self.old.bytes ≡ 0) × (O.written output.new ≡ O.written output.old)) }
         ensures given { S.given source.old ≤ S.given source.new }
         ensures paid { IfOk result (λ d. d ≡ false → silent_left (R.count runs.old) self.old.past self.new.gatherer < silent_left (R.count runs.old) self.old.past self.old.gatherer + (S.given source.new - S.given source.old) + (length (O.written output.new) - length (O.written output.old))) }
-        ensures gathered { IsTrue S.tells → self.old.copying ≡ None → (d : Cursor) → R.within runs.old d → R.place runs.old (S.content source.old) d → d.block ≡ self.old.past → d.ask ≡ 1 → IfOk result (λ _. S.given source.new + gathered_to (R.charge runs.old) self.old.past d self.old.gatherer.at ≤ S.given source.old + gathered_to (R.charge runs.old) self.old.past d self.new.gatherer.at) }
-        ensures kept { (c : Copying) → self.old.copying ≡ Some c → IfOk result (λ _. self.new.gatherer ≡ self.old.gatherer) }
-        ensures charged { (c : Copying) → self.old.copying ≡ Some c → c.done ≡ c.size → IfOk result (λ _. S.given source.new + R.charge runs.old c.next ≤ S.given source.old + charge_of (R.charge runs.old) self.new.copying + entry c.next) }
-        ensures copies { (c : Copying) → self.old.copying ≡ Some c → c.done < c.size → IfOk result (λ _. S.given source.new + R.held runs.old c.here c.done ≤ S.given source.old + R.held runs.old c.here (c.done + (length (O.written output.new) - length (O.written output.old)))) }
         ensures spends { IsTrue S.tells → (d : Cursor) → R.within runs.old d → R.place runs.old (S.content source.old) d → d.block ≡ self.old.past → d.ask ≡ 1 → (s t : ℕ) → Spent (λ c. R.within runs.old c × R.place runs.old (S.content source.old) c) (R.charge runs.old) (R.copied runs.old) (R.held runs.old) d s t self.old → IfOk result (λ _. Spent (λ c. R.within runs.old c × R.place runs.old (S.content source.old) c) (R.charge runs.old) (R.copied runs.old) (R.held runs.old) d s (t + (S.given source.new - S.given source.old)) self.new) }
         ensures spent { IsTrue S.tells → (d : Cursor) → R.within runs.old d → R.place runs.old (S.content source.old) d → d.block ≡ self.old.past → d.ask ≡ 1 → (s t : ℕ) → Spent (λ c. R.within runs.old c × R.place runs.old (S.content source.old) c) (R.charge runs.old) (R.copied runs.old) (R.held runs.old) d s t self.old → IfOk result (λ done. done ≡ true → t + (S.given source.new - S.given source.old) ≤ 2 * R.charge runs.old d + R.copied runs.old d + 32) }
         ensures calls { S.reads source.new ≤ S.reads source.old + (S.given source.new - S.given source.old) + 2 }
@@ -406,44 +402,4 @@ impl Writer {
             }
         }
     }
-}
-
-/// Writes all chunks of a piece that are still to come.
-pub fn write_chunks<R: BlockRuns, S: Source, O: Output>(
-    from: Writer,
-    runs: &mut R,
-    source: &mut S,
-    output: &mut O,
-    w: &mut Window,
-    m: &mut Meter,
-) -> Result<(), PieceFault>
-    requires sound { SoundWriter (R.within runs.old) (R.reach runs.old) (R.count runs.old) (R.size runs.old) from }
-    requires opened { IsTrue S.tells → R.opened runs.old (S.content source.old) }
-    requires told { IsTrue S.tells → ToldWriter (R.place runs.old (S.content source.old)) (R.together runs.old (S.content source.old)) (R.list runs.old (S.content source.old)) from }
-    ensures same { runs.new ≡ runs.old }
-    ensures content { IsTrue S.tells → S.content source.new ≡ S.content source.old }
-    ensures frame { S.read_frame source.new ≡ S.read_frame source.old }
-    ensures write_frame { O.write_frame output.new ≡ O.write_frame output.old }
-    ensures grown { length (O.written output.old) ≤ length (O.written output.new) }
-    ensures within { length (O.written output.new) ≤ length (O.written output.old) + from.bytes }
-    ensures long { OnOk result (length (O.written output.new) ≡ length (O.written output.old) + from.bytes) }
-    ensures front { IsTrue S.tells → O.written output.new ≡ O.written output.old ++ take (length (O.written output.new) - length (O.written output.old)) (rest_of (frame_of (R.list runs.old (S.content source.old)) from) from) }
-    ensures whole { IsTrue S.tells → OnOk result (O.written output.new ≡ O.written output.old ++ rest_of (frame_of (R.list runs.old (S.content source.old)) from) from) }
-    ensures given { S.given source.old ≤ S.given source.new }
-    ensures received { S.given source.new + 65536 * m.old.steps.number ≤ S.given source.old + 65536 * m.new.steps.number }
-    ensures most_received { m.new.greatest.number ≤ max m.old.greatest.number 65536 }
-    ensures spent { IsTrue S.tells → (d : Cursor) → R.within runs.old d → R.place runs.old (S.content source.old) d → d.block ≡ from.past → d.ask ≡ 1 → (s t : ℕ) → Spent (λ c. R.within runs.old c × R.place runs.old (S.content source.old) c) (R.charge runs.old) (R.copied runs.old) (R.held runs.old) d s t from → OnOk result (t + (S.given source.new - S.given source.old) ≤ 2 * R.charge runs.old d + R.copied runs.old d + 32) }
-    ensures calls { S.reads source.new ≤ S.reads source.old + 3 * (S.given source.new - S.given source.old) + 2 * (length (O.written output.new) - length (O.written output.old)) + 8 }
-    ensures write_calls { O.writes output.new ≤ O.writes output.old + (S.given source.new - S.given source.old) + 2 * (length (O.written output.new) - length (O.written output.old)) + 4 }
-    ensures turns { m.new.turns.number ≤ m.old.turns.number + 6 * (S.given source.new - S.given source.old) + 5 * (length (O.written output.new) - length (O.written output.old)) + 15 + 2 * R.one runs.old }
-    ensures words { OnOk result (from.past < R.count runs.old → m.new.turns.number ≤ m.old.turns.number + 6 * (S.given source.new - S.given source.old) + 5 * (length (O.written output.new) - length (O.written output.old)) + 15) }
-    ensures faults { S.read_faults source.old ≤ S.read_faults source.new }
-    ensures write_faults { O.write_faults output.old ≤ O.write_faults output.new }
-    ensures cause { IfErr result (λ e. HasCause e S.tells (S.read_faults source.old) (S.read_faults source.new) (O.write_faults output.old) (O.write_faults output.new)) }
-{
-    let mut writer = from;
-    while !writer.step(runs, source, output, w, m)? {
-        m.tick();
-    }
-    Ok(())
 }

@@ -114,6 +114,7 @@ whole_run cap l i r g some few e =
       all = g.all;
       whole = cut_same r.kind cap r.blocks few ∙ ap (λ (n : ℕ). cut_at r.kind cap n) (sym long ∙ ap (λ (gs : List (List Block)). length (first_of gs)) (sym first));
       ended = λ h. absurd (let f = not_end_some r.kind (take r.blocks (drop i l)) g.all (omega (arith, long)) in let t : is_end r.kind ≡ true = h in cc);
+      none = λ z. absurd (omega arith);
     }
 
 nothing_left : (l : List Block) (i : ℕ) → length l ≤ i → drop i l ≡ []
@@ -131,6 +132,7 @@ no_run cap l i r g none kind end =
       all = g.all;
       whole = none ∙ sym (ap (λ (k : RunKind). cut_at k cap (length (first_run (drop i l)))) kind ∙ ap (λ (xs : List Block). length (first_run xs)) empty);
       ended = λ h. end;
+      none = λ z. ap is_end kind;
     }
 
 ended_by : (k j : RunKind) (l : List Block) (i q : ℕ) → alike_kinds k j ≡ false → AllOf j (take q (drop i l)) → 0 < q → i + q ≤ length l → Ended k (drop i l)
@@ -168,6 +170,7 @@ is_full cap l i r g kind full some =
       all = g.all;
       whole = (let z : r.blocks ≡ min cap (length (first_run (drop i l))) = omega (arith, most, long) in z) ∙ ap (λ (k : RunKind). cut_at k cap (length (first_run (drop i l)))) (sym kind);
       ended = λ h. absurd (let f : is_end r.kind ≡ false = ap is_end kind in let t : is_end r.kind ≡ true = h in cc);
+      none = λ z. absurd (omega arith);
     }
 
 -- ---- the numbers
@@ -207,6 +210,12 @@ raw_is P r p _ (moves h z n) none a b k = absurd (let f : r.kind ≡ kinds.End =
 raw_is P r p _ (stays h z n) none a b k = a k
 raw_is P r p _ (begins h z n) none a b k = b k z
 raw_is P r p _ (grows h z n e) none a b k = a k
+
+pub nowhere_is : (r p s : Run) → Joins r p s → (r.blocks ≡ 0 → r.here ≡ r.next) → s.blocks ≡ 0 → s.here ≡ s.next
+nowhere_is r p _ (moves h z n) nowhere e = refl
+nowhere_is r p _ (stays h z n) nowhere e = absurd (omega arith)
+nowhere_is r p _ (begins h z n) nowhere e = absurd (omega arith)
+nowhere_is r p _ (grows h z n k) nowhere e = absurd (omega arith)
 
 raw_room : (cap n : ℕ) (k : RunKind) → k ≡ kinds.Raw → room_in k n cap ≡ cap - n
 raw_room cap n k e = ap (λ (j : RunKind). room_in j n cap) e

@@ -34,6 +34,7 @@ pub record RunOf (cap : ℕ) (l : List Block) (i : ℕ) (r : Run) : Type 0 where
   pub all : AllOf r.kind (take r.blocks (drop i l))
   pub whole : r.blocks ≡ cut_at r.kind cap (length (first_run (drop i l)))
   pub ended : IsTrue (is_end r.kind) → i ≡ length l
+  pub none : r.blocks ≡ 0 → IsTrue (is_end r.kind)
 
 -- r and a part behind it as one: None where the part isn't of r's class, or is the end
 abbrev pub and_part : Run → Run → Option Run

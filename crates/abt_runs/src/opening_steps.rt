@@ -206,6 +206,7 @@ impl Opening {
     ) -> Result<Progress, RunFault>
         requires here { self.old.stage ≡ Stage.Chunks }
         ensures keeps { IsTrue S.tells → (v : Result (Header × ℕ) SparseFaults) → ComesTo self.old (S.content source.old) v → ComesTo self.new (S.content source.old) v }
+        ensures length { self.old.stage ≡ Stage.Chunks → self.old.index < self.old.header.total_chunks → IfErr result (λ e. IsFormat e → S.size source.old ≡ self.old.length) }
         ensures leaves { Leaves result self.new.stage }
         ensures fewer { is_more result ≡ true → to_do self.new < to_do self.old }
         ensures charged { OnOk result (S.given source.new + self.old.at ≤ S.given source.old + self.new.at) }
@@ -255,6 +256,7 @@ impl Opening {
         m: &mut Meter,
     ) -> Result<Progress, RunFault>
         ensures keeps { IsTrue S.tells → (v : Result (Header × ℕ) SparseFaults) → ComesTo self.old (S.content source.old) v → ComesTo self.new (S.content source.old) v }
+        ensures length { self.old.stage ≡ Stage.Chunks → self.old.index < self.old.header.total_chunks → IfErr result (λ e. IsFormat e → S.size source.old ≡ self.old.length) }
         ensures leaves { Leaves result self.new.stage }
         ensures fewer { is_more result ≡ true → to_do self.new < to_do self.old }
         ensures again { IsOver self.old.stage → (self.new ≡ self.old) × (source.new ≡ source.old) }

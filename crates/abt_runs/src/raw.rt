@@ -205,6 +205,8 @@ impl BlockRuns for RawRuns {
 
     ghost image = { λ s. s.length };
 
+    ghost source_size = { λ s. s.length };
+
     ghost opened = { λ s x. s.length ≡ length x };
 
     ghost list = { λ s x. classify s.size x };

@@ -23,6 +23,9 @@ pub trait BlockRuns {
     /// How many bytes of the source the image takes.
     ghost image: { Self → ℕ };
 
+    /// How long the source was when it was opened, in bytes.
+    ghost source_size: { Self → ℕ };
+
     /// It was opened over these bytes.
     ghost opened: { Self → List ℕ → Type 0 };
 
@@ -120,6 +123,8 @@ pub trait BlockRuns {
         ensures here { IfOk result (λ r. (r.here.block ≡ from.block) × within self.old r.here × (charge self.old from ≤ charge self.old r.here)) }
         ensures inside { IfOk result (λ r. r.here.used ≤ from.used) }
         ensures reached { IfOk result (λ r. r.kind ≡ RunKind.Raw → r.blocks * size self.old ≤ reach self.old r.here) }
+        ensures nowhere { IfOk result (λ r. r.blocks ≡ 0 → r.here ≡ r.next) }
+        ensures length { IfOk result (λ r. is_end r.kind ≡ false → S.size source.old ≡ source_size self.old) }
         ensures first { IsTrue S.tells → IfOk result (λ r. 0 < r.blocks → Earliest (λ d. within self.old d × place self.old (S.content source.old) d) (copied self.old) (charge self.old) r.next) }
         ensures anew { IfOk result (λ r. charge self.old (afresh r.here) ≤ charge self.old r.here) }
         ensures not_past { IsTrue S.tells → IfOk result (λ r. (d : Cursor) → within self.old d → place self.old (S.content source.old) d → d.block ≡ from.block + cap → r.blocks ≤ cap) }
@@ -201,6 +206,7 @@ pub trait BlockRuns {
         ensures frame { S.read_frame source.new ≡ S.read_frame source.old }
         ensures run { IsTrue S.tells → IfOk result (λ r. RunOf cap (list self.old (S.content source.old)) from.block r) }
         ensures places { IsTrue S.tells → IfOk result (λ r. place self.old (S.content source.old) r.here × place self.old (S.content source.old) r.next) }
+        ensures nowhere { IfOk result (λ r. r.blocks ≡ 0 → r.here ≡ r.next) }
         ensures stands { IsTrue S.tells → IfOk result (λ r. r.kind ≡ RunKind.Raw → 0 < together self.old (S.content source.old) r.here) }
         ensures within { IfOk result (λ r. within self.old r.here × within self.old r.next) }
         ensures reached { IfOk result (λ r. r.kind ≡ RunKind.Raw → size self.old ≤ reach self.old r.here) }

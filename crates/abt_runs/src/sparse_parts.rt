@@ -194,6 +194,8 @@ impl BlockRuns for SparseRuns {
 
     ghost image = { λ s. s.image };
 
+    ghost source_size = { λ s. s.length };
+
     ghost opened = { λ s x. SparseOpened (view s.header) s.length s.image x };
 
     ghost list = { λ s x. sparse_list x };

@@ -104,7 +104,7 @@ chunks_wrong h size (c ∷ cs) i have (suc left) y rest f came s lt le w =
 -- ---- the whole
 
 -- the header of x, in its parts
-header_spelled : (x : List ℕ) (h : Header) → IsBytes x → 28 ≤ length x → h.file_hdr_sz ≤ length x → checked_header x ≡ Ok h → SpellsHeader x h (drop h.file_hdr_sz x)
+pub header_spelled : (x : List ℕ) (h : Header) → IsBytes x → 28 ≤ length x → h.file_hdr_sz ≤ length x → checked_header x ≡ Ok h → SpellsHeader x h (drop h.file_hdr_sz x)
 header_spelled x h fits long all e =
     let c = Checked-from x h e in
     let ok = IsHeader-from x h fits c in

@@ -2,7 +2,7 @@ use Rattle.std.proofs.Common.{arith, length, ◌∙◌}
 use Rattle.std.specs.Prelude.{IsTrue}
 use Rattle.abt_io.specs.Moment.{in_range}
 use Rattle.abt_io.proofs.Parts.{length_rest}
-use Rattle.abt_io.proofs.Moments.{within_part, put_on, moment_more}
+use Rattle.abt_io.proofs.Moments.{within_part, put_on, unsynced_more}
 use Rattle.abt_io.proofs.writing.write_all_at.Goals as goal
 
 pub returns-in_err-done-clause-moments : goal.returns-in_err-done-clause-moments
@@ -10,14 +10,14 @@ returns-in_err-done-clause-moments g c tells =
     let left = length_rest c.loop-done.done c.args.bytes.now in
     let e = c.write_at.ensures in
     let i = c.loop-done.invariant in
-    (moment_more (in_range c.args.at (length c.args.bytes.now)) _ _ _ _ _ _ _ (λ k. within_part c.args.at c.loop-done.done _ (length c.args.bytes.now) k (omega arith)) (i.kept tells) (e.kept tells) (i.moments tells) (e.moments tells)).1
+    (unsynced_more (in_range c.args.at (length c.args.bytes.now)) _ _ _ _ _ _ _ (λ k. within_part c.args.at c.loop-done.done _ (length c.args.bytes.now) k (omega arith)) (i.kept tells) (e.kept tells) (i.moments tells) (e.moments tells) (e.synced ∙ i.synced)).1
 
 pub loop-done-preserved : goal.loop-done-preserved
 loop-done-preserved g c =
     let e = c.in_ok-done.ensures in
     let i = c.loop-done.invariant in
     let left = length_rest c.loop-done.done c.args.bytes.now in
-    let more = λ (tells : IsTrue g.P.Source.tells). moment_more (in_range c.args.at (length c.args.bytes.now)) _ _ _ _ _ _ _ (λ k. within_part c.args.at c.loop-done.done _ (length c.args.bytes.now) k (omega arith)) (i.kept tells) (e.kept tells) (i.moments tells) (e.moments tells) in
+    let more = λ (tells : IsTrue g.P.Source.tells). unsynced_more (in_range c.args.at (length c.args.bytes.now)) _ _ _ _ _ _ _ (λ k. within_part c.args.at c.loop-done.done _ (length c.args.bytes.now) k (omega arith)) (i.kept tells) (e.kept tells) (i.moments tells) (e.moments tells) (e.synced ∙ i.synced) in
     record {
       within = omega arith;
       size = e.size ∙ i.size;
@@ -27,6 +27,9 @@ loop-done-preserved g c =
       synced = e.synced ∙ i.synced;
       calls = omega arith;
       syncs = e.sync_calls ∙ i.syncs;
+      reads = e.reads ∙ i.reads;
+      given = e.given ∙ i.given;
+      read_faults = e.read_faults ∙ i.read_faults;
       faults = omega arith;
       taken = omega arith;
       steps = omega arith;

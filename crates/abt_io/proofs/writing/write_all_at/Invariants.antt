@@ -1,6 +1,6 @@
 use Rattle.std.proofs.Common.{length, ◌-◌, ◌≡◌, ◌≤◌, ◌+◌, take}
 use Rattle.std.specs.Prelude.{IsTrue}
-use Rattle.abt_io.specs.Moment.{Keeps, EachSince, in_range, moment_of, put_at}
+use Rattle.abt_io.specs.Moment.{Keeps, KeepsUnsynced, EachSince, in_range, moment_of, put_at}
 use Rattle.abt_io.proofs.writing.write_all_at.Given as goal
 
 abbrev pub invariant-loop-done : goal.invariant-loop-done
@@ -12,10 +12,13 @@ invariant-loop-done g l =
       size : g.P.Source.size l.partition ≡ g.P.Source.size l.fn.partition;
       written : IsTrue g.P.Source.tells → content l.partition ≡ put_at (content l.fn.partition) l.at (take l.done l.bytes);
       kept : IsTrue g.P.Source.tells → Keeps (in_range l.at (length l.bytes)) (moment_of (past l.fn.partition) (content l.fn.partition)) (moment_of (past l.partition) (content l.partition));
-      moments : IsTrue g.P.Source.tells → EachSince (past l.fn.partition).moments (past l.partition).moments (Keeps (in_range l.at (length l.bytes)) (moment_of (past l.fn.partition) (content l.fn.partition)));
+      moments : IsTrue g.P.Source.tells → EachSince (past l.fn.partition).moments (past l.partition).moments (KeepsUnsynced (in_range l.at (length l.bytes)) (moment_of (past l.fn.partition) (content l.fn.partition)));
       synced : (past l.partition).synced ≡ (past l.fn.partition).synced;
       calls : g.P.Partition.puts l.partition ≤ g.P.Partition.puts l.fn.partition + l.done;
       syncs : g.P.Partition.syncs l.partition ≡ g.P.Partition.syncs l.fn.partition;
+      reads : g.P.Source.reads l.partition ≡ g.P.Source.reads l.fn.partition;
+      given : g.P.Source.given l.partition ≡ g.P.Source.given l.fn.partition;
+      read_faults : g.P.Source.read_faults l.partition ≡ g.P.Source.read_faults l.fn.partition;
       faults : g.P.Partition.put_faults l.fn.partition ≤ g.P.Partition.put_faults l.partition;
       taken : g.P.Partition.taken l.partition ≡ g.P.Partition.taken l.fn.partition + l.done;
       steps : l.m.steps.number ≡ l.fn.m.steps.number;

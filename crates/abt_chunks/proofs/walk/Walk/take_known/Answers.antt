@@ -59,6 +59,7 @@ invariant_of-self c =
     record {
       counted = omega arith;
       room = omega arith;
+      begun = omega (arith, s.begun);
       laid = omega arith;
       placed = omega (arith, s.placed);
     }

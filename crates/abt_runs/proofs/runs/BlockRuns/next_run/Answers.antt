@@ -4,7 +4,7 @@ use Rattle.abt_runs.specs.declared.part.RunFault.{RunFault}
 use Rattle.abt_runs.specs.declared.part.RunFault.TheVariants.{Sparse, Read, TooLarge, SourceChanged, BadBlock}
 use Rattle.abt_runs.specs.Part.{Caused, entry}
 use Rattle.abt_runs.specs.Whole.{room_in}
-use Rattle.abt_runs.proofs.Growing.{joins, rests, so_far, stops, is_full, next_is, blocks_are, here_is, none_is, raw_is, few_are, no_room, entry_after, room_most}
+use Rattle.abt_runs.proofs.Growing.{joins, rests, so_far, stops, is_full, next_is, blocks_are, here_is, none_is, nowhere_is, raw_is, few_are, no_room, entry_after, room_most}
 use Rattle.abt_runs.proofs.runs.BlockRuns.next_run.Goals as goal
 
 later : (e : RunFault) (tells : Bool) (a b c : ℕ) → a ≤ b → Caused e tells b c → Caused e tells a c
@@ -56,6 +56,7 @@ parts-preserved g c =
       here = here_is (λ (h : Cursor). h.block ≡ c.args.from.block) r p s j i.here (λ z. omega arith) (λ z n. omega arith);
       next = ap (λ (h : Cursor). h.block) same ∙ (let z : p.next.block ≡ c.args.from.block + s.blocks = omega arith in z);
       none = none_is r p s j i.none;
+      nowhere = nowhere_is r p s j i.nowhere;
       few = few_are c.args.cap r p s j i.none i.few (λ k. let f = e.capped.raw k in omega (arith, f, c.room-room.ensures));
       charged = omega (arith, paid, ap (λ (h : Cursor). runs.charge self h) same);
       going = λ more. let none : entry s.next ≡ 0 = ap entry same ∙ entry_after c.args.cap r p s j i.none room (λ u. let f = e.stops u in (f.0, f.1 ∙ c.room-room.ensures)) more in omega (arith, paid, none, ap (λ (h : Cursor). runs.charge self h) same);

@@ -25,6 +25,7 @@ invariant-parts g l =
       here : l.run.here.block ≡ l.fn.from.block;
       next : l.run.next.block ≡ l.fn.from.block + l.run.blocks;
       none : l.run.blocks ≡ 0 → l.run.kind ≡ kinds.End;
+      nowhere : l.run.blocks ≡ 0 → l.run.here ≡ l.run.next;
       few : l.run.kind ≡ kinds.Raw → l.run.blocks ≤ l.cap;
       charged : g.S.Source.given l.source + runs.charge self l.fn.from ≤ g.S.Source.given l.fn.source + runs.charge self l.run.next + entry l.fn.from;
       going : 0 < room_in l.run.kind l.run.blocks l.cap → g.S.Source.given l.source + runs.charge self l.fn.from + entry l.run.next ≤ g.S.Source.given l.fn.source + runs.charge self l.run.next + entry l.fn.from;

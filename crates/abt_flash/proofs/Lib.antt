@@ -1,0 +1,14 @@
+pub mod Cells
+pub mod Moments
+pub mod Steps
+pub mod Places
+pub mod Heads
+pub mod Come
+pub mod Left
+pub mod Spooled
+pub mod Mended
+pub mod Staying
+pub mod PieceFlash
+pub mod Onward
+pub mod Summing
+pub mod Refusing

@@ -1,0 +1,81 @@
+-- A delivery from piece to piece, in numbers.
+use Rattle.std.proofs.Common.{◌≡◌, ℕ, ◌+◌, ◌*◌, ◌≤◌, ◌<◌, ◌⊎◌, max, nat_lt, true, false, refl, sym, ap, ◌∙◌, arith, inl, inr}
+use Rattle.std.proofs.lemmas.Bool.{cases_Bool, ltb-true, ltb-false}
+use Rattle.abt_pieces.specs.Cutter.{Passed, has_more, piece_words}
+use Rattle.abt_pieces.specs.declared.stage.Stage.{Stage}
+use Rattle.abt_pieces.specs.declared.stage.Stage.TheVariants.{Between, Done}
+use Rattle.abt_flash.specs.Going.{StandsAt, Unbroken, words_so_far}
+
+pub unbroken_first : (n made e : ℕ) (st : Stage) → st ≡ Between → (0 < made → e < n) → Unbroken n made e st
+unbroken_first n made e st is inside = record { stands = inl is; between = λ d some. inside some; done = λ d. absurd (let z = sym is ∙ d in cc) }
+
+pub unbroken_more : (n made e : ℕ) (st : Stage) → StandsAt n e st → Unbroken n (made + 1) e st
+unbroken_more n made e st at = elim (cases_Bool (nat_lt e n)) [
+  | inl t ↦ let lt = ltb-true e n t in let is = at.between lt in record { stands = inl is; between = λ d some. lt; done = λ d. absurd (let z = sym is ∙ d in cc) }
+  | inr t ↦ let le = ltb-false e n t in let is = at.done le in record { stands = inr is; between = λ d some. absurd (let z = sym is ∙ d in cc); done = λ d. (omega arith, le) }
+]
+
+pub still_between : (n made e : ℕ) (st : Stage) → Unbroken n made e st → has_more st ≡ true → st ≡ Between
+still_between n made e st u more = elim u.stands [ inl is ↦ is | inr is ↦ absurd (let z : has_more Done ≡ true = rw is at more in cc) ]
+
+pub now_done : (n made e : ℕ) (st : Stage) → Unbroken n made e st → has_more st ≡ false → st ≡ Done
+now_done n made e st u none = elim u.stands [ inr is ↦ is | inl is ↦ absurd (let z : has_more Between ≡ false = rw is at none in cc) ]
+
+pub few_more : (n made e : ℕ) → made ≤ e → (0 < made → e < n) → made + 1 ≤ max 1 n
+few_more n made e le inside = elim (cases_Bool (nat_lt 0 made)) [
+  | inl t ↦ let lt = inside (ltb-true 0 made t) in omega (arith, lt, le)
+  | inr t ↦ let z = ltb-false 0 made t in omega (arith, z)
+]
+
+-- words that were compared without being read
+words_between : (one n s : ℕ) → words_so_far one n s Between ≤ one
+words_between one n s = elim (cases_Bool (nat_lt (s + 1) n)) [ inl t ↦ rw t (omega arith) | inr t ↦ rw t (omega arith) ]
+
+words_none : (one n s : ℕ) → s + 1 < n → words_so_far one n s Between ≡ 0
+words_none one n s lt = elim (cases_Bool (nat_lt (s + 1) n)) [ inl t ↦ rw t refl | inr t ↦ absurd (let z = ltb-false (s + 1) n t in omega (arith, z, lt)) ]
+
+pub words_more : (one n s e : ℕ) (st : Stage) → (e < n → s < e) → StandsAt n e st → words_so_far one n s Between + piece_words one n e ≤ words_so_far one n e st
+words_more one n s e st moves at = elim (cases_Bool (nat_lt (e + 1) n)) [
+  | inl t ↦
+      let lt = ltb-true (e + 1) n t in
+      let less : e < n = omega (arith, lt) in
+      let up = moves less in
+      let none = words_none one n s (omega (arith, up, lt)) in
+      rw (t, at.between less, t) (omega (arith, none))
+  | inr t ↦ elim (cases_Bool (nat_lt e n)) [
+    | inl u ↦
+        let less = ltb-true e n u in
+        let far = ltb-false (e + 1) n t in
+        let up = moves less in
+        let none = words_none one n s (omega (arith, up, less)) in
+        rw (t, u, at.between less, t) (omega (arith, none))
+    | inr u ↦ let le = ltb-false e n u in let most = words_between one n s in rw (t, u, at.done le) (omega (arith, most))
+  ]
+]
+
+pub words_most : (one n s : ℕ) (st : Stage) → (st ≡ Between) ⊎ (st ≡ Done) → words_so_far one n s st ≤ 4 * one
+words_most one n s st (inl is) = let z = words_between one n s in rw is (omega (arith, z))
+words_most one n s st (inr is) = rw is (omega arith)
+
+pub words_one : (one n s : ℕ) (st : Stage) → st ≡ Between → words_so_far one n s st ≤ one
+words_one one n s st is = let z = words_between one n s in rw is z
+
+pub passed_stands : (n s e : ℕ) (st : Stage) → Passed n s e st → StandsAt n e st
+passed_stands n s e st h = record { between = h.between; done = h.done }
+
+-- ---- what is read of the source
+
+one_more_times : (m k : ℕ) → (m + 1) * k ≡ m * k + k
+one_more_times m k = omega arith
+
+pub spent_more : (g0 g g' p0 p p' made0 made made' one : ℕ) → made' ≡ made + 1 → g' + p ≤ g + p' + 80 + one → g + p0 + made0 * (80 + one) ≤ g0 + p + made * (80 + one) → g' + p0 + made0 * (80 + one) ≤ g0 + p' + made' * (80 + one)
+spent_more g0 g g' p0 p p' made0 made made' one e h k = let z : made' * (80 + one) ≡ made * (80 + one) + (80 + one) = ap (λ (m : ℕ). m * (80 + one)) e ∙ one_more_times made (80 + one) in omega (arith, z, h, k)
+
+pub spent_last : (g0 g g' p0 p p' made0 made made' one : ℕ) → made' ≡ made + 1 → g' + p ≤ g + p' + 48 → g + p0 + made0 * (80 + one) ≤ g0 + p + made * (80 + one) → g' + p0 + made0 * (80 + one) + (80 + one) ≤ g0 + p' + made' * (80 + one) + 48
+spent_last g0 g g' p0 p p' made0 made made' one e h k = let z : made' * (80 + one) ≡ made * (80 + one) + (80 + one) = ap (λ (m : ℕ). m * (80 + one)) e ∙ one_more_times made (80 + one) in omega (arith, z, h, k)
+
+pub spent_whole : (g0 g p0 p3 p made0 made d one pass image : ℕ) → made ≡ made0 + d → p ≤ 3 * pass + image → g + p0 + made0 * (80 + one) + (80 + one) ≤ g0 + p + made * (80 + one) + 48 → g + p0 + (80 + one) ≤ g0 + 3 * pass + image + 48 + d * (80 + one)
+spent_whole g0 g p0 p3 p made0 made d one pass image e h k =
+    let z : made * (80 + one) ≡ (made0 + d) * (80 + one) = ap (λ (m : ℕ). m * (80 + one)) e in
+    let y : (made0 + d) * (80 + one) ≡ made0 * (80 + one) + d * (80 + one) = omega arith in
+    omega (arith, z, y, h, k)

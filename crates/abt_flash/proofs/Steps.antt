@@ -1,0 +1,218 @@
+-- One step: from a part of the image to what is laid of it.
+use Rattle.std.proofs.Common.{◌≡◌, ℕ, ◌+◌, ◌*◌, ◌≤◌, Bool, true, false, List, [], ◌++◌, length, take, replicate, Option, Some, None, Result, Ok, Err, refl, sym, ap, ◌∙◌, arith}
+use Rattle.std.specs.Prelude.{IsTrue, OnOk}
+use Rattle.std.proofs.lemmas.List.{length-map, length-replicate, length-take-le}
+use Rattle.std.specs.List.{concat}
+use Rattle.abt_io.specs.Moment.{Moment, Past, Keeps, EachSince, moment_of, in_range}
+use Rattle.abt_io.proofs.Moments.{keeps_same, keeps_within}
+use Rattle.abt_io.proofs.Words.{length_words}
+use Rattle.abt_sparse.specs.Block.{over}
+use Rattle.abt_sparse.specs.declared.fault.SparseFault.{SparseFault}
+use Rattle.abt_sparse.specs.declared.fault.SparseFault.TheVariants as faults
+use Rattle.abt_chunks.specs.declared.progress.Progress.{Progress}
+use Rattle.abt_chunks.specs.declared.progress.Progress.TheVariants as answers
+use Rattle.abt_chunks.specs.declared.walk.Phase.TheVariants as phases
+use Rattle.abt_chunks.specs.declared.walk.Walk.{Walk}
+use Rattle.abt_chunks.specs.declared.walk.Part.{Part}
+use Rattle.abt_chunks.specs.declared.walk.Part.TheVariants as parts
+use Rattle.abt_chunks.specs.Ahead.{Ahead, before, somes}
+use Rattle.abt_chunks.specs.Walking.{Told, Leaves as PartLeaves, Moved, Within, is_fault, goes_on, given_by, ahead, place_of, owed}
+use Rattle.abt_chunks.proofs.Finishing.{owed_at}
+use Rattle.abt_flash.specs.declared.fault.FlashFault.{FlashFault}
+use Rattle.abt_flash.specs.declared.fault.FlashFault.TheVariants as fails
+use Rattle.abt_flash.specs.declared.stage.Stage.{Stage}
+use Rattle.abt_flash.specs.Fault.{PutCause, fault_of_sparse}
+use Rattle.abt_flash.specs.Laying.{During, cells_by, from_place, put_by, writes, written_by}
+use Rattle.abt_flash.specs.Stepping.{Goes, Laid, OnMore, Unless, UnlessDevice, answer_of}
+use Rattle.abt_flash.proofs.Cells.{empty_range, nothing_over, unwritten_range, written_nones, written_somes}
+use Rattle.abt_flash.proofs.Moments.{during_none, during_within}
+
+-- a part is as long as its cells, and so many bytes of them are written
+cells_written : (q : Part) (win : List ℕ) (r m : ℕ) → Moved q r → r ≤ length win → Within q m m → written_by (cells_by q win) ≡ put_by q
+cells_written (parts.Raw n) win r m moved le within = written_somes (take n win) ∙ length-take-le n win (omega (arith, moved.0, le))
+cells_written (parts.Words word n) win r m moved le within = written_somes (concat (replicate n word)) ∙ length_words n word within.2
+cells_written (parts.Skip n) win r m moved le within = written_nones (4 * n)
+cells_written parts.Nothing win r m moved le within = refl
+cells_written parts.End win r m moved le within = refl
+cells_written (parts.Fault f) win r m moved le within = refl
+
+length_cells : (q : Part) (win : List ℕ) (r m : ℕ) → Moved q r → r ≤ length win → Within q m m → length (cells_by q win) ≡ given_by q
+length_cells (parts.Raw n) win r m moved le within = length-map (take n win) (λ x. Some x) ∙ length-take-le n win (omega (arith, moved.0, le))
+length_cells (parts.Words word n) win r m moved le within = length-map (concat (replicate n word)) (λ x. Some x) ∙ length_words n word within.2
+length_cells (parts.Skip n) win r m moved le within = length-replicate (4 * n) None
+length_cells parts.Nothing win r m moved le within = refl
+length_cells parts.End win r m moved le within = refl
+length_cells (parts.Fault f) win r m moved le within = refl
+
+-- what its cells don't write is outside the range that is written
+outside : (q : Part) (win : List ℕ) (r m at i : ℕ) → Moved q r → r ≤ length win → Within q m m → writes (from_place at (cells_by q win)) i ≡ false → in_range at (put_by q) i ≡ false
+outside (parts.Raw n) win r m at i moved le within e = unwritten_range at (take n win) n i (length-take-le n win (omega (arith, moved.0, le))) e
+outside (parts.Words word n) win r m at i moved le within e = unwritten_range at (concat (replicate n word)) (4 * n) i (length_words n word within.2) e
+outside (parts.Skip n) win r m at i moved le within e = empty_range at i
+outside parts.Nothing win r m at i moved le within e = empty_range at i
+outside parts.End win r m at i moved le within e = empty_range at i
+outside (parts.Fault f) win r m at i moved le within e = empty_range at i
+
+-- what a part says, as cells before what is ahead
+as_cells : (q : Part) (s s' : Walk) (c t win : List ℕ) (r : ℕ) → take r win ≡ c → Moved q r → is_fault q ≡ false → PartLeaves q s'.phase → Told q s s' c t → ahead s (c ++ t) ≡ before (cells_by q win) (ahead s' t)
+as_cells (parts.Raw n) s s' c t win r w moved sound leaves told = told.1 ∙ ap (λ (x : List ℕ). before (somes x) (ahead s' t)) (sym w ∙ ap (λ (k : ℕ). take k win) (sym moved.0))
+as_cells (parts.Words word n) s s' c t win r w moved sound leaves told = told
+as_cells (parts.Skip n) s s' c t win r w moved sound leaves told = told
+as_cells parts.Nothing s s' c t win r w moved sound leaves told = told
+as_cells parts.End s s' c t win r w moved sound leaves told = rw leaves told
+as_cells (parts.Fault f) s s' c t win r w moved sound leaves told = absurd (let b : true ≡ false = sound in cc)
+
+owed_now : (s' : Walk) → s'.phase ≡ phases.Body → (ahead s' []).cells ≡ owed s'
+owed_now s' e = owed_at s'.phase s' (rw e tt)
+
+owed_done : (s' : Walk) → s'.phase ≡ phases.Done → (ahead s' []).cells ≡ owed s'
+owed_done s' e = owed_at s'.phase s' (rw e tt)
+
+put_only : (f : FlashFault) (n n' : ℕ) → PutCause {X = Unit {0}} (Err f) n n' → (P : Type 0) → UnlessDevice f P
+put_only (fails.Write d) n n' h P = tt
+put_only (fails.Sync d) n n' h P = tt
+put_only f n n' h P = absurd h
+
+unless_fault : (f : FlashFault) (P : Type 0) → P → UnlessDevice f P
+unless_fault (fails.Read d) P h = tt
+unless_fault (fails.Write d) P h = tt
+unless_fault (fails.Sync d) P h = tt
+unless_fault f P h = h
+
+pub unless_all : {X : Type 0} (r : Result X FlashFault) (P : Type 0) → P → Unless r P
+unless_all (Ok x) P h = h
+unless_all (Err f) P h = unless_fault f P h
+
+-- ---- what a step lays
+
+module _ (tells : Bool) (stage : Stage) (s s' : Walk) (c rest win : List ℕ) (past past' : Past) (p p' : List ℕ) (taken taken' r m : ℕ) (in_window : take r win ≡ c) (long : r ≤ length win) where
+  abbrev First : Moment
+  First = moment_of past p
+
+  abbrev Last : Moment
+  Last = moment_of past' p'
+
+  abbrev Keeps_put : Part → Type 0
+  Keeps_put q = IsTrue tells → Keeps (in_range (place_of s) (put_by q)) First Last
+
+  abbrev Moments_put : Part → Type 0
+  Moments_put q = IsTrue tells → EachSince past.moments past'.moments (During (in_range (place_of s) (put_by q)) First Last)
+
+  abbrev Content_put : Part → Type 0
+  Content_put q = IsTrue tells → p' ≡ over p (from_place (place_of s) (cells_by q win))
+
+  goes_laid : (q : Part) (a : Progress) → Moved q r → Within q m m → ((t : List ℕ) → ahead s (c ++ t) ≡ before (cells_by q win) (ahead s' t)) → OnMore (Ok a) (place_of s' ≡ place_of s + length (cells_by q win))
+      → ((ahead s' []).cells ≡ owed s') → taken' ≡ taken + put_by q → Content_put q → Keeps_put q → Moments_put q → Laid tells stage (Ok a) s s' c rest past past' p p' taken taken'
+  goes_laid q a moved within told placed fine put content kept moments = record {
+    cells = cells_by q win;
+    more = λ t. (ahead s' t).cells;
+    front = λ t. ap (λ (x : Ahead). x.cells) (told t);
+    told = λ t e. told t;
+    moved = placed;
+    counted = put ∙ ap (λ (n : ℕ). taken + n) (sym (cells_written q win r m moved long within));
+    content = content;
+    kept = λ t. keeps_within _ _ First Last (λ i. outside q win r m (place_of s) i moved long within) (kept t);
+    moments = λ t. during_within _ _ First Last past.moments past'.moments (λ i. outside q win r m (place_of s) i moved long within) (moments t);
+    held = λ goes. fine;
+  }
+
+  fault_laid : (f : SparseFault) → ((t : List ℕ) → t ≡ rest → Told (parts.Fault f) s s' c t) → s'.phase ≡ phases.Failed f → taken' ≡ taken + 0 → Content_put (parts.Fault f) → Keeps_put (parts.Fault f) → Moments_put (parts.Fault f)
+      → Laid tells stage (Err (fault_of_sparse f)) s s' c rest past past' p p' taken taken'
+  fault_laid (faults.Read d) says leaves put content kept moments = record {
+    cells = [];
+    more = λ t. (ahead s (c ++ t)).cells;
+    front = λ t. refl;
+    told = λ t e. tt;
+    moved = tt;
+    counted = tt;
+    content = λ t. tt;
+    kept = λ t. keeps_within _ _ First Last (λ i e. empty_range (place_of s) i) (kept t);
+    moments = λ t. during_within _ _ First Last past.moments past'.moments (λ i e. empty_range (place_of s) i) (moments t);
+    held = λ goes. tt;
+  }
+  fault_laid (faults.Write d) says leaves put content kept moments = record {
+    cells = [];
+    more = λ t. (ahead s (c ++ t)).cells;
+    front = λ t. refl;
+    told = λ t e. tt;
+    moved = tt;
+    counted = tt;
+    content = λ t. tt;
+    kept = λ t. keeps_within _ _ First Last (λ i e. empty_range (place_of s) i) (kept t);
+    moments = λ t. during_within _ _ First Last past.moments past'.moments (λ i e. empty_range (place_of s) i) (moments t);
+    held = λ goes. tt;
+  }
+  fault_laid f says leaves put content kept moments = record {
+    cells = [];
+    more = λ t. (ahead s (c ++ t)).cells;
+    front = λ t. refl;
+    told = λ t e. rw (says t (e refl), leaves) refl;
+    moved = tt;
+    counted = put;
+    content = content;
+    kept = λ t. keeps_within _ _ First Last (λ i e. empty_range (place_of s) i) (kept t);
+    moments = λ t. during_within _ _ First Last past.moments past'.moments (λ i e. empty_range (place_of s) i) (moments t);
+    held = λ goes. tt;
+  }
+
+  pub laid_part : (q : Part) → Moved q r → Within q m m → PartLeaves q s'.phase → ((t : List ℕ) → (is_fault q ≡ true → t ≡ rest) → Told q s s' c t) → (IsTrue (goes_on q) → place_of s' ≡ place_of s + given_by q)
+      → taken' ≡ taken + put_by q → Content_put q → Keeps_put q → Moments_put q → Laid tells stage (answer_of q) s s' c rest past past' p p' taken taken'
+  laid_part (parts.Raw n) moved within leaves says placed put content kept moments =
+      goes_laid (parts.Raw n) answers.More moved within (λ t. as_cells (parts.Raw n) s s' c t win r in_window moved refl leaves (says t (λ e. absurd cc)))
+      (placed refl ∙ ap (λ (k : ℕ). place_of s + k) (sym (length_cells (parts.Raw n) win r m moved long within))) (owed_now s' leaves) put content kept moments
+  laid_part (parts.Words word n) moved within leaves says placed put content kept moments =
+      goes_laid (parts.Words word n) answers.More moved within (λ t. as_cells (parts.Words word n) s s' c t win r in_window moved refl leaves (says t (λ e. absurd cc)))
+      (placed refl ∙ ap (λ (k : ℕ). place_of s + k) (sym (length_cells (parts.Words word n) win r m moved long within))) (owed_now s' leaves) put content kept moments
+  laid_part (parts.Skip n) moved within leaves says placed put content kept moments =
+      goes_laid (parts.Skip n) answers.More moved within (λ t. as_cells (parts.Skip n) s s' c t win r in_window moved refl leaves (says t (λ e. absurd cc)))
+      (placed refl ∙ ap (λ (k : ℕ). place_of s + k) (sym (length_cells (parts.Skip n) win r m moved long within))) (owed_now s' leaves) put content kept moments
+  laid_part parts.Nothing moved within leaves says placed put content kept moments =
+      goes_laid parts.Nothing answers.More moved within (λ t. as_cells parts.Nothing s s' c t win r in_window moved refl leaves (says t (λ e. absurd cc)))
+      (placed refl) (owed_now s' leaves) put content kept moments
+  laid_part parts.End moved within leaves says placed put content kept moments =
+      goes_laid parts.End answers.Done moved within (λ t. as_cells parts.End s s' c t win r in_window moved refl leaves (says t (λ e. absurd cc)))
+      tt (owed_done s' leaves) put content kept moments
+  laid_part (parts.Fault f) moved within leaves says placed put content kept moments = fault_laid f (λ t e. says t (λ z. e)) leaves put content kept moments
+
+  -- where the partition refuses, what the part gives may be touched, and no more
+  refused_front : (q : Part) (f : FlashFault) (cs : List (Option ℕ)) (more : List ℕ → List (Option ℕ)) (n n' : ℕ) → ((t : List ℕ) → (ahead s (c ++ t)).cells ≡ cs ++ more t) → ((i : ℕ) → writes (from_place (place_of s) cs) i ≡ false → in_range (place_of s) (put_by q) i ≡ false)
+      → PutCause {X = Unit {0}} (Err f) n n' → Keeps_put q → Moments_put q → Laid tells stage (Err f) s s' c rest past past' p p' taken taken'
+  refused_front q f cs more n n' front out cause kept moments = record {
+    cells = cs;
+    more = more;
+    front = front;
+    told = λ t e. put_only f n n' cause _;
+    moved = tt;
+    counted = put_only f n n' cause _;
+    content = λ t. put_only f n n' cause _;
+    kept = λ t. keeps_within _ _ First Last out (kept t);
+    moments = λ t. during_within _ _ First Last past.moments past'.moments out (moments t);
+    held = λ goes. tt;
+  }
+
+  refused_part : (q : Part) (f : FlashFault) (n n' : ℕ) → Moved q r → Within q m m → is_fault q ≡ false → PartLeaves q s'.phase → ((t : List ℕ) → (is_fault q ≡ true → t ≡ rest) → Told q s s' c t)
+      → PutCause {X = Unit {0}} (Err f) n n' → Keeps_put q → Moments_put q → Laid tells stage (Err f) s s' c rest past past' p p' taken taken'
+  refused_part q f n n' moved within sound leaves says cause kept moments =
+      refused_front q f (cells_by q win) (λ t. (ahead s' t).cells) n n' (λ t. ap (λ (x : Ahead). x.cells) (as_cells q s s' c t win r in_window moved sound leaves (says t (λ e. absurd (let b : true ≡ false = sym e ∙ sound in cc)))))
+      (λ i. outside q win r m (place_of s) i moved long within) cause kept moments
+
+  pub refused_laid : (q : Part) (f : FlashFault) (n n' : ℕ) → Moved q r → Within q m m → PartLeaves q s'.phase → ((t : List ℕ) → (is_fault q ≡ true → t ≡ rest) → Told q s s' c t)
+      → PutCause {X = Unit {0}} (Err f) n n' → Keeps_put q → Moments_put q → Laid tells stage (Err f) s s' c rest past past' p p' taken taken'
+  refused_laid (parts.Fault g) f n n' moved within leaves says cause kept moments = refused_front (parts.Fault g) f [] (λ t. (ahead s (c ++ t)).cells) n n' (λ t. refl) (λ i e. empty_range (place_of s) i) cause kept moments
+  refused_laid q f n n' moved within leaves says cause kept moments = refused_part q f n n' moved within refl leaves says cause kept moments
+
+-- a step in which nothing happens
+pub nothing_laid : (tells : Bool) (stage : Stage) (r : Result Progress FlashFault) (s s' : Walk) (c rest : List ℕ) (past : Past) (p : List ℕ) (taken : ℕ) → c ≡ [] → s' ≡ s → (Goes stage s.phase → OnOk r ((ahead s []).cells ≡ owed s')) → OnMore r (place_of s' ≡ place_of s + 0)
+    → Laid tells stage r s s' c rest past past p p taken taken
+nothing_laid tells stage r s s' c rest past p taken none same held moved = record {
+  cells = [];
+  more = λ t. (ahead s t).cells;
+  front = λ t. rw none refl;
+  told = λ t e. unless_all r _ (rw (none, same) refl);
+  moved = moved;
+  counted = unless_all r _ (omega arith);
+  content = λ t. unless_all r _ (sym (nothing_over p (place_of s)));
+  kept = λ t. keeps_same _ (moment_of past p);
+  moments = λ t. during_none _ _ _ past.moments;
+  held = held;
+}

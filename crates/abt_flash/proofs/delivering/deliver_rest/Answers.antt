@@ -1,0 +1,324 @@
+use Rattle.std.proofs.Common.{◌≡◌, ℕ, ◌+◌, ◌-◌, ◌*◌, ◌≤◌, ◌<◌, ◌^◌, ◌++◌, List, length, refl, sym, ap, ◌∙◌, arith, inl, inr, length-append, append-nil}
+use Rattle.std.specs.List.{concat}
+use Rattle.abt_sparse.specs.Block.{Block, IsBlockSize}
+use Rattle.abt_sparse.specs.Laws.{flashed_all}
+use Rattle.abt_pieces.specs.Outline.{piece_at}
+use Rattle.abt_pieces.specs.Plan.{FirstPiece}
+use Rattle.abt_pieces.specs.Cutter.{has_more}
+use Rattle.abt_pieces.specs.SpentStage.{all_passes}
+use Rattle.abt_pieces.specs.declared.stage.Stage.{Stage}
+use Rattle.abt_pieces.specs.declared.stage.Stage.TheVariants.{Between, Done}
+use Rattle.abt_flash.specs.Delivering.{with_cuts}
+use Rattle.abt_flash.specs.Going.{StandsAt, Unbroken, frames_left, pieces_left, words_so_far}
+use Rattle.abt_flash.proofs.Left.{behind, frames_more, pieces_more, written_more, pieces_behind_are, laid_left, stands_left, one_left, pieces_front}
+use Rattle.abt_flash.proofs.Onward.{unbroken_first, unbroken_more, still_between, now_done, few_more, words_more, spent_more, spent_last, spent_whole}
+use Rattle.abt_flash.proofs.Spooled.{fits_none, fits_then, written_then, begins_then, cuts_then}
+use Rattle.abt_flash.proofs.Staying.{staying_first, staying_more, staying_stop, staying_now, staying_last}
+use Rattle.abt_flash.proofs.delivering.deliver_rest.Goals as goal
+
+pub pieces-init : goal.pieces-init
+pieces-init g c =
+    let b = g.R.BlockRuns.size c.args.cutter.now.runs in
+    let all = g.R.BlockRuns.list c.args.cutter.now.runs (g.S.Source.content c.args.source.now) in
+    let most = c.args.cutter.now.limit in
+    let s = c.args.cutter.now.start.block in
+    let is = c.requires.between in
+    record {
+      runs = refl;
+      limit = refl;
+      told = c.requires.told;
+      kept = λ tells. refl;
+      frame = refl;
+      unbroken = unbroken_first _ _ _ _ is c.requires.inside;
+      few = c.requires.few;
+      order = omega arith;
+      same_made = refl;
+      some = λ d. absurd (let z = sym is ∙ d in cc);
+      capacity = refl;
+      size = refl;
+      unread = (refl, refl);
+      fits = fits_none _ _ _;
+      written = λ tells. ap (λ (st : Stage). g.L.Output.written c.args.spool.now ++ concat (pieces_left most b all s st)) is;
+      cuts = λ tells. ap (λ (st : Stage). with_cuts (g.L.Spool.cuts c.args.spool.now) (length (g.L.Output.written c.args.spool.now)) (pieces_left most b all s st)) is;
+      laid = λ tells spool partition. ap (λ (st : Stage). flashed_all b (g.P.Source.content c.args.partition.now) (frames_left most b all s st)) is;
+      stays = λ tells spool partition p done le h.
+          let long = g.met.R.BlockRuns.long c.args.cutter.now.runs _ (c.requires.opened tells) in
+          let within = g.met.R.BlockRuns.bounded c.args.cutter.now.runs _ c.args.cutter.now.sound.within in
+          let here = behind most b all c.args.cutter.now.made s Between (rw is at (c.requires.told tells).cuts) (inl refl) (omega (arith, long, within)) in
+          staying_first most b all p c.args.cutter.now.made done s _ _ le here.blocks h;
+      settled = λ tells lt. absurd (omega (arith, lt));
+      synced = refl;
+      blocks = λ tells spool. refl;
+      given = omega arith;
+      spool_given = omega arith;
+      grown = omega arith;
+      taken = omega arith;
+      long = omega arith;
+      back = λ tells spool. refl;
+      spent = λ tells d. omega arith;
+      spent_end = λ tells d. absurd (let z = sym is ∙ d in cc);
+      calls = omega arith;
+      turns = omega arith;
+      steps = omega arith;
+      greatest = omega arith;
+      read_faults = omega arith;
+      write_faults = omega arith;
+      spool_faults = omega arith;
+      put_faults = omega arith;
+    }
+
+pub pieces-preserved : goal.pieces-preserved
+pieces-preserved g c =
+    let i = c.pieces.invariant in
+    let e = c.deliver_piece.ensures in
+    let o = c.in-Ok.ensures in
+    let n = g.R.BlockRuns.count c.args.cutter.now.runs in
+    let b = g.R.BlockRuns.size c.args.cutter.now.runs in
+    let one = g.R.BlockRuns.one c.args.cutter.now.runs in
+    let all = g.R.BlockRuns.list c.args.cutter.now.runs (g.S.Source.content c.args.source.now) in
+    let most = c.args.cutter.now.limit in
+    let given = g.S.Source.given in
+    let passes = all_passes (g.R.BlockRuns.charge c.args.cutter.now.runs) (g.R.BlockRuns.copied c.args.cutter.now.runs) in
+    let s = c.pieces.cutter.start.block in
+    let next = c.deliver_piece.new.cutter.start.block in
+    let st = c.deliver_piece.new.cutter.stage in
+    let is : c.pieces.cutter.stage ≡ Between = still_between _ _ _ _ i.unbroken (sym c.more.ensures ∙ c.if-not-more.false) in
+    let at : StandsAt n next st = rw i.runs at o.stands in
+    let left : c.pieces.cutter.made ≤ s = c.pieces.cutter.sound.left (ap has_more is) in
+    let inside = i.unbroken.between is in
+    let unbroken : Unbroken n c.deliver_piece.new.cutter.made next st = rw (o.made) (unbroken_more n c.pieces.cutter.made next st at) in
+    let words : words_so_far one n s Between + _ ≤ words_so_far one n next st = words_more one n s next st (rw i.runs at o.moves) at in
+    record {
+      runs = e.runs ∙ i.runs;
+      limit = e.limit ∙ i.limit;
+      told = λ tells. rw (i.runs, i.kept tells) at (e.told tells);
+      kept = λ tells. e.content tells ∙ i.kept tells;
+      frame = e.frame ∙ i.frame;
+      unbroken = unbroken;
+      few = rw o.made (few_more n c.pieces.cutter.made s left inside);
+      order = omega (arith, i.order, o.made);
+      same_made = i.same_made;
+      some = λ d. omega (arith, i.order, o.made);
+      capacity = e.capacity ∙ i.capacity;
+      size = e.size ∙ i.size;
+      unread = (e.unread.0 ∙ i.unread.0, e.unread.1 ∙ i.unread.1);
+      fits = fits_then _ _ _ _ _ _ _ i.fits (rw i.limit at e.fits);
+      written = λ tells.
+          let h : FirstPiece b all most s next = rw (i.runs, i.kept tells, i.limit) at (o.greatest_end tells) in
+          let long = g.met.R.BlockRuns.long c.args.cutter.now.runs _ (c.requires.opened tells) in
+          let more = ap (λ (t : Stage). pieces_left most b all s t) is ∙ pieces_more most b all s next st h (rw (← long) at at) in
+          written_then (g.L.Output.written c.pieces.spool) (g.L.Output.written c.deliver_piece.new.spool) _ (piece_at b most all s) (pieces_left most b all next st)
+          (ap (λ (xs : List (List ℕ)). g.L.Output.written c.pieces.spool ++ concat xs) (sym more) ∙ i.written tells) (rw (i.runs, i.kept tells, i.limit) at (o.written tells));
+      cuts = λ tells.
+          let h : FirstPiece b all most s next = rw (i.runs, i.kept tells, i.limit) at (o.greatest_end tells) in
+          let long = g.met.R.BlockRuns.long c.args.cutter.now.runs _ (c.requires.opened tells) in
+          let more = ap (λ (t : Stage). pieces_left most b all s t) is ∙ pieces_more most b all s next st h (rw (← long) at at) in
+          let wrote : g.L.Output.written c.deliver_piece.new.spool ≡ g.L.Output.written c.pieces.spool ++ piece_at b most all s = rw (i.runs, i.kept tells, i.limit) at (o.written tells) in
+          cuts_then (g.L.Spool.cuts c.pieces.spool) (g.L.Spool.cuts c.deliver_piece.new.spool) _ (length (g.L.Output.written c.pieces.spool)) (length (g.L.Output.written c.deliver_piece.new.spool)) (piece_at b most all s) (pieces_left most b all next st)
+          (ap (λ (xs : List (List ℕ)). with_cuts (g.L.Spool.cuts c.pieces.spool) (length (g.L.Output.written c.pieces.spool)) xs) (sym more) ∙ i.cuts tells) o.cut (ap length wrote ∙ length-append (g.L.Output.written c.pieces.spool) (piece_at b most all s));
+      laid = λ tells spool partition.
+          let h : FirstPiece b all most s next = rw (i.runs, i.kept tells, i.limit) at (o.greatest_end tells) in
+          let long = g.met.R.BlockRuns.long c.args.cutter.now.runs _ (c.requires.opened tells) in
+          let more = ap (λ (t : Stage). frames_left most b all s t) is ∙ frames_more most b all s next st h (rw (← long) at at) in
+          ap (λ (p : List ℕ). flashed_all b p (frames_left most b all next st)) (rw (i.runs, i.kept tells) at (o.laid tells spool partition))
+          ∙ sym (ap (λ (fs : List (List Block)). flashed_all b (g.P.Source.content c.pieces.partition) fs) more)
+          ∙ i.laid tells spool partition;
+      stays = λ tells spool partition p done le entry.
+          let h : FirstPiece b all most s next = rw (i.runs, i.kept tells, i.limit) at (o.greatest_end tells) in
+          let long = g.met.R.BlockRuns.long c.args.cutter.now.runs _ (c.requires.opened tells) in
+          let good = g.met.R.BlockRuns.are_blocks c.args.cutter.now.runs _ (c.requires.opened tells) in
+          let sized = g.met.R.BlockRuns.sized c.args.cutter.now.runs in
+          let granted : 64 + b ≤ c.args.cutter.now.limit = c.args.cutter.now.sound.granted in
+          let small : c.args.cutter.now.limit < 2 ^ 32 = omega arith in
+          let some : 0 < b = omega (arith, sized.0) in
+          let size : IsBlockSize b = (some, sized.1, omega (arith, granted, small)) in
+          let before = rw (i.limit, is) at (i.told tells).cuts in
+          let here = behind most b all c.pieces.cutter.made s Between before (inl refl) (omega (arith, h.order, h.within)) in
+          let behind_it = rw (e.limit, i.limit, i.runs, i.kept tells, o.made) at (e.told tells).cuts in
+          let then_on = behind most b all (c.pieces.cutter.made + 1) next st behind_it (stands_left (length all) next st (rw (← long) at at)) h.within in
+          staying_more most b all p c.args.cutter.now.made (g.P.Partition.past c.args.partition.now).synced c.pieces.cutter.made s (g.P.Partition.past c.args.partition.now).moments
+          (g.P.Partition.past c.pieces.partition) (g.P.Partition.past c.deliver_piece.new.partition) (g.P.Source.content c.pieces.partition) (g.P.Source.content c.deliver_piece.new.partition)
+          size good (omega (arith, h.order, h.within)) i.synced i.order here.blocks (i.stays tells spool partition p done le entry) (rw (i.runs, i.kept tells, i.limit) at (e.moments tells spool partition))
+          next h.order h.within o.synced then_on.blocks (o.settled partition) (rw (i.runs, i.kept tells) at (o.laid tells spool partition));
+      settled = λ tells lt. o.settled tells;
+      synced = omega (arith, i.synced, o.synced, o.made);
+      blocks = λ tells spool.
+          let h : FirstPiece b all most s next = rw (i.runs, i.kept tells, i.limit) at (o.greatest_end tells) in
+          let wrote = rw (i.runs, i.kept tells) at (o.blocks tells spool) in
+          let sum = ap (λ (k : ℕ). b * k) (written_more all s next h.order) in
+          let before = i.blocks tells spool in
+          omega (arith, wrote, sum, before);
+      given = omega (arith, i.given, e.given);
+      spool_given = omega (arith, i.spool_given, e.spool_given);
+      grown = omega (arith, i.grown, e.grown);
+      taken = omega (arith, i.taken, e.taken);
+      long = let z = rw i.runs at o.takes in omega (arith, z, i.long, o.made);
+      back = λ tells spool. let z = o.back tells spool in let y = i.back tells spool in omega (arith, z, y);
+      spent = λ tells d. spent_more (given c.args.source.now) (given c.pieces.source) (given c.deliver_piece.new.source) (passes c.args.cutter.now.start) (passes c.pieces.cutter.start) (passes c.deliver_piece.new.cutter.start) c.args.cutter.now.made c.pieces.cutter.made c.deliver_piece.new.cutter.made one o.made (rw i.runs at (o.spent tells)) (i.spent tells is);
+      spent_end = λ tells d. spent_last (given c.args.source.now) (given c.pieces.source) (given c.deliver_piece.new.source) (passes c.args.cutter.now.start) (passes c.pieces.cutter.start) (passes c.deliver_piece.new.cutter.start) c.args.cutter.now.made c.pieces.cutter.made c.deliver_piece.new.cutter.made one o.made ((rw i.runs at (o.spent_end tells)) (unbroken.done d).1) (i.spent tells is);
+      calls = omega (arith, e.calls, i.calls, o.made);
+      turns =
+          let z = rw i.runs at o.words in
+          let y : words_so_far one n s c.pieces.cutter.stage ≡ words_so_far one n s Between = ap (λ (t : Stage). words_so_far one n s t) is in
+          omega (arith, z, y, words, i.turns, c.tick.ensures.turns, o.made);
+      steps = omega (arith, e.steps, i.steps, c.tick.ensures.steps);
+      greatest = omega (arith, e.greatest, i.greatest, c.tick.ensures.greatest);
+      read_faults = omega (arith, e.read_faults, i.read_faults);
+      write_faults = omega (arith, e.write_faults, i.write_faults);
+      spool_faults = omega (arith, e.spool_faults, i.spool_faults);
+      put_faults = omega (arith, e.put_faults, i.put_faults);
+    }
+
+-- ---- behind the last piece
+
+pub returns-then-not-more-clause-written : goal.returns-then-not-more-clause-written
+returns-then-not-more-clause-written g c tells =
+    let i = c.pieces.invariant in
+    let b = g.R.BlockRuns.size c.args.cutter.now.runs in
+    let all = g.R.BlockRuns.list c.args.cutter.now.runs (g.S.Source.content c.args.source.now) in
+    let most = c.args.cutter.now.limit in
+    let is : c.pieces.cutter.stage ≡ Done = now_done _ _ _ _ i.unbroken (sym c.more.ensures ∙ c.if-not-more.true) in
+    let long = g.met.R.BlockRuns.long c.args.cutter.now.runs _ (c.requires.opened tells) in
+    let within = g.met.R.BlockRuns.bounded c.args.cutter.now.runs _ c.args.cutter.now.sound.within in
+    let here = behind most b all c.args.cutter.now.made c.args.cutter.now.start.block Between (rw c.requires.between at (c.requires.told tells).cuts) (inl refl) (omega (arith, long, within)) in
+    let all_of = pieces_behind_are most b all c.args.cutter.now.made c.args.cutter.now.start.block Between here in
+    sym (append-nil (g.L.Output.written c.pieces.spool))
+    ∙ sym (ap (λ (st : Stage). g.L.Output.written c.pieces.spool ++ concat (pieces_left most b all c.pieces.cutter.start.block st)) is)
+    ∙ i.written tells
+    ∙ ap (λ (xs : List (List ℕ)). g.L.Output.written c.args.spool.now ++ concat xs) (sym all_of)
+
+pub returns-then-not-more-clause-cuts : goal.returns-then-not-more-clause-cuts
+returns-then-not-more-clause-cuts g c tells =
+    let i = c.pieces.invariant in
+    let b = g.R.BlockRuns.size c.args.cutter.now.runs in
+    let all = g.R.BlockRuns.list c.args.cutter.now.runs (g.S.Source.content c.args.source.now) in
+    let most = c.args.cutter.now.limit in
+    let is : c.pieces.cutter.stage ≡ Done = now_done _ _ _ _ i.unbroken (sym c.more.ensures ∙ c.if-not-more.true) in
+    let long = g.met.R.BlockRuns.long c.args.cutter.now.runs _ (c.requires.opened tells) in
+    let within = g.met.R.BlockRuns.bounded c.args.cutter.now.runs _ c.args.cutter.now.sound.within in
+    let here = behind most b all c.args.cutter.now.made c.args.cutter.now.start.block Between (rw c.requires.between at (c.requires.told tells).cuts) (inl refl) (omega (arith, long, within)) in
+    let all_of = pieces_behind_are most b all c.args.cutter.now.made c.args.cutter.now.start.block Between here in
+    sym (ap (λ (st : Stage). with_cuts (g.L.Spool.cuts c.pieces.spool) (length (g.L.Output.written c.pieces.spool)) (pieces_left most b all c.pieces.cutter.start.block st)) is)
+    ∙ i.cuts tells
+    ∙ ap (λ (xs : List (List ℕ)). with_cuts (g.L.Spool.cuts c.args.spool.now) (length (g.L.Output.written c.args.spool.now)) xs) (sym all_of)
+
+pub returns-then-not-more-clause-begins : goal.returns-then-not-more-clause-begins
+returns-then-not-more-clause-begins g c tells =
+    let i = c.pieces.invariant in
+    let b = g.R.BlockRuns.size c.args.cutter.now.runs in
+    let all = g.R.BlockRuns.list c.args.cutter.now.runs (g.S.Source.content c.args.source.now) in
+    let most = c.args.cutter.now.limit in
+    let long = g.met.R.BlockRuns.long c.args.cutter.now.runs _ (c.requires.opened tells) in
+    let within = g.met.R.BlockRuns.bounded c.args.cutter.now.runs _ c.args.cutter.now.sound.within in
+    let here = behind most b all c.args.cutter.now.made c.args.cutter.now.start.block Between (rw c.requires.between at (c.requires.told tells).cuts) (inl refl) (omega (arith, long, within)) in
+    let all_of = pieces_behind_are most b all c.args.cutter.now.made c.args.cutter.now.start.block Between here in
+    record {
+      more = concat (pieces_left most b all c.pieces.cutter.start.block c.pieces.cutter.stage);
+      joined = i.written tells ∙ ap (λ (xs : List (List ℕ)). g.L.Output.written c.args.spool.now ++ concat xs) (sym all_of);
+    }
+
+pub returns-then-not-more-clause-laid : goal.returns-then-not-more-clause-laid
+returns-then-not-more-clause-laid g c tells spool partition =
+    let i = c.pieces.invariant in
+    let b = g.R.BlockRuns.size c.args.cutter.now.runs in
+    let all = g.R.BlockRuns.list c.args.cutter.now.runs (g.S.Source.content c.args.source.now) in
+    let most = c.args.cutter.now.limit in
+    let is : c.pieces.cutter.stage ≡ Done = now_done _ _ _ _ i.unbroken (sym c.more.ensures ∙ c.if-not-more.true) in
+    let good = g.met.R.BlockRuns.are_blocks c.args.cutter.now.runs _ (c.requires.opened tells) in
+    let sized = g.met.R.BlockRuns.sized c.args.cutter.now.runs in
+    sym (ap (λ (st : Stage). flashed_all b (g.P.Source.content c.pieces.partition) (frames_left most b all c.pieces.cutter.start.block st)) is)
+    ∙ i.laid tells spool partition
+    ∙ laid_left most b (g.P.Source.content c.args.partition.now) all c.args.cutter.now.start.block Between sized.1 good (inl refl)
+
+pub returns-then-not-more-clause-stays : goal.returns-then-not-more-clause-stays
+returns-then-not-more-clause-stays g c tells spool partition =
+    let i = c.pieces.invariant in
+    let b = g.R.BlockRuns.size c.args.cutter.now.runs in
+    let all = g.R.BlockRuns.list c.args.cutter.now.runs (g.S.Source.content c.args.source.now) in
+    let most = c.args.cutter.now.limit in
+    let is : c.pieces.cutter.stage ≡ Done = now_done _ _ _ _ i.unbroken (sym c.more.ensures ∙ c.if-not-more.true) in
+    let long = g.met.R.BlockRuns.long c.args.cutter.now.runs _ (c.requires.opened tells) in
+    let end : g.R.BlockRuns.count c.args.cutter.now.runs ≤ c.pieces.cutter.start.block = (i.unbroken.done is).1 in
+    let within : c.pieces.cutter.start.block ≤ g.R.BlockRuns.count c.args.cutter.now.runs = rw i.runs at (g.met.R.BlockRuns.bounded c.pieces.cutter.runs _ c.pieces.cutter.sound.within) in
+    let here = behind most b all c.pieces.cutter.made c.pieces.cutter.start.block Done (rw (i.limit, is) at (i.told tells).cuts) (inr (refl, omega (arith, long, end))) (omega (arith, long, within)) in
+    record {
+      since = λ p done le entry. (i.stays tells spool partition p done le entry).since;
+      now = λ p done le entry. staying_last most b all p c.args.cutter.now.made (g.P.Partition.past c.args.partition.now).synced c.pieces.cutter.made c.pieces.cutter.start.block (g.P.Partition.past c.args.partition.now).moments (g.P.Partition.past c.pieces.partition) (g.P.Source.content c.pieces.partition) i.synced i.order here.blocks (i.stays tells spool partition p done le entry);
+    }
+
+pub returns-then-not-more-clause-spent : goal.returns-then-not-more-clause-spent
+returns-then-not-more-clause-spent g c tells =
+    let i = c.pieces.invariant in
+    let one = g.R.BlockRuns.one c.args.cutter.now.runs in
+    let passes = all_passes (g.R.BlockRuns.charge c.args.cutter.now.runs) (g.R.BlockRuns.copied c.args.cutter.now.runs) in
+    let is : c.pieces.cutter.stage ≡ Done = now_done _ _ _ _ i.unbroken (sym c.more.ensures ∙ c.if-not-more.true) in
+    let inside : g.R.BlockRuns.within c.args.cutter.now.runs c.pieces.cutter.start = rw i.runs at c.pieces.cutter.sound.within in
+    let most = (g.met.R.BlockRuns.passed c.args.cutter.now.runs c.pieces.cutter.start inside).0 in
+    let copies = g.met.R.BlockRuns.copied_fits c.args.cutter.now.runs c.pieces.cutter.start inside in
+    let same = i.same_made in
+    let order = i.order in
+    let d = c.pieces.cutter.made - c.args.cutter.now.made in
+    spent_whole (g.S.Source.given c.args.source.now) (g.S.Source.given c.pieces.source) (passes c.args.cutter.now.start) 0 (passes c.pieces.cutter.start) c.args.cutter.now.made c.pieces.cutter.made d one (g.R.BlockRuns.pass c.args.cutter.now.runs) (g.R.BlockRuns.image c.args.cutter.now.runs) (omega (arith, order)) (omega (arith, most, copies)) (i.spent_end tells is)
+
+-- ---- where a piece was stopped
+
+pub returns-in-Err-clause-counted : goal.returns-in-Err-clause-counted
+returns-in-Err-clause-counted g c tells =
+    let i = c.pieces.invariant in
+    let b = g.R.BlockRuns.size c.args.cutter.now.runs in
+    let all = g.R.BlockRuns.list c.args.cutter.now.runs (g.S.Source.content c.args.source.now) in
+    let is : c.pieces.cutter.stage ≡ Between = still_between _ _ _ _ i.unbroken (sym c.more.ensures ∙ c.if-not-more.false) in
+    one_left c.args.cutter.now.limit b all c.pieces.cutter.made c.pieces.cutter.start.block (rw (i.limit, is) at (i.told tells).cuts)
+
+pub returns-in-Err-clause-fits : goal.returns-in-Err-clause-fits
+returns-in-Err-clause-fits g c = fits_then _ _ _ _ _ _ _ c.pieces.invariant.fits (rw c.pieces.invariant.limit at c.deliver_piece.ensures.fits)
+
+pub returns-in-Err-clause-begins : goal.returns-in-Err-clause-begins
+returns-in-Err-clause-begins g c tells =
+    let i = c.pieces.invariant in
+    let b = g.R.BlockRuns.size c.args.cutter.now.runs in
+    let all = g.R.BlockRuns.list c.args.cutter.now.runs (g.S.Source.content c.args.source.now) in
+    let most = c.args.cutter.now.limit in
+    let s = c.pieces.cutter.start.block in
+    let is : c.pieces.cutter.stage ≡ Between = still_between _ _ _ _ i.unbroken (sym c.more.ensures ∙ c.if-not-more.false) in
+    let long = g.met.R.BlockRuns.long c.args.cutter.now.runs _ (c.requires.opened tells) in
+    let first = g.met.R.BlockRuns.bounded c.args.cutter.now.runs _ c.args.cutter.now.sound.within in
+    let within : s ≤ g.R.BlockRuns.count c.args.cutter.now.runs = rw i.runs at (g.met.R.BlockRuns.bounded c.pieces.cutter.runs _ c.pieces.cutter.sound.within) in
+    let here = behind most b all c.args.cutter.now.made c.args.cutter.now.start.block Between (rw c.requires.between at (c.requires.told tells).cuts) (inl refl) (omega (arith, long, first)) in
+    let all_of = pieces_behind_are most b all c.args.cutter.now.made c.args.cutter.now.start.block Between here in
+    let front = pieces_front most b all s (omega (arith, long, within)) in
+    let more = ap (λ (t : Stage). pieces_left most b all s t) is ∙ front.1 in
+    begins_then (g.L.Output.written c.pieces.spool) (g.L.Output.written c.deliver_piece.new.spool) _ (piece_at b most all s) front.0
+    (ap (λ (xs : List (List ℕ)). g.L.Output.written c.pieces.spool ++ concat xs) (sym more) ∙ i.written tells ∙ ap (λ (xs : List (List ℕ)). g.L.Output.written c.args.spool.now ++ concat xs) (sym all_of))
+    (rw (i.runs, i.kept tells, i.limit) at (c.deliver_piece.ensures.begins tells))
+
+pub returns-in-Err-clause-stays : goal.returns-in-Err-clause-stays
+returns-in-Err-clause-stays g c tells spool partition =
+    let i = c.pieces.invariant in
+    let e = c.deliver_piece.ensures in
+    let b = g.R.BlockRuns.size c.args.cutter.now.runs in
+    let all = g.R.BlockRuns.list c.args.cutter.now.runs (g.S.Source.content c.args.source.now) in
+    let most = c.args.cutter.now.limit in
+    let s = c.pieces.cutter.start.block in
+    let is : c.pieces.cutter.stage ≡ Between = still_between _ _ _ _ i.unbroken (sym c.more.ensures ∙ c.if-not-more.false) in
+    let long = g.met.R.BlockRuns.long c.args.cutter.now.runs _ (c.requires.opened tells) in
+    let good = g.met.R.BlockRuns.are_blocks c.args.cutter.now.runs _ (c.requires.opened tells) in
+    let sized = g.met.R.BlockRuns.sized c.args.cutter.now.runs in
+    let granted : 64 + b ≤ c.args.cutter.now.limit = c.args.cutter.now.sound.granted in
+    let small : c.args.cutter.now.limit < 2 ^ 32 = omega arith in
+    let some : 0 < b = omega (arith, sized.0) in
+    let size : IsBlockSize b = (some, sized.1, omega (arith, granted, small)) in
+    let within : s ≤ g.R.BlockRuns.count c.args.cutter.now.runs = rw i.runs at (g.met.R.BlockRuns.bounded c.pieces.cutter.runs _ c.pieces.cutter.sound.within) in
+    let inside : s ≤ length all = omega (arith, long, within) in
+    let here = behind most b all c.pieces.cutter.made s Between (rw (i.limit, is) at (i.told tells).cuts) (inl refl) inside in
+    let moments = rw (i.runs, i.kept tells, i.limit) at (e.moments tells spool partition) in
+    let kept = rw (i.runs, i.kept tells, i.limit) at (e.kept tells spool partition) in
+    let syncs : (g.P.Partition.past c.deliver_piece.new.partition).synced ≡ (g.P.Partition.past c.pieces.partition).synced = omega (arith, c.in-Err.ensures.synced) in
+    record {
+      since = λ p done le entry. staying_stop most b all p c.args.cutter.now.made (g.P.Partition.past c.args.partition.now).synced c.pieces.cutter.made s (g.P.Partition.past c.args.partition.now).moments
+          (g.P.Partition.past c.pieces.partition) (g.P.Partition.past c.deliver_piece.new.partition) (g.P.Source.content c.pieces.partition) (g.P.Source.content c.deliver_piece.new.partition)
+          size good inside i.synced i.order here.blocks (i.stays tells spool partition p done le entry) moments syncs;
+      now = λ p done le entry. staying_now most b all p c.args.cutter.now.made (g.P.Partition.past c.args.partition.now).synced c.pieces.cutter.made s (g.P.Partition.past c.args.partition.now).moments
+          (g.P.Partition.past c.pieces.partition) (g.P.Partition.past c.deliver_piece.new.partition) (g.P.Source.content c.pieces.partition) (g.P.Source.content c.deliver_piece.new.partition)
+          size good inside i.synced i.order here.blocks (i.stays tells spool partition p done le entry) moments syncs kept;
+    }

@@ -1,0 +1,70 @@
+use Rattle.std.proofs.Common.{◌≡◌, ℕ, List, [], ◌≤◌, ◌<◌, ◌+◌, ◌-◌, ◌*◌, ◌++◌, length, drop, max}
+use Rattle.std.specs.Prelude.{IsTrue}
+use Rattle.std.specs.List.{concat}
+use Rattle.abt_io.specs.Moment.{moment_of}
+use Rattle.abt_sparse.specs.Laws.{flashed_all}
+use Rattle.abt_pieces.specs.Contents.{written_in}
+use Rattle.abt_pieces.specs.Cutter.{ToldCutter}
+use Rattle.abt_pieces.specs.SpentStage.{all_passes}
+use Rattle.abt_pieces.specs.declared.stage.Stage.TheVariants.{Between, Done}
+use Rattle.abt_flash.specs.Delivering.{LeavesMendable, PiecesFit, all_bytes, all_calls, with_cuts}
+use Rattle.abt_flash.specs.Going.{Staying, Unbroken, frames_left, pieces_left, words_so_far}
+use Rattle.abt_flash.proofs.delivering.deliver_rest.Given as goal
+
+abbrev pub invariant-pieces : goal.invariant-pieces
+invariant-pieces g l =
+    let content = g.S.Source.content in
+    let cells = g.P.Source.content in
+    let past = g.P.Partition.past in
+    let bytes = g.L.Output.written in
+    let clears = g.L.Spool.cuts in
+    let gave = g.L.Input.given in
+    let image = l.fn.cutter.runs in
+    let n = g.R.BlockRuns.count l.fn.cutter.runs in
+    let b = g.R.BlockRuns.size l.fn.cutter.runs in
+    let one = g.R.BlockRuns.one l.fn.cutter.runs in
+    let all = g.R.BlockRuns.list l.fn.cutter.runs (g.S.Source.content l.fn.source) in
+    let most = l.fn.cutter.limit in
+    let passes = all_passes (g.R.BlockRuns.charge l.fn.cutter.runs) (g.R.BlockRuns.copied l.fn.cutter.runs) in
+    record {
+      runs : l.cutter.runs ≡ l.fn.cutter.runs;
+      limit : l.cutter.limit ≡ l.fn.cutter.limit;
+      told : IsTrue g.S.Source.tells → ToldCutter (g.R.BlockRuns.place image (content l.fn.source)) (g.R.BlockRuns.together image (content l.fn.source)) b all l.cutter.limit l.cutter.made l.cutter.start l.cutter.stage;
+      kept : IsTrue g.S.Source.tells → content l.source ≡ content l.fn.source;
+      frame : g.S.Source.read_frame l.source ≡ g.S.Source.read_frame l.fn.source;
+      unbroken : Unbroken n l.cutter.made l.cutter.start.block l.cutter.stage;
+      few : l.cutter.made ≤ max 1 n;
+      order : l.fn.cutter.made ≤ l.cutter.made;
+      same_made : l.before ≡ l.fn.cutter.made;
+      some : l.cutter.stage ≡ Done → l.fn.cutter.made < l.cutter.made;
+      capacity : g.L.Spool.size l.spool ≡ g.L.Spool.size l.fn.spool;
+      size : g.P.Source.size l.partition ≡ g.P.Source.size l.fn.partition;
+      unread : (g.P.Source.reads l.partition ≡ g.P.Source.reads l.fn.partition) × (g.P.Source.given l.partition ≡ g.P.Source.given l.fn.partition);
+      fits : PiecesFit most (clears l.fn.spool) (clears l.spool) (length (bytes l.fn.spool)) (length (bytes l.spool));
+      written : IsTrue g.S.Source.tells → bytes l.spool ++ concat (pieces_left most b all l.cutter.start.block l.cutter.stage) ≡ bytes l.fn.spool ++ concat (pieces_left most b all l.fn.cutter.start.block Between);
+      cuts : IsTrue g.S.Source.tells → with_cuts (clears l.spool) (length (bytes l.spool)) (pieces_left most b all l.cutter.start.block l.cutter.stage) ≡ with_cuts (clears l.fn.spool) (length (bytes l.fn.spool)) (pieces_left most b all l.fn.cutter.start.block Between);
+      laid : IsTrue g.S.Source.tells → IsTrue g.L.Input.tells → IsTrue g.P.Source.tells → flashed_all b (cells l.partition) (frames_left most b all l.cutter.start.block l.cutter.stage) ≡ flashed_all b (cells l.fn.partition) (frames_left most b all l.fn.cutter.start.block Between);
+      stays : IsTrue g.S.Source.tells → IsTrue g.L.Input.tells → IsTrue g.P.Source.tells → (p : List ℕ) (done : ℕ) → l.fn.cutter.made ≤ done → LeavesMendable most b all p done (moment_of (past l.fn.partition) (cells l.fn.partition)) → Staying most b all p l.fn.cutter.made (past l.fn.partition).synced l.cutter.start.block (past l.fn.partition).moments (past l.partition) (cells l.partition);
+      settled : IsTrue g.P.Source.tells → l.fn.cutter.made < l.cutter.made → (past l.partition).pending ≡ [];
+      synced : (past l.partition).synced + l.fn.cutter.made ≡ (past l.fn.partition).synced + l.cutter.made;
+      blocks : IsTrue g.S.Source.tells → IsTrue g.L.Input.tells → g.P.Partition.taken l.partition + b * written_in (drop l.cutter.start.block all) ≡ g.P.Partition.taken l.fn.partition + b * written_in (drop l.fn.cutter.start.block all);
+      given : g.S.Source.given l.fn.source ≤ g.S.Source.given l.source;
+      spool_given : gave l.fn.spool ≤ gave l.spool;
+      grown : length (bytes l.fn.spool) ≤ length (bytes l.spool);
+      taken : g.P.Partition.taken l.fn.partition ≤ g.P.Partition.taken l.partition;
+      long : length (bytes l.spool) + g.R.BlockRuns.taken image l.fn.cutter.start + 80 * l.fn.cutter.made ≤ length (bytes l.fn.spool) + g.R.BlockRuns.taken image l.cutter.start + 80 * l.cutter.made;
+      back : IsTrue g.S.Source.tells → IsTrue g.L.Input.tells → gave l.spool + length (bytes l.fn.spool) ≡ gave l.fn.spool + length (bytes l.spool);
+      spent : IsTrue g.S.Source.tells → l.cutter.stage ≡ Between → g.S.Source.given l.source + passes l.fn.cutter.start + l.fn.cutter.made * (80 + one) ≤ g.S.Source.given l.fn.source + passes l.cutter.start + l.cutter.made * (80 + one);
+      spent_end : IsTrue g.S.Source.tells → l.cutter.stage ≡ Done → g.S.Source.given l.source + passes l.fn.cutter.start + l.fn.cutter.made * (80 + one) + (80 + one) ≤ g.S.Source.given l.fn.source + passes l.cutter.start + l.cutter.made * (80 + one) + 48;
+      calls : all_calls (g.S.Source.reads l.source) (g.L.Input.reads l.spool) (g.L.Output.writes l.spool) (g.L.Spool.clears l.spool) (g.P.Partition.puts l.partition) (g.P.Partition.syncs l.partition) + 8 * all_bytes (g.S.Source.given l.fn.source) (gave l.fn.spool) (length (bytes l.fn.spool)) (g.P.Partition.taken l.fn.partition) + 258 * l.fn.cutter.made ≤ all_calls (g.S.Source.reads l.fn.source) (g.L.Input.reads l.fn.spool) (g.L.Output.writes l.fn.spool) (g.L.Spool.clears l.fn.spool) (g.P.Partition.puts l.fn.partition) (g.P.Partition.syncs l.fn.partition) + 8 * all_bytes (g.S.Source.given l.source) (gave l.spool) (length (bytes l.spool)) (g.P.Partition.taken l.partition) + 258 * l.cutter.made;
+      turns : l.m.turns.number + 8 * all_bytes (g.S.Source.given l.fn.source) (gave l.fn.spool) (length (bytes l.fn.spool)) (g.P.Partition.taken l.fn.partition) + 258 * l.fn.cutter.made ≤ l.fn.m.turns.number + 8 * all_bytes (g.S.Source.given l.source) (gave l.spool) (length (bytes l.spool)) (g.P.Partition.taken l.partition) + words_so_far one n l.cutter.start.block l.cutter.stage + 258 * l.cutter.made;
+      steps : g.S.Source.given l.source + gave l.spool + 65580 * l.fn.m.steps.number ≤ g.S.Source.given l.fn.source + gave l.fn.spool + 65580 * l.m.steps.number;
+      greatest : l.m.greatest.number ≤ max l.fn.m.greatest.number 65580;
+      read_faults : g.S.Source.read_faults l.fn.source ≤ g.S.Source.read_faults l.source;
+      write_faults : g.L.Output.write_faults l.fn.spool + g.L.Spool.clear_faults l.fn.spool ≤ g.L.Output.write_faults l.spool + g.L.Spool.clear_faults l.spool;
+      spool_faults : g.L.Input.read_faults l.fn.spool ≤ g.L.Input.read_faults l.spool;
+      put_faults : g.P.Partition.put_faults l.fn.partition ≤ g.P.Partition.put_faults l.partition;
+    }
+
+abbrev pub decreases-pieces : goal.decreases-pieces
+decreases-pieces g l = (g.R.BlockRuns.count l.fn.cutter.runs + 1) - l.cutter.made

@@ -1,0 +1,235 @@
+use Rattle.std.proofs.Common.{◌≡◌, ◌≤◌, ◌+◌, ◌-◌, ◌*◌, Ok, Result, length, arith, refl, sym, ap, ◌∙◌, length-drop, false, Err}
+use Rattle.std.specs.Prelude.{IsTrue}
+use Rattle.abt_io.proofs.Parts.{rest_more}
+use Rattle.abt_chunks.specs.declared.progress.Progress.{Progress}
+use Rattle.abt_chunks.specs.declared.progress.Progress.TheVariants.{Done, More}
+use Rattle.abt_flash.specs.declared.fault.FlashFault.{FlashFault}
+use Rattle.abt_flash.specs.Stepping.{idle, is_done}
+use Rattle.abt_flash.specs.declared.stage.Stage.{Stage}
+use Rattle.abt_flash.specs.declared.stage.Stage.TheVariants as stages
+use Rattle.abt_flash.proofs.Come.{come_first, come_next, done_holds, done_whole, ends, ends_kept, ends_moments, ends_seen, fault_flashes, fault_holds, going_phase, known_head, need_stays, short_first, short_same}
+use Rattle.abt_chunks.specs.declared.walk.Phase.TheVariants as phases
+use Rattle.abt_flash.proofs.flashing.flash.Goals as goal
+
+pub steps-init : goal.steps-init
+steps-init g c =
+    let zero : g.I.Input.given c.args.input.now - g.I.Input.given c.args.input.now ≡ 0 = omega arith in
+    record {
+      read = omega arith;
+      present = λ tells. omega (arith, zero);
+      rest = λ tells. rw zero refl;
+      goes = rw (c.open-machine.ensures.stage, c.open-machine.ensures.walk) tt;
+      told = λ tells. come_first _ _ _ _ _ _ _ _ _ c.open-machine.ensures.walk zero c.open-machine.ensures.laid;
+      fresh = λ f. refl;
+      measured = λ body some. absurd (let q : phases.Header ≡ phases.Body = sym c.open-machine.ensures.walk ∙ body in cc);
+      synced = refl;
+      size = refl;
+      unread = (refl, refl, refl);
+      taken = omega arith;
+      frame = refl;
+      read_faults = omega arith;
+      put_faults = omega arith;
+      calls = rw c.open-machine.ensures.walk (omega arith);
+      turns = rw c.open-machine.ensures.walk (omega arith);
+      steps = omega arith;
+      greatest = omega arith;
+    }
+
+not_done : (st : Stage) → is_done st (Ok More) ≡ false
+not_done stages.Going = refl
+not_done stages.Done = refl
+not_done (stages.Failed f) = refl
+
+pub steps-preserved : goal.steps-preserved
+steps-preserved g c =
+    let i = c.steps.invariant in
+    let e = c.step.ensures in
+    let m = c.in-Ok-More.ensures in
+    let more : c.step.result ≡ Ok More = c.in-Ok-More.is ∙ ap (λ (p : Progress). let r : Result Progress FlashFault = Ok p in r) c.in-Ok-More.field-0-is in
+    let few : c.step.new.m.turns.number + 2 * g.P.Partition.taken c.steps.partition ≤ c.tick.new.self.turns.number + (g.I.Input.given c.step.new.input - g.I.Input.given c.steps.input) + 2 * g.P.Partition.taken c.step.new.partition + 2 = rw more at c.step.ensures.few in
+    let progress : idle c.step.new.self.walk + 1 ≤ idle c.steps.machine.walk + 2 * (g.I.Input.given c.step.new.input - g.I.Input.given c.steps.input) + 2 * (g.P.Partition.taken c.step.new.partition - g.P.Partition.taken c.steps.partition) = rw more at c.step.ensures.progress in
+    let stage = rw more at c.step.ensures.stage in
+    let body = rw c.in-Ok-More.field-0-is at (m.leaves i.goes) in
+    let quiet : (g.P.Partition.past c.step.new.partition).synced ≡ (g.P.Partition.past c.steps.partition).synced = let q = rw (more, not_done c.steps.machine.stage) at c.step.ensures.synced in omega (arith, q) in
+    let going = going_phase c.steps.machine.stage c.steps.machine.walk.phase i.goes in
+    let fresh = rw c.in-Ok-More.field-0-is at (m.fresh i.goes) in
+    let begins = rw c.in-Ok-More.field-0-is at m.begins in
+    let measures = rw (c.in-Ok-More.field-0-is, i.size) at (m.measures i.goes) in
+    let k = g.I.Input.given c.steps.input - g.I.Input.given c.args.input.now in
+    let n = g.I.Input.given c.step.new.input - g.I.Input.given c.steps.input in
+    let j = g.I.Input.given c.step.new.input - g.I.Input.given c.args.input.now in
+    let rem = g.I.Input.remaining c.args.input.now in
+    let rest = λ (tells : IsTrue g.I.Input.tells). rest_more rem (g.I.Input.remaining c.steps.input) (g.I.Input.remaining c.step.new.input) k n j (i.rest tells) (e.rest tells) (let q : j ≡ k + n = omega arith in q) in
+    record {
+      read = omega arith;
+      present = λ tells.
+          let here : g.I.Input.given c.step.new.input - g.I.Input.given c.steps.input ≤ length (g.I.Input.remaining c.steps.input) = e.present tells in
+          let long : length (g.I.Input.remaining c.steps.input) ≡ length rem - k = ap length (i.rest tells) ∙ length-drop k rem in
+          let before : k ≤ length rem = i.present tells in
+          omega arith;
+      rest = rest;
+      goes = rw (stage, body) tt;
+      told = λ tells. come_next g.P.Source.tells c.steps.machine.stage c.steps.machine.walk c.step.new.self.walk rem (g.I.Input.remaining c.steps.input) (g.I.Input.remaining c.step.new.input) k n j (g.P.Source.size c.args.partition.now)
+          _ _ _ _ _ _ _ _ _ _ _ (i.rest tells) (let q : j ≡ k + n = omega arith in q) i.synced (i.told tells) (rw c.in-Ok-More.field-0-is at (m.told tells)) (m.laid i.goes) (rest tells) (rw c.in-Ok-More.field-0-is at (m.heads tells i.goes))
+          begins measures going quiet;
+      fresh = λ f. let q = fresh f in q.1 ∙ i.fresh q.0;
+      measured = λ b some. need_stays c.steps.machine.walk c.step.new.self.walk _ going (begins some) (rw c.in-Ok-More.field-0-is at m.header) (measures (begins some));
+      synced = quiet ∙ i.synced;
+      size = e.size ∙ i.size;
+      unread = (e.unread.0 ∙ i.unread.0, e.unread.1 ∙ i.unread.1, e.unread.2 ∙ i.unread.2);
+      taken = omega arith;
+      frame = e.frame ∙ i.frame;
+      read_faults = omega arith;
+      put_faults = omega arith;
+      calls = omega arith;
+      turns = omega arith;
+      steps = omega arith;
+      greatest = omega arith;
+    }
+
+pub returns-in-Ok-Done-clause-kept : goal.returns-in-Ok-Done-clause-kept
+returns-in-Ok-Done-clause-kept g c tells =
+    let i = c.steps.invariant in
+    let e = c.step.ensures in
+    let k = g.I.Input.given c.steps.input - g.I.Input.given c.args.input.now in
+    let n = g.I.Input.given c.step.new.input - g.I.Input.given c.steps.input in
+    let j = g.I.Input.given c.step.new.input - g.I.Input.given c.args.input.now in
+    let rem = g.I.Input.remaining c.args.input.now in
+    let same : j ≡ k + n = omega arith in
+    let rest = rest_more rem (g.I.Input.remaining c.steps.input) (g.I.Input.remaining c.step.new.input) k n j (i.rest tells) (e.rest tells) same in
+    ends_kept _ _ _ _ _ _ _ _ _ _ _ _ _ (ends g.P.Source.tells c.steps.machine.stage c.steps.machine.walk c.step.new.self.walk rem (g.I.Input.remaining c.steps.input) (g.I.Input.remaining c.step.new.input) k n j (g.P.Source.size c.args.partition.now)
+    _ _ _ _ _ _ _ _ _ _ c.step.result (i.rest tells) same i.synced (i.told tells) (e.told tells) c.step.new.self.laid rest (e.laid i.goes))
+
+pub returns-in-Ok-Done-clause-moments : goal.returns-in-Ok-Done-clause-moments
+returns-in-Ok-Done-clause-moments g c tells =
+    let i = c.steps.invariant in
+    let e = c.step.ensures in
+    let k = g.I.Input.given c.steps.input - g.I.Input.given c.args.input.now in
+    let n = g.I.Input.given c.step.new.input - g.I.Input.given c.steps.input in
+    let j = g.I.Input.given c.step.new.input - g.I.Input.given c.args.input.now in
+    let rem = g.I.Input.remaining c.args.input.now in
+    let same : j ≡ k + n = omega arith in
+    let rest = rest_more rem (g.I.Input.remaining c.steps.input) (g.I.Input.remaining c.step.new.input) k n j (i.rest tells) (e.rest tells) same in
+    ends_moments _ _ _ _ _ _ _ _ _ _ _ _ _ (ends g.P.Source.tells c.steps.machine.stage c.steps.machine.walk c.step.new.self.walk rem (g.I.Input.remaining c.steps.input) (g.I.Input.remaining c.step.new.input) k n j (g.P.Source.size c.args.partition.now)
+    _ _ _ _ _ _ _ _ _ _ c.step.result (i.rest tells) same i.synced (i.told tells) (e.told tells) c.step.new.self.laid rest (e.laid i.goes))
+
+pub returns-in-Ok-Done-clause-seen : goal.returns-in-Ok-Done-clause-seen
+returns-in-Ok-Done-clause-seen g c tells =
+    let i = c.steps.invariant in
+    let e = c.step.ensures in
+    let k = g.I.Input.given c.steps.input - g.I.Input.given c.args.input.now in
+    let n = g.I.Input.given c.step.new.input - g.I.Input.given c.steps.input in
+    let j = g.I.Input.given c.step.new.input - g.I.Input.given c.args.input.now in
+    let rem = g.I.Input.remaining c.args.input.now in
+    let same : j ≡ k + n = omega arith in
+    let rest = rest_more rem (g.I.Input.remaining c.steps.input) (g.I.Input.remaining c.step.new.input) k n j (i.rest tells) (e.rest tells) same in
+    ends_seen _ _ _ _ _ _ _ _ _ _ _ _ _ (ends g.P.Source.tells c.steps.machine.stage c.steps.machine.walk c.step.new.self.walk rem (g.I.Input.remaining c.steps.input) (g.I.Input.remaining c.step.new.input) k n j (g.P.Source.size c.args.partition.now)
+    _ _ _ _ _ _ _ _ _ _ c.step.result (i.rest tells) same i.synced (i.told tells) (e.told tells) c.step.new.self.laid rest (e.laid i.goes))
+
+pub returns-in-Err-clause-kept : goal.returns-in-Err-clause-kept
+returns-in-Err-clause-kept g c tells =
+    let i = c.steps.invariant in
+    let e = c.step.ensures in
+    let k = g.I.Input.given c.steps.input - g.I.Input.given c.args.input.now in
+    let n = g.I.Input.given c.step.new.input - g.I.Input.given c.steps.input in
+    let j = g.I.Input.given c.step.new.input - g.I.Input.given c.args.input.now in
+    let rem = g.I.Input.remaining c.args.input.now in
+    let same : j ≡ k + n = omega arith in
+    let rest = rest_more rem (g.I.Input.remaining c.steps.input) (g.I.Input.remaining c.step.new.input) k n j (i.rest tells) (e.rest tells) same in
+    ends_kept _ _ _ _ _ _ _ _ _ _ _ _ _ (ends g.P.Source.tells c.steps.machine.stage c.steps.machine.walk c.step.new.self.walk rem (g.I.Input.remaining c.steps.input) (g.I.Input.remaining c.step.new.input) k n j (g.P.Source.size c.args.partition.now)
+    _ _ _ _ _ _ _ _ _ _ c.step.result (i.rest tells) same i.synced (i.told tells) (e.told tells) c.step.new.self.laid rest (e.laid i.goes))
+
+pub returns-in-Err-clause-moments : goal.returns-in-Err-clause-moments
+returns-in-Err-clause-moments g c tells =
+    let i = c.steps.invariant in
+    let e = c.step.ensures in
+    let k = g.I.Input.given c.steps.input - g.I.Input.given c.args.input.now in
+    let n = g.I.Input.given c.step.new.input - g.I.Input.given c.steps.input in
+    let j = g.I.Input.given c.step.new.input - g.I.Input.given c.args.input.now in
+    let rem = g.I.Input.remaining c.args.input.now in
+    let same : j ≡ k + n = omega arith in
+    let rest = rest_more rem (g.I.Input.remaining c.steps.input) (g.I.Input.remaining c.step.new.input) k n j (i.rest tells) (e.rest tells) same in
+    ends_moments _ _ _ _ _ _ _ _ _ _ _ _ _ (ends g.P.Source.tells c.steps.machine.stage c.steps.machine.walk c.step.new.self.walk rem (g.I.Input.remaining c.steps.input) (g.I.Input.remaining c.step.new.input) k n j (g.P.Source.size c.args.partition.now)
+    _ _ _ _ _ _ _ _ _ _ c.step.result (i.rest tells) same i.synced (i.told tells) (e.told tells) c.step.new.self.laid rest (e.laid i.goes))
+
+pub returns-in-Err-clause-seen : goal.returns-in-Err-clause-seen
+returns-in-Err-clause-seen g c tells =
+    let i = c.steps.invariant in
+    let e = c.step.ensures in
+    let k = g.I.Input.given c.steps.input - g.I.Input.given c.args.input.now in
+    let n = g.I.Input.given c.step.new.input - g.I.Input.given c.steps.input in
+    let j = g.I.Input.given c.step.new.input - g.I.Input.given c.args.input.now in
+    let rem = g.I.Input.remaining c.args.input.now in
+    let same : j ≡ k + n = omega arith in
+    let rest = rest_more rem (g.I.Input.remaining c.steps.input) (g.I.Input.remaining c.step.new.input) k n j (i.rest tells) (e.rest tells) same in
+    ends_seen _ _ _ _ _ _ _ _ _ _ _ _ _ (ends g.P.Source.tells c.steps.machine.stage c.steps.machine.walk c.step.new.self.walk rem (g.I.Input.remaining c.steps.input) (g.I.Input.remaining c.step.new.input) k n j (g.P.Source.size c.args.partition.now)
+    _ _ _ _ _ _ _ _ _ _ c.step.result (i.rest tells) same i.synced (i.told tells) (e.told tells) c.step.new.self.laid rest (e.laid i.goes))
+
+pub returns-in-Ok-Done-clause-flashes : goal.returns-in-Ok-Done-clause-flashes
+returns-in-Ok-Done-clause-flashes g c tells =
+    let i = c.steps.invariant in
+    let e = c.step.ensures in
+    let k = g.I.Input.given c.steps.input - g.I.Input.given c.args.input.now in
+    let n = g.I.Input.given c.step.new.input - g.I.Input.given c.steps.input in
+    let j = g.I.Input.given c.step.new.input - g.I.Input.given c.args.input.now in
+    let rem = g.I.Input.remaining c.args.input.now in
+    let same : j ≡ k + n = omega arith in
+    let rest = rest_more rem (g.I.Input.remaining c.steps.input) (g.I.Input.remaining c.step.new.input) k n j (i.rest tells) (e.rest tells) same in
+    let ended = rw c.in-Ok-Done.field-0-is at (c.in-Ok-Done.ensures.leaves i.goes) in
+    let measures = rw (c.in-Ok-Done.field-0-is, i.size) at (c.in-Ok-Done.ensures.measures i.goes) in
+    let going = going_phase c.steps.machine.stage c.steps.machine.walk.phase i.goes in
+    done_whole _ c.steps.machine.walk _ _ _ _ _ _ _ _ _ _ _ (ends g.P.Source.tells c.steps.machine.stage c.steps.machine.walk c.step.new.self.walk rem (g.I.Input.remaining c.steps.input) (g.I.Input.remaining c.step.new.input) k n j (g.P.Source.size c.args.partition.now)
+    _ _ _ _ _ _ _ _ _ _ (Ok Done) (i.rest tells) same i.synced (i.told tells) (rw c.in-Ok-Done.field-0-is at (c.in-Ok-Done.ensures.told tells)) c.step.new.self.laid rest (c.in-Ok-Done.ensures.laid i.goes)) ended _ _ (g.met.I.Input.are_bytes c.args.input.now tells)
+    (known_head _ _ _ _ _ _ _ _ _ _ _ _ (i.told tells) going measures.0) measures.1 c.blocks-in-Ok-Done.ensures
+
+pub returns-in-Ok-Done-clause-holds : goal.returns-in-Ok-Done-clause-holds
+returns-in-Ok-Done-clause-holds g c tells t =
+    let i = c.steps.invariant in
+    let e = c.step.ensures in
+    let k = g.I.Input.given c.steps.input - g.I.Input.given c.args.input.now in
+    let n = g.I.Input.given c.step.new.input - g.I.Input.given c.steps.input in
+    let j = g.I.Input.given c.step.new.input - g.I.Input.given c.args.input.now in
+    let rem = g.I.Input.remaining c.args.input.now in
+    let same : j ≡ k + n = omega arith in
+    let rest = rest_more rem (g.I.Input.remaining c.steps.input) (g.I.Input.remaining c.step.new.input) k n j (i.rest tells) (e.rest tells) same in
+    let ended = rw c.in-Ok-Done.field-0-is at (c.in-Ok-Done.ensures.leaves i.goes) in
+    done_holds _ c.steps.machine.walk _ _ _ _ _ _ _ _ _ _ _ (ends g.P.Source.tells c.steps.machine.stage c.steps.machine.walk c.step.new.self.walk rem (g.I.Input.remaining c.steps.input) (g.I.Input.remaining c.step.new.input) k n j (g.P.Source.size c.args.partition.now)
+    _ _ _ _ _ _ _ _ _ _ (Ok Done) (i.rest tells) same i.synced (i.told tells) (rw c.in-Ok-Done.field-0-is at (c.in-Ok-Done.ensures.told tells)) c.step.new.self.laid rest (c.in-Ok-Done.ensures.laid i.goes)) ended t
+
+pub returns-in-Err-clause-flashes : goal.returns-in-Err-clause-flashes
+returns-in-Err-clause-flashes g c tells =
+    let i = c.steps.invariant in
+    let e = c.step.ensures in
+    let k = g.I.Input.given c.steps.input - g.I.Input.given c.args.input.now in
+    let n = g.I.Input.given c.step.new.input - g.I.Input.given c.steps.input in
+    let j = g.I.Input.given c.step.new.input - g.I.Input.given c.args.input.now in
+    let rem = g.I.Input.remaining c.args.input.now in
+    let same : j ≡ k + n = omega arith in
+    let rest = rest_more rem (g.I.Input.remaining c.steps.input) (g.I.Input.remaining c.step.new.input) k n j (i.rest tells) (e.rest tells) same in
+    let m = c.in-Err.ensures in
+    let going = going_phase c.steps.machine.stage c.steps.machine.walk.phase i.goes in
+    fault_flashes _ _ _ _ _ _ _ _ _ _ _ _ _ _ _ _ _ _ _ _ (g.met.I.Input.are_bytes c.args.input.now tells) going (i.rest tells) (i.told tells) c.in-Err.fault (ends g.P.Source.tells c.steps.machine.stage c.steps.machine.walk c.step.new.self.walk rem (g.I.Input.remaining c.steps.input) (g.I.Input.remaining c.step.new.input) k n j (g.P.Source.size c.args.partition.now)
+    _ _ _ _ _ _ _ _ _ _ (Err c.in-Err.fault) (i.rest tells) same i.synced (i.told tells) (m.told tells) c.step.new.self.laid rest tt)
+    (m.leaves i.goes) (m.heads tells i.goes) (rw i.size at (m.measures i.goes)) (short_same c.in-Err.fault _ _ (λ q. ap g.P.Partition.taken q) m.short)
+
+pub returns-in-Err-clause-holds : goal.returns-in-Err-clause-holds
+returns-in-Err-clause-holds g c tells t =
+    let i = c.steps.invariant in
+    let e = c.step.ensures in
+    let k = g.I.Input.given c.steps.input - g.I.Input.given c.args.input.now in
+    let n = g.I.Input.given c.step.new.input - g.I.Input.given c.steps.input in
+    let j = g.I.Input.given c.step.new.input - g.I.Input.given c.args.input.now in
+    let rem = g.I.Input.remaining c.args.input.now in
+    let same : j ≡ k + n = omega arith in
+    let rest = rest_more rem (g.I.Input.remaining c.steps.input) (g.I.Input.remaining c.step.new.input) k n j (i.rest tells) (e.rest tells) same in
+    let m = c.in-Err.ensures in
+    let going = going_phase c.steps.machine.stage c.steps.machine.walk.phase i.goes in
+    fault_holds _ _ _ _ _ _ _ _ _ _ _ _ _ _ _ _ _ _ _ _ (g.met.I.Input.are_bytes c.args.input.now tells) going (i.rest tells) (i.told tells) c.in-Err.fault (ends g.P.Source.tells c.steps.machine.stage c.steps.machine.walk c.step.new.self.walk rem (g.I.Input.remaining c.steps.input) (g.I.Input.remaining c.step.new.input) k n j (g.P.Source.size c.args.partition.now)
+    _ _ _ _ _ _ _ _ _ _ (Err c.in-Err.fault) (i.rest tells) same i.synced (i.told tells) (m.told tells) c.step.new.self.laid rest tt)
+    (m.leaves i.goes) (rw i.size at (m.measures i.goes)) (short_same c.in-Err.fault _ _ (λ q. ap g.P.Source.content q) m.short) t
+
+pub returns-in-Err-clause-untouched : goal.returns-in-Err-clause-untouched
+returns-in-Err-clause-untouched g c =
+    let i = c.steps.invariant in
+    let m = c.in-Err.ensures in
+    short_first c.in-Err.fault c.steps.machine.walk _ _ _ (going_phase c.steps.machine.stage c.steps.machine.walk.phase i.goes) (rw i.size at (m.measures i.goes)) i.measured i.fresh (λ p q. q ∙ p) m.short

@@ -1,0 +1,166 @@
+use Rattle.std.proofs.Common.{◌≡◌, ℕ, ◌+◌, ◌≤◌, ◌<◌, ◌^◌, ◌++◌, ◌∷◌, List, length, sym, ap, subst, ◌∙◌, arith, length-append}
+use Rattle.std.specs.Prelude.{IsTrue}
+use Rattle.abt_io.specs.Frame.{ReadFrame, WriteFrame}
+use Rattle.abt_sparse.specs.Block.{IsBlockSize, cells, over}
+use Rattle.abt_sparse.specs.Chunk.{piece}
+use Rattle.abt_sparse.specs.Pieces.{given}
+use Rattle.abt_sparse.specs.Reading.{outcome}
+use Rattle.abt_pieces.specs.Gather.{frame}
+use Rattle.abt_pieces.specs.Plan.{FirstPiece}
+use Rattle.abt_pieces.proofs.Cutting.{piece_is}
+use Rattle.abt_flash.specs.Going.{blocks_at}
+use Rattle.abt_flash.proofs.PieceFlash.{Reads, piece_reads, given_reads, all_flashed, only_devices, flash_stops, behind_clear, all_read, touched_reads}
+use Rattle.abt_flash.proofs.Spooled.{fits_one, begins_front}
+use Rattle.abt_flash.proofs.piece.deliver_piece.Goals as goal
+use Rattle.abt_flash.proofs.piece.deliver_piece.Goals.{After-flash, In-Ok-Some}
+use Rattle.abt_flash.proofs.piece.deliver_piece.Given.{Over}
+
+-- ---- the piece that was written
+
+-- its segment
+segment : (g : Over) (c : In-Ok-Some g) → IsTrue g.S.Source.tells → FirstPiece (g.R.BlockRuns.size c.args.cutter.now.runs) (g.R.BlockRuns.list c.args.cutter.now.runs (g.S.Source.content c.args.source.now)) c.args.cutter.now.limit c.args.cutter.now.start.block c.next_piece.new.self.start.block
+segment g c tells =
+    let o = c.in-Ok-Some.ensures in
+    let p = rw c.in-Ok-Some.field-0-is at o.piece in
+    let h = rw c.in-Ok-Some.field-0-is at (o.greatest tells) in
+    rw (p.0, p.1) at h
+
+-- its bytes
+bytes : (g : Over) (c : In-Ok-Some g) → IsTrue g.S.Source.tells → g.L.Output.written c.next_piece.new.output ≡ g.L.Output.written c.args.spool.now ++ piece (g.R.BlockRuns.size c.args.cutter.now.runs) (frame (g.R.BlockRuns.list c.args.cutter.now.runs (g.S.Source.content c.args.source.now)) c.args.cutter.now.start.block c.next_piece.new.self.start.block)
+bytes g c tells =
+    let b = g.R.BlockRuns.size c.args.cutter.now.runs in
+    let l = g.R.BlockRuns.list c.args.cutter.now.runs (g.S.Source.content c.args.source.now) in
+    let o = c.in-Ok-Some.ensures in
+    let p = rw c.in-Ok-Some.field-0-is at o.piece in
+    let h = rw c.in-Ok-Some.field-0-is at (o.written tells) in
+    h
+    ∙ ap (λ (x : List ℕ). x ++ piece b (frame l c.in-Ok-Some.field-0-0.first c.in-Ok-Some.field-0-0.past)) c.clear.ensures.written
+    ∙ ap (λ (s : ℕ). g.L.Output.written c.args.spool.now ++ piece b (frame l s c.in-Ok-Some.field-0-0.past)) p.0
+    ∙ ap (λ (e : ℕ). g.L.Output.written c.args.spool.now ++ piece b (frame l c.args.cutter.now.start.block e)) p.1
+
+-- what it reads as
+reads : (g : Over) (c : In-Ok-Some g) → IsTrue g.S.Source.tells → Reads (g.R.BlockRuns.size c.args.cutter.now.runs) (g.R.BlockRuns.count c.args.cutter.now.runs) (frame (g.R.BlockRuns.list c.args.cutter.now.runs (g.S.Source.content c.args.source.now)) c.args.cutter.now.start.block c.next_piece.new.self.start.block) (piece (g.R.BlockRuns.size c.args.cutter.now.runs) (frame (g.R.BlockRuns.list c.args.cutter.now.runs (g.S.Source.content c.args.source.now)) c.args.cutter.now.start.block c.next_piece.new.self.start.block))
+reads g c tells =
+    let b = g.R.BlockRuns.size c.args.cutter.now.runs in
+    let l = g.R.BlockRuns.list c.args.cutter.now.runs (g.S.Source.content c.args.source.now) in
+    let sized = g.met.R.BlockRuns.sized c.args.cutter.now.runs in
+    let long = g.met.R.BlockRuns.long c.args.cutter.now.runs _ (c.requires.opened tells) in
+    let good = g.met.R.BlockRuns.are_blocks c.args.cutter.now.runs _ (c.requires.opened tells) in
+    let granted : 64 + b ≤ c.args.cutter.now.limit = c.args.cutter.now.sound.granted in
+    let small : c.args.cutter.now.limit < 2 ^ 32 = omega arith in
+    let few : length l < 2 ^ 32 = let z : g.R.BlockRuns.count c.args.cutter.now.runs < 2 ^ 32 = omega arith in omega (arith, long, z) in
+    let some : 0 < b = omega (arith, sized.0) in
+    let size : IsBlockSize b = (some, sized.1, omega (arith, granted, small)) in
+    subst (λ (n : ℕ). Reads b n (frame l c.args.cutter.now.start.block c.next_piece.new.self.start.block) (piece b (frame l c.args.cutter.now.start.block c.next_piece.new.self.start.block))) long
+    (piece_reads c.args.cutter.now.limit b l c.args.cutter.now.start.block c.next_piece.new.self.start.block size good few small (segment g c tells))
+
+-- what the spool gives
+comes : (g : Over) (c : In-Ok-Some g) → IsTrue g.S.Source.tells → IsTrue g.L.Input.tells → g.L.Input.remaining c.next_piece.new.output ≡ piece (g.R.BlockRuns.size c.args.cutter.now.runs) (frame (g.R.BlockRuns.list c.args.cutter.now.runs (g.S.Source.content c.args.source.now)) c.args.cutter.now.start.block c.next_piece.new.self.start.block)
+comes g c tells spool =
+    let same = sym (g.met.L.Spool.writing c.next_piece.new.output) ∙ c.next_piece.ensures.write_frame ∙ g.met.L.Spool.writing c.clear.new.self in
+    let gone : g.L.Spool.gone c.next_piece.new.output ≡ length (g.L.Output.written c.args.spool.now) = ap (λ (f : WriteFrame). f.gone) same ∙ c.in-Ok.ensures.gone in
+    g.met.L.Spool.held c.next_piece.new.output spool ∙ behind_clear _ _ _ _ (bytes g c tells) gone
+
+-- what it touches
+touches : (g : Over) (c : In-Ok-Some g) → IsTrue g.S.Source.tells → IsTrue g.L.Input.tells → given (outcome (g.L.Input.remaining c.next_piece.new.output)) ≡ cells (g.R.BlockRuns.size c.args.cutter.now.runs) (blocks_at c.args.cutter.now.limit (g.R.BlockRuns.size c.args.cutter.now.runs) (g.R.BlockRuns.list c.args.cutter.now.runs (g.S.Source.content c.args.source.now)) c.args.cutter.now.start.block)
+touches g c tells spool = touched_reads _ _ _ _ _ _ _ _ (comes g c tells spool) (reads g c tells) (segment g c tells)
+
+-- ---- the spool behind a flash
+
+after_written : (g : Over) (c : After-flash g) → g.L.Output.written c.flash.new.input ≡ g.L.Output.written c.next_piece.new.output
+after_written g c = ap (λ (f : ReadFrame). f.written) (sym (g.met.L.Spool.reading c.flash.new.input) ∙ c.flash.ensures.frame ∙ g.met.L.Spool.reading c.next_piece.new.output)
+
+after_cuts : (g : Over) (c : After-flash g) → g.L.Spool.cuts c.flash.new.input ≡ length (g.L.Output.written c.args.spool.now) ∷ g.L.Spool.cuts c.args.spool.now
+after_cuts g c =
+    ap (λ (f : ReadFrame). f.cuts) (sym (g.met.L.Spool.reading c.flash.new.input) ∙ c.flash.ensures.frame ∙ g.met.L.Spool.reading c.next_piece.new.output)
+    ∙ ap (λ (f : WriteFrame). f.cuts) (sym (g.met.L.Spool.writing c.next_piece.new.output) ∙ c.next_piece.ensures.write_frame ∙ g.met.L.Spool.writing c.clear.new.self)
+    ∙ c.in-Ok.ensures.cut
+
+-- ---- where the piece was not written
+
+pub returns-in-Err-next_piece-clause-fits : goal.returns-in-Err-next_piece-clause-fits
+returns-in-Err-next_piece-clause-fits g c =
+    let cuts = ap (λ (f : WriteFrame). f.cuts) (sym (g.met.L.Spool.writing c.next_piece.new.output) ∙ c.next_piece.ensures.write_frame ∙ g.met.L.Spool.writing c.clear.new.self) ∙ c.in-Ok.ensures.cut in
+    let same = ap length c.clear.ensures.written in
+    fits_one _ _ _ _ _ cuts (omega (arith, same, c.next_piece.ensures.grown)) (omega (arith, same, c.next_piece.ensures.within))
+
+pub returns-in-Err-next_piece-clause-begins : goal.returns-in-Err-next_piece-clause-begins
+returns-in-Err-next_piece-clause-begins g c tells = rw (c.requires.between, c.clear.ensures.written) at (begins_front _ _ _ _ (c.next_piece.ensures.front tells))
+
+-- ---- where it was flashed
+
+pub returns-in-Ok-flash-clause-fits : goal.returns-in-Ok-flash-clause-fits
+returns-in-Ok-flash-clause-fits g c =
+    let k = (goal.at.returns-in-Ok-flash-clause-fits g c).After-flash in
+    let same = ap length c.clear.ensures.written in
+    let long = ap length (after_written g k) in
+    fits_one _ _ _ _ _ (after_cuts g k) (omega (arith, same, long, c.next_piece.ensures.grown)) (omega (arith, same, long, c.next_piece.ensures.within))
+
+pub returns-in-Ok-flash-clause-written : goal.returns-in-Ok-flash-clause-written
+returns-in-Ok-flash-clause-written g c tells =
+    let k = (goal.at.returns-in-Ok-flash-clause-written g c).After-flash in
+    let s = (goal.at.returns-in-Ok-flash-clause-written g c).In-Ok-Some in
+    after_written g k ∙ bytes g s tells ∙ ap (λ (x : List ℕ). g.L.Output.written c.args.spool.now ++ x) (piece_is _ _ _ _ _ (segment g s tells))
+
+pub returns-in-Ok-flash-clause-begins : goal.returns-in-Ok-flash-clause-begins
+returns-in-Ok-flash-clause-begins g c tells =
+    let k = (goal.at.returns-in-Ok-flash-clause-begins g c).After-flash in
+    rw (← after_written g k) at (rw (c.requires.between, c.clear.ensures.written) at (begins_front _ _ _ _ (c.next_piece.ensures.front tells)))
+
+pub returns-in-Ok-flash-clause-laid : goal.returns-in-Ok-flash-clause-laid
+returns-in-Ok-flash-clause-laid g c tells spool partition =
+    let s = (goal.at.returns-in-Ok-flash-clause-laid g c).In-Ok-Some in
+    c.in-Ok-flash.ensures.holds spool partition
+    ∙ ap (λ (x : List ℕ). over (g.P.Source.content c.args.partition.now) (given (outcome x))) (comes g s tells spool)
+    ∙ ap (over (g.P.Source.content c.args.partition.now)) (given_reads _ _ _ _ (reads g s tells))
+
+pub returns-in-Ok-flash-clause-kept : goal.returns-in-Ok-flash-clause-kept
+returns-in-Ok-flash-clause-kept g c tells spool partition = rw (touches g ((goal.at.returns-in-Ok-flash-clause-kept g c).In-Ok-Some) tells spool) at (c.flash.ensures.kept spool partition)
+
+pub returns-in-Ok-flash-clause-moments : goal.returns-in-Ok-flash-clause-moments
+returns-in-Ok-flash-clause-moments g c tells spool partition = rw (touches g ((goal.at.returns-in-Ok-flash-clause-moments g c).In-Ok-Some) tells spool) at (c.flash.ensures.moments spool partition)
+
+pub returns-in-Ok-flash-clause-blocks : goal.returns-in-Ok-flash-clause-blocks
+returns-in-Ok-flash-clause-blocks g c tells spool =
+    let s = (goal.at.returns-in-Ok-flash-clause-blocks g c).In-Ok-Some in
+    (all_flashed _ _ _ _ _ _ _ _ _ (reads g s tells) (rw (comes g s tells spool) at (c.in-Ok-flash.ensures.flashes spool))).taken
+
+pub returns-in-Ok-flash-clause-back : goal.returns-in-Ok-flash-clause-back
+returns-in-Ok-flash-clause-back g c tells spool =
+    let k = (goal.at.returns-in-Ok-flash-clause-back g c).After-flash in
+    let s = (goal.at.returns-in-Ok-flash-clause-back g c).In-Ok-Some in
+    let none = (all_flashed _ _ _ _ _ _ _ _ _ (reads g s tells) (rw (comes g s tells spool) at (c.in-Ok-flash.ensures.flashes spool))).none in
+    let read = all_read _ _ _ (c.flash.ensures.present spool) (c.flash.ensures.rest spool) none in
+    let long = ap length (comes g s tells spool) in
+    let wrote = ap length (bytes g s tells) in
+    let sum = length-append (g.L.Output.written c.args.spool.now) (piece (g.R.BlockRuns.size c.args.cutter.now.runs) (frame (g.R.BlockRuns.list c.args.cutter.now.runs (g.S.Source.content c.args.source.now)) c.args.cutter.now.start.block c.next_piece.new.self.start.block)) in
+    let same = ap length (after_written g k) in
+    let gives : g.L.Input.given c.next_piece.new.output ≡ g.L.Input.given c.clear.new.self = ap (λ (f : WriteFrame). f.given) (sym (g.met.L.Spool.writing c.next_piece.new.output) ∙ c.next_piece.ensures.write_frame ∙ g.met.L.Spool.writing c.clear.new.self) in
+    omega (arith, read, long, wrote, sum, same, gives, c.clear.ensures.given, c.flash.ensures.given)
+
+-- ---- where flashing it failed
+
+pub returns-in-Err-flash-clause-fits : goal.returns-in-Err-flash-clause-fits
+returns-in-Err-flash-clause-fits g c =
+    let k = (goal.at.returns-in-Err-flash-clause-fits g c).After-flash in
+    let same = ap length c.clear.ensures.written in
+    let long = ap length (after_written g k) in
+    fits_one _ _ _ _ _ (after_cuts g k) (omega (arith, same, long, c.next_piece.ensures.grown)) (omega (arith, same, long, c.next_piece.ensures.within))
+
+pub returns-in-Err-flash-clause-begins : goal.returns-in-Err-flash-clause-begins
+returns-in-Err-flash-clause-begins g c tells =
+    let k = (goal.at.returns-in-Err-flash-clause-begins g c).After-flash in
+    rw (← after_written g k) at (rw (c.requires.between, c.clear.ensures.written) at (begins_front _ _ _ _ (c.next_piece.ensures.front tells)))
+
+pub returns-in-Err-flash-clause-kept : goal.returns-in-Err-flash-clause-kept
+returns-in-Err-flash-clause-kept g c tells spool partition = rw (touches g ((goal.at.returns-in-Err-flash-clause-kept g c).In-Ok-Some) tells spool) at (c.flash.ensures.kept spool partition)
+
+pub returns-in-Err-flash-clause-moments : goal.returns-in-Err-flash-clause-moments
+returns-in-Err-flash-clause-moments g c tells spool partition = rw (touches g ((goal.at.returns-in-Err-flash-clause-moments g c).In-Ok-Some) tells spool) at (c.flash.ensures.moments spool partition)
+
+pub returns-in-Err-flash-clause-cause : goal.returns-in-Err-flash-clause-cause
+returns-in-Err-flash-clause-cause g c =
+    let s = (goal.at.returns-in-Err-flash-clause-cause g c).In-Ok-Some in
+    let same : g.L.Input.read_faults c.next_piece.new.output ≡ g.L.Input.read_faults c.clear.new.self = ap (λ (f : WriteFrame). f.read_faults) (sym (g.met.L.Spool.writing c.next_piece.new.output) ∙ c.next_piece.ensures.write_frame ∙ g.met.L.Spool.writing c.clear.new.self) in
+    rw (c.not_flashed.ensures) (flash_stops _ _ _ _ _ _ _ _ _ _ _ _ (omega (arith, same, c.clear.ensures.read_faults)) c.in-Err-flash.ensures.cause
+    (λ tells spool. only_devices _ _ _ _ _ _ _ _ _ (reads g s tells) c.requires.room (rw (comes g s tells spool) at (c.in-Err-flash.ensures.flashes spool))))

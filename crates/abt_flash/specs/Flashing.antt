@@ -1,0 +1,50 @@
+-- What flashing a whole input answers, and what the partition holds then.
+use Rattle.std.specs.Prelude.{◌≡◌, ℕ, ◌+◌, ◌*◌, ◌<◌, ◌≤◌, List, Option, Result, Ok, Err}
+use Rattle.abt_sparse.specs.declared.fault.SparseFault.{SparseFault}
+use Rattle.abt_sparse.specs.Chunk.{Header, Chunk, classed}
+use Rattle.abt_sparse.specs.Fails.{Fails, Spells, SpellsHeader}
+use Rattle.abt_sparse.specs.Pieces.{flashed}
+use Rattle.abt_pieces.specs.Contents.{written_in}
+use Rattle.abt_flash.specs.declared.fault.FlashFault.{FlashFault}
+use Rattle.abt_flash.specs.declared.fault.FlashFault.TheVariants.{Sparse, PartitionTooSmall}
+use Rattle.abt_flash.specs.declared.stage.Flashed.{Flashed}
+
+-- An image that fits a partition of this size stands at the front of x, and rest behind it. The answer counts its raw
+-- and fill blocks, and each of their bytes was written once.
+pub record Whole (e : Flashed) (size taken taken' : ℕ) (x rest : List ℕ) : Type 0 where
+  pub header : Header
+  pub chunks : List Chunk
+  pub spelled : Spells x header chunks rest
+  pub fits : header.total_blks * header.blk_sz ≤ size
+  pub blocks : e.blocks ≡ written_in (classed chunks)
+  pub once : taken' ≡ taken + header.blk_sz * e.blocks
+
+-- x has this fault, and where a header stands at its front, the image's blocks fit
+pub record Refused (f : SparseFault) (size : ℕ) (x : List ℕ) : Type 0 where
+  pub given : List (Option ℕ)
+  pub fails : Fails x f given
+  pub fits : (h : Header) (y : List ℕ) → SpellsHeader x h y → h.total_blks * h.blk_sz ≤ size
+
+-- a header stands at the front of x, the image's blocks do not fit, and nothing was written
+pub record Short (need size taken taken' : ℕ) (x : List ℕ) : Type 0 where
+  pub header : Header
+  pub behind : List ℕ
+  pub spelled : SpellsHeader x header behind
+  pub needs : need ≡ header.total_blks * header.blk_sz
+  pub short : size < need
+  pub none : taken' ≡ taken
+
+-- what is answered over an input x of which rest is left, and a partition of this size, save where a device failed
+abbrev pub Flashes : Result Flashed FlashFault → ℕ → ℕ → ℕ → List ℕ → List ℕ → Type 0
+Flashes (Ok e) size taken taken' x rest = Whole e size taken taken' x rest
+Flashes (Err (Sparse f)) size taken taken' x rest = Refused f size x
+Flashes (Err (PartitionTooSmall need)) size taken taken' x rest = Short need size taken taken' x
+Flashes (Err f) size taken taken' x rest = Unit {0}
+
+-- What a partition that held p holds behind it: what x gives is laid over it, an image or what comes before a fault. One
+-- that is too small is as it was.
+abbrev pub Holds : Result Flashed FlashFault → List ℕ → List ℕ → List ℕ → Type 0
+Holds (Ok e) p p' x = p' ≡ flashed p x
+Holds (Err (Sparse f)) p p' x = p' ≡ flashed p x
+Holds (Err (PartitionTooSmall need)) p p' x = p' ≡ p
+Holds (Err f) p p' x = Unit {0}

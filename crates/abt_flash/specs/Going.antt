@@ -1,0 +1,95 @@
+-- Delivering between two pieces: what is still to come.
+use Rattle.std.specs.Prelude.{◌≡◌, ℕ, ◌+◌, ◌-◌, ◌*◌, ◌≤◌, ◌<◌, ◌⊎◌, Bool, false, Result, Ok, Err, List, length, map, if◌then◌else◌, nat_lt, None, slice_index_or}
+use Rattle.abt_io.specs.Moment.{Moment, Past, EachSince, moment_of, is_pending}
+use Rattle.abt_sparse.specs.Block.{Block, cells}
+use Rattle.abt_sparse.specs.Runs.{frames, framed}
+use Rattle.abt_sparse.specs.Chunk.{piece}
+use Rattle.abt_sparse.specs.Mending.{Mendable}
+use Rattle.abt_pieces.specs.Outline.{segment_at}
+use Rattle.abt_pieces.specs.Cutter.{segments_left}
+use Rattle.abt_pieces.specs.declared.stage.Stage.{Stage}
+use Rattle.abt_pieces.specs.declared.stage.Stage.TheVariants.{Between, Plan, Begin, Write, Done, Failed}
+use Rattle.abt_flash.specs.Delivering.{StopsFor, MendableThen}
+use Rattle.abt_flash.specs.declared.fault.FlashFault.{FlashFault}
+use Rattle.abt_flash.specs.declared.fault.FlashFault.TheVariants as flashes
+
+-- ---- where a cutter stands
+
+-- behind a piece that ends before block e of n
+pub record StandsAt (n e : ℕ) (st : Stage) : Type 0 where
+  pub between : e < n → st ≡ Between
+  pub done : n ≤ e → st ≡ Done
+
+-- between pieces or behind the last, with so many pieces made up to block e of n
+pub record Unbroken (n made e : ℕ) (st : Stage) : Type 0 where
+  pub stands : (st ≡ Between) ⊎ (st ≡ Done)
+  pub between : st ≡ Between → 0 < made → e < n
+  pub done : st ≡ Done → (0 < made) × (n ≤ e)
+
+-- how many words may have been compared without being read, in all pieces so far
+abbrev pub words_so_far : ℕ → ℕ → ℕ → Stage → ℕ
+words_so_far one n e Between = if nat_lt (e + 1) n then 0 else one
+words_so_far one n e Done = 4 * one
+words_so_far one n e (Plan p) = 0
+words_so_far one n e (Begin o) = 0
+words_so_far one n e (Write o w) = 0
+words_so_far one n e (Failed f) = 0
+
+-- ---- what is still to be made
+
+-- the blocks of the pieces that are left, and these pieces
+abbrev pub frames_left : ℕ → ℕ → List Block → ℕ → Stage → List (List Block)
+frames_left limit b l s st = frames s (segments_left b limit l s st)
+
+abbrev pub pieces_left : ℕ → ℕ → List Block → ℕ → Stage → List (List ℕ)
+pieces_left limit b l s st = map (piece b) (frames_left limit b l s st)
+
+-- the blocks of the next piece
+abbrev pub blocks_at : ℕ → ℕ → List Block → ℕ → List Block
+blocks_at limit b l s = framed s (segment_at b limit l s) (length l - (s + length (segment_at b limit l s)))
+
+-- A moment at which no byte that the image does not write, and none before block `done`, is pending, or other than it is to be.
+pub record MendableAt (b : ℕ) (l : List Block) (p : List ℕ) (done : ℕ) (m : Moment) : Type 0 where
+  pub content : Mendable b l p m.content done
+  pub settled : (i : ℕ) → i < length p → (i < done * b) ⊎ (slice_index_or (cells b l) i None ≡ None) → is_pending m.pending i ≡ false
+
+-- Since a call began, behind so many pieces and syncs and with these moments, every moment left what a delivery mends, and the present one does with the first s blocks whole.
+pub record Staying (limit b : ℕ) (l : List Block) (p : List ℕ) (made synced s : ℕ) (old : List Moment) (past : Past) (content : List ℕ) : Type 0 where
+  pub since : EachSince old past.moments (MendableThen limit b l p made synced)
+  pub now : MendableAt b l p s (moment_of past content)
+
+-- ---- refusals
+
+-- how many pieces were planned at most, where so many were to be
+abbrev pub planned : {X : Type 0} → ℕ → Result X FlashFault → ℕ
+planned before (Ok x) = before
+planned before (Err (flashes.NoSuchPiece k)) = k
+planned before (Err e) = before
+
+-- planning is refused by the source, or since no piece is left
+abbrev pub PlanRefused : FlashFault → ℕ → Bool → ℕ → ℕ → Type 0
+PlanRefused (flashes.Read d) before tells r r' = r < r'
+PlanRefused flashes.SourceChanged before tells r r' = tells ≡ false
+PlanRefused (flashes.NoSuchPiece k) before tells r r' = (0 < k) × (k ≤ before)
+PlanRefused (flashes.Sparse f) before tells r r' = ⊥
+PlanRefused (flashes.Write d) before tells r r' = ⊥
+PlanRefused flashes.TooLarge before tells r r' = ⊥
+PlanRefused (flashes.BadBlock n) before tells r r' = ⊥
+PlanRefused (flashes.LimitTooSmall n) before tells r r' = ⊥
+PlanRefused (flashes.PartitionTooSmall n) before tells r r' = ⊥
+PlanRefused (flashes.Sync d) before tells r r' = ⊥
+PlanRefused (flashes.Stopped n c) before tells r r' = ⊥
+
+-- from the first piece on there are stops alone
+abbrev pub StopsIn : FlashFault → ℕ → Bool → Bool → ℕ → ℕ → ℕ → ℕ → ℕ → ℕ → ℕ → ℕ → Type 0
+StopsIn (flashes.Stopped j c) made source spool r r' w w' g g' p p' = (made < j) × StopsFor c source spool r r' w w' g g' p p'
+StopsIn (flashes.Read d) made source spool r r' w w' g g' p p' = ⊥
+StopsIn flashes.SourceChanged made source spool r r' w w' g g' p p' = ⊥
+StopsIn (flashes.NoSuchPiece k) made source spool r r' w w' g g' p p' = ⊥
+StopsIn (flashes.Sparse f) made source spool r r' w w' g g' p p' = ⊥
+StopsIn (flashes.Write d) made source spool r r' w w' g g' p p' = ⊥
+StopsIn flashes.TooLarge made source spool r r' w w' g g' p p' = ⊥
+StopsIn (flashes.BadBlock n) made source spool r r' w w' g g' p p' = ⊥
+StopsIn (flashes.LimitTooSmall n) made source spool r r' w w' g g' p p' = ⊥
+StopsIn (flashes.PartitionTooSmall n) made source spool r r' w w' g g' p p' = ⊥
+StopsIn (flashes.Sync d) made source spool r r' w w' g g' p p' = ⊥

@@ -1,0 +1,9 @@
+pub mod Fault
+pub mod Laying
+pub mod Stepping
+pub mod Flashing
+pub mod Delivering
+pub mod Going
+pub mod Causes
+pub mod Sparse
+pub mod Raw

@@ -1,0 +1,159 @@
+//! Planning the pieces that are passed over, and delivering all others.
+
+ghost use Rattle.std.specs.Prelude.{◌≡◌, ◌<◌, ◌≤◌, ◌+◌, ◌-◌, ◌*◌, ◌^◌, ◌++◌, [], IsTrue, IfOk, IfErr, OnOk, OnErr, length, drop, max, Err};
+ghost use Rattle.std.specs.List.{concat};
+ghost use Rattle.abt_io.specs.Moment.{EachSince, moment_of};
+ghost use Rattle.abt_sparse.specs.Block.{cells, over};
+ghost use Rattle.abt_sparse.specs.Runs.{segments};
+ghost use Rattle.abt_pieces.specs.Contents.{written_in};
+ghost use Rattle.abt_pieces.specs.Cutter.{ToldCutter, piece_words};
+ghost use Rattle.abt_pieces.specs.SpentStage.{all_passes};
+ghost use Rattle.abt_pieces.specs.declared.stage.Stage.{Stage};
+ghost use Rattle.abt_flash.specs.Delivering.{Begins, CountsTo, PiecesFit, StaysMendable, StopsFor, all_bytes, all_calls, begun, blocks_behind, finished, pieces_behind, with_cuts};
+ghost use Rattle.abt_flash.specs.Going.{StopsIn, PlanRefused, planned};
+ghost use Rattle.abt_flash.specs.Causes.{planning_fault};
+
+use crate::answer::Delivered;
+use crate::fault::FlashFault;
+use crate::piece::deliver_piece;
+use abt_io::{Meter, Partition, Source, Spool, Window};
+use abt_pieces::{Cutter, PieceFault};
+use abt_runs::BlockRuns;
+
+/// Why a piece is not planned.
+fn not_planned(fault: PieceFault) -> FlashFault
+    ensures { result ≡ planning_fault fault }
+{
+    match fault {
+        PieceFault::Read(fault) => FlashFault::Read(fault),
+        PieceFault::SourceChanged
+        | PieceFault::Write(_)
+        | PieceFault::TooLarge
+        | PieceFault::BadBlock(_)
+        | PieceFault::LimitTooSmall { .. } => FlashFault::SourceChanged,
+    }
+}
+
+/// Plans so many pieces from the first on and passes over them. It refuses with `NoSuchPiece` where none is left behind
+/// them, and as planning does.
+pub(crate) fn plan_pieces<R: BlockRuns + Drop, S: Source>(
+    cutter: &mut Cutter<R>,
+    source: &mut S,
+    before: u32,
+    w: &mut Window,
+    m: &mut Meter,
+) -> Result<(), FlashFault>
+    requires between { cutter.old.stage ≡ Stage.Between }
+    requires first { cutter.old.made ≡ 0 }
+    requires opened { IsTrue S.tells → R.opened cutter.old.runs (S.content source.old) }
+    requires told { IsTrue S.tells → ToldCutter (R.place cutter.old.runs (S.content source.old)) (R.together cutter.old.runs (S.content source.old)) (R.size cutter.old.runs) (R.list cutter.old.runs (S.content source.old)) cutter.old.limit cutter.old.made cutter.old.start cutter.old.stage }
+    ensures runs { cutter.new.runs ≡ cutter.old.runs }
+    ensures limit { cutter.new.limit ≡ cutter.old.limit }
+    ensures told { IsTrue S.tells → ToldCutter (R.place cutter.old.runs (S.content source.old)) (R.together cutter.old.runs (S.content source.old)) (R.size cutter.old.runs) (R.list cutter.old.runs (S.content source.old)) cutter.new.limit cutter.new.made cutter.new.start cutter.new.stage }
+    ensures planned { OnOk result ((cutter.new.stage ≡ Stage.Between) × (cutter.new.made ≡ before)) }
+    ensures inside { OnOk result (0 < cutter.new.made → cutter.new.start.block < R.count cutter.old.runs) }
+    ensures few { OnOk result (cutter.new.made ≤ max 1 (R.count cutter.old.runs)) }
+    ensures refused { IfErr result (λ e. PlanRefused e before S.tells (S.read_faults source.old) (S.read_faults source.new)) }
+    ensures counted { IsTrue S.tells → IfErr result (λ e. CountsTo (Err e) before (length (segments cutter.old.limit (R.size cutter.old.runs) (R.list cutter.old.runs (S.content source.old))))) }
+    ensures content { IsTrue S.tells → S.content source.new ≡ S.content source.old }
+    ensures frame { S.read_frame source.new ≡ S.read_frame source.old }
+    ensures given { S.given source.old ≤ S.given source.new }
+    ensures charged { OnOk result (S.given source.new + R.charge cutter.old.runs cutter.old.start ≤ S.given source.old + R.charge cutter.old.runs cutter.new.start + before * (48 + R.one cutter.old.runs)) }
+    ensures calls { S.reads source.new + 8 * S.given source.old ≤ S.reads source.old + 8 * S.given source.new + 128 * (planned before result + 1) }
+    ensures turns { m.new.turns.number + 8 * S.given source.old ≤ m.old.turns.number + 8 * S.given source.new + 4 * R.one cutter.old.runs + 129 * (planned before result + 1) + 1 }
+    ensures steps { S.given source.new + 65580 * m.old.steps.number ≤ S.given source.old + 65580 * m.new.steps.number }
+    ensures greatest { m.new.greatest.number ≤ max m.old.greatest.number 65580 }
+    ensures faults { S.read_faults source.old ≤ S.read_faults source.new }
+{
+    let _count = cutter.runs.blocks();
+    'pieces: loop {
+        m.tick();
+        if !cutter.more() {
+            return Err(FlashFault::NoSuchPiece {
+                pieces: cutter.made as u32,
+            });
+        }
+        if cutter.made >= before as u64 {
+            return Ok(());
+        }
+        match cutter.skip_piece(source, w, m) {
+            Ok(Some(_)) => {}
+            Ok(None) => return Ok(()),
+            Err(fault) => return Err(not_planned(fault)),
+        }
+    }
+}
+
+/// Delivers all pieces that are left.
+pub(crate) fn deliver_rest<R: BlockRuns + Drop, S: Source, L: Spool, P: Partition>(
+    cutter: &mut Cutter<R>,
+    source: &mut S,
+    spool: &mut L,
+    partition: &mut P,
+    w: &mut Window,
+    m: &mut Meter,
+) -> Result<Delivered, FlashFault>
+    requires between { cutter.old.stage ≡ Stage.Between }
+    requires inside { 0 < cutter.old.made → cutter.old.start.block < R.count cutter.old.runs }
+    requires few { cutter.old.made ≤ max 1 (R.count cutter.old.runs) }
+    requires opened { IsTrue S.tells → R.opened cutter.old.runs (S.content source.old) }
+    requires told { IsTrue S.tells → ToldCutter (R.place cutter.old.runs (S.content source.old)) (R.together cutter.old.runs (S.content source.old)) (R.size cutter.old.runs) (R.list cutter.old.runs (S.content source.old)) cutter.old.limit cutter.old.made cutter.old.start cutter.old.stage }
+    requires room { R.count cutter.old.runs * R.size cutter.old.runs ≤ P.size partition.old }
+    // What is answered.
+    ensures stops { IfErr result (λ e. StopsIn e cutter.old.made S.tells L.tells (S.read_faults source.old) (S.read_faults source.new) (L.write_faults spool.old + L.clear_faults spool.old) (L.write_faults spool.new + L.clear_faults spool.new) (L.read_faults spool.old) (L.read_faults spool.new) (P.put_faults partition.old) (P.put_faults partition.new)) }
+    ensures some { IfOk result (λ d. 0 < d.pieces) }
+    ensures few { begun cutter.old.made result ≤ max 1 (R.count cutter.old.runs) }
+    ensures counted { IsTrue S.tells → CountsTo result cutter.old.made (length (segments cutter.old.limit (R.size cutter.old.runs) (R.list cutter.old.runs (S.content source.old)))) }
+    // The source.
+    ensures content { IsTrue S.tells → S.content source.new ≡ S.content source.old }
+    ensures frame { S.read_frame source.new ≡ S.read_frame source.old }
+    // The spool.
+    ensures capacity { L.size spool.new ≡ L.size spool.old }
+    ensures fits { PiecesFit cutter.old.limit (L.cuts spool.old) (L.cuts spool.new) (length (L.written spool.old)) (length (L.written spool.new)) }
+    ensures written { IsTrue S.tells → OnOk result (L.written spool.new ≡ L.written spool.old ++ concat (pieces_behind cutter.old.limit (R.size cutter.old.runs) (R.list cutter.old.runs (S.content source.old)) cutter.old.made)) }
+    ensures cuts { IsTrue S.tells → OnOk result (L.cuts spool.new ≡ with_cuts (L.cuts spool.old) (length (L.written spool.old)) (pieces_behind cutter.old.limit (R.size cutter.old.runs) (R.list cutter.old.runs (S.content source.old)) cutter.old.made)) }
+    ensures begins { IsTrue S.tells → Begins (L.written spool.new) (L.written spool.old ++ concat (pieces_behind cutter.old.limit (R.size cutter.old.runs) (R.list cutter.old.runs (S.content source.old)) cutter.old.made)) }
+    // The partition.
+    ensures size { P.size partition.new ≡ P.size partition.old }
+    ensures unread { (P.reads partition.new ≡ P.reads partition.old) × (P.given partition.new ≡ P.given partition.old) }
+    ensures laid { IsTrue S.tells → IsTrue L.tells → IsTrue P.tells → OnOk result (P.content partition.new ≡ over (P.content partition.old) (cells (R.size cutter.old.runs) (blocks_behind cutter.old.start.block (R.list cutter.old.runs (S.content source.old))))) }
+    ensures stays { IsTrue S.tells → IsTrue L.tells → IsTrue P.tells → StaysMendable cutter.old.limit (R.size cutter.old.runs) (R.list cutter.old.runs (S.content source.old)) cutter.old.made (P.past partition.old) (P.past partition.new) (P.content partition.old) (P.content partition.new) }
+    ensures settled { IsTrue P.tells → OnOk result ((P.past partition.new).pending ≡ []) }
+    ensures synced { (P.past partition.new).synced ≡ (P.past partition.old).synced + finished cutter.old.made result }
+    ensures blocks { IsTrue S.tells → IsTrue L.tells → OnOk result (P.taken partition.new ≡ P.taken partition.old + R.size cutter.old.runs * written_in (drop cutter.old.start.block (R.list cutter.old.runs (S.content source.old)))) }
+    // Bytes.
+    ensures given { S.given source.old ≤ S.given source.new }
+    ensures spool_given { L.given spool.old ≤ L.given spool.new }
+    ensures grown { length (L.written spool.old) ≤ length (L.written spool.new) }
+    ensures taken { P.taken partition.old ≤ P.taken partition.new }
+    ensures long { IfOk result (λ d. length (L.written spool.new) ≤ length (L.written spool.old) + R.most_taken cutter.old.runs + 80 * d.pieces) }
+    ensures back { IsTrue S.tells → IsTrue L.tells → OnOk result (L.given spool.new + length (L.written spool.old) ≡ L.given spool.old + length (L.written spool.new)) }
+    ensures spent { IsTrue S.tells → IfOk result (λ d. S.given source.new + all_passes (R.charge cutter.old.runs) (R.copied cutter.old.runs) cutter.old.start + (80 + R.one cutter.old.runs) ≤ S.given source.old + 3 * R.pass cutter.old.runs + R.image cutter.old.runs + 48 + d.pieces * (80 + R.one cutter.old.runs)) }
+    // Work.
+    ensures calls { all_calls (S.reads source.new) (L.reads spool.new) (L.writes spool.new) (L.clears spool.new) (P.puts partition.new) (P.syncs partition.new) + 8 * all_bytes (S.given source.old) (L.given spool.old) (length (L.written spool.old)) (P.taken partition.old) + 258 * cutter.old.made ≤ all_calls (S.reads source.old) (L.reads spool.old) (L.writes spool.old) (L.clears spool.old) (P.puts partition.old) (P.syncs partition.old) + 8 * all_bytes (S.given source.new) (L.given spool.new) (length (L.written spool.new)) (P.taken partition.new) + 258 * begun cutter.old.made result }
+    ensures turns { m.new.turns.number + 8 * all_bytes (S.given source.old) (L.given spool.old) (length (L.written spool.old)) (P.taken partition.old) + 258 * cutter.old.made ≤ m.old.turns.number + 8 * all_bytes (S.given source.new) (L.given spool.new) (length (L.written spool.new)) (P.taken partition.new) + 258 * begun cutter.old.made result + 4 * R.one cutter.old.runs + 1 }
+    ensures steps { S.given source.new + L.given spool.new + 65580 * m.old.steps.number ≤ S.given source.old + L.given spool.old + 65580 * m.new.steps.number }
+    ensures greatest { m.new.greatest.number ≤ max m.old.greatest.number 65580 }
+    // Who failed.
+    ensures read_faults { S.read_faults source.old ≤ S.read_faults source.new }
+    ensures write_faults { L.write_faults spool.old + L.clear_faults spool.old ≤ L.write_faults spool.new + L.clear_faults spool.new }
+    ensures spool_faults { L.read_faults spool.old ≤ L.read_faults spool.new }
+    ensures put_faults { P.put_faults partition.old ≤ P.put_faults partition.new }
+{
+    let _limit = cutter.limit;
+    let _count = cutter.runs.blocks();
+    let before = cutter.made;
+    'pieces: loop {
+        m.tick();
+        if !cutter.more() {
+            return Ok(Delivered {
+                pieces: (cutter.made - before) as u32,
+            });
+        }
+        let piece = cutter.made as u32 + 1;
+        match deliver_piece(cutter, source, spool, partition, w, m) {
+            Ok(()) => {}
+            Err(cause) => return Err(FlashFault::Stopped { piece, cause }),
+        }
+    }
+}

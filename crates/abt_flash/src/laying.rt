@@ -1,0 +1,113 @@
+//! Writing what a part of an image gives to its place on a partition.
+
+ghost use Rattle.std.specs.Prelude.{◌≡◌, ◌<◌, ◌≤◌, ◌+◌, ◌*◌, ◌^◌, IsTrue, OnOk, OnErr, replicate};
+ghost use Rattle.std.specs.List.{concat};
+ghost use Rattle.abt_io.specs.Moment.{EachSince, Keeps, KeepsUnsynced, in_range, moment_of, put_at};
+ghost use Rattle.abt_sparse.specs.Block.{over};
+ghost use Rattle.abt_chunks.specs.Expanding.{IsWritable};
+ghost use Rattle.abt_flash.specs.Fault.{PutCause};
+ghost use Rattle.abt_flash.specs.Laying.{During, IsStill, Settles, cells_by, from_place, put_by, syncs_by};
+
+use crate::fault::FlashFault;
+use abt_chunks::Part;
+use abt_io::{DeviceFault, Meter, Partition, WORDS, Window, lay_word, write_all_at};
+
+/// Writes a word so many times from a place on: it is laid over the window once, and the window written as often as it
+/// takes.
+fn lay_words<P: Partition>(
+    word: [u8; 4],
+    n: u64,
+    at: u64,
+    partition: &mut P,
+    w: &mut Window,
+    m: &mut Meter,
+) -> Result<(), DeviceFault>
+    requires some { 0 < n }
+    requires fits { at + 4 * n ≤ P.size partition.old }
+    requires below { at + 4 * n < 2 ^ 64 }
+    ensures size { P.size partition.new ≡ P.size partition.old }
+    ensures written { IsTrue P.tells → OnOk result (P.content partition.new ≡ put_at (P.content partition.old) at (concat (replicate n word))) }
+    ensures kept { IsTrue P.tells → Keeps (in_range at (4 * n)) (moment_of (P.past partition.old) (P.content partition.old)) (moment_of (P.past partition.new) (P.content partition.new)) }
+    ensures moments { IsTrue P.tells → EachSince (P.past partition.old).moments (P.past partition.new).moments (KeepsUnsynced (in_range at (4 * n)) (moment_of (P.past partition.old) (P.content partition.old))) }
+    ensures synced { (P.past partition.new).synced ≡ (P.past partition.old).synced }
+    ensures reads { P.reads partition.new ≡ P.reads partition.old }
+    ensures given { P.given partition.new ≡ P.given partition.old }
+    ensures read_faults { P.read_faults partition.new ≡ P.read_faults partition.old }
+    ensures syncs { P.syncs partition.new ≡ P.syncs partition.old }
+    ensures all { OnOk result (P.taken partition.new ≡ P.taken partition.old + 4 * n) }
+    ensures taken { P.taken partition.old ≤ P.taken partition.new }
+    ensures faults { P.put_faults partition.old ≤ P.put_faults partition.new }
+    ensures cause { OnErr result (P.put_faults partition.old < P.put_faults partition.new) }
+    ensures calls { P.puts partition.new + 2 * P.taken partition.old ≤ P.puts partition.old + 2 * P.taken partition.new + 1 }
+    ensures turns { m.new.turns.number + 2 * P.taken partition.old ≤ m.old.turns.number + 2 * P.taken partition.new + 16 }
+    ensures few { OnOk result (m.new.turns.number + 2 * P.taken partition.old ≤ m.old.turns.number + 2 * P.taken partition.new) }
+    ensures steps { m.new.steps.number ≡ m.old.steps.number }
+    ensures greatest { m.new.greatest.number ≡ m.old.greatest.number }
+{
+    let most = n.min(WORDS as u64) as usize;
+    lay_word(w, word, most, m);
+    w.is_whole();
+    let mut done = 0;
+    'writes: while done < n {
+        m.tick();
+        let some = (n - done).min(most as u64) as usize;
+        match write_all_at(partition, at + 4 * done, w.part(0, 4 * some), m) {
+            Ok(()) => {}
+            Err(fault) => return Err(fault),
+        }
+        done += some as u64;
+    }
+    Ok(())
+}
+
+/// Writes what a part gives from a place on; of a gap nothing, which leaves the bytes as they are. At the end of the
+/// image the partition is synced.
+pub(crate) fn lay_part<P: Partition>(
+    part: Part,
+    at: u64,
+    partition: &mut P,
+    w: &mut Window,
+    m: &mut Meter,
+) -> Result<(), FlashFault>
+    requires writable { IsWritable part }
+    requires fits { at + put_by part ≤ P.size partition.old }
+    requires below { at + put_by part < 2 ^ 64 }
+    ensures size { P.size partition.new ≡ P.size partition.old }
+    ensures laid { IsTrue P.tells → OnOk result (P.content partition.new ≡ over (P.content partition.old) (from_place at (cells_by part w.old.bytes))) }
+    // No byte outside the range that is written is touched at any moment.
+    ensures kept { IsTrue P.tells → Keeps (in_range at (put_by part)) (moment_of (P.past partition.old) (P.content partition.old)) (moment_of (P.past partition.new) (P.content partition.new)) }
+    ensures moments { IsTrue P.tells → EachSince (P.past partition.old).moments (P.past partition.new).moments (During (in_range at (put_by part)) (moment_of (P.past partition.old) (P.content partition.old)) (moment_of (P.past partition.new) (P.content partition.new))) }
+    ensures settled { IsTrue P.tells → OnOk result (Settles part (P.past partition.new).pending) }
+    ensures synced { (P.past partition.new).synced ≡ (P.past partition.old).synced + syncs_by part result }
+    ensures reads { P.reads partition.new ≡ P.reads partition.old }
+    ensures given { P.given partition.new ≡ P.given partition.old }
+    ensures read_faults { P.read_faults partition.new ≡ P.read_faults partition.old }
+    ensures all { OnOk result (P.taken partition.new ≡ P.taken partition.old + put_by part) }
+    ensures taken { P.taken partition.old ≤ P.taken partition.new }
+    ensures still { IsStill part → partition.new ≡ partition.old }
+    ensures faults { P.put_faults partition.old ≤ P.put_faults partition.new }
+    ensures cause { PutCause result (P.put_faults partition.old) (P.put_faults partition.new) }
+    ensures calls { P.puts partition.new + P.syncs partition.new + 2 * P.taken partition.old ≤ P.puts partition.old + P.syncs partition.old + 2 * P.taken partition.new + 1 }
+    ensures turns { m.new.turns.number + 2 * P.taken partition.old ≤ m.old.turns.number + 2 * P.taken partition.new + 16 }
+    ensures few { OnOk result (m.new.turns.number + 2 * P.taken partition.old ≤ m.old.turns.number + 2 * P.taken partition.new + 1) }
+    ensures steps { m.new.steps.number ≡ m.old.steps.number }
+    ensures greatest { m.new.greatest.number ≡ m.old.greatest.number }
+{
+    match part {
+        Part::Raw(n) => match write_all_at(partition, at, w.part(0, n), m) {
+            Ok(()) => Ok(()),
+            Err(fault) => Err(FlashFault::Write(fault)),
+        },
+        Part::Words(word, n) => match lay_words(word, n, at, partition, w, m) {
+            Ok(()) => Ok(()),
+            Err(fault) => Err(FlashFault::Write(fault)),
+        },
+        Part::End => match partition.sync() {
+            Ok(()) => Ok(()),
+            Err(fault) => Err(FlashFault::Sync(fault)),
+        },
+        Part::Skip(_) => Ok(()),
+        Part::Nothing => Ok(()),
+        Part::Fault(_) => Ok(()),
+    }
+}

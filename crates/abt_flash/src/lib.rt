@@ -1,0 +1,48 @@
+//! Flashing sparse images to a partition: one image read forward, or an image cut into pieces that go through a spool.
+//!
+//! What the layers above use is the contract of [`flash`]. It answers Ok exactly where an image stands at the front of
+//! the input, the partition has room for its blocks and no device fails; then the partition holds what it held, with the
+//! image's raw and fill blocks laid over it, each byte of them written once, and is synced. At no moment another byte is
+//! touched. Nothing is read of the partition, and no call takes memory.
+//!
+//! | file | what is in it |
+//! |---|---|
+//! | `fault.rt` | why all this is refused: `FlashFault`, and `Cause` of a stop |
+//! | `stage.rt` | `Stage`, and what a flash answers |
+//! | `laying.rt` | what is written of a part of an image |
+//! | `flasher.rt` | `Flasher`, flashing in steps |
+//! | `flashing.rt` | `flash` |
+//! | `answer.rt` | `Delivered` |
+//! | `piece.rt` | one piece: cleared, written to the spool, flashed from there |
+//! | `delivering.rt` | the pieces that are only planned, and all others |
+//! | `opened.rt` | `deliver_runs`: an opened image |
+//! | `sparse.rt`, `raw.rt` | `deliver`, `resume`, `deliver_raw`, `resume_raw`: sparse images, and raw ones |
+//!
+//! `specs/Flashing.antt` says what a flash answers, `specs/Laying.antt` what a call may touch, and `specs/Stepping.antt`
+//! what a step does; `specs/Delivering.antt` says what a delivery promises of the spool, of the partition and of every
+//! moment, and `specs/Sparse.antt` and `specs/Raw.antt` why one is refused.
+#![tactic(auto)]
+
+mod answer;
+mod delivering;
+mod fault;
+mod flasher;
+mod flashing;
+mod laying;
+mod opened;
+mod piece;
+mod raw;
+mod sparse;
+mod stage;
+
+pub use answer::Delivered;
+pub use fault::{Cause, FlashFault};
+pub use flasher::Flasher;
+pub use flashing::flash;
+pub use opened::deliver_runs;
+pub use raw::{deliver_raw, resume_raw};
+pub use sparse::{deliver, resume};
+pub use stage::{Flashed, Stage};
+
+#[cfg(test)]
+mod tests;

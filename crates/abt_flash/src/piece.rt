@@ -1,0 +1,133 @@
+//! One piece, from the source through the spool to the partition.
+
+ghost use Rattle.std.specs.Prelude.{◌≡◌, ◌<◌, ◌≤◌, ◌+◌, ◌-◌, ◌*◌, ◌++◌, [], ◌∷◌, IsTrue, IfErr, OnOk, is_ok, length, max, if◌then◌else◌};
+ghost use Rattle.abt_io.specs.Moment.{Keeps, EachSince, moment_of};
+ghost use Rattle.abt_sparse.specs.Block.{cells, over};
+ghost use Rattle.abt_pieces.specs.Contents.{written_in};
+ghost use Rattle.abt_pieces.specs.Cutter.{ToldCutter, piece_words};
+ghost use Rattle.abt_pieces.specs.Gather.{frame};
+ghost use Rattle.abt_pieces.specs.Outline.{piece_at};
+ghost use Rattle.abt_pieces.specs.Plan.{FirstPiece};
+ghost use Rattle.abt_pieces.specs.SpentStage.{all_passes};
+ghost use Rattle.abt_pieces.specs.declared.stage.Stage.{Stage};
+ghost use Rattle.abt_flash.specs.Laying.{During, writes};
+ghost use Rattle.abt_flash.specs.Delivering.{Begins, PiecesFit, StopsFor, all_bytes, all_calls};
+ghost use Rattle.abt_flash.specs.Going.{StandsAt, blocks_at};
+ghost use Rattle.abt_flash.specs.Causes.{cutting_cause, flashing_cause};
+
+use crate::fault::{Cause, FlashFault};
+use crate::flashing::flash;
+use abt_io::{Meter, Partition, Source, Spool, Window};
+use abt_pieces::{Cutter, PieceFault};
+use abt_runs::BlockRuns;
+
+/// Why a piece is not finished, where it was not written.
+fn not_written(fault: PieceFault) -> Cause
+    ensures { result ≡ cutting_cause fault }
+{
+    match fault {
+        PieceFault::Read(fault) => Cause::Read(fault),
+        PieceFault::Write(fault) => Cause::SpoolWrite(fault),
+        PieceFault::SourceChanged
+        | PieceFault::TooLarge
+        | PieceFault::BadBlock(_)
+        | PieceFault::LimitTooSmall { .. } => Cause::SourceChanged,
+    }
+}
+
+/// Why a piece is not finished, where it was not flashed.
+fn not_flashed(fault: FlashFault) -> Cause
+    ensures { result ≡ flashing_cause fault }
+{
+    match fault {
+        FlashFault::Read(fault) => Cause::SpoolRead(fault),
+        FlashFault::Write(fault) => Cause::Write(fault),
+        FlashFault::Sync(fault) => Cause::Sync(fault),
+        FlashFault::Sparse(_)
+        | FlashFault::PartitionTooSmall { .. }
+        | FlashFault::TooLarge
+        | FlashFault::SourceChanged
+        | FlashFault::BadBlock(_)
+        | FlashFault::LimitTooSmall { .. }
+        | FlashFault::Stopped { .. }
+        | FlashFault::NoSuchPiece { .. } => Cause::SpoolChanged,
+    }
+}
+
+/// Clears the spool, writes the next piece to it, flashes that from there to the partition, and syncs the partition.
+pub(crate) fn deliver_piece<R: BlockRuns + Drop, S: Source, L: Spool, P: Partition>(
+    cutter: &mut Cutter<R>,
+    source: &mut S,
+    spool: &mut L,
+    partition: &mut P,
+    w: &mut Window,
+    m: &mut Meter,
+) -> Result<(), Cause>
+    requires between { cutter.old.stage ≡ Stage.Between }
+    requires opened { IsTrue S.tells → R.opened cutter.old.runs (S.content source.old) }
+    requires told { IsTrue S.tells → ToldCutter (R.place cutter.old.runs (S.content source.old)) (R.together cutter.old.runs (S.content source.old)) (R.size cutter.old.runs) (R.list cutter.old.runs (S.content source.old)) cutter.old.limit cutter.old.made cutter.old.start cutter.old.stage }
+    requires room { R.count cutter.old.runs * R.size cutter.old.runs ≤ P.size partition.old }
+    // The cutter goes behind the piece.
+    ensures runs { cutter.new.runs ≡ cutter.old.runs }
+    ensures limit { cutter.new.limit ≡ cutter.old.limit }
+    ensures told { IsTrue S.tells → ToldCutter (R.place cutter.old.runs (S.content source.old)) (R.together cutter.old.runs (S.content source.old)) (R.size cutter.old.runs) (R.list cutter.old.runs (S.content source.old)) cutter.new.limit cutter.new.made cutter.new.start cutter.new.stage }
+    ensures made { OnOk result (cutter.new.made ≡ cutter.old.made + 1) }
+    ensures stands { OnOk result (StandsAt (R.count cutter.old.runs) cutter.new.start.block cutter.new.stage) }
+    ensures moves { OnOk result (cutter.new.start.block < R.count cutter.old.runs → cutter.old.start.block < cutter.new.start.block) }
+    ensures greatest_end { IsTrue S.tells → OnOk result (FirstPiece (R.size cutter.old.runs) (R.list cutter.old.runs (S.content source.old)) cutter.old.limit cutter.old.start.block cutter.new.start.block) }
+    // The source.
+    ensures content { IsTrue S.tells → S.content source.new ≡ S.content source.old }
+    ensures frame { S.read_frame source.new ≡ S.read_frame source.old }
+    // The spool is given that piece behind a clear, or a beginning of it.
+    ensures capacity { L.size spool.new ≡ L.size spool.old }
+    ensures fits { PiecesFit cutter.old.limit (L.cuts spool.old) (L.cuts spool.new) (length (L.written spool.old)) (length (L.written spool.new)) }
+    ensures cut { OnOk result (L.cuts spool.new ≡ length (L.written spool.old) ∷ L.cuts spool.old) }
+    ensures written { IsTrue S.tells → OnOk result (L.written spool.new ≡ L.written spool.old ++ piece_at (R.size cutter.old.runs) cutter.old.limit (R.list cutter.old.runs (S.content source.old)) cutter.old.start.block) }
+    ensures begins { IsTrue S.tells → Begins (L.written spool.new) (L.written spool.old ++ piece_at (R.size cutter.old.runs) cutter.old.limit (R.list cutter.old.runs (S.content source.old)) cutter.old.start.block) }
+    // The partition gets its blocks, and nothing else is touched.
+    ensures size { P.size partition.new ≡ P.size partition.old }
+    ensures unread { (P.reads partition.new ≡ P.reads partition.old) × (P.given partition.new ≡ P.given partition.old) }
+    ensures laid { IsTrue S.tells → IsTrue L.tells → IsTrue P.tells → OnOk result (P.content partition.new ≡ over (P.content partition.old) (cells (R.size cutter.old.runs) (frame (R.list cutter.old.runs (S.content source.old)) cutter.old.start.block cutter.new.start.block))) }
+    ensures kept { IsTrue S.tells → IsTrue L.tells → IsTrue P.tells → Keeps (writes (cells (R.size cutter.old.runs) (blocks_at cutter.old.limit (R.size cutter.old.runs) (R.list cutter.old.runs (S.content source.old)) cutter.old.start.block))) (moment_of (P.past partition.old) (P.content partition.old)) (moment_of (P.past partition.new) (P.content partition.new)) }
+    ensures moments { IsTrue S.tells → IsTrue L.tells → IsTrue P.tells → EachSince (P.past partition.old).moments (P.past partition.new).moments (During (writes (cells (R.size cutter.old.runs) (blocks_at cutter.old.limit (R.size cutter.old.runs) (R.list cutter.old.runs (S.content source.old)) cutter.old.start.block))) (moment_of (P.past partition.old) (P.content partition.old)) (moment_of (P.past partition.new) (P.content partition.new))) }
+    ensures settled { IsTrue P.tells → OnOk result ((P.past partition.new).pending ≡ []) }
+    ensures synced { (P.past partition.new).synced ≡ (P.past partition.old).synced + (if is_ok result then 1 else 0) }
+    ensures blocks { IsTrue S.tells → IsTrue L.tells → OnOk result (P.taken partition.new ≡ P.taken partition.old + R.size cutter.old.runs * written_in (frame (R.list cutter.old.runs (S.content source.old)) cutter.old.start.block cutter.new.start.block)) }
+    // Bytes, which only grow.
+    ensures given { S.given source.old ≤ S.given source.new }
+    ensures spool_given { L.given spool.old ≤ L.given spool.new }
+    ensures grown { length (L.written spool.old) ≤ length (L.written spool.new) }
+    ensures taken { P.taken partition.old ≤ P.taken partition.new }
+    ensures takes { OnOk result (length (L.written spool.new) + R.taken cutter.old.runs cutter.old.start ≤ length (L.written spool.old) + R.taken cutter.old.runs cutter.new.start + 80) }
+    ensures back { IsTrue S.tells → IsTrue L.tells → OnOk result (L.given spool.new + length (L.written spool.old) ≡ L.given spool.old + length (L.written spool.new)) }
+    ensures spent { IsTrue S.tells → OnOk result (S.given source.new + all_passes (R.charge cutter.old.runs) (R.copied cutter.old.runs) cutter.old.start ≤ S.given source.old + all_passes (R.charge cutter.old.runs) (R.copied cutter.old.runs) cutter.new.start + 80 + R.one cutter.old.runs) }
+    ensures spent_end { IsTrue S.tells → OnOk result (R.count cutter.old.runs ≤ cutter.new.start.block → S.given source.new + all_passes (R.charge cutter.old.runs) (R.copied cutter.old.runs) cutter.old.start ≤ S.given source.old + all_passes (R.charge cutter.old.runs) (R.copied cutter.old.runs) cutter.new.start + 48) }
+    // Work.
+    ensures calls { all_calls (S.reads source.new) (L.reads spool.new) (L.writes spool.new) (L.clears spool.new) (P.puts partition.new) (P.syncs partition.new) + 8 * all_bytes (S.given source.old) (L.given spool.old) (length (L.written spool.old)) (P.taken partition.old) ≤ all_calls (S.reads source.old) (L.reads spool.old) (L.writes spool.old) (L.clears spool.old) (P.puts partition.old) (P.syncs partition.old) + 8 * all_bytes (S.given source.new) (L.given spool.new) (length (L.written spool.new)) (P.taken partition.new) + 257 }
+    ensures turns { m.new.turns.number + 8 * all_bytes (S.given source.old) (L.given spool.old) (length (L.written spool.old)) (P.taken partition.old) ≤ m.old.turns.number + 8 * all_bytes (S.given source.new) (L.given spool.new) (length (L.written spool.new)) (P.taken partition.new) + 256 + 3 * R.one cutter.old.runs }
+    ensures words { OnOk result (m.new.turns.number + 8 * all_bytes (S.given source.old) (L.given spool.old) (length (L.written spool.old)) (P.taken partition.old) ≤ m.old.turns.number + 8 * all_bytes (S.given source.new) (L.given spool.new) (length (L.written spool.new)) (P.taken partition.new) + 256 + piece_words (R.one cutter.old.runs) (R.count cutter.old.runs) cutter.new.start.block) }
+    ensures steps { S.given source.new + L.given spool.new + 65580 * m.old.steps.number ≤ S.given source.old + L.given spool.old + 65580 * m.new.steps.number }
+    ensures greatest { m.new.greatest.number ≤ max m.old.greatest.number 65580 }
+    // Who failed.
+    ensures read_faults { S.read_faults source.old ≤ S.read_faults source.new }
+    ensures write_faults { L.write_faults spool.old + L.clear_faults spool.old ≤ L.write_faults spool.new + L.clear_faults spool.new }
+    ensures spool_faults { L.read_faults spool.old ≤ L.read_faults spool.new }
+    ensures put_faults { P.put_faults partition.old ≤ P.put_faults partition.new }
+    ensures cause { IfErr result (λ e. StopsFor e S.tells L.tells (S.read_faults source.old) (S.read_faults source.new) (L.write_faults spool.old + L.clear_faults spool.old) (L.write_faults spool.new + L.clear_faults spool.new) (L.read_faults spool.old) (L.read_faults spool.new) (P.put_faults partition.old) (P.put_faults partition.new)) }
+{
+    let _limit = cutter.limit;
+    let _count = cutter.runs.blocks();
+    match spool.clear() {
+        Ok(()) => {}
+        Err(fault) => return Err(Cause::SpoolWrite(fault)),
+    }
+    match cutter.next_piece(source, spool, w, m) {
+        Ok(Some(_)) => {}
+        Ok(None) => return Ok(()),
+        Err(fault) => return Err(not_written(fault)),
+    }
+    match flash(spool, partition, w, m) {
+        Ok(_) => Ok(()),
+        Err(fault) => Err(not_flashed(fault)),
+    }
+}

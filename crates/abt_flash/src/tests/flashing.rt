@@ -1,0 +1,311 @@
+//! Flashing.
+
+ghost use Rattle.std.specs.Prelude.{◌<◌};
+
+use super::{IMAGE_A, IMAGE_C, IMAGE_E, IMAGE_OF_NOTHING, TOO_MANY};
+use crate::{FlashFault, Flashed, Flasher, flash};
+use abt_chunks::Progress;
+use abt_io::{
+    CrashPartition, Cut, DeviceFault, Faulty, Forward, FromRead, Meter, Pick, SlicePartition,
+    SliceSource, Window,
+};
+use abt_sparse::SparseFault;
+
+/// What image A leaves over sixteen bytes FF.
+const ROW_A: [u8; 16] = [
+    65, 66, 67, 68, 4, 3, 2, 1, 255, 255, 255, 255, 255, 255, 255, 255,
+];
+
+const DONE_A: Result<Flashed, FlashFault> = Ok(Flashed { blocks: 2 });
+
+/// Flashes where each device takes or gives at most so many bytes in a call.
+fn flashed(bytes: &[u8], most: usize, room: &mut [u8]) -> Result<Flashed, FlashFault>
+    requires { 0 < most }
+{
+    let mut input = Cut::new(Forward::new(SliceSource::new(bytes)), most);
+    let mut partition = Cut::new(SlicePartition::new(room), most);
+    let mut w = Window::new();
+    let mut m = Meter::new();
+    flash(&mut input, &mut partition, &mut w, &mut m)
+}
+
+/// So many bytes of image A stand in a room of FF, and no more.
+fn holds(room: &[u8; 16], count: usize) -> bool {
+    for i in 0..16 {
+        let want = if i < count { ROW_A[i] } else { 255 };
+        if room[i] != want {
+            return false;
+        }
+    }
+    true
+}
+
+#[test]
+fn image_a(rt: HostRuntime) {
+    for most in [1, 13, 1000] {
+        let most = most.max(1);
+        let mut room = [255u8; 16];
+        assert_eq!(rt; flashed(&IMAGE_A, most, &mut room), DONE_A);
+        assert!(rt; holds(&room, 8));
+    }
+}
+
+#[test]
+fn nothing(rt: HostRuntime) {
+    let mut room = [255u8; 16];
+    assert_eq!(rt;
+        flashed(&IMAGE_OF_NOTHING, 13, &mut room),
+        Ok(Flashed { blocks: 0 })
+    );
+    assert!(rt; holds(&room, 0));
+}
+
+#[test]
+fn behind_a_checksum(rt: HostRuntime) {
+    let mut image = [0x7Fu8; 89];
+    image[..88].copy_from_slice(&IMAGE_C);
+    let mut room = [255u8; 16];
+    let mut input = Forward::new(SliceSource::new(&image));
+    {
+        let mut partition = SlicePartition::new(&mut room);
+        let mut w = Window::new();
+        let mut m = Meter::new();
+        assert_eq!(rt; flash(&mut input, &mut partition, &mut w, &mut m), DONE_A);
+    }
+    assert_eq!(rt; input.position(), 88);
+    assert!(rt; holds(&room, 8));
+}
+
+#[test]
+fn too_small(rt: HostRuntime) {
+    let mut room = [255u8; 11];
+    assert_eq!(rt;
+        flashed(&IMAGE_A, 13, &mut room),
+        Err(FlashFault::PartitionTooSmall { need: 12 })
+    );
+    assert_eq!(rt; room, [255u8; 11]);
+    let mut room = [255u8; 3];
+    assert_eq!(rt;
+        flashed(&IMAGE_E, 13, &mut room),
+        Err(FlashFault::PartitionTooSmall { need: 4 })
+    );
+    assert_eq!(rt; room, [255u8; 3]);
+    let mut room = [255u8; 4];
+    assert_eq!(rt; flashed(&IMAGE_E, 13, &mut room), Ok(Flashed { blocks: 0 }));
+    assert_eq!(rt; room, [255u8; 4]);
+}
+
+#[test]
+fn too_small_for_a_header(rt: HostRuntime) {
+    let mut room = [255u8; 11];
+    assert_eq!(rt;
+        flashed(&IMAGE_A[..28], 13, &mut room),
+        Err(FlashFault::PartitionTooSmall { need: 12 })
+    );
+    assert_eq!(rt;
+        flashed(&IMAGE_A[..27], 13, &mut room),
+        Err(FlashFault::Sparse(SparseFault::Truncated { at: 27 }))
+    );
+    assert_eq!(rt; room, [255u8; 11]);
+}
+
+#[test]
+fn too_small_for_a_longer_header(rt: HostRuntime) {
+    let mut room = [255u8; 3];
+    assert_eq!(rt;
+        flashed(&IMAGE_E[..32], 13, &mut room),
+        Err(FlashFault::PartitionTooSmall { need: 4 })
+    );
+    assert_eq!(rt;
+        flashed(&IMAGE_E[..31], 13, &mut room),
+        Err(FlashFault::Sparse(SparseFault::Truncated { at: 31 }))
+    );
+    assert_eq!(rt; room, [255u8; 3]);
+}
+
+#[test]
+fn more_than_any_partition(rt: HostRuntime) {
+    let mut image = [0u8; 40];
+    image[..28].copy_from_slice(&IMAGE_OF_NOTHING);
+    image[16..20].copy_from_slice(&[255, 255, 255, 255]);
+    image[20] = 1;
+    image[28..40].copy_from_slice(&[0xC3, 0xCA, 0, 0, 255, 255, 255, 255, 12, 0, 0, 0]);
+    let mut room = [255u8; 16];
+    assert_eq!(rt;
+        flashed(&image, 13, &mut room),
+        Err(FlashFault::PartitionTooSmall {
+            need: 17_179_869_180
+        })
+    );
+    assert!(rt; holds(&room, 0));
+}
+
+#[test]
+fn each_beginning(rt: HostRuntime) {
+    for m in 0..88 {
+        let came = if m < 40 {
+            0
+        } else if m < 44 {
+            m - 40
+        } else if m < 60 {
+            4
+        } else {
+            8
+        };
+        let mut room = [255u8; 16];
+        assert_eq!(rt;
+            flashed(&IMAGE_C[..m], 13, &mut room),
+            Err(FlashFault::Sparse(SparseFault::Truncated { at: m as u64 }))
+        );
+        assert!(rt; holds(&room, came));
+    }
+}
+
+#[test]
+fn a_fault_behind_blocks(rt: HostRuntime) {
+    let mut room = [255u8; 16];
+    assert_eq!(rt;
+        flashed(&TOO_MANY, 13, &mut room),
+        Err(FlashFault::Sparse(SparseFault::TooManyBlocks { chunk: 1 }))
+    );
+    assert!(rt; holds(&room, 4));
+}
+
+/// A fill of more words than the window holds, 40,000 of them, behind a gap of two blocks.
+#[test]
+fn a_long_fill(rt: HostRuntime) {
+    let mut image = [0u8; 56];
+    image[..28].copy_from_slice(&IMAGE_OF_NOTHING);
+    image[16..20].copy_from_slice(&[0x42, 0x9C, 0, 0]);
+    image[20] = 2;
+    image[28..40].copy_from_slice(&[0xC3, 0xCA, 0, 0, 2, 0, 0, 0, 12, 0, 0, 0]);
+    image[40..56].copy_from_slice(&[0xC2, 0xCA, 0, 0, 0x40, 0x9C, 0, 0, 16, 0, 0, 0, 5, 6, 7, 8]);
+    let mut room = [9u8; 160_009];
+    assert_eq!(rt;
+        flashed(&image, 65_536, &mut room),
+        Ok(Flashed { blocks: 40_000 })
+    );
+    for i in 0..8 {
+        assert_eq!(rt; room[i], 9);
+    }
+    for i in 0..160_000 {
+        assert_eq!(rt; room[8 + i] as usize, 5 + i % 4);
+    }
+    assert_eq!(rt; room[160_008], 9);
+}
+
+#[test]
+fn each_read_fails(rt: HostRuntime) {
+    let mut clean = false;
+    for n in 1..100 {
+        let mut room = [255u8; 16];
+        let answer = {
+            let mut input = Faulty::new(Cut::new(Forward::new(SliceSource::new(&IMAGE_A)), 5), n);
+            let mut partition = SlicePartition::new(&mut room);
+            let mut w = Window::new();
+            let mut m = Meter::new();
+            flash(&mut input, &mut partition, &mut w, &mut m)
+        };
+        if answer == DONE_A {
+            assert!(rt; holds(&room, 8));
+            clean = true;
+            break;
+        }
+        assert_eq!(rt; answer, Err(FlashFault::Read(DeviceFault::Failed)));
+        assert!(rt; holds(&room, 0) || holds(&room, 4) || holds(&room, 8));
+    }
+    assert!(rt; clean);
+}
+
+/// Call `n` of the partition fails, and then the power does.
+fn stopped(n: u64, pick: Pick, room: &mut [u8; 16]) -> Result<Flashed, FlashFault> {
+    let mut stable = [0u8; 16];
+    let mut touched = [0u8; 16];
+    let partition = CrashPartition::new(room, &mut stable, &mut touched);
+    let mut partition = Faulty::new(Cut::new(partition, 3), n);
+    let mut input = Forward::new(SliceSource::new(&IMAGE_A));
+    let mut w = Window::new();
+    let mut m = Meter::new();
+    let answer = flash(&mut input, &mut partition, &mut w, &mut m);
+    partition.inner().device.crash(pick);
+    answer
+}
+
+#[test]
+fn each_write_fails(rt: HostRuntime) {
+    for pick in [Pick::Old, Pick::New, Pick::Byte(0x5a)] {
+        for n in 1..=6 {
+            let mut room = [255u8; 16];
+            let answer = stopped(n, pick, &mut room);
+            if n == 6 {
+                assert_eq!(rt; answer, DONE_A);
+                assert!(rt; holds(&room, 8));
+            } else if n == 5 {
+                assert_eq!(rt; answer, Err(FlashFault::Sync(DeviceFault::Failed)));
+            } else {
+                assert_eq!(rt; answer, Err(FlashFault::Write(DeviceFault::Failed)));
+            }
+            assert_eq!(rt; &room[8..], [255u8; 8].as_slice());
+        }
+    }
+}
+
+#[test]
+fn answers_again(rt: HostRuntime) {
+    let mut room = [255u8; 16];
+    {
+        let mut input = Forward::new(SliceSource::new(&IMAGE_A));
+        let mut partition = SlicePartition::new(&mut room);
+        let mut w = Window::new();
+        let mut m = Meter::new();
+        let mut machine = Flasher::open();
+        let mut last = Ok(Progress::More);
+        for _ in 0..100 {
+            last = machine.step(&mut input, &mut partition, &mut w, &mut m);
+            if last != Ok(Progress::More) {
+                break;
+            }
+        }
+        assert_eq!(rt; last, Ok(Progress::Done));
+        assert_eq!(rt; input.position(), 72);
+        assert_eq!(rt;
+            machine.step(&mut input, &mut partition, &mut w, &mut m),
+            Ok(Progress::Done)
+        );
+    }
+    assert!(rt; holds(&room, 8));
+}
+
+#[test]
+fn refuses_again(rt: HostRuntime) {
+    let mut room = [255u8; 11];
+    let mut input = Forward::new(SliceSource::new(&IMAGE_A));
+    let mut partition = SlicePartition::new(&mut room);
+    let mut w = Window::new();
+    let mut m = Meter::new();
+    let mut machine = Flasher::open();
+    assert_eq!(rt;
+        machine.step(&mut input, &mut partition, &mut w, &mut m),
+        Ok(Progress::More)
+    );
+    for _ in 0..2 {
+        assert_eq!(rt;
+            machine.step(&mut input, &mut partition, &mut w, &mut m),
+            Err(FlashFault::PartitionTooSmall { need: 12 })
+        );
+        assert_eq!(rt; input.position(), 28);
+    }
+}
+
+#[test]
+fn devices_that_tell_nothing(rt: HostRuntime) {
+    let mut room = [255u8; 16];
+    {
+        let mut input = FromRead::new(IMAGE_A.as_slice());
+        let mut partition = SlicePartition::new(&mut room);
+        let mut w = Window::new();
+        let mut m = Meter::new();
+        assert_eq!(rt; flash(&mut input, &mut partition, &mut w, &mut m), DONE_A);
+    }
+    assert!(rt; holds(&room, 8));
+}
