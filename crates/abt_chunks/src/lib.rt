@@ -40,6 +40,3 @@ pub use laws::listings_are_right;
 pub use listing::Chunks;
 pub use progress::{ChunkInfo, Expanded, Progress};
 pub use walk::{Part, Phase, Taken, Turn, Walk};
-
-#[cfg(test)]
-mod tests;

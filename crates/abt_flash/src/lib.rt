@@ -43,6 +43,3 @@ pub use opened::deliver_runs;
 pub use raw::{deliver_raw, resume_raw};
 pub use sparse::{deliver, resume};
 pub use stage::{Flashed, Stage};
-
-#[cfg(test)]
-mod tests;

@@ -33,8 +33,6 @@ mod os;
 mod page;
 mod sections;
 mod tail;
-#[cfg(test)]
-mod tests;
 mod vendor;
 mod vendor_reading;
 mod vendor_writing;

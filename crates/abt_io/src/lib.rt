@@ -82,6 +82,3 @@ pub use switch::SwitchSource;
 pub use tally::Tally;
 pub use window::{WINDOW, Window};
 pub use writing::{write_all_at, write_out};
-
-#[cfg(test)]
-mod tests;

@@ -40,6 +40,3 @@ pub use sparsify_image::sparsify;
 pub use stage::{PieceProgress, Stage};
 pub use tail::Tail;
 pub use write::{Copying, Writer};
-
-#[cfg(test)]
-mod tests;

@@ -46,6 +46,3 @@ pub use sparse::SparseRuns;
 pub use stage::{Progress, Stage};
 pub use whole::are_alike;
 pub use words::equal_word;
-
-#[cfg(test)]
-mod tests;

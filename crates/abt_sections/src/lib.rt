@@ -51,6 +51,3 @@ pub use packing::pack_boot;
 pub use spec::{BootSpec, FragmentSpec, Packed, VendorSpec};
 pub use unpacking::{unpack, unpack_fragment};
 pub use vendor_packing::pack_vendor;
-
-#[cfg(test)]
-mod tests;

@@ -41,6 +41,3 @@ pub use theorems::{
     keeps_raw, lays_blocks, mends, one_code, one_cutting, one_grouping, one_outcome, pieces_read,
     reads_back, same_from_raw, same_pieces, weighs, worked_faults, worked_images, worked_pieces,
 };
-
-#[cfg(test)]
-mod tests;

@@ -1,55 +1,13 @@
 //! Rows whose values come from outside: words of blocks, walks over images, refusals, and sources
 //! that fail, lie or change.
-use crate::*;
+use crate::vectors::{
+    GAPS, HEADER_OF_MANY, LONG_HEADERS, MOST_BLOCKS, THREE_KINDS, TWO_HALVES, WITH_CHECKSUM,
+};
 use abt_io::{Cut, DeviceFault, Faulty, Long, Meter, SliceSource, SwitchSource, Window};
+use abt_runs::{BlockRuns, Opening, Progress, RawRuns, RunFault, RunKind, SparseRuns, equal_word};
 use abt_sparse::SparseFault;
 use std::process::Abort;
 use std::test::Fail;
-
-/// Raw `ABCD`, fill 04030201 (1), don't care (1), in blocks of 4 bytes.
-const IMAGE_A: [u8; 72] = [
-    58, 255, 38, 237, 1, 0, 0, 0, 28, 0, 12, 0, 4, 0, 0, 0, 3, 0, 0, 0, 3, 0, 0, 0, 0, 0, 0, 0,
-    193, 202, 0, 0, 1, 0, 0, 0, 16, 0, 0, 0, 65, 66, 67, 68, 194, 202, 0, 0, 1, 0, 0, 0, 16, 0, 0,
-    0, 4, 3, 2, 1, 195, 202, 0, 0, 1, 0, 0, 0, 12, 0, 0, 0,
-];
-
-/// The same with a CRC32 chunk behind.
-const IMAGE_C: [u8; 88] = [
-    58, 255, 38, 237, 1, 0, 0, 0, 28, 0, 12, 0, 4, 0, 0, 0, 3, 0, 0, 0, 4, 0, 0, 0, 0, 0, 0, 0,
-    193, 202, 0, 0, 1, 0, 0, 0, 16, 0, 0, 0, 65, 66, 67, 68, 194, 202, 0, 0, 1, 0, 0, 0, 16, 0, 0,
-    0, 4, 3, 2, 1, 195, 202, 0, 0, 1, 0, 0, 0, 12, 0, 0, 0, 196, 202, 0, 0, 0, 0, 0, 0, 16, 0, 0,
-    0, 120, 86, 52, 18,
-];
-
-/// Headers of 32 and 16 bytes, don't care (1).
-const IMAGE_E: [u8; 48] = [
-    58, 255, 38, 237, 1, 0, 0, 0, 32, 0, 16, 0, 4, 0, 0, 0, 1, 0, 0, 0, 1, 0, 0, 0, 0, 0, 0, 0,
-    170, 187, 204, 221, 195, 202, 0, 0, 1, 0, 0, 0, 16, 0, 0, 0, 238, 238, 238, 238,
-];
-
-/// Don't care 2, raw 0, don't care 2, don't care 1, in blocks of 4 bytes.
-const SKIPS: [u8; 76] = [
-    58, 255, 38, 237, 1, 0, 0, 0, 28, 0, 12, 0, 4, 0, 0, 0, 5, 0, 0, 0, 4, 0, 0, 0, 0, 0, 0, 0,
-    195, 202, 0, 0, 2, 0, 0, 0, 12, 0, 0, 0, 193, 202, 0, 0, 0, 0, 0, 0, 12, 0, 0, 0, 195, 202, 0,
-    0, 2, 0, 0, 0, 12, 0, 0, 0, 195, 202, 0, 0, 1, 0, 0, 0, 12, 0, 0, 0,
-];
-
-/// Two don't-care chunks of 2^31 blocks each, where the header counts 2^32 - 1.
-const TWO_HALVES: [u8; 52] = [
-    58, 255, 38, 237, 1, 0, 0, 0, 28, 0, 12, 0, 4, 0, 0, 0, 255, 255, 255, 255, 2, 0, 0, 0, 0, 0,
-    0, 0, 195, 202, 0, 0, 0, 0, 0, 128, 12, 0, 0, 0, 195, 202, 0, 0, 0, 0, 0, 128, 12, 0, 0, 0,
-];
-
-/// One don't-care chunk of 2^32 - 1 blocks.
-const LARGEST: [u8; 40] = [
-    58, 255, 38, 237, 1, 0, 0, 0, 28, 0, 12, 0, 4, 0, 0, 0, 255, 255, 255, 255, 1, 0, 0, 0, 0, 0,
-    0, 0, 195, 202, 0, 0, 255, 255, 255, 255, 12, 0, 0, 0,
-];
-
-/// The header of an image without blocks in 10,000 chunks.
-const NO_BLOCKS: [u8; 28] = [
-    58, 255, 38, 237, 1, 0, 0, 0, 28, 0, 12, 0, 4, 0, 0, 0, 0, 0, 0, 0, 16, 39, 0, 0, 0, 0, 0, 0,
-];
 
 fn refusal(bytes: &[u8]) -> Option<RunFault> {
     let mut source = Cut::new(SliceSource::new(bytes), 5);
@@ -126,7 +84,7 @@ fn raw_walk(rt: HostRuntime) -> Result<(), Fail> {
 
 #[test]
 fn sparse_walk(rt: HostRuntime) -> Result<(), Fail> {
-    let mut source = Cut::new(SliceSource::new(&IMAGE_C), 5);
+    let mut source = Cut::new(SliceSource::new(&WITH_CHECKSUM), 5);
     let mut w = Window::new();
     let mut m = Meter::new();
     let mut runs = SparseRuns::open(&mut source, &mut w, &mut m)?;
@@ -146,7 +104,7 @@ fn sparse_walk(rt: HostRuntime) -> Result<(), Fail> {
 
 #[test]
 fn chunks_of_one_run(rt: HostRuntime) -> Result<(), Fail> {
-    let mut source = SliceSource::new(&SKIPS);
+    let mut source = SliceSource::new(&GAPS);
     let mut w = Window::new();
     let mut m = Meter::new();
     let mut runs = SparseRuns::open(&mut source, &mut w, &mut m)?;
@@ -159,7 +117,7 @@ fn chunks_of_one_run(rt: HostRuntime) -> Result<(), Fail> {
 
 #[test]
 fn largest_chunk(rt: HostRuntime) -> Result<(), Fail> {
-    let mut source = SliceSource::new(&LARGEST);
+    let mut source = SliceSource::new(&MOST_BLOCKS);
     let mut w = Window::new();
     let mut m = Meter::new();
     let mut runs = SparseRuns::open(&mut source, &mut w, &mut m)?;
@@ -177,61 +135,61 @@ fn largest_chunk(rt: HostRuntime) -> Result<(), Fail> {
 fn cut_short(rt: HostRuntime) {
     for length in 0..88 {
         assert_eq!(rt;
-            refusal(&IMAGE_C[..length]),
+            refusal(&WITH_CHECKSUM[..length]),
             Some(RunFault::Sparse(SparseFault::Truncated { at: length as u64 }))
         );
     }
-    assert_eq!(rt; refusal(&IMAGE_C), None);
-    assert_eq!(rt; refusal(&IMAGE_E), None);
+    assert_eq!(rt; refusal(&WITH_CHECKSUM), None);
+    assert_eq!(rt; refusal(&LONG_HEADERS), None);
     assert_eq!(rt;
-        refusal(&IMAGE_E[..31]),
+        refusal(&LONG_HEADERS[..31]),
         Some(RunFault::Sparse(SparseFault::Truncated { at: 31 }))
     );
     assert_eq!(rt;
-        refusal(&IMAGE_E[..47]),
+        refusal(&LONG_HEADERS[..47]),
         Some(RunFault::Sparse(SparseFault::Truncated { at: 47 }))
     );
 }
 
 #[test]
 fn wrong_fields(rt: HostRuntime) {
-    let mut image = IMAGE_E;
+    let mut image = LONG_HEADERS;
     image[8] = 27;
     assert_eq!(rt;
         refusal(&image),
         Some(RunFault::Sparse(SparseFault::FileHeaderSize(27)))
     );
-    let mut image = IMAGE_E;
+    let mut image = LONG_HEADERS;
     image[10] = 11;
     assert_eq!(rt;
         refusal(&image),
         Some(RunFault::Sparse(SparseFault::ChunkHeaderSize(11)))
     );
-    let mut image = IMAGE_E;
+    let mut image = LONG_HEADERS;
     image[40] = 12;
     assert_eq!(rt;
         refusal(&image),
         Some(RunFault::Sparse(SparseFault::ChunkLength { chunk: 0 }))
     );
-    let mut image = IMAGE_A;
+    let mut image = THREE_KINDS;
     image[12] = 6;
     assert_eq!(rt;
         refusal(&image),
         Some(RunFault::Sparse(SparseFault::BlockSize(6)))
     );
-    let mut image = IMAGE_A;
+    let mut image = THREE_KINDS;
     image[12] = 0;
     assert_eq!(rt;
         refusal(&image),
         Some(RunFault::Sparse(SparseFault::BlockSize(0)))
     );
-    let mut image = IMAGE_A;
+    let mut image = THREE_KINDS;
     image[16] = 4;
     assert_eq!(rt;
         refusal(&image),
         Some(RunFault::Sparse(SparseFault::TooFewBlocks { have: 3 }))
     );
-    let mut image = IMAGE_A;
+    let mut image = THREE_KINDS;
     image[28] = 0xC5;
     assert_eq!(rt;
         refusal(&image),
@@ -244,7 +202,7 @@ fn wrong_fields(rt: HostRuntime) {
 
 #[test]
 fn copied(rt: HostRuntime) -> Result<(), Fail> {
-    let mut source = SliceSource::new(&IMAGE_A);
+    let mut source = SliceSource::new(&THREE_KINDS);
     let mut w = Window::new();
     let mut m = Meter::new();
     let mut runs = SparseRuns::open(&mut source, &mut w, &mut m)?;
@@ -262,7 +220,7 @@ fn copied(rt: HostRuntime) -> Result<(), Fail> {
 #[test]
 fn failing_reads(rt: HostRuntime) {
     for n in 1..5 {
-        let mut source = Faulty::new(SliceSource::new(&IMAGE_A), n);
+        let mut source = Faulty::new(SliceSource::new(&THREE_KINDS), n);
         let mut w = Window::new();
         let mut m = Meter::new();
         let mut opening = Opening::begin();
@@ -314,7 +272,7 @@ fn too_large(rt: HostRuntime) {
 fn chunks_without_blocks(rt: HostRuntime) -> Result<(), Fail> {
     let mut image = [0u8; 120_028];
     for i in 0..28 {
-        image[i] = NO_BLOCKS[i];
+        image[i] = HEADER_OF_MANY[i];
     }
     for chunk in 0..10_000 {
         image[28 + 12 * chunk] = 193;
@@ -358,7 +316,7 @@ fn runs_of_a<R: Abort>(
 fn switching_in_a_walk(rt: HostRuntime) {
     let mut clean = false;
     for n in 0..12 {
-        let mut source = SwitchSource::new(&IMAGE_A, &IMAGE_A[..40], n);
+        let mut source = SwitchSource::new(&THREE_KINDS, &THREE_KINDS[..40], n);
         let mut w = Window::new();
         let mut m = Meter::new();
         match SparseRuns::open(&mut source, &mut w, &mut m) {
@@ -377,7 +335,7 @@ fn switching_in_a_walk(rt: HostRuntime) {
 #[test]
 fn switching_in_an_opening(rt: HostRuntime) {
     for n in 0..5 {
-        let mut source = SwitchSource::new(&IMAGE_A, &IMAGE_A[..40], n);
+        let mut source = SwitchSource::new(&THREE_KINDS, &THREE_KINDS[..40], n);
         let mut w = Window::new();
         let mut m = Meter::new();
         let mut opening = Opening::begin();
@@ -404,7 +362,7 @@ fn switching_in_an_opening(rt: HostRuntime) {
 /// Image A opened, its first run, the part behind that run and three bytes of it, where call number
 /// `n` of the source fails.
 fn sparse_calls(n: u64) -> Result<usize, RunFault> {
-    let mut source = Faulty::new(SliceSource::new(&IMAGE_A), n);
+    let mut source = Faulty::new(SliceSource::new(&THREE_KINDS), n);
     let mut w = Window::new();
     let mut m = Meter::new();
     let mut out = [0u8; 3];

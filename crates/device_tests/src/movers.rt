@@ -1,7 +1,7 @@
 //! The movers, over each device in memory.
 
-use super::{capacity_of, length_of, partition_calls, spool_calls};
-use crate::*;
+use crate::calls::{capacity_of, length_of, partition_calls, spool_calls};
+use abt_io::*;
 
 #[test]
 fn pumped(rt: HostRuntime) {

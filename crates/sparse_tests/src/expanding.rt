@@ -2,11 +2,14 @@
 
 ghost use Rattle.std.specs.Prelude.{◌<◌};
 
-use super::{IMAGE_A, IMAGE_C, IMAGE_E, IMAGE_OF_NOTHING, TOO_MANY};
-use crate::{Expanded, Expander, Progress, SparseFault, expand};
+use crate::vectors::{
+    EMPTY, FRONT_OF_LONG_CHUNK, LONG_HEADERS, THREE_KINDS, TOO_MANY, WITH_CHECKSUM,
+};
+use abt_chunks::{Expanded, Expander, Progress, expand};
 use abt_io::{
     Cut, DeviceFault, Faulty, Forward, FromRead, Meter, SliceOutput, SliceSource, ToWrite, Window,
 };
+use abt_sparse::SparseFault;
 use std::test::Fail;
 
 /// What image A expands to.
@@ -54,14 +57,14 @@ fn image_a(rt: HostRuntime) {
     for most in [1, 13, 1000] {
         let most = most.max(1);
         let mut room = [9u8; 14];
-        assert_eq!(rt; expanded(&IMAGE_A, most, &mut room), Ok(DONE_A));
+        assert_eq!(rt; expanded(&THREE_KINDS, most, &mut room), Ok(DONE_A));
         assert!(rt; holds(&room, 12));
     }
 }
 
 #[test]
 fn any_minor(rt: HostRuntime) {
-    let mut image = IMAGE_A;
+    let mut image = THREE_KINDS;
     image[6] = 7;
     let mut room = [9u8; 14];
     assert_eq!(rt; expanded(&image, 1000, &mut room), Ok(DONE_A));
@@ -72,7 +75,7 @@ fn any_minor(rt: HostRuntime) {
 fn nothing(rt: HostRuntime) {
     let mut room = [9u8; 14];
     assert_eq!(rt;
-        expanded(&IMAGE_OF_NOTHING, 13, &mut room),
+        expanded(&EMPTY, 13, &mut room),
         Ok(Expanded {
             blocks: 0,
             bytes: 0
@@ -84,7 +87,7 @@ fn nothing(rt: HostRuntime) {
 #[test]
 fn behind_a_checksum(rt: HostRuntime) {
     let mut image = [0x7Fu8; 89];
-    image[..88].copy_from_slice(&IMAGE_C);
+    image[..88].copy_from_slice(&WITH_CHECKSUM);
     let mut room = [9u8; 14];
     {
         let mut input = Forward::new(SliceSource::new(&image));
@@ -101,7 +104,7 @@ fn behind_a_checksum(rt: HostRuntime) {
 #[test]
 fn longer_headers(rt: HostRuntime) {
     let mut room = [9u8; 14];
-    let mut input = Forward::new(SliceSource::new(&IMAGE_E));
+    let mut input = Forward::new(SliceSource::new(&LONG_HEADERS));
     let mut output = SliceOutput::new(&mut room);
     let mut w = Window::new();
     let mut m = Meter::new();
@@ -120,11 +123,11 @@ fn longer_headers(rt: HostRuntime) {
 fn longer_headers_cut_off(rt: HostRuntime) {
     let mut room = [9u8; 14];
     assert_eq!(rt;
-        expanded(&IMAGE_E[..31], 13, &mut room),
+        expanded(&LONG_HEADERS[..31], 13, &mut room),
         Err(SparseFault::Truncated { at: 31 })
     );
     assert_eq!(rt;
-        expanded(&IMAGE_E[..47], 13, &mut room),
+        expanded(&LONG_HEADERS[..47], 13, &mut room),
         Err(SparseFault::Truncated { at: 47 })
     );
     assert!(rt; holds(&room, 0));
@@ -146,18 +149,12 @@ fn each_beginning(rt: HostRuntime) {
         };
         let mut room = [9u8; 14];
         assert_eq!(rt;
-            expanded(&IMAGE_C[..m], 13, &mut room),
+            expanded(&WITH_CHECKSUM[..m], 13, &mut room),
             Err(SparseFault::Truncated { at: m as u64 })
         );
         assert!(rt; holds(&room, came));
     }
 }
-
-/// The headers of an image of one raw chunk, 16,385 blocks of four bytes.
-const RAW_16_385: [u8; 40] = [
-    58, 255, 38, 237, 1, 0, 0, 0, 28, 0, 12, 0, 4, 0, 0, 0, 1, 0x40, 0, 0, 1, 0, 0, 0, 0, 0, 0, 0,
-    0xC1, 0xCA, 0, 0, 1, 0x40, 0, 0, 0x10, 0, 1, 0,
-];
 
 #[test]
 fn a_window_and_more(rt: HostRuntime) {
@@ -165,7 +162,7 @@ fn a_window_and_more(rt: HostRuntime) {
     for i in 0..65_580 {
         image[i] = (i % 251) as u8;
     }
-    for (i, byte) in RAW_16_385.iter().enumerate() {
+    for (i, byte) in FRONT_OF_LONG_CHUNK.iter().enumerate() {
         image[i] = *byte;
     }
     let mut room = [0u8; 65_540];
@@ -183,7 +180,7 @@ fn a_window_and_more(rt: HostRuntime) {
 #[test]
 fn a_long_fill(rt: HostRuntime) {
     let mut image = [0u8; 44];
-    image[..28].copy_from_slice(&IMAGE_OF_NOTHING);
+    image[..28].copy_from_slice(&EMPTY);
     image[16..20].copy_from_slice(&[0x40, 0x9C, 0, 0]);
     image[20] = 1;
     image[28..44].copy_from_slice(&[0xC2, 0xCA, 0, 0, 0x40, 0x9C, 0, 0, 16, 0, 0, 0, 5, 6, 7, 8]);
@@ -204,7 +201,7 @@ fn a_long_fill(rt: HostRuntime) {
 #[test]
 fn empty_chunks(rt: HostRuntime) {
     let mut image = [0u8; 120_028];
-    image[..28].copy_from_slice(&IMAGE_OF_NOTHING);
+    image[..28].copy_from_slice(&EMPTY);
     image[20..24].copy_from_slice(&[0x10, 0x27, 0, 0]);
     for i in 0..10_000 {
         image[28 + 12 * i] = 0xC1;
@@ -225,25 +222,25 @@ fn empty_chunks(rt: HostRuntime) {
 #[test]
 fn bad_headers(rt: HostRuntime) {
     let mut room = [9u8; 14];
-    let mut image = IMAGE_A;
+    let mut image = THREE_KINDS;
     image[0] = 0;
     assert_eq!(rt; expanded(&image, 13, &mut room), Err(SparseFault::Magic));
-    let mut image = IMAGE_A;
+    let mut image = THREE_KINDS;
     image[4] = 2;
     assert_eq!(rt; expanded(&image, 13, &mut room), Err(SparseFault::Major(2)));
-    let mut image = IMAGE_E;
+    let mut image = LONG_HEADERS;
     image[8] = 27;
     assert_eq!(rt;
         expanded(&image, 13, &mut room),
         Err(SparseFault::FileHeaderSize(27))
     );
-    let mut image = IMAGE_E;
+    let mut image = LONG_HEADERS;
     image[10] = 11;
     assert_eq!(rt;
         expanded(&image, 13, &mut room),
         Err(SparseFault::ChunkHeaderSize(11))
     );
-    let mut image = IMAGE_A;
+    let mut image = THREE_KINDS;
     image[12] = 0;
     assert_eq!(rt;
         expanded(&image, 13, &mut room),
@@ -265,7 +262,7 @@ fn bad_chunks(rt: HostRuntime) {
         Err(SparseFault::TooManyBlocks { chunk: 1 })
     );
     assert!(rt; holds(&room, 4));
-    let mut image = IMAGE_A;
+    let mut image = THREE_KINDS;
     image[16] = 4;
     let mut room = [9u8; 14];
     assert_eq!(rt;
@@ -273,7 +270,7 @@ fn bad_chunks(rt: HostRuntime) {
         Err(SparseFault::TooFewBlocks { have: 3 })
     );
     assert!(rt; holds(&room, 12));
-    let mut image = IMAGE_C;
+    let mut image = WITH_CHECKSUM;
     image[80] = 12;
     let mut room = [9u8; 14];
     assert_eq!(rt;
@@ -281,14 +278,14 @@ fn bad_chunks(rt: HostRuntime) {
         Err(SparseFault::ChunkLength { chunk: 3 })
     );
     assert!(rt; holds(&room, 12));
-    let mut image = IMAGE_E;
+    let mut image = LONG_HEADERS;
     image[40] = 12;
     let mut room = [9u8; 14];
     assert_eq!(rt;
         expanded(&image, 13, &mut room),
         Err(SparseFault::ChunkLength { chunk: 0 })
     );
-    let mut image = IMAGE_A;
+    let mut image = THREE_KINDS;
     image[44] = 0xC5;
     assert_eq!(rt;
         expanded(&image, 13, &mut room),
@@ -302,7 +299,7 @@ fn bad_chunks(rt: HostRuntime) {
 
 #[test]
 fn blocks_of_a_checksum(rt: HostRuntime) {
-    let mut image = IMAGE_C;
+    let mut image = WITH_CHECKSUM;
     image[76] = 7;
     let mut room = [9u8; 14];
     assert_eq!(rt; expanded(&image, 13, &mut room), Ok(DONE_A));
@@ -313,7 +310,7 @@ fn blocks_of_a_checksum(rt: HostRuntime) {
 fn full(rt: HostRuntime) {
     let mut room = [9u8; 5];
     assert_eq!(rt;
-        expanded(&IMAGE_A, 13, &mut room),
+        expanded(&THREE_KINDS, 13, &mut room),
         Err(SparseFault::Write(DeviceFault::Full))
     );
     assert_eq!(rt; room.as_slice(), [65, 66, 67, 68, 4].as_slice());
@@ -325,7 +322,10 @@ fn each_read_fails(rt: HostRuntime) {
     for n in 1..100 {
         let mut room = [9u8; 14];
         let answer = {
-            let mut input = Faulty::new(Cut::new(Forward::new(SliceSource::new(&IMAGE_A)), 5), n);
+            let mut input = Faulty::new(
+                Cut::new(Forward::new(SliceSource::new(&THREE_KINDS)), 5),
+                n,
+            );
             let mut output = SliceOutput::new(&mut room);
             let mut w = Window::new();
             let mut m = Meter::new();
@@ -348,7 +348,7 @@ fn each_write_fails(rt: HostRuntime) {
     for n in 1..100 {
         let mut room = [9u8; 14];
         let answer = {
-            let mut input = Forward::new(SliceSource::new(&IMAGE_A));
+            let mut input = Forward::new(SliceSource::new(&THREE_KINDS));
             let mut output = Faulty::new(Cut::new(SliceOutput::new(&mut room), 3), n);
             let mut w = Window::new();
             let mut m = Meter::new();
@@ -391,13 +391,13 @@ fn stepped(bytes: &[u8], room: &mut [u8]) -> (Result<Progress, SparseFault>, u64
 #[test]
 fn answers_again(rt: HostRuntime) {
     let mut room = [9u8; 14];
-    let (last, position, same) = stepped(&IMAGE_A, &mut room);
+    let (last, position, same) = stepped(&THREE_KINDS, &mut room);
     assert_eq!(rt; last, Ok(Progress::Done));
     assert_eq!(rt; position, 72);
     assert!(rt; same);
     assert!(rt; holds(&room, 12));
     let mut room = [9u8; 14];
-    let (last, position, same) = stepped(&IMAGE_A[..42], &mut room);
+    let (last, position, same) = stepped(&THREE_KINDS[..42], &mut room);
     assert_eq!(rt; last, Err(SparseFault::Truncated { at: 42 }));
     assert_eq!(rt; position, 42);
     assert!(rt; same);
@@ -407,7 +407,7 @@ fn answers_again(rt: HostRuntime) {
 #[test]
 fn devices_that_tell_nothing(rt: HostRuntime) {
     let mut room = [9u8; 14];
-    let mut input = FromRead::new(IMAGE_A.as_slice());
+    let mut input = FromRead::new(THREE_KINDS.as_slice());
     let mut output = ToWrite::new(room.as_mut_slice());
     let mut w = Window::new();
     let mut m = Meter::new();

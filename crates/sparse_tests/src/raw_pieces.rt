@@ -2,17 +2,12 @@
 ghost use Rattle.std.specs.Prelude.{◌≡◌, IsTrue};
 ghost use Rattle.abt_pieces.specs.Cutter.{ToldCutter};
 
-use crate::*;
 use abt_io::{
     Cut, DeviceFault, Faulty, Long, Meter, Output, SliceOutput, SliceSource, Source, Window,
 };
+use abt_pieces::{Cutter, Piece, PieceFault, PieceProgress, least_limit};
 use abt_runs::{BlockRuns, RawRuns};
 use std::test::Fail;
-
-mod counting;
-mod images;
-mod sparse_images;
-mod vectors;
 
 /// A fill block, a raw block and a last block of two bytes.
 const MIXED: &[u8] = b"AAAAAAAAABCDEFGHIJ";

@@ -2,14 +2,14 @@
 
 ghost use Rattle.std.specs.Prelude.{◌<◌};
 
-use super::{IMAGE_A, IMAGE_C, IMAGE_E, IMAGE_OF_NOTHING, TOO_MANY};
-use crate::{FlashFault, Flashed, Flasher, flash};
 use abt_chunks::Progress;
+use abt_flash::{FlashFault, Flashed, Flasher, flash};
 use abt_io::{
     CrashPartition, Cut, DeviceFault, Faulty, Forward, FromRead, Meter, Pick, SlicePartition,
     SliceSource, Window,
 };
 use abt_sparse::SparseFault;
+use sparse_tests::vectors::{EMPTY, LONG_HEADERS, THREE_KINDS, TOO_MANY, WITH_CHECKSUM};
 
 /// What image A leaves over sixteen bytes FF.
 const ROW_A: [u8; 16] = [
@@ -45,7 +45,7 @@ fn image_a(rt: HostRuntime) {
     for most in [1, 13, 1000] {
         let most = most.max(1);
         let mut room = [255u8; 16];
-        assert_eq!(rt; flashed(&IMAGE_A, most, &mut room), DONE_A);
+        assert_eq!(rt; flashed(&THREE_KINDS, most, &mut room), DONE_A);
         assert!(rt; holds(&room, 8));
     }
 }
@@ -53,17 +53,14 @@ fn image_a(rt: HostRuntime) {
 #[test]
 fn nothing(rt: HostRuntime) {
     let mut room = [255u8; 16];
-    assert_eq!(rt;
-        flashed(&IMAGE_OF_NOTHING, 13, &mut room),
-        Ok(Flashed { blocks: 0 })
-    );
+    assert_eq!(rt; flashed(&EMPTY, 13, &mut room), Ok(Flashed { blocks: 0 }));
     assert!(rt; holds(&room, 0));
 }
 
 #[test]
 fn behind_a_checksum(rt: HostRuntime) {
     let mut image = [0x7Fu8; 89];
-    image[..88].copy_from_slice(&IMAGE_C);
+    image[..88].copy_from_slice(&WITH_CHECKSUM);
     let mut room = [255u8; 16];
     let mut input = Forward::new(SliceSource::new(&image));
     {
@@ -80,18 +77,21 @@ fn behind_a_checksum(rt: HostRuntime) {
 fn too_small(rt: HostRuntime) {
     let mut room = [255u8; 11];
     assert_eq!(rt;
-        flashed(&IMAGE_A, 13, &mut room),
+        flashed(&THREE_KINDS, 13, &mut room),
         Err(FlashFault::PartitionTooSmall { need: 12 })
     );
     assert_eq!(rt; room, [255u8; 11]);
     let mut room = [255u8; 3];
     assert_eq!(rt;
-        flashed(&IMAGE_E, 13, &mut room),
+        flashed(&LONG_HEADERS, 13, &mut room),
         Err(FlashFault::PartitionTooSmall { need: 4 })
     );
     assert_eq!(rt; room, [255u8; 3]);
     let mut room = [255u8; 4];
-    assert_eq!(rt; flashed(&IMAGE_E, 13, &mut room), Ok(Flashed { blocks: 0 }));
+    assert_eq!(rt;
+        flashed(&LONG_HEADERS, 13, &mut room),
+        Ok(Flashed { blocks: 0 })
+    );
     assert_eq!(rt; room, [255u8; 4]);
 }
 
@@ -99,11 +99,11 @@ fn too_small(rt: HostRuntime) {
 fn too_small_for_a_header(rt: HostRuntime) {
     let mut room = [255u8; 11];
     assert_eq!(rt;
-        flashed(&IMAGE_A[..28], 13, &mut room),
+        flashed(&THREE_KINDS[..28], 13, &mut room),
         Err(FlashFault::PartitionTooSmall { need: 12 })
     );
     assert_eq!(rt;
-        flashed(&IMAGE_A[..27], 13, &mut room),
+        flashed(&THREE_KINDS[..27], 13, &mut room),
         Err(FlashFault::Sparse(SparseFault::Truncated { at: 27 }))
     );
     assert_eq!(rt; room, [255u8; 11]);
@@ -113,11 +113,11 @@ fn too_small_for_a_header(rt: HostRuntime) {
 fn too_small_for_a_longer_header(rt: HostRuntime) {
     let mut room = [255u8; 3];
     assert_eq!(rt;
-        flashed(&IMAGE_E[..32], 13, &mut room),
+        flashed(&LONG_HEADERS[..32], 13, &mut room),
         Err(FlashFault::PartitionTooSmall { need: 4 })
     );
     assert_eq!(rt;
-        flashed(&IMAGE_E[..31], 13, &mut room),
+        flashed(&LONG_HEADERS[..31], 13, &mut room),
         Err(FlashFault::Sparse(SparseFault::Truncated { at: 31 }))
     );
     assert_eq!(rt; room, [255u8; 3]);
@@ -126,7 +126,7 @@ fn too_small_for_a_longer_header(rt: HostRuntime) {
 #[test]
 fn more_than_any_partition(rt: HostRuntime) {
     let mut image = [0u8; 40];
-    image[..28].copy_from_slice(&IMAGE_OF_NOTHING);
+    image[..28].copy_from_slice(&EMPTY);
     image[16..20].copy_from_slice(&[255, 255, 255, 255]);
     image[20] = 1;
     image[28..40].copy_from_slice(&[0xC3, 0xCA, 0, 0, 255, 255, 255, 255, 12, 0, 0, 0]);
@@ -154,7 +154,7 @@ fn each_beginning(rt: HostRuntime) {
         };
         let mut room = [255u8; 16];
         assert_eq!(rt;
-            flashed(&IMAGE_C[..m], 13, &mut room),
+            flashed(&WITH_CHECKSUM[..m], 13, &mut room),
             Err(FlashFault::Sparse(SparseFault::Truncated { at: m as u64 }))
         );
         assert!(rt; holds(&room, came));
@@ -175,7 +175,7 @@ fn a_fault_behind_blocks(rt: HostRuntime) {
 #[test]
 fn a_long_fill(rt: HostRuntime) {
     let mut image = [0u8; 56];
-    image[..28].copy_from_slice(&IMAGE_OF_NOTHING);
+    image[..28].copy_from_slice(&EMPTY);
     image[16..20].copy_from_slice(&[0x42, 0x9C, 0, 0]);
     image[20] = 2;
     image[28..40].copy_from_slice(&[0xC3, 0xCA, 0, 0, 2, 0, 0, 0, 12, 0, 0, 0]);
@@ -200,7 +200,10 @@ fn each_read_fails(rt: HostRuntime) {
     for n in 1..100 {
         let mut room = [255u8; 16];
         let answer = {
-            let mut input = Faulty::new(Cut::new(Forward::new(SliceSource::new(&IMAGE_A)), 5), n);
+            let mut input = Faulty::new(
+                Cut::new(Forward::new(SliceSource::new(&THREE_KINDS)), 5),
+                n,
+            );
             let mut partition = SlicePartition::new(&mut room);
             let mut w = Window::new();
             let mut m = Meter::new();
@@ -223,7 +226,7 @@ fn stopped(n: u64, pick: Pick, room: &mut [u8; 16]) -> Result<Flashed, FlashFaul
     let mut touched = [0u8; 16];
     let partition = CrashPartition::new(room, &mut stable, &mut touched);
     let mut partition = Faulty::new(Cut::new(partition, 3), n);
-    let mut input = Forward::new(SliceSource::new(&IMAGE_A));
+    let mut input = Forward::new(SliceSource::new(&THREE_KINDS));
     let mut w = Window::new();
     let mut m = Meter::new();
     let answer = flash(&mut input, &mut partition, &mut w, &mut m);
@@ -254,7 +257,7 @@ fn each_write_fails(rt: HostRuntime) {
 fn answers_again(rt: HostRuntime) {
     let mut room = [255u8; 16];
     {
-        let mut input = Forward::new(SliceSource::new(&IMAGE_A));
+        let mut input = Forward::new(SliceSource::new(&THREE_KINDS));
         let mut partition = SlicePartition::new(&mut room);
         let mut w = Window::new();
         let mut m = Meter::new();
@@ -279,7 +282,7 @@ fn answers_again(rt: HostRuntime) {
 #[test]
 fn refuses_again(rt: HostRuntime) {
     let mut room = [255u8; 11];
-    let mut input = Forward::new(SliceSource::new(&IMAGE_A));
+    let mut input = Forward::new(SliceSource::new(&THREE_KINDS));
     let mut partition = SlicePartition::new(&mut room);
     let mut w = Window::new();
     let mut m = Meter::new();
@@ -301,7 +304,7 @@ fn refuses_again(rt: HostRuntime) {
 fn devices_that_tell_nothing(rt: HostRuntime) {
     let mut room = [255u8; 16];
     {
-        let mut input = FromRead::new(IMAGE_A.as_slice());
+        let mut input = FromRead::new(THREE_KINDS.as_slice());
         let mut partition = SlicePartition::new(&mut room);
         let mut w = Window::new();
         let mut m = Meter::new();

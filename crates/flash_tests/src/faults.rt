@@ -1,6 +1,6 @@
 //! The numbers and texts of the faults.
 
-use crate::{Cause, FlashFault};
+use abt_flash::{Cause, FlashFault};
 use abt_io::DeviceFault;
 use abt_sparse::SparseFault;
 use std::test::Fail;

@@ -1,8 +1,9 @@
 //! Listing.
 
-use super::{IMAGE_A, IMAGE_C, IMAGE_E, IMAGE_OF_NOTHING};
-use crate::{ChunkInfo, ChunkKind, Chunks, SparseFault, SparseHeader};
+use crate::vectors::{EMPTY, LONG_HEADERS, THREE_KINDS, WITH_CHECKSUM};
+use abt_chunks::{ChunkInfo, Chunks};
 use abt_io::{Cut, DeviceFault, Faulty, Forward, FromRead, Input, Meter, SliceSource, Window};
+use abt_sparse::{ChunkKind, SparseFault, SparseHeader};
 use std::test::Fail;
 
 const RAW: ChunkInfo = ChunkInfo {
@@ -75,7 +76,7 @@ fn listed<I: Input>(
 #[test]
 fn image_c(rt: HostRuntime) {
     let want = [RAW, FILL, SKIP, CHECKSUM];
-    let mut input = Cut::new(Forward::new(SliceSource::new(&IMAGE_C)), 5);
+    let mut input = Cut::new(Forward::new(SliceSource::new(&WITH_CHECKSUM)), 5);
     let (count, header, end) = listed(&mut input, &want);
     assert_eq!(rt; count, 4);
     assert_eq!(rt; end, Ok(true));
@@ -89,7 +90,7 @@ fn image_c(rt: HostRuntime) {
         (4, 3, 4)
     );
     assert_eq!(rt; header.image_checksum, 0);
-    let mut image = IMAGE_C;
+    let mut image = WITH_CHECKSUM;
     image[76] = 7;
     let mut input = FromRead::new(image.as_slice());
     let (count, _header, end) = listed(&mut input, &want);
@@ -99,13 +100,13 @@ fn image_c(rt: HostRuntime) {
 
 #[test]
 fn no_chunk_before_its_data(rt: HostRuntime) {
-    let mut input = Forward::new(SliceSource::new(&IMAGE_A[..47]));
+    let mut input = Forward::new(SliceSource::new(&THREE_KINDS[..47]));
     let (count, header, end) = listed(&mut input, &[RAW]);
     assert_eq!(rt; count, 1);
     assert!(rt; header.is_ok());
     assert_eq!(rt; end, Err(SparseFault::Truncated { at: 47 }));
     assert_eq!(rt; input.position(), 47);
-    let mut input = Forward::new(SliceSource::new(&IMAGE_A[..42]));
+    let mut input = Forward::new(SliceSource::new(&THREE_KINDS[..42]));
     let (count, header, end) = listed(&mut input, &[]);
     assert_eq!(rt; count, 0);
     assert!(rt; header.is_ok());
@@ -121,13 +122,13 @@ fn longer_headers(rt: HostRuntime) {
         blocks: 1,
         word: [0; 4],
     };
-    let mut input = Forward::new(SliceSource::new(&IMAGE_E));
+    let mut input = Forward::new(SliceSource::new(&LONG_HEADERS));
     let (count, header, end) = listed(&mut input, &[skip]);
     assert_eq!(rt; count, 1);
     assert_eq!(rt; end, Ok(true));
     let header = header.expect(&rt, "header");
     assert_eq!(rt; (header.file_hdr_sz, header.chunk_hdr_sz), (32, 16));
-    let mut input = Forward::new(SliceSource::new(&IMAGE_E[..31]));
+    let mut input = Forward::new(SliceSource::new(&LONG_HEADERS[..31]));
     let (_count, header, _end) = listed(&mut input, &[]);
     assert_eq!(rt; header, Err(SparseFault::Truncated { at: 31 }));
 }
@@ -135,7 +136,7 @@ fn longer_headers(rt: HostRuntime) {
 #[test]
 fn blocks_past_the_total(rt: HostRuntime) {
     let mut image = [0u8; 52];
-    image[..28].copy_from_slice(&IMAGE_OF_NOTHING);
+    image[..28].copy_from_slice(&EMPTY);
     image[16..20].copy_from_slice(&[0xFF, 0xFF, 0xFF, 0xFF]);
     image[20] = 2;
     image[28..40].copy_from_slice(&[0xC3, 0xCA, 0, 0, 0, 0, 0, 0x80, 12, 0, 0, 0]);
@@ -155,7 +156,7 @@ fn blocks_past_the_total(rt: HostRuntime) {
 #[test]
 fn chunks_of_no_blocks(rt: HostRuntime) {
     let mut image = [0u8; 52];
-    image[..28].copy_from_slice(&IMAGE_OF_NOTHING);
+    image[..28].copy_from_slice(&EMPTY);
     image[20] = 2;
     image[28..40].copy_from_slice(&[0xC1, 0xCA, 0, 0, 0, 0, 0, 0, 12, 0, 0, 0]);
     image[40..52].copy_from_slice(&[0xC3, 0xCA, 0, 0, 0, 0, 0, 0, 12, 0, 0, 0]);
@@ -178,7 +179,10 @@ fn each_read_fails(rt: HostRuntime) {
     let want = [RAW, FILL, SKIP, CHECKSUM];
     let mut clean = false;
     for n in 1..100 {
-        let mut input = Faulty::new(Cut::new(Forward::new(SliceSource::new(&IMAGE_C)), 5), n);
+        let mut input = Faulty::new(
+            Cut::new(Forward::new(SliceSource::new(&WITH_CHECKSUM)), 5),
+            n,
+        );
         let (_count, _header, end) = listed(&mut input, &want);
         if end == Ok(true) {
             clean = true;

@@ -1,7 +1,8 @@
 //! What no clause says: bytes that another program wrote, examples of each layout with places
 //! worked out by hand, the order of faults on real lengths, and texts.
 
-use crate::{
+use crate::vectors;
+use abt_headers::{
     BootFront, BootHeader, DtbFields, DtboFields, HeaderFault, OsParts, OsVersion, PageSize,
     RamdiskEntry, Section, Sections, ShortFront, VendorFront, VendorHeader, VendorTail, boot_again,
     boot_long, entry_again, entry_long, front_decides, pages, vendor_again, vendor_front_decides,
@@ -9,8 +10,6 @@ use crate::{
 };
 use std::process::Abort;
 use std::test::Fail;
-
-mod vectors;
 
 /// A record of `N` bytes with these runs of bytes, and zeros between them.
 fn record<const N: usize>(rt: &impl Abort, runs: &[(usize, &[u8])]) -> [u8; N] {

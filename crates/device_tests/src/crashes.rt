@@ -2,7 +2,7 @@
 
 ghost use Rattle.std.specs.Prelude.{◌≤◌};
 
-use crate::*;
+use abt_io::*;
 
 /// Writes `AB` from byte 1 on and makes it last, then the same with `CD` from byte 2 on.
 fn two_writes<P: Partition>(partition: &mut P) -> Result<(), DeviceFault>

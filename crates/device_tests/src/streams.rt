@@ -1,6 +1,6 @@
 //! Readers and writers that are interrupted, fail or take nothing.
 
-use crate::*;
+use abt_io::*;
 use std::io;
 use std::io::{Read, Write};
 

@@ -2,13 +2,13 @@
 
 ghost use Rattle.std.specs.Prelude.{◌≡◌};
 
-use crate::{
-    BootSpec, FragmentSpec, Image, SectionFault, VendorSpec, Verdict, boot_input, check, fragment,
-    fragments, image_id, open, pack_boot, pack_vendor, section, sections, unpack, unpack_fragment,
-    vendor_input,
-};
 use abt_headers::{HeaderFault, OsVersion, Section};
 use abt_io::{Faulty, Long, Meter, SliceOutput, SliceSource, Window};
+use abt_sections::{
+    BootSpec, FragmentSpec, Image, Packed, SectionFault, VendorSpec, Verdict, boot_input, check,
+    fragment, fragments, image_id, open, pack_boot, pack_vendor, section, sections, unpack,
+    unpack_fragment, vendor_input,
+};
 use std::process::Abort;
 use std::test::Fail;
 
@@ -79,7 +79,7 @@ fn pack_k(rt: &impl Abort, room: &mut [u8], w: &mut Window, m: &mut Meter) {
     ];
     let mut output = SliceOutput::new(room);
     let packed = pack_boot(&boot(0, 2048), &mut parts, &mut output, w, m);
-    assert!(rt; packed == Ok(crate::Packed { bytes: 4096 }));
+    assert!(rt; packed == Ok(Packed { bytes: 4096 }));
 }
 
 /// The first `n` bytes.
@@ -160,7 +160,7 @@ fn lays_five_parts(rt: HostRuntime) {
     let mut room = [1u8; 14336];
     let mut output = SliceOutput::new(&mut room);
     let packed = pack_boot(&boot(2, 2048), &mut parts, &mut output, &mut w, &mut m);
-    assert!(rt; packed == Ok(crate::Packed { bytes: 14336 }));
+    assert!(rt; packed == Ok(Packed { bytes: 14336 }));
     let image = opened(&rt, &room, &mut w, &mut m);
     assert!(rt; sections(&image) == 5);
     assert_places(&rt, &image, &[2048, 6144, 8192, 8192, 10240]);
@@ -255,7 +255,7 @@ fn packs_an_init_boot(rt: HostRuntime) {
     let mut output = SliceOutput::new(&mut room);
     boot_input(&boot(4, 2048), &parts);
     let packed = pack_boot(&boot(4, 2048), &mut parts, &mut output, &mut w, &mut m);
-    assert!(rt; packed == Ok(crate::Packed { bytes: 12288 }));
+    assert!(rt; packed == Ok(Packed { bytes: 12288 }));
     let image = opened(&rt, &room, &mut w, &mut m);
     assert_places(&rt, &image, &[4096, 4096, 8192]);
     assert!(rt; checked(&rt, &room, &mut w, &mut m) == verdict(true, true, true, true));
@@ -281,7 +281,7 @@ fn lays_a_vendor_image_of_version_3(rt: HostRuntime) {
         &mut w,
         &mut m,
     );
-    assert!(rt; packed == Ok(crate::Packed { bytes: 8192 }));
+    assert!(rt; packed == Ok(Packed { bytes: 8192 }));
     let image = opened(&rt, &room, &mut w, &mut m);
     assert!(rt; sections(&image) == 2);
     assert_places(&rt, &image, &[4096, 6144]);
@@ -362,7 +362,7 @@ fn packs_a_vendor_image_of_nothing(rt: HostRuntime) {
         &mut w,
         &mut m,
     );
-    assert!(rt; packed == Ok(crate::Packed { bytes: 4096 }));
+    assert!(rt; packed == Ok(Packed { bytes: 4096 }));
     let image = opened(&rt, &room, &mut w, &mut m);
     assert_places(&rt, &image, &[4096, 4096, 4096, 4096]);
 }
@@ -413,7 +413,7 @@ fn reads_a_table_by_windows(rt: HostRuntime) {
             &mut w,
             &mut m,
         );
-        assert!(rt; packed == Ok(crate::Packed { bytes: 4096 }));
+        assert!(rt; packed == Ok(Packed { bytes: 4096 }));
     }
     // A table of 65,556 bytes: 607 entries of empty fragments.
     put(&mut room, 2112, 20);

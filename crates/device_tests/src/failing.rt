@@ -1,7 +1,7 @@
 //! Each call of each trait fails in turn, and does not reach the device.
 
-use super::{capacity_of, fault_at, length_of, partition_calls, spool_calls};
-use crate::*;
+use crate::calls::{capacity_of, fault_at, length_of, partition_calls, spool_calls};
+use abt_io::*;
 
 #[test]
 fn spools(rt: HostRuntime) {

@@ -2,20 +2,15 @@
 
 ghost use Rattle.std.specs.Prelude.{◌≤◌, length};
 
-use super::IMAGE_A;
-use crate::{Cause, Delivered, FlashFault, deliver, deliver_raw, deliver_runs, resume, resume_raw};
+use abt_flash::{
+    Cause, Delivered, FlashFault, deliver, deliver_raw, deliver_runs, resume, resume_raw,
+};
 use abt_io::{
     CrashPartition, DeviceFault, Faulty, Marred, Meter, Pick, SlicePartition, SliceSource,
     SliceSpool, Window,
 };
 use abt_runs::SparseRuns;
-
-/// Three blocks of four bytes: raw `ABCD`, a fill with 04030201, and raw `WXYZ`.
-const IMAGE_D: [u8; 76] = [
-    58, 255, 38, 237, 1, 0, 0, 0, 28, 0, 12, 0, 4, 0, 0, 0, 3, 0, 0, 0, 3, 0, 0, 0, 0, 0, 0, 0,
-    193, 202, 0, 0, 1, 0, 0, 0, 16, 0, 0, 0, 65, 66, 67, 68, 194, 202, 0, 0, 1, 0, 0, 0, 16, 0, 0,
-    0, 4, 3, 2, 1, 193, 202, 0, 0, 1, 0, 0, 0, 16, 0, 0, 0, 87, 88, 89, 90,
-];
+use sparse_tests::vectors::{NO_GAP, THREE_KINDS};
 
 /// What image D leaves over sixteen bytes FF.
 const ROW_D: [u8; 16] = [
@@ -63,38 +58,38 @@ fn rows(rt: HostRuntime) {
     let mut room = [0u8; 100];
     let mut cells = [255u8; 16];
     assert_eq!(rt;
-        run(&IMAGE_D, 68, 0, &mut room, &mut cells),
+        run(&NO_GAP, 68, 0, &mut room, &mut cells),
         Ok(Delivered { pieces: 3 })
     );
     assert_eq!(rt; cells, ROW_D);
     let mut cells = [255u8; 16];
     assert_eq!(rt;
-        run(&IMAGE_D, 68, 4, &mut room, &mut cells),
+        run(&NO_GAP, 68, 4, &mut room, &mut cells),
         Err(FlashFault::NoSuchPiece { pieces: 3 })
     );
     assert_eq!(rt; cells, [255u8; 16]);
     assert_eq!(rt;
-        run(&IMAGE_D, 68, 2, &mut room, &mut cells),
+        run(&NO_GAP, 68, 2, &mut room, &mut cells),
         Ok(Delivered { pieces: 2 })
     );
     assert_eq!(rt; cells[..4] == [255, 255, 255, 255], true);
     assert_eq!(rt; cells[4..] == ROW_D[4..], true);
     let mut short = [255u8; 11];
     assert_eq!(rt;
-        run(&IMAGE_A, 67, 0, &mut room, &mut short),
+        run(&THREE_KINDS, 67, 0, &mut room, &mut short),
         Err(FlashFault::LimitTooSmall { least: 68 })
     );
     assert_eq!(rt;
-        run(&IMAGE_A, 68, 0, &mut room, &mut short),
+        run(&THREE_KINDS, 68, 0, &mut room, &mut short),
         Err(FlashFault::PartitionTooSmall { need: 12 })
     );
     assert_eq!(rt; short, [255u8; 11]);
     assert_eq!(rt;
-        run(&IMAGE_D, 84, 0, &mut room, &mut cells),
+        run(&NO_GAP, 84, 0, &mut room, &mut cells),
         Ok(Delivered { pieces: 2 })
     );
     assert_eq!(rt;
-        run(&IMAGE_A, 72, 0, &mut room, &mut cells),
+        run(&THREE_KINDS, 72, 0, &mut room, &mut cells),
         Ok(Delivered { pieces: 2 })
     );
 }
@@ -106,7 +101,7 @@ fn opened(rt: HostRuntime) {
     let mut w = Window::new();
     let mut m = Meter::new();
     {
-        let mut source = SliceSource::new(&IMAGE_D);
+        let mut source = SliceSource::new(&NO_GAP);
         let mut spool = SliceSpool::new(&mut room);
         let mut partition = SlicePartition::new(&mut cells);
         match SparseRuns::open(&mut source, &mut w, &mut m) {
@@ -135,7 +130,7 @@ fn marred(rt: HostRuntime) {
     let mut w = Window::new();
     let mut m = Meter::new();
     {
-        let mut source = SliceSource::new(&IMAGE_D);
+        let mut source = SliceSource::new(&NO_GAP);
         let mut spool = SliceSpool::new(&mut room);
         let mut partition = Marred::new(SlicePartition::new(&mut cells), 4, 0xEE);
         assert_eq!(rt;
@@ -149,7 +144,7 @@ fn marred(rt: HostRuntime) {
     assert_eq!(rt; cells[..4] == ROW_D[..4], true);
     assert_eq!(rt; cells[8..] == [255; 8], true);
     assert_eq!(rt;
-        run(&IMAGE_D, 68, 2, &mut room, &mut cells),
+        run(&NO_GAP, 68, 2, &mut room, &mut cells),
         Ok(Delivered { pieces: 2 })
     );
     assert_eq!(rt; cells, ROW_D);
@@ -217,7 +212,7 @@ fn stops(rt: HostRuntime) {
             let mut touched = [0u8; 16];
             let mut w = Window::new();
             let mut m = Meter::new();
-            let mut source = SliceSource::new(&IMAGE_D);
+            let mut source = SliceSource::new(&NO_GAP);
             let mut spool = SliceSpool::new(&mut room);
             let mut partition = Faulty::new(
                 CrashPartition::new(&mut now, &mut stable, &mut touched),

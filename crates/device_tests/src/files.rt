@@ -1,7 +1,7 @@
 //! The file devices, on real files in the folder where the tests run.
 
-use super::{capacity_of, length_of, partition_calls, spool_calls};
-use crate::*;
+use crate::calls::{capacity_of, length_of, partition_calls, spool_calls};
+use abt_io::*;
 use std::fs;
 use std::fs::{File, OpenOptions};
 use std::rt::Files;

@@ -9,6 +9,16 @@ pub const THREE_KINDS: [u8; 72] = [
     0xc3, 0xca, 0, 0, 1, 0, 0, 0, 12, 0, 0, 0,
 ];
 
+/// Raw `ABCD`, fill 04030201 (1), don't care (1), and a CRC32 chunk with 12345678.
+#[rattlefmt::skip]
+pub const WITH_CHECKSUM: [u8; 88] = [
+    0x3a, 0xff, 0x26, 0xed, 1, 0, 0, 0, 28, 0, 12, 0, 4, 0, 0, 0, 3, 0, 0, 0, 4, 0, 0, 0, 0, 0, 0, 0,
+    0xc1, 0xca, 0, 0, 1, 0, 0, 0, 16, 0, 0, 0, b'A', b'B', b'C', b'D',
+    0xc2, 0xca, 0, 0, 1, 0, 0, 0, 16, 0, 0, 0, 4, 3, 2, 1,
+    0xc3, 0xca, 0, 0, 1, 0, 0, 0, 12, 0, 0, 0,
+    0xc4, 0xca, 0, 0, 0, 0, 0, 0, 16, 0, 0, 0, 0x78, 0x56, 0x34, 0x12,
+];
+
 /// Raw `ABCD`, fill 04030201 (1), raw `WXYZ`.
 #[rattlefmt::skip]
 pub const NO_GAP: [u8; 76] = [
@@ -128,3 +138,19 @@ pub const HEADER_OF_THOUSAND: [u8; 28] = [
 
 /// The header of a raw chunk of one block.
 pub const ONE_RAW_BLOCK: [u8; 12] = [0xc1, 0xca, 0, 0, 1, 0, 0, 0, 16, 0, 0, 0];
+
+/// Two blocks, of which the chunks have three: raw `ABCD`, don't care (2).
+#[rattlefmt::skip]
+pub const TOO_MANY: [u8; 56] = [
+    0x3a, 0xff, 0x26, 0xed, 1, 0, 0, 0, 28, 0, 12, 0, 4, 0, 0, 0, 2, 0, 0, 0, 2, 0, 0, 0, 0, 0, 0, 0,
+    0xc1, 0xca, 0, 0, 1, 0, 0, 0, 16, 0, 0, 0, b'A', b'B', b'C', b'D',
+    0xc3, 0xca, 0, 0, 2, 0, 0, 0, 12, 0, 0, 0,
+];
+
+/// Twice don't care (2,147,483,648), where the header counts 4,294,967,295 blocks.
+#[rattlefmt::skip]
+pub const TWO_HALVES: [u8; 52] = [
+    0x3a, 0xff, 0x26, 0xed, 1, 0, 0, 0, 28, 0, 12, 0, 4, 0, 0, 0, 0xff, 0xff, 0xff, 0xff, 2, 0, 0, 0, 0, 0, 0, 0,
+    0xc3, 0xca, 0, 0, 0, 0, 0, 0x80, 12, 0, 0, 0,
+    0xc3, 0xca, 0, 0, 0, 0, 0, 0x80, 12, 0, 0, 0,
+];

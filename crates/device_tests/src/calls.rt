@@ -1,19 +1,12 @@
-//! What no clause says: that the calls do succeed, what each failing call does, and the file devices
-//! on real files.
+//! Each call of a trait through its bound, and the counts, which take no bytes.
 
 ghost use Rattle.std.specs.Prelude.{◌≤◌, ◌+◌, ◌<◌, ◌^◌, length};
 
-use crate::*;
+use abt_io::*;
 use std::mem::size_of;
 
-mod crashes;
-mod failing;
-mod files;
-mod movers;
-mod streams;
-
 #[test]
-fn no_bytes(rt: HostRuntime) {
+fn counts_take_no_bytes(rt: HostRuntime) {
     assert_eq!(rt; size_of::<Tally>(), 0);
     assert_eq!(rt; size_of::<Log>(), 0);
     assert_eq!(rt; size_of::<History>(), 0);

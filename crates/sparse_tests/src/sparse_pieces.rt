@@ -1,9 +1,9 @@
 //! Cutting sparse images: published pieces, hostile and changing sources, and devices that fail.
 
-use crate::tests::counting::Counting;
-use crate::tests::vectors::*;
-use crate::{Cutter, Piece, PieceFault, least_limit};
+use crate::counting::Counting;
+use crate::vectors::*;
 use abt_io::{Faulty, Meter, SliceOutput, SliceSource, SwitchSource, Window};
+use abt_pieces::{Cutter, Piece, PieceFault, least_limit};
 use abt_runs::SparseRuns;
 use std::process::Abort;
 use std::test::Fail;

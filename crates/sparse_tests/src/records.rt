@@ -2,14 +2,14 @@
 
 ghost use Rattle.std.specs.Prelude.{◌<◌};
 
-use crate::{
+use abt_io::DeviceFault;
+use abt_sparse::{
     ChunkHeader, ChunkKind, SparseFault, SparseHeader, carries_raw, each_piece, ends_early,
     few_bytes, fewest_pieces, from_piece, has_blocks, header_of, in_turn, keeps_raw, lays_blocks,
     mends, one_code, one_cutting, one_grouping, one_outcome, pieces_read, reads_back,
     same_from_raw, same_pieces, u16_at, u32_at, weighs, worked_faults, worked_images,
     worked_pieces,
 };
-use abt_io::DeviceFault;
 use std::test::Fail;
 
 /// Three blocks of four bytes in three chunks.
