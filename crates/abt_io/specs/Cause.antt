@@ -1,17 +1,21 @@
--- Why a mover refuses: from the counts of faults before and after the call.
-use Rattle.std.specs.Prelude.{ℕ, ◌<◌}
-use Rattle.abt_io.specs.declared.pumping.MoveFault.{MoveFault}
-use Rattle.abt_io.specs.declared.pumping.MoveFault.TheVariants.{Read, Write}
+-- Why a copy is refused: from the counts of faults before and after the call.
+use Rattle.std.specs.Prelude.{ℕ, ◌<◌, Result, Ok, Err}
+use Rattle.abt_io.specs.Count.{full_in}
 use Rattle.abt_io.specs.declared.copying.CopyFault.{CopyFault}
-use Rattle.abt_io.specs.declared.copying.CopyFault.TheVariants.{Read as CopyRead, Write as CopyWrite, Changed}
+use Rattle.abt_io.specs.declared.copying.CopyFault.TheVariants.{Read, Write, Changed}
 
--- the device that it names has failed: the reader's faults went from r to r', the writer's from w to w'
-abbrev pub HasCause : MoveFault → ℕ → ℕ → ℕ → ℕ → Type 0
-HasCause (Read f) r r' w w' = r < r'
-HasCause (Write f) r r' w w' = w < w'
-
--- the same, where `Changed` says that the source ended too soon
+-- the device that it names has failed: the source's faults went from r to r', the output's from w to w'; `Changed` says that the source ended too soon
 abbrev pub CopyCause : CopyFault → Type 0 → ℕ → ℕ → ℕ → ℕ → Type 0
-CopyCause (CopyRead f) ended r r' w w' = r < r'
-CopyCause (CopyWrite f) ended r r' w w' = w < w'
+CopyCause (Read f) ended r r' w w' = r < r'
+CopyCause (Write f) ended r r' w w' = w < w'
 CopyCause Changed ended r r' w w' = ended
+
+-- 1 where a fault hands on that a device is full
+abbrev pub full_in_copy : CopyFault → ℕ
+full_in_copy (Read f) = full_in f
+full_in_copy (Write f) = full_in f
+full_in_copy Changed = 0
+
+abbrev pub full_copied : {X : Type 0} → Result X CopyFault → ℕ
+full_copied (Ok x) = 0
+full_copied (Err e) = full_in_copy e

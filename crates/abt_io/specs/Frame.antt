@@ -9,12 +9,13 @@ pub record ReadFrame : Type 0 where
   pub capacity : ℕ
   pub writes : ℕ
   pub write_faults : ℕ
+  pub full_faults : ℕ
   pub clears : ℕ
   pub clear_faults : ℕ
 
 -- of an input that is nothing else
 abbrev pub reads_alone : ReadFrame
-reads_alone = record { written = []; cuts = []; capacity = 0; writes = 0; write_faults = 0; clears = 0; clear_faults = 0 }
+reads_alone = record { written = []; cuts = []; capacity = 0; writes = 0; write_faults = 0; full_faults = 0; clears = 0; clear_faults = 0 }
 
 -- of an output, what no write changes: where it is a spool, how much of what was written is gone, and every count but those of writing
 pub record WriteFrame : Type 0 where

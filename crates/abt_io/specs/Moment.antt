@@ -1,5 +1,5 @@
 -- What a crash may leave on a partition.
-use Rattle.std.specs.Prelude.{◌≡◌, ℕ, ◌+◌, Bool, false, ◌&&◌, ◌||◌, nat_le, nat_lt, List, [], ◌∷◌, ◌++◌, length, take, drop, slice_get}
+use Rattle.std.specs.Prelude.{◌≡◌, ℕ, ◌+◌, Bool, true, false, ◌&&◌, ◌||◌, nat_le, nat_lt, List, [], ◌∷◌, ◌++◌, length, take, drop, slice_get}
 use Rattle.std.specs.List.{AllByRecursion}
 
 -- a partition between two calls: what a read gives, the ranges (place and length) that a crash may leave with any bytes, and how many syncs have succeeded
@@ -41,6 +41,19 @@ in_range at n i = nat_le at i && nat_lt i (at + n)
 abbrev pub is_pending : List (ℕ × ℕ) → ℕ → Bool
 is_pending [] i = false
 is_pending (r ∷ rs) i = in_range r.0 r.1 i || is_pending rs i
+
+-- each of these bytes is pending
+abbrev pub AllPending : (ℕ → Bool) → List (ℕ × ℕ) → Type 0
+AllPending which ranges = (i : ℕ) → which i ≡ true → is_pending ranges i ≡ true
+
+-- what is pending in the old ranges is so in the new ones
+abbrev pub StaysPending : List (ℕ × ℕ) → List (ℕ × ℕ) → Type 0
+StaysPending old new = (i : ℕ) → is_pending old i ≡ true → is_pending new i ≡ true
+
+-- of moments, newest first: the newest is this one
+abbrev pub IsNewest : Moment → List Moment → Type 0
+IsNewest m [] = ⊥
+IsNewest m (n ∷ ns) = n ≡ m
 
 -- a crash at this moment may leave q
 pub record MayLeave (m : Moment) (q : List ℕ) : Type 0 where

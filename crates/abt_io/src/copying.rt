@@ -1,7 +1,8 @@
 //! Bytes from a place of a source to an output, and zeros.
 
 ghost use Rattle.std.specs.Prelude.{◌≡◌, ◌<◌, ◌≤◌, ◌+◌, ◌-◌, ◌*◌, ◌^◌, ◌++◌, IsTrue, IfOk, IfErr, OnOk, OnErr, max, length, take, drop, replicate};
-ghost use Rattle.abt_io.specs.Cause.{CopyCause};
+ghost use Rattle.abt_io.specs.Cause.{CopyCause, full_copied};
+ghost use Rattle.abt_io.specs.Count.{full_of};
 
 use crate::{DeviceFault, Meter, Output, Source, WINDOW, Window, write_out};
 
@@ -40,6 +41,8 @@ pub fn copy_step<S: Source, O: Output>(
     ensures read_faults { S.read_faults source.old ≤ S.read_faults source.new }
     ensures write_faults { O.write_faults output.old ≤ O.write_faults output.new }
     ensures cause { IfErr result (λ e. CopyCause e (IsTrue S.tells → length (S.content source.old) ≤ at) (S.read_faults source.old) (S.read_faults source.new) (O.write_faults output.old) (O.write_faults output.new)) }
+    ensures clean { OnOk result ((S.read_faults source.new ≡ S.read_faults source.old) × (O.write_faults output.new ≡ O.write_faults output.old)) }
+    ensures full_faults { O.full_faults output.new ≡ O.full_faults output.old + full_copied result }
     ensures reads { S.reads source.new ≡ S.reads source.old + 1 }
     ensures writes { O.writes output.new ≤ O.writes output.old + (length (O.written output.new) - length (O.written output.old)) + 1 }
     ensures turns { m.new.turns.number ≤ m.old.turns.number + (length (O.written output.new) - length (O.written output.old)) + 1 }
@@ -93,6 +96,8 @@ pub fn copy_range<S: Source, O: Output>(
     ensures read_faults { S.read_faults source.old ≤ S.read_faults source.new }
     ensures write_faults { O.write_faults output.old ≤ O.write_faults output.new }
     ensures cause { IfErr result (λ e. CopyCause e (IsTrue S.tells → length (S.content source.old) < from + n) (S.read_faults source.old) (S.read_faults source.new) (O.write_faults output.old) (O.write_faults output.new)) }
+    ensures clean { OnOk result ((S.read_faults source.new ≡ S.read_faults source.old) × (O.write_faults output.new ≡ O.write_faults output.old)) }
+    ensures full_faults { O.full_faults output.new ≡ O.full_faults output.old + full_copied result }
     ensures reads { S.reads source.new ≤ S.reads source.old + (S.given source.new - S.given source.old) + 1 }
     ensures writes { O.writes output.new ≤ O.writes output.old + 2 * (length (O.written output.new) - length (O.written output.old)) + 1 }
     ensures turns { m.new.turns.number ≤ m.old.turns.number + 3 * (length (O.written output.new) - length (O.written output.old)) + 2 }
@@ -132,6 +137,8 @@ pub fn write_zeros<O: Output>(
     ensures write_frame { O.write_frame output.new ≡ O.write_frame output.old }
     ensures write_faults { O.write_faults output.old ≤ O.write_faults output.new }
     ensures cause { OnErr result (O.write_faults output.old < O.write_faults output.new) }
+    ensures clean { OnOk result (O.write_faults output.new ≡ O.write_faults output.old) }
+    ensures full_faults { O.full_faults output.new ≡ O.full_faults output.old + full_of result }
     ensures writes { O.writes output.new ≤ O.writes output.old + 2 * (length (O.written output.new) - length (O.written output.old)) + 1 }
     ensures turns { m.new.turns.number ≤ m.old.turns.number + 3 * (length (O.written output.new) - length (O.written output.old)) + 2 }
     ensures steps { m.new.steps.number ≡ m.old.steps.number }

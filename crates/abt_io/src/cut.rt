@@ -92,6 +92,8 @@ impl<D: Output> Output for Cut<D> {
 
     ghost write_faults = { λ c. D.write_faults c.device };
 
+    ghost full_faults = { λ c. D.full_faults c.device };
+
     ghost write_frame = { λ c. D.write_frame c.device };
 
     fn write(&mut self, bytes: &[u8]) -> Result<usize, DeviceFault> {

@@ -1,15 +1,17 @@
 //! What everything above reads from and writes to: five traits, and why a call of theirs fails.
 //!
 //! The ghost members say what contracts know of a device; the clauses say how each call changes them.
-//! `count_of result` is how many bytes the call moved, 0 where it failed. A clause under
+//! `count_of result` is how many bytes the call moved, 0 where it failed. A call that answers Ok has not
+//! failed: its count of faults is as before. Only an output may be full; every other call that fails
+//! answers `Failed`. A clause under
 //! `IsTrue tells` speaks of bytes, and binds only a device that tells them. The laws below the last
 //! function of a trait hold between any two calls.
 
-ghost use Rattle.std.specs.Prelude.{◌≡◌, ◌<◌, ◌≤◌, ◌+◌, ◌-◌, ◌^◌, ◌++◌, [], ◌∷◌, ℕ, List, Bool, IsTrue, IfOk, OnOk, OnErr, IsErrOf, is_ok, false, if◌then◌else◌, length, take, drop};
+ghost use Rattle.std.specs.Prelude.{◌≡◌, ◌<◌, ◌≤◌, ◌+◌, ◌-◌, ◌^◌, ◌++◌, [], ◌∷◌, ℕ, List, Bool, IsTrue, IfOk, IfErr, OnOk, OnErr, IsErrOf, is_ok, false, if◌then◌else◌, length, take, drop};
 ghost use Rattle.abt_io.specs.Bytes.{AreBytes};
-ghost use Rattle.abt_io.specs.Count.{count_of};
+ghost use Rattle.abt_io.specs.Count.{count_of, full_of};
 ghost use Rattle.abt_io.specs.Frame.{ReadFrame, reads_alone, WriteFrame, writes_alone, PartitionFrame, no_partition, last_cut};
-ghost use Rattle.abt_io.specs.Moment.{Past, Keeps, EachSince, in_range, moment_of, put_at};
+ghost use Rattle.abt_io.specs.Moment.{Past, Keeps, EachSince, IsNewest, StaysPending, AllPending, in_range, moment_of, put_at};
 
 /// Why a call of a device was refused. A refused call moves nothing; only a `write_at` that was refused
 /// may leave any bytes in the range that it was asked to write.
@@ -53,7 +55,9 @@ pub trait Input {
         ensures calls { reads self.new ≡ reads self.old + 1 }
         ensures counted { given self.new ≡ given self.old + count_of result }
         ensures faults { read_faults self.old ≤ read_faults self.new }
-        ensures cause { OnErr result (read_faults self.old < read_faults self.new) };
+        ensures cause { OnErr result (read_faults self.old < read_faults self.new) }
+        ensures clean { OnOk result (read_faults self.new ≡ read_faults self.old) }
+        ensures failed { IfErr result (λ e. e ≡ DeviceFault.Failed) };
 
     /// What it tells are bytes.
     ghost are_bytes: { (s : Self) → IsTrue tells → AreBytes (remaining s) };
@@ -73,6 +77,9 @@ pub trait Output {
     /// How often it has failed.
     ghost write_faults: { Self → ℕ };
 
+    /// How often it has answered `Full`.
+    ghost full_faults: { Self → ℕ };
+
     /// What no write changes.
     ghost write_frame: { Self → WriteFrame } = { λ _. writes_alone };
 
@@ -86,7 +93,10 @@ pub trait Output {
         ensures calls { writes self.new ≡ writes self.old + 1 }
         ensures faults { write_faults self.old ≤ write_faults self.new }
         ensures cause { OnErr result (write_faults self.old < write_faults self.new) }
-        ensures full { IsErrOf result DeviceFault.Full → IsTrue (is_full self.old) };
+        ensures clean { OnOk result (write_faults self.new ≡ write_faults self.old) }
+        ensures full_faults { full_faults self.new ≡ full_faults self.old + full_of result }
+        ensures full { IsErrOf result DeviceFault.Full → IsTrue (is_full self.old) }
+        ensures still_full { IsErrOf result DeviceFault.Full → IsTrue (is_full self.new) };
 }
 
 /// Gives the bytes at any place. A read answers 0 only for an empty ask, or where there is nothing.
@@ -132,7 +142,9 @@ pub trait Source {
         ensures calls { reads self.new ≡ reads self.old + 1 }
         ensures counted { given self.new ≡ given self.old + count_of result }
         ensures faults { read_faults self.old ≤ read_faults self.new }
-        ensures cause { OnErr result (read_faults self.old < read_faults self.new) };
+        ensures cause { OnErr result (read_faults self.old < read_faults self.new) }
+        ensures clean { OnOk result (read_faults self.new ≡ read_faults self.old) }
+        ensures failed { IfErr result (λ e. e ≡ DeviceFault.Failed) };
 
     /// It is as long as its content.
     ghost sized: { (s : Self) → IsTrue tells → size s ≡ length (content s) };
@@ -173,6 +185,9 @@ pub trait Partition: Source {
         ensures written { IsTrue Self.tells → IfOk result (λ n. Self.content self.new ≡ put_at (Self.content self.old) at (take n bytes.now)) }
         ensures kept { IsTrue Self.tells → Keeps (in_range at (length bytes.now)) (moment_of (past self.old) (Self.content self.old)) (moment_of (past self.new) (Self.content self.new)) }
         ensures moments { IsTrue Self.tells → EachSince (past self.old).moments (past self.new).moments (λ m. m ≡ moment_of (past self.new) (Self.content self.new)) }
+        ensures newest { IsTrue Self.tells → OnOk result (IsNewest (moment_of (past self.new) (Self.content self.new)) (past self.new).moments) }
+        ensures pending { IsTrue Self.tells → AllPending (in_range at (count_of result)) (past self.new).pending }
+        ensures stays { IsTrue Self.tells → StaysPending (past self.old).pending (past self.new).pending }
         ensures synced { (past self.new).synced ≡ (past self.old).synced }
         ensures calls { puts self.new ≡ puts self.old + 1 }
         ensures counted { taken self.new ≡ taken self.old + count_of result }
@@ -181,13 +196,17 @@ pub trait Partition: Source {
         ensures given { Self.given self.new ≡ Self.given self.old }
         ensures read_faults { Self.read_faults self.new ≡ Self.read_faults self.old }
         ensures faults { put_faults self.old ≤ put_faults self.new }
-        ensures cause { OnErr result (put_faults self.old < put_faults self.new) };
+        ensures cause { OnErr result (put_faults self.old < put_faults self.new) }
+        ensures clean { OnOk result (put_faults self.new ≡ put_faults self.old) }
+        ensures failed { IfErr result (λ e. e ≡ DeviceFault.Failed) };
 
     /// Makes all that was written last. Where it fails, nothing is stable for certain.
     fn sync(&mut self) -> Result<(), DeviceFault>
         ensures size { Self.size self.new ≡ Self.size self.old }
         ensures kept { IsTrue Self.tells → Keeps (λ _. false) (moment_of (past self.old) (Self.content self.old)) (moment_of (past self.new) (Self.content self.new)) }
         ensures settled { IsTrue Self.tells → OnOk result ((past self.new).pending ≡ []) }
+        ensures newest { IsTrue Self.tells → OnOk result (IsNewest (moment_of (past self.new) (Self.content self.new)) (past self.new).moments) }
+        ensures stays { IsTrue Self.tells → OnErr result (StaysPending (past self.old).pending (past self.new).pending) }
         ensures moments { IsTrue Self.tells → EachSince (past self.old).moments (past self.new).moments (λ m. m ≡ moment_of (past self.new) (Self.content self.new)) }
         ensures synced { (past self.new).synced ≡ (past self.old).synced + (if is_ok result then 1 else 0) }
         ensures puts { puts self.new ≡ puts self.old }
@@ -197,7 +216,9 @@ pub trait Partition: Source {
         ensures given { Self.given self.new ≡ Self.given self.old }
         ensures read_faults { Self.read_faults self.new ≡ Self.read_faults self.old }
         ensures faults { put_faults self.old ≤ put_faults self.new }
-        ensures cause { OnErr result (put_faults self.old < put_faults self.new) };
+        ensures cause { OnErr result (put_faults self.old < put_faults self.new) }
+        ensures clean { OnOk result (put_faults self.new ≡ put_faults self.old) }
+        ensures failed { IfErr result (λ e. e ≡ DeviceFault.Failed) };
 
     /// What a read leaves.
     ghost reading: { (s : Self) → Self.read_frame s ≡ record { size = Self.size s; past = past s; puts = puts s; taken = taken s; syncs = syncs s; put_faults = put_faults s } };
@@ -236,12 +257,15 @@ pub trait Spool: Input + Output {
         ensures writes { Self.writes self.new ≡ Self.writes self.old }
         ensures read_faults { Self.read_faults self.new ≡ Self.read_faults self.old }
         ensures write_faults { Self.write_faults self.new ≡ Self.write_faults self.old }
+        ensures full_faults { Self.full_faults self.new ≡ Self.full_faults self.old }
         ensures calls { clears self.new ≡ clears self.old + 1 }
         ensures faults { clear_faults self.old ≤ clear_faults self.new }
-        ensures cause { OnErr result (clear_faults self.old < clear_faults self.new) };
+        ensures cause { OnErr result (clear_faults self.old < clear_faults self.new) }
+        ensures clean { OnOk result (clear_faults self.new ≡ clear_faults self.old) }
+        ensures failed { IfErr result (λ e. e ≡ DeviceFault.Failed) };
 
     /// What a read leaves.
-    ghost reading: { (s : Self) → Self.read_frame s ≡ record { written = Self.written s; cuts = cuts s; capacity = size s; writes = Self.writes s; write_faults = Self.write_faults s; clears = clears s; clear_faults = clear_faults s } };
+    ghost reading: { (s : Self) → Self.read_frame s ≡ record { written = Self.written s; cuts = cuts s; capacity = size s; writes = Self.writes s; write_faults = Self.write_faults s; full_faults = Self.full_faults s; clears = clears s; clear_faults = clear_faults s } };
 
     /// What a write leaves.
     ghost writing: { (s : Self) → Self.write_frame s ≡ record { gone = gone s; cuts = cuts s; capacity = size s; reads = Self.reads s; given = Self.given s; read_faults = Self.read_faults s; clears = clears s; clear_faults = clear_faults s } };

@@ -96,6 +96,8 @@ impl<D: Output> Output for Faulty<D> {
 
     ghost write_faults = { λ c. D.write_faults c.device + c.writes.number };
 
+    ghost full_faults = { λ c. D.full_faults c.device };
+
     ghost write_frame = { λ c. record (D.write_frame c.device) { reads = (D.write_frame c.device).reads + c.reads.number; read_faults = (D.write_frame c.device).read_faults + c.reads.number; clears = (D.write_frame c.device).clears + c.others.number; clear_faults = (D.write_frame c.device).clear_faults + c.others.number } };
 
     fn write(&mut self, bytes: &[u8]) -> Result<usize, DeviceFault> {

@@ -228,6 +228,7 @@ pub struct FileSpool {
     pub read_faults: Tally,
     pub writes: Tally,
     pub write_faults: Tally,
+    pub full_faults: Tally,
     pub clears: Tally,
     pub clear_faults: Tally,
     pub ghost since: { last_cut log.state.cuts + used ≡ length log.state.bytes },
@@ -254,6 +255,7 @@ impl FileSpool {
             read_faults: Tally::new(),
             writes: Tally::new(),
             write_faults: Tally::new(),
+            full_faults: Tally::new(),
             clears: Tally::new(),
             clear_faults: Tally::new(),
         }
@@ -271,7 +273,7 @@ impl Input for FileSpool {
 
     ghost read_faults = { λ s. s.read_faults.number };
 
-    ghost read_frame = { λ s. record { written = s.log.state.bytes; cuts = s.log.state.cuts; capacity = s.capacity; writes = s.writes.number; write_faults = s.write_faults.number; clears = s.clears.number; clear_faults = s.clear_faults.number } };
+    ghost read_frame = { λ s. record { written = s.log.state.bytes; cuts = s.log.state.cuts; capacity = s.capacity; writes = s.writes.number; write_faults = s.write_faults.number; full_faults = s.full_faults.number; clears = s.clears.number; clear_faults = s.clear_faults.number } };
 
     ghost are_bytes = { λ _ t. absurd (false≢true t) };
 
@@ -303,6 +305,8 @@ impl Output for FileSpool {
 
     ghost write_faults = { λ s. s.write_faults.number };
 
+    ghost full_faults = { λ s. s.full_faults.number };
+
     ghost write_frame = { λ s. record { gone = last_cut s.log.state.cuts + s.seen; cuts = s.log.state.cuts; capacity = s.capacity; reads = s.reads.number; given = s.given.number; read_faults = s.read_faults.number; clears = s.clears.number; clear_faults = s.clear_faults.number } };
 
     fn write(&mut self, bytes: &[u8]) -> Result<usize, DeviceFault> {
@@ -313,6 +317,7 @@ impl Output for FileSpool {
         let used = self.used;
         if used >= self.capacity {
             self.write_faults.add(1);
+            self.full_faults.add(1);
             return Err(DeviceFault::Full);
         }
         let n = (self.capacity - used).min(bytes.len() as u64) as usize;

@@ -26,6 +26,8 @@ pub fn gather<I: Input>(input: &mut I, out: &mut [u8], m: &mut Meter) -> Gathere
     ensures frame { I.read_frame input.new ≡ I.read_frame input.old }
     ensures faults { I.read_faults input.old ≤ I.read_faults input.new }
     ensures cause { IfSome result.fault (λ _. I.read_faults input.old < I.read_faults input.new) }
+    ensures clean { IsNone result.fault → I.read_faults input.new ≡ I.read_faults input.old }
+    ensures failed { IfSome result.fault (λ e. e ≡ DeviceFault.Failed) }
     ensures reads { I.reads input.new ≤ I.reads input.old + result.count + 1 }
     ensures turns { m.new.turns.number ≤ m.old.turns.number + result.count + 1 }
     ensures steps { m.new.steps.number ≡ m.old.steps.number }
@@ -74,6 +76,8 @@ pub fn gather_at<S: Source>(source: &mut S, at: u64, out: &mut [u8], m: &mut Met
     ensures frame { S.read_frame source.new ≡ S.read_frame source.old }
     ensures faults { S.read_faults source.old ≤ S.read_faults source.new }
     ensures cause { IfSome result.fault (λ _. S.read_faults source.old < S.read_faults source.new) }
+    ensures clean { IsNone result.fault → S.read_faults source.new ≡ S.read_faults source.old }
+    ensures failed { IfSome result.fault (λ e. e ≡ DeviceFault.Failed) }
     ensures reads { S.reads source.new ≤ S.reads source.old + result.count + 1 }
     ensures turns { m.new.turns.number ≤ m.old.turns.number + result.count + 1 }
     ensures steps { m.new.steps.number ≡ m.old.steps.number }

@@ -17,7 +17,7 @@
 //! - `meter`, `tally`, `log`, `history`: what contracts count, with no bytes at run time.
 //! - `device`: the five traits. Their words stand in `specs/`: `Count`, `Bytes`, `Frame` (what a read
 //!   or a write leaves as it was), `Moment` (what a crash may leave), `Cause` (who failed).
-//! - `gathering`, `writing`, `pumping`, `copying`: the movers, generic over the traits.
+//! - `gathering`, `writing`, `copying`: the movers, generic over the traits.
 //! - `slices`, `partition`, `spool`, `crash` (with `pick`): devices over lent memory, which tell their
 //!   bytes; `bytes` and `cells` serve them.
 //! - `forward`: a source read from its front. `cut`, `faulty`, `marred`, `long`, `switch`: devices that
@@ -45,7 +45,6 @@ mod marred;
 mod meter;
 mod partition;
 mod pick;
-mod pumping;
 mod slices;
 mod spool;
 mod streams;
@@ -74,7 +73,6 @@ pub use marred::Marred;
 pub use meter::Meter;
 pub use partition::SlicePartition;
 pub use pick::Pick;
-pub use pumping::{MoveFault, pump, pump_step};
 pub use slices::{SliceOutput, SliceSource};
 pub use spool::SliceSpool;
 pub use streams::{FromRead, ToWrite};

@@ -104,6 +104,8 @@ impl<'a> Output for SliceOutput<'a> {
 
     ghost write_faults = { λ o. o.faults.number };
 
+    ghost full_faults = { λ o. o.faults.number };
+
     fn write(&mut self, bytes: &[u8]) -> Result<usize, DeviceFault> {
         self.calls.add(1);
         if bytes.is_empty() {

@@ -59,7 +59,7 @@ impl<'a> Input for SliceSpool<'a> {
 
     ghost read_faults = { λ s. 0 };
 
-    ghost read_frame = { λ s. record { written = s.log.state.bytes; cuts = s.log.state.cuts; capacity = length s.cells.bytes.now; writes = s.writes.number; write_faults = s.write_faults.number; clears = s.clears.number; clear_faults = 0 } };
+    ghost read_frame = { λ s. record { written = s.log.state.bytes; cuts = s.log.state.cuts; capacity = length s.cells.bytes.now; writes = s.writes.number; write_faults = s.write_faults.number; full_faults = s.write_faults.number; clears = s.clears.number; clear_faults = 0 } };
 
     ghost are_bytes = { λ s _. bytes_of_part s.used s.seen s.cells.bytes.now s.cells.told };
 
@@ -82,6 +82,8 @@ impl<'a> Output for SliceSpool<'a> {
     ghost writes = { λ s. s.writes.number };
 
     ghost write_faults = { λ s. s.write_faults.number };
+
+    ghost full_faults = { λ s. s.write_faults.number };
 
     ghost write_frame = { λ s. record { gone = last_cut s.log.state.cuts + s.seen; cuts = s.log.state.cuts; capacity = length s.cells.bytes.now; reads = s.reads.number; given = s.given.number; read_faults = 0; clears = s.clears.number; clear_faults = 0 } };
 

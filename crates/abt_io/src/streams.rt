@@ -41,6 +41,8 @@ impl<W: Write> Output for ToWrite<W> {
 
     ghost write_faults = { λ o. o.faults.number };
 
+    ghost full_faults = { λ _. 0 };
+
     fn write(&mut self, bytes: &[u8]) -> Result<usize, DeviceFault> {
         self.calls.add(1);
         match tries::write(&mut self.writer, bytes) {

@@ -3,7 +3,7 @@
 //! Each is tried at most 2^64 - 1 times: the loops are `for` loops over a range, so they end. Every
 //! error, and a write of a nonempty list that took nothing, is `Failed`.
 
-ghost use Rattle.std.specs.Prelude.{◌<◌, ◌≤◌, IfOk, IfSome, length};
+ghost use Rattle.std.specs.Prelude.{◌≡◌, ◌<◌, ◌≤◌, IfOk, IfErr, IfSome, length};
 ghost use Rattle.abt_io.specs.Count.{count_of};
 
 use crate::DeviceFault;
@@ -17,6 +17,7 @@ use std::os::unix::fs::FileExt;
 fn moved(answer: io::Result<usize>, least: usize) -> Option<Result<usize, DeviceFault>>
     ensures within { IfSome result (λ r. count_of r ≤ count_of answer) }
     ensures progress { IfSome result (λ r. IfOk r (λ n. least ≤ n)) }
+    ensures failed { IfSome result (λ r. IfErr r (λ e. e ≡ DeviceFault.Failed)) }
 {
     match answer {
         Ok(n) => {
@@ -36,7 +37,8 @@ fn moved(answer: io::Result<usize>, least: usize) -> Option<Result<usize, Device
 
 /// One positioned read.
 pub(crate) fn read_at(file: &File, at: u64, out: &mut [u8]) -> Result<usize, DeviceFault>
-    ensures { count_of result ≤ length out.new }
+    ensures within { count_of result ≤ length out.new }
+    ensures failed { IfErr result (λ e. e ≡ DeviceFault.Failed) }
 {
     for _ in 0..u64::MAX {
         if let Some(answer) = moved(file.read_at(out, at), 0) {
@@ -50,6 +52,7 @@ pub(crate) fn read_at(file: &File, at: u64, out: &mut [u8]) -> Result<usize, Dev
 pub(crate) fn write_at(file: &File, at: u64, bytes: &[u8]) -> Result<usize, DeviceFault>
     ensures within { count_of result ≤ length bytes.now }
     ensures progress { IfOk result (λ n. 0 < length bytes.now → 0 < n) }
+    ensures failed { IfErr result (λ e. e ≡ DeviceFault.Failed) }
 {
     let least = bytes.len().min(1);
     for _ in 0..u64::MAX {
@@ -62,7 +65,8 @@ pub(crate) fn write_at(file: &File, at: u64, bytes: &[u8]) -> Result<usize, Devi
 
 /// One read.
 pub(crate) fn read<R: Read>(reader: &mut R, out: &mut [u8]) -> Result<usize, DeviceFault>
-    ensures { count_of result ≤ length out.new }
+    ensures within { count_of result ≤ length out.new }
+    ensures failed { IfErr result (λ e. e ≡ DeviceFault.Failed) }
 {
     for _ in 0..u64::MAX {
         if let Some(answer) = moved(reader.read(out), 0) {
@@ -76,6 +80,7 @@ pub(crate) fn read<R: Read>(reader: &mut R, out: &mut [u8]) -> Result<usize, Dev
 pub(crate) fn write<W: Write>(writer: &mut W, bytes: &[u8]) -> Result<usize, DeviceFault>
     ensures within { count_of result ≤ length bytes.now }
     ensures progress { IfOk result (λ n. 0 < length bytes.now → 0 < n) }
+    ensures failed { IfErr result (λ e. e ≡ DeviceFault.Failed) }
 {
     let least = bytes.len().min(1);
     for _ in 0..u64::MAX {

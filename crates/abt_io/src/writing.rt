@@ -1,6 +1,7 @@
 //! Writing all of some bytes: to an output, and to a place of a partition.
 
-ghost use Rattle.std.specs.Prelude.{◌≡◌, ◌<◌, ◌≤◌, ◌+◌, ◌-◌, ◌^◌, ◌++◌, IsTrue, OnOk, OnErr, length, take};
+ghost use Rattle.std.specs.Prelude.{◌≡◌, ◌<◌, ◌≤◌, ◌+◌, ◌-◌, ◌^◌, ◌++◌, IsTrue, OnOk, OnErr, IfErr, IsErrOf, length, take};
+ghost use Rattle.abt_io.specs.Count.{full_of};
 ghost use Rattle.abt_io.specs.Moment.{Keeps, KeepsUnsynced, EachSince, in_range, moment_of, put_at};
 
 use crate::{DeviceFault, Meter, Output, Partition};
@@ -16,6 +17,10 @@ pub fn write_out<O: Output>(output: &mut O, bytes: &[u8], m: &mut Meter) -> Resu
     ensures frame { O.write_frame output.new ≡ O.write_frame output.old }
     ensures faults { O.write_faults output.old ≤ O.write_faults output.new }
     ensures cause { OnErr result (O.write_faults output.old < O.write_faults output.new) }
+    ensures clean { OnOk result (O.write_faults output.new ≡ O.write_faults output.old) }
+    ensures full_faults { O.full_faults output.new ≡ O.full_faults output.old + full_of result }
+    ensures full { IsErrOf result DeviceFault.Full → IsTrue (O.is_full output.new) }
+    ensures short { OnErr result (length (O.written output.new) < length (O.written output.old) + length bytes.now) }
     ensures calls { O.writes output.new + length (O.written output.old) ≤ O.writes output.old + length (O.written output.new) + 1 }
     ensures turns { m.new.turns.number + length (O.written output.old) ≤ m.old.turns.number + length (O.written output.new) + 1 }
     ensures steps { m.new.steps.number ≡ m.old.steps.number }
@@ -52,6 +57,8 @@ pub fn write_all_at<P: Partition>(
     ensures read_faults { P.read_faults partition.new ≡ P.read_faults partition.old }
     ensures faults { P.put_faults partition.old ≤ P.put_faults partition.new }
     ensures cause { OnErr result (P.put_faults partition.old < P.put_faults partition.new) }
+    ensures clean { OnOk result (P.put_faults partition.new ≡ P.put_faults partition.old) }
+    ensures failed { IfErr result (λ e. e ≡ DeviceFault.Failed) }
     ensures turns { m.new.turns.number ≤ m.old.turns.number + length bytes.now }
     ensures taken { P.taken partition.old ≤ P.taken partition.new }
     ensures all { OnOk result (P.taken partition.new ≡ P.taken partition.old + length bytes.now) }

@@ -37,6 +37,7 @@ loop-at-preserved g c =
       write_frame = e.write_frame ∙ i.write_frame;
       read_faults = omega arith;
       write_faults = omega arith;
+      full_faults = omega arith;
       reads = omega arith;
       writes = omega arith;
       turns = omega arith;

@@ -17,8 +17,9 @@ invariant-loop-at g l =
       written : IsTrue g.S.Source.tells → written l.output ≡ written l.fn.output ++ take l.at (drop l.from (told l.fn.source));
       frame : g.S.Source.read_frame l.source ≡ g.S.Source.read_frame l.fn.source;
       write_frame : g.O.Output.write_frame l.output ≡ g.O.Output.write_frame l.fn.output;
-      read_faults : g.S.Source.read_faults l.fn.source ≤ g.S.Source.read_faults l.source;
-      write_faults : g.O.Output.write_faults l.fn.output ≤ g.O.Output.write_faults l.output;
+      read_faults : g.S.Source.read_faults l.source ≡ g.S.Source.read_faults l.fn.source;
+      write_faults : g.O.Output.write_faults l.output ≡ g.O.Output.write_faults l.fn.output;
+      full_faults : g.O.Output.full_faults l.output ≡ g.O.Output.full_faults l.fn.output;
       reads : g.S.Source.reads l.source ≤ g.S.Source.reads l.fn.source + l.at;
       writes : g.O.Output.writes l.output ≤ g.O.Output.writes l.fn.output + 2 * l.at;
       turns : l.m.turns.number ≤ l.fn.m.turns.number + 3 * l.at;

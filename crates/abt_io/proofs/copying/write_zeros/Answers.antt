@@ -34,6 +34,7 @@ loop-at-preserved g c =
       written = zeros_more _ _ _ c.part.result.now at ask i.written e.ok zeros;
       write_frame = e.frame ∙ i.write_frame;
       write_faults = omega arith;
+      full_faults = omega arith;
       writes = omega arith;
       turns = omega arith;
       steps = omega arith;

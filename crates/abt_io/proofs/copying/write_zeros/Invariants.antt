@@ -9,7 +9,8 @@ invariant-loop-at g l =
       long : length (written l.output) ≡ length (written l.fn.output) + l.at;
       written : written l.output ≡ written l.fn.output ++ replicate l.at 0;
       write_frame : g.O.Output.write_frame l.output ≡ g.O.Output.write_frame l.fn.output;
-      write_faults : g.O.Output.write_faults l.fn.output ≤ g.O.Output.write_faults l.output;
+      write_faults : g.O.Output.write_faults l.output ≡ g.O.Output.write_faults l.fn.output;
+      full_faults : g.O.Output.full_faults l.output ≡ g.O.Output.full_faults l.fn.output;
       writes : g.O.Output.writes l.output ≤ g.O.Output.writes l.fn.output + 2 * l.at;
       turns : l.m.turns.number ≤ l.fn.m.turns.number + 3 * l.at;
       steps : l.m.steps.number ≡ l.fn.m.steps.number;

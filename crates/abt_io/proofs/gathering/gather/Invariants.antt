@@ -14,7 +14,7 @@ invariant-loop-at g l =
       rest : IsTrue g.I.Input.tells → remaining l.input ≡ drop l.at (remaining l.fn.input);
       none : length l.out ≡ 0 → l.input ≡ l.fn.input;
       frame : g.I.Input.read_frame l.input ≡ g.I.Input.read_frame l.fn.input;
-      faults : g.I.Input.read_faults l.fn.input ≤ g.I.Input.read_faults l.input;
+      faults : g.I.Input.read_faults l.input ≡ g.I.Input.read_faults l.fn.input;
       reads : g.I.Input.reads l.input ≤ g.I.Input.reads l.fn.input + l.at;
       turns : l.m.turns.number ≤ l.fn.m.turns.number + l.at;
       steps : l.m.steps.number ≡ l.fn.m.steps.number;

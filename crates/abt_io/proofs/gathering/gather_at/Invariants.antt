@@ -15,7 +15,7 @@ invariant-loop-done g l =
       size : IsTrue g.S.Source.tells → g.S.Source.size l.source ≡ g.S.Source.size l.fn.source;
       none : length l.out ≡ 0 → l.source ≡ l.fn.source;
       frame : g.S.Source.read_frame l.source ≡ g.S.Source.read_frame l.fn.source;
-      faults : g.S.Source.read_faults l.fn.source ≤ g.S.Source.read_faults l.source;
+      faults : g.S.Source.read_faults l.source ≡ g.S.Source.read_faults l.fn.source;
       reads : g.S.Source.reads l.source ≤ g.S.Source.reads l.fn.source + l.done;
       turns : l.m.turns.number ≤ l.fn.m.turns.number + l.done;
       steps : l.m.steps.number ≡ l.fn.m.steps.number;

@@ -19,7 +19,7 @@ invariant-loop-done g l =
       reads : g.P.Source.reads l.partition ≡ g.P.Source.reads l.fn.partition;
       given : g.P.Source.given l.partition ≡ g.P.Source.given l.fn.partition;
       read_faults : g.P.Source.read_faults l.partition ≡ g.P.Source.read_faults l.fn.partition;
-      faults : g.P.Partition.put_faults l.fn.partition ≤ g.P.Partition.put_faults l.partition;
+      faults : g.P.Partition.put_faults l.partition ≡ g.P.Partition.put_faults l.fn.partition;
       taken : g.P.Partition.taken l.partition ≡ g.P.Partition.taken l.fn.partition + l.done;
       steps : l.m.steps.number ≡ l.fn.m.steps.number;
       greatest : l.m.greatest.number ≡ l.fn.m.greatest.number;

@@ -17,6 +17,7 @@ loop-at-preserved g c =
       written = written_on _ _ _ _ c.loop-at.at c.in_ok-at.field-0 c.loop-at.invariant.written e.written;
       frame = e.frame ∙ c.loop-at.invariant.frame;
       faults = omega arith;
+      full_faults = omega arith;
       calls = omega arith;
       turns = omega arith;
       steps = omega arith;

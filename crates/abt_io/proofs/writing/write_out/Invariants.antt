@@ -7,7 +7,8 @@ invariant-loop-at g l = record {
   long : length (g.O.Output.written l.output) ≡ length (g.O.Output.written l.fn.output) + l.at;
   written : g.O.Output.written l.output ≡ g.O.Output.written l.fn.output ++ take l.at l.bytes;
   frame : g.O.Output.write_frame l.output ≡ g.O.Output.write_frame l.fn.output;
-  faults : g.O.Output.write_faults l.fn.output ≤ g.O.Output.write_faults l.output;
+  faults : g.O.Output.write_faults l.output ≡ g.O.Output.write_faults l.fn.output;
+  full_faults : g.O.Output.full_faults l.output ≡ g.O.Output.full_faults l.fn.output;
   calls : g.O.Output.writes l.output ≤ g.O.Output.writes l.fn.output + l.at;
   turns : l.m.turns.number ≤ l.fn.m.turns.number + l.at;
   steps : l.m.steps.number ≡ l.fn.m.steps.number;
