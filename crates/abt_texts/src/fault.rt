@@ -1,0 +1,76 @@
+//! Why a command is refused, and the line that says so.
+
+ghost use Rattle.std.specs.Prelude.{◌≡◌};
+ghost use Rattle.abt_texts.specs.Fault.{is_usage};
+
+use crate::text_output::Text;
+use abt_chunks::SparseFault;
+use abt_flash::FlashFault;
+use abt_io::{DeviceFault, Output};
+use abt_pieces::PieceFault;
+use abt_runs::RunFault;
+use abt_sections::SectionFault;
+use thiserror::Error;
+
+/// Why a command is refused. Its `Display` is the text behind `abootimg: `.
+#[derive(Debug, Drop, Error)]
+pub enum CommandFault {
+    /// Of a sparse image, or of the devices that it is read from and written to.
+    #[error("{0}")]
+    Sparse(SparseFault),
+    /// Of an image that is read in passes, or of the device that it is read from.
+    #[error("{0}")]
+    Run(RunFault),
+    /// Of the pieces of an image, or of the devices that they are read from and written to.
+    #[error("{0}")]
+    Piece(PieceFault),
+    /// Of flashing and delivering, or of the devices of both.
+    #[error("{0}")]
+    Flash(FlashFault),
+    /// Of a boot image or a vendor boot image, or of the devices that it is read from and written to.
+    #[error("{0}")]
+    Section(SectionFault),
+    /// An image of this kind and version doesn't carry this option.
+    #[error("option not carried: --{0}")]
+    OptionNotCarried(&'static str),
+    /// This word is no FRAGMENT, or the image has no fragments.
+    #[error("bad fragment {0}")]
+    BadFragment(String),
+    /// This file can't be opened.
+    #[error("cannot open {0}")]
+    CannotOpen(String),
+    /// Memory was wanted and refused.
+    #[error("memory")]
+    Memory,
+}
+
+impl CommandFault {
+    /// Whether the words are wrong, rather than what they name.
+    pub fn is_usage(&self) -> bool
+        ensures { result ≡ is_usage self.now }
+    {
+        match self {
+            CommandFault::OptionNotCarried(_) => true,
+            CommandFault::BadFragment(_) => true,
+            CommandFault::Sparse(_) => false,
+            CommandFault::Run(_) => false,
+            CommandFault::Piece(_) => false,
+            CommandFault::Flash(_) => false,
+            CommandFault::Section(_) => false,
+            CommandFault::CannotOpen(_) => false,
+            CommandFault::Memory => false,
+        }
+    }
+}
+
+/// Writes the line that tells the user of a fault, as `abootimg: 1 Magic`.
+pub fn fault_text<O: Output>(fault: &CommandFault, out: &mut O) -> Result<(), DeviceFault> {
+    let mut text = Text::new(out);
+    text.line(format_args!("abootimg: {fault}"))?;
+    text.finish()
+}
+
+/// A text that could not be written is refused as any other write.
+pub fn write_fault(fault: DeviceFault) -> CommandFault {
+    CommandFault::Sparse(SparseFault::Write(fault))
+}

@@ -1,0 +1,200 @@
+//! The text of `info`: what the header of a boot image says, and whether the image is what the packer writes.
+
+ghost use Rattle.std.specs.Prelude.{◌≡◌, ◌≤◌, IsTrue, IfErr, IfSome, OnOk, flat_map};
+ghost use Rattle.std.specs.Fmt.{with_newline};
+ghost use Rattle.abt_sections.specs.Open.{IsOpened};
+ghost use Rattle.abt_sections.specs.Header.{fragment_count, places_of, view_of};
+ghost use Rattle.abt_texts.specs.Info as spec;
+ghost use Rattle.abt_texts.specs.Printed.{Prints};
+
+use crate::fields::{Address, TextField, address_of, id_of, os_version_of, text_field_of};
+use crate::info_lines::{
+    AddressLine, CheckLine, FragmentLine, IdLine, KindLine, OsLine, SectionLine, TextLine,
+};
+use crate::text_output::Text;
+use abt_io::{Meter, Output, Source, Window};
+use abt_sections::{
+    Image, ImageHeader, SectionFault, check, fragment, fragments, open, section, sections,
+};
+use std::fmt;
+
+/// Prints what the header of the image at the front of a source says, a line for each field, and what checking finds.
+///
+/// An image that doesn't open prints nothing. Where the source fails later, the lines of what came before stand. A write
+/// that fails is `Write`. It takes no memory.
+pub fn report_info<S: Source, O: Output>(
+    source: &mut S,
+    out: &mut O,
+    w: &mut Window,
+    m: &mut Meter,
+) -> Result<(), SectionFault>
+    ensures content { IsTrue S.tells → OnOk result (S.content source.new ≡ S.content source.old) }
+    ensures printed { IsTrue S.tells → OnOk result (spec.Reports (S.content source.old) (O.written out.old) (O.written out.new)) }
+    ensures refused { IsTrue S.tells → IfErr result (λ f. spec.InfoCause f (S.content source.old) (S.read_faults source.old) (S.read_faults source.new) (O.written out.new ≡ O.written out.old)) }
+{
+    let image = match open(source, w, m) {
+        Ok(image) => image,
+        Err(fault) => return Err(fault),
+    };
+    let mut text = Text::new(out);
+    let told = image_lines(&image, source, &mut text, w, m);
+    match text.finish() {
+        Ok(()) => told,
+        Err(fault) => Err(SectionFault::Write(fault)),
+    }
+}
+
+fn image_lines<S: Source, O: Output>(
+    image: &Image,
+    source: &mut S,
+    text: &mut Text<'_, O>,
+    w: &mut Window,
+    m: &mut Meter,
+) -> Result<(), SectionFault>
+    ensures content { IsTrue S.tells → OnOk result (S.content source.new ≡ S.content source.old) }
+    ensures lines { IsTrue S.tells → OnOk result (spec.Checked (S.content source.old) (view_of image.now.header) (Prints O.written text.old text.new)) }
+    ensures refused { IsTrue S.tells → IsOpened (S.content source.old) image.now → IfErr result (λ f. spec.PrintCause f (S.read_faults source.old) (S.read_faults source.new)) }
+{
+    print(text, KindLine(&image.header))?;
+    section_lines(image, text, m)?;
+    match fragment_lines(image, source, text, w, m) {
+        Ok(()) => {}
+        Err(fault) => return Err(fault),
+    }
+    header_lines(&image.header, text)?;
+    let verdict = match check(image, source, w, m) {
+        Ok(verdict) => verdict,
+        Err(fault) => return Err(fault),
+    };
+    print(text, CheckLine(verdict))
+}
+
+fn section_lines<O: Output>(
+    image: &Image,
+    text: &mut Text<'_, O>,
+    m: &mut Meter,
+) -> Result<(), SectionFault>
+    ensures lines { OnOk result (Prints O.written text.old text.new (flat_map spec.section_line (places_of (view_of image.now.header)))) }
+    ensures refused { IfErr result spec.IsWrite }
+{
+    for i in 0..sections(image) {
+        m.tick();
+        print(text, SectionLine(section(image, i)))?;
+    }
+    Ok(())
+}
+
+fn fragment_lines<S: Source, O: Output>(
+    image: &Image,
+    source: &mut S,
+    text: &mut Text<'_, O>,
+    w: &mut Window,
+    m: &mut Meter,
+) -> Result<(), SectionFault>
+    ensures content { IsTrue S.tells → OnOk result (S.content source.new ≡ S.content source.old) }
+    ensures lines { IsTrue S.tells → OnOk result (Prints O.written text.old text.new (spec.fragment_lines (S.content source.old) (view_of image.now.header) (fragment_count (view_of image.now.header)))) }
+    ensures faults { S.read_faults source.old ≤ S.read_faults source.new }
+    ensures refused { IsTrue S.tells → IsOpened (S.content source.old) image.now → IfErr result (λ f. spec.PrintCause f (S.read_faults source.old) (S.read_faults source.new)) }
+{
+    for i in 0..fragments(image) {
+        m.tick();
+        let entry = match fragment(image, i, source, w, m) {
+            Ok(entry) => entry,
+            Err(fault) => return Err(fault),
+        };
+        match print(text, FragmentLine(i, entry)) {
+            Ok(()) => {}
+            Err(fault) => return Err(fault),
+        }
+    }
+    Ok(())
+}
+
+// The lines of the fields that this header has.
+fn header_lines<O: Output>(header: &ImageHeader, text: &mut Text<'_, O>) -> Result<(), SectionFault>
+    ensures lines { OnOk result (Prints O.written text.old text.new (spec.header_lines (view_of header.now))) }
+    ensures refused { IfErr result spec.IsWrite }
+{
+    address_lines(header, text)?;
+    os_line(header, text)?;
+    text_line(header, TextField::Name, text)?;
+    text_line(header, TextField::Cmdline, text)?;
+    text_line(header, TextField::Extra, text)?;
+    id_line(header, text)
+}
+
+fn address_lines<O: Output>(
+    header: &ImageHeader,
+    text: &mut Text<'_, O>,
+) -> Result<(), SectionFault>
+    ensures lines { OnOk result (Prints O.written text.old text.new (spec.address_lines (view_of header.now))) }
+    ensures refused { IfErr result spec.IsWrite }
+{
+    address_line(header, Address::Kernel, text)?;
+    address_line(header, Address::Ramdisk, text)?;
+    address_line(header, Address::Second, text)?;
+    address_line(header, Address::Tags, text)?;
+    address_line(header, Address::Dtb, text)
+}
+
+fn address_line<O: Output>(
+    header: &ImageHeader,
+    which: Address,
+    text: &mut Text<'_, O>,
+) -> Result<(), SectionFault>
+    ensures lines { OnOk result (Prints O.written text.old text.new (spec.address_line (view_of header.now) which)) }
+    ensures refused { IfErr result spec.IsWrite }
+{
+    match address_of(header, which) {
+        Some(address) => print(text, AddressLine(which, address)),
+        None => Ok(()),
+    }
+}
+
+fn os_line<O: Output>(header: &ImageHeader, text: &mut Text<'_, O>) -> Result<(), SectionFault>
+    ensures lines { OnOk result (Prints O.written text.old text.new (spec.os_line (view_of header.now))) }
+    ensures refused { IfErr result spec.IsWrite }
+{
+    match os_version_of(header) {
+        Some(os) => print(text, OsLine(os)),
+        None => Ok(()),
+    }
+}
+
+fn text_line<O: Output>(
+    header: &ImageHeader,
+    which: TextField,
+    text: &mut Text<'_, O>,
+) -> Result<(), SectionFault>
+    ensures lines { OnOk result (Prints O.written text.old text.new (spec.field_line (view_of header.now) which)) }
+    ensures refused { IfErr result spec.IsWrite }
+{
+    match text_field_of(header, which) {
+        Some(field) => print(text, TextLine(which, field)),
+        None => Ok(()),
+    }
+}
+
+fn id_line<O: Output>(header: &ImageHeader, text: &mut Text<'_, O>) -> Result<(), SectionFault>
+    ensures lines { OnOk result (Prints O.written text.old text.new (spec.id_line (view_of header.now))) }
+    ensures refused { IfErr result spec.IsWrite }
+{
+    match id_of(header) {
+        Some(id) => print(text, IdLine(id)),
+        None => Ok(()),
+    }
+}
+
+// Prints one line, whose fault is a write's.
+fn print<O: Output, D: fmt::Display + Drop>(
+    text: &mut Text<'_, O>,
+    line: D,
+) -> Result<(), SectionFault>
+    ensures line { OnOk result (IfSome (with_newline (D.output line)) (Prints O.written text.old text.new)) }
+    ensures refused { IfErr result spec.IsWrite }
+{
+    match text.line(line) {
+        Ok(()) => Ok(()),
+        Err(fault) => Err(SectionFault::Write(fault)),
+    }
+}
