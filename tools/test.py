@@ -1,0 +1,88 @@
+#!/usr/bin/env python3
+"""The gate: `rt ci`, and then the scripts that hold the documents and the built program to what they say.
+
+  tools/test.py [--rt rt] [--program FILE]      (--program: the scripts alone, on a program that was built before)
+
+`rt ci` proves every crate from nothing, tries the must-fail edits, runs the tests, and leaves the program that it built as
+crates/abootimg/out/abootimg. Each script then runs on that program and ends in a line 'N passed, M failed'. The last line of
+all is the sum of these. The exit status is 0 where nothing failed.
+"""
+import argparse
+import os
+import re
+import shutil
+import subprocess
+import sys
+
+sys.dont_write_bytecode = True
+from prove import put_back
+
+HERE = os.path.dirname(os.path.dirname(os.path.abspath(__file__)))
+BUILT = os.path.join(HERE, "crates", "abootimg", "out", "abootimg")
+LAST = re.compile(r"(\d+) passed, (\d+) failed")
+
+# Each script, and whether it runs the program.
+SCRIPTS = (
+    ("tools/check_claims.py", False),
+    ("tools/check_examples.py", True),
+    ("tools/try_program.sh", True),
+)
+
+
+def followed(words, name, **how):
+    """Runs a command, shows what it says but for its last line of counts, and answers the counts."""
+    print(f"== {name}", flush=True)
+    try:
+        ran = subprocess.Popen(
+            words, cwd=HERE, stdin=subprocess.DEVNULL, stdout=subprocess.PIPE, stderr=subprocess.STDOUT, text=True,
+            errors="replace", **how)
+    except OSError as error:
+        print(f"== {name}: {error.strerror}: {words[0]}")
+        return 0, 1
+    last = ""
+    for line in ran.stdout:
+        if last:
+            print(last, end="", flush=True)
+        last = line
+    status = ran.wait()
+    counts = LAST.fullmatch(last.strip())
+    if not counts:
+        print(last, end="")
+    passed, failed = (int(counts[1]), int(counts[2])) if counts else (0, 1)
+    if (status != 0) != (failed != 0):
+        print(f"{name}: its last line and its status {status} do not agree")
+        failed = max(failed, 1)
+    print(f"== {name}: {passed} passed, {failed} failed", flush=True)
+    return passed, failed
+
+
+def main():
+    parser = argparse.ArgumentParser(description=__doc__, formatter_class=argparse.RawDescriptionHelpFormatter)
+    parser.add_argument("--rt", default=os.environ.get("RT", "rt"))
+    parser.add_argument("--program")
+    words = parser.parse_args()
+    counts = []
+    if not words.program:
+        # What a killed build left: rt ci refuses sources that no crate of crates.txt has.
+        put_back()
+        counts.append(followed([words.rt, "ci"], "rt ci"))
+    program = os.path.abspath(words.program or BUILT)
+    for script, needs_program in SCRIPTS:
+        if not os.path.exists(os.path.join(HERE, script)):
+            continue
+        if needs_program and not os.access(program, os.X_OK):
+            print(f"== {script}: not run, since there is no {os.path.relpath(program, HERE)}")
+            counts.append((0, 1))
+        else:
+            environment = {**os.environ, "ABOOTIMG": program, "PYTHONDONTWRITEBYTECODE": "1"}
+            counts.append(followed([os.path.join(HERE, script)], script, env=environment))
+    passed, failed = (sum(it) for it in zip(*counts))
+    if not words.program and not failed:
+        os.makedirs(os.path.join(HERE, "build"), exist_ok=True)
+        shutil.copy(program, os.path.join(HERE, "build", "abootimg"))
+    print(f"{passed} passed, {failed} failed", flush=True)
+    return 1 if failed else 0
+
+
+if __name__ == "__main__":
+    sys.exit(main())
