@@ -1,0 +1,207 @@
+#!/usr/bin/env python3
+"""Holds docs/CLAIMS.md, and what the other documents name, to the repository.
+
+  tools/check_claims.py [--show]
+
+Of the tables of docs/CLAIMS.md:
+  - each definition that is to be believed stands in the file of specs/ that is named, and all of them together have fewer than
+    700 lines;
+  - each claim's function is public, its contract has a clause of each name, the definitions are there, and so is each
+    must-fail edit.
+Of all documents: no line is longer than 120 columns, each file that a link or a path in backquotes names is there, and each
+crate of crates.txt is told of in docs/ARCHITECTURE.md. The last line is 'N passed, M failed'.
+"""
+import argparse
+import functools
+import glob
+import os
+import re
+import sys
+
+HERE = os.path.dirname(os.path.dirname(os.path.abspath(__file__)))
+MOST_LINES = 700
+DOCUMENTS = ("README.md", "CONTRIBUTING.md", "CHANGELOG.md", "docs/*.md")
+
+
+class Checks:
+    def __init__(self, show):
+        self.passed, self.failed, self.show = 0, 0, show
+
+    def that(self, is_so, what):
+        if is_so:
+            self.passed += 1
+            if self.show:
+                print(f"ok: {what}")
+        else:
+            self.failed += 1
+            print(f"NOT SO: {what}")
+        return is_so
+
+
+@functools.lru_cache(maxsize=None)
+def lines_of(path):
+    with open(os.path.join(HERE, path), encoding="utf-8") as text:
+        return text.read().split("\n")
+
+
+def crates():
+    """The crates of this repository, each with those that it stands on, nearest last."""
+    uses = {}
+    for line in lines_of("crates.txt"):
+        line = line.split("#")[0].strip()
+        if line:
+            uses[line.split(":")[0].split()[0]] = line.partition(":")[2].split()
+    found = {}
+
+    def below(name):
+        names = []
+        for it in uses[name]:
+            if it in uses:
+                names += [more for more in [*below(it), it] if more not in names]
+        return names
+
+    for name in uses:
+        found[name] = below(name)
+    return found
+
+
+def tables(path):
+    """The rows of each table, as lists of cells, with the table's first row and the line number."""
+    head = None
+    for number, line in enumerate(lines_of(path), 1):
+        if not line.startswith("|"):
+            head = None
+            continue
+        cells = [it.strip() for it in line.strip().strip("|").split("|")]
+        if head is None:
+            head = cells
+        elif not all(re.fullmatch(r":?-+:?", it) for it in cells):
+            yield head, cells, number
+
+
+def words_in(cell):
+    return re.findall(r"`([^`]+)`", cell)
+
+
+def definition(crate, file, name):
+    """How many lines a definition has in a file of specs/, with the remark above it, or None."""
+    path = f"crates/{crate}/specs/{file}.antt"
+    if not os.path.isfile(os.path.join(HERE, path)):
+        return None
+    text = lines_of(path)
+    start = re.compile(r"(?:(?:unfoldable|abbrev|pub|opaque|data|record) )*pub (?:abbrev |data |record )?" + re.escape(name) + r"(?=[ :]|$)")
+    for at, line in enumerate(text):
+        if start.match(line):
+            first = at
+            while first and text[first - 1].startswith("--") and not text[first - 1].startswith("-- ----"):
+                first -= 1
+            last = at
+            while last + 1 < len(text) and text[last + 1].strip():
+                last += 1
+            return last - first + 1
+    return None
+
+
+def contract(crate, function):
+    """The names of the clauses of a public function, '-' for one without a name, or None where there is no such function."""
+    owner, _, name = function.rpartition("::")
+    head = re.compile(rf"(\s*)(?:pub (?:const )?|final )?fn {re.escape(name)}\b")
+    for path in sorted(glob.glob(os.path.join(HERE, "crates", crate, "src", "**", "*.rt"), recursive=True)):
+        inside = ""
+        text = lines_of(os.path.relpath(path, HERE))
+        for at, line in enumerate(text):
+            if re.match(r"(?:pub )?(?:impl|trait)\b", line):
+                inside = line
+            elif line.startswith("}"):
+                inside = ""
+            found = head.match(line)
+            if not found or (owner and not re.search(rf"\b{re.escape(owner)}\b", inside)) or (not owner and found[1]):
+                continue
+            if "pub " not in line and "trait" not in inside:
+                continue
+            clauses = []
+            for more in text[at:]:
+                clause = re.match(r"\s*(?:ensures|requires)(?: (\w+))? \{", more)
+                if clause:
+                    clauses.append(clause[1] or "-")
+                elif re.match(rf"{found[1]}\{{|.*\{{\}}$", more) or (clauses and re.match(r"\s*(?:///|(?:pub )?fn )", more)):
+                    break
+            return clauses
+    return None
+
+
+def find_edit(name, names):
+    """Where a must-fail edit stands: a crate, or None."""
+    return next((it for it in names if os.path.isfile(os.path.join(HERE, "crates", it, "must-fail", name + ".edit"))), None)
+
+
+def check_definitions(checks, rows):
+    total = 0
+    for cells, number in rows:
+        names, places = words_in(cells[0]), words_in(cells[1])
+        crate, _, file = places[0].partition("/") if places else ("", "", "")
+        for name in names:
+            lines = definition(crate, file, name)
+            total += lines or 0
+            checks.that(lines, f"line {number}: {crate}/specs/{file}.antt defines {name}")
+    checks.that(0 < total < MOST_LINES, f"the definitions to be believed have {total} lines, fewer than {MOST_LINES}")
+
+
+def check_claims(checks, rows, under):
+    function = ""
+    for cells, number in rows:
+        crate = ""
+        if words_in(cells[1]):
+            function = words_in(cells[1])[0]
+        crate, _, name = function.partition("::")
+        clauses = contract(crate, name) if crate in under else None
+        where = f"line {number}: {function}"
+        if not checks.that(clauses is not None, f"{where} is a public function with a contract"):
+            continue
+        for clause in words_in(cells[2]):
+            checks.that(clause in clauses, f"{where} has a clause {clause}")
+        for word in words_in(cells[3]):
+            file, _, defined = word.rpartition(".")
+            places = [it for it in [crate, *reversed(under[crate])] if definition(it, file, defined)]
+            checks.that(places, f"{where}: {word} is defined in {crate} or below it")
+        for edit in words_in(cells[4]):
+            checks.that(find_edit(edit, [crate, *under]), f"{where}: there is a must-fail edit {edit}")
+
+
+def check_documents(checks, under):
+    for path in sorted(it for pattern in DOCUMENTS for it in glob.glob(os.path.join(HERE, pattern))):
+        path = os.path.relpath(path, HERE)
+        long = [number for number, line in enumerate(lines_of(path), 1) if len(line) > 120]
+        checks.that(not long, f"{path} has no line of more than 120 columns{': ' + str(long[:5]) if long else ''}")
+        text = "\n".join(lines_of(path))
+        text = re.sub(r"(?ms)^```.*?^```$", "", text)
+        links = {it.partition("#")[0] for it in re.findall(r"\]\(([^)\s]+)\)", text) if not re.match(r"[a-z]+:|#", it)}
+        folder = os.path.dirname(os.path.join(HERE, path))
+        for link in sorted(links):
+            checks.that(os.path.exists(os.path.join(folder, link)), f"{path}: the link {link} leads to a file")
+        paths = set(re.findall(r"`((?:crates|docs|tools|bench|examples)/[\w./-]+)`", text))
+        for it in sorted(paths):
+            checks.that(os.path.exists(os.path.join(HERE, it)), f"{path}: {it} is there")
+    told = "\n".join(lines_of("docs/ARCHITECTURE.md"))
+    for crate in under:
+        checks.that(f"`{crate}`" in told, f"docs/ARCHITECTURE.md tells of the crate {crate}")
+
+
+def main():
+    parser = argparse.ArgumentParser(description=__doc__, formatter_class=argparse.RawDescriptionHelpFormatter)
+    parser.add_argument("--show", action="store_true", help="print each check, also where it passes")
+    checks = Checks(parser.parse_args().show)
+    under = crates()
+    rows = list(tables("docs/CLAIMS.md"))
+    definitions = [(cells, number) for head, cells, number in rows if head[0] == "definitions"]
+    claims = [(cells, number) for head, cells, number in rows if head[0] == "claim"]
+    checks.that(definitions and claims, "docs/CLAIMS.md has tables of definitions and of claims")
+    check_definitions(checks, definitions)
+    check_claims(checks, claims, under)
+    check_documents(checks, under)
+    print(f"{checks.passed} passed, {checks.failed} failed")
+    return 1 if checks.failed else 0
+
+
+if __name__ == "__main__":
+    sys.exit(main())
