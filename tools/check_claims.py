@@ -180,7 +180,8 @@ def check_documents(checks, under):
         for link in sorted(links):
             checks.that(os.path.exists(os.path.join(folder, link)), f"{path}: the link {link} leads to a file")
         paths = set(re.findall(r"`((?:crates|docs|tools|bench|examples)/[\w./-]+)`", text))
-        for it in sorted(paths):
+        paths |= {"crates/" + it for it in re.findall(r"`(\w+/src/[\w/]+\.rt)`", text)}
+        for it in sorted(it for it in paths if "NAME" not in it):
             checks.that(os.path.exists(os.path.join(HERE, it)), f"{path}: {it} is there")
     told = "\n".join(lines_of("docs/ARCHITECTURE.md"))
     for crate in under:
