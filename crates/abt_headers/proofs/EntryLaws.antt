@@ -1,8 +1,10 @@
 -- An entry that is written is read, and what is read is spelled so.
-use Rattle.std.proofs.Common.{◌≡◌, ℕ, zero, suc, ◌+◌, ◌*◌, ◌<◌, ◌≤◌, ◌^◌, List, [], ◌∷◌, ◌++◌, length, take, drop, get_or, set, refl, sym, ap, ◌∙◌, append-nil, arith, length-append}
-use Rattle.std.proofs.lemmas.List.{drop_all, take_more, take_more_set, map-append, length-take-le}
+use Rattle.std.proofs.Common.{◌≡◌, ℕ, zero, suc, ◌+◌, ◌*◌, ◌<◌, ◌≤◌, ◌^◌, List, [], ◌∷◌, ◌++◌, length, take, drop, get_or, refl, sym, ap, ◌∙◌, append-nil, arith, length-append}
+use Rattle.std.proofs.lemmas.List.{drop_all, drop-drop}
+use Rattle.std.proofs.lemmas.List.Concat.{flat_map-cons}
+use Rattle.std.specs.List.{flat_map}
+use Rattle.std.specs.Prelude.{slice_index}
 use Rattle.byteorder.specs.Endian.{little_bytes}
-use Rattle.byteorder.specs.Numbers.{length-bytes_low_first}
 use Rattle.abt_headers.specs.declared.entry.RamdiskEntry.{RamdiskEntry}
 use Rattle.abt_headers.specs.Field.{number_at, joined}
 use Rattle.abt_headers.specs.Entry.{words_at, words_fields, entry_fields, entry_record, entry_at, EntryFits}
@@ -49,24 +51,18 @@ pub record_again : (e : RamdiskEntry) → EntryFits e → entry_at (entry_record
 unfolding entry_record
 record_again e fits = entry_again e (joined (entry_fields e)) fits (sym (append-nil (joined (entry_fields e))) ∙ joined_rest (entry_fields e) [])
 
-words_snoc : (i p : ℕ) (x : List ℕ) → words_at p (i + 1) x ≡ words_at p i x ++ (number_at (p + 4 * i) 4 x ∷ [])
-words_snoc zero p x = let e : p ≡ p + 4 * 0 = omega arith in ap (λ (q : ℕ). number_at q 4 x ∷ []) e
-words_snoc (suc i) p x =
-    let same : (p + 4) + 4 * i ≡ p + 4 * suc i = omega arith in
-    let r = words_snoc i (p + 4) x in
-    let next : suc i + 1 ≡ suc (i + 1) = omega arith in
-    ap (λ (k : ℕ). words_at p k x) next
-    ∙ ap (λ (l : List ℕ). number_at p 4 x ∷ l) (r ∙ ap (λ (q : ℕ). words_at (p + 4) i x ++ (number_at q 4 x ∷ [])) same)
+-- numbers that stand one after another are the words there
+pub words_read : (ws : List ℕ) (p : ℕ) (x : List ℕ) → ((k : ℕ) → k < length ws → slice_index ws k ≡ number_at (4 * k) 4 (drop p x)) → ws ≡ words_at p (length ws) x
+words_read [] p x h = refl
+words_read (w ∷ ws) p x h =
+    let here : w ≡ number_at p 4 x = h 0 (omega arith) in
+    let step : (k : ℕ) → drop (4 * suc k) (drop p x) ≡ drop (4 * k) (drop (p + 4) x) = λ k. drop-drop (4 * suc k) p x ∙ ap (λ (n : ℕ). drop n x) (omega arith) ∙ sym (drop-drop (4 * k) (p + 4) x) in
+    let rest = words_read ws (p + 4) x (λ k lt. h (suc k) (omega arith) ∙ ap (λ (l : List ℕ). number_at 0 4 l) (step k)) in
+    ap (λ (v : ℕ). v ∷ ws) here ∙ ap (λ (l : List ℕ). number_at p 4 x ∷ l) rest
 
-pub word_more : (words bytes : List ℕ) (i v : ℕ) → i < length words → v ≡ number_at (44 + 4 * i) 4 bytes → take i words ≡ words_at 44 i bytes → take (i + 1) (set words i v) ≡ words_at 44 (i + 1) bytes
-word_more words bytes i v h e before =
-    take_more_set words i v h ∙ ap (λ (l : List ℕ). l ++ (v ∷ [])) before ∙ ap (λ (m : ℕ). words_at 44 i bytes ++ (m ∷ [])) e ∙ sym (words_snoc i 44 bytes)
-
-words_joined : (ws : List ℕ) (i : ℕ) → i < length ws → joined (words_fields (take (i + 1) ws)) ≡ joined (words_fields (take i ws)) ++ little_bytes 4 (get_or ws i 0)
-words_joined ws i h =
-    ap (λ (l : List ℕ). joined (words_fields l)) (take_more ws i 0 h)
-    ∙ ap joined (map-append (λ (w : ℕ). little_bytes 4 w) (take i ws) (get_or ws i 0 ∷ []))
-    ∙ joined-append (words_fields (take i ws)) (little_bytes 4 (get_or ws i 0) ∷ [])
+pub words_flat : (ws : List ℕ) → flat_map (little_bytes 4) ws ≡ joined (words_fields ws)
+words_flat [] = refl
+words_flat (w ∷ ws) = flat_map-cons (little_bytes 4) w ws ∙ ap (λ (l : List ℕ). little_bytes 4 w ++ l) (words_flat ws)
 
 words_length : (ws : List ℕ) → length (joined (words_fields ws)) ≡ 4 * length ws
 words_length [] = omega arith
@@ -78,15 +74,3 @@ record_length e fits =
     let n : length e.name ≡ 32 = fits.name in
     let w : length (joined (words_fields e.board_id)) ≡ 64 = words_length e.board_id ∙ ap (λ (k : ℕ). 4 * k) fits.board_long in
     simp length-append (omega arith)
-
-pub bytes_more : (ws base now new b : List ℕ) (i : ℕ) → i < length ws → b ≡ little_bytes 4 (get_or ws i 0) → now ≡ joined (words_fields (take i ws)) ++ drop (4 * i) base → new ≡ take (4 * i) now ++ (b ++ drop (4 * i + length b) now)
-    → new ≡ joined (words_fields (take (i + 1) ws)) ++ drop (4 * (i + 1)) base
-bytes_more ws base now new b i h e before is =
-    let front = joined (words_fields (take i ws)) in
-    let long : length front ≡ 4 * i = words_length (take i ws) ∙ ap (λ (n : ℕ). 4 * n) (length-take-le i ws (omega arith)) in
-    let four : length b ≡ 4 = ap length e ∙ length-bytes_low_first 0 4 (get_or ws i 0) in
-    let last : 4 * i + 4 ≡ 4 * (i + 1) = omega arith in
-    let more = put_more front base now new b (4 * i) 4 long four before is in
-    more ∙ ap (λ (l : List ℕ). (front ++ l) ++ drop (4 * i + 4) base) e
-    ∙ ap (λ (l : List ℕ). l ++ drop (4 * i + 4) base) (sym (words_joined ws i h))
-    ∙ ap (λ (n : ℕ). joined (words_fields (take (i + 1) ws)) ++ drop n base) last

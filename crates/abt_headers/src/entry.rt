@@ -29,14 +29,11 @@ pub struct RamdiskEntry {
 }
 
 /// The sixteen numbers from place 44 on.
-fn words_from(bytes: &[u8]) -> [u32; 16]
-    requires { 108 ≤ length bytes.now }
+fn words_from(bytes: &[u8; 108]) -> [u32; 16]
     ensures { result ≡ words_at 44 16 bytes.now }
 {
     let mut words = [0; 16];
-    for i in 0..16usize {
-        words[i] = u32_at(bytes, 44 + 4 * i);
-    }
+    LittleEndian::read_u32_into(&bytes[44..], &mut words);
     words
 }
 
@@ -45,15 +42,12 @@ fn words_bytes(words: &[u32; 16]) -> [u8; 64]
     ensures { result ≡ joined (words_fields words.now) }
 {
     let mut out = [0; 64];
-    for i in 0..16usize {
-        put(&mut out, 4 * i, &words[i].to_le_bytes());
-    }
+    LittleEndian::write_u32_into(words, &mut out);
     out
 }
 
 #[tactic(auto, unfolding(crate::specs::Entry::entry_at))]
-fn entry_from(bytes: &[u8]) -> RamdiskEntry
-    requires { 108 ≤ length bytes.now }
+fn entry_from(bytes: &[u8; 108]) -> RamdiskEntry
     ensures { result ≡ entry_at bytes.now }
 {
     RamdiskEntry {

@@ -14,7 +14,7 @@ use crate::vendor_reading::read_vendor_header;
 use crate::vendor_writing::{vendor_header_fits, write_vendor_header};
 
 /// The magic `VNDRBOOT`, read as a little-endian number.
-pub(crate) const VENDOR_MAGIC: u64 = 0x544f_4f42_5244_4e56;
+pub const VENDOR_MAGIC: u64 = 0x544f_4f42_5244_4e56;
 
 /// What both versions begin with: `vendor_boot_img_hdr_v3` of `bootimg.h`, without `magic` and
 /// `header_version`, which the variant of `VendorHeader` fixes. All sizes are in bytes, and all
