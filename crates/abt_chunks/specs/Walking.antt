@@ -17,6 +17,7 @@ use Rattle.abt_chunks.specs.declared.walk.Turn.{Turn}
 use Rattle.abt_chunks.specs.declared.walk.Turn.TheVariants as turns
 use Rattle.abt_chunks.specs.declared.progress.ChunkInfo.{ChunkInfo}
 use Rattle.abt_chunks.specs.Listing.{Listing, listing_from, listing_of, no_word}
+use Rattle.abt_chunks.specs.Cause.{UnlessCut}
 use Rattle.abt_chunks.specs.Ahead.{Ahead, stopping, before, somes, fills, gaps, seen, walk, due_of, left_of}
 
 -- what the bytes still to be read give
@@ -281,8 +282,10 @@ MayEnd phases.Body s = at_end s ≡ true
 MayEnd phases.Done s = Unit {0}
 MayEnd (phases.Failed f) s = ⊥
 
+-- and so is it refused for what it says, save for its header
 abbrev pub Closes : Part → Phase → Walk → Type 0
 Closes parts.End p s = MayEnd p s
+Closes (parts.Fault f) phases.Body s = UnlessCut f (at_end s ≡ true)
 Closes q p s = Unit {0}
 
 -- of a fill and of a gap that are given whole nothing is left

@@ -2,7 +2,9 @@
 
 ghost use Rattle.std.specs.Prelude.{◌≡◌, ◌<◌, ◌≤◌, ◌+◌, ◌-◌, ◌*◌, ◌++◌, ℕ, List, IsTrue, OnOk, is_err, length, take, drop, max};
 ghost use Rattle.abt_sparse.specs.Block.{laid};
+ghost use Rattle.abt_sparse.specs.Cause.{full_answered};
 ghost use Rattle.abt_chunks.specs.Ahead.{finish};
+ghost use Rattle.abt_chunks.specs.Cause.{Clean, wanted};
 ghost use Rattle.abt_chunks.specs.Walking.{IsOver, ahead, owed, todo};
 ghost use Rattle.abt_chunks.specs.Expanding.{Begins, IsGoing, OnMore, Rises, Stands, Unless, answer_of};
 ghost use Rattle.abt_chunks.specs.Whole.{Begun, Expands};
@@ -52,6 +54,7 @@ impl Expander {
         m: &mut Meter,
     ) -> Result<Progress, SparseFault>
         ensures asked { I.given input.old ≤ I.given input.new × I.given input.new ≤ I.given input.old + 65536 }
+        ensures wanted { I.given input.new - I.given input.old ≤ wanted self.old.walk }
         ensures present { IsTrue I.tells → I.given input.new - I.given input.old ≤ length (I.remaining input.old) }
         ensures rest { IsTrue I.tells → I.remaining input.new ≡ drop (I.given input.new - I.given input.old) (I.remaining input.old) }
         // What is written, finished by what is still to be read, is the whole.
@@ -63,6 +66,10 @@ impl Expander {
         ensures grown { length (O.written output.old) ≤ length (O.written output.new) }
         ensures stands { Stands result self.new.walk.phase }
         ensures cause { IsGoing self.old.walk.phase → Rises result (I.read_faults input.old) (I.read_faults input.new) (O.write_faults output.old) (O.write_faults output.new) }
+        ensures clean { Clean result (I.read_faults input.old) (I.read_faults input.new)
+            (O.write_faults output.old) (O.write_faults output.new) }
+        ensures full_faults { IsGoing self.old.walk.phase →
+            O.full_faults output.new ≡ O.full_faults output.old + full_answered result }
         ensures again { IsOver self.old.walk.phase → (self.new.walk ≡ self.old.walk) × (input.new ≡ input.old) × (output.new ≡ output.old) }
         ensures fewer { OnMore result (todo self.new.walk < todo self.old.walk) }
         ensures read_frame { I.read_frame input.new ≡ I.read_frame input.old }
@@ -107,6 +114,9 @@ pub fn expand<I: Input, O: Output>(
     // What is written is a beginning of what the bytes read give.
     ensures begun { IsTrue I.tells → Begun (O.written output.old) (O.written output.new) (take (I.given input.new - I.given input.old) (I.remaining input.old)) }
     ensures cause { Rises result (I.read_faults input.old) (I.read_faults input.new) (O.write_faults output.old) (O.write_faults output.new) }
+    ensures clean { Clean result (I.read_faults input.old) (I.read_faults input.new)
+        (O.write_faults output.old) (O.write_faults output.new) }
+    ensures full_faults { O.full_faults output.new ≡ O.full_faults output.old + full_answered result }
     ensures given { I.given input.old ≤ I.given input.new }
     ensures grown { length (O.written output.old) ≤ length (O.written output.new) }
     ensures read_frame { I.read_frame input.new ≡ I.read_frame input.old }

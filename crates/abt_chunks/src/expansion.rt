@@ -2,6 +2,7 @@
 
 ghost use Rattle.std.specs.Prelude.{◌≡◌, ◌<◌, ◌≤◌, ◌+◌, ◌-◌, ◌*◌, ◌++◌, OnOk, OnErr, length, take, replicate};
 ghost use Rattle.std.specs.List.{concat};
+ghost use Rattle.abt_io.specs.Count.{full_of};
 ghost use Rattle.abt_chunks.specs.Expanding.{laid_by, IsQuiet, IsWords, IsWritable};
 
 use crate::walk::Part;
@@ -23,6 +24,8 @@ pub fn write_part<O: Output>(
     ensures frame { O.write_frame output.new ≡ O.write_frame output.old }
     ensures faults { O.write_faults output.old ≤ O.write_faults output.new }
     ensures cause { OnErr result (O.write_faults output.old < O.write_faults output.new) }
+    ensures clean { OnOk result (O.write_faults output.new ≡ O.write_faults output.old) }
+    ensures full_faults { O.full_faults output.new ≡ O.full_faults output.old + full_of result }
     ensures calls { O.writes output.new + 2 * length (O.written output.old) ≤ O.writes output.old + 2 * length (O.written output.new) + 1 }
     ensures turns { m.new.turns.number + 2 * length (O.written output.old) ≤ m.old.turns.number + 2 * length (O.written output.new) + 16 }
     ensures few { OnOk result (m.new.turns.number + 2 * length (O.written output.old) ≤ m.old.turns.number + 2 * length (O.written output.new) + 1) }
@@ -53,6 +56,8 @@ fn write_words<O: Output>(
     ensures frame { O.write_frame output.new ≡ O.write_frame output.old }
     ensures faults { O.write_faults output.old ≤ O.write_faults output.new }
     ensures cause { OnErr result (O.write_faults output.old < O.write_faults output.new) }
+    ensures clean { OnOk result (O.write_faults output.new ≡ O.write_faults output.old) }
+    ensures full_faults { O.full_faults output.new ≡ O.full_faults output.old + full_of result }
     ensures calls { O.writes output.new + 2 * length (O.written output.old) ≤ O.writes output.old + 2 * length (O.written output.new) + 1 }
     ensures turns { m.new.turns.number + 2 * length (O.written output.old) ≤ m.old.turns.number + 2 * length (O.written output.new) + 16 }
     ensures few { OnOk result (m.new.turns.number + 2 * length (O.written output.old) ≤ m.old.turns.number + 2 * length (O.written output.new)) }

@@ -1,6 +1,8 @@
 //! The chunks of a sparse image, one after the other.
 
-ghost use Rattle.std.specs.Prelude.{◌≡◌, ◌<◌, ◌≤◌, ◌+◌, ◌-◌, ◌*◌, IsTrue, MatchResult, OnOk, true, false, length, drop, max};
+ghost use Rattle.std.specs.Prelude.{◌≡◌, ◌<◌, ◌≤◌, ◌+◌, ◌-◌, ◌*◌, IsTrue, IfErr, MatchResult, OnOk, true, false, length, drop, max};
+ghost use Rattle.abt_sparse.specs.Cause.{full_answered};
+ghost use Rattle.abt_chunks.specs.Cause.{Clean, UnlessCut, wanted};
 ghost use Rattle.abt_chunks.specs.Expanding.{IsGoing, OnDone, OnMore, Rises, Stands, UnlessDevice};
 ghost use Rattle.abt_chunks.specs.Listing.{headless, listing_of};
 ghost use Rattle.abt_chunks.specs.Walking.{IsOver, MayEnd, Numbers, at_end, info_at, is_between, todo};
@@ -34,8 +36,13 @@ fn step<I: Input>(
     ensures lists { IsTrue I.tells → ListsTo result walk.old walk.new (I.remaining input.old) (I.remaining input.new) }
     ensures numbers { OnMore result (Numbers walk.old.phase walk.old walk.new (I.given input.new - I.given input.old)) }
     ensures closes { OnDone result (MayEnd walk.old.phase walk.old) }
+    ensures refuses { IfErr result (λ f. walk.old.phase ≡ Phase.Body → UnlessCut f (at_end walk.old ≡ true)) }
+    ensures wanted { I.given input.new - I.given input.old ≤ wanted walk.old }
     ensures stands { Stands result walk.new.phase }
+    ensures header { walk.old.phase ≡ Phase.Body → walk.new.header ≡ walk.old.header }
     ensures cause { IsGoing walk.old.phase → Rises result (I.read_faults input.old) (I.read_faults input.new) 0 0 }
+    ensures clean { Clean result (I.read_faults input.old) (I.read_faults input.new) 0 0 }
+    ensures failed { IsGoing walk.old.phase → full_answered result ≡ 0 }
     ensures again { IsOver walk.old.phase → (walk.new ≡ walk.old) × (input.new ≡ input.old) }
     ensures fewer { OnMore result (todo walk.new < todo walk.old) }
     ensures read_frame { I.read_frame input.new ≡ I.read_frame input.old }
@@ -66,7 +73,11 @@ fn pass<I: Input>(
     ensures passes { IsTrue I.tells → Passes result walk.old walk.new (I.remaining input.old) (I.remaining input.new) }
     ensures settles { Settles result walk.new }
     ensures index { OnOk result (walk.new.index ≡ walk.old.index) }
+    ensures header { walk.new.header ≡ walk.old.header }
+    ensures cut { IfErr result (λ f. UnlessCut f ⊥) }
     ensures cause { Rises result (I.read_faults input.old) (I.read_faults input.new) 0 0 }
+    ensures clean { Clean result (I.read_faults input.old) (I.read_faults input.new) 0 0 }
+    ensures failed { full_answered result ≡ 0 }
     ensures read_frame { I.read_frame input.new ≡ I.read_frame input.old }
     ensures read_faults { I.read_faults input.old ≤ I.read_faults input.new }
     ensures reads { I.reads input.new ≤ I.reads input.old + 2 * (I.given input.new - I.given input.old) + 1 }
@@ -113,7 +124,11 @@ impl Chunks {
         ensures present { IsTrue I.tells → I.given input.new - I.given input.old ≤ length (I.remaining input.old) }
         ensures rest { IsTrue I.tells → I.remaining input.new ≡ drop (I.given input.new - I.given input.old) (I.remaining input.old) }
         ensures opens { IsTrue I.tells → MatchResult result (λ chunks. Opens chunks.walk (I.remaining input.old) (I.remaining input.new)) (λ fault. UnlessDevice fault (listing_of (I.remaining input.old) ≡ headless fault)) }
+        // A header that is refused for what it says is known once its 28 bytes have been read, and no more are.
+        ensures bounded { IfErr result (λ f. UnlessCut f (I.given input.new ≤ I.given input.old + 28)) }
         ensures cause { Rises result (I.read_faults input.old) (I.read_faults input.new) 0 0 }
+        ensures clean { Clean result (I.read_faults input.old) (I.read_faults input.new) 0 0 }
+        ensures failed { full_answered result ≡ 0 }
         ensures read_frame { I.read_frame input.new ≡ I.read_frame input.old }
         ensures read_faults { I.read_faults input.old ≤ I.read_faults input.new }
         ensures calls { I.reads input.new ≤ I.reads input.old + 8 * (I.given input.new - I.given input.old) + 8 }
@@ -154,7 +169,12 @@ impl Chunks {
         ensures rest { IsTrue I.tells → I.remaining input.new ≡ drop (I.given input.new - I.given input.old) (I.remaining input.old) }
         ensures lists { IsTrue I.tells → Lists_next result self.old.walk self.new.walk (I.remaining input.old) (I.remaining input.new) }
         ensures stands { Stands_next result self.new.walk.phase }
+        ensures header { self.new.walk.header ≡ self.old.walk.header }
+        // A chunk that is refused for what it says is known once its first 12 bytes have been read, and no more are.
+        ensures bounded { IfErr result (λ f. UnlessCut f (I.given input.new ≤ I.given input.old + 12)) }
         ensures cause { IsGoing self.old.walk.phase → Rises result (I.read_faults input.old) (I.read_faults input.new) 0 0 }
+        ensures clean { Clean result (I.read_faults input.old) (I.read_faults input.new) 0 0 }
+        ensures failed { IsGoing self.old.walk.phase → full_answered result ≡ 0 }
         ensures again { IsOver self.old.walk.phase → (self.new.walk ≡ self.old.walk) × (input.new ≡ input.old) }
         ensures read_frame { I.read_frame input.new ≡ I.read_frame input.old }
         ensures read_faults { I.read_faults input.old ≤ I.read_faults input.new }

@@ -8,6 +8,8 @@
 
 ghost use Rattle.std.specs.Prelude.{◌≡◌, ◌≤◌, ◌<◌, ◌+◌, ℕ, List, [], length, IsTrue, true, false, ◌-◌, take, drop};
 ghost use Rattle.abt_sparse.specs.Reading.{kind_at, number_at};
+ghost use Rattle.abt_chunks.specs.Cause.{CleanPart, full_in_part, wanted};
+ghost use Rattle.abt_chunks.specs.Expanding.{IsGoing};
 ghost use Rattle.abt_chunks.specs.Walking.{Says, Shows, Lists, Numbers, Empties, Closes, Leaves, Moved, Within, Caused, Told, AtTurn, IsOver, ask_of, needed_of, todo, place_of, upto_of, given_by, is_fault, goes_on};
 
 use crate::kinds::{counted_blocks, has_word, laid_words, length_of_data, raw_bytes};
@@ -365,6 +367,7 @@ impl Walk {
         // What was received, and what is left of the input.
         ensures received { I.given input.new ≡ I.given input.old + result.received }
         ensures small { result.received ≤ 65536 }
+        ensures wanted { result.received ≤ wanted self.old }
         ensures present { IsTrue I.tells → result.received ≤ length (I.remaining input.old) }
         ensures rest { IsTrue I.tells → I.remaining input.new ≡ drop result.received (I.remaining input.old) }
         ensures window { IsTrue I.tells → take result.received w.new.bytes ≡ take result.received (I.remaining input.old) }
@@ -379,6 +382,8 @@ impl Walk {
         ensures closes { Closes result.part self.old.phase self.old }
         ensures header { self.old.phase ≡ Phase.Body → self.new.header ≡ self.old.header }
         ensures cause { Caused result.part self.old.phase (I.read_faults input.old) (I.read_faults input.new) }
+        ensures clean { CleanPart result.part (I.read_faults input.old) (I.read_faults input.new) }
+        ensures failed { IsGoing self.old.phase → full_in_part result.part ≡ 0 }
         ensures fewer { IsTrue (goes_on result.part) → todo self.new < todo self.old }
         ensures numbers { IsTrue (goes_on result.part) → Numbers self.old.phase self.old self.new result.received }
         ensures place { IsTrue (goes_on result.part) → place_of self.new ≡ place_of self.old + given_by result.part }

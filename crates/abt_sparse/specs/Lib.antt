@@ -5,6 +5,7 @@ pub mod Chunk
 pub mod Reading
 pub mod Fails
 pub mod Gains
+pub mod Cause
 pub mod Number
 pub mod View
 pub mod ChunkHead

@@ -22,6 +22,8 @@ steps-preserved g c =
     let more : c.step.result ≡ Ok More = c.in-Ok-More.is ∙ ap (λ (p : Progress). let r : Result Progress SparseFault = Ok p in r) c.in-Ok-More.field-0-is in
     let few : c.step.new.m.turns.number ≤ c.tick.new.self.turns.number + (g.I.Input.given c.step.new.input - g.I.Input.given c.steps.input) + 2 * (length (g.O.Output.written c.step.new.output) - length (g.O.Output.written c.steps.output)) + 2 = rw more at c.step.ensures.few in
     let progress : 0 < (g.I.Input.given c.step.new.input - g.I.Input.given c.steps.input) + (length (g.O.Output.written c.step.new.output) - length (g.O.Output.written c.steps.output)) = rw more at c.step.ensures.progress in
+    let clean : (g.I.Input.read_faults c.step.new.input ≡ g.I.Input.read_faults c.steps.input) × (g.O.Output.write_faults c.step.new.output ≡ g.O.Output.write_faults c.steps.output) = rw more at c.step.ensures.clean in
+    let full : g.O.Output.full_faults c.step.new.output ≡ g.O.Output.full_faults c.steps.output + 0 = rw more at (c.step.ensures.full_faults i.going) in
     let k = g.I.Input.given c.steps.input - g.I.Input.given c.args.input.now in
     let n = g.I.Input.given c.step.new.input - g.I.Input.given c.steps.input in
     let j = g.I.Input.given c.step.new.input - g.I.Input.given c.args.input.now in
@@ -40,8 +42,9 @@ steps-preserved g c =
       going = rw stands tt;
       read_frame = e.read_frame ∙ i.read_frame;
       write_frame = e.write_frame ∙ i.write_frame;
-      read_faults = omega arith;
-      write_faults = omega arith;
+      read_faults = clean.0 ∙ i.read_faults;
+      write_faults = clean.1 ∙ i.write_faults;
+      full_faults = omega (arith, full, i.full_faults);
       reads = omega arith;
       writes = omega arith;
       turns = omega arith;
@@ -100,3 +103,9 @@ returns-in-Err-clause-expands g c tells =
     refused_found rem (outcome rem) c.in-Err.fault (g.O.Output.written c.args.output.now) (g.O.Output.written c.step.new.output) (is_so rem (g.met.I.Input.are_bytes c.args.input.now tells)) (refusal (outcome rem) c.in-Err.fault (g.O.Output.written c.args.output.now) (g.O.Output.written c.step.new.output)
     (unless_map c.in-Err.fault _ _ (λ step. rw (joined, e.stands, append-nil) at (told_more (g.O.Output.written c.args.output.now) (g.O.Output.written c.steps.output) (g.O.Output.written c.step.new.output) rem (g.I.Input.remaining c.steps.input)
     c.steps.machine.walk c.step.new.self.walk k n j left whole (i.rest tells) (omega arith) (i.told tells) step)) (e.told tells left (λ z. refl))))
+
+pub returns-in-Err-clause-clean : goal.returns-in-Err-clause-clean
+returns-in-Err-clause-clean g c = let i = c.steps.invariant in rw (i.read_faults, i.write_faults) at c.in-Err.ensures.clean
+
+pub returns-in-Err-clause-full_faults : goal.returns-in-Err-clause-full_faults
+returns-in-Err-clause-full_faults g c = let i = c.steps.invariant in rw i.full_faults at (c.in-Err.ensures.full_faults i.going)

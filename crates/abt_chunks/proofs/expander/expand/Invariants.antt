@@ -21,8 +21,9 @@ invariant-steps g l =
       going : IsGoing l.machine.walk.phase;
       read_frame : g.I.Input.read_frame l.input ≡ g.I.Input.read_frame l.fn.input;
       write_frame : g.O.Output.write_frame l.output ≡ g.O.Output.write_frame l.fn.output;
-      read_faults : g.I.Input.read_faults l.fn.input ≤ g.I.Input.read_faults l.input;
-      write_faults : g.O.Output.write_faults l.fn.output ≤ g.O.Output.write_faults l.output;
+      read_faults : g.I.Input.read_faults l.input ≡ g.I.Input.read_faults l.fn.input;
+      write_faults : g.O.Output.write_faults l.output ≡ g.O.Output.write_faults l.fn.output;
+      full_faults : g.O.Output.full_faults l.output ≡ g.O.Output.full_faults l.fn.output;
       reads : g.I.Input.reads l.input + 4 * got l.fn.input + 4 * length (written l.fn.output) ≤ g.I.Input.reads l.fn.input + 4 * got l.input + 4 * length (written l.output);
       writes : g.O.Output.writes l.output + 4 * got l.fn.input + 4 * length (written l.fn.output) ≤ g.O.Output.writes l.fn.output + 4 * got l.input + 4 * length (written l.output);
       turns : l.m.turns.number + 8 * got l.fn.input + 8 * length (written l.fn.output) ≤ l.fn.m.turns.number + 8 * got l.input + 8 * length (written l.output);

@@ -9,7 +9,8 @@ invariant-writes g l = record {
   written : g.O.Output.written l.output ≡ g.O.Output.written l.fn.output ++ concat (replicate l.done l.fn.word);
   word : length l.fn.word ≡ 4;
   frame : g.O.Output.write_frame l.output ≡ g.O.Output.write_frame l.fn.output;
-  faults : g.O.Output.write_faults l.fn.output ≤ g.O.Output.write_faults l.output;
+  faults : g.O.Output.write_faults l.output ≡ g.O.Output.write_faults l.fn.output;
+  full : g.O.Output.full_faults l.output ≡ g.O.Output.full_faults l.fn.output;
   calls : g.O.Output.writes l.output ≤ g.O.Output.writes l.fn.output + 8 * l.done;
   turns : l.m.turns.number ≤ l.fn.m.turns.number + 14 + 6 * l.done;
   few : l.m.turns.number ≤ l.fn.m.turns.number + l.n + 6 * l.done;

@@ -16,7 +16,8 @@ invariant-steps g l =
       body : l.walk.phase ≡ phases.Body;
       index : l.walk.index ≡ l.fn.walk.index;
       frame : g.I.Input.read_frame l.input ≡ g.I.Input.read_frame l.fn.input;
-      faults : g.I.Input.read_faults l.fn.input ≤ g.I.Input.read_faults l.input;
+      header : l.walk.header ≡ l.fn.walk.header;
+      faults : g.I.Input.read_faults l.input ≡ g.I.Input.read_faults l.fn.input;
       reads : g.I.Input.reads l.input + 2 * got l.fn.input ≤ g.I.Input.reads l.fn.input + 2 * got l.input + 1;
       reads_open : at_end l.walk ≡ false → g.I.Input.reads l.input + 2 * got l.fn.input ≤ g.I.Input.reads l.fn.input + 2 * got l.input;
       turns : l.m.turns.number + 3 * got l.fn.input ≤ l.fn.m.turns.number + 3 * got l.input + 2;

@@ -1,5 +1,6 @@
 use Rattle.std.proofs.Common.{◌≡◌, ◌-◌, ◌++◌, ℕ, List, refl, take, arith, ap, ◌∙◌, take-append-drop}
 use Rattle.abt_chunks.proofs.Showing.{lists_to, moves_on}
+use Rattle.abt_chunks.proofs.Causes.{answer_clean, answer_full, refuse_part}
 use Rattle.abt_chunks.proofs.listing.step.Goals as goal
 
 pub returns-clause-lists : goal.returns-clause-lists
@@ -17,3 +18,13 @@ returns-clause-moves g c =
     let r = c.part-taken.result.received in
     let k : g.I.Input.given c.part-taken.new.input - g.I.Input.given c.args.input.now ≡ r = omega arith in
     rw (k, c.answer.ensures) (moves_on c.part-taken.result.part c.args.walk.now c.part-taken.new.self r c.max-all.result p.moved p.empties (omega arith))
+
+pub returns-clause-clean : goal.returns-clause-clean
+returns-clause-clean g c =
+    rw c.answer.ensures (answer_clean c.part-taken.result.part (g.I.Input.read_faults c.args.input.now) (g.I.Input.read_faults c.part-taken.new.input) 0 0 c.part-taken.ensures.clean refl)
+
+pub returns-clause-failed : goal.returns-clause-failed
+returns-clause-failed g c going = rw c.answer.ensures (answer_full c.part-taken.result.part ∙ c.part-taken.ensures.failed going)
+
+pub returns-clause-refuses : goal.returns-clause-refuses
+returns-clause-refuses g c = rw c.answer.ensures (refuse_part c.part-taken.result.part c.args.walk.now.phase c.args.walk.now c.part-taken.ensures.closes)

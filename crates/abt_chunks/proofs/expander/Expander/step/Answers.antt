@@ -1,5 +1,7 @@
-use Rattle.std.proofs.Common.{◌≡◌, ◌-◌, take, arith}
+use Rattle.std.proofs.Common.{◌≡◌, ◌-◌, take, arith, ap}
 use Rattle.abt_chunks.proofs.Finishing.{onward, begins, fault_errs, held_part}
+use Rattle.std.proofs.Common.{◌∙◌}
+use Rattle.abt_chunks.proofs.Causes.{answer_clean, answer_full, written_clean}
 use Rattle.abt_chunks.proofs.expander.Expander.step.Goals as goal
 
 pub returns-in-Ok-clause-told : goal.returns-in-Ok-clause-told
@@ -40,3 +42,19 @@ returns-in-Ok-clause-held g c tells =
     let k : g.I.Input.given c.part-taken.new.input - g.I.Input.given c.args.input.now ≡ r = omega arith in
     rw (k, c.answer.ensures) (held_part c.args.self.now.walk c.part-taken.new.self (g.I.Input.remaining c.part-taken.new.input) (take r rem) c.part-taken.new.w.bytes
     (g.O.Output.written c.args.output.now) (g.O.Output.written c.write_part-done.new.output) r (p.window tells) q (p.says tells) p.leaves p.moved c.in-Ok.ensures.ok)
+
+pub returns-in-Ok-clause-clean : goal.returns-in-Ok-clause-clean
+returns-in-Ok-clause-clean g c =
+    rw c.answer.ensures (answer_clean c.part-taken.result.part (g.I.Input.read_faults c.args.input.now) (g.I.Input.read_faults c.part-taken.new.input)
+    (g.O.Output.write_faults c.args.output.now) (g.O.Output.write_faults c.write_part-done.new.output) c.part-taken.ensures.clean c.in-Ok.ensures.clean)
+
+pub returns-in-Err-clause-clean : goal.returns-in-Err-clause-clean
+returns-in-Err-clause-clean g c =
+    written_clean c.part-taken.result.part (g.I.Input.read_faults c.args.input.now) (g.I.Input.read_faults c.part-taken.new.input)
+    (g.O.Output.write_faults c.args.output.now) (g.O.Output.write_faults c.write_part-done.new.output) c.part-taken.ensures.clean
+    (λ q. ap g.O.Output.write_faults (c.write_part-done.ensures.quiet q)) c.in-Err.ensures.cause
+
+pub returns-in-Ok-clause-full_faults : goal.returns-in-Ok-clause-full_faults
+returns-in-Ok-clause-full_faults g c going =
+    let none = answer_full c.part-taken.result.part ∙ c.part-taken.ensures.failed going in
+    rw (c.answer.ensures, none) c.in-Ok.ensures.full_faults

@@ -24,3 +24,8 @@ pub returns-clause-lists : goal.returns-clause-lists
 returns-clause-lists c t =
     let s = c.args.self.now in let h = c.requires.here in
     upcoming_body s true t h.0 (ended s h.1 h.2) ∙ listing_done (view s.header) (s.position + length t) s.index s.have t h.3 c.if-self.false
+
+pub returns-then-self-clause-closes : goal.returns-then-self-clause-closes
+returns-then-self-clause-closes c =
+    let s = c.args.self.now in let h = c.requires.here in
+    rw (c.fail.ensures.part, h.0) (ended s h.1 h.2)

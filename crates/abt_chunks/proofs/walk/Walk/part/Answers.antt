@@ -2,6 +2,9 @@ use Rattle.std.proofs.Common.{◌≡◌, ◌≤◌, ◌<◌, ℕ, List, length, 
 use Rattle.std.proofs.lemmas.List.{drop_all, take-append-le}
 use Rattle.abt_chunks.specs.Walking.{Says, Shows, ask_of, needed_of}
 use Rattle.abt_chunks.proofs.Turns.{told, needed_asked}
+use Rattle.abt_chunks.proofs.Causes.{clean_part, own_part, read_closes, asked_wanted}
+use Rattle.abt_io.specs.Count.{full_in}
+use Rattle.abt_io.specs.declared.device.DeviceFault.{DeviceFault}
 use Rattle.abt_chunks.proofs.Listed.{lists}
 use Rattle.abt_chunks.proofs.walk.Walk.part.Goals as goal
 use Rattle.abt_chunks.proofs.walk.Walk.part.Goals.{in-Some, in-None}
@@ -41,3 +44,27 @@ returns-clause-lists g c tells t e = elim c.match-got.branch [
       rw (w.part-is, w.self-is) (lists w.take-part.result c.args.self.now w.take-part.new.self (take n rem) t
       (subst (λ (l : List ℕ). Shows w.take-part.result c.args.self.now w.take-part.new.self l t) got_is (h.lists t ended)))
 ]
+
+pub returns-clause-clean : goal.returns-clause-clean
+returns-clause-clean g c = elim c.match-got.branch [
+  | in-Some w ↦ rw (w.part-is, w.fail-part.ensures.part) tt
+  | in-None w ↦ rw w.part-is (clean_part w.take-part.result (g.I.Input.read_faults c.args.input.now) (g.I.Input.read_faults c.gather-got.new.input) (c.gather-got.ensures.clean (rw w.in-None.is refl)))
+]
+
+pub returns-clause-failed : goal.returns-clause-failed
+returns-clause-failed g c going = elim c.match-got.branch [
+  | in-Some w ↦ rw (w.part-is, w.fail-part.ensures.part) (ap full_in (rw w.in-Some.is at c.gather-got.ensures.failed))
+  | in-None w ↦ rw w.part-is (own_part w.take-part.result c.args.self.now.phase going w.take-part.ensures.cause)
+]
+
+pub returns-clause-closes : goal.returns-clause-closes
+returns-clause-closes g c = elim c.match-got.branch [
+  | in-Some w ↦ rw (w.part-is, w.fail-part.ensures.part) (read_closes w.in-Some.fault c.args.self.now.phase c.args.self.now)
+  | in-None w ↦ rw w.part-is w.take-part.ensures.closes
+]
+
+pub returns-clause-wanted : goal.returns-clause-wanted
+returns-clause-wanted g c =
+    let n = c.gather-got.result.count in
+    let asked : length c.gather-got.new.out ≡ ask_of c.turn-turn.result c.args.self.now = let a = c.gather-got.auto.out in let v = ap length c.part_mut.ensures.value in omega (arith, a, v, c.ask-ask.ensures.value, c.ask-ask.ensures.room, length-take (c.ask-ask.result - 0) (drop 0 c.args.w.now.bytes), length-drop 0 c.args.w.now.bytes, c.is_whole.ensures) in
+    omega (arith, asked, c.gather-got.ensures.within, asked_wanted c.turn-turn.result c.args.self.now c.turn-turn.ensures)

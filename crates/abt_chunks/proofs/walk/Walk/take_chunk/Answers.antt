@@ -32,3 +32,8 @@ returns-in-None-clause-lists c t e =
     let l : length got ≡ 12 = omega arith in
     let none = ap kind_at (sym c.u16_at-code.ensures) ∙ sym c.from_code.ensures ∙ c.in-None.is in
     rw (c.fail-in-None.ensures.part, c.u16_at-code.ensures) (bad_listing s (got ++ t) _ _ h.0 (ended s h.1 h.2) h.3 (bad_kind_at (view s.header) (s.position + length (got ++ t)) s.index s.have got t h.3 l none))
+
+pub returns-in-None-clause-closes : goal.returns-in-None-clause-closes
+returns-in-None-clause-closes c =
+    let s = c.args.self.now in let h = c.requires.here in
+    rw (c.fail-in-None.ensures.part, h.0) (ended s h.1 h.2)

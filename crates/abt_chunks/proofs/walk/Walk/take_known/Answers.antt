@@ -110,3 +110,13 @@ returns-clause-lists c t =
     upcoming_body s true (got ++ t) h.0 (ended s h.1 h.2)
     ∙ ap (λ (n : ℕ). listing_from (view s.header) n s.index s.have (got ++ t)) sz
     ∙ rw (c.has_word.ensures, c.counted_blocks-counts.ensures, c.from-6.ensures, c.raw_bytes.ensures) (chunk_begun (view s.header) size s.index s.have s.word got t c.args.kind c.u32_at-blocks.result c.u32_at-total.result s.header.chunk_header h.3 good)
+
+pub returns-then-from-length-clause-closes : goal.returns-then-from-length-clause-closes
+returns-then-from-length-clause-closes c =
+    let s = c.args.self.now in let h = c.requires.here in
+    rw (c.fail.ensures.part, h.0) (ended s h.1 h.2)
+
+pub returns-then-from-clause-closes : goal.returns-then-from-clause-closes
+returns-then-from-clause-closes c =
+    let s = c.args.self.now in let h = c.requires.here in
+    rw (c.fail-then-from.ensures.part, h.0) (ended s h.1 h.2)

@@ -1,0 +1,174 @@
+-- Whose fault a part and an answer are, and how much is read at a turn.
+use Rattle.std.proofs.Common.{◌≡◌, ℕ, ◌<◌, ◌≤◌, ◌+◌, ◌-◌, ◌∙◌, Bool, true, false, List, refl, arith, ap, min, eq-eqb, ne_eqb, lt-ltb, le-ltb, ◌==◌, nat_lt, inl, inr, eqb-true, if◌then◌else◌, ◌&&◌, not}
+use Rattle.std.specs.Prelude.{IfErr}
+use Rattle.abt_sparse.specs.Cause.{full_in_fault, full_answered}
+use Rattle.abt_sparse.specs.declared.fault.SparseFault.{SparseFault}
+use Rattle.abt_sparse.specs.declared.fault.SparseFault.TheVariants as faults
+use Rattle.abt_sparse.specs.declared.kind.ChunkKind.{ChunkKind}
+use Rattle.abt_sparse.specs.declared.kind.ChunkKind.TheVariants as kinds
+use Rattle.abt_io.specs.declared.device.DeviceFault.{DeviceFault}
+use Rattle.abt_chunks.specs.declared.walk.Phase.{Phase}
+use Rattle.abt_chunks.specs.declared.walk.Phase.TheVariants as phases
+use Rattle.abt_chunks.specs.declared.walk.Walk.{Walk}
+use Rattle.abt_chunks.specs.declared.walk.Part.{Part}
+use Rattle.abt_chunks.specs.declared.walk.Part.TheVariants as parts
+use Rattle.abt_chunks.specs.declared.walk.Turn.{Turn}
+use Rattle.abt_chunks.specs.declared.walk.Turn.TheVariants as turns
+use Rattle.abt_chunks.specs.Cause.{Clean, CleanPart, full_in_part, UnlessCut, wanted, wanted_in, head_wanted, data_wanted}
+use Rattle.abt_chunks.specs.Expanding.{IsGoing, IsQuiet, answer_of}
+use Rattle.abt_chunks.specs.Walking.{Caused, Closes, AtTurn, ask_of, at_end, is_between, is_spent, IsOver, SpentBy}
+use Rattle.abt_chunks.specs.Ahead.{due_of}
+use Rattle.std.proofs.lemmas.Bool.{cases_Bool}
+
+clean_fault : (f : SparseFault) (r r' : ℕ) → r' ≡ r → CleanPart (parts.Fault f) r r'
+clean_fault (faults.Read d) r r' e = tt
+clean_fault f r r' e = e
+
+pub clean_part : (q : Part) (r r' : ℕ) → r' ≡ r → CleanPart q r r'
+clean_part (parts.Fault f) r r' e = clean_fault f r r' e
+clean_part q r r' e = e
+
+own_fault : (f : SparseFault) → Caused (parts.Fault f) phases.Header 1 0 → full_in_fault f ≡ 0
+own_fault (faults.Read d) h = absurd (omega (arith, h))
+own_fault (faults.Write d) h = absurd h
+own_fault f h = refl
+
+own_body : (f : SparseFault) → Caused (parts.Fault f) phases.Body 1 0 → full_in_fault f ≡ 0
+own_body (faults.Read d) h = absurd (omega (arith, h))
+own_body (faults.Write d) h = absurd h
+own_body f h = refl
+
+own_here : (f : SparseFault) (p : Phase) → IsGoing p → Caused (parts.Fault f) p 1 0 → full_in_fault f ≡ 0
+own_here f phases.Header going h = own_fault f h
+own_here f phases.Body going h = own_body f h
+own_here f phases.Done going h = absurd going
+own_here f (phases.Failed g) going h = absurd going
+
+-- a fault of the image hands on no device's
+pub own_part : (q : Part) (p : Phase) → IsGoing p → Caused q p 1 0 → full_in_part q ≡ 0
+own_part (parts.Fault f) p going h = own_here f p going h
+own_part q p going h = refl
+
+-- what a step answers to a clean part
+answer_fault : (f : SparseFault) (r r' w w' : ℕ) → CleanPart (parts.Fault f) r r' → w' ≡ w → Clean (answer_of (parts.Fault f)) r r' w w'
+answer_fault (faults.Read d) r r' w w' h e = e
+answer_fault (faults.Write d) r r' w w' h e = h
+answer_fault f r r' w w' h e = (h, e)
+
+pub answer_clean : (q : Part) (r r' w w' : ℕ) → CleanPart q r r' → w' ≡ w → Clean (answer_of q) r r' w w'
+answer_clean (parts.Fault f) r r' w w' h e = answer_fault f r r' w w' h e
+answer_clean q r r' w w' h e = (h, e)
+
+pub answer_full : (q : Part) → full_answered (answer_of q) ≡ full_in_part q
+answer_full (parts.Fault f) = refl
+answer_full q = refl
+
+-- where the output fails, the input has not
+pub written_clean : (q : Part) (r r' w w' : ℕ) → CleanPart q r r' → (IsQuiet q → w' ≡ w) → w < w' → r' ≡ r
+written_clean (parts.Fault f) r r' w w' h quiet more = absurd (omega (arith, quiet tt))
+written_clean q r r' w w' h quiet more = h
+
+-- ---- refusals within a chunk
+
+pub cut_of : (f : SparseFault) (P : Type 0) → P → UnlessCut f P
+cut_of (faults.Truncated at) P h = tt
+cut_of (faults.Read d) P h = tt
+cut_of (faults.Write d) P h = tt
+cut_of f P h = h
+
+pub cut_map : (f : SparseFault) (P Q : Type 0) → (P → Q) → UnlessCut f P → UnlessCut f Q
+cut_map (faults.Truncated at) P Q g h = tt
+cut_map (faults.Read d) P Q g h = tt
+cut_map (faults.Write d) P Q g h = tt
+cut_map f P Q g h = g h
+
+pub read_closes : (d : DeviceFault) (p : Phase) (s : Walk) → Closes (parts.Fault (faults.Read d)) p s
+read_closes d phases.Header s = tt
+read_closes d phases.Body s = tt
+read_closes d phases.Done s = tt
+read_closes d (phases.Failed f) s = tt
+
+-- ---- how much is read
+
+some_of : (n a b : ℕ) → 0 < n → (if n == 0 then a else b) ≡ b
+some_of n a b lt = let e : (n == 0) ≡ false = ne_eqb _ _ (λ q. absurd (omega (arith, q))) in ap (λ (v : Bool). if v then a else b) e
+
+none_of : (n a b : ℕ) → n ≡ 0 → (if n == 0 then a else b) ≡ a
+none_of n a b q = let e : (n == 0) ≡ true = eq-eqb _ _ q in ap (λ (v : Bool). if v then a else b) e
+
+data_word : (k : ChunkKind) (due : Bool) (raw words head : ℕ) → due_of k ≡ true → due ≡ true → data_wanted k due raw words head ≡ 4
+data_word kinds.Raw due raw words head d e = absurd cc
+data_word kinds.Fill due raw words head d e = rw e refl
+data_word kinds.Skip due raw words head d e = absurd cc
+data_word kinds.Crc due raw words head d e = rw e refl
+
+data_spent : (k : ChunkKind) (due : Bool) (raw words head : ℕ) → SpentBy k due raw words → data_wanted k due raw words head ≡ head
+data_spent kinds.Raw due raw words head e = none_of raw head raw e
+data_spent kinds.Fill due raw words head e = rw e.0 (none_of words head 0 e.1)
+data_spent kinds.Skip due raw words head e = none_of words head 0 e
+data_spent kinds.Crc due raw words head e = rw e refl
+
+body_wanted : (s : Walk) → s.phase ≡ phases.Body → s.extra ≡ 0 → wanted s ≡ data_wanted s.kind s.due s.raw s.words (head_wanted s)
+body_wanted s p e = ap (λ (q : Phase). wanted_in q s) p ∙ none_of s.extra (data_wanted s.kind s.due s.raw s.words (head_wanted s)) s.extra e
+
+extra_wanted : (s : Walk) → s.phase ≡ phases.Body → 0 < s.extra → wanted s ≡ s.extra
+extra_wanted s p e = ap (λ (q : Phase). wanted_in q s) p ∙ some_of s.extra (data_wanted s.kind s.due s.raw s.words (head_wanted s)) s.extra e
+
+raw_wanted : (k : ChunkKind) (due : Bool) (raw words head : ℕ) → k ≡ kinds.Raw → 0 < raw → data_wanted k due raw words head ≡ raw
+raw_wanted k due raw words head e lt = ap (λ (j : ChunkKind). data_wanted j due raw words head) e ∙ some_of raw head raw lt
+
+more_heads : (s : Walk) → s.index < s.header.total_chunks → head_wanted s ≡ 12
+more_heads s lt = ap (λ (v : Bool). if v then 12 else 0) (lt-ltb _ _ lt)
+
+pub asked_wanted : (turn : Turn) (s : Walk) → AtTurn turn s → ask_of turn s ≤ wanted s
+asked_wanted turns.Header s h = let e : wanted s ≡ 28 = ap (λ (q : Phase). wanted_in q s) h in omega (arith, e)
+asked_wanted turns.Extra s h = omega (arith, extra_wanted s h.0 h.1)
+asked_wanted turns.Raw s h = let e : wanted s ≡ s.raw = body_wanted s h.0 h.1 ∙ raw_wanted s.kind s.due s.raw s.words (head_wanted s) h.2 h.3 in omega (arith, e)
+asked_wanted turns.Word s h = let e : wanted s ≡ 4 = body_wanted s h.0 h.1 ∙ data_word s.kind s.due s.raw s.words (head_wanted s) h.2 h.3 in omega (arith, e)
+asked_wanted turns.Fill s h = omega arith
+asked_wanted turns.Gap s h = omega arith
+asked_wanted turns.Chunk s h = let e : wanted s ≡ 12 = body_wanted s h.0 h.1 ∙ data_spent s.kind s.due s.raw s.words (head_wanted s) h.2 ∙ more_heads s h.3 in omega (arith, e)
+asked_wanted turns.End s h = omega arith
+asked_wanted turns.Over s h = omega arith
+
+both_left : (a b : Bool) → (a && b) ≡ true → a ≡ true
+both_left true b e = refl
+both_left false b e = e
+
+both_right : (a b : Bool) → (a && b) ≡ true → b ≡ true
+both_right true b e = e
+both_right false b e = absurd cc
+
+spent_by : (k : ChunkKind) (due : Bool) (raw words : ℕ) → is_spent k due raw words ≡ true → SpentBy k due raw words
+spent_by kinds.Raw due raw words e = eqb-true _ _ e
+spent_by kinds.Fill true raw words e = absurd cc
+spent_by kinds.Fill false raw words e = (refl, eqb-true _ _ e)
+spent_by kinds.Skip due raw words e = eqb-true _ _ e
+spent_by kinds.Crc true raw words e = absurd cc
+spent_by kinds.Crc false raw words e = refl
+
+at_most_head : (s : Walk) → head_wanted s ≤ 12
+at_most_head s = elim (cases_Bool (nat_lt s.index s.header.total_chunks)) [
+  | inl e ↦ let q : head_wanted s ≡ 12 = ap (λ (v : Bool). if v then 12 else 0) e in omega (arith, q)
+  | inr e ↦ let q : head_wanted s ≡ 0 = ap (λ (v : Bool). if v then 12 else 0) e in omega (arith, q)
+]
+
+-- behind a whole chunk no more than the next one's header
+pub wanted_between : (s : Walk) → s.phase ≡ phases.Body → at_end s ≡ true → wanted s ≤ 12
+wanted_between s p e =
+    let x : s.extra ≡ 0 = eqb-true _ _ (both_left (s.extra == 0) (is_spent s.kind s.due s.raw s.words) e) in
+    let q : wanted s ≡ head_wanted s = body_wanted s p x ∙ data_spent s.kind s.due s.raw s.words (head_wanted s) (spent_by s.kind s.due s.raw s.words (both_right (s.extra == 0) (is_spent s.kind s.due s.raw s.words) e)) in
+    omega (arith, q, at_most_head s)
+
+-- a part that refuses the image, as a step answers it
+pub refuse_part : (q : Part) (p : Phase) (s : Walk) → Closes q p s → IfErr (answer_of q) (λ f. p ≡ phases.Body → UnlessCut f (at_end s ≡ true))
+refuse_part (parts.Fault f) p s h = λ e. rw e at h
+refuse_part q p s h = tt
+
+-- a listing that is refused between two chunks, for what the next one says
+pub bounded_next : (f : SparseFault) (p : Phase) (s : Walk) (a b : ℕ) → s.phase ≡ p → is_between p s ≡ true → (s.phase ≡ phases.Body → UnlessCut f (at_end s ≡ true)) → (IsOver p → b ≡ a) → b - a ≤ wanted s
+    → UnlessCut f (b ≤ a + 12)
+bounded_next f phases.Header s a b q between refuse over more = absurd cc
+bounded_next f phases.Body s a b q between refuse over more = cut_map f (at_end s ≡ true) (b ≤ a + 12) (λ e. let w = wanted_between s q e in omega (arith, more, w)) (refuse q)
+bounded_next f phases.Done s a b q between refuse over more = cut_of f (b ≤ a + 12) (omega (arith, over tt))
+bounded_next f (phases.Failed g) s a b q between refuse over more = cut_of f (b ≤ a + 12) (omega (arith, over tt))
