@@ -83,7 +83,7 @@ def check(path, program, show):
                 print("\n".join(["  it printed:"] + ["    " + it for it in said]))
                 print("\n".join(["  and not:"] + ["    " + it for it in wanted]))
     for kind, start, lines in blocks(path):
-        if kind != "console" and any(re.match(r"\$? ?abootimg ", it) for it in lines):
+        if kind != "console" and any(re.match(r"\$? ?abootimg \S", it) for it in lines):
             failed += 1
             print(f"NOT SO: {path}:{start}: a block that runs the program begins with ```console")
     return passed, failed

@@ -91,7 +91,7 @@ def put_back():
 class Proof:
     """One crate that is being proved."""
 
-    def __init__(self, name, rt, jobs, lines, uses, program):
+    def __init__(self, name, rt, jobs, lines, uses):
         self.name, self.jobs = name, jobs
         self.begun = time.monotonic()
         self.room = os.path.join(PROVING, name)
@@ -107,9 +107,10 @@ class Proof:
         home = os.path.join(self.crate(HERE, name), "out")
         if os.path.isdir(home):
             os.rename(home, os.path.join(self.crate(self.room, name), "out"))
+        is_program = os.path.isfile(os.path.join(self.crate(HERE, name), "src", "main.rt"))
         self.log = open(os.path.join(self.room, "log"), "w+", encoding="utf-8", errors="replace")
         self.child = subprocess.Popen(
-            [rt, "run" if program else "lib", "--jobs", str(jobs)], cwd=self.crate(self.room, name),
+            [rt, "run" if is_program else "lib", "--jobs", str(jobs)], cwd=self.crate(self.room, name),
             stdin=subprocess.DEVNULL, stdout=self.log, stderr=subprocess.STDOUT, start_new_session=True)
 
     @staticmethod
@@ -191,7 +192,7 @@ def prove(words, lines, uses, wanted):
                 jobs = jobs_for(running, len(ready) - at, words, lanes)
                 if jobs:
                     left.remove(name)
-                    running.append(Proof(name, words.rt, jobs, lines, uses, name == words.program))
+                    running.append(Proof(name, words.rt, jobs, lines, uses))
                     done = sum(lengths[it] for it in proved)
                     progress.line(done, f"{name}: begun with {jobs} {'job' if jobs == 1 else 'jobs'}")
             time.sleep(0.2)
