@@ -34,3 +34,7 @@ zeros_front w0 w w' part at ask n d before e same le room long =
     zeros_more w0 w w' (take d part) at d before e part_is
     ∙ ap (λ (l : List ℕ). w0 ++ l) (sym (take-replicate (at + d) n 0 (omega arith)))
     ∙ ap (λ (j : ℕ). w0 ++ take j (replicate n 0)) (sym long)
+
+-- what was written stays, one part after another
+pub grown_more : (w0 w1 w2 : List ℕ) → take (length w0) w1 ≡ w0 → take (length w1) w2 ≡ w1 → length w0 ≤ length w1 → take (length w0) w2 ≡ w0
+grown_more w0 w1 w2 before e le = sym (take-take (length w0) (length w1) w2 le) ∙ ap (λ (l : List ℕ). take (length w0) l) e ∙ before

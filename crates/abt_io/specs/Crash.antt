@@ -1,8 +1,8 @@
 -- What a crash leaves of a partition in memory, and when its three lists fit together.
 use Rattle.std.specs.Prelude.{◌≡◌, ℕ, ◌<◌, false, List, length, slice_index, nat_eq, cond}
 use Rattle.abt_io.specs.Moment.{is_pending}
-use Rattle.abt_io.specs.declared.pick.Pick.{Pick}
-use Rattle.abt_io.specs.declared.pick.Pick.TheVariants.{Old, New, Byte}
+use Rattle.abt_io.specs.declared.testing.pick.Pick.{Pick}
+use Rattle.abt_io.specs.declared.testing.pick.Pick.TheVariants.{Old, New, Byte}
 
 -- what is left of a touched byte, from what a read gave and what was stable
 abbrev pub picked : Pick → ℕ → ℕ → ℕ

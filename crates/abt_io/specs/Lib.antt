@@ -8,4 +8,5 @@ pub mod FrameLaws
 pub mod Held
 pub mod Inner
 pub mod Moment
+pub mod Over
 pub mod Window

@@ -7,7 +7,7 @@ ghost use Rattle.abt_io.specs.Moment.{put_at};
 
 use crate::Pick;
 use crate::bytes::{are_bytes, clear_part, copy_part, fill_part, put_part};
-use crate::pick::leave;
+use crate::testing::pick::leave;
 
 /// The bytes that a device over memory keeps.
 #[derive(Drop)]

@@ -36,6 +36,7 @@ pub fn copy_step<S: Source, O: Output>(
     ensures size { IsTrue S.tells → S.size source.new ≡ S.size source.old }
     ensures present { IsTrue S.tells → S.given source.new - S.given source.old ≤ length (S.content source.old) - at }
     ensures front { IsTrue S.tells → O.written output.new ≡ O.written output.old ++ take (length (O.written output.new) - length (O.written output.old)) (drop at (S.content source.old)) }
+    ensures grown { take (length (O.written output.old)) (O.written output.new) ≡ O.written output.old }
     ensures frame { S.read_frame source.new ≡ S.read_frame source.old }
     ensures write_frame { O.write_frame output.new ≡ O.write_frame output.old }
     ensures read_faults { S.read_faults source.old ≤ S.read_faults source.new }
@@ -91,6 +92,7 @@ pub fn copy_range<S: Source, O: Output>(
     ensures held { length (O.written output.new) ≤ length (O.written output.old) + (S.given source.new - S.given source.old) }
     ensures content { IsTrue S.tells → S.content source.new ≡ S.content source.old }
     ensures size { IsTrue S.tells → S.size source.new ≡ S.size source.old }
+    ensures grown { take (length (O.written output.old)) (O.written output.new) ≡ O.written output.old }
     ensures frame { S.read_frame source.new ≡ S.read_frame source.old }
     ensures write_frame { O.write_frame output.new ≡ O.write_frame output.old }
     ensures read_faults { S.read_faults source.old ≤ S.read_faults source.new }

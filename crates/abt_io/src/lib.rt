@@ -15,24 +15,23 @@
 //!
 //! - `window`: the 65,536 bytes that are lent down to every call; `laying`: one word all over it.
 //! - `meter`, `tally`, `log`, `history`: what contracts count, with no bytes at run time.
-//! - `device`: the five traits. Their words stand in `specs/`: `Count`, `Bytes`, `Frame` (what a read
-//!   or a write leaves as it was), `Moment` (what a crash may leave), `Cause` (who failed).
+//! - `device`: the five traits, and `overwrite`, an output that can be written over. Their words stand
+//!   in `specs/`: `Count`, `Bytes`, `Frame` (what a read or a write leaves as it was), `Moment` (what a
+//!   crash may leave), `Over` (what writing over leaves), `Cause` (who failed).
 //! - `gathering`, `writing`, `copying`: the movers, generic over the traits.
-//! - `slices`, `partition`, `spool`, `crash` (with `pick`): devices over lent memory, which tell their
-//!   bytes; `bytes` and `cells` serve them.
-//! - `forward`: a source read from its front. `cut`, `faulty`, `marred`, `long`, `switch`: devices that
-//!   move little, fail, tear, lie or change, for tests.
-//! - `files`, `streams` (with `tries`): files, readers and writers, which tell nothing.
+//! - `slices`, `partition`, `spool`: devices over lent memory, which tell their bytes; `bytes` and
+//!   `cells` serve them. `forward`: a source read from its front.
+//! - `files`, `file_output`, `streams` (with `tries`): files, readers and writers, which tell nothing.
+//! - `testing`: devices for tests, over any other one. `cut` moves little, `faulty` fails, `marred`
+//!   tears a write, `long` lies about its length, `switch` changes, `crash` (with `pick`) loses power.
 //! - `laws`: how moments of a partition join.
 #![tactic(auto)]
 
 mod bytes;
 mod cells;
 mod copying;
-mod crash;
-mod cut;
 mod device;
-mod faulty;
+mod file_output;
 mod files;
 mod forward;
 mod gathering;
@@ -40,16 +39,14 @@ mod history;
 mod laws;
 mod laying;
 mod log;
-mod long;
-mod marred;
 mod meter;
+mod overwrite;
 mod partition;
-mod pick;
 mod slices;
 mod spool;
 mod streams;
-mod switch;
 mod tally;
+mod testing;
 mod tries;
 mod window;
 mod writing;
@@ -57,10 +54,8 @@ mod writing;
 pub use bytes::are_bytes;
 pub use cells::Cells;
 pub use copying::{CopyFault, copy_range, copy_step, write_zeros};
-pub use crash::CrashPartition;
-pub use cut::Cut;
 pub use device::{DeviceFault, Input, Output, Partition, Source, Spool};
-pub use faulty::Faulty;
+pub use file_output::FileOutput;
 pub use files::{FilePartition, FileSource, FileSpool};
 pub use forward::Forward;
 pub use gathering::{Gathered, gather, gather_at};
@@ -68,15 +63,19 @@ pub use history::History;
 pub use laws::{moments_join, runs_join, untouched_bytes_last};
 pub use laying::{WORDS, lay_word};
 pub use log::Log;
-pub use long::Long;
-pub use marred::Marred;
 pub use meter::Meter;
+pub use overwrite::Overwrite;
 pub use partition::SlicePartition;
-pub use pick::Pick;
 pub use slices::{SliceOutput, SliceSource};
 pub use spool::SliceSpool;
 pub use streams::{FromRead, ToWrite};
-pub use switch::SwitchSource;
 pub use tally::Tally;
+pub use testing::crash::CrashPartition;
+pub use testing::cut::Cut;
+pub use testing::faulty::Faulty;
+pub use testing::long::Long;
+pub use testing::marred::Marred;
+pub use testing::pick::Pick;
+pub use testing::switch::SwitchSource;
 pub use window::{WINDOW, Window};
-pub use writing::{write_all_at, write_out};
+pub use writing::{write_all_at, write_out, write_over_all};

@@ -3,6 +3,7 @@
 ghost use Rattle.std.specs.Prelude.{◌≡◌};
 ghost use Rattle.std.specs.Borrow.{ftrue};
 ghost use Rattle.abt_io.specs.Frame.{Logged, nothing_logged, and_bytes, and_cut};
+ghost use Rattle.abt_io.specs.Over.{and_put};
 
 use std::marker::Model;
 
@@ -28,6 +29,12 @@ impl Log {
     #[inline(always)]
     pub fn append(&mut self, _bytes: &[u8])
         ensures { self.new.state ≡ and_bytes self.old.state _bytes.now }
+    {}
+
+    /// The device took these bytes over what stood at a place.
+    #[inline(always)]
+    pub fn put(&mut self, _bytes: &[u8], _at: u64)
+        ensures { self.new.state ≡ and_put self.old.state _at _bytes.now }
     {}
 
     /// The device was cleared.

@@ -1,10 +1,11 @@
-//! Writing all of some bytes: to an output, and to a place of a partition.
+//! Writing all of some bytes: to an output, over what stands in one, and to a place of a partition.
 
 ghost use Rattle.std.specs.Prelude.{◌≡◌, ◌<◌, ◌≤◌, ◌+◌, ◌-◌, ◌^◌, ◌++◌, IsTrue, OnOk, OnErr, IfErr, IsErrOf, length, take};
 ghost use Rattle.abt_io.specs.Count.{full_of};
 ghost use Rattle.abt_io.specs.Moment.{Keeps, KeepsUnsynced, EachSince, in_range, moment_of, put_at};
+ghost use Rattle.abt_io.specs.Over.{WritesFront};
 
-use crate::{DeviceFault, Meter, Output, Partition};
+use crate::{DeviceFault, Meter, Output, Overwrite, Partition};
 
 /// Writes all of these bytes. Where it fails, a front of them is written, as far as `front` says.
 pub fn write_out<O: Output>(output: &mut O, bytes: &[u8], m: &mut Meter) -> Result<(), DeviceFault>
@@ -71,6 +72,43 @@ pub fn write_all_at<P: Partition>(
     while done < bytes.len() {
         m.tick();
         done += partition.write_at(at + done as u64, &bytes[done..])?;
+    }
+    Ok(())
+}
+
+/// Writes all of these bytes over what stands at a place. Where it fails, a front of them is written,
+/// shorter than all.
+pub fn write_over_all<O: Overwrite>(
+    output: &mut O,
+    at: u64,
+    bytes: &[u8],
+    m: &mut Meter,
+) -> Result<(), DeviceFault>
+    requires window { length bytes.now ≤ 65536 }
+    requires stands { at + length bytes.now ≤ length (O.written output.old) }
+    requires below { at + length bytes.now < 2 ^ 64 }
+    ensures ok { OnOk result (O.written output.new ≡ put_at (O.written output.old) at bytes.now) }
+    ensures before { take at (O.written output.new) ≡ take at (O.written output.old) }
+    ensures front { OnErr result (WritesFront (O.written output.old) (O.written output.new) at bytes.now) }
+    ensures long { length (O.written output.new) ≡ length (O.written output.old) }
+    ensures frame { O.write_frame output.new ≡ O.write_frame output.old }
+    ensures faults { O.write_faults output.old ≤ O.write_faults output.new }
+    ensures cause { OnErr result (O.write_faults output.old < O.write_faults output.new) }
+    ensures clean { OnOk result (O.write_faults output.new ≡ O.write_faults output.old) }
+    ensures full_faults { O.full_faults output.new ≡ O.full_faults output.old }
+    ensures failed { IfErr result (λ e. e ≡ DeviceFault.Failed) }
+    ensures calls { O.writes output.new ≤ O.writes output.old + length bytes.now }
+    ensures turns { m.new.turns.number ≤ m.old.turns.number + length bytes.now }
+    ensures steps { m.new.steps.number ≡ m.old.steps.number }
+    ensures greatest { m.new.greatest.number ≡ m.old.greatest.number }
+{
+    let mut done = 0;
+    while done < bytes.len() {
+        m.tick();
+        match output.write_over(at + done as u64, &bytes[done..]) {
+            Ok(n) => done += n,
+            Err(fault) => return Err(fault),
+        }
     }
     Ok(())
 }

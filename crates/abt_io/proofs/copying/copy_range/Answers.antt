@@ -1,5 +1,5 @@
 use Rattle.std.proofs.Common.{arith, ◌∙◌, ◌≡◌, ◌-◌, ◌+◌, ap, length}
-use Rattle.abt_io.proofs.Copied.{copied_more, as_front_of}
+use Rattle.abt_io.proofs.Copied.{copied_more, as_front_of, grown_more}
 use Rattle.abt_io.proofs.copying.copy_range.Goals as goal
 
 pub returns-in_err-got-clause-front : goal.returns-in_err-got-clause-front
@@ -14,6 +14,9 @@ returns-in_err-got-clause-front g c tells =
     let d = length w2 - length w1 in
     let long : length w2 - length w0 ≡ at + d = omega arith in
     as_front_of w0 w2 _ (at + d) c.args.n (copied_more w0 w1 w2 _ _ c.args.from at d (i.content tells) (i.written tells) (e.front tells)) long (omega arith)
+
+pub returns-in_err-got-clause-grown : goal.returns-in_err-got-clause-grown
+returns-in_err-got-clause-grown g c = grown_more _ _ _ c.loop-at.invariant.grown c.in_err-got.ensures.grown (omega arith)
 
 pub loop-at-preserved : goal.loop-at-preserved
 loop-at-preserved g c =
@@ -33,6 +36,7 @@ loop-at-preserved g c =
       content = λ tells. e.content tells ∙ i.content tells;
       size = λ tells. e.size tells ∙ i.size tells;
       written = λ tells. copied_more _ w1 w2 _ _ c.args.from at got (i.content tells) (i.written tells) (rw more at (e.front tells));
+      grown = grown_more _ w1 w2 i.grown e.grown (omega arith);
       frame = e.frame ∙ i.frame;
       write_frame = e.write_frame ∙ i.write_frame;
       read_faults = omega arith;

@@ -14,6 +14,7 @@ invariant-loop-at g l =
       present : IsTrue g.S.Source.tells → l.at ≤ length (told l.fn.source) - l.from;
       content : IsTrue g.S.Source.tells → told l.source ≡ told l.fn.source;
       size : IsTrue g.S.Source.tells → g.S.Source.size l.source ≡ g.S.Source.size l.fn.source;
+      grown : take (length (written l.fn.output)) (written l.output) ≡ written l.fn.output;
       written : IsTrue g.S.Source.tells → written l.output ≡ written l.fn.output ++ take l.at (drop l.from (told l.fn.source));
       frame : g.S.Source.read_frame l.source ≡ g.S.Source.read_frame l.fn.source;
       write_frame : g.O.Output.write_frame l.output ≡ g.O.Output.write_frame l.fn.output;

@@ -2,7 +2,7 @@
 
 ghost use Rattle.std.specs.Prelude.{◌≡◌, ◌<◌, ◌≤◌};
 
-use crate::{DeviceFault, Input, Output, Partition, Source, Spool};
+use crate::{DeviceFault, Input, Output, Overwrite, Partition, Source, Spool};
 
 /// Gives or takes at most `most` bytes a call, which is at least 1. It is of each kind that its device
 /// is of.
@@ -99,6 +99,17 @@ impl<D: Output> Output for Cut<D> {
     fn write(&mut self, bytes: &[u8]) -> Result<usize, DeviceFault> {
         let n = self.share(bytes.len());
         self.device.write(&bytes[..n])
+    }
+}
+
+impl<D: Overwrite> Overwrite for Cut<D> {
+    fn position(&self) -> u64 {
+        self.device.position()
+    }
+
+    fn write_over(&mut self, at: u64, bytes: &[u8]) -> Result<usize, DeviceFault> {
+        let n = self.share(bytes.len());
+        self.device.write_over(at, &bytes[..n])
     }
 }
 

@@ -2,7 +2,7 @@ use Rattle.std.proofs.Common.{rules, length, ◌≡◌, ◌∷◌}
 use Rattle.abt_io.specs.Moment.{wrote}
 use Rattle.abt_io.proofs.Moments.{one_wrote}
 use Rattle.abt_io.proofs.Tracked.{tracked_more, kept_wrote}
-use Rattle.abt_io.proofs.crash.CrashPartitionPartition.write_at.Goals as goal
+use Rattle.abt_io.proofs.testing.crash.CrashPartitionPartition.write_at.Goals as goal
 
 pub invariant_of-self : goal.invariant_of-self
 invariant_of-self c =

@@ -1,6 +1,6 @@
 use Rattle.std.proofs.Common.{◌≡◌, ℕ, ◌<◌, ◌≤◌, get_or}
 use Rattle.abt_io.specs.Crash.{left_of}
-use Rattle.abt_io.proofs.pick.leave.Given as goal
+use Rattle.abt_io.proofs.testing.pick.leave.Given as goal
 
 abbrev pub invariant-loop-i : goal.invariant-loop-i
 invariant-loop-i l = record {

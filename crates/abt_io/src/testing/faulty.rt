@@ -5,11 +5,11 @@ ghost use Rattle.std.specs.Borrow.{sem};
 ghost use Rattle.abt_io.specs.Inner.{LendsInner};
 ghost use Rattle.abt_io.specs.FrameLaws.{counted_reading, counted_writing, counted_partition};
 
-use crate::{DeviceFault, Input, Output, Partition, Source, Spool, Tally};
+use crate::{DeviceFault, Input, Output, Overwrite, Partition, Source, Spool, Tally};
 
 /// Fails its call number `at` (from 1): that call answers `Failed` and doesn't reach the device. All
-/// other calls pass. `read`, `read_at`, `write`, `write_at`, `sync` and `clear` count, `length` and
-/// `capacity` don't. It is of each kind that its device is of.
+/// other calls pass. `read`, `read_at`, `write`, `write_over`, `write_at`, `sync` and `clear` count;
+/// `length`, `capacity` and `position` don't. It is of each kind that its device is of.
 #[derive(Drop)]
 pub struct Faulty<D> {
     pub device: D,
@@ -106,6 +106,20 @@ impl<D: Output> Output for Faulty<D> {
             return Err(DeviceFault::Failed);
         }
         self.device.write(bytes)
+    }
+}
+
+impl<D: Overwrite> Overwrite for Faulty<D> {
+    fn position(&self) -> u64 {
+        self.device.position()
+    }
+
+    fn write_over(&mut self, at: u64, bytes: &[u8]) -> Result<usize, DeviceFault> {
+        if self.fails() {
+            self.writes.add(1);
+            return Err(DeviceFault::Failed);
+        }
+        self.device.write_over(at, bytes)
     }
 }
 

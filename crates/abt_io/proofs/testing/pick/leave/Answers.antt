@@ -2,7 +2,7 @@ use Rattle.std.proofs.Common.{◌≡◌, ◌≤◌, ◌∙◌, sym, ap, ℕ, get
 use Rattle.std.proofs.lemmas.Bool.{cases_Bool}
 use Rattle.std.proofs.lemmas.List.{get_or_past}
 use Rattle.abt_io.specs.Crash.{left_of}
-use Rattle.abt_io.proofs.pick.leave.Goals as goal
+use Rattle.abt_io.proofs.testing.pick.leave.Goals as goal
 
 pub returns-clause-left : goal.returns-clause-left
 returns-clause-left c = λ k.

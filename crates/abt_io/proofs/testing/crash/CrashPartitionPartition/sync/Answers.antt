@@ -1,6 +1,6 @@
 use Rattle.std.proofs.Common.{rules}
 use Rattle.abt_io.proofs.Moments.{one_settled}
-use Rattle.abt_io.proofs.crash.CrashPartitionPartition.sync.Goals as goal
+use Rattle.abt_io.proofs.testing.crash.CrashPartitionPartition.sync.Goals as goal
 
 pub returns-clause-moments : goal.returns-clause-moments
 returns-clause-moments c _ = one_settled c.args.self.now.history.past c.settled.new.self.past c.args.self.now.now.bytes.now (search rules)

@@ -1,0 +1,14 @@
+-- Bytes that are written over what stands at a place.
+use Rattle.std.specs.Prelude.{◌≡◌, ℕ, ◌<◌, List, length, take}
+use Rattle.abt_io.specs.Frame.{Logged}
+use Rattle.abt_io.specs.Moment.{put_at}
+
+-- all that a device was ever given, with these bytes over what stood at a place
+abbrev pub and_put : Logged → ℕ → List ℕ → Logged
+and_put g at x = record { bytes = put_at g.bytes at x; cuts = g.cuts }
+
+-- where writing over a place fails: a front of the bytes stands there, and not all of them
+pub record WritesFront (old new : List ℕ) (at : ℕ) (bytes : List ℕ) : Type 0 where
+  pub count : ℕ
+  pub short : count < length bytes
+  pub written : new ≡ put_at old at (take count bytes)

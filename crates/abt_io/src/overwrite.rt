@@ -1,0 +1,48 @@
+//! An output whose written bytes can be written over, and a lent slice as one.
+
+ghost use Rattle.std.specs.Prelude.{◌≡◌, ◌<◌, ◌≤◌, ◌+◌, IfOk, IfErr, OnOk, OnErr, length, take};
+ghost use Rattle.abt_io.specs.Count.{count_of};
+ghost use Rattle.abt_io.specs.Moment.{put_at};
+
+use crate::bytes::put_part;
+use crate::{DeviceFault, Output, SliceOutput};
+
+/// An output whose written bytes can be written over, so that a header is laid once all that it tells
+/// is known.
+///
+/// Writing over counts as one of the output's `writes`. It makes nothing longer, so it is never
+/// answered `Full`.
+pub trait Overwrite: Output {
+    /// How many bytes were written: where the next one goes.
+    fn position(&self) -> u64
+        ensures { result ≡ length (Self.written self.now) };
+
+    /// Writes a front of these bytes over what stands at a place, and answers how many. All of them
+    /// have to fit there. A refused call moves nothing.
+    fn write_over(&mut self, at: u64, bytes: &[u8]) -> Result<usize, DeviceFault>
+        requires window { length bytes.now ≤ 65536 }
+        requires stands { at + length bytes.now ≤ length (Self.written self.old) }
+        ensures within { count_of result ≤ length bytes.now }
+        ensures progress { IfOk result (λ n. 0 < length bytes.now → 0 < n) }
+        ensures written { Self.written self.new ≡ put_at (Self.written self.old) at (take (count_of result) bytes.now) }
+        ensures frame { Self.write_frame self.new ≡ Self.write_frame self.old }
+        ensures calls { Self.writes self.new ≡ Self.writes self.old + 1 }
+        ensures faults { Self.write_faults self.old ≤ Self.write_faults self.new }
+        ensures cause { OnErr result (Self.write_faults self.old < Self.write_faults self.new) }
+        ensures clean { OnOk result (Self.write_faults self.new ≡ Self.write_faults self.old) }
+        ensures full_faults { Self.full_faults self.new ≡ Self.full_faults self.old }
+        ensures failed { IfErr result (λ e. e ≡ DeviceFault.Failed) };
+}
+
+impl<'a> Overwrite for SliceOutput<'a> {
+    fn position(&self) -> u64 {
+        self.used.min(self.room.len()) as u64
+    }
+
+    fn write_over(&mut self, at: u64, bytes: &[u8]) -> Result<usize, DeviceFault> {
+        self.calls.add(1);
+        let n = bytes.len();
+        put_part(self.room, at, bytes);
+        Ok(n)
+    }
+}
