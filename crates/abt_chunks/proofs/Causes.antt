@@ -90,10 +90,10 @@ read_closes d (phases.Failed f) s = tt
 
 -- ---- how much is read
 
-some_of : (n a b : ℕ) → 0 < n → (if n == 0 then a else b) ≡ b
+pub some_of : (n a b : ℕ) → 0 < n → (if n == 0 then a else b) ≡ b
 some_of n a b lt = let e : (n == 0) ≡ false = ne_eqb _ _ (λ q. absurd (omega (arith, q))) in ap (λ (v : Bool). if v then a else b) e
 
-none_of : (n a b : ℕ) → n ≡ 0 → (if n == 0 then a else b) ≡ a
+pub none_of : (n a b : ℕ) → n ≡ 0 → (if n == 0 then a else b) ≡ a
 none_of n a b q = let e : (n == 0) ≡ true = eq-eqb _ _ q in ap (λ (v : Bool). if v then a else b) e
 
 data_word : (k : ChunkKind) (due : Bool) (raw words head : ℕ) → due_of k ≡ true → due ≡ true → data_wanted k due raw words head ≡ 4
@@ -117,8 +117,11 @@ extra_wanted s p e = ap (λ (q : Phase). wanted_in q s) p ∙ some_of s.extra (d
 raw_wanted : (k : ChunkKind) (due : Bool) (raw words head : ℕ) → k ≡ kinds.Raw → 0 < raw → data_wanted k due raw words head ≡ raw
 raw_wanted k due raw words head e lt = ap (λ (j : ChunkKind). data_wanted j due raw words head) e ∙ some_of raw head raw lt
 
-more_heads : (s : Walk) → s.index < s.header.total_chunks → head_wanted s ≡ 12
+pub more_heads : (s : Walk) → s.index < s.header.total_chunks → head_wanted s ≡ 12
 more_heads s lt = ap (λ (v : Bool). if v then 12 else 0) (lt-ltb _ _ lt)
+
+pub no_heads : (s : Walk) → s.header.total_chunks ≤ s.index → head_wanted s ≡ 0
+no_heads s le = ap (λ (v : Bool). if v then 12 else 0) (le-ltb _ _ le)
 
 pub asked_wanted : (turn : Turn) (s : Walk) → AtTurn turn s → ask_of turn s ≤ wanted s
 asked_wanted turns.Header s h = let e : wanted s ≡ 28 = ap (λ (q : Phase). wanted_in q s) h in omega (arith, e)

@@ -3,6 +3,7 @@ pub mod Listed
 pub mod ListingLaws
 pub mod Turns
 pub mod Causes
+pub mod Fed
 pub mod Finishing
 pub mod Showing
 pub mod Repeated

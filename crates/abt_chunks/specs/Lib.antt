@@ -5,3 +5,5 @@ pub mod Cause
 pub mod Expanding
 pub mod Whole
 pub mod Showing
+pub mod Feeding
+pub mod Pulling

@@ -18,24 +18,29 @@
 //! | `expansion.rt` | what is written of a part |
 //! | `expander.rt` | `Expander`, `expand` |
 //! | `listing.rt` | `Chunks` |
+//! | `feed.rt`, `pull.rt` | `Puller`, a walk that is fed its input in pieces of any length |
 //! | `laws.rt` | the law of listings |
 //!
 //! `specs/Whole.antt` says what an expansion answers, `specs/Listing.antt` and `specs/Showing.antt` what a listing shows,
-//! `specs/Ahead.antt` and `specs/Walking.antt` what the rest of an input gives to a walk.
+//! `specs/Ahead.antt` and `specs/Walking.antt` what the rest of an input gives to a walk, `specs/Pulling.antt` what a pull
+//! says of it, and `specs/Cause.antt` who is to blame for a refusal and how much was read before it was known.
 #![tactic(auto)]
 
 mod expander;
 mod expansion;
+mod feed;
 mod kinds;
 mod laws;
 mod listing;
 mod parts;
 mod place;
 mod progress;
+mod pull;
 mod walk;
 
 pub use abt_sparse::{ChunkHeader, ChunkKind, SparseFault, SparseHeader};
 pub use expander::{Expander, expand};
+pub use feed::{Pull, Pulled, Puller};
 pub use laws::listings_are_right;
 pub use listing::Chunks;
 pub use progress::{ChunkInfo, Expanded, Progress};

@@ -11,6 +11,7 @@ ghost use Rattle.abt_sparse.specs.Reading.{kind_at, number_at};
 ghost use Rattle.abt_chunks.specs.Cause.{CleanPart, full_in_part, wanted};
 ghost use Rattle.abt_chunks.specs.Expanding.{IsGoing};
 ghost use Rattle.abt_chunks.specs.Walking.{Says, Shows, Lists, Numbers, Empties, Closes, Leaves, Moved, Within, Caused, Told, AtTurn, IsOver, ask_of, needed_of, todo, place_of, upto_of, given_by, is_fault, goes_on};
+ghost use Rattle.abt_chunks.specs.Feeding.{TakesWhole};
 
 use crate::kinds::{counted_blocks, has_word, laid_words, length_of_data, raw_bytes};
 use crate::walk::{Part, Phase, Taken, Turn, Walk};
@@ -22,6 +23,7 @@ impl Walk {
     fn take_header(&mut self, got: &[u8]) -> Part
         requires here { AtTurn Turn.Header self.old }
         requires asked { length got.now ≤ 28 }
+        ensures no_blocks { given_by result ≡ 0 }
         ensures says { (t : List ℕ) → (length got.now < 28 → t ≡ []) → Says result self.old self.new got.now t }
         ensures lists { (t : List ℕ) → (length got.now < 28 → t ≡ []) → Shows result self.old self.new got.now t }
         ensures short { length got.now < 28 → IsTrue (is_fault result) }
@@ -65,9 +67,10 @@ impl Walk {
     }
 
     /// Bytes of a header behind the part of it that this version knows. They are passed over.
-    fn take_extra(&mut self, got: &[u8]) -> Part
+    pub(crate) fn take_extra(&mut self, got: &[u8]) -> Part
         requires here { AtTurn Turn.Extra self.old }
         requires asked { length got.now ≤ self.old.extra }
+        ensures no_blocks { given_by result ≡ 0 }
         ensures says { (t : List ℕ) → (length got.now < 1 → t ≡ []) → Says result self.old self.new got.now t }
         ensures lists { (t : List ℕ) → (length got.now < 1 → t ≡ []) → Shows result self.old self.new got.now t }
         ensures short { length got.now < 1 → IsTrue (is_fault result) }
@@ -92,7 +95,7 @@ impl Walk {
     }
 
     /// Raw bytes, which are blocks as they are. Those that came before the input ended count.
-    fn take_raw(&mut self, got: &[u8]) -> Part
+    pub(crate) fn take_raw(&mut self, got: &[u8]) -> Part
         requires here { AtTurn Turn.Raw self.old }
         requires asked { length got.now ≤ self.old.raw }
         ensures says { (t : List ℕ) → (length got.now < 1 → t ≡ []) → Says result self.old self.new got.now t }
@@ -122,6 +125,7 @@ impl Walk {
     fn take_word(&mut self, got: &[u8]) -> Part
         requires here { AtTurn Turn.Word self.old }
         requires asked { length got.now ≤ 4 }
+        ensures no_blocks { given_by result ≡ 0 }
         ensures says { (t : List ℕ) → (length got.now < 4 → t ≡ []) → Says result self.old self.new got.now t }
         ensures lists { (t : List ℕ) → (length got.now < 4 → t ≡ []) → Shows result self.old self.new got.now t }
         ensures short { length got.now < 4 → IsTrue (is_fault result) }
@@ -151,6 +155,7 @@ impl Walk {
     fn take_chunk(&mut self, got: &[u8]) -> Part
         requires here { AtTurn Turn.Chunk self.old }
         requires asked { length got.now ≤ 12 }
+        ensures no_blocks { given_by result ≡ 0 }
         ensures says { (t : List ℕ) → (length got.now < 12 → t ≡ []) → Says result self.old self.new got.now t }
         ensures lists { (t : List ℕ) → (length got.now < 12 → t ≡ []) → Shows result self.old self.new got.now t }
         ensures short { length got.now < 12 → IsTrue (is_fault result) }
@@ -185,6 +190,7 @@ impl Walk {
         requires here { AtTurn Turn.Chunk self.old }
         requires whole { length got.now ≡ 12 }
         requires known { kind_at (number_at 0 2 got.now) ≡ Some kind }
+        ensures no_blocks { given_by result ≡ 0 }
         ensures says { (t : List ℕ) → Says result self.old self.new got.now t }
         ensures lists { (t : List ℕ) → Shows result self.old self.new got.now t }
         ensures leaves { Leaves result self.new.phase }
@@ -318,11 +324,12 @@ impl Walk {
     }
 
     /// Takes a turn with the bytes that came for it.
-    fn take(&mut self, turn: Turn, got: &[u8], fills: u64, skips: u64) -> Part
+    pub(crate) fn take(&mut self, turn: Turn, got: &[u8], fills: u64, skips: u64) -> Part
         requires here { AtTurn turn self.old }
         requires asked { length got.now ≤ ask_of turn self.old }
         requires fills { 0 < fills }
         requires skips { 0 < skips }
+        ensures no_blocks { TakesWhole turn → given_by result ≡ 0 }
         ensures says { (t : List ℕ) → (length got.now < needed_of turn → t ≡ []) → Says result self.old self.new got.now t }
         ensures lists { (t : List ℕ) → (length got.now < needed_of turn → t ≡ []) → Shows result self.old self.new got.now t }
         ensures short { length got.now < needed_of turn → IsTrue (is_fault result) }
