@@ -29,7 +29,7 @@ all: $(PROGRAM) $(MANUAL)
 $(PROGRAM): crates.txt $(SOURCES)
 	tools/prove.py --rt $(RT) --jobs $(JOBS) abootimg
 	@mkdir -p build
-	@cp crates/abootimg/out/abootimg $(PROGRAM)
+	@install -m 755 crates/abootimg/out/abootimg $(PROGRAM)
 
 $(MANUAL): docs/COMMANDS.md tools/make_man.py
 	@mkdir -p build

@@ -8,8 +8,9 @@ in a folder of its own below build/proving: its sources, the built libraries bel
 which is moved there and back. What stands in `out` afterwards is what `rt lib` and `rt run` leave, and with nothing changed
 since, neither they nor this script prove anything again.
 
-A crate is begun when all below it are built, first the one with the most behind it. It gets the processors that no other
-crate waits for. --jobs says how many processors there are to use, --memory how many MiB one job is reckoned to take.
+A crate is begun when all below it are built, first the one with the most behind it. That one gets the processors that are
+left where each other crate that could begin gets one. --jobs says how many processors there are to use, --memory how many MiB
+one job is reckoned to take.
 """
 import argparse
 import fcntl
@@ -166,7 +167,7 @@ class Progress:
 
 
 def jobs_for(running, ready, words, lanes):
-    """How many jobs the next crate may use: the processors that nobody else waits for, as far as memory goes."""
+    """How many jobs the next of so many crates may use, as far as memory goes. With no processor to spare it waits."""
     idle = lanes - sum(it.jobs for it in running)
     if idle < 1:
         return 0
@@ -175,7 +176,7 @@ def jobs_for(running, ready, words, lanes):
     if free is not None:
         free -= sum(words.memory * it.jobs for it in running if it.seconds() < 30)
         idle = min(idle, free // words.memory)
-    return max(1 if not running else 0, min(4, idle // ready))
+    return max(1 if not running else 0, min(4, max(idle - (ready - 1), min(idle, 1))))
 
 
 def prove(words, lines, uses, wanted):
