@@ -16,6 +16,7 @@ import functools
 import glob
 import os
 import re
+import subprocess
 import sys
 
 HERE = os.path.dirname(os.path.dirname(os.path.abspath(__file__)))
@@ -183,6 +184,10 @@ def check_documents(checks, under):
         paths |= {"crates/" + it for it in re.findall(r"`(\w+/src/[\w/]+\.rt)`", text)}
         for it in sorted(it for it in paths if "NAME" not in it):
             checks.that(os.path.exists(os.path.join(HERE, it)), f"{path}: {it} is there")
+    page = subprocess.run(
+        [os.path.join(HERE, "tools/make_man.py"), os.path.join(HERE, "docs/COMMANDS.md")], stdout=subprocess.PIPE, text=True)
+    for command in re.findall(r"(?m)^## ([a-z]+)$", "\n".join(lines_of("docs/COMMANDS.md"))):
+        checks.that(f".SH {command.upper()}\n" in page.stdout, f"the manual page has a section on {command}")
     told = "\n".join(lines_of("docs/ARCHITECTURE.md"))
     for crate in under:
         checks.that(f"`{crate}`" in told, f"docs/ARCHITECTURE.md tells of the crate {crate}")
