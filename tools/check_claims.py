@@ -193,6 +193,17 @@ def check_documents(checks, under):
         checks.that(f"`{crate}`" in told, f"docs/ARCHITECTURE.md tells of the crate {crate}")
 
 
+def check_rules(checks, rows):
+    """Of the table of rules in docs/ARCHITECTURE.md: each definition stands in specs/ of the crate that is named."""
+    for cells, number in rows:
+        place, *names = words_in(cells[1])
+        crate = place.partition("/")[0]
+        files = [os.path.basename(it)[:-5] for it in glob.glob(os.path.join(HERE, "crates", crate, "specs", "*.antt"))]
+        for name in names:
+            found = any(definition(crate, file, name) for file in files)
+            checks.that(found, f"docs/ARCHITECTURE.md, line {number}: {crate} defines {name}")
+
+
 def main():
     parser = argparse.ArgumentParser(description=__doc__, formatter_class=argparse.RawDescriptionHelpFormatter)
     parser.add_argument("--show", action="store_true", help="print each check, also where it passes")
@@ -204,6 +215,7 @@ def main():
     checks.that(definitions and claims, "docs/CLAIMS.md has tables of definitions and of claims")
     check_definitions(checks, definitions)
     check_claims(checks, claims, under)
+    check_rules(checks, [(cells, number) for head, cells, number in tables("docs/ARCHITECTURE.md") if head[0] == "rule"])
     check_documents(checks, under)
     print(f"{checks.passed} passed, {checks.failed} failed")
     return 1 if checks.failed else 0
