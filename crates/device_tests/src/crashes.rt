@@ -30,7 +30,7 @@ fn left(n: u64, pick: Pick) -> &'static [u8; 5] {
 }
 
 #[test]
-fn crashed(rt: HostRuntime) {
+fn a_crash_leaves_what_was_synced_and_any_bytes_in_what_was_not(rt: HostRuntime) {
     for n in 1..=5u64 {
         for pick in [Pick::Old, Pick::New, Pick::Byte(b'Z')] {
             let mut now = *b".....";
@@ -60,7 +60,7 @@ fn crashed(rt: HostRuntime) {
 }
 
 #[test]
-fn torn(rt: HostRuntime) {
+fn a_write_that_fails_may_mar_its_whole_range(rt: HostRuntime) {
     let mut now = *b"....";
     let mut stable = [0u8; 4];
     let mut touched = [0u8; 4];

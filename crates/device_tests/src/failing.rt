@@ -4,7 +4,7 @@ use crate::calls::{capacity_of, fault_at, length_of, partition_calls, spool_call
 use abt_io::*;
 
 #[test]
-fn spools(rt: HostRuntime) {
+fn each_call_of_a_spool_fails_alone(rt: HostRuntime) {
     for n in 1..=4u64 {
         let mut room = *b"....";
         let mut out = *b"....";
@@ -25,7 +25,7 @@ fn spools(rt: HostRuntime) {
 }
 
 #[test]
-fn partitions(rt: HostRuntime) {
+fn each_call_of_a_partition_fails_alone(rt: HostRuntime) {
     for n in 1..=4u64 {
         let mut room = *b"....";
         let mut out = *b"..";
@@ -46,7 +46,7 @@ fn partitions(rt: HostRuntime) {
 }
 
 #[test]
-fn sources(rt: HostRuntime) {
+fn each_read_of_a_source_fails_and_what_came_before_stands(rt: HostRuntime) {
     for n in 1..=3u64 {
         let mut room = [0u8; 4];
         let mut output = SliceOutput::new(&mut room);
@@ -69,30 +69,48 @@ fn sources(rt: HostRuntime) {
 }
 
 #[test]
-fn streams(rt: HostRuntime) {
+fn each_read_of_an_input_fails_and_what_came_before_stands(rt: HostRuntime) {
+    for n in 1..=3u64 {
+        let mut out = *b"....";
+        let mut m = Meter::new();
+        let input = Forward::new(SliceSource::new(b"abcd"));
+        let mut input = Faulty::new(Cut::new(input, 2), n);
+        let found = gather(&mut input, &mut out, &mut m);
+        assert_eq!(rt; found.count as u64, (2 * (n - 1)).min(4), "call {n}");
+        assert_eq!(rt;
+            found.fault,
+            if n == 3 { None } else { fault_at(n, n) },
+            "call {n}"
+        );
+        // A failed read consumes nothing.
+        assert_eq!(rt; input.device.device.position(), found.count as u64);
+        assert_eq!(rt; input.seen, n.min(2));
+    }
+}
+
+#[test]
+fn each_write_of_an_output_fails_and_what_was_taken_before_stands(rt: HostRuntime) {
     for n in 1..=3u64 {
         let mut room = [0u8; 4];
-        let mut input = Faulty::new(Forward::new(SliceSource::new(b"abcd")), n);
-        let mut output = Faulty::new(Cut::new(SliceOutput::new(&mut room), 2), n);
-        let mut w = Window::new();
         let mut m = Meter::new();
-        let moved = pump(&mut input, &mut output, 4, &mut w, &mut m);
-        let fault = match n {
-            1 => Some(MoveFault::Read(DeviceFault::Failed)),
-            2 => Some(MoveFault::Write(DeviceFault::Failed)),
-            _ => None,
-        };
-        assert_eq!(rt; moved.err(), fault, "call {n}");
+        let mut output = Faulty::new(Cut::new(SliceOutput::new(&mut room), 2), n);
+        let answer = write_out(&mut output, b"abcd", &mut m);
+        assert_eq!(rt;
+            answer.err(),
+            if n == 3 { None } else { fault_at(n, n) },
+            "call {n}"
+        );
         assert_eq!(rt;
             output.device.device.written().len() as u64,
             (2 * (n - 1)).min(4),
             "call {n}"
         );
+        assert_eq!(rt; output.seen, n.min(2));
     }
 }
 
 #[test]
-fn marred(rt: HostRuntime) {
+fn the_first_write_over_the_byte_is_marred_and_no_other(rt: HostRuntime) {
     let mut room = *b"......";
     let mut m = Meter::new();
     {

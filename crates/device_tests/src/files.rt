@@ -14,7 +14,7 @@ fn fresh<R: Files>(rt: &R, name: &str) -> Result<R::File, Fail> {
 }
 
 #[test]
-fn sources(rt: HostRuntime) -> Result<(), Fail> {
+fn a_file_is_read_at_any_place(rt: HostRuntime) -> Result<(), Fail> {
     fs::write(&rt, "source.tmp", "abcdef")?;
     let mut out = [0u8; 4];
     let mut m = Meter::new();
@@ -33,7 +33,7 @@ fn sources(rt: HostRuntime) -> Result<(), Fail> {
 }
 
 #[test]
-fn partitions(rt: HostRuntime) -> Result<(), Fail> {
+fn a_file_is_written_at_a_place_and_read_back(rt: HostRuntime) -> Result<(), Fail> {
     fs::write(&rt, "partition.tmp", "......")?;
     let mut options = OpenOptions::new();
     options.read(true).write(true);
@@ -57,7 +57,7 @@ fn partitions(rt: HostRuntime) -> Result<(), Fail> {
 }
 
 #[test]
-fn spools(rt: HostRuntime) -> Result<(), Fail> {
+fn a_spool_file_holds_its_capacity_and_is_emptied(rt: HostRuntime) -> Result<(), Fail> {
     let mut out = [0u8; 6];
     let mut m = Meter::new();
     {
@@ -83,14 +83,16 @@ fn spools(rt: HostRuntime) -> Result<(), Fail> {
 }
 
 #[test]
-fn streams(rt: HostRuntime) -> Result<(), Fail> {
+fn a_file_is_read_forward_and_written_into_another(rt: HostRuntime) -> Result<(), Fail> {
     fs::write(&rt, "from.tmp", "abcdef")?;
-    let mut w = Window::new();
+    let mut held = [0u8; 9];
     let mut m = Meter::new();
     {
         let mut input = FromRead::new(File::open(&rt, "from.tmp")?);
         let mut output = ToWrite::new(fresh(&rt, "to.tmp")?);
-        assert_eq!(rt; pump(&mut input, &mut output, 9, &mut w, &mut m), Ok(6));
+        let found = gather(&mut input, &mut held, &mut m);
+        assert_eq!(rt; (found.count, found.fault), (6, None));
+        assert_eq!(rt; write_out(&mut output, &held[..6], &mut m), Ok(()));
     }
     let held = fs::read_to_string(&rt, "to.tmp")?;
     assert_eq!(rt; held.as_str(), "abcdef");
@@ -99,8 +101,20 @@ fn streams(rt: HostRuntime) -> Result<(), Fail> {
     Ok(())
 }
 
+/// The system refuses to sync a device that keeps nothing, so a sync that answers Ok there asked for none.
 #[test]
-fn refused(rt: HostRuntime) -> Result<(), Fail> {
+fn a_sync_that_the_system_refuses_fails(rt: HostRuntime) -> Result<(), Fail> {
+    let mut options = OpenOptions::new();
+    options.read(true).write(true);
+    let file = options.open(&rt, "/dev/null")?;
+    let mut partition = FilePartition::new(file).ok().ok_or("no length")?;
+    assert_eq!(rt; length_of(&partition), 0);
+    assert_eq!(rt; partition.sync(), Err(DeviceFault::Failed));
+    Ok(())
+}
+
+#[test]
+fn a_file_opened_for_reading_takes_nothing(rt: HostRuntime) -> Result<(), Fail> {
     // A file that was opened for reading alone takes nothing.
     fs::write(&rt, "refused.tmp", "....")?;
     let mut out = [0u8; 2];

@@ -4,36 +4,37 @@ use crate::calls::{capacity_of, length_of, partition_calls, spool_calls};
 use abt_io::*;
 
 #[test]
-fn pumped(rt: HostRuntime) {
+fn gathering_and_writing_move_as_much_as_was_asked(rt: HostRuntime) {
+    let mut held = [0u8; 7];
     let mut room = [0u8; 8];
+    let mut m = Meter::new();
     let mut forward = Cut::new(Forward::new(SliceSource::new(b"abcdefgh")), 3);
+    assert_eq!(rt; gather(&mut forward, &mut held, &mut m).count, 7);
+    assert_eq!(rt; forward.device.position(), 7);
     {
         let mut output = Cut::new(SliceOutput::new(&mut room), 2);
-        let mut w = Window::new();
-        let mut m = Meter::new();
-        assert_eq!(rt; pump(&mut forward, &mut output, 7, &mut w, &mut m), Ok(7));
+        assert_eq!(rt; write_out(&mut output, &held, &mut m), Ok(()));
         assert_eq!(rt; output.device.written(), b"abcdefg".as_slice());
     }
-    assert_eq!(rt; forward.device.position(), 7);
     assert_eq!(rt; room.as_slice(), b"abcdefg\0".as_slice());
 }
 
 #[test]
-fn full(rt: HostRuntime) {
+fn writing_into_a_full_output_fails(rt: HostRuntime) {
     let mut room = [0u8; 3];
-    let mut input = Forward::new(SliceSource::new(b"abcdefgh"));
     let mut output = SliceOutput::new(&mut room);
-    let mut w = Window::new();
     let mut m = Meter::new();
     assert_eq!(rt;
-        pump(&mut input, &mut output, 8, &mut w, &mut m),
-        Err(MoveFault::Write(DeviceFault::Full))
+        write_out(&mut output, b"abcdefgh", &mut m),
+        Err(DeviceFault::Full)
     );
     assert_eq!(rt; output.written(), b"abc".as_slice());
+    // An empty write finds room even there.
+    assert_eq!(rt; write_out(&mut output, b"", &mut m), Ok(()));
 }
 
 #[test]
-fn copied(rt: HostRuntime) {
+fn copying_a_range_stops_where_the_source_ends(rt: HostRuntime) {
     let mut room = [0u8; 8];
     let mut output = SliceOutput::new(&mut room);
     let mut source = Cut::new(SliceSource::new(b"abcdefgh"), 3);
@@ -53,7 +54,7 @@ fn copied(rt: HostRuntime) {
 }
 
 #[test]
-fn gathered(rt: HostRuntime) {
+fn gathering_reads_again_until_all_came_or_a_call_fails(rt: HostRuntime) {
     let mut out = [0u8; 4];
     let mut m = Meter::new();
     let mut source = Cut::new(SliceSource::new(b"abcdef"), 3);
@@ -67,7 +68,7 @@ fn gathered(rt: HostRuntime) {
 }
 
 #[test]
-fn laid(rt: HostRuntime) {
+fn a_word_is_laid_as_often_as_asked(rt: HostRuntime) {
     let mut w = Window::new();
     let mut m = Meter::new();
     lay_word(&mut w, *b"abcd", 3, &mut m);
@@ -77,7 +78,7 @@ fn laid(rt: HostRuntime) {
 }
 
 #[test]
-fn put(rt: HostRuntime) {
+fn writing_at_a_place_touches_its_range_alone(rt: HostRuntime) {
     let mut room = [0u8; 6];
     let mut out = [0u8; 2];
     let mut m = Meter::new();
@@ -95,7 +96,7 @@ fn put(rt: HostRuntime) {
 }
 
 #[test]
-fn spooled(rt: HostRuntime) {
+fn a_spool_gives_back_what_it_took_and_is_emptied(rt: HostRuntime) {
     let mut room = [0u8; 4];
     let mut out = [0u8; 6];
     let mut m = Meter::new();
@@ -116,7 +117,7 @@ fn spooled(rt: HostRuntime) {
 }
 
 #[test]
-fn claimed(rt: HostRuntime) {
+fn a_source_claims_more_than_it_has(rt: HostRuntime) {
     let mut out = [0u8; 4];
     let mut m = Meter::new();
     let mut long = Long::new(SliceSource::new(b"abc"), 1 << 32);
@@ -125,7 +126,7 @@ fn claimed(rt: HostRuntime) {
 }
 
 #[test]
-fn switched(rt: HostRuntime) {
+fn a_source_is_another_after_some_calls(rt: HostRuntime) {
     let mut out = [0u8; 4];
     let mut m = Meter::new();
     let mut source = SwitchSource::new(b"abc", b"wxyz", 2);

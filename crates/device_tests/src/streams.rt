@@ -54,7 +54,7 @@ impl<T: Write> Write for Halting<T> {
 }
 
 #[test]
-fn interrupted(rt: HostRuntime) {
+fn interrupted_calls_are_made_again(rt: HostRuntime) {
     let mut out = [0u8; 4];
     let mut room = [0u8; 4];
     let mut m = Meter::new();
@@ -70,7 +70,7 @@ fn interrupted(rt: HostRuntime) {
 }
 
 #[test]
-fn failing(rt: HostRuntime) {
+fn a_failing_reader_or_writer_is_answered_once(rt: HostRuntime) {
     let mut out = [0u8; 4];
     let mut room = [0u8; 4];
     let mut m = Meter::new();
