@@ -48,7 +48,7 @@ try() { # NAME LAST-LINE WORDS.. (after the device was filled with ones)
     tell "$name" "$verdict"
 }
 
-limit=$(((mib << 20) / 5 + 4160))
+limit=$(((mib << 20) / 12 + 4160))
 try 'straight' 'blocks *' image "$device"
 try 'from a pipe' 'blocks *' /dev/stdin "$device" < <(cat image)
 try "in pieces of $limit" 'pieces *' image "$device" "$limit" spool
