@@ -72,7 +72,7 @@ def compare(words, work):
     subprocess.run([os.path.join(HERE, "tools/make_sparse.py"), at("image"), "--mib", str(words.mib)], check=True)
     expected(words, at)
     limit, program = str(words.limit << 20), words.program
-    dd = [shutil.which("dd"), "if=" + at("zeros"), "of=" + at("partition"), "bs=1M", "conv=fsync,notrunc"]
+    dd = [shutil.which("dd"), "if=" + at("zeros"), "of=" + at("partition"), "bs=1M", "conv=fsync,notrunc", "status=none"]
     runs = {
         "flash": ([program, "flash", at("image"), at("partition")], at("over")),
         "flash in pieces": ([program, "flash", at("image"), at("partition"), limit, at("spool")], at("over")),
