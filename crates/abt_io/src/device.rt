@@ -2,10 +2,9 @@
 //!
 //! The ghost members say what contracts know of a device; the clauses say how each call changes them.
 //! `count_of result` is how many bytes the call moved, 0 where it failed. A call that answers Ok has not
-//! failed: its count of faults is as before. Only an output may be full; every other call that fails
-//! answers `Failed`. A clause under
-//! `IsTrue tells` speaks of bytes, and binds only a device that tells them. The laws below the last
-//! function of a trait hold between any two calls.
+//! failed: its count of faults is as before. Only a `write` may find its device full; every other call
+//! that fails answers `Failed`. A clause under `IsTrue tells` speaks of bytes, and binds only a device
+//! that tells them. The laws below the last function of a trait hold between any two calls.
 
 ghost use Rattle.std.specs.Prelude.{◌≡◌, ◌<◌, ◌≤◌, ◌+◌, ◌-◌, ◌^◌, ◌++◌, [], ◌∷◌, ℕ, List, Bool, IsTrue, IfOk, IfErr, OnOk, OnErr, IsErrOf, is_ok, false, if◌then◌else◌, length, take, drop};
 ghost use Rattle.abt_io.specs.Bytes.{AreBytes};
@@ -155,10 +154,14 @@ pub trait Source {
 
 /// A source that is written at any place within its length, which never changes.
 ///
-/// Contracts know its moments: what a read gave, what was pending and how many syncs had succeeded,
-/// one after each call that may change it. A range is pending from the call that was asked to write it,
-/// also where that call failed, until a sync succeeds; a crash may leave any bytes there, and leaves all
-/// others.
+/// Contracts know its moments: its content, which bytes were pending and how many syncs had succeeded,
+/// as a call left them. Behind a call that succeeds the newest moment is how the partition is now; a
+/// call that fails may add moments too, each as it left the partition.
+///
+/// The bytes that a write took are pending from then on, until a sync succeeds; then none is. The rest
+/// of the range that a write was asked to write may have become pending too; where the write failed, any
+/// bytes may stand in that range. No call changes a byte outside, or makes it pending. A crash leaves
+/// every byte that isn't pending as it is, and any value where one is.
 pub trait Partition: Source {
     /// What it was through: the bytes that are pending, the syncs that succeeded and its moments.
     ghost past: { Self → Past };

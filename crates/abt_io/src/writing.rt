@@ -30,7 +30,10 @@ pub fn write_out<O: Output>(output: &mut O, bytes: &[u8], m: &mut Meter) -> Resu
     let mut at = 0;
     while at < bytes.len() {
         m.tick();
-        at += output.write(&bytes[at..])?;
+        match output.write(&bytes[at..]) {
+            Ok(n) => at += n,
+            Err(fault) => return Err(fault),
+        }
     }
     Ok(())
 }

@@ -1,6 +1,6 @@
 //! A source that changes.
 
-ghost use Rattle.std.specs.Prelude.{◌≡◌, [], false, nat_lt, if◌then◌else◌, length};
+ghost use Rattle.std.specs.Prelude.{◌≡◌, ◌-◌, [], false, nat_lt, if◌then◌else◌, length};
 ghost use Rattle.std.proofs.lemmas.Bool.{false≢true};
 
 use crate::bytes::read_part;
@@ -12,9 +12,11 @@ use crate::{DeviceFault, Source, Tally};
 pub struct SwitchSource<'a> {
     pub first: &'a [u8],
     pub second: &'a [u8],
+    pub n: u64,
     pub left: u64,
     pub reads: Tally,
     pub given: Tally,
+    pub ghost at_its_call: { left ≡ n - reads.number },
 }
 
 impl<'a> SwitchSource<'a> {
@@ -22,11 +24,13 @@ impl<'a> SwitchSource<'a> {
     pub fn new(first: &'a [u8], second: &'a [u8], n: u64) -> SwitchSource<'a>
         ensures first { result.first.now ≡ first.now }
         ensures second { result.second.now ≡ second.now }
-        ensures left { result.left ≡ n }
+        ensures n { result.n ≡ n }
+        ensures reads { result.reads.number ≡ 0 }
     {
         SwitchSource {
             first,
             second,
+            n,
             left: n,
             reads: Tally::new(),
             given: Tally::new(),
