@@ -2,8 +2,8 @@
 
 use crate::files::{create_buffered, open_source, send};
 use abt_io::{Meter, Output, Window};
-use abt_pieces::sparsify;
 use abt_runs::{BlockRuns, RawRuns};
+use abt_sparsify::sparsify;
 use abt_texts::{CommandFault, Text, write_fault};
 use std::alloc::Global;
 use std::fs::File;

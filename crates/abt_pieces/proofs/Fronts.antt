@@ -7,7 +7,7 @@ use Rattle.abt_runs.specs.declared.part.RunFault.{RunFault}
 use Rattle.abt_runs.specs.declared.part.RunFault.TheVariants as of_runs
 use Rattle.abt_pieces.specs.declared.fault.PieceFault.{PieceFault}
 use Rattle.abt_pieces.specs.declared.fault.PieceFault.TheVariants.{Read, Write, TooLarge, SourceChanged, BadBlock, LimitTooSmall}
-use Rattle.abt_pieces.specs.Fault.{HasCause, fault_of_run}
+use Rattle.abt_pieces.specs.Fault.{HasCause, fault_of_run, full_in_cut}
 use Rattle.abt_pieces.specs.Write.{ChunkCause}
 
 pub grown_by : (old new x : List ℕ) → new ≡ old ++ x → length new - length old ≡ length x
@@ -82,7 +82,7 @@ no_bytes (y ∷ x) e = absurd (omega arith)
 
 -- a fault since then is a fault since earlier
 pub cause_since : (e : PieceFault) (tells : Bool) (r0 r r' w0 w w' : ℕ) → r0 ≤ r → w0 ≤ w → HasCause e tells r r' w w' → HasCause e tells r0 r' w0 w'
-cause_since (Read f) tells r0 r r' w0 w w' a b h = omega (arith, a, h)
+cause_since (Read f) tells r0 r r' w0 w w' a b h = (omega (arith, a, h.0), h.1)
 cause_since (Write f) tells r0 r r' w0 w w' a b h = omega (arith, b, h)
 cause_since SourceChanged tells r0 r r' w0 w w' a b h = h
 cause_since TooLarge tells r0 r r' w0 w w' a b h = absurd h
@@ -91,3 +91,13 @@ cause_since (LimitTooSmall n) tells r0 r r' w0 w w' a b h = absurd h
 
 pub whole_of : (w0 w1 w2 h c x : List ℕ) → w1 ≡ w0 ++ h → w2 ≡ w1 ++ c → x ≡ h ++ c → w2 ≡ w0 ++ x
 whole_of w0 w1 w2 h c x ok all whole = all ∙ ap (λ (y : List ℕ). y ++ c) ok ∙ append_assoc w0 h c ∙ ap (λ (y : List ℕ). w0 ++ y) (sym whole)
+
+-- ---- an output that is full
+
+-- no pass over the source says so
+pub run_not_full : (f : RunFault) → full_in_cut (fault_of_run f) ≡ 0
+run_not_full (of_runs.Read d) = refl
+run_not_full of_runs.TooLarge = refl
+run_not_full of_runs.SourceChanged = refl
+run_not_full (of_runs.BadBlock n) = refl
+run_not_full (of_runs.Sparse d) = refl

@@ -7,9 +7,8 @@ pub mod Writing
 pub mod Going
 pub mod Fronts
 pub mod Cutting
-pub mod Sparsing
-pub mod SparseSteps
 pub mod Counts
 pub mod Spending
 pub mod Stepping
 pub mod SpendingStages
+pub mod Image

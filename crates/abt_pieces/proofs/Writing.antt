@@ -63,10 +63,10 @@ run_data (kinds.Fill w) g = []
 run_data kinds.Skip g = []
 run_data kinds.End g = []
 
-raw_chunk : (n n' t t' : ℕ) (d d' : List ℕ) → n ≡ n' → t ≡ t' → d ≡ d' → chunk_bytes 0xCAC1 (to_le_bytes w16 0) n t [] d ≡ front_bytes kinds.Raw n' t' ++ d'
+pub raw_chunk : (n n' t t' : ℕ) (d d' : List ℕ) → n ≡ n' → t ≡ t' → d ≡ d' → chunk_bytes 0xCAC1 (to_le_bytes w16 0) n t [] d ≡ front_bytes kinds.Raw n' t' ++ d'
 raw_chunk n n' t t' d d' p q r = rw (p, q, r) refl
 
-fill_chunk : (n n' : ℕ) (v w : List ℕ) → v ≡ w → n ≡ n' → length v ≡ 4 → chunk_bytes 0xCAC2 (to_le_bytes w16 0) n (12 + length v) [] v ≡ front_bytes (kinds.Fill w) n' 16 ++ []
+pub fill_chunk : (n n' : ℕ) (v w : List ℕ) → v ≡ w → n ≡ n' → length v ≡ 4 → chunk_bytes 0xCAC2 (to_le_bytes w16 0) n (12 + length v) [] v ≡ front_bytes (kinds.Fill w) n' 16 ++ []
 fill_chunk n n' v w same p four = rw (four, p, same) (sym (append-nil (front_bytes (kinds.Fill w) n' 16)))
 
 pub run_bytes : (b : ℕ) (k : RunKind) (g : List Block) (q : ℕ) → AllOf k g → length g ≡ q → 0 < q → AreBlocks b g → plain (chunk_of_run g) ≡ front_bytes k q (chunk_len k q b) ++ run_data k g

@@ -40,6 +40,15 @@ is_begun (Write o w) = true
 is_begun Done = false
 is_begun (Failed f) = false
 
+-- a call has refused, and each further one answers that again
+abbrev pub has_failed : Stage → Bool
+has_failed Between = false
+has_failed (Plan p) = false
+has_failed (Begin o) = false
+has_failed (Write o w) = false
+has_failed Done = false
+has_failed (Failed f) = true
+
 -- how many bytes of the begun piece are written
 abbrev pub so_far : Stage → ℕ
 so_far Between = 0

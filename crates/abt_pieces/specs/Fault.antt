@@ -1,5 +1,7 @@
 -- The numbers of faults, and what causes each.
-use Rattle.std.specs.Prelude.{◌≡◌, ◌<◌, ℕ, Bool, false}
+use Rattle.std.specs.Prelude.{◌≡◌, ◌<◌, ℕ, Bool, false, Result, Ok, Err}
+use Rattle.abt_io.specs.Count.{full_in}
+use Rattle.abt_io.specs.declared.device.DeviceFault.TheVariants.{Failed}
 use Rattle.abt_runs.specs.declared.part.RunFault.{RunFault}
 use Rattle.abt_runs.specs.declared.part.RunFault.TheVariants as of_runs
 use Rattle.abt_pieces.specs.declared.fault.PieceFault.{PieceFault}
@@ -20,11 +22,24 @@ fault_of_run of_runs.SourceChanged = SourceChanged
 fault_of_run (of_runs.Sparse f) = SourceChanged
 fault_of_run (of_runs.BadBlock n) = BadBlock n
 
--- While a piece is planned or written a device has failed, or a source that does not tell its bytes has changed.
+-- While a piece is planned or written a device has failed, the source with the reason that is handed on, or a source that does not tell its bytes has changed.
 abbrev pub HasCause : PieceFault → Bool → ℕ → ℕ → ℕ → ℕ → Type 0
-HasCause (Read f) tells reads reads' writes writes' = reads < reads'
+HasCause (Read f) tells reads reads' writes writes' = (reads < reads') × (f ≡ Failed)
 HasCause (Write f) tells reads reads' writes writes' = writes < writes'
 HasCause SourceChanged tells reads reads' writes writes' = tells ≡ false
 HasCause TooLarge tells reads reads' writes writes' = ⊥
 HasCause (BadBlock n) tells reads reads' writes writes' = ⊥
 HasCause (LimitTooSmall n) tells reads reads' writes writes' = ⊥
+
+-- 1 where a fault hands on that the output is full
+abbrev pub full_in_cut : PieceFault → ℕ
+full_in_cut (Read f) = 0
+full_in_cut (Write f) = full_in f
+full_in_cut TooLarge = 0
+full_in_cut SourceChanged = 0
+full_in_cut (BadBlock n) = 0
+full_in_cut (LimitTooSmall n) = 0
+
+abbrev pub full_cut : {X : Type 0} → Result X PieceFault → ℕ
+full_cut (Ok x) = 0
+full_cut (Err f) = full_in_cut f

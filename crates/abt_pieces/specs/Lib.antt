@@ -6,6 +6,6 @@ pub mod Write
 pub mod Spent
 pub mod Outline
 pub mod Cutter
-pub mod Sparsify
 pub mod SpentStage
 pub mod Alike
+pub mod Image

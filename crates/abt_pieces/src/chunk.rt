@@ -1,5 +1,6 @@
 //! What stands in front of a chunk's blocks.
-ghost use Rattle.std.specs.Prelude.{◌≡◌, ◌<◌, ◌≤◌, ◌+◌, ◌-◌, ◌%◌, ◌^◌, ◌++◌, OnOk, OnErr, IfErr, length, take};
+ghost use Rattle.std.specs.Prelude.{◌≡◌, ◌<◌, ◌≤◌, ◌+◌, ◌-◌, ◌%◌, ◌^◌, ◌++◌, OnOk, OnErr, IfErr, IsErrOf, IsTrue, length, take};
+ghost use Rattle.abt_io.specs.Count.{full_of};
 ghost use Rattle.abt_sparse.specs.Chunk.{header_record, plain_header};
 ghost use Rattle.abt_pieces.specs.Contents.{head_len as length_of_head};
 ghost use Rattle.abt_pieces.specs.Write.{front_bytes};
@@ -50,6 +51,10 @@ pub fn write_front<O: Output>(
     ensures whole { OnOk result (length (O.written output.new) ≡ length (O.written output.old) + length_of_head kind) }
     ensures frame { O.write_frame output.new ≡ O.write_frame output.old }
     ensures faults { O.write_faults output.old ≤ O.write_faults output.new }
+    ensures clean { OnOk result (O.write_faults output.new ≡ O.write_faults output.old) }
+    ensures full_faults { O.full_faults output.new ≡ O.full_faults output.old + full_of result }
+    ensures full { IsErrOf result DeviceFault.Full → IsTrue (O.is_full output.new) }
+    ensures short { OnErr result (length (O.written output.new) < length (O.written output.old) + length_of_head kind) }
     ensures cause { OnErr result (O.write_faults output.old < O.write_faults output.new) }
     ensures calls { O.writes output.new + length (O.written output.old) ≤ O.writes output.old + length (O.written output.new) + 1 }
     ensures turns { m.new.turns.number + length (O.written output.old) ≤ m.old.turns.number + length (O.written output.new) + 1 }
@@ -77,6 +82,10 @@ pub fn write_header<O: Output>(
     ensures whole { OnOk result (length (O.written output.new) ≡ length (O.written output.old) + 28) }
     ensures frame { O.write_frame output.new ≡ O.write_frame output.old }
     ensures faults { O.write_faults output.old ≤ O.write_faults output.new }
+    ensures clean { OnOk result (O.write_faults output.new ≡ O.write_faults output.old) }
+    ensures full_faults { O.full_faults output.new ≡ O.full_faults output.old + full_of result }
+    ensures full { IsErrOf result DeviceFault.Full → IsTrue (O.is_full output.new) }
+    ensures short { OnErr result (length (O.written output.new) < length (O.written output.old) + 28) }
     ensures cause { OnErr result (O.write_faults output.old < O.write_faults output.new) }
     ensures calls { O.writes output.new + length (O.written output.old) ≤ O.writes output.old + length (O.written output.new) + 1 }
     ensures turns { m.new.turns.number + length (O.written output.old) ≤ m.old.turns.number + length (O.written output.new) + 1 }

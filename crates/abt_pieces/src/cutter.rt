@@ -3,11 +3,12 @@ ghost use Rattle.std.specs.Prelude.{◌≡◌, ◌<◌, ◌≤◌, ◌+◌, ◌-
 ghost use Rattle.abt_sparse.specs.Block.{Block};
 ghost use Rattle.abt_sparse.specs.Runs.{Division};
 ghost use Rattle.abt_sparse.specs.Chunk.{piece as piece_bytes};
-ghost use Rattle.abt_pieces.specs.Fault.{HasCause};
+ghost use Rattle.abt_pieces.specs.Fault.{HasCause, full_cut};
 ghost use Rattle.abt_pieces.specs.Plan.{FirstPiece};
 ghost use Rattle.abt_pieces.specs.Outline.{IsPiece, IsOutline, blocks_of};
 ghost use Rattle.abt_pieces.specs.Alike.{SoundCutter-prop};
-ghost use Rattle.abt_pieces.specs.Cutter.{SoundOutline, SoundCutter, ToldCutter, Made, Passed, segments_left, coming, has_more, is_begun, piece_words};
+ghost use Rattle.abt_pieces.specs.Cutter.{SoundOutline, SoundCutter, ToldCutter, Made, Passed, segments_left, coming, has_more, is_begun, has_failed, piece_words};
+ghost use Rattle.abt_pieces.specs.Image.{Appended, IsImage};
 ghost use Rattle.abt_pieces.specs.SpentStage.{all_passes};
 ghost use Rattle.abt_pieces.specs.declared.stage.Stage.{Stage};
 
@@ -109,6 +110,7 @@ impl<R: BlockRuns + Drop> Cutter<R> {
         ensures turns { m.new.turns.number ≤ m.old.turns.number + 5 * (S.given source.new - S.given source.old) + 2 + 2 * R.one self.old.runs }
         ensures words { IfOk result (λ o. m.new.turns.number ≤ m.old.turns.number + 5 * (S.given source.new - S.given source.old) + 2 + piece_words (R.one self.old.runs) (R.count self.old.runs) o.piece.past) }
         ensures faults { S.read_faults source.old ≤ S.read_faults source.new }
+        ensures clean { OnOk result (S.read_faults source.new ≡ S.read_faults source.old) }
         ensures cause { IfErr result (λ e. HasCause e S.tells (S.read_faults source.old) (S.read_faults source.new) 0 0) }
     {
         let start = self.start;
@@ -147,6 +149,7 @@ impl<R: BlockRuns + Drop> Cutter<R> {
         ensures grown { length (O.written output.old) ≤ length (O.written output.new) }
         ensures within { length (O.written output.new) ≤ length (O.written output.old) + self.old.limit }
         ensures front { IsTrue S.tells → O.written output.new ≡ O.written output.old ++ take (length (O.written output.new) - length (O.written output.old)) (coming (R.size self.old.runs) self.old.limit (R.list self.old.runs (S.content source.old)) self.old.start.block self.old.stage) }
+        ensures image { IfOk result (λ o. IfSome o (λ p. Appended (IsImage (R.size self.old.runs) (R.count self.old.runs)) (O.written output.old) (O.written output.new))) }
         ensures passed { IfOk result (λ o. IfSome o (λ p. Passed (R.count self.old.runs) p.first p.past self.new.stage)) }
         ensures least { IfOk result (λ o. IfSome o (λ p. 28 ≤ p.bytes)) }
         ensures piece { IfOk result (λ o. IfSome o (λ p. (p.first ≡ self.old.start.block) × (p.past ≡ self.new.start.block) × (p.bytes ≤ self.old.limit) × (length (O.written output.new) ≡ length (O.written output.old) + p.bytes) × (self.new.made ≡ self.old.made + 1))) }
@@ -168,6 +171,9 @@ impl<R: BlockRuns + Drop> Cutter<R> {
         ensures words { IfOk result (λ o. IfSome o (λ p. m.new.turns.number ≤ m.old.turns.number + 6 * ((S.given source.new - S.given source.old) + (length (O.written output.new) - length (O.written output.old))) + 32 + piece_words (R.one self.old.runs) (R.count self.old.runs) p.past)) }
         ensures faults { S.read_faults source.old ≤ S.read_faults source.new }
         ensures write_faults { O.write_faults output.old ≤ O.write_faults output.new }
+        ensures clean { OnOk result ((S.read_faults source.new ≡ S.read_faults source.old) × (O.write_faults output.new ≡ O.write_faults output.old)) }
+        ensures full_faults { has_failed self.old.stage ≡ false → O.full_faults output.new ≡ O.full_faults output.old + full_cut result }
+        ensures full { has_failed self.old.stage ≡ false → full_cut result ≡ 1 → IsTrue (O.is_full output.new) × (length (O.written output.new) < length (O.written output.old) + self.old.limit) }
         ensures cause { IfErr result (λ e. (self.old.stage ≡ Stage.Failed e) ⊎ HasCause e S.tells (S.read_faults source.old) (S.read_faults source.new) (O.write_faults output.old) (O.write_faults output.new)) }
     {
         'steps: loop {
@@ -216,6 +222,7 @@ impl<R: BlockRuns + Drop> Cutter<R> {
         ensures turns { m.new.turns.number ≤ m.old.turns.number + 5 * (S.given source.new - S.given source.old) + 2 + 2 * R.one self.old.runs }
         ensures words { IfOk result (λ o. IfSome o (λ p. m.new.turns.number ≤ m.old.turns.number + 5 * (S.given source.new - S.given source.old) + 2 + piece_words (R.one self.old.runs) (R.count self.old.runs) p.past)) }
         ensures faults { S.read_faults source.old ≤ S.read_faults source.new }
+        ensures clean { OnOk result (S.read_faults source.new ≡ S.read_faults source.old) }
         ensures cause { IfErr result (λ e. (self.old.stage ≡ Stage.Failed e) ⊎ HasCause e S.tells (S.read_faults source.old) (S.read_faults source.new) 0 0) }
     {
         match self.stage {

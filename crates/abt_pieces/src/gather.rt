@@ -1,5 +1,5 @@
 //! The runs of a piece, each known whole before it is written.
-ghost use Rattle.std.specs.Prelude.{◌≡◌, ℕ, ◌<◌, ◌≤◌, ◌+◌, ◌-◌, ◌*◌, ◌^◌, IsTrue, IfOk, IfErr, IfSome, IfNone, length, min, max, true, false};
+ghost use Rattle.std.specs.Prelude.{◌≡◌, ℕ, ◌<◌, ◌≤◌, ◌+◌, ◌-◌, ◌*◌, ◌^◌, IsTrue, IfOk, IfErr, OnOk, IfSome, IfNone, length, min, max, true, false};
 ghost use Rattle.abt_runs.specs.Part.{PartOf, Caused, afresh, is_end as ends};
 ghost use Rattle.abt_pieces.specs.Gather.{frame, Closed, ClosedRun, SoundGatherer, ToldGatherer, first_gatherer, gathered_on, look_left, silent_left, gathered_to};
 ghost use Rattle.abt_runs.specs.declared.part.Cursor.{Cursor};
@@ -53,6 +53,7 @@ pub fn framed_part<R: BlockRuns, S: Source>(
     ensures steps { m.new.steps.number ≡ m.old.steps.number + 1 }
     ensures greatest { m.new.greatest.number ≡ max m.old.greatest.number (S.given source.new - S.given source.old) }
     ensures faults { S.read_faults source.old ≤ S.read_faults source.new }
+    ensures clean { OnOk result (S.read_faults source.new ≡ S.read_faults source.old) }
     ensures cause { IfErr result (λ e. Caused e S.tells (S.read_faults source.old) (S.read_faults source.new)) }
 {
     let count = runs.blocks();
@@ -202,6 +203,7 @@ impl Gatherer {
         ensures steps { m.new.steps.number ≡ m.old.steps.number + 1 }
         ensures greatest { m.new.greatest.number ≡ max m.old.greatest.number (S.given source.new - S.given source.old) }
         ensures faults { S.read_faults source.old ≤ S.read_faults source.new }
+        ensures clean { OnOk result (S.read_faults source.new ≡ S.read_faults source.old) }
         ensures cause { IfErr result (λ e. Caused e S.tells (S.read_faults source.old) (S.read_faults source.new)) }
     {
         let part = framed_part(runs, source, first, past, self.at, w, m)?;

@@ -10,7 +10,6 @@
 //! - `gather`: the runs of a piece, each known whole before it is written;
 //! - `chunk`, `write`: headers, and writing a piece in steps that hold numbers alone;
 //! - `stage`, `piece_steps`, `cutter`: one step of cutting, and whole pieces;
-//! - `sparsify_count`, `sparsify_write`, `sparsify_image`: a raw image written as a sparse one;
 //! - `fault`: why all this is refused.
 #![tactic(auto)]
 
@@ -22,21 +21,17 @@ mod gather;
 mod outline;
 mod piece_steps;
 mod plan;
-mod sparsify_count;
-mod sparsify_image;
-mod sparsify_write;
 mod stage;
 mod tail;
 mod write;
 
+pub use chunk::{write_front, write_header};
 pub use contents::{Contents, copied_len, head_len};
 pub use cutter::{Cutter, least_limit, no_fewer_pieces};
 pub use fault::{PieceFault, run_fault};
 pub use gather::{Gatherer, framed_part};
 pub use outline::{Outline, Piece};
 pub use plan::{Planner, plan_piece};
-pub use sparsify_count::Written;
-pub use sparsify_image::sparsify;
 pub use stage::{PieceProgress, Stage};
 pub use tail::Tail;
 pub use write::{Copying, Writer};

@@ -2,10 +2,11 @@
 ghost use Rattle.std.specs.Prelude.{◌≡◌, ◌<◌, ◌≤◌, ◌+◌, ◌-◌, ◌*◌, ◌^◌, ◌++◌, ℕ, List, IsTrue, IfOk, IfErr, OnOk, OnErr, Ok, Err, length, take, drop, max, true, false, ◌⊎◌};
 ghost use Rattle.abt_sparse.specs.Block.{Block, AreBlocks};
 ghost use Rattle.abt_sparse.specs.Chunk.{header_record, plain_header};
-ghost use Rattle.abt_pieces.specs.Fault.{HasCause};
+ghost use Rattle.abt_pieces.specs.Fault.{HasCause, full_cut};
 ghost use Rattle.abt_pieces.specs.Plan.{Planned, Even, FirstPiece, last_words};
 ghost use Rattle.abt_pieces.specs.Outline.{IsPiece, IsOutline, piece_at};
-ghost use Rattle.abt_pieces.specs.Cutter.{SoundPlanner, SoundOutline, SoundWriting, SoundStage, SoundCutter, TakenPlan, TakenStage, silent_cut, cut_words, piece_words, ToldPlanner, ToldWriting, ToldStage, ToldCutter, Passed, is_more, OnMore, OnEnd, OnPiece, coming, is_begun, so_far, first_writer, planned_left, cut_left};
+ghost use Rattle.abt_pieces.specs.Cutter.{SoundPlanner, SoundOutline, SoundWriting, SoundStage, SoundCutter, TakenPlan, TakenStage, silent_cut, cut_words, piece_words, ToldPlanner, ToldWriting, ToldStage, ToldCutter, Passed, is_more, OnMore, OnEnd, OnPiece, coming, is_begun, so_far, has_failed, first_writer, planned_left, cut_left};
+ghost use Rattle.abt_pieces.specs.Image.{Appended, Leads, IsImage, StageMayCome};
 ghost use Rattle.abt_pieces.specs.SpentStage.{SpentPlan, SpentStage, SpentPiece};
 ghost use Rattle.abt_pieces.specs.declared.stage.Stage.{Stage};
 ghost use Rattle.abt_pieces.specs.declared.stage.PieceProgress.{PieceProgress};
@@ -80,6 +81,7 @@ impl<R: BlockRuns + Drop> Cutter<R> {
     }
 
     /// Plans one part more of the next piece. One step.
+    #[tactic(auto, using(crate::proofs::Fronts::run_not_full))]
     fn plan<S: Source>(
         &mut self,
         from: Planner,
@@ -101,6 +103,7 @@ impl<R: BlockRuns + Drop> Cutter<R> {
         ensures sound { OnOk result (SoundStage (R.within self.old.runs) (R.reach self.old.runs) (R.count self.old.runs) (R.size self.old.runs) self.old.limit self.old.start.block self.new.stage) }
         ensures told { IsTrue S.tells → OnOk result (ToldStage (R.place self.old.runs (S.content source.old)) (R.together self.old.runs (S.content source.old)) (R.size self.old.runs) (R.list self.old.runs (S.content source.old)) self.old.limit self.old.start.block self.new.stage) }
         ensures coming { IsTrue S.tells → OnOk result (coming (R.size self.old.runs) self.old.limit (R.list self.old.runs (S.content source.old)) self.old.start.block self.new.stage ≡ piece_at (R.size self.old.runs) self.old.limit (R.list self.old.runs (S.content source.old)) self.old.start.block) }
+        ensures comes { OnOk result ((t : List ℕ) → StageMayCome (R.size self.old.runs) (R.count self.old.runs) self.new.stage t → IsImage (R.size self.old.runs) (R.count self.old.runs) t) }
         ensures left { OnOk result (cut_left (R.left self.old.runs) (R.count self.old.runs) self.old.start self.new.stage < planned_left (R.left self.old.runs) self.old.start + R.left self.old.runs from.at) }
         ensures refused { IfErr result (λ e. self.new.stage ≡ Stage.Failed e) }
         ensures given { S.given source.old ≤ S.given source.new }
@@ -114,6 +117,8 @@ impl<R: BlockRuns + Drop> Cutter<R> {
         ensures turns { m.new.turns.number + last_words (R.one self.old.runs) (R.count self.old.runs) from.at.block ≤ m.old.turns.number + 2 * (S.given source.new - S.given source.old) + 3 + 3 * R.one self.old.runs }
         ensures words { OnOk result (m.new.turns.number + last_words (R.one self.old.runs) (R.count self.old.runs) from.at.block ≤ m.old.turns.number + 2 * (S.given source.new - S.given source.old) + 3 + cut_words (R.one self.old.runs) (R.count self.old.runs) self.old.start self.new.stage) }
         ensures faults { S.read_faults source.old ≤ S.read_faults source.new }
+        ensures clean { OnOk result (S.read_faults source.new ≡ S.read_faults source.old) }
+        ensures unwritten { full_cut result ≡ 0 }
         ensures cause { IfErr result (λ e. HasCause e S.tells (S.read_faults source.old) (S.read_faults source.new) 0 0) }
     {
         let mut planner = from;
@@ -145,6 +150,7 @@ impl<R: BlockRuns + Drop> Cutter<R> {
         ensures runs { self.new.runs ≡ self.old.runs }
         ensures rest { (self.new.limit ≡ self.old.limit) × (self.new.start ≡ self.old.start) × (self.new.made ≡ self.old.made) }
         ensures small { self.old.limit < 2 ^ 32 }
+        ensures fits { (R.size self.old.runs < 2 ^ 32) × (R.count self.old.runs < 2 ^ 32) × (outline.chunks < 2 ^ 32) }
         ensures write_frame { O.write_frame output.new ≡ O.write_frame output.old }
         ensures stage { OnOk result (self.new.stage ≡ Stage.Write outline (first_writer self.old.start outline)) }
         ensures grown { length (O.written output.old) ≤ length (O.written output.new) }
@@ -157,9 +163,13 @@ impl<R: BlockRuns + Drop> Cutter<R> {
         ensures write_calls { O.writes output.new + length (O.written output.old) ≤ O.writes output.old + length (O.written output.new) + 1 }
         ensures turns { m.new.turns.number + length (O.written output.old) ≤ m.old.turns.number + length (O.written output.new) + 1 }
         ensures write_faults { O.write_faults output.old ≤ O.write_faults output.new }
+        ensures clean { OnOk result (O.write_faults output.new ≡ O.write_faults output.old) }
+        ensures full_faults { O.full_faults output.new ≡ O.full_faults output.old + full_cut result }
+        ensures full { full_cut result ≡ 1 → IsTrue (O.is_full output.new) × (length (O.written output.new) < length (O.written output.old) + 28) }
         ensures cause { IfErr result (λ e. HasCause e true 0 0 (O.write_faults output.old) (O.write_faults output.new)) }
     {
         let _limit = self.limit;
+        let _chunks = outline.chunks;
         let start = self.start;
         let count = self.runs.blocks();
         let size = self.runs.block_size();
@@ -202,6 +212,8 @@ impl<R: BlockRuns + Drop> Cutter<R> {
         ensures front { IsTrue S.tells → O.written output.new ≡ O.written output.old ++ take (length (O.written output.new) - length (O.written output.old)) (coming (R.size self.old.runs) self.old.limit (R.list self.old.runs (S.content source.old)) self.old.start.block self.old.stage) }
         ensures rest { IsTrue S.tells → OnMore result (coming (R.size self.old.runs) self.old.limit (R.list self.old.runs (S.content source.old)) self.old.start.block self.new.stage ≡ drop (length (O.written output.new) - length (O.written output.old)) (coming (R.size self.old.runs) self.old.limit (R.list self.old.runs (S.content source.old)) self.old.start.block self.old.stage)) }
         ensures whole { IsTrue S.tells → OnPiece result (λ p. O.written output.new ≡ O.written output.old ++ coming (R.size self.old.runs) self.old.limit (R.list self.old.runs (S.content source.old)) self.old.start.block self.old.stage) }
+        ensures leads { OnMore result (Leads (StageMayCome (R.size self.old.runs) (R.count self.old.runs) self.old.stage) (StageMayCome (R.size self.old.runs) (R.count self.old.runs) self.new.stage) (O.written output.old) (O.written output.new)) }
+        ensures all { OnPiece result (λ p. Appended (StageMayCome (R.size self.old.runs) (R.count self.old.runs) self.old.stage) (O.written output.old) (O.written output.new)) }
         ensures passed { OnPiece result (λ p. Passed (R.count self.old.runs) p.first p.past self.new.stage) }
         ensures least { OnPiece result (λ p. 28 ≤ p.bytes) }
         ensures piece { OnPiece result (λ p. (p.first ≡ self.old.start.block) × (p.past ≡ self.new.start.block) × (p.bytes ≤ self.old.limit) × (p.bytes ≡ so_far self.old.stage + (length (O.written output.new) - length (O.written output.old))) × (self.new.made ≡ self.old.made + 1)) }
@@ -223,6 +235,9 @@ impl<R: BlockRuns + Drop> Cutter<R> {
         ensures piece_words { OnPiece result (λ p. m.new.turns.number + cut_words (R.one self.old.runs) (R.count self.old.runs) self.old.start self.old.stage ≤ m.old.turns.number + 2 * (S.given source.new - S.given source.old) + (length (O.written output.new) - length (O.written output.old)) + 3 + piece_words (R.one self.old.runs) (R.count self.old.runs) p.past) }
         ensures faults { S.read_faults source.old ≤ S.read_faults source.new }
         ensures write_faults { O.write_faults output.old ≤ O.write_faults output.new }
+        ensures clean { OnOk result ((S.read_faults source.new ≡ S.read_faults source.old) × (O.write_faults output.new ≡ O.write_faults output.old)) }
+        ensures full_faults { O.full_faults output.new ≡ O.full_faults output.old + full_cut result }
+        ensures full { full_cut result ≡ 1 → IsTrue (O.is_full output.new) × (so_far self.old.stage + (length (O.written output.new) - length (O.written output.old)) < self.old.limit) }
         ensures unended { OnEnd result ⊥ }
         ensures cause { IfErr result (λ e. (self.old.stage ≡ Stage.Failed e) ⊎ HasCause e S.tells (S.read_faults source.old) (S.read_faults source.new) (O.write_faults output.old) (O.write_faults output.new)) }
     {
@@ -266,6 +281,8 @@ impl<R: BlockRuns + Drop> Cutter<R> {
         ensures front { IsTrue S.tells → O.written output.new ≡ O.written output.old ++ take (length (O.written output.new) - length (O.written output.old)) (coming (R.size self.old.runs) self.old.limit (R.list self.old.runs (S.content source.old)) self.old.start.block self.old.stage) }
         ensures rest { IsTrue S.tells → OnMore result (coming (R.size self.old.runs) self.old.limit (R.list self.old.runs (S.content source.old)) self.old.start.block self.new.stage ≡ drop (length (O.written output.new) - length (O.written output.old)) (coming (R.size self.old.runs) self.old.limit (R.list self.old.runs (S.content source.old)) self.old.start.block self.old.stage)) }
         ensures whole { IsTrue S.tells → OnPiece result (λ p. O.written output.new ≡ O.written output.old ++ coming (R.size self.old.runs) self.old.limit (R.list self.old.runs (S.content source.old)) self.old.start.block self.old.stage) }
+        ensures leads { OnMore result (Leads (StageMayCome (R.size self.old.runs) (R.count self.old.runs) self.old.stage) (StageMayCome (R.size self.old.runs) (R.count self.old.runs) self.new.stage) (O.written output.old) (O.written output.new)) }
+        ensures all { OnPiece result (λ p. Appended (StageMayCome (R.size self.old.runs) (R.count self.old.runs) self.old.stage) (O.written output.old) (O.written output.new)) }
         ensures passed { OnPiece result (λ p. Passed (R.count self.old.runs) p.first p.past self.new.stage) }
         ensures least { OnPiece result (λ p. 28 ≤ p.bytes) }
         ensures piece { OnPiece result (λ p. (p.first ≡ self.old.start.block) × (p.past ≡ self.new.start.block) × (p.bytes ≤ self.old.limit) × (p.bytes ≡ so_far self.old.stage + (length (O.written output.new) - length (O.written output.old))) × (self.new.made ≡ self.old.made + 1)) }
@@ -287,6 +304,9 @@ impl<R: BlockRuns + Drop> Cutter<R> {
         ensures piece_words { OnPiece result (λ p. m.new.turns.number + cut_words (R.one self.old.runs) (R.count self.old.runs) self.old.start self.old.stage ≤ m.old.turns.number + 2 * (S.given source.new - S.given source.old) + (length (O.written output.new) - length (O.written output.old)) + 3 + piece_words (R.one self.old.runs) (R.count self.old.runs) p.past) }
         ensures faults { S.read_faults source.old ≤ S.read_faults source.new }
         ensures write_faults { O.write_faults output.old ≤ O.write_faults output.new }
+        ensures clean { OnOk result ((S.read_faults source.new ≡ S.read_faults source.old) × (O.write_faults output.new ≡ O.write_faults output.old)) }
+        ensures full_faults { has_failed self.old.stage ≡ false → O.full_faults output.new ≡ O.full_faults output.old + full_cut result }
+        ensures full { has_failed self.old.stage ≡ false → full_cut result ≡ 1 → IsTrue (O.is_full output.new) × (so_far self.old.stage + (length (O.written output.new) - length (O.written output.old)) < self.old.limit) }
         ensures cause { IfErr result (λ e. (self.old.stage ≡ Stage.Failed e) ⊎ HasCause e S.tells (S.read_faults source.old) (S.read_faults source.new) (O.write_faults output.old) (O.write_faults output.new)) }
         ensures end { OnEnd result ((self.old.stage ≡ Stage.Done) × (output.new ≡ output.old) × (source.new ≡ source.old) × (self.new ≡ self.old)) }
         ensures after_last { self.old.stage ≡ Stage.Done → result ≡ Ok PieceProgress.End }

@@ -1,5 +1,5 @@
 //! How far a piece goes.
-ghost use Rattle.std.specs.Prelude.{◌≡◌, ◌<◌, ◌≤◌, ◌+◌, ◌-◌, ◌*◌, ◌^◌, ℕ, List, length, IsTrue, IfOk, IfErr, false, true, max};
+ghost use Rattle.std.specs.Prelude.{◌≡◌, ◌<◌, ◌≤◌, ◌+◌, ◌-◌, ◌*◌, ◌^◌, ℕ, List, length, IsTrue, IfOk, IfErr, OnOk, false, true, max};
 ghost use Rattle.abt_runs.specs.Part.{Caused, entry};
 ghost use Rattle.abt_sparse.specs.Block.{Block};
 ghost use Rattle.abt_pieces.specs.Contents.{contents_before};
@@ -83,6 +83,7 @@ impl Planner {
         ensures steps { m.new.steps.number ≡ m.old.steps.number + 1 }
         ensures greatest { m.new.greatest.number ≡ max m.old.greatest.number (S.given source.new - S.given source.old) }
         ensures faults { S.read_faults source.old ≤ S.read_faults source.new }
+        ensures clean { OnOk result (S.read_faults source.new ≡ S.read_faults source.old) }
         ensures cause { IfErr result (λ e. Caused e S.tells (S.read_faults source.old) (S.read_faults source.new)) }
     {
         let size = runs.block_size();
@@ -145,6 +146,7 @@ pub fn plan_piece<R: BlockRuns, S: Source>(
     ensures turns { m.new.turns.number ≤ m.old.turns.number + 5 * (S.given source.new - S.given source.old) + 2 + 2 * R.one runs.old }
     ensures words { IfOk result (λ p. m.new.turns.number + last_words (R.one runs.old) (R.count runs.old) from.block ≤ m.old.turns.number + 5 * (S.given source.new - S.given source.old) + 2 + last_words (R.one runs.old) (R.count runs.old) p.at.block + last_words (R.one runs.old) (R.count runs.old) (p.at.block + 1)) }
     ensures faults { S.read_faults source.old ≤ S.read_faults source.new }
+    ensures clean { OnOk result (S.read_faults source.new ≡ S.read_faults source.old) }
     ensures cause { IfErr result (λ e. Caused e S.tells (S.read_faults source.old) (S.read_faults source.new)) }
 {
     let mut planner = Planner::begin(from);

@@ -1,10 +1,11 @@
 //! Writing one piece: a chunk for each of its runs.
-ghost use Rattle.std.specs.Prelude.{◌≡◌, ℕ, ◌<◌, ◌≤◌, ◌+◌, ◌-◌, ◌*◌, ◌^◌, ◌++◌, IsTrue, IfOk, IfErr, OnOk, OnErr, length, take, drop, min, max, true, false};
+ghost use Rattle.std.specs.Prelude.{◌≡◌, ℕ, List, [], ◌<◌, ◌≤◌, ◌+◌, ◌-◌, ◌*◌, ◌^◌, ◌++◌, IsTrue, IfOk, IfErr, OnOk, OnErr, length, take, drop, min, max, true, false};
 ghost use Rattle.abt_runs.specs.Part.{is_end as ends, entry};
-ghost use Rattle.abt_pieces.specs.Fault.{HasCause};
+ghost use Rattle.abt_pieces.specs.Fault.{HasCause, full_cut};
 ghost use Rattle.abt_pieces.specs.Contents.{head_len as length_of_head, data_len};
 ghost use Rattle.abt_pieces.specs.Cutter.{first_writer};
 ghost use Rattle.abt_pieces.specs.Write.{front_bytes, chunk_len, chunk_begun, ChunkCause, starts, next_copying, copied_on, rest_of, frame_of, SoundWriter, ToldWriter, write_left, passed_to, writer_words, charge_of};
+ghost use Rattle.abt_pieces.specs.Image.{Leads, MayCome};
 ghost use Rattle.abt_pieces.specs.Gather.{silent_left, gathered_to};
 ghost use Rattle.abt_runs.specs.declared.part.Cursor.{Cursor};
 ghost use Rattle.abt_pieces.specs.Plan.{last_words};
@@ -143,6 +144,9 @@ impl Writer {
         ensures whole { OnOk result (length (O.written output.new) ≡ length (O.written output.old) + length_of_head run.kind) }
         ensures frame { O.write_frame output.new ≡ O.write_frame output.old }
         ensures faults { O.write_faults output.old ≤ O.write_faults output.new }
+        ensures clean { OnOk result (O.write_faults output.new ≡ O.write_faults output.old) }
+        ensures full_faults { O.full_faults output.new ≡ O.full_faults output.old + full_cut result }
+        ensures full { full_cut result ≡ 1 → IsTrue (O.is_full output.new) × (length (O.written output.new) < length (O.written output.old) + self.old.bytes) }
         ensures cause { IfErr result (λ e. ChunkCause e self.old.chunks self.old.bytes (chunk_len run.kind run.blocks size) (O.write_faults output.old) (O.write_faults output.new)) }
         ensures calls { O.writes output.new + length (O.written output.old) ≤ O.writes output.old + length (O.written output.new) + 1 }
         ensures turns { m.new.turns.number + length (O.written output.old) ≤ m.old.turns.number + length (O.written output.new) + 1 }
@@ -164,6 +168,7 @@ impl Writer {
     }
 
     /// Looks for the end of the open run, and begins the chunk of a run that has ended. One step.
+    #[tactic(auto, using(crate::proofs::Fronts::run_not_full))]
     fn look<R: BlockRuns, S: Source, O: Output>(
         &mut self,
         runs: &mut R,
@@ -189,6 +194,7 @@ impl Writer {
         ensures few { length (O.written output.new) ≤ length (O.written output.old) + (S.given source.new - S.given source.old) + 80 }
         ensures front { IsTrue S.tells → O.written output.new ≡ O.written output.old ++ take (length (O.written output.new) - length (O.written output.old)) (rest_of (frame_of (R.list runs.old (S.content source.old)) self.old) self.old) }
         ensures rest { IsTrue S.tells → OnOk result (rest_of (frame_of (R.list runs.old (S.content source.old)) self.old) self.new ≡ drop (length (O.written output.new) - length (O.written output.old)) (rest_of (frame_of (R.list runs.old (S.content source.old)) self.old) self.old)) }
+        ensures leads { OnOk result (Leads (MayCome (R.size runs.old) (R.count runs.old) self.old) (MayCome (R.size runs.old) (R.count runs.old) self.new) (O.written output.old) (O.written output.new)) }
         ensures write_frame { O.write_frame output.new ≡ O.write_frame output.old }
         ensures write_faults { O.write_faults output.old ≤ O.write_faults output.new }
         ensures cause { IfErr result (λ e. HasCause e S.tells (S.read_faults source.old) (S.read_faults source.new) (O.write_faults output.old) (O.write_faults output.new)) }
@@ -205,6 +211,9 @@ impl Writer {
         ensures steps { m.new.steps.number ≡ m.old.steps.number + 1 }
         ensures greatest { m.new.greatest.number ≡ max m.old.greatest.number (S.given source.new - S.given source.old) }
         ensures faults { S.read_faults source.old ≤ S.read_faults source.new }
+        ensures clean { OnOk result ((S.read_faults source.new ≡ S.read_faults source.old) × (O.write_faults output.new ≡ O.write_faults output.old)) }
+        ensures full_faults { O.full_faults output.new ≡ O.full_faults output.old + full_cut result }
+        ensures full { full_cut result ≡ 1 → IsTrue (O.is_full output.new) × (length (O.written output.new) < length (O.written output.old) + self.old.bytes) }
     {
         let size = runs.block_size();
         let mut gatherer = self.gatherer;
@@ -220,6 +229,7 @@ impl Writer {
     }
 
     /// Finds the next part of the raw run that is being copied. One step.
+    #[tactic(auto, using(crate::proofs::Fronts::run_not_full))]
     fn next_raw<R: BlockRuns, S: Source>(
         &mut self,
         copying: Copying,
@@ -241,6 +251,7 @@ impl Writer {
         ensures segment { (self.new.first ≡ self.old.first) × (self.new.past ≡ self.old.past) }
         ensures bytes { self.new.bytes ≡ self.old.bytes }
         ensures rest { IsTrue S.tells → OnOk result (rest_of (frame_of (R.list runs.old (S.content source.old)) self.old) self.new ≡ rest_of (frame_of (R.list runs.old (S.content source.old)) self.old) self.old) }
+        ensures comes { OnOk result ((t : List ℕ) → MayCome (R.size runs.old) (R.count runs.old) self.new t → MayCome (R.size runs.old) (R.count runs.old) self.old t) }
         ensures left { OnOk result (write_left (R.left runs.old) (R.count runs.old) self.new < write_left (R.left runs.old) (R.count runs.old) self.old) }
         ensures given { S.given source.old ≤ S.given source.new }
         ensures gatherer { self.new.gatherer ≡ self.old.gatherer }
@@ -254,6 +265,8 @@ impl Writer {
         ensures steps { m.new.steps.number ≡ m.old.steps.number + 1 }
         ensures greatest { m.new.greatest.number ≡ max m.old.greatest.number (S.given source.new - S.given source.old) }
         ensures faults { S.read_faults source.old ≤ S.read_faults source.new }
+        ensures clean { OnOk result (S.read_faults source.new ≡ S.read_faults source.old) }
+        ensures unwritten { full_cut result ≡ 0 }
         ensures cause { IfErr result (λ e. HasCause e S.tells (S.read_faults source.old) (S.read_faults source.new) 0 0) }
     {
         let until = self.gatherer.at.block - self.gatherer.count;
@@ -272,6 +285,7 @@ impl Writer {
     }
 
     /// Copies bytes of the raw run, up to a window. One step.
+    #[tactic(auto, using(crate::proofs::Fronts::run_not_full))]
     fn copy_bytes<R: BlockRuns, S: Source, O: Output>(
         &mut self,
         copying: Copying,
@@ -298,6 +312,7 @@ impl Writer {
         ensures few { length (O.written output.new) ≤ length (O.written output.old) + (S.given source.new - S.given source.old) + 80 }
         ensures front { IsTrue S.tells → O.written output.new ≡ O.written output.old ++ take (length (O.written output.new) - length (O.written output.old)) (rest_of (frame_of (R.list runs.old (S.content source.old)) self.old) self.old) }
         ensures rest { IsTrue S.tells → OnOk result (rest_of (frame_of (R.list runs.old (S.content source.old)) self.old) self.new ≡ drop (length (O.written output.new) - length (O.written output.old)) (rest_of (frame_of (R.list runs.old (S.content source.old)) self.old) self.old)) }
+        ensures leads { OnOk result (Leads (MayCome (R.size runs.old) (R.count runs.old) self.old) (MayCome (R.size runs.old) (R.count runs.old) self.new) (O.written output.old) (O.written output.new)) }
         ensures write_frame { O.write_frame output.new ≡ O.write_frame output.old }
         ensures write_faults { O.write_faults output.old ≤ O.write_faults output.new }
         ensures cause { IfErr result (λ e. HasCause e S.tells (S.read_faults source.old) (S.read_faults source.new) (O.write_faults output.old) (O.write_faults output.new)) }
@@ -315,6 +330,9 @@ impl Writer {
         ensures steps { m.new.steps.number ≡ m.old.steps.number + 1 }
         ensures greatest { m.new.greatest.number ≡ max m.old.greatest.number (S.given source.new - S.given source.old) }
         ensures faults { S.read_faults source.old ≤ S.read_faults source.new }
+        ensures clean { OnOk result ((S.read_faults source.new ≡ S.read_faults source.old) × (O.write_faults output.new ≡ O.write_faults output.old)) }
+        ensures full_faults { O.full_faults output.new ≡ O.full_faults output.old + full_cut result }
+        ensures full { full_cut result ≡ 1 → IsTrue (O.is_full output.new) × (length (O.written output.new) < length (O.written output.old) + self.old.bytes) }
     {
         let ask = (copying.size - copying.done).min(WINDOW as u64) as usize;
         w.is_whole();
@@ -365,6 +383,8 @@ impl Writer {
         ensures few { length (O.written output.new) ≤ length (O.written output.old) + (S.given source.new - S.given source.old) + 80 }
         ensures front { IsTrue S.tells → O.written output.new ≡ O.written output.old ++ take (length (O.written output.new) - length (O.written output.old)) (rest_of (frame_of (R.list runs.old (S.content source.old)) self.old) self.old) }
         ensures rest { IsTrue S.tells → OnOk result (rest_of (frame_of (R.list runs.old (S.content source.old)) self.old) self.new ≡ drop (length (O.written output.new) - length (O.written output.old)) (rest_of (frame_of (R.list runs.old (S.content source.old)) self.old) self.old)) }
+        ensures leads { IfOk result (λ d. d ≡ false → Leads (MayCome (R.size runs.old) (R.count runs.old) self.old) (MayCome (R.size runs.old) (R.count runs.old) self.new) (O.written output.old) (O.written output.new)) }
+        ensures all { IfOk result (λ d. d ≡ true → MayCome (R.size runs.old) (R.count runs.old) self.old []) }
         ensures write_frame { O.write_frame output.new ≡ O.write_frame output.old }
         ensures write_faults { O.write_faults output.old ≤ O.write_faults output.new }
         ensures cause { IfErr result (λ e. HasCause e S.tells (S.read_faults source.old) (S.read_faults source.new) (O.write_faults output.old) (O.write_faults output.new)) }
@@ -382,6 +402,9 @@ impl Writer {
         ensures steps { m.new.steps.number ≡ m.old.steps.number + 1 }
         ensures greatest { m.new.greatest.number ≡ max m.old.greatest.number (S.given source.new - S.given source.old) }
         ensures faults { S.read_faults source.old ≤ S.read_faults source.new }
+        ensures clean { OnOk result ((S.read_faults source.new ≡ S.read_faults source.old) × (O.write_faults output.new ≡ O.write_faults output.old)) }
+        ensures full_faults { O.full_faults output.new ≡ O.full_faults output.old + full_cut result }
+        ensures full { full_cut result ≡ 1 → IsTrue (O.is_full output.new) × (length (O.written output.new) < length (O.written output.old) + self.old.bytes) }
     {
         match self.copying {
             Some(copying) => {

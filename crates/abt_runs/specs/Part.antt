@@ -1,6 +1,7 @@
 -- What a part of an image is.
 use Rattle.std.specs.Prelude.{◌≡◌, ℕ, ◌+◌, ◌*◌, ◌≤◌, ◌<◌, Bool, true, false, IsTrue, List, [], length, take, drop, replicate, ⊤, ◌==◌, nat_lt, nat_le, ◌&&◌, if◌then◌else◌}
 use Rattle.std.specs.List.{AllByRecursion, flat_map}
+use Rattle.abt_io.specs.declared.device.DeviceFault.TheVariants.{Failed}
 use Rattle.abt_sparse.specs.Chunk.{raw_bytes}
 use Rattle.abt_sparse.specs.Block.{Block}
 use Rattle.abt_sparse.specs.Block as blocks
@@ -41,9 +42,9 @@ MovesOn left from r = is_end r.kind ≡ false → left r.next < left from
 pub record Capped (cap : ℕ) (r : Run) : Type 0 where
   pub raw : r.kind ≡ Raw → r.blocks ≤ cap
 
--- a device has failed, or one that tells nothing has changed
+-- a device has failed and answered so, or one that tells nothing has changed
 abbrev pub Caused : RunFault → Bool → ℕ → ℕ → Type 0
-Caused (Read f) tells before after = before < after
+Caused (Read f) tells before after = (before < after) × (f ≡ Failed)
 Caused SourceChanged tells before after = tells ≡ false
 Caused (Sparse f) tells before after = ⊥
 Caused TooLarge tells before after = ⊥

@@ -6,6 +6,7 @@ use Rattle.abt_sparse.specs.Chunk.{Header}
 use Rattle.abt_sparse.specs.Reading.{ChunksRead, Outcome, Image, Fault, chunks_at, outcome}
 use Rattle.abt_sparse.specs.Reading as reading
 use Rattle.abt_sparse.specs.View.{view}
+use Rattle.abt_io.specs.declared.device.DeviceFault.TheVariants as devices
 use Rattle.abt_runs.specs.declared.part.RunFault.{RunFault}
 use Rattle.abt_runs.specs.declared.part.RunFault.TheVariants.{Sparse, Read, TooLarge, SourceChanged, BadBlock}
 use Rattle.abt_runs.specs.declared.stage.Stage.{Stage}
@@ -47,11 +48,11 @@ abbrev pub IsFormat : RunFault → Type 0
 IsFormat (Sparse f) = number_of f ≤ 10
 IsFormat f = ⊥
 
--- 1 to 10 alone come of the bytes: 11 where the source has failed in this call, 14 where it isn't the one whose length was found, and each where the opening had failed so
+-- 1 to 10 alone come of the bytes: 11 where the source has failed in this call and answered so, 14 where it isn't the one whose length was found, and each where the opening had failed so
 abbrev pub CausedAt : Stage → RunFault → ℕ → ℕ → Type 0 → Type 0
 CausedAt (stages.Failed f) e before after Same = f ≡ e
 CausedAt s (Sparse f) before after Same = number_of f ≤ 10
-CausedAt s (Read d) before after Same = before < after
+CausedAt s (Read d) before after Same = (before < after) × (d ≡ devices.Failed)
 CausedAt s SourceChanged before after Same = Same → ⊥
 CausedAt s TooLarge before after Same = ⊥
 CausedAt s (BadBlock n) before after Same = ⊥

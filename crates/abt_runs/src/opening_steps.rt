@@ -181,6 +181,7 @@ impl Opening {
         ensures steps { m.new.steps.number ≡ m.old.steps.number + 1 }
         ensures greatest { m.new.greatest.number ≡ max m.old.greatest.number (S.given source.new - S.given source.old) }
         ensures faults { S.read_faults source.old ≤ S.read_faults source.new }
+        ensures clean { OnOk result (S.read_faults source.new ≡ S.read_faults source.old) }
         ensures cause { IfErr result (λ e. CausedAt self.old.stage e (S.read_faults source.old) (S.read_faults source.new) (IsTrue S.tells × SameLength self.old.stage self.old.length (S.content source.old))) }
     {
         let size = source.length();
@@ -219,6 +220,7 @@ impl Opening {
         ensures steps { m.new.steps.number ≡ m.old.steps.number + 1 }
         ensures greatest { m.new.greatest.number ≡ max m.old.greatest.number (S.given source.new - S.given source.old) }
         ensures faults { S.read_faults source.old ≤ S.read_faults source.new }
+        ensures clean { OnOk result (S.read_faults source.new ≡ S.read_faults source.old) }
         ensures cause { IfErr result (λ e. CausedAt self.old.stage e (S.read_faults source.old) (S.read_faults source.new) (IsTrue S.tells × SameLength self.old.stage self.old.length (S.content source.old))) }
     {
         if self.index == self.header.total_chunks {
@@ -270,6 +272,7 @@ impl Opening {
         ensures steps { m.new.steps.number ≡ m.old.steps.number + 1 }
         ensures greatest { m.new.greatest.number ≡ max m.old.greatest.number (S.given source.new - S.given source.old) }
         ensures faults { S.read_faults source.old ≤ S.read_faults source.new }
+        ensures clean { OnOk result (S.read_faults source.new ≡ S.read_faults source.old) }
         ensures cause { IfErr result (λ e. CausedAt self.old.stage e (S.read_faults source.old) (S.read_faults source.new) (IsTrue S.tells × SameLength self.old.stage self.old.length (S.content source.old))) }
     {
         match self.stage {

@@ -1,5 +1,5 @@
 //! A raw image as classed blocks: each block of one word all over is fill, any other is raw.
-ghost use Rattle.std.specs.Prelude.{◌≡◌, ◌<◌, ◌≤◌, ◌+◌, ◌-◌, ◌*◌, ◌/◌, ◌%◌, ◌^◌, ◌++◌, ℕ, IsTrue, false, IfOk, IfErr, IfSome, IfNone, length, take, drop, map, replicate, slice_range};
+ghost use Rattle.std.specs.Prelude.{◌≡◌, ◌<◌, ◌≤◌, ◌+◌, ◌-◌, ◌*◌, ◌/◌, ◌%◌, ◌^◌, ◌++◌, ℕ, IsTrue, IsNone, false, IfOk, IfErr, IfSome, IfNone, length, take, drop, map, replicate, slice_range};
 ghost use Rattle.abt_sparse.specs.Block.{split, class_of, classify};
 ghost use Rattle.abt_runs.specs.Part.{AllOf, Caused, is_end, next_ask};
 ghost use Rattle.abt_runs.specs.Words.{kind_of_word};
@@ -99,6 +99,7 @@ fn load_filled<S: Source>(
     ensures steps { m.new.steps.number ≡ m.old.steps.number }
     ensures greatest { m.new.greatest.number ≡ m.old.greatest.number }
     ensures faults { S.read_faults source.old ≤ S.read_faults source.new }
+    ensures clean { IsNone result.fault → S.read_faults source.new ≡ S.read_faults source.old }
     ensures cause { IfSome result.fault (λ e. Caused e S.tells (S.read_faults source.old) (S.read_faults source.new)) }
 {
     let loaded = load(source, at, want, w, m);

@@ -1,5 +1,5 @@
 //! Reading bytes of the source at a place into the window.
-ghost use Rattle.std.specs.Prelude.{◌≡◌, ◌<◌, ◌≤◌, ◌+◌, ◌^◌, IsTrue, IfSome, IfNone, length, take, drop};
+ghost use Rattle.std.specs.Prelude.{◌≡◌, ◌<◌, ◌≤◌, ◌+◌, ◌^◌, IsTrue, IsNone, IfSome, IfNone, length, take, drop};
 ghost use Rattle.abt_runs.specs.Part.{Caused};
 
 use crate::RunFault;
@@ -35,6 +35,7 @@ pub fn load<S: Source>(
     ensures steps { m.new.steps.number ≡ m.old.steps.number }
     ensures greatest { m.new.greatest.number ≡ m.old.greatest.number }
     ensures faults { S.read_faults source.old ≤ S.read_faults source.new }
+    ensures clean { IsNone result.fault → S.read_faults source.new ≡ S.read_faults source.old }
     ensures cause { IfSome result.fault (λ e. Caused e S.tells (S.read_faults source.old) (S.read_faults source.new)) }
 {
     w.is_whole();

@@ -149,6 +149,7 @@ pub trait BlockRuns {
         ensures steps { m.new.steps.number ≡ m.old.steps.number + 1 }
         ensures greatest { m.new.greatest.number ≡ max m.old.greatest.number (S.given source.new - S.given source.old) }
         ensures faults { S.read_faults source.old ≤ S.read_faults source.new }
+        ensures clean { OnOk result (S.read_faults source.new ≡ S.read_faults source.old) }
         ensures cause { IfErr result (λ e. Caused e S.tells (S.read_faults source.old) (S.read_faults source.new)) };
 
     /// Bytes of the raw blocks that stand together at a place, from byte `at` of these on, by at
@@ -183,6 +184,7 @@ pub trait BlockRuns {
         ensures steps { m.new.steps.number ≡ m.old.steps.number + 1 }
         ensures greatest { m.new.greatest.number ≡ max m.old.greatest.number (S.given source.new - S.given source.old) }
         ensures faults { S.read_faults source.old ≤ S.read_faults source.new }
+        ensures clean { OnOk result (S.read_faults source.new ≡ S.read_faults source.old) }
         ensures cause { IfErr result (λ e. Caused e S.tells (S.read_faults source.old) (S.read_faults source.new)) };
 
     /// The run of blocks of one class that begins at a place: all that stand together, but at most
@@ -219,6 +221,7 @@ pub trait BlockRuns {
         ensures turns { m.new.turns.number + (3 + one self.old) * m.old.steps.number ≤ m.old.turns.number + 2 * (S.given source.new - S.given source.old) + (3 + one self.old) * m.new.steps.number + 1 }
         ensures greatest { m.new.greatest.number ≤ max m.old.greatest.number 65536 }
         ensures faults { S.read_faults source.old ≤ S.read_faults source.new }
+        ensures clean { OnOk result (S.read_faults source.new ≡ S.read_faults source.old) }
         ensures cause { IfErr result (λ e. Caused e S.tells (S.read_faults source.old) (S.read_faults source.new)) }
     {
         let mut run = Run {

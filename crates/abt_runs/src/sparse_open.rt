@@ -1,5 +1,5 @@
 //! Opening a sparse image.
-ghost use Rattle.std.specs.Prelude.{◌≡◌, ◌<◌, ◌≤◌, ◌+◌, ◌-◌, ◌*◌, ℕ, List, IsTrue, IfOk, IfErr, length, max, true};
+ghost use Rattle.std.specs.Prelude.{◌≡◌, ◌<◌, ◌≤◌, ◌+◌, ◌-◌, ◌*◌, ℕ, List, IsTrue, IfOk, IfErr, OnOk, length, max, true};
 ghost use Rattle.abt_sparse.specs.Reading.{outcome};
 ghost use Rattle.abt_sparse.specs.View.{view};
 ghost use Rattle.abt_runs.specs.Stage.{is_done};
@@ -44,6 +44,7 @@ impl SparseRuns {
         ensures turns { m.new.turns.number ≤ m.old.turns.number + 2 * (S.given source.new - S.given source.old) + 2 }
         ensures greatest { m.new.greatest.number ≤ max m.old.greatest.number 28 }
         ensures faults { S.read_faults source.old ≤ S.read_faults source.new }
+        ensures clean { OnOk result (S.read_faults source.new ≡ S.read_faults source.old) }
         ensures cause { IfErr result (λ e. CausedAt Stage.Header e (S.read_faults source.old) (S.read_faults source.new) (IsTrue S.tells)) }
     {
         let mut opening = Opening::begin();

@@ -1,5 +1,5 @@
 //! A sparse image as classed blocks: its chunks one after the other, each read where it stands.
-ghost use Rattle.std.specs.Prelude.{◌≡◌, ◌<◌, ◌≤◌, ◌+◌, ◌-◌, ◌*◌, ◌^◌, ◌↔◌, ℕ, IsTrue, IfSome, IfNone, Some, length, take, drop, true, false};
+ghost use Rattle.std.specs.Prelude.{◌≡◌, ◌<◌, ◌≤◌, ◌+◌, ◌-◌, ◌*◌, ◌^◌, ◌↔◌, ℕ, IsTrue, IsNone, IfSome, IfNone, Some, length, take, drop, true, false};
 ghost use Rattle.abt_sparse.specs.Reading.{counted};
 ghost use Rattle.abt_sparse.specs.View.{view};
 ghost use Rattle.abt_sparse.specs.declared.chunk_header.ChunkHeader.{ChunkHeader as Heads};
@@ -123,6 +123,7 @@ fn load_word<S: Source>(
     ensures steps { m.new.steps.number ≡ m.old.steps.number }
     ensures greatest { m.new.greatest.number ≡ m.old.greatest.number }
     ensures faults { S.read_faults source.old ≤ S.read_faults source.new }
+    ensures clean { IsNone result.fault → S.read_faults source.new ≡ S.read_faults source.old }
     ensures cause { IfSome result.fault (λ e. Caused e S.tells (S.read_faults source.old) (S.read_faults source.new)) }
 {
     let mut bytes = [0u8; 4];

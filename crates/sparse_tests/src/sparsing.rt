@@ -1,6 +1,7 @@
 //! Published byte vectors of sparse images, and devices that fail, cut or claim.
 use abt_io::{Cut, DeviceFault, Faulty, Long, Meter, SliceOutput, SliceSource, Window};
-use abt_pieces::{PieceFault, Written, sparsify};
+use abt_pieces::PieceFault;
+use abt_sparsify::{Written, sparsify};
 use std::test::Fail;
 
 /// Blocks of 4: two of one word, and two bytes filled up with zeros.

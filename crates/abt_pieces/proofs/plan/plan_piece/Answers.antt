@@ -28,6 +28,7 @@ loop-m-init g c =
       calls = omega arith;
       turns = rw e.at (omega arith);
       faults = omega arith;
+      clean = refl;
     }
 
 pub step-requires-clause-planned : goal.step-requires-clause-planned
@@ -65,6 +66,7 @@ loop-m-preserved g c =
           let d = c.tick.ensures.turns in
           omega (arith, a, b, w, f, d, i.given);
       faults = omega arith;
+      clean = c.in_ok-step.ensures.clean ∙ i.clean;
     }
 
 pub returns-clause-greatest : goal.returns-clause-greatest

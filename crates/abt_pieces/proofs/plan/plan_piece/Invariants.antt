@@ -27,6 +27,7 @@ invariant-loop-m g l =
       calls : g.S.Source.reads l.source ≤ g.S.Source.reads l.fn.source + 3 * (g.S.Source.given l.source - g.S.Source.given l.fn.source);
       turns : l.m.turns.number + last_words (g.R.BlockRuns.one l.fn.runs) (g.R.BlockRuns.count l.fn.runs) l.fn.from.block ≤ l.fn.m.turns.number + 5 * (g.S.Source.given l.source - g.S.Source.given l.fn.source) + last_words (g.R.BlockRuns.one l.fn.runs) (g.R.BlockRuns.count l.fn.runs) l.planner.at.block;
       faults : g.S.Source.read_faults l.fn.source ≤ g.S.Source.read_faults l.source;
+      clean : g.S.Source.read_faults l.source ≡ g.S.Source.read_faults l.fn.source;
     }
 
 abbrev pub decreases-loop-m : goal.decreases-loop-m

@@ -2,6 +2,9 @@ use Rattle.std.proofs.Common.{refl, arith, ap, ◌∙◌, ◌≡◌, ◌++◌, �
 use Rattle.abt_pieces.specs.declared.stage.Stage.TheVariants.{Between}
 use Rattle.abt_pieces.proofs.Fronts.{front_join, rest_join, nothing_more, nothing_less}
 use Rattle.abt_pieces.proofs.Stepping.{none_so_far, silent_unbegun, is_between, whole_front, piece_came}
+use Rattle.abt_pieces.specs.Fault.{full_cut}
+use Rattle.abt_pieces.specs.Image.{StageMayCome}
+use Rattle.abt_pieces.proofs.Image.{leads_same, leads_join, leads_whole, still_unfailed, between_image}
 use Rattle.abt_pieces.specs.SpentStage.{all_passes}
 use Rattle.abt_pieces.proofs.SpendingStages.{spent_unbegun, stage_joins}
 use Rattle.abt_pieces.proofs.cutter.Cutter.next_piece.Goals as goal
@@ -33,6 +36,9 @@ steps-init g c =
       spent = λ tells. spent_unbegun (λ x. g.R.BlockRuns.within c.args.self.now.runs x × g.R.BlockRuns.place c.args.self.now.runs (g.S.Source.content c.args.source.now) x) (g.R.BlockRuns.charge c.args.self.now.runs) (g.R.BlockRuns.copied c.args.self.now.runs) (g.R.BlockRuns.held c.args.self.now.runs) (g.R.BlockRuns.size c.args.self.now.runs) c.args.self.now.limit (g.R.BlockRuns.count c.args.self.now.runs) (g.R.BlockRuns.one c.args.self.now.runs) c.args.self.now.start (g.S.Source.given c.args.source.now) c.args.self.now.stage c.requires.unbegun;
       faults = omega arith;
       write_faults = omega arith;
+      clean = (refl, refl);
+      unfilled = λ h. refl;
+      leads = leads_same _ _ _ _ refl (λ t h. h);
     }
 
 pub steps-preserved : goal.steps-preserved
@@ -77,6 +83,9 @@ steps-preserved g c =
           stage_joins (λ x. g.R.BlockRuns.within c.args.self.now.runs x × g.R.BlockRuns.place c.args.self.now.runs (g.S.Source.content c.args.source.now) x) (g.R.BlockRuns.charge c.args.self.now.runs) (g.R.BlockRuns.copied c.args.self.now.runs) (g.R.BlockRuns.held c.args.self.now.runs) (g.R.BlockRuns.size c.args.self.now.runs) c.args.self.now.limit (g.R.BlockRuns.count c.args.self.now.runs) (g.R.BlockRuns.one c.args.self.now.runs) c.args.self.now.start (all_passes (g.R.BlockRuns.charge c.args.self.now.runs) (g.R.BlockRuns.copied c.args.self.now.runs) c.args.self.now.start) (g.S.Source.given c.args.source.now) (g.S.Source.given c.steps.source) (g.S.Source.given c.step.new.source) c.step.new.self.stage i.given e.given (step _ (i.spent tells));
       faults = omega arith;
       write_faults = omega arith;
+      clean = (o.clean.0 ∙ i.clean.0, o.clean.1 ∙ i.clean.1);
+      unfilled = λ h. let z = e.full_faults (still_unfailed _ _ i.fresh h) in let n : full_cut c.step.result ≡ 0 = rw c.in-Ok-More.is refl in omega (arith, z, n, i.unfilled h);
+      leads = leads_join (StageMayCome (g.R.BlockRuns.size c.args.self.now.runs) (g.R.BlockRuns.count c.args.self.now.runs) c.args.self.now.stage) (StageMayCome (g.R.BlockRuns.size c.args.self.now.runs) (g.R.BlockRuns.count c.args.self.now.runs) c.steps.self.stage) (StageMayCome (g.R.BlockRuns.size c.args.self.now.runs) (g.R.BlockRuns.count c.args.self.now.runs) c.step.new.self.stage) _ _ _ i.leads (rw i.runs at (rw is at o.leads));
     }
 
 pub returns-in-Ok-Piece-clause-calls : goal.returns-in-Ok-Piece-clause-calls
@@ -172,3 +181,51 @@ returns-in-Ok-Piece-clause-spent_end g c tells over =
     let z = step _ (i.spent tells) in
     let y = z.end over in
     omega (arith, y, i.given, c.step.ensures.given)
+
+pub returns-in-Ok-Piece-clause-image : goal.returns-in-Ok-Piece-clause-image
+returns-in-Ok-Piece-clause-image g c =
+    let i = c.steps.invariant in
+    let o = c.in-Ok-Piece.ensures in
+    let is = c.in-Ok-Piece.field-0-is in
+    let between : c.args.self.now.stage ≡ Between = elim i.fresh [
+      | inl h ↦ h.1
+      | inr h ↦ is_between _ c.requires.unbegun (λ d. let z = rw is at (o.after_last (h.3 ∙ d)) in absurd cc) (λ f d. let z = rw is at (o.again f (h.3 ∙ d)).0 in absurd cc)
+    ] in
+    between_image _ _ _ _ _ between (leads_whole _ _ _ _ _ i.leads (rw i.runs at (rw is at o.all)))
+
+pub returns-in-Ok-Piece-clause-clean : goal.returns-in-Ok-Piece-clause-clean
+returns-in-Ok-Piece-clause-clean g c =
+    let i = c.steps.invariant in
+    let o = c.in-Ok-Piece.ensures in
+    (o.clean.0 ∙ i.clean.0, o.clean.1 ∙ i.clean.1)
+
+pub returns-in-Ok-End-clause-clean : goal.returns-in-Ok-End-clause-clean
+returns-in-Ok-End-clause-clean g c =
+    let i = c.steps.invariant in
+    let o = c.in-Ok-End.ensures in
+    (o.clean.0 ∙ i.clean.0, o.clean.1 ∙ i.clean.1)
+
+pub returns-in-Ok-Piece-clause-full_faults : goal.returns-in-Ok-Piece-clause-full_faults
+returns-in-Ok-Piece-clause-full_faults g c h =
+    let i = c.steps.invariant in
+    let z = c.in-Ok-Piece.ensures.full_faults (still_unfailed _ _ i.fresh h) in
+    omega (arith, z, i.unfilled h)
+
+pub returns-in-Ok-End-clause-full_faults : goal.returns-in-Ok-End-clause-full_faults
+returns-in-Ok-End-clause-full_faults g c h =
+    let i = c.steps.invariant in
+    let z = c.in-Ok-End.ensures.full_faults (still_unfailed _ _ i.fresh h) in
+    omega (arith, z, i.unfilled h)
+
+pub returns-in-Err-clause-full_faults : goal.returns-in-Err-clause-full_faults
+returns-in-Err-clause-full_faults g c h =
+    let i = c.steps.invariant in
+    let z = c.in-Err.ensures.full_faults (still_unfailed _ _ i.fresh h) in
+    omega (arith, z, i.unfilled h)
+
+pub returns-in-Err-clause-full : goal.returns-in-Err-clause-full
+returns-in-Err-clause-full g c h says =
+    let i = c.steps.invariant in
+    let z = c.in-Err.ensures.full (still_unfailed _ _ i.fresh h) says in
+    let few = rw i.limit at z.1 in
+    (z.0, omega (arith, few, i.counted, i.grown, c.step.ensures.grown))

@@ -1,6 +1,7 @@
-use Rattle.std.proofs.Common.{◌≡◌, ◌≤◌, ◌+◌, ◌-◌, ◌*◌, ◌++◌, ◌⊎◌, length, take, drop, max, true}
+use Rattle.std.proofs.Common.{◌≡◌, ◌≤◌, ◌+◌, ◌-◌, ◌*◌, ◌++◌, ◌⊎◌, length, take, drop, max, true, false}
 use Rattle.std.specs.Prelude.{IsTrue}
-use Rattle.abt_pieces.specs.Cutter.{ToldCutter, coming, so_far, is_begun, cut_left, silent_cut, cut_words}
+use Rattle.abt_pieces.specs.Cutter.{ToldCutter, coming, so_far, is_begun, has_failed, cut_left, silent_cut, cut_words}
+use Rattle.abt_pieces.specs.Image.{Leads, StageMayCome}
 use Rattle.abt_pieces.specs.SpentStage.{SpentStage, all_passes}
 use Rattle.abt_pieces.specs.declared.stage.Stage.TheVariants.{Between}
 use Rattle.abt_pieces.proofs.cutter.Cutter.next_piece.Given as goal
@@ -34,6 +35,9 @@ invariant-steps g l =
       spent : IsTrue g.S.Source.tells → SpentStage (λ c. g.R.BlockRuns.within l.fn.self.runs c × g.R.BlockRuns.place l.fn.self.runs (content l.fn.source) c) (g.R.BlockRuns.charge l.fn.self.runs) (g.R.BlockRuns.copied l.fn.self.runs) (g.R.BlockRuns.held l.fn.self.runs) size l.fn.self.limit (g.R.BlockRuns.count l.fn.self.runs) (g.R.BlockRuns.one l.fn.self.runs) l.fn.self.start (all_passes (g.R.BlockRuns.charge l.fn.self.runs) (g.R.BlockRuns.copied l.fn.self.runs) l.fn.self.start + (g.S.Source.given l.source - g.S.Source.given l.fn.source)) l.self.stage;
       faults : g.S.Source.read_faults l.fn.source ≤ g.S.Source.read_faults l.source;
       write_faults : g.O.Output.write_faults l.fn.output ≤ g.O.Output.write_faults l.output;
+      clean : (g.S.Source.read_faults l.source ≡ g.S.Source.read_faults l.fn.source) × (g.O.Output.write_faults l.output ≡ g.O.Output.write_faults l.fn.output);
+      unfilled : has_failed l.fn.self.stage ≡ false → g.O.Output.full_faults l.output ≡ g.O.Output.full_faults l.fn.output;
+      leads : Leads (StageMayCome size (g.R.BlockRuns.count l.fn.self.runs) l.fn.self.stage) (StageMayCome size (g.R.BlockRuns.count l.fn.self.runs) l.self.stage) (written l.fn.output) (written l.output);
     }
 
 abbrev pub decreases-steps : goal.decreases-steps

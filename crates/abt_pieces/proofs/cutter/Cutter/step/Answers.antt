@@ -2,6 +2,8 @@ use Rattle.std.proofs.Common.{arith, sym}
 use Rattle.abt_pieces.proofs.Fronts.{wrote_part}
 use Rattle.abt_pieces.proofs.Stepping.{begun_told, header_comes, first_left}
 use Rattle.abt_pieces.proofs.SpendingStages.{outline_writes, plan_begins_spent, nothing_read, more_of_ok}
+use Rattle.abt_sparse.specs.Chunk.{plain_header}
+use Rattle.abt_pieces.proofs.Image.{plan_leads, header_leads, whole_header}
 use Rattle.abt_pieces.proofs.cutter.Cutter.step.Goals as goal
 
 pub plan-requires-clause-told : goal.plan-requires-clause-told
@@ -54,3 +56,16 @@ pub returns-in-Plan-clause-spends : goal.returns-in-Plan-clause-spends
 returns-in-Plan-clause-spends g c tells t spent =
     let h = rw c.in-Plan.is at spent in
     more_of_ok c.plan-in-Plan.result _ (c.plan-in-Plan.ensures.spends t h)
+
+pub returns-in-Between-clause-leads : goal.returns-in-Between-clause-leads
+returns-in-Between-clause-leads g c = rw c.in-Between.is (plan_leads c.plan.result _ _ _ c.plan.ensures.comes)
+
+pub returns-in-Plan-clause-leads : goal.returns-in-Plan-clause-leads
+returns-in-Plan-clause-leads g c = rw c.in-Plan.is (plan_leads c.plan-in-Plan.result _ _ _ c.plan-in-Plan.ensures.comes)
+
+pub returns-in-Ok-clause-leads : goal.returns-in-Ok-clause-leads
+returns-in-Ok-clause-leads g c =
+    let e = c.begin-in-Begin.ensures in
+    let size = g.met.R.BlockRuns.sized c.args.self.now.runs in
+    let whole = whole_header (plain_header (g.R.BlockRuns.size c.args.self.now.runs) (g.R.BlockRuns.count c.args.self.now.runs) c.in-Begin.outline.chunks) _ _ e.front c.in-Ok.ensures.whole in
+    rw (c.in-Ok.ensures.stage, c.in-Begin.is) (header_leads _ _ c.args.self.now.start c.in-Begin.outline _ _ (omega (arith, size.0), size.1, e.fits.0) e.fits.1 e.fits.2 whole)

@@ -2,6 +2,7 @@ use Rattle.std.proofs.Common.{sym, refl, arith, ◌∙◌, ◌≡◌}
 use Rattle.abt_pieces.proofs.Cutting.{told_more}
 use Rattle.abt_pieces.proofs.Stepping.{piece_covers}
 use Rattle.abt_pieces.proofs.SpendingStages.{writing_goes, writing_ends}
+use Rattle.abt_pieces.proofs.Image.{nothing_appended}
 use Rattle.abt_pieces.proofs.cutter.Cutter.write.Goals as goal
 
 pub returns-in-Ok-true-clause-told : goal.returns-in-Ok-true-clause-told
@@ -38,3 +39,18 @@ returns-in-Ok-true-clause-spent g c tells t spent =
     let h = rw c.requires.at at spent in
     let z = e.spent tells c.args.outline.next sound.outline.within told.outline.place (sym (sound.past ∙ sound.outline.past)) h.fresh h.begun h.total h.spent c.in-Ok-true.field-0-test in
     rw (p.piece, p.start) (writing_ends _ _ _ _ _ _ t _ _ c.args.outline c.args.from h z)
+
+pub returns-in-Ok-false-clause-leads : goal.returns-in-Ok-false-clause-leads
+returns-in-Ok-false-clause-leads g c = rw c.requires.at (c.in-Ok-false.ensures.leads c.in-Ok-false.field-0-test)
+
+pub returns-in-Ok-true-clause-all : goal.returns-in-Ok-true-clause-all
+returns-in-Ok-true-clause-all g c =
+    let e = c.in-Ok-true.ensures in
+    let test = c.in-Ok-true.field-0-test in
+    rw c.requires.at (nothing_appended _ _ _ (e.ended test).1 (e.all test))
+
+pub returns-in-Err-clause-full : goal.returns-in-Err-clause-full
+returns-in-Err-clause-full g c says =
+    let s = (rw c.requires.at at c.args.self.now.sound).stage in
+    let z = c.in-Err.ensures.full (rw c.fail.ensures.fault at says) in
+    (z.0, rw c.requires.at (omega (arith, z.1, c.step.ensures.grown, s.rest, s.outline.long)))

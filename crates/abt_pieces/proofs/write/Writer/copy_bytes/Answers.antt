@@ -4,6 +4,7 @@ use Rattle.abt_pieces.proofs.Fronts.{wrote_front, wrote_rest, wrote_part}
 use Rattle.abt_pieces.proofs.Going.{is_copying, copied_writer, part_front, part_room, write_copies, copied_fewer, copied_passes}
 use Rattle.abt_pieces.proofs.Counts.{writer_copies}
 use Rattle.abt_pieces.proofs.Spending.{spent_copies}
+use Rattle.abt_pieces.proofs.Image.{copy_leads}
 use Rattle.abt_pieces.proofs.write.Writer.copy_bytes.Goals as goal
 
 pub returns-in-Err-write_out-clause-front : goal.returns-in-Err-write_out-clause-front
@@ -66,3 +67,10 @@ returns-clause-spends g c tells d within place is fresh s t spent =
       gathering = spent.gathering;
       copies = rw c.and_bytes-self.ensures (spent_copies _ _ _ _ _ _ _ _ _ _ _ s t _ _ _ c.in-Ok.count c.args.copying (omega (arith, some)) h fits c.in-Ok.ensures.given.0 grows.0 c.in-Ok.ensures.read (rw c.requires.is at spent.copies));
     }
+
+pub returns-clause-leads : goal.returns-clause-leads
+returns-clause-leads g c =
+    let fits : c.args.copying.done + c.in-Ok.count ≤ c.args.copying.size = omega (arith, c.in-Ok.ensures.within, c.copy.auto.out, c.part_mut.ensures.long, c.min-ask.ensures, c.requires.more) in
+    let h = is_copying _ _ _ _ c.args.self.now c.args.copying c.requires.is c.requires.sound in
+    let room = part_room _ _ _ _ _ _ _ c.args.copying h in
+    rw c.and_bytes-self.ensures (copy_leads _ _ c.args.self.now c.args.copying c.in-Ok.count c.part.result.now _ _ c.requires.is (omega arith) (omega (arith, room, fits)) c.in_default.ensures.ok)

@@ -5,6 +5,7 @@ use Rattle.abt_pieces.proofs.Going.{begun, chunk_sound, chunk_told, chunk_rest, 
 use Rattle.abt_pieces.proofs.Counts.{chunk_words, chunk_paid, chunk_gathers, still_passes, writer_looks}
 use Rattle.abt_pieces.specs.Gather.{gathered_to}
 use Rattle.abt_pieces.proofs.Spending.{chunk_spent, spent_looks}
+use Rattle.abt_pieces.proofs.Image.{chunk_leads, look_comes, leads_same}
 use Rattle.abt_pieces.proofs.write.Writer.look.Goals as goal
 
 pub returns-in-Some-clause-sound : goal.returns-in-Some-clause-sound
@@ -98,3 +99,15 @@ returns-in-None-clause-spends g c tells d within place is fresh s t h =
     let grows = rw c.in-None.is at c.in-Ok.ensures.grows in
     spent_looks _ _ _ _ _ _ d s t _ _ c.args.self.now c.gather.new.self c.requires.none c.requires.sound.gathering c.in-Ok.ensures.sound grows h
     (record { read = c.in-Ok.ensures.gathered tells d within place is fresh; grown = c.in-Ok.ensures.given; gathering = c.in-Ok.ensures.spends tells d within place is fresh s h.gathering })
+
+pub returns-in-Some-clause-leads : goal.returns-in-Some-clause-leads
+returns-in-Some-clause-leads g c =
+    let size = c.block_size-size.ensures in
+    let run = rw c.in-Some.is at c.in-Ok.ensures.run in
+    let e = c.begin_chunk.ensures in
+    chunk_leads _ _ _ _ c.args.self.now c.gather.new.self c.in-Some.run' c.begin_chunk.result c.begin_chunk.new.self _ _ c.requires.none c.requires.going c.requires.sound c.in-Ok.ensures.sound run (rw size at e.ok) (rw size at e.room) (rw size at e.written) e.whole
+
+pub returns-in-None-clause-leads : goal.returns-in-None-clause-leads
+returns-in-None-clause-leads g c =
+    let grows = rw c.in-None.is at c.in-Ok.ensures.grows in
+    leads_same _ _ _ _ refl (look_comes _ _ _ c.args.self.now c.gather.new.self c.requires.sound.gathering c.in-Ok.ensures.sound grows)

@@ -3,6 +3,7 @@ use Rattle.abt_pieces.proofs.Fronts.{not_told}
 use Rattle.abt_pieces.proofs.Going.{is_copying, some_of, next_sound, next_writer, write_copies, goes_on, next_next}
 use Rattle.abt_pieces.proofs.Counts.{segment_words, segment_top, writer_passes}
 use Rattle.abt_pieces.proofs.Spending.{spent_next}
+use Rattle.abt_pieces.proofs.Image.{part_comes, next_same}
 use Rattle.abt_pieces.proofs.write.Writer.next_raw.Goals as goal
 
 pub returns-in-Some-clause-sound : goal.returns-in-Some-clause-sound
@@ -116,3 +117,8 @@ returns-in-Some-clause-spends g c tells d within place is' fresh s t spent =
       copies = spent_next _ _ _ _ _ _ _ _ _ _ c.args.copying c.in-Some.next c.in-Ok.part low c.requires.whole
           (record { next = e.moved; charged = e.charged; onward = e.onward; copies = e.copies; stops = λ u. (e.stops u).1; first = e.first tells; grown = e.given }) is (rw c.requires.is at spent.copies);
     }
+
+pub returns-in-Some-clause-comes : goal.returns-in-Some-clause-comes
+returns-in-Some-clause-comes g c t h =
+    let is = sym (rw c.block_size-size.ensures at c.and_part.ensures) ∙ c.in-Some.is in
+    part_comes _ _ c.args.self.now _ c.args.copying c.in-Some.next c.requires.is refl (next_same c.args.copying c.in-Some.next c.in-Ok.part _ is) refl refl t h

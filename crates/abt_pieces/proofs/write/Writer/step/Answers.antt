@@ -1,6 +1,7 @@
-use Rattle.std.proofs.Common.{arith, sym, ◌≡◌, ◌≤◌, ◌+◌, ◌-◌, ◌*◌, ◌∙◌, true}
+use Rattle.std.proofs.Common.{arith, sym, ◌≡◌, ◌≤◌, ◌+◌, ◌-◌, ◌*◌, ◌∙◌, true, refl}
 use Rattle.abt_pieces.proofs.Counts.{writer_most, writer_looked, writer_passed}
 use Rattle.abt_pieces.proofs.Spending.{always_ok, spent_same, spent_whole}
+use Rattle.abt_pieces.proofs.Image.{leads_same, end_comes}
 use Rattle.abt_pieces.proofs.write.Writer.step.Goals as goal
 
 pub returns-in_err-next_raw-in-Some-clause-turns : goal.returns-in_err-next_raw-in-Some-clause-turns
@@ -54,3 +55,9 @@ pub returns-then-is_done-clause-spent : goal.returns-then-is_done-clause-spent
 returns-then-is_done-clause-spent g c tells d within place is fresh s t h =
     let z = spent_whole _ _ _ _ _ _ d s t c.args.self.now (within, place) is fresh c.in-None.is (sym c.is_done.ensures ∙ c.if-is_done.true) c.requires.sound.gathering h in
     always_ok _ (λ x. x ≡ true → t + (g.S.Source.given c.args.source.now - g.S.Source.given c.args.source.now) ≤ 2 * g.R.BlockRuns.charge c.args.runs.now d + g.R.BlockRuns.copied c.args.runs.now d + 32) (λ x e. omega (arith, z))
+
+pub returns-in_ok-next_raw-in-Some-clause-leads : goal.returns-in_ok-next_raw-in-Some-clause-leads
+returns-in_ok-next_raw-in-Some-clause-leads g c e = leads_same _ _ _ _ refl c.in_ok-next_raw-in-Some.ensures.comes
+
+pub returns-then-is_done-clause-all : goal.returns-then-is_done-clause-all
+returns-then-is_done-clause-all g c = end_comes c.end.result _ _ _ c.args.self.now c.requires.sound.gathering c.in-None.is (sym c.is_done.ensures ∙ c.if-is_done.true) c.end.ensures.whole

@@ -9,7 +9,7 @@ use Rattle.abt_runs.proofs.runs.BlockRuns.next_run.Goals as goal
 
 later : (e : RunFault) (tells : Bool) (a b c : ℕ) → a ≤ b → Caused e tells b c → Caused e tells a c
 later (Sparse f) tells a b c le h = h
-later (Read f) tells a b c le h = omega arith
+later (Read f) tells a b c le h = (omega (arith, h.0), h.1)
 later TooLarge tells a b c le h = h
 later SourceChanged tells a b c le h = h
 later (BadBlock n) tells a b c le h = h
@@ -66,6 +66,7 @@ parts-preserved g c =
       turns = let a = i.turns in let b = e.turns in rw steps (rw i.same at (turns_more c.parts.m.turns.number c.parts.m.turns.number c.next_part.new.m.turns.number (g.S.Source.given c.parts.source) (g.S.Source.given c.args.source.now) (g.S.Source.given c.next_part.new.source) c.args.m.now.steps.number c.parts.m.steps.number (runs.one c.parts.self) (runs.padding c.parts.self r.next) (let z : c.parts.m.turns.number ≡ c.parts.m.turns.number = omega arith in z) (omega (arith, b, tick.turns)) padded i.more e.given c.args.m.now.turns.number (rw i.same a)));
       greatest = let a = i.greatest in let b = e.greatest in let d = e.received in omega (arith, a, b, d, tick.greatest);
       faults = omega (arith, i.faults, e.faults);
+      clean = e.clean ∙ i.clean;
     }
 
 pub returns-then-room-eq0-clause-run : goal.returns-then-room-eq0-clause-run

@@ -35,6 +35,7 @@ invariant-parts g l =
       turns : l.m.turns.number + (3 + runs.one self) * l.fn.m.steps.number ≤ l.fn.m.turns.number + 2 * (g.S.Source.given l.source - g.S.Source.given l.fn.source) + (3 + runs.one self) * l.m.steps.number;
       greatest : l.m.greatest.number ≤ max l.fn.m.greatest.number 65536;
       faults : g.S.Source.read_faults l.fn.source ≤ g.S.Source.read_faults l.source;
+      clean : g.S.Source.read_faults l.source ≡ g.S.Source.read_faults l.fn.source;
     }
 
 abbrev pub decreases-parts : goal.decreases-parts

@@ -21,6 +21,7 @@ invariant-steps g l =
       turns : l.m.turns.number ≤ l.fn.m.turns.number + 2 * (given l.source - given l.fn.source);
       greatest : l.m.greatest.number ≤ max l.fn.m.greatest.number 28;
       faults : g.S.Source.read_faults l.fn.source ≤ g.S.Source.read_faults l.source;
+      clean : g.S.Source.read_faults l.source ≡ g.S.Source.read_faults l.fn.source;
     }
 
 abbrev pub decreases-steps : goal.decreases-steps

@@ -1,0 +1,60 @@
+-- What a piece is whatever the source gave: a sparse image of all blocks. And what may still come of one that is being written.
+use Rattle.std.specs.Prelude.{◌≡◌, ℕ, ◌+◌, ◌-◌, ◌^◌, ◌<◌, List, [], ◌++◌, length, Option, Some, None, ⊤}
+use Rattle.std.specs.List.{flat_map, AllByRecursion}
+use Rattle.abt_sparse.specs.Chunk.{Chunk, IsChunk, data_of, plain, plain_header}
+use Rattle.abt_sparse.specs.Fails.{Spells, counted_in}
+use Rattle.abt_pieces.specs.Write.{begins}
+use Rattle.abt_pieces.specs.declared.write.Copying.{Copying}
+use Rattle.abt_pieces.specs.declared.write.Writer.{Writer}
+use Rattle.abt_pieces.specs.declared.stage.Stage.{Stage}
+use Rattle.abt_pieces.specs.declared.stage.Stage.TheVariants.{Between, Plan, Begin, Write, Done, Failed}
+
+-- behind `old` stands more in `new`, of which P is so
+pub record Appended (P : List ℕ → Type 0) (old new : List ℕ) : Type 0 where
+  pub wrote : List ℕ
+  pub behind : new ≡ old ++ wrote
+  pub is : P wrote
+
+-- Q may come behind what was written since: then P came behind what was there before
+abbrev pub Leads : (List ℕ → Type 0) → (List ℕ → Type 0) → List ℕ → List ℕ → Type 0
+Leads P Q old new = Appended (λ x. (t : List ℕ) → Q t → P (x ++ t)) old new
+
+-- x is a sparse image of n blocks of b bytes, with as many chunks as its header says, and nothing behind it
+pub record IsImage (b n : ℕ) (x : List ℕ) : Type 0 where
+  pub chunks : List Chunk
+  pub spelled : Spells x (plain_header b n (length chunks)) chunks []
+
+-- a chunk that is spelled plainly
+pub record IsPlain (b : ℕ) (c : Chunk) : Type 0 where
+  pub is : IsChunk b c
+  pub fits : 12 + length (data_of c) < 2 ^ 32
+
+-- x is k such chunks, which count j blocks
+pub record AreChunks (b k j : ℕ) (x : List ℕ) : Type 0 where
+  pub chunks : List Chunk
+  pub count : length chunks ≡ k
+  pub blocks : counted_in chunks ≡ j
+  pub all : AllByRecursion (IsPlain b) chunks
+  pub bytes : x ≡ flat_map plain chunks
+
+-- how many bytes of the raw run that is copied are still to come
+abbrev pub copy_to_come : Option Copying → ℕ
+copy_to_come None = 0
+copy_to_come (Some c) = c.left
+
+-- t may come behind what is written: the rest of the raw run, and all chunks still to be begun, with all blocks behind the open run's first
+pub record MayCome (b n : ℕ) (w : Writer) (t : List ℕ) : Type 0 where
+  pub raw : List ℕ
+  pub rest : List ℕ
+  pub long : length raw ≡ copy_to_come w.copying
+  pub chunks : AreChunks b w.chunks (n - begins w.gatherer) rest
+  pub bytes : t ≡ raw ++ rest
+
+-- the same at any stage: all of an image, or the rest of one
+abbrev pub StageMayCome : ℕ → ℕ → Stage → List ℕ → Type 0
+StageMayCome b n Between t = IsImage b n t
+StageMayCome b n (Plan p) t = IsImage b n t
+StageMayCome b n (Begin o) t = IsImage b n t
+StageMayCome b n (Write o w) t = MayCome b n w t
+StageMayCome b n Done t = IsImage b n t
+StageMayCome b n (Failed f) t = IsImage b n t

@@ -1,0 +1,3 @@
+pub mod Sparsing
+pub mod SparseSteps
+pub mod Images

@@ -1,0 +1,137 @@
+use Rattle.std.proofs.Common.{arith, ◌∙◌, sym, min, refl}
+use Rattle.abt_pieces.proofs.Counts.{silent_most, words_most}
+use Rattle.abt_sparsify.specs.Sparsify.{end_place}
+use Rattle.abt_sparsify.proofs.SparseSteps.{is_end_place, granted_end, raw_blocks, counted_on, counted_still, counted_whole, sound_count_on, sound_count_still, few_bytes}
+use Rattle.abt_sparsify.proofs.count.count_runs.Goals as goal
+
+pub and_run-counted-requires-clause-chunks : goal.and_run-counted-requires-clause-chunks
+and_run-counted-requires-clause-chunks g c =
+    let i = c.loop-gatherer.invariant in
+    let e = c.in-Ok.ensures in
+    let r = c.args.runs.now in
+    let run = rw c.in-Some.is at e.run in
+    let z = sound_count_on _ c.args.most c.loop-gatherer.gatherer c.gather.new.self c.in-Some.run' c.loop-gatherer.counted c.requires.some i.sound.behind_it run i.bounds in
+    let s = rw (i.same, i.count) at e.sound in
+    omega (arith, z.chunks, s.room, r.fits)
+
+pub and_run-counted-requires-clause-bytes : goal.and_run-counted-requires-clause-bytes
+and_run-counted-requires-clause-bytes g c =
+    let i = c.loop-gatherer.invariant in
+    let e = c.in-Ok.ensures in
+    let r = c.args.runs.now in
+    let run = rw c.in-Some.is at e.run in
+    let z = sound_count_on _ c.args.most c.loop-gatherer.gatherer c.gather.new.self c.in-Some.run' c.loop-gatherer.counted c.requires.some i.sound.behind_it run i.bounds in
+    let s = rw (i.same, i.count) at e.sound in
+    rw i.size (few_bytes _ r.blocks r.size _ (omega (arith, s.room)) r.fits r.window z.bytes)
+
+pub loop-gatherer-preserved-in-Some : goal.loop-gatherer-preserved-in-Some
+loop-gatherer-preserved-in-Some g c =
+    let i = c.loop-gatherer.invariant in
+    let e = c.in-Ok.ensures in
+    let r = c.args.runs.now in
+    let run = rw c.in-Some.is at e.run in
+    let z = sound_count_on _ c.args.most c.loop-gatherer.gatherer c.gather.new.self c.in-Some.run' c.loop-gatherer.counted c.requires.some i.sound.behind_it run i.bounds in
+    let going = sym c.loop-gatherer-test.ensures in
+    let most = silent_most r.blocks r.blocks c.loop-gatherer.gatherer in
+    let paid = rw (i.same, i.count) at (e.paid going) in
+    let words = rw (i.same, i.count) at e.words in
+    let now = rw i.size at c.and_run-counted.ensures in
+    record {
+      same = e.same ∙ i.same;
+      size = i.size;
+      count = i.count;
+      blocks = rw now i.blocks;
+      kept = λ tells. e.content tells ∙ i.kept tells;
+      frame = e.frame ∙ i.frame;
+      sound = rw (i.same, i.count) at e.sound;
+      told = λ tells. rw (i.same, i.count, i.kept tells) at (e.told tells);
+      bounds = rw now z;
+      numbers = λ tells.
+          let o = raw_blocks r.blocks r.size r.length _ r.some r.covers r.last (c.requires.opened tells) in
+          let closed = rw (i.same, i.count, i.kept tells, c.in-Some.is) at (e.closed tells) in
+          rw now (counted_on _ _ _ _ c.loop-gatherer.gatherer c.gather.new.self c.in-Some.run' c.loop-gatherer.counted c.requires.some o.0 o.1 (i.told tells).gathered closed run (i.numbers tells));
+      given = omega (arith, e.given, i.given);
+      received = omega (arith, e.received, e.steps, i.received, c.tick.ensures.steps);
+      greatest = omega (arith, e.received, e.greatest, i.greatest, c.tick.ensures.greatest);
+      reads = omega (arith, e.calls, e.given, paid, most, i.reads, i.given);
+      turns = omega (arith, words, e.given, paid, most, i.turns, i.given, c.tick.ensures.turns);
+      reads_to = λ tells. let place = is_end_place r.blocks r.size r.window in let z = rw (i.same, i.count) at (e.gathered tells (end_place r.blocks) (rw i.same place) (rw i.same place) (sym i.count) refl) in omega (arith, z, i.reads_to tells);
+      faults = omega (arith, e.faults, i.faults);
+      clean = e.clean ∙ i.clean;
+    }
+
+pub loop-gatherer-preserved : goal.loop-gatherer-preserved
+loop-gatherer-preserved g c =
+    let i = c.loop-gatherer.invariant in
+    let e = c.in-Ok.ensures in
+    let r = c.args.runs.now in
+    let grows = rw c.in-None.is at e.grows in
+    let going = sym c.loop-gatherer-test.ensures in
+    let most = silent_most r.blocks r.blocks c.loop-gatherer.gatherer in
+    let paid = rw (i.same, i.count) at (e.paid going) in
+    let words = rw (i.same, i.count) at e.words in
+    let on = rw (i.same, i.count) at e.sound in
+    record {
+      same = e.same ∙ i.same;
+      size = i.size;
+      count = i.count;
+      blocks = i.blocks;
+      kept = λ tells. e.content tells ∙ i.kept tells;
+      frame = e.frame ∙ i.frame;
+      sound = on;
+      told = λ tells. rw (i.same, i.count, i.kept tells) at (e.told tells);
+      bounds = sound_count_still _ c.loop-gatherer.gatherer c.gather.new.self c.loop-gatherer.counted i.sound.behind_it on.behind_it grows i.bounds;
+      numbers = λ tells. counted_still _ _ c.loop-gatherer.gatherer c.gather.new.self c.loop-gatherer.counted i.sound.behind_it on.behind_it grows (i.numbers tells);
+      given = omega (arith, e.given, i.given);
+      received = omega (arith, e.received, e.steps, i.received, c.tick.ensures.steps);
+      greatest = omega (arith, e.received, e.greatest, i.greatest, c.tick.ensures.greatest);
+      reads = omega (arith, e.calls, e.given, paid, most, i.reads, i.given);
+      turns = omega (arith, words, e.given, paid, most, i.turns, i.given, c.tick.ensures.turns);
+      reads_to = λ tells. let place = is_end_place r.blocks r.size r.window in let z = rw (i.same, i.count) at (e.gathered tells (end_place r.blocks) (rw i.same place) (rw i.same place) (sym i.count) refl) in omega (arith, z, i.reads_to tells);
+      faults = omega (arith, e.faults, i.faults);
+      clean = e.clean ∙ i.clean;
+    }
+
+pub returns-clause-chunks : goal.returns-clause-chunks
+returns-clause-chunks g c tells =
+    let i = c.loop-gatherer.invariant in
+    let r = c.args.runs.now in
+    let o = raw_blocks r.blocks r.size r.length _ r.some r.covers r.last (c.requires.opened tells) in
+    let z = i.sound.ended (sym c.loop-gatherer-test.ensures) in
+    (counted_whole r.size _ _ _ c.loop-gatherer.gatherer c.loop-gatherer.counted o.0 z.0 z.1 (i.numbers tells)).0
+
+pub returns-clause-bytes : goal.returns-clause-bytes
+returns-clause-bytes g c tells =
+    let i = c.loop-gatherer.invariant in
+    let r = c.args.runs.now in
+    let o = raw_blocks r.blocks r.size r.length _ r.some r.covers r.last (c.requires.opened tells) in
+    let z = i.sound.ended (sym c.loop-gatherer-test.ensures) in
+    (counted_whole r.size _ _ _ c.loop-gatherer.gatherer c.loop-gatherer.counted o.0 z.0 z.1 (i.numbers tells)).1
+
+pub returns-clause-turns : goal.returns-clause-turns
+returns-clause-turns g c =
+    let i = c.loop-gatherer.invariant in
+    let r = c.args.runs.now in
+    let most = words_most r.size r.blocks (min c.loop-gatherer.gatherer.at.block r.blocks) in
+    omega (arith, i.turns, most)
+
+pub returns-in-Err-clause-turns : goal.returns-in-Err-clause-turns
+returns-in-Err-clause-turns g c =
+    let i = c.loop-gatherer.invariant in
+    let e = c.gather.ensures in
+    let turns = rw (i.same, i.count) at e.turns in
+    omega (arith, i.turns, turns, i.given, e.given, c.tick.ensures.turns)
+
+pub returns-in-Err-clause-calls : goal.returns-in-Err-clause-calls
+returns-in-Err-clause-calls g c =
+    let i = c.loop-gatherer.invariant in
+    let e = c.gather.ensures in
+    omega (arith, i.reads, e.calls, i.given, e.given)
+
+pub returns-clause-economy : goal.returns-clause-economy
+returns-clause-economy g c tells =
+    let i = c.loop-gatherer.invariant in
+    let r = c.args.runs.now in
+    let z = i.sound.ended (sym c.loop-gatherer-test.ensures) in
+    let end = granted_end r.length r.blocks r.size c.loop-gatherer.gatherer.at z.1 in
+    omega (arith, end, i.reads_to tells)

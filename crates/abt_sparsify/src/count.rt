@@ -1,0 +1,107 @@
+//! The numbers of a sparse image, which its header needs first: a pass that counts runs.
+ghost use Rattle.std.specs.Prelude.{◌≡◌, ◌<◌, ◌≤◌, ◌+◌, ◌-◌, ◌*◌, ◌^◌, IsTrue, IfOk, IfErr, OnOk, length, max};
+ghost use Rattle.abt_sparse.specs.Block.{classify};
+ghost use Rattle.abt_sparse.specs.Chunk.{spelling, chunks_of};
+ghost use Rattle.abt_pieces.specs.Fault.{HasCause};
+ghost use Rattle.abt_sparsify.specs.Sparsify.{chunks_in, with_run, no_runs};
+
+use abt_io::{Meter, Source, Window};
+use abt_pieces::{Gatherer, PieceFault, copied_len, head_len, run_fault};
+use abt_runs::{BlockRuns, RawRuns, Run, RunKind};
+
+/// What a sparse image holds.
+#[derive(Clone, Copy, Debug, PartialEq, Eq, Drop)]
+pub struct Written {
+    /// How many blocks it has.
+    pub blocks: u32,
+    /// How many chunks it has.
+    pub chunks: u32,
+    /// How long it is, in bytes, with its header of 28.
+    pub bytes: u64,
+}
+
+/// In how many chunks a run is written, a raw one cut every `most` blocks.
+fn chunks_of_run(kind: RunKind, blocks: u32, most: u32) -> u32
+    requires some { 0 < most }
+    ensures { result ≡ chunks_in kind blocks most }
+{
+    match kind {
+        RunKind::Raw => ((blocks as u64 + (most as u64 - 1)) / most as u64) as u32,
+        RunKind::Fill(_) | RunKind::Skip | RunKind::End => 1,
+    }
+}
+
+impl Written {
+    /// An image of so many blocks, of which none is counted yet.
+    fn begin(blocks: u32) -> Written
+        ensures { result ≡ no_runs blocks }
+    {
+        Written {
+            blocks,
+            chunks: 0,
+            bytes: 28,
+        }
+    }
+
+    /// With the chunks of a run more.
+    fn and_run(self, run: Run, size: u32, most: u32) -> Written
+        requires some { 0 < most }
+        requires chunks { self.chunks + chunks_in run.kind run.blocks most < 2 ^ 32 }
+        requires bytes { (with_run self run size most).bytes < 2 ^ 64 }
+        ensures { result ≡ with_run self run size most }
+    {
+        let chunks = chunks_of_run(run.kind, run.blocks, most);
+        let copied = copied_len(run.kind, run.blocks, size);
+        Written {
+            blocks: self.blocks,
+            chunks: self.chunks + chunks,
+            bytes: self.bytes + (chunks as u64 * head_len(run.kind) + copied),
+        }
+    }
+}
+
+/// Counts what the sparse image of a raw one will hold, its raw runs cut every `most` blocks.
+#[tactic(auto, using(crate::proofs::SparseSteps::granted))]
+pub fn count_runs<S: Source>(
+    runs: &mut RawRuns,
+    source: &mut S,
+    most: u32,
+    w: &mut Window,
+    m: &mut Meter,
+) -> Result<Written, PieceFault>
+    requires some { 0 < most }
+    requires opened { IsTrue S.tells → runs.old.length ≡ length (S.content source.old) }
+    ensures same { runs.new ≡ runs.old }
+    ensures content { IsTrue S.tells → S.content source.new ≡ S.content source.old }
+    ensures frame { S.read_frame source.new ≡ S.read_frame source.old }
+    ensures blocks { IfOk result (λ a. a.blocks ≡ runs.old.blocks) }
+    ensures chunks { IsTrue S.tells → IfOk result (λ a. a.chunks ≡ length (chunks_of most (classify runs.old.size (S.content source.old)))) }
+    ensures bytes { IsTrue S.tells → IfOk result (λ a. a.bytes ≡ length (spelling runs.old.size most (classify runs.old.size (S.content source.old)))) }
+    ensures bounded { IfOk result (λ a. (28 ≤ a.bytes) × (a.bytes ≤ 28 + runs.old.blocks * (runs.old.size + 16))) }
+    ensures given { S.given source.old ≤ S.given source.new }
+    ensures received { S.given source.new + 65536 * m.old.steps.number ≤ S.given source.old + 65536 * m.new.steps.number }
+    ensures economy { IsTrue S.tells → IfOk result (λ a. S.given source.new ≤ S.given source.old + 2 * runs.old.length) }
+    ensures calls { S.reads source.new ≤ S.reads source.old + 3 * (S.given source.new - S.given source.old) + 8 }
+    ensures turns { m.new.turns.number ≤ m.old.turns.number + 5 * (S.given source.new - S.given source.old) + 12 + runs.old.size }
+    ensures greatest { m.new.greatest.number ≤ max m.old.greatest.number 65536 }
+    ensures faults { S.read_faults source.old ≤ S.read_faults source.new }
+    ensures clean { OnOk result (S.read_faults source.new ≡ S.read_faults source.old) }
+    ensures cause { IfErr result (λ e. HasCause e S.tells (S.read_faults source.old) (S.read_faults source.new) 0 0) }
+{
+    let size = runs.block_size();
+    let count = runs.blocks();
+    let mut counted = Written::begin(count);
+    let mut gatherer = Gatherer::begin(runs.start());
+    while !gatherer.is_done() {
+        m.tick();
+        let ended = match gatherer.gather(runs, source, 0, count, w, m) {
+            Ok(ended) => ended,
+            Err(fault) => return Err(run_fault(fault)),
+        };
+        match ended {
+            Some(run) => counted = counted.and_run(run, size, most),
+            None => {}
+        }
+    }
+    Ok(counted)
+}
