@@ -1,5 +1,5 @@
 -- An entry that is written is read, and what is read is spelled so.
-use Rattle.std.proofs.Common.{◌≡◌, ℕ, zero, suc, ◌+◌, ◌*◌, ◌<◌, ◌≤◌, ◌^◌, List, [], ◌∷◌, ◌++◌, length, take, drop, get_or, refl, sym, ap, ◌∙◌, append-nil, arith, length-append}
+use Rattle.std.proofs.Common.{◌≡◌, ℕ, zero, suc, ◌+◌, ◌*◌, ◌<◌, ◌≤◌, ◌^◌, List, [], ◌∷◌, ◌++◌, length, drop, get_or, refl, sym, ap, ◌∙◌, append-nil, arith, length-append}
 use Rattle.std.proofs.lemmas.List.{drop_all, drop-drop}
 use Rattle.std.proofs.lemmas.List.Concat.{flat_map-cons}
 use Rattle.std.specs.List.{flat_map}
@@ -8,7 +8,7 @@ use Rattle.byteorder.specs.Endian.{little_bytes}
 use Rattle.abt_headers.specs.declared.entry.RamdiskEntry.{RamdiskEntry}
 use Rattle.abt_headers.specs.Field.{number_at, joined}
 use Rattle.abt_headers.specs.Entry.{words_at, words_fields, entry_fields, entry_record, entry_at, EntryFits}
-use Rattle.abt_headers.proofs.Fields.{IsBytes, next, next_number, part_here, number_here, part_field, field, joined_to, joined_rest, joined-append, put_more}
+use Rattle.abt_headers.proofs.Fields.{IsBytes, next, next_number, part_here, number_here, part_field, field, joined_to, joined_rest}
 
 words_again : (ws : List ℕ) (p : ℕ) (x rest : List ℕ) → ((i : ℕ) → get_or ws i 0 < 2 ^ 32) → drop p x ≡ joined_to (words_fields ws) rest → words_at p (length ws) x ≡ ws
 words_again [] p x rest h e = refl

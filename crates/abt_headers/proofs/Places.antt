@@ -1,5 +1,5 @@
 -- How sections are laid one after another.
-use Rattle.std.proofs.Common.{◌≡◌, ℕ, zero, suc, ◌+◌, ◌-◌, ◌*◌, ◌<◌, ◌≤◌, ◌^◌, List, [], ◌∷◌, ◌++◌, length, get_or, take, drop, set, sym, ap, subst, ◌∙◌, append_assoc, arith, nat_lt, inl, inr}
+use Rattle.std.proofs.Common.{◌≡◌, ℕ, zero, suc, ◌+◌, ◌-◌, ◌*◌, ◌<◌, ◌≤◌, ◌^◌, List, [], ◌∷◌, ◌++◌, length, get_or, take, drop, set, refl, sym, ap, subst, ◌∙◌, append_assoc, arith, nat_lt, inl, inr}
 use Rattle.std.proofs.Math.Nat.{mul-le-mul_left, mul-le-mul_right, div-mul-le_self, lt-div-mul-add}
 use Rattle.std.proofs.lemmas.List.{take_more_set, drop_more}
 use Rattle.std.proofs.lemmas.Bool.{cases_Bool, ltb-true, ltb-false}
@@ -8,7 +8,7 @@ use Rattle.std.specs.Int.{div_ceil}
 use Rattle.abt_headers.specs.declared.sections.Section.{Section}
 use Rattle.abt_headers.specs.declared.sections.Place.{Place}
 use Rattle.abt_headers.specs.Page.{pages}
-use Rattle.abt_headers.specs.Places.{places_from, EachLow}
+use Rattle.abt_headers.specs.Places.{place_of, places_from, EachLow}
 
 pub laid : (p k k' i : ℕ) (ps : List Place) (ss : List (Section × ℕ)) (d : Section × ℕ) → i < length ss → i < length ps → k' ≡ k + pages (get_or ss i d).1 p
     → take (i + 1) (set ps i (record { kind = (get_or ss i d).0; at = p * k; size = (get_or ss i d).1 })) ++ places_from p k' (drop (i + 1) ss) ≡ take i ps ++ places_from p k (drop i ss)
@@ -58,3 +58,8 @@ low_more ps i y l h low = subst (λ (qs : List Place). EachLow qs) (sym (take_mo
 -- nor is that of a section behind few pages
 pub near : (page k size : ℕ) → page ≤ 131072 → k ≤ 10485767 → size < 2 ^ 32 → page * k + size < 2 ^ 63
 near page k size h l s = let m : page * k ≤ 131072 * k = mul-le-mul_right k h in omega arith
+
+-- the places of the first sections are the first places
+pub first_places : (p k : ℕ) (ss rest : List (Section × ℕ)) → take (length ss) (places_from p k (ss ++ rest)) ≡ places_from p k ss
+first_places p k [] rest = refl
+first_places p k (s ∷ ss) rest = ap (λ (l : List Place). place_of p k s ∷ l) (first_places p (k + pages s.1 p) ss rest)

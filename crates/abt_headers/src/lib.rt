@@ -46,4 +46,6 @@ pub use os::{OsParts, OsVersion};
 pub use page::PageSize;
 pub use sections::{Place, Section, Sections, pages};
 pub use tail::VendorTail;
-pub use vendor::{VENDOR_MAGIC, VendorFront, VendorHeader, vendor_again, vendor_front_decides, vendor_long};
+pub use vendor::{
+    VENDOR_MAGIC, VendorFront, VendorHeader, vendor_again, vendor_front_decides, vendor_long,
+};

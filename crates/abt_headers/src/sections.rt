@@ -2,7 +2,7 @@
 
 ghost use Rattle.std.specs.Prelude.{◌≡◌, ◌+◌, ◌*◌, ◌≤◌, ◌<◌, ◌^◌, List, length, slice_index_or};
 ghost use Rattle.abt_headers.specs.Page as of_page;
-ghost use Rattle.abt_headers.specs.Places.{EachLow, places_from, section_name};
+ghost use Rattle.abt_headers.specs.Places.{EachLow, place_of, places_from, section_name};
 
 use std::fmt;
 use std::marker::Model;
@@ -131,6 +131,52 @@ pub fn pages(size: u64, page: u32) -> u64
     size.div_ceil(page as u64)
 }
 
+/// How many pages are before the section behind one of this size, which is behind `before` pages itself.
+fn pages_before(page: u32, before: u64, size: u32) -> u64
+    requires low { 2048 ≤ page }
+    requires few { before ≤ 8388614 }
+    ensures value { result ≡ before + of_page.pages size page }
+    ensures few { result ≤ before + 2097153 }
+{
+    before + pages(size as u64, page)
+}
+
+/// Where a section stands that is behind so many pages.
+fn place_behind(page: u32, before: u64, section: (Section, u32)) -> Place
+    requires high { page ≤ 131072 }
+    requires few { before ≤ 8388614 }
+    ensures value { result ≡ place_of page before section }
+    ensures low { result.at + result.size < 2 ^ 63 }
+{
+    Place {
+        kind: section.0,
+        at: page as u64 * before,
+        size: section.1,
+    }
+}
+
+/// The first five places of sections of these sizes, one behind another, each from a page boundary on and the first
+/// behind `first` pages.
+fn five_places(page: u32, first: u64, sections: &[(Section, u32); 5]) -> [Place; 5]
+    requires low { 2048 ≤ page }
+    requires high { page ≤ 131072 }
+    requires first { first ≤ 2 }
+    ensures places { result ≡ places_from page first sections.now }
+    ensures low { EachLow result }
+{
+    let second = pages_before(page, first, sections[0].1);
+    let third = pages_before(page, second, sections[1].1);
+    let fourth = pages_before(page, third, sections[2].1);
+    let fifth = pages_before(page, fourth, sections[3].1);
+    [
+        place_behind(page, first, sections[0]),
+        place_behind(page, second, sections[1]),
+        place_behind(page, third, sections[2]),
+        place_behind(page, fourth, sections[3]),
+        place_behind(page, fifth, sections[4]),
+    ]
+}
+
 /// Lays sections of these sizes one behind another, each from a page boundary on and the first
 /// behind `first` pages.
 pub(crate) fn lay(page: u32, first: u64, sections: &[(Section, u32)]) -> Sections
@@ -141,23 +187,10 @@ pub(crate) fn lay(page: u32, first: u64, sections: &[(Section, u32)]) -> Section
     ensures places { result ≡ places_from page first sections.now }
     ensures low { EachLow result }
 {
-    let mut places = [Place {
-        kind: Section::Kernel,
-        at: 0,
-        size: 0,
-    }; 5];
-    let mut next = first;
-    for (i, section) in sections.iter().enumerate() {
-        let (kind, size) = *section;
-        places[i] = Place {
-            kind,
-            at: page as u64 * next,
-            size,
-        };
-        next += pages(size as u64, page);
-    }
+    let mut all = [(Section::Kernel, 0); 5];
+    all[..sections.len()].copy_from_slice(sections);
     Sections {
-        places,
+        places: five_places(page, first, &all),
         count: sections.len(),
     }
 }

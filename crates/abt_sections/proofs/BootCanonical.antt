@@ -23,13 +23,14 @@ use Rattle.abt_sections.specs.Header.{OfBoot, header_at, places_of}
 use Rattle.abt_sections.specs.Open.{HasImage}
 use Rattle.abt_sections.specs.Check.{all_zero, text_field, front_texts, short_texts, boot_texts, boot_offset_holds, BootIdHolds, IsCanonical}
 use Rattle.abt_sections.specs.Canonical.{BootNumbers, IsBootInput, StartsAsBoot}
+use Rattle.abt_sections.specs.Unpacked.{HoldsBoot}
 use Rattle.abt_sections.proofs.Accepting.{BootAccepted, boot_accepted, boot_passes, text_parts, page_again, page_is_some, AllSmall, none_large, all_small, neither, none_of, offset_fits, id_long}
 use Rattle.abt_sections.proofs.Canons.{five}
 use Rattle.abt_sections.proofs.Decoding.{decoded, header_again}
 use Rattle.abt_sections.proofs.FieldTexts.{all_zero_is, length_filled, text_filled, text_of, text_no_zero, text_is, is_short, two_fields, each_field, short_front}
 use Rattle.abt_sections.proofs.Laying.{is_image}
 use Rattle.abt_sections.proofs.Padding.{laid_out_back, laid_out_padded, placed_parts}
-use Rattle.abt_sections.proofs.Wholes.{IsPacked, placed_there}
+use Rattle.abt_sections.proofs.Wholes.{IsPacked, placed_there, within_from}
 use Rattle.abt_sections.proofs.Starting.{starts, continues, sized_there}
 
 -- ---- from a canonical image to what it is packed of
@@ -473,3 +474,18 @@ boot_starts x b =
     let h = boot_header_of b.fields b.parts in
     let c = made_canonical x h b.parts (drop (length (boot_canon b.fields b.parts)) x) (made_of b.fields b.parts b.input) (continues x (boot_canon b.fields b.parts) b.front) in
     (h, c)
+
+-- what it holds
+pub boot_holds : (s : BootFields) (parts : List (List ℕ)) (rest : List ℕ) → IsBootInput s parts → HoldsBoot (boot_canon s parts ++ rest) s parts
+unfolding boot_canon
+boot_holds s parts rest input =
+    let h = boot_header_of s parts in
+    let x = boot_image h parts ++ rest in
+    let m = made_of s parts input in
+    let p = made_canonical x h parts rest m refl in
+    let i = is_image (OfBoot h) parts rest m.fits m.sized in
+    record {
+      has = record { header = p.header; there = p.there; within = within_from x (OfBoot h) p.canonical.fragments };
+      image = i;
+      each = placed_parts x (places_of (OfBoot h)) parts i.placed;
+    }

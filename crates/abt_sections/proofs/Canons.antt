@@ -1,12 +1,11 @@
 -- The image of a header that was made for fields and sizes is the canonical one.
-use Rattle.std.proofs.Common.{◌≡◌, ℕ, zero, suc, ◌+◌, ◌*◌, ◌≤◌, ◌<◌, ◌⊎◌, inl, inr, List, [], ◌∷◌, ◌++◌, length, take, map, replicate, ◌-◌, refl, sym, ap, ◌∙◌, arith}
+use Rattle.std.proofs.Common.{◌≡◌, ℕ, zero, suc, ◌≤◌, ◌⊎◌, inl, inr, List, length, take, map, replicate, ◌-◌, refl, sym, ap, ◌∙◌, arith}
 use Rattle.std.proofs.lemmas.List.{take_at}
 use Rattle.abt_headers.specs.declared.page.PageSize.{PageSize}
 use Rattle.abt_headers.specs.declared.boot.BootHeader.{BootHeader}
-use Rattle.abt_headers.specs.Page.{page_bytes, pages}
+use Rattle.abt_headers.specs.Page.{page_bytes}
 use Rattle.abt_headers.specs.Boot.{boot_page, boot_size}
 use Rattle.abt_sections.specs.Fields.{BootFields, filled}
-use Rattle.abt_sections.specs.Layout.{laid_size}
 use Rattle.abt_sections.specs.BootCanon.{boot_header_for, boot_page_for, id_for, boot_image, boot_canon, image_size, boot_record_size, boot_image_size}
 
 pub canon_is : (s : BootFields) (page : PageSize) (sizes id : List ℕ) (h : BootHeader) (parts parts' : List (List ℕ)) → h ≡ boot_header_for s page sizes id → page ≡ boot_page_for s → sizes ≡ filled 5 (map length parts) → id ≡ id_for s.version parts → parts' ≡ parts → boot_image h parts' ≡ boot_canon s parts

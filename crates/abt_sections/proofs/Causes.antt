@@ -1,5 +1,6 @@
 -- A cause that is handed on: counts of faults never fall.
-use Rattle.std.proofs.Common.{◌≡◌, ℕ, ◌≤◌, ◌<◌, ◌+◌, List, length, get_or, set, arith, sym, subst, Option, None}
+use Rattle.std.proofs.Common.{◌≡◌, ℕ, ◌≤◌, ◌<◌, ◌+◌, List, length, get_or, set, arith, sym, subst, Option, None, Result, Ok, Err}
+use Rattle.std.specs.Prelude.{OnOk}
 use Rattle.std.proofs.lemmas.List.Sums.{sum_by-set}
 use Rattle.abt_sections.specs.declared.fault.SectionFault.{SectionFault}
 use Rattle.abt_sections.specs.declared.fault.SectionFault.TheVariants.{Read, Write, SourceChanged, Header, Entry, Name, CommandLine, SectionTruncated, SectionTooLarge}
@@ -86,3 +87,8 @@ third_move (SectionTooLarge s) a a' b b' r r' w0 w w' w1 C D p q l m h x = absur
 -- where nothing is refused before
 pub pack_moves : (o : Option SectionFault) (e : SectionFault) (r r' w w' : ℕ) (C : Type 0) → o ≡ None → MoveCause e r r' w w' C → PackCause o e r r' w w' C
 pack_moves o e r r' w w' C none x = subst (λ (p : Option SectionFault). PackCause p e r r' w w' C) (sym none) x
+
+-- what holds anyway
+pub on_ok : {X E : Type 0} {P : Type 0} (r : Result X E) → P → OnOk r P
+on_ok (Ok x) p = p
+on_ok (Err e) p = tt

@@ -1,7 +1,7 @@
 -- The fragments that lie end to end, from the table and back.
 use Rattle.std.proofs.Common.{◌≡◌, ℕ, zero, suc, ◌+◌, ◌*◌, ◌≤◌, ◌<◌, ◌^◌, List, [], ◌∷◌, ◌++◌, length, take, drop, map, get_or, refl, sym, ap, ◌∙◌, append_assoc, arith, lit<, length-append, drop-drop}
 use Rattle.std.specs.List.{All, concat}
-use Rattle.std.proofs.lemmas.List.{take_at, drop_at, length-map}
+use Rattle.std.proofs.lemmas.List.{take_at, drop_at, take_more, length-map, get_or_default}
 use Rattle.std.proofs.lemmas.List.Elements.{All-nil, All-cons, All-head, All-tail}
 use Rattle.abt_io.proofs.Parts.{take_plus}
 use Rattle.abt_io.specs.BytesLaws.{bytes_of_take, bytes_of_drop}
@@ -17,6 +17,8 @@ use Rattle.abt_sections.specs.Canonical.{FragmentFits}
 use Rattle.abt_sections.proofs.Decoding.{number_small, part_long}
 use Rattle.abt_sections.proofs.Digests.{there_length}
 use Rattle.abt_sections.proofs.VendorTables.{before}
+use Rattle.abt_sections.proofs.Layouts.{concat_at}
+use Rattle.abt_sections.proofs.Parts.{get_map}
 
 -- ---- an entry that is read has fields that fit
 
@@ -160,23 +162,23 @@ table_long (f ∷ fs) (r ∷ rs) o l fits b =
     let rest = table_long fs rs (o + length r) (omega arith) (All-tail FragmentFits f fs fits) (omega (arith, b, whole)) in
     length-append (entry_record (entry_for f (length r) o)) (table_for fs (map (λ (l : List ℕ). length l) rs) (o + length r)) ∙ omega (arith, entry.record_length _ e, rest)
 
-entry_read : (fs : List FragmentSpec) (rs : List (List ℕ)) (o j : ℕ) (x rest : List ℕ) → length fs ≡ length rs → All FragmentFits fs → o + length (concat rs) ≤ 4294967295 → drop j x ≡ table_for fs (map (λ (l : List ℕ). length l) rs) o ++ rest → (i : ℕ) → i < length fs
-    → ((entry_at (take 108 (drop (j + 108 * i) x))).ramdisk_offset ≡ before (map (λ (l : List ℕ). length l) rs) o i) × ((entry_at (take 108 (drop (j + 108 * i) x))).ramdisk_size ≡ get_or (map (λ (l : List ℕ). length l) rs) i 0)
-entry_read [] rs o j x rest l fits b e i lt = absurd (omega arith)
-entry_read (f ∷ fs) [] o j x rest l fits b e i lt = absurd (omega arith)
-entry_read (f ∷ fs) (r ∷ rs) o j x rest l fits b e zero lt =
+-- entry i of the canonical table, of fragments of these sizes of which the first is at this offset
+entry_whole : (fs : List FragmentSpec) (rs : List (List ℕ)) (o j : ℕ) (x rest : List ℕ) → length fs ≡ length rs → All FragmentFits fs → o + length (concat rs) ≤ 4294967295 → drop j x ≡ table_for fs (map (λ (l : List ℕ). length l) rs) o ++ rest → (i : ℕ) (s : FragmentSpec) → i < length fs → s ≡ get_or fs i s
+    → entry_at (take 108 (drop (j + 108 * i) x)) ≡ entry_for s (get_or (map (λ (l : List ℕ). length l) rs) i 0) (before (map (λ (l : List ℕ). length l) rs) o i)
+entry_whole [] rs o j x rest l fits b e i s lt is = absurd (omega arith)
+entry_whole (f ∷ fs) [] o j x rest l fits b e i s lt is = absurd (omega arith)
+entry_whole (f ∷ fs) (r ∷ rs) o j x rest l fits b e zero s lt is =
     let whole = length-append r (concat rs) in
     let g = entry_for f (length r) o in
     let k = for_fits f (length r) o (All-head FragmentFits f fs fits) (omega (arith, b, whole)) (omega (arith, b)) in
     let at : j + 108 * 0 ≡ j = omega arith in
     let more = table_for fs (map (λ (l : List ℕ). length l) rs) (o + length r) in
-    let is : entry_at (take 108 (drop (j + 108 * 0) x)) ≡ g =
     ap (λ (n : ℕ). entry_at (take 108 (drop n x))) at
     ∙ ap (λ (l : List ℕ). entry_at (take 108 l)) (e ∙ append_assoc (entry_record g) more rest)
     ∙ ap entry_at (take_at (entry_record g) (more ++ rest) 108 (entry.record_length g k))
-    ∙ entry.record_again g k in
-    (ap (λ (q : RamdiskEntry). q.ramdisk_offset) is, ap (λ (q : RamdiskEntry). q.ramdisk_size) is)
-entry_read (f ∷ fs) (r ∷ rs) o j x rest l fits b e (suc i) lt =
+    ∙ entry.record_again g k
+    ∙ ap (λ (q : FragmentSpec). entry_for q (length r) o) (sym is)
+entry_whole (f ∷ fs) (r ∷ rs) o j x rest l fits b e (suc i) s lt is =
     let whole = length-append r (concat rs) in
     let g = entry_for f (length r) o in
     let k = for_fits f (length r) o (All-head FragmentFits f fs fits) (omega (arith, b, whole)) (omega (arith, b)) in
@@ -184,8 +186,36 @@ entry_read (f ∷ fs) (r ∷ rs) o j x rest l fits b e (suc i) lt =
     let next : drop (j + 108) x ≡ more ++ rest =
     sym (drop-drop 108 j x) ∙ ap (drop 108) (e ∙ append_assoc (entry_record g) more rest) ∙ drop_at (entry_record g) (more ++ rest) 108 (entry.record_length g k) in
     let at : j + 108 * suc i ≡ j + 108 + 108 * i = omega arith in
-    let r = entry_read fs rs (o + length r) (j + 108) x rest (omega arith) (All-tail FragmentFits f fs fits) (omega (arith, b, whole)) next i (omega arith) in
-    (ap (λ (n : ℕ). (entry_at (take 108 (drop n x))).ramdisk_offset) at ∙ r.0, ap (λ (n : ℕ). (entry_at (take 108 (drop n x))).ramdisk_size) at ∙ r.1)
+    ap (λ (n : ℕ). entry_at (take 108 (drop n x))) at
+    ∙ entry_whole fs rs (o + length r) (j + 108) x rest (omega arith) (All-tail FragmentFits f fs fits) (omega (arith, b, whole)) next i s (omega arith) is
+
+entry_read : (fs : List FragmentSpec) (rs : List (List ℕ)) (o j : ℕ) (x rest : List ℕ) → length fs ≡ length rs → All FragmentFits fs → o + length (concat rs) ≤ 4294967295 → drop j x ≡ table_for fs (map (λ (l : List ℕ). length l) rs) o ++ rest → (i : ℕ) → i < length fs
+    → ((entry_at (take 108 (drop (j + 108 * i) x))).ramdisk_offset ≡ before (map (λ (l : List ℕ). length l) rs) o i) × ((entry_at (take 108 (drop (j + 108 * i) x))).ramdisk_size ≡ get_or (map (λ (l : List ℕ). length l) rs) i 0)
+entry_read fs rs o j x rest l fits b e i lt =
+    let d = frag_of (entry_at x) in
+    let s = get_or fs i d in
+    let is = entry_whole fs rs o j x rest l fits b e i s lt (get_or_default fs i d s lt) in
+    (ap (λ (q : RamdiskEntry). q.ramdisk_offset) is, ap (λ (q : RamdiskEntry). q.ramdisk_size) is)
+
+-- how many bytes the ramdisks before one have
+before_taken : (rs : List (List ℕ)) (o i : ℕ) → i ≤ length rs → before (map (λ (l : List ℕ). length l) rs) o i ≡ o + length (concat (take i rs))
+before_taken rs o zero h = omega arith
+before_taken [] o (suc i) h = absurd (omega arith)
+before_taken (r ∷ rs) o (suc i) h =
+    let e = before_taken rs (o + length r) i (omega arith) in
+    let w = length-append r (concat (take i rs)) in
+    e ∙ omega (arith, w)
+
+-- one of the ramdisks that lie end to end
+ramdisk_taken : (rs : List (List ℕ)) (x past : List ℕ) (at i : ℕ) → drop at x ≡ concat rs ++ past → i < length rs → take (length (get_or rs i [])) (drop (at + length (concat (take i rs))) x) ≡ get_or rs i []
+ramdisk_taken rs x past at i e lt =
+    let b = get_or rs i [] in
+    let front = concat (take i rs) in
+    let rest = concat (drop (i + 1) rs) in
+    let whole : concat rs ++ past ≡ front ++ (b ++ (rest ++ past)) =
+    ap (λ (l : List ℕ). l ++ past) (sym (concat_at rs b i (take_more rs i [] lt))) ∙ append_assoc (front ++ b) rest past ∙ append_assoc front b (rest ++ past) in
+    let here : drop (at + length front) x ≡ b ++ (rest ++ past) = sym (drop-drop (length front) at x) ∙ ap (drop (length front)) (e ∙ whole) ∙ drop_at front (b ++ (rest ++ past)) (length front) refl in
+    ap (take (length b)) here ∙ take_at b (rest ++ past) (length b) refl
 
 before_more : (ns : List ℕ) (o i : ℕ) → i < length ns → before ns o (suc i) ≡ before ns o i + get_or ns i 0
 before_more [] o i h = absurd (omega arith)
@@ -217,3 +247,22 @@ module _ (x : List ℕ) (h : Header) (fs : List FragmentSpec) (rs : List (List �
       let z : 0 + length (concat rs) ≡ length (concat rs) = omega arith in
       let within : length fs ≤ length fs = omega arith in
       sums (length fs) within ∙ ap (before (map (λ (l : List ℕ). length l) rs) 0) l ∙ before_all rs 0 ∙ z
+
+  pub entry_held : (i : ℕ) (s : FragmentSpec) → i < length fs → s ≡ get_or fs i s → entry_of x h i ≡ entry_for s (length (get_or rs i [])) (length (concat (take i rs)))
+  entry_held i s lt is =
+      let ns = map (λ (l : List ℕ). length l) rs in
+      let within : i ≤ length rs = omega (arith, l, lt) in
+      let place : before ns 0 i ≡ length (concat (take i rs)) = (let z : 0 + length (concat (take i rs)) ≡ length (concat (take i rs)) = omega arith in before_taken rs 0 i within ∙ z) in
+      let size : get_or ns i 0 ≡ length (get_or rs i []) = get_map (λ (l : List ℕ). length l) rs i [] in
+      entry_whole fs rs 0 (table_at h) x rest l fits (omega (arith, b)) e i s lt is
+      ∙ ap (λ (n : ℕ). entry_for s n (before ns 0 i)) size
+      ∙ ap (λ (n : ℕ). entry_for s (length (get_or rs i [])) n) place
+
+  pub fragment_is : (past : List ℕ) → drop (ramdisk_at h) x ≡ concat rs ++ past → (i : ℕ) → i < length rs → fragment_of x h i ≡ get_or rs i []
+  fragment_is past from i lt =
+      let d = frag_of (entry_at x) in
+      let s = get_or fs i d in
+      let k : i < length fs = omega (arith, l, lt) in
+      let is = entry_held i s k (get_or_default fs i d s k) in
+      ap (λ (q : RamdiskEntry). take q.ramdisk_size (drop (ramdisk_at h + q.ramdisk_offset) x)) is
+      ∙ ramdisk_taken rs x past (ramdisk_at h) i from lt

@@ -1,5 +1,5 @@
 -- A header is read from the first bytes alone.
-use Rattle.std.proofs.Common.{◌≡◌, ℕ, ◌≤◌, ◌<◌, ◌⊎◌, inl, inr, Bool, cond, List, length, min, take, refl, sym, ap, ◌∙◌, arith, length-take, nat_le, ◌&&◌, ◌==◌, Result}
+use Rattle.std.proofs.Common.{◌≡◌, ℕ, ◌≤◌, inl, inr, Bool, cond, List, length, min, take, sym, ap, ◌∙◌, arith, length-take, nat_le, ◌&&◌, ◌==◌, Result}
 use Rattle.std.proofs.lemmas.Bool.{cases_Bool, leb-true, leb-false, le-leb, lt-leb}
 use Rattle.std.proofs.lemmas.List.{take_all}
 use Rattle.byteorder.specs.Numbers.{little_from-take}

@@ -1,6 +1,6 @@
 -- What an output was given, write after write.
-use Rattle.std.proofs.Common.{◌≡◌, ℕ, ◌+◌, ◌-◌, ◌≤◌, List, ◌++◌, length, min, take, refl, sym, ap, ◌∙◌, append_assoc, arith, length-append, length-take, append-nil}
-use Rattle.std.proofs.lemmas.List.{take-append-le, take_all}
+use Rattle.std.proofs.Common.{◌≡◌, ℕ, ◌+◌, ◌-◌, ◌≤◌, List, ◌++◌, length, take, refl, sym, ap, ◌∙◌, append_assoc, arith, length-append, length-take, append-nil, drop, take-append-drop}
+use Rattle.std.proofs.lemmas.List.{take-append-le, take_all, take_at, drop_at}
 use Rattle.std.proofs.Math.Seq.{take-append-add}
 use Rattle.abt_sections.specs.Grown.{Begins}
 
@@ -36,3 +36,13 @@ begins_is a b x y same e = e ∙ ap (λ (l : List ℕ). a ++ take (length b - le
 
 pub then_all : (a b c x y : List ℕ) → b ≡ a ++ x → c ≡ b ++ y → c ≡ a ++ (x ++ y)
 then_all a b c x y e h = h ∙ ap (λ (l : List ℕ). l ++ y) e ∙ append_assoc a x y
+
+-- what was written in the middle still stands there
+pub still_stands : (a t z now : List ℕ) (n : ℕ) → length t ≡ n → take (length (a ++ (t ++ z))) now ≡ a ++ (t ++ z) → take n (drop (length a) now) ≡ t
+still_stands a t z now n e same =
+    let front = a ++ (t ++ z) in
+    let rest = drop (length front) now in
+    let whole : now ≡ a ++ (t ++ (z ++ rest)) = sym (take-append-drop (length front) now) ∙ ap (λ (l : List ℕ). l ++ rest) same ∙ append_assoc a (t ++ z) rest ∙ ap (λ (l : List ℕ). a ++ l) (append_assoc t z rest) in
+    ap (λ (l : List ℕ). take n (drop (length a) l)) whole
+    ∙ ap (take n) (drop_at a (t ++ (z ++ rest)) (length a) refl)
+    ∙ take_at t (z ++ rest) n e

@@ -1,5 +1,5 @@
 -- What the packer lays stands at its places.
-use Rattle.std.proofs.Common.{◌≡◌, ℕ, zero, suc, ◌+◌, ◌-◌, ◌*◌, ◌≤◌, ◌<◌, List, [], ◌∷◌, ◌++◌, length, take, drop, replicate, refl, sym, ap, ◌∙◌, append_assoc, arith, length-append}
+use Rattle.std.proofs.Common.{◌≡◌, ℕ, ◌+◌, ◌*◌, ◌<◌, List, [], ◌∷◌, ◌++◌, length, take, drop, replicate, sym, ap, ◌∙◌, append_assoc, arith, length-append}
 use Rattle.std.proofs.Math.Nat.{mul-add}
 use Rattle.std.proofs.lemmas.List.{take_at, drop_at, length-replicate}
 use Rattle.abt_headers.specs.declared.sections.Section.{Section}
@@ -13,7 +13,7 @@ use Rattle.abt_headers.proofs.Places.{enough_pages}
 use Rattle.abt_headers.proofs.BootLaws as boot
 use Rattle.abt_headers.proofs.VendorLaws as vendor
 use Rattle.abt_sections.specs.Layout.{padding, padded, laid, laid_out, Placed, Sized}
-use Rattle.abt_sections.specs.Header.{Header, OfBoot, OfVendor, HeaderFits, IsImage, record_of, size_of, page_of, sections_of, places_of}
+use Rattle.abt_sections.specs.Header.{Header, OfBoot, OfVendor, HeaderFits, IsImage, record_of, size_of, page_of, sections_of}
 
 pub padded_length : (p : ℕ) (x : List ℕ) → 0 < p → length (padded p x) ≡ pages (length x) p * p
 padded_length p x h = omega (arith, length-append x (replicate (padding (length x) p) 0), length-replicate {A = ℕ} (padding (length x) p) 0, enough_pages (length x) p h)

@@ -1,6 +1,6 @@
 -- Devices that are lent one after another, out of a slice.
-use Rattle.std.proofs.Common.{◌≡◌, ℕ, zero, suc, ◌+◌, ◌≤◌, ◌<◌, List, [], ◌∷◌, ◌++◌, length, take, map, get_or, set, refl, sym, ap, ◌∙◌, arith, replicate, ◌-◌}
-use Rattle.std.proofs.lemmas.List.{length-map, map-set, set-get_or, take_more, get_or_default, get_or_append_left}
+use Rattle.std.proofs.Common.{◌≡◌, ℕ, zero, suc, ◌+◌, ◌<◌, List, [], ◌∷◌, ◌++◌, length, take, map, get_or, set, refl, sym, ap, ◌∙◌, arith, replicate, ◌-◌}
+use Rattle.std.proofs.lemmas.List.{length-map, map-set, set-get_or, take_more, take_more_set, get_or_default, get_or_append_left}
 use Rattle.abt_sections.specs.Fields.{filled}
 
 pub get_map : {S T : Type 0} (f : S → T) (ps : List S) (i : ℕ) (d : S) → get_or (map f ps) i (f d) ≡ f (get_or ps i d)
@@ -36,3 +36,12 @@ part_size f ps ps0 i d sizes same is h =
 -- what all keep, the next of them keeps
 pub part_same : {S T : Type 0} (f : S → T) (ps ps0 : List S) (i : ℕ) (d : S) → map f ps ≡ map f ps0 → f (get_or ps i d) ≡ f (get_or ps0 i d)
 part_same {S} {T} f ps ps0 i d same = sym (get_map f ps i d) ∙ ap (λ (l : List T). get_or l i (f d)) same ∙ get_map f ps0 i d
+
+-- the sizes of those that were lent so far, with one more
+pub sizes_next : {S : Type 0} (f : S → ℕ) (ps : List S) (i : ℕ) (s' : S) (sizes : List ℕ) → i < length ps → i < length sizes → take i (map f ps) ≡ take i sizes → f s' ≡ get_or sizes i 0 → take (i + 1) (map f (set ps i s')) ≡ take (i + 1) sizes
+sizes_next f ps i s' sizes h k before here =
+    ap (take (i + 1)) (map-set f ps i s')
+    ∙ take_more_set (map f ps) i (f s') (omega (arith, h, length-map ps f))
+    ∙ ap (λ (l : List ℕ). l ++ (f s' ∷ [])) before
+    ∙ ap (λ (n : ℕ). take i sizes ++ (n ∷ [])) here
+    ∙ sym (take_more sizes i 0 k)

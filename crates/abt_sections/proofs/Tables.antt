@@ -1,12 +1,12 @@
 -- Sections that are there, and what stands in them.
-use Rattle.std.proofs.Common.{◌≡◌, ℕ, zero, suc, ◌+◌, ◌*◌, ◌≤◌, ◌<◌, Bool, true, false, cond, List, [], ◌∷◌, length, get_or, refl, sym, ap, ◌∙◌, arith, Option, Some, None, nat_lt, ◌&&◌}
-use Rattle.std.proofs.lemmas.Bool.{and_cases, ltb-false, lt-ltb, cases_Bool}
+use Rattle.std.proofs.Common.{◌≡◌, ℕ, zero, suc, ◌+◌, ◌*◌, ◌≤◌, ◌<◌, Bool, true, false, cond, List, [], ◌∷◌, length, get_or, refl, sym, ap, ◌∙◌, arith, Option, Some, None, nat_lt, ◌&&◌, ◌-◌, take, drop, drop-drop}
+use Rattle.std.proofs.lemmas.List.{take-take, drop-take}
+use Rattle.std.proofs.lemmas.Bool.{ltb-false, lt-ltb}
 use Rattle.abt_headers.specs.declared.sections.Place.{Place}
 use Rattle.abt_headers.specs.declared.sections.Section.{Section}
 use Rattle.abt_headers.specs.declared.sections.Section.TheVariants.{VendorRamdisk, Table}
 use Rattle.abt_headers.specs.declared.vendor.VendorFront.{VendorFront}
-use Rattle.abt_headers.specs.Page.{page_bytes, pages}
-use Rattle.abt_headers.specs.Vendor.{Tail, Vendor}
+use Rattle.abt_headers.specs.Vendor.{Tail}
 use Rattle.abt_sections.specs.Header.{Header, OfBoot, OfVendor, places_of, fragment_count, table_at, ramdisk_at, ramdisk_size, HasWholeTable}
 use Rattle.abt_sections.specs.Open.{beyond, ends_beyond}
 
@@ -62,3 +62,10 @@ vendor_ramdisk f (Some t) n e some =
 pub ramdisk_there : (h : Header) (n : ℕ) → beyond (places_of h) n ≡ None → 0 < ramdisk_size h → ramdisk_at h + ramdisk_size h ≤ n
 ramdisk_there (OfBoot h) n e some = absurd (omega arith)
 ramdisk_there (OfVendor v) n e some = vendor_ramdisk v.front v.tail n e some
+
+-- a part of a part
+pub part_within : (x : List ℕ) (at r o n : ℕ) → o + n ≤ r → take n (drop (at + o) x) ≡ take n (drop o (take r (drop at x)))
+part_within x at r o n h =
+    let e : r ≡ o + (r - o) = omega arith in
+    let k : n ≤ r - o = omega arith in
+    sym (ap (λ (m : ℕ). take n (drop o (take m (drop at x)))) e ∙ ap (take n) (drop-take o (r - o) (drop at x)) ∙ take-take n (r - o) (drop o (drop at x)) k ∙ ap (take n) (drop-drop o at x))

@@ -1,5 +1,5 @@
 -- A text over two fields.
-use Rattle.std.proofs.Common.{◌≡◌, ℕ, Bool, true, false, cond, not, ◌&&◌, List, [], ◌∷◌, ◌++◌, refl, sym, ap, ◌∙◌, ◌==◌}
+use Rattle.std.proofs.Common.{◌≡◌, ℕ, Bool, true, false, cond, not, ◌&&◌, List, [], ◌∷◌, ◌++◌, refl, ◌∙◌, ◌==◌}
 use Rattle.abt_sections.specs.Fields.{no_zero}
 use Rattle.abt_sections.specs.Check.{all_zero, text_field}
 use Rattle.abt_sections.proofs.Zeros.{all_zero-append}

@@ -20,14 +20,15 @@ use Rattle.abt_sections.specs.Header.{Header, OfVendor, header_at, places_of, ra
 use Rattle.abt_sections.specs.Open.{HasImage}
 use Rattle.abt_sections.specs.Check.{text_field, texts_hold, offset_holds, sizes_before, EndToEnd, FragmentsFill, IsCanonical}
 use Rattle.abt_sections.specs.Canonical.{VendorNumbers, IsVendorInput, FragmentFits, StartsAsVendor}
+use Rattle.abt_sections.specs.Unpacked.{HoldsVendor, HoldsFragment}
 use Rattle.abt_sections.proofs.Accepting.{VendorAccepted, vendor_accepted, vendor_passes, text_parts, page_again, page_is_some, AllSmall, none_large, all_small, neither, none_of}
 use Rattle.abt_sections.proofs.Decoding.{decoded, header_again}
 use Rattle.abt_sections.proofs.Digests.{there_length}
 use Rattle.abt_sections.proofs.FieldTexts.{length_filled, text_filled, text_of, text_no_zero, text_is, is_short}
-use Rattle.abt_sections.proofs.FragmentLists.{Lies, specs_from, rams_from, specs_long, rams_long, concat_all, specs_fit, table_all, table_long, end_to_end, all_full}
+use Rattle.abt_sections.proofs.FragmentLists.{Lies, specs_from, rams_from, specs_long, rams_long, concat_all, specs_fit, table_all, table_long, end_to_end, all_full, entry_held, fragment_is}
 use Rattle.abt_sections.proofs.Laying.{is_image}
 use Rattle.abt_sections.proofs.Padding.{laid_out_back, laid_out_padded, placed_parts}
-use Rattle.abt_sections.proofs.Wholes.{IsPacked, placed_there}
+use Rattle.abt_sections.proofs.Wholes.{IsPacked, placed_there, within_from}
 use Rattle.abt_sections.proofs.Starting.{starts, continues, sized_there}
 use Rattle.abt_sections.proofs.Tables.{entry_there, ramdisk_there}
 
@@ -351,3 +352,56 @@ vendor_starts x b =
     let v = vendor_header_of b.fields b.parts in
     let c = made_canonical x v (vendor_sections_for b.fields.version b.parts) (drop (length (vendor_canon b.fields b.parts)) x) (made_of b.fields b.parts b.input) (continues x (vendor_canon b.fields b.parts) b.front) in
     (v, c)
+
+-- ---- what it holds
+
+pub vendor_holds : (s : VendorFields) (p : VendorParts) (rest : List ℕ) → IsVendorInput s p → HoldsVendor (vendor_canon s p ++ rest) s p
+unfolding vendor_canon
+vendor_holds s p rest input =
+    let v = vendor_header_of s p in
+    let sections = vendor_sections_for s.version p in
+    let x = vendor_image v sections ++ rest in
+    let m = made_of s p input in
+    let k = made_canonical x v sections rest m refl in
+    let i = is_image (OfVendor v) sections rest m.fits m.sized in
+    record {
+      has = record { header = k.header; there = k.there; within = within_from x (OfVendor v) k.canonical.fragments };
+      image = i;
+      each = placed_parts x (places_of (OfVendor v)) sections i.placed;
+    }
+
+first : (a b c d e f g h : List ℕ) → a ∷ b ∷ c ∷ d ∷ [] ≡ e ∷ f ∷ g ∷ h ∷ [] → a ≡ e
+first a b c d e f g h same = ap (λ (l : List (List ℕ)). get_or l 0 []) same
+
+fragment_held : (f : VendorFront) (t : Tail) (fs : List FragmentSpec) (rs : List (List ℕ)) (d b : List ℕ) → t.entry_num ≡ length fs → f.vendor_ramdisk_size ≡ length (concat rs) → length fs ≡ length rs → All FragmentFits fs → length (concat rs) ≤ 4294967295
+    → (x : List ℕ) → parts_of x (places_of (OfVendor (of_4 f t))) ≡ concat rs ∷ d ∷ table_for fs (map (λ (l : List ℕ). length l) rs) 0 ∷ b ∷ [] → (i : ℕ) → i < length rs → HoldsFragment x (OfVendor (of_4 f t)) fs rs i
+fragment_held f t fs rs d b count size each fit few x e i lt =
+    let h : Header = OfVendor (of_4 f t) in
+    let table = table_for fs (map (λ (l : List ℕ). length l) rs) 0 in
+    let ramdisk : take f.vendor_ramdisk_size (drop (ramdisk_at h) x) ≡ concat rs = first _ _ _ _ _ _ _ _ e in
+    let here : take t.table_size (drop (table_at h) x) ≡ table = third _ _ _ _ _ _ _ _ e in
+    let behind = drop t.table_size (drop (table_at h) x) in
+    let past = drop f.vendor_ramdisk_size (drop (ramdisk_at h) x) in
+    let at : drop (table_at h) x ≡ table ++ behind = sym (take-append-drop t.table_size (drop (table_at h) x)) ∙ ap (λ (l : List ℕ). l ++ behind) here in
+    let from : drop (ramdisk_at h) x ≡ concat rs ++ past = sym (take-append-drop f.vendor_ramdisk_size (drop (ramdisk_at h) x)) ∙ ap (λ (l : List ℕ). l ++ past) ramdisk in
+    record {
+      there = omega (arith, count, each, lt);
+      entry = λ s is. entry_held x h fs rs behind each fit few at i s (omega (arith, each, lt)) is;
+      bytes = fragment_is x h fs rs behind each fit few at past from i lt;
+    }
+
+pub vendor_fragment : (s : VendorFields) (p : VendorParts) (rest : List ℕ) (i : ℕ) → IsVendorInput s p → s.version ≡ 4 → i < length p.ramdisks → HoldsFragment (vendor_canon s p ++ rest) (OfVendor (vendor_header_of s p)) p.fragments p.ramdisks i
+vendor_fragment s p rest i input four lt =
+    let x = vendor_canon s p ++ rest in
+    let sizes = vendor_sizes_for (length (concat p.ramdisks)) (length p.dtb) (length p.fragments) (length p.bootconfig) in
+    let front = vendor_front_for s (vendor_page_for s) sizes 2128 in
+    let tail = tail_for sizes (length p.fragments) in
+    let table = table_for p.fragments (map (λ (l : List ℕ). length l) p.ramdisks) 0 in
+    let h : vendor_header_of s p ≡ of_4 front tail = rw four refl in
+    let l : vendor_sections_for s.version p ≡ concat p.ramdisks ∷ p.dtb ∷ table ∷ p.bootconfig ∷ [] = rw four refl in
+    let each : parts_of x (places_of (OfVendor (of_4 front tail))) ≡ concat p.ramdisks ∷ p.dtb ∷ table ∷ p.bootconfig ∷ [] =
+    ap (λ (v : Vendor). parts_of x (places_of (OfVendor v))) (sym h) ∙ (vendor_holds s p rest input).each ∙ l in
+    let r = neither (vendor_refusal s) (size_refusal vendor_names sizes) input.accepted in
+    let small = all_small vendor_names sizes (lit≤ tt) r.1 in
+    subst (λ (v : Vendor). HoldsFragment x (OfVendor v) p.fragments p.ramdisks i) (sym h)
+    (fragment_held front tail p.fragments p.ramdisks p.dtb p.bootconfig refl refl (input.four four) input.fragments small.0 x each i lt)

@@ -1,5 +1,5 @@
 -- The image of a vendor header that was made for fields and sizes is the canonical one.
-use Rattle.std.proofs.Common.{◌≡◌, ℕ, zero, suc, ◌+◌, ◌*◌, ◌≤◌, ◌⊎◌, inl, inr, Bool, true, false, cond, List, [], ◌∷◌, ◌++◌, length, take, drop, map, refl, sym, ap, ◌∙◌, append_assoc, append-nil, arith, length-append, ◌==◌}
+use Rattle.std.proofs.Common.{◌≡◌, ℕ, ◌*◌, ◌≤◌, inl, inr, Bool, true, false, cond, List, [], ◌∷◌, ◌++◌, length, map, refl, sym, ap, ◌∙◌, append_assoc, append-nil, arith, length-append, ◌==◌}
 use Rattle.std.specs.Prelude.{sum}
 use Rattle.std.specs.List.{concat}
 use Rattle.std.proofs.lemmas.Bool.{cases_Bool, ne_eqb}
@@ -9,9 +9,8 @@ use Rattle.abt_headers.specs.Page.{page_bytes, pages}
 use Rattle.abt_headers.specs.Vendor.{Vendor, vendor_page, vendor_record, vendor_size}
 use Rattle.abt_sections.specs.Cause.{total}
 use Rattle.abt_sections.specs.Fields.{VendorFields}
-use Rattle.abt_sections.specs.Layout.{padded, laid, laid_size}
-use Rattle.abt_sections.specs.BootCanon.{image_size}
-use Rattle.abt_sections.specs.VendorCanon.{VendorParts, vendor_header_for, vendor_header_of, vendor_page_for, vendor_sizes_for, vendor_canon, vendor_image, vendor_sections_for, all_sections, first_sections, first_size, vendor_image_size, table_for}
+use Rattle.abt_sections.specs.Layout.{padded, laid}
+use Rattle.abt_sections.specs.VendorCanon.{VendorParts, vendor_header_for, vendor_header_of, vendor_page_for, vendor_sizes_for, vendor_canon, first_sections, first_size, vendor_image_size, table_for, table_place}
 
 -- ramdisks have as many bytes as they have end to end
 pub concat_size : {S : Type 0} (size : S → ℕ) (content : S → List ℕ) (ps : List S) → ((s : S) → size s ≡ length (content s)) → total size ps ≡ length (concat (map content ps))
@@ -84,3 +83,12 @@ first_fits s page a b c d count e =
     let k1 = sum_by-cons f a (b ∷ c ∷ d ∷ []) in
     let k2 = sum_by-cons f b (c ∷ d ∷ []) in
     rw e (elim (cases_Bool (s.version == 3)) [ inl t ↦ rw t (omega (arith, h1, h2)) | inr t ↦ rw t (omega (arith, k1, k2)) ])
+
+-- and the table stands behind them
+pub first_place : (s : VendorFields) (page : PageSize) (a b c d count : ℕ) → page ≡ vendor_page_for s → (s.version ≡ 3 → ⊥) → first_size (vendor_header_for s page (a ∷ b ∷ c ∷ d ∷ []) count) a b ≡ table_place s (a ∷ b ∷ c ∷ d ∷ [])
+first_place s page a b c d count e four =
+    let p = page_bytes (vendor_page_for s) in
+    let f : ℕ → ℕ = λ n. pages n p * p in
+    let h1 = sum_by-cons f a (b ∷ []) in
+    let h2 = sum_by-cons f b [] in
+    rw (e, ne_eqb s.version 3 four) (omega (arith, h1, h2))

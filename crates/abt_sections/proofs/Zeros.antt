@@ -1,5 +1,5 @@
 -- Zeros that are there.
-use Rattle.std.proofs.Common.{◌≡◌, ℕ, zero, suc, ◌+◌, ◌-◌, ◌≤◌, Bool, true, false, ◌&&◌, List, [], ◌∷◌, ◌++◌, length, take, drop, refl, sym, ap, ◌∙◌, arith, drop-drop, ◌==◌, ◌<◌, get_or}
+use Rattle.std.proofs.Common.{◌≡◌, ℕ, ◌+◌, ◌-◌, ◌≤◌, Bool, true, false, ◌&&◌, List, [], ◌∷◌, ◌++◌, length, take, drop, refl, sym, ap, ◌∙◌, arith, drop-drop, ◌==◌, ◌<◌, get_or}
 use Rattle.abt_io.proofs.Parts.{take_plus}
 use Rattle.std.proofs.lemmas.List.{drop_more, drop_all}
 use Rattle.abt_headers.specs.declared.sections.Place.{Place}

@@ -1,5 +1,5 @@
 -- The canonical boot image: the one that is packed of these fields and parts.
-use Rattle.std.specs.Prelude.{◌≡◌, ℕ, ◌+◌, ◌*◌, ◌==◌, nat_lt, if◌then◌else◌, List, [], ◌∷◌, ◌++◌, length, take, drop, replicate, map, slice_index, Option, Some, None}
+use Rattle.std.specs.Prelude.{ℕ, ◌+◌, ◌*◌, ◌==◌, nat_lt, if◌then◌else◌, List, length, take, drop, replicate, map, slice_index, Option, Some, None}
 use Rattle.abt_headers.specs.declared.page.PageSize.{PageSize}
 use Rattle.abt_headers.specs.declared.page.PageSize.TheVariants.{Of4096}
 use Rattle.abt_headers.specs.declared.boot.BootFront.{BootFront}
@@ -9,7 +9,7 @@ use Rattle.abt_headers.specs.declared.boot.ShortFront.{ShortFront}
 use Rattle.abt_headers.specs.declared.boot.BootHeader.{BootHeader}
 use Rattle.abt_headers.specs.declared.boot.BootHeader.TheVariants.{V0, V1, V2, V3, V4}
 use Rattle.abt_headers.specs.Page.{page_bytes, page_from, pages}
-use Rattle.abt_headers.specs.Boot.{boot_record, boot_page, boot_size}
+use Rattle.abt_headers.specs.Boot.{boot_record, boot_page}
 use Rattle.abt_sections.specs.Fields.{BootFields, filled}
 use Rattle.abt_sections.specs.Id.{id_of}
 use Rattle.abt_sections.specs.Layout.{laid_out, laid_size}

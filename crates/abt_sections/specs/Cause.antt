@@ -1,19 +1,15 @@
 -- Why a call was refused: each fault with what must have happened.
-use Rattle.std.specs.Prelude.{◌≡◌, ℕ, ◌<◌, List, sum_by, Option, Some, None}
+use Rattle.std.specs.Prelude.{◌≡◌, ℕ, ◌<◌, List, sum_by, Option, Some, None, Result, Ok, Err}
+use Rattle.abt_io.specs.Count.{full_in}
 use Rattle.abt_sections.specs.declared.fault.SectionFault.{SectionFault}
-use Rattle.abt_sections.specs.declared.fault.SectionFault.TheVariants.{Read, Write, SourceChanged, Header, Entry, Name, CommandLine, SectionTruncated, SectionTooLarge}
+use Rattle.abt_sections.specs.declared.fault.SectionFault.TheVariants.{Read, Write, SourceChanged, Header, Entry, SectionTruncated}
 
 -- of moving bytes: a device's count of faults rose, or the source isn't what it was
 abbrev pub MoveCause : SectionFault → ℕ → ℕ → ℕ → ℕ → Type 0 → Type 0
 MoveCause (Read f) r r' w w' changed = r < r'
 MoveCause (Write f) r r' w w' changed = w < w'
 MoveCause SourceChanged r r' w w' changed = changed
-MoveCause (Header f) r r' w w' changed = ⊥
-MoveCause (Entry i) r r' w w' changed = ⊥
-MoveCause Name r r' w w' changed = ⊥
-MoveCause CommandLine r r' w w' changed = ⊥
-MoveCause (SectionTruncated s) r r' w w' changed = ⊥
-MoveCause (SectionTooLarge s) r r' w w' changed = ⊥
+MoveCause _ r r' w w' changed = ⊥
 
 -- of reading alone
 abbrev pub ReadCause : SectionFault → ℕ → ℕ → Type 0 → Type 0
@@ -22,14 +18,11 @@ ReadCause f r r' changed = MoveCause f r r' 0 0 changed
 -- of opening: what the bytes are refused for is said apart
 abbrev pub OpenCause : SectionFault → ℕ → ℕ → Type 0 → Type 0
 OpenCause (Read f) r r' changed = r < r'
-OpenCause (Write f) r r' changed = ⊥
 OpenCause SourceChanged r r' changed = changed
 OpenCause (Header f) r r' changed = Unit {0}
 OpenCause (Entry i) r r' changed = Unit {0}
-OpenCause Name r r' changed = ⊥
-OpenCause CommandLine r r' changed = ⊥
 OpenCause (SectionTruncated s) r r' changed = Unit {0}
-OpenCause (SectionTooLarge s) r r' changed = ⊥
+OpenCause _ r r' changed = ⊥
 
 -- of packing: the refusal that the fields and sizes have, else one of moving bytes
 abbrev pub PackCause : Option SectionFault → SectionFault → ℕ → ℕ → ℕ → ℕ → Type 0 → Type 0
@@ -39,3 +32,14 @@ PackCause None f r r' w w' changed = MoveCause f r r' w w' changed
 -- over several sources
 abbrev pub total : {S : Type 0} → (S → ℕ) → List S → ℕ
 total f parts = sum_by f parts
+
+-- 1 for a fault that hands on that a device is full
+abbrev pub full_in_fault : SectionFault → ℕ
+full_in_fault (Read f) = full_in f
+full_in_fault (Write f) = full_in f
+full_in_fault _ = 0
+
+-- 1 for a call that answered so
+abbrev pub full_handed : {X : Type 0} → Result X SectionFault → ℕ
+full_handed (Ok x) = 0
+full_handed (Err e) = full_in_fault e

@@ -1,13 +1,12 @@
 -- What checking an image tells.
-use Rattle.std.specs.Prelude.{◌≡◌, ℕ, zero, suc, IsSome, ◌+◌, ◌*◌, ◌==◌, ◌&&◌, Bool, true, false, if◌then◌else◌, IsTrue, List, [], ◌∷◌, ◌++◌, length, take, drop, ◌<◌}
+use Rattle.std.specs.Prelude.{◌≡◌, ℕ, zero, suc, IsSome, ◌+◌, ◌==◌, ◌&&◌, Bool, true, false, if◌then◌else◌, IsTrue, List, [], ◌∷◌, ◌++◌, length, take, drop, ◌<◌}
 use Rattle.abt_headers.specs.declared.sections.Place.{Place}
 use Rattle.abt_headers.specs.declared.boot.BootFront.{BootFront}
 use Rattle.abt_headers.specs.declared.boot.ShortFront.{ShortFront}
 use Rattle.abt_headers.specs.declared.boot.BootHeader.{BootHeader}
 use Rattle.abt_headers.specs.declared.boot.BootHeader.TheVariants.{V0, V1, V2, V3, V4}
-use Rattle.abt_headers.specs.declared.entry.RamdiskEntry.{RamdiskEntry}
 use Rattle.abt_headers.specs.Page.{page_bytes}
-use Rattle.abt_headers.specs.Vendor.{Vendor, vendor_size}
+use Rattle.abt_headers.specs.Vendor.{vendor_size}
 use Rattle.abt_sections.specs.Header.{Header, OfBoot, OfVendor, size_of, page_of, places_of, entry_of, fragment_count, ramdisk_size}
 use Rattle.abt_sections.specs.Layout.{padding, parts_of}
 use Rattle.abt_sections.specs.Id.{id_of}

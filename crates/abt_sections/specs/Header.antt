@@ -1,5 +1,5 @@
 -- The header of an image of either kind, and what it is for some bytes to be an image.
-use Rattle.std.specs.Prelude.{◌≡◌, ℕ, ◌+◌, ◌*◌, ◌≤◌, ◌<◌, ◌==◌, ◌&&◌, nat_le, Bool, if◌then◌else◌, List, [], ◌∷◌, length, take, drop, Option, Some, None, Result, Ok, Err}
+use Rattle.std.specs.Prelude.{◌≡◌, ℕ, ◌+◌, ◌*◌, ◌≤◌, ◌<◌, ◌==◌, ◌&&◌, nat_le, Bool, if◌then◌else◌, List, length, take, drop, Option, Some, None, Result}
 use Rattle.abt_headers.specs.declared.fault.HeaderFault.{HeaderFault}
 use Rattle.abt_headers.specs.declared.boot.BootHeader.{BootHeader}
 use Rattle.abt_headers.specs.declared.sections.Section.{Section}
@@ -112,6 +112,10 @@ pub record IsImage (x : List ℕ) (h : Header) (parts : List (List ℕ)) : Type 
   pub fits : HeaderFits h
   pub begins : take (size_of h) x ≡ record_of h
   pub placed : Placed x (places_of h) parts
+
+-- the part of the vendor ramdisk that an entry says
+abbrev pub ramdisk_part : List ℕ → Header → RamdiskEntry → List ℕ
+ramdisk_part x h e = take e.ramdisk_size (drop e.ramdisk_offset (take (ramdisk_size h) (drop (ramdisk_at h) x)))
 
 -- fragment i, as the table says where it stands within the vendor ramdisk
 abbrev pub fragment_of : List ℕ → Header → ℕ → List ℕ

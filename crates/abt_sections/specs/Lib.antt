@@ -11,4 +11,5 @@ pub mod Id
 pub mod Layout
 pub mod Open
 pub mod Refusal
+pub mod Unpacked
 pub mod VendorCanon

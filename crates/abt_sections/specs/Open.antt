@@ -49,37 +49,21 @@ pub record HasBadEntry (x : List ℕ) (h : Header) (i : ℕ) : Type 0 where
 -- what a refusal of opening says of the bytes x
 abbrev pub RefusedAs : List ℕ → SectionFault → Type 0
 RefusedAs x (faults.Read f) = Unit {0}
-RefusedAs x (faults.Write f) = ⊥
-RefusedAs x faults.SourceChanged = ⊥
 RefusedAs x (faults.Header f) = header_at x ≡ Err f
 RefusedAs x (faults.Entry i) = (h : Header) × HasBadEntry x h i
-RefusedAs x faults.Name = ⊥
-RefusedAs x faults.CommandLine = ⊥
 RefusedAs x (faults.SectionTruncated s) = (h : Header) × IsTruncated x h s
-RefusedAs x (faults.SectionTooLarge s) = ⊥
+RefusedAs x _ = ⊥
 
 -- a device failed
 abbrev pub IsReadFault : SectionFault → Type 0
 IsReadFault (faults.Read f) = Unit {0}
-IsReadFault (faults.Write f) = ⊥
-IsReadFault faults.SourceChanged = ⊥
-IsReadFault (faults.Header f) = ⊥
-IsReadFault (faults.Entry i) = ⊥
-IsReadFault faults.Name = ⊥
-IsReadFault faults.CommandLine = ⊥
-IsReadFault (faults.SectionTruncated s) = ⊥
-IsReadFault (faults.SectionTooLarge s) = ⊥
+IsReadFault _ = ⊥
 
+-- what a refusal of the table says
 abbrev pub EntryRefusedAs : List ℕ → Header → SectionFault → Type 0
 EntryRefusedAs x h (faults.Read f) = Unit {0}
-EntryRefusedAs x h (faults.Write f) = ⊥
-EntryRefusedAs x h faults.SourceChanged = ⊥
-EntryRefusedAs x h (faults.Header f) = ⊥
 EntryRefusedAs x h (faults.Entry i) = IsFirstOutside x h i
-EntryRefusedAs x h faults.Name = ⊥
-EntryRefusedAs x h faults.CommandLine = ⊥
-EntryRefusedAs x h (faults.SectionTruncated s) = ⊥
-EntryRefusedAs x h (faults.SectionTooLarge s) = ⊥
+EntryRefusedAs x h _ = ⊥
 
 -- an image that was opened from x, which has stayed as it was
 pub record IsOpened (x : List ℕ) (image : Image) : Type 0 where

@@ -1,5 +1,5 @@
 -- What packing refuses before it writes, the first in order.
-use Rattle.std.specs.Prelude.{◌≡◌, ℕ, ◌+◌, ◌*◌, ◌&&◌, ◌||◌, nat_lt, not, if◌then◌else◌, List, [], ◌∷◌, ◌==◌, Option, Some, None, is_some}
+use Rattle.std.specs.Prelude.{ℕ, ◌&&◌, ◌||◌, nat_lt, not, if◌then◌else◌, List, [], ◌∷◌, ◌==◌, Option, Some, None, is_some}
 use Rattle.abt_headers.specs.declared.fault.HeaderFault.TheVariants as header
 use Rattle.abt_headers.specs.declared.sections.Section.{Section}
 use Rattle.abt_headers.specs.declared.sections.Section.TheVariants.{Kernel, Ramdisk, Second, RecoveryDtbo, Dtb, Signature, VendorRamdisk, Table, Bootconfig}

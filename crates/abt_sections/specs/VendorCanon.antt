@@ -1,5 +1,5 @@
 -- The canonical vendor boot image: the one that is packed of these fields, fragments and parts.
-use Rattle.std.specs.Prelude.{◌≡◌, ℕ, ◌+◌, ◌*◌, ◌==◌, if◌then◌else◌, List, [], ◌∷◌, ◌++◌, length, take, map, slice_index, Option, Some, None}
+use Rattle.std.specs.Prelude.{ℕ, ◌+◌, ◌*◌, ◌==◌, if◌then◌else◌, List, [], ◌∷◌, ◌++◌, length, take, map, slice_index, Some, None}
 use Rattle.std.specs.List.{concat}
 use Rattle.abt_headers.specs.declared.page.PageSize.{PageSize}
 use Rattle.abt_headers.specs.declared.vendor.VendorFront.{VendorFront}
@@ -89,6 +89,10 @@ vendor_parts fragments ramdisks dtb bootconfig = record { fragments = fragments;
 -- how long the image of these fields and sections of these sizes is
 abbrev pub vendor_image_size : VendorFields → List ℕ → ℕ
 vendor_image_size s sizes = if s.version == 3 then image_size (page_bytes (vendor_page_for s)) 2112 (take 2 sizes) else image_size (page_bytes (vendor_page_for s)) 2128 sizes
+
+-- where its table stands in version 4: behind its record, the vendor ramdisk and the dtb
+abbrev pub table_place : VendorFields → List ℕ → ℕ
+table_place s sizes = image_size (page_bytes (vendor_page_for s)) 2128 (take 2 sizes)
 
 -- the front of an image: its record, the vendor ramdisk and the dtb, and how long that is
 abbrev pub first_sections : Vendor → List ℕ → List ℕ → List ℕ

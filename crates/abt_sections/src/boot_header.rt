@@ -3,6 +3,7 @@
 ghost use Rattle.std.specs.Prelude.{◌≡◌, ◌<◌, ◌≤◌, ◌^◌, IfOk, OnOk, MatchResult, length, Some, None};
 ghost use Rattle.abt_headers.specs.Boot.{boot_page, boot_size};
 ghost use Rattle.abt_headers.specs.Page.{page_bytes};
+ghost use Rattle.abt_sections.specs.Cause.{full_handed};
 ghost use Rattle.abt_sections.specs.Fields.{boot_fields};
 ghost use Rattle.abt_sections.specs.Refusal.{boot_refusal};
 ghost use Rattle.abt_sections.specs.BootCanon as canon;
@@ -23,6 +24,7 @@ pub(crate) fn check_boot_spec(spec: &BootSpec, m: &mut Meter) -> Result<PageSize
     ensures page { IfOk result (λ p. p ≡ canon.boot_page_for (boot_fields spec.now)) }
     ensures name { OnOk result (spec.now.version < 3 → length spec.now.name.now ≤ 15) }
     ensures cmdline { OnOk result (length spec.now.cmdline.now ≤ 1535) }
+    ensures failed { full_handed result ≡ 0 }
 {
     if spec.version > 4 {
         return Err(SectionFault::Header(HeaderFault::Version(spec.version)));

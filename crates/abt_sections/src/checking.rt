@@ -1,8 +1,8 @@
 //! Whether an image is what the packer would have written.
 
-ghost use Rattle.std.specs.Prelude.{◌≡◌, ◌<◌, ◌≤◌, ◌+◌, ◌-◌, ◌^◌, ◌++◌, ◌↔◌, IsTrue, IfOk, IfErr, OnOk, None, length, take, drop, slice_range};
+ghost use Rattle.std.specs.Prelude.{◌≡◌, ◌<◌, ◌≤◌, ◌+◌, ◌-◌, ◌^◌, ◌++◌, ◌↔◌, IsTrue, IfOk, IfErr, OnOk, Err, None, length, take, drop, slice_range};
 ghost use Rattle.abt_headers.specs.Places.{EachLow};
-ghost use Rattle.abt_sections.specs.Cause.{ReadCause};
+ghost use Rattle.abt_sections.specs.Cause.{ReadCause, full_handed};
 ghost use Rattle.abt_sections.specs.Canonical.{StartsAsPacked};
 ghost use Rattle.abt_sections.specs.Check as check_spec;
 ghost use Rattle.abt_sections.specs.Header.{view_of, places_of};
@@ -61,6 +61,8 @@ fn zeros_there<S: Source>(
     ensures value { IsTrue S.tells → IfOk result (λ b. b ≡ check_spec.zeros_there (S.content source.old) at n) }
     ensures faults { S.read_faults source.old ≤ S.read_faults source.new }
     ensures cause { IfErr result (λ e. ReadCause e (S.read_faults source.old) (S.read_faults source.new) (IsTrue S.tells → ⊥)) }
+    ensures clean { OnOk result (S.read_faults source.new ≡ S.read_faults source.old) }
+    ensures failed { full_handed result ≡ 0 }
 {
     if n == 0 {
         return Ok(true);
@@ -77,7 +79,9 @@ fn zeros_there<S: Source>(
             Ok(()) => {}
             Err(fault) => return Err(fault),
         }
-        if !all_zero(w.part(0, ask), m) {
+        let zero = all_zero(w.part(0, ask), m);
+        m.close_step(ask as u32);
+        if !zero {
             return Ok(false);
         }
         done += ask as u64;
@@ -101,6 +105,8 @@ fn places_padded<S: Source>(
     ensures value { IsTrue S.tells → IfOk result (λ b. b ≡ check_spec.padded_places (S.content source.old) page sections.now) }
     ensures faults { S.read_faults source.old ≤ S.read_faults source.new }
     ensures cause { IfErr result (λ e. ReadCause e (S.read_faults source.old) (S.read_faults source.new) (IsTrue S.tells → ⊥)) }
+    ensures clean { OnOk result (S.read_faults source.new ≡ S.read_faults source.old) }
+    ensures failed { full_handed result ≡ 0 }
 {
     for i in 0..sections.count() {
         m.tick();
@@ -127,6 +133,8 @@ fn padding_holds<S: Source>(
     ensures value { IsTrue S.tells → IfOk result (λ b. b ≡ check_spec.padding_holds (S.content source.old) (view_of header.now)) }
     ensures faults { S.read_faults source.old ≤ S.read_faults source.new }
     ensures cause { IfErr result (λ e. ReadCause e (S.read_faults source.old) (S.read_faults source.new) (IsTrue S.tells → ⊥)) }
+    ensures clean { OnOk result (S.read_faults source.new ≡ S.read_faults source.old) }
+    ensures failed { full_handed result ≡ 0 }
 {
     let page = header.page_size();
     let size = header.size() as u64;
@@ -152,6 +160,8 @@ fn id_holds<S: Source>(
     ensures value { IsTrue S.tells → IfOk result (λ b. IsTrue b ↔ check_spec.IdHolds (S.content source.old) (view_of header.now)) }
     ensures faults { S.read_faults source.old ≤ S.read_faults source.new }
     ensures cause { IfErr result (λ e. ReadCause e (S.read_faults source.old) (S.read_faults source.new) (IsTrue S.tells → beyond (places_of (view_of header.now)) (length (S.content source.old)) ≡ None → ⊥)) }
+    ensures clean { OnOk result (S.read_faults source.new ≡ S.read_faults source.old) }
+    ensures failed { full_handed result ≡ 0 }
 {
     let front = match header {
         ImageHeader::Boot(BootHeader::V0(front)) => front,
@@ -276,8 +286,11 @@ fn compare<S: Source>(
     ensures id { IsTrue S.tells → IfOk result (λ v. IsTrue v.id ↔ check_spec.IdHolds (S.content source.old) (view_of image.now.header)) }
     ensures offset { IfOk result (λ v. v.offset ≡ check_spec.offset_holds (view_of image.now.header)) }
     ensures canonical { IsTrue S.tells → IfOk result (λ v. IsTrue v.canonical ↔ check_spec.IsCanonical (S.content source.old) (view_of image.now.header)) }
+    ensures changed { (S.size source.old ≡ image.now.length → ⊥) → (result ≡ Err SectionFault.SourceChanged) × (source.new ≡ source.old) }
     ensures faults { S.read_faults source.old ≤ S.read_faults source.new }
     ensures cause { IfErr result (λ e. ReadCause e (S.read_faults source.old) (S.read_faults source.new) (IsTrue S.tells → IsOpened (S.content source.old) image.now → ⊥)) }
+    ensures clean { OnOk result (S.read_faults source.new ≡ S.read_faults source.old) }
+    ensures failed { full_handed result ≡ 0 }
 {
     if source.length() != image.length {
         return Err(SectionFault::SourceChanged);
@@ -325,8 +338,11 @@ pub fn check<S: Source>(
     ensures offset { IfOk result (λ v. v.offset ≡ check_spec.offset_holds (view_of image.now.header)) }
     ensures canonical { IsTrue S.tells → IfOk result (λ v. IsTrue v.canonical ↔ check_spec.IsCanonical (S.content source.old) (view_of image.now.header)) }
     ensures packed { IsTrue S.tells → IsOpened (S.content source.old) image.now → IfOk result (λ v. IsTrue v.canonical ↔ StartsAsPacked (S.content source.old)) }
+    ensures changed { (S.size source.old ≡ image.now.length → ⊥) → (result ≡ Err SectionFault.SourceChanged) × (source.new ≡ source.old) }
     ensures faults { S.read_faults source.old ≤ S.read_faults source.new }
     ensures cause { IfErr result (λ e. ReadCause e (S.read_faults source.old) (S.read_faults source.new) (IsTrue S.tells → IsOpened (S.content source.old) image.now → ⊥)) }
+    ensures clean { OnOk result (S.read_faults source.new ≡ S.read_faults source.old) }
+    ensures failed { full_handed result ≡ 0 }
 {
     compare(image, source, w, m)
 }

@@ -1,8 +1,8 @@
 //! The table of ramdisk fragments, which a vendor boot image of version 4 has.
 
-ghost use Rattle.std.specs.Prelude.{◌≡◌, ◌<◌, ◌≤◌, ◌+◌, ◌-◌, ◌*◌, ◌^◌, ℕ, IsTrue, IfOk, IfErr, OnOk, MatchBool, MatchResult, ◌↔◌, None, length, take, drop};
+ghost use Rattle.std.specs.Prelude.{◌≡◌, ◌<◌, ◌≤◌, ◌+◌, ◌-◌, ◌*◌, ◌^◌, ℕ, IsTrue, IfOk, IfErr, OnOk, MatchBool, MatchResult, ◌↔◌, Err, None, length, take, drop};
 ghost use Rattle.abt_headers.specs.Entry.{entry_at};
-ghost use Rattle.abt_sections.specs.Cause.{ReadCause, OpenCause};
+ghost use Rattle.abt_sections.specs.Cause.{ReadCause, OpenCause, full_handed};
 ghost use Rattle.abt_sections.specs.Entries.{EntriesStand, HoldsEntry};
 ghost use Rattle.abt_sections.specs.Header as header_spec;
 ghost use Rattle.abt_sections.specs.Open.{IsOpened, EntryRefusedAs, beyond};
@@ -88,6 +88,8 @@ fn read_entry<S: Source>(
     ensures entry { IsTrue S.tells → IfOk result (λ e. e ≡ entry_at (take 108 (drop (table.now.at + 108 * i) (S.content source.old)))) }
     ensures faults { S.read_faults source.old ≤ S.read_faults source.new }
     ensures cause { IfErr result (λ e. ReadCause e (S.read_faults source.old) (S.read_faults source.new) (IsTrue S.tells → table.now.at + 108 * i + 108 ≤ length (S.content source.old) → ⊥)) }
+    ensures clean { OnOk result (S.read_faults source.new ≡ S.read_faults source.old) }
+    ensures failed { full_handed result ≡ 0 }
 {
     match read_front(source, table.at + 108 * i as u64, 108, w, m) {
         Ok(()) => {}
@@ -95,18 +97,31 @@ fn read_entry<S: Source>(
     }
     let mut record = [0u8; 108];
     record.copy_from_slice(w.part(0, 108));
-    Ok(RamdiskEntry::decode(&record))
+    let entry = RamdiskEntry::decode(&record);
+    m.close_step(108);
+    Ok(entry)
 }
 
-/// The entries of a table that stand at the window's front: from `first` up to `end`.
+/// The entries of a table that stand at the window's front: from `first` up to `end`. The step that read them ends once
+/// they are used.
 #[derive(Clone, Copy)]
 struct Held {
     first: u32,
     end: u32,
 }
 
-/// One step where entry `i` is not among the entries at the window's front: reads it there, and behind it as many as
-/// there are and fit.
+/// Ends the step that read the entries at the window's front.
+fn end_held(held: Held, m: &mut Meter)
+    requires from { held.first ≤ held.end }
+    requires few { held.end ≤ held.first + 606 }
+{
+    if held.first < held.end {
+        m.close_step(108 * (held.end - held.first));
+    }
+}
+
+/// Where entry `i` is not among the entries at the window's front: ends their step, and begins one that reads the entry
+/// there, and behind it as many as there are and fit.
 fn hold_entry<S: Source>(
     table: &Table,
     i: u32,
@@ -129,10 +144,13 @@ fn hold_entry<S: Source>(
     ensures held { IfOk result (λ h. HoldsEntry h.first h.end i table.now.count) }
     ensures faults { S.read_faults source.old ≤ S.read_faults source.new }
     ensures cause { IfErr result (λ e. ReadCause e (S.read_faults source.old) (S.read_faults source.new) (IsTrue S.tells → table.now.at + 108 * table.now.count ≤ length (S.content source.old) → ⊥)) }
+    ensures clean { OnOk result (S.read_faults source.new ≡ S.read_faults source.old) }
+    ensures failed { full_handed result ≡ 0 }
 {
     if i < held.end {
         return Ok(held);
     }
+    end_held(held, m);
     let n = (table.count - i).min(WINDOW_ENTRIES);
     match read_front(source, table.at + 108 * i as u64, 108 * n as usize, w, m) {
         Ok(()) => {}
@@ -179,6 +197,8 @@ fn next_entry<S: Source>(
     ensures held { OnOk result (HoldsEntry held.new.first held.new.end i table.now.count) }
     ensures faults { S.read_faults source.old ≤ S.read_faults source.new }
     ensures cause { IfErr result (λ e. ReadCause e (S.read_faults source.old) (S.read_faults source.new) (IsTrue S.tells → table.now.at + 108 * table.now.count ≤ length (S.content source.old) → ⊥)) }
+    ensures clean { OnOk result (S.read_faults source.new ≡ S.read_faults source.old) }
+    ensures failed { full_handed result ≡ 0 }
 {
     match hold_entry(table, i, *held, source, w, m) {
         Ok(now) => *held = now,
@@ -207,6 +227,8 @@ pub(crate) fn check_entries<S: Source>(
     ensures found { IsTrue S.tells → beyond (header_spec.places_of (header_spec.view_of header.now)) (length (S.content source.old)) ≡ None → MatchResult result (λ _. header_spec.EachWithin (S.content source.old) (header_spec.view_of header.now)) (λ f. EntryRefusedAs (S.content source.old) (header_spec.view_of header.now) f) }
     ensures faults { S.read_faults source.old ≤ S.read_faults source.new }
     ensures cause { IfErr result (λ e. OpenCause e (S.read_faults source.old) (S.read_faults source.new) (IsTrue S.tells → beyond (header_spec.places_of (header_spec.view_of header.now)) (length (S.content source.old)) ≡ None → ⊥)) }
+    ensures clean { OnOk result (S.read_faults source.new ≡ S.read_faults source.old) }
+    ensures failed { full_handed result ≡ 0 }
 {
     let table = table_of(header);
     let mut held = Held { first: 0, end: 0 };
@@ -217,9 +239,11 @@ pub(crate) fn check_entries<S: Source>(
             Err(fault) => return Err(fault),
         };
         if !is_within(&entry, table.ramdisk_size) {
+            end_held(held, m);
             return Err(SectionFault::Entry(i));
         }
     }
+    end_held(held, m);
     Ok(())
 }
 
@@ -248,8 +272,11 @@ pub fn fragment<S: Source>(
     ensures frame { S.read_frame source.new ≡ S.read_frame source.old }
     ensures entry { IsTrue S.tells → IfOk result (λ e. e ≡ header_spec.entry_of (S.content source.old) (header_spec.view_of image.now.header) i) }
     ensures within { IfOk result (λ e. header_spec.IsWithin (header_spec.view_of image.now.header) e) }
+    ensures changed { (S.size source.old ≡ image.now.length → ⊥) → (result ≡ Err SectionFault.SourceChanged) × (source.new ≡ source.old) }
     ensures faults { S.read_faults source.old ≤ S.read_faults source.new }
     ensures cause { IfErr result (λ e. ReadCause e (S.read_faults source.old) (S.read_faults source.new) (IsTrue S.tells → IsOpened (S.content source.old) image.now → ⊥)) }
+    ensures clean { OnOk result (S.read_faults source.new ≡ S.read_faults source.old) }
+    ensures failed { full_handed result ≡ 0 }
 {
     if source.length() != image.length {
         return Err(SectionFault::SourceChanged);
@@ -278,6 +305,8 @@ pub(crate) fn fragments_fill<S: Source>(
     ensures value { IsTrue S.tells → IfOk result (λ b. IsTrue b ↔ FragmentsFill (S.content source.old) (header_spec.view_of header.now)) }
     ensures faults { S.read_faults source.old ≤ S.read_faults source.new }
     ensures cause { IfErr result (λ e. ReadCause e (S.read_faults source.old) (S.read_faults source.new) (IsTrue S.tells → beyond (header_spec.places_of (header_spec.view_of header.now)) (length (S.content source.old)) ≡ None → ⊥)) }
+    ensures clean { OnOk result (S.read_faults source.new ≡ S.read_faults source.old) }
+    ensures failed { full_handed result ≡ 0 }
 {
     if !has_table(header) {
         return Ok(true);
@@ -292,10 +321,12 @@ pub(crate) fn fragments_fill<S: Source>(
             Err(fault) => return Err(fault),
         };
         if entry.ramdisk_offset as u64 != next {
+            end_held(held, m);
             return Ok(false);
         }
         next += entry.ramdisk_size as u64;
     }
+    end_held(held, m);
     Ok(next == table.ramdisk_size as u64)
 }
 

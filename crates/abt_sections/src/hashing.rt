@@ -3,7 +3,7 @@
 ghost use Rattle.std.specs.Prelude.{◌≡◌, ◌<◌, ◌≤◌, ◌+◌, ◌-◌, ◌^◌, ◌++◌, ◌∷◌, [], ℕ, List, IsTrue, IfOk, IfErr, OnOk, Err, None, length, map, take, drop, replicate};
 ghost use Rattle.sha1.specs.Sha1.{Holds, sha1};
 ghost use Rattle.abt_headers.specs.Places.{EachLow};
-ghost use Rattle.abt_sections.specs.Cause.{ReadCause, PackCause, total};
+ghost use Rattle.abt_sections.specs.Cause.{ReadCause, PackCause, total, full_handed};
 ghost use Rattle.abt_sections.specs.Fields.{filled};
 ghost use Rattle.abt_sections.specs.Id.{id_of, sized_parts};
 ghost use Rattle.abt_sections.specs.Layout.{parts_of};
@@ -34,6 +34,8 @@ fn hash_range<S: Source>(
     ensures hashed { IsTrue S.tells → OnOk result ((t : List ℕ) → Holds hasher.old t → Holds hasher.new (t ++ take n (drop from (S.content source.old)))) }
     ensures faults { S.read_faults source.old ≤ S.read_faults source.new }
     ensures cause { IfErr result (λ e. ReadCause e (S.read_faults source.old) (S.read_faults source.new) (IsTrue S.tells → (0 < n → from + n ≤ length (S.content source.old)) → ⊥)) }
+    ensures clean { OnOk result (S.read_faults source.new ≡ S.read_faults source.old) }
+    ensures failed { full_handed result ≡ 0 }
 {
     let mut at = 0;
     while at < n {
@@ -44,6 +46,7 @@ fn hash_range<S: Source>(
             Err(fault) => return Err(fault),
         }
         hasher.update(w.part(0, ask));
+        m.close_step(ask as u32);
         at += ask as u64;
     }
     Ok(())
@@ -72,6 +75,8 @@ fn hash_part<S: Source>(
     ensures hashed { IsTrue S.tells → OnOk result ((parts : List (List ℕ)) → Holds hasher.old (sized_parts parts) → Holds hasher.new (sized_parts (parts ++ (S.content part.old ∷ [])))) }
     ensures faults { S.read_faults part.old ≤ S.read_faults part.new }
     ensures cause { IfErr result (λ e. ReadCause e (S.read_faults part.old) (S.read_faults part.new) (IsTrue S.tells → S.size part.old ≡ size → ⊥)) }
+    ensures clean { OnOk result (S.read_faults part.new ≡ S.read_faults part.old) }
+    ensures failed { full_handed result ≡ 0 }
 {
     if part.length() != size as u64 {
         return Err(SectionFault::SourceChanged);
@@ -98,6 +103,8 @@ pub(crate) fn hash_parts<S: Source>(
     ensures id { IsTrue S.tells → IfOk result (λ d. d ≡ id_of (map S.content parts.old)) }
     ensures faults { total S.read_faults parts.old ≤ total S.read_faults parts.new }
     ensures cause { IfErr result (λ e. ReadCause e (total S.read_faults parts.old) (total S.read_faults parts.new) (IsTrue S.tells → sizes.now ≡ filled 5 (map S.size parts.old) → ⊥)) }
+    ensures clean { OnOk result (total S.read_faults parts.new ≡ total S.read_faults parts.old) }
+    ensures failed { full_handed result ≡ 0 }
 {
     let mut hasher = Sha1::new();
     for i in 0..parts.len() {
@@ -130,6 +137,8 @@ pub fn image_id<S: Source>(
     ensures id { IsTrue S.tells → IfOk result (λ d. d ≡ id_of (map S.content parts.old)) }
     ensures faults { total S.read_faults parts.old ≤ total S.read_faults parts.new }
     ensures cause { IfErr result (λ e. PackCause (size_refusal (boot_names version) (map S.size parts.old)) e (total S.read_faults parts.old) (total S.read_faults parts.new) 0 0 (IsTrue S.tells → ⊥)) }
+    ensures clean { OnOk result (total S.read_faults parts.new ≡ total S.read_faults parts.old) }
+    ensures failed { full_handed result ≡ 0 }
 {
     let sizes = boot_sizes(version, parts, m)?;
     hash_parts(parts, &sizes, w, m)
@@ -149,6 +158,8 @@ pub(crate) fn stored_id<S: Source>(
     ensures id { IsTrue S.tells → IfOk result (λ d. d ≡ id_of (parts_of (S.content source.old) sections.now)) }
     ensures faults { S.read_faults source.old ≤ S.read_faults source.new }
     ensures cause { IfErr result (λ e. ReadCause e (S.read_faults source.old) (S.read_faults source.new) (IsTrue S.tells → beyond sections.now (length (S.content source.old)) ≡ None → ⊥)) }
+    ensures clean { OnOk result (S.read_faults source.new ≡ S.read_faults source.old) }
+    ensures failed { full_handed result ≡ 0 }
 {
     let mut hasher = Sha1::new();
     for i in 0..sections.count() {

@@ -45,7 +45,7 @@ pub use fragment_table::{fragment, fragments};
 pub use hashing::image_id;
 pub use image::{Image, ImageHeader, section, sections};
 pub use inputs::{boot_input, vendor_input};
-pub use laws::{canonical_is_packed, image_is_whole, packed_is_image};
+pub use laws::{canonical_is_packed, image_is_whole, packed_holds_parts, packed_is_image};
 pub use opening::open;
 pub use packing::pack_boot;
 pub use spec::{BootSpec, FragmentSpec, Packed, VendorSpec};

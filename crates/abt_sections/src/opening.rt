@@ -1,7 +1,7 @@
 //! Opening an image: its header, its sections against the source's length, and its table of ramdisk fragments.
 
 ghost use Rattle.std.specs.Prelude.{◌≡◌, ◌<◌, ◌≤◌, ◌+◌, ◌*◌, ◌^◌, IsTrue, IfOk, IfErr, OnOk, MatchResult, Ok, Err, length, take, drop};
-ghost use Rattle.abt_sections.specs.Cause.{OpenCause};
+ghost use Rattle.abt_sections.specs.Cause.{OpenCause, full_handed};
 ghost use Rattle.abt_sections.specs.Header as header_spec;
 ghost use Rattle.abt_sections.specs.Open.{beyond, ends_beyond, OpensAs, RefusedAs};
 
@@ -10,7 +10,7 @@ use crate::fragment_table::check_entries;
 use crate::image::{Image, ImageHeader};
 use crate::reading::read_front;
 use abt_headers::{
-    BootHeader, HeaderFault, Place, Section, Sections, VendorHeader, front_decides,
+    BootHeader, HeaderFault, Place, Section, Sections, VENDOR_MAGIC, VendorHeader, front_decides,
     vendor_front_decides,
 };
 use abt_io::{Meter, Source, Window};
@@ -23,7 +23,7 @@ const RECORD: u64 = 2128;
 fn is_vendor(bytes: &[u8]) -> bool
     ensures { result ≡ header_spec.is_vendor bytes.now }
 {
-    bytes.len() >= 8 && LittleEndian::read_u64(bytes) == 0x544f_4f42_5244_4e56
+    bytes.len() >= 8 && LittleEndian::read_u64(bytes) == VENDOR_MAGIC
 }
 
 /// The header whose record stands at the front, or the first fault.
@@ -83,6 +83,8 @@ fn read_header<S: Source>(
     ensures faults { S.read_faults source.old ≤ S.read_faults source.new }
     ensures found { IsTrue S.tells → bytes ≡ length (S.content source.old) → MatchResult result (λ h. header_spec.header_at (S.content source.old) ≡ Ok (header_spec.view_of h)) (λ f. RefusedAs (S.content source.old) f) }
     ensures cause { IfErr result (λ e. OpenCause e (S.read_faults source.old) (S.read_faults source.new) (IsTrue S.tells → bytes ≡ length (S.content source.old) → ⊥)) }
+    ensures clean { OnOk result (S.read_faults source.new ≡ S.read_faults source.old) }
+    ensures failed { full_handed result ≡ 0 }
 {
     front_decides();
     vendor_front_decides();
@@ -91,7 +93,9 @@ fn read_header<S: Source>(
         Ok(()) => {}
         Err(fault) => return Err(fault),
     }
-    match decode_header(w.part(0, n)) {
+    let header = decode_header(w.part(0, n));
+    m.close_step(n as u32);
+    match header {
         Ok(header) => Ok(header),
         Err(fault) => Err(SectionFault::Header(fault)),
     }
@@ -113,6 +117,8 @@ pub fn open<S: Source>(source: &mut S, w: &mut Window, m: &mut Meter) -> Result<
     ensures length { IfOk result (λ image. image.length ≡ S.size source.old) }
     ensures faults { S.read_faults source.old ≤ S.read_faults source.new }
     ensures cause { IfErr result (λ e. OpenCause e (S.read_faults source.old) (S.read_faults source.new) (IsTrue S.tells → ⊥)) }
+    ensures clean { OnOk result (S.read_faults source.new ≡ S.read_faults source.old) }
+    ensures failed { full_handed result ≡ 0 }
 {
     let length = source.length();
     let header = match read_header(source, length, w, m) {

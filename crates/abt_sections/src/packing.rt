@@ -4,7 +4,7 @@ ghost use Rattle.std.specs.Prelude.{◌≡◌, ◌<◌, ◌≤◌, ◌+◌, ◌-
 ghost use Rattle.abt_headers.specs.Boot.{boot_page, boot_record, boot_size};
 ghost use Rattle.abt_headers.specs.Page as of_page;
 ghost use Rattle.abt_sections.specs.BootCanon as canon;
-ghost use Rattle.abt_sections.specs.Cause.{MoveCause, ReadCause, PackCause, total};
+ghost use Rattle.abt_sections.specs.Cause.{MoveCause, ReadCause, PackCause, total, full_handed};
 ghost use Rattle.abt_sections.specs.Fields.{boot_fields, filled};
 ghost use Rattle.abt_sections.specs.Grown.{Begins};
 ghost use Rattle.abt_sections.specs.Layout as layout;
@@ -34,6 +34,8 @@ fn id_for<S: Source>(
     ensures id { IsTrue S.tells → IfOk result (λ d. d ≡ canon.id_for version (map S.content parts.old)) }
     ensures faults { total S.read_faults parts.old ≤ total S.read_faults parts.new }
     ensures cause { IfErr result (λ e. ReadCause e (total S.read_faults parts.old) (total S.read_faults parts.new) (IsTrue S.tells → sizes.now ≡ filled 5 (map S.size parts.old) → ⊥)) }
+    ensures clean { OnOk result (total S.read_faults parts.new ≡ total S.read_faults parts.old) }
+    ensures failed { full_handed result ≡ 0 }
 {
     if version < 3 {
         hash_parts(parts, sizes, w, m)
@@ -57,6 +59,8 @@ fn write_header<O: Output>(
     ensures write_frame { O.write_frame output.new ≡ O.write_frame output.old }
     ensures write_faults { O.write_faults output.old ≤ O.write_faults output.new }
     ensures cause { IfErr result (λ e. MoveCause e 0 0 (O.write_faults output.old) (O.write_faults output.new) ⊥) }
+    ensures clean { OnOk result (O.write_faults output.new ≡ O.write_faults output.old) }
+    ensures full_faults { O.full_faults output.new ≡ O.full_faults output.old + full_handed result }
 {
     let mut record = [0u8; 1660];
     let size = header.encode(&mut record);
@@ -80,10 +84,13 @@ fn write_image<S: Source, O: Output>(
     ensures least { length (O.written output.old) ≤ length (O.written output.new) }
     ensures most { length (O.written output.new) ≤ length (O.written output.old) + canon.image_size (boot_page header.now) (boot_size header.now) (take (length parts.old) sizes.now) }
     ensures all { OnOk result (length (O.written output.new) ≡ length (O.written output.old) + canon.image_size (boot_page header.now) (boot_size header.now) (take (length parts.old) sizes.now)) }
+    ensures lasting { OnOk result (map S.size parts.new ≡ take (length parts.old) sizes.now) }
     ensures write_frame { O.write_frame output.new ≡ O.write_frame output.old }
     ensures read_faults { total S.read_faults parts.old ≤ total S.read_faults parts.new }
     ensures write_faults { O.write_faults output.old ≤ O.write_faults output.new }
     ensures cause { IfErr result (λ e. MoveCause e (total S.read_faults parts.old) (total S.read_faults parts.new) (O.write_faults output.old) (O.write_faults output.new) (IsTrue S.tells → sizes.now ≡ filled 5 (map S.size parts.old) → ⊥)) }
+    ensures clean { OnOk result ((total S.read_faults parts.new ≡ total S.read_faults parts.old) × (O.write_faults output.new ≡ O.write_faults output.old)) }
+    ensures full_faults { O.full_faults output.new ≡ O.full_faults output.old + full_handed result }
 {
     match write_header(header, output, w, m) {
         Ok(()) => {}
@@ -100,7 +107,8 @@ fn write_image<S: Source, O: Output>(
 ///
 /// # Errors
 /// Before anything is written, the first of: `Header(Version)`, `Header(PageSize)`, `Name`, `CommandLine`,
-/// `SectionTooLarge`. Then `Read`, `Write` and `SourceChanged` as they come: what stands is a beginning of the image.
+/// `SectionTooLarge`. Then `Read`, `Write` and `SourceChanged` as they come, the last also where a part's length is no
+/// longer the first that it told: what stands is a beginning of the image.
 pub fn pack_boot<S: Source, O: Output>(
     spec: &BootSpec,
     parts: &mut [S],
@@ -118,9 +126,12 @@ pub fn pack_boot<S: Source, O: Output>(
     ensures least { length (O.written output.old) ≤ length (O.written output.new) }
     ensures most { length (O.written output.new) ≤ length (O.written output.old) + canon.boot_image_size (boot_fields spec.now) (map S.size parts.old) }
     ensures packed { IfOk result (λ p. (p.bytes ≡ canon.boot_image_size (boot_fields spec.now) (map S.size parts.old)) × (length (O.written output.new) ≡ length (O.written output.old) + p.bytes)) }
+    ensures lasting { OnOk result (map S.size parts.new ≡ map S.size parts.old) }
     ensures read_faults { total S.read_faults parts.old ≤ total S.read_faults parts.new }
     ensures write_faults { O.write_faults output.old ≤ O.write_faults output.new }
     ensures cause { IfErr result (λ e. PackCause (pack_boot_refusal (boot_fields spec.now) (map S.size parts.old)) e (total S.read_faults parts.old) (total S.read_faults parts.new) (O.write_faults output.old) (O.write_faults output.new) (IsTrue S.tells → ⊥)) }
+    ensures clean { OnOk result ((total S.read_faults parts.new ≡ total S.read_faults parts.old) × (O.write_faults output.new ≡ O.write_faults output.old)) }
+    ensures full_faults { O.full_faults output.new ≡ O.full_faults output.old + full_handed result }
 {
     let page = check_boot_spec(spec, m)?;
     let sizes = boot_sizes(spec.version, parts, m)?;

@@ -1,12 +1,13 @@
 //! Reading one ask from a source to the window's front.
 
-ghost use Rattle.std.specs.Prelude.{◌≡◌, ◌<◌, ◌≤◌, ◌+◌, ◌^◌, IsTrue, IfErr, OnOk, length, take, drop, slice_range};
-ghost use Rattle.abt_sections.specs.Cause.{ReadCause};
+ghost use Rattle.std.specs.Prelude.{◌≡◌, ◌<◌, ◌≤◌, ◌+◌, ◌^◌, IsTrue, IfErr, OnOk, OnErr, length, take, drop, slice_range};
+ghost use Rattle.abt_sections.specs.Cause.{ReadCause, full_handed};
 
 use crate::fault::SectionFault;
 use abt_io::{Meter, Source, Window, gather_at};
 
-/// One step: reads the `ask` bytes from a place on.
+/// The front of a step: reads the `ask` bytes from a place on. The caller ends the step once it has used them; where
+/// they don't come it is ended here.
 pub(crate) fn read_front<S: Source>(
     source: &mut S,
     at: u64,
@@ -23,15 +24,19 @@ pub(crate) fn read_front<S: Source>(
     ensures bytes { IsTrue S.tells → OnOk result (slice_range w.new.bytes 0 ask ≡ take ask (drop at (S.content source.old))) }
     ensures faults { S.read_faults source.old ≤ S.read_faults source.new }
     ensures cause { IfErr result (λ e. ReadCause e (S.read_faults source.old) (S.read_faults source.new) (IsTrue S.tells → (0 < ask → at + ask ≤ length (S.content source.old)) → ⊥)) }
-    ensures steps { m.new.steps.number ≡ m.old.steps.number + 1 }
+    ensures clean { OnOk result (S.read_faults source.new ≡ S.read_faults source.old) }
+    ensures failed { full_handed result ≡ 0 }
+    ensures open { OnOk result (m.new.steps.number ≡ m.old.steps.number) }
+    ensures ended { OnErr result (m.new.steps.number ≡ m.old.steps.number + 1) }
 {
     w.is_whole();
     let gathered = gather_at(source, at, w.part_mut(0, ask), m);
-    m.close_step(gathered.count as u32);
     if let Some(fault) = gathered.fault {
+        m.close_step(gathered.count as u32);
         return Err(SectionFault::Read(fault));
     }
     if gathered.count < ask {
+        m.close_step(gathered.count as u32);
         return Err(SectionFault::SourceChanged);
     }
     Ok(())

@@ -1,7 +1,7 @@
 //! The sizes of parts, tested before anything is written.
 
 ghost use Rattle.std.specs.Prelude.{◌≡◌, ◌<◌, ◌≤◌, ◌+◌, ◌*◌, ◌^◌, MatchResult, MatchOption, length, map, take, slice_index_or, Some, None};
-ghost use Rattle.abt_sections.specs.Cause.{total};
+ghost use Rattle.abt_sections.specs.Cause.{full_handed, total};
 ghost use Rattle.abt_sections.specs.Fields.{filled};
 ghost use Rattle.abt_sections.specs.Refusal.{boot_names, vendor_names, size_refusal};
 ghost use Rattle.abt_sections.specs.Layout.{laid_size};
@@ -35,7 +35,8 @@ pub(crate) fn boot_sizes<S: Source>(
     m: &mut Meter,
 ) -> Result<[u32; 5], SectionFault>
     requires { length parts.now ≡ length (boot_names version) }
-    ensures { MatchResult result (λ z. (size_refusal (boot_names version) (map S.size parts.now) ≡ None) × (z ≡ filled 5 (map S.size parts.now))) (λ f. size_refusal (boot_names version) (map S.size parts.now) ≡ Some f) }
+    ensures value { MatchResult result (λ z. (size_refusal (boot_names version) (map S.size parts.now) ≡ None) × (z ≡ filled 5 (map S.size parts.now))) (λ f. size_refusal (boot_names version) (map S.size parts.now) ≡ Some f) }
+    ensures failed { full_handed result ≡ 0 }
 {
     let mut sizes = [0; 5];
     for i in 0..parts.len() {
@@ -87,7 +88,8 @@ pub(crate) fn vendor_sizes<S: Source>(
     m: &mut Meter,
 ) -> Result<[u32; 4], SectionFault>
     requires { count < 2 ^ 57 }
-    ensures { let z = vendor_sizes_for (total S.size ramdisks.now) (S.size dtb.now) count (S.size bootconfig.now) in MatchResult result (λ r. (size_refusal vendor_names z ≡ None) × (r ≡ z)) (λ f. size_refusal vendor_names z ≡ Some f) }
+    ensures value { let z = vendor_sizes_for (total S.size ramdisks.now) (S.size dtb.now) count (S.size bootconfig.now) in MatchResult result (λ r. (size_refusal vendor_names z ≡ None) × (r ≡ z)) (λ f. size_refusal vendor_names z ≡ Some f) }
+    ensures failed { full_handed result ≡ 0 }
 {
     let ramdisk = match ramdisks_size(ramdisks, m) {
         Some(n) => n,

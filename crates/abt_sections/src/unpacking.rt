@@ -1,8 +1,8 @@
 //! Taking sections and ramdisk fragments out of an image.
 
-ghost use Rattle.std.specs.Prelude.{◌≡◌, ◌<◌, ◌≤◌, ◌+◌, ◌-◌, ◌^◌, ◌++◌, IsTrue, IfErr, OnOk, length, slice_index_or};
+ghost use Rattle.std.specs.Prelude.{◌≡◌, ◌<◌, ◌≤◌, ◌+◌, ◌-◌, ◌^◌, ◌++◌, IsTrue, IfErr, OnOk, Err, length, slice_index_or};
 ghost use Rattle.abt_headers.specs.declared.sections.Place.{Place};
-ghost use Rattle.abt_sections.specs.Cause.{MoveCause};
+ghost use Rattle.abt_sections.specs.Cause.{MoveCause, full_handed};
 ghost use Rattle.abt_sections.specs.Grown.{Begins};
 ghost use Rattle.abt_sections.specs.Header as header_spec;
 ghost use Rattle.abt_sections.specs.Layout.{part_of};
@@ -36,9 +36,12 @@ pub fn unpack<S: Source, O: Output>(
     ensures least { length (O.written output.old) ≤ length (O.written output.new) }
     ensures most { (p : Place) → p ≡ slice_index_or (header_spec.places_of (header_spec.view_of image.now.header)) i p → length (O.written output.new) ≤ length (O.written output.old) + p.size }
     ensures all { (p : Place) → p ≡ slice_index_or (header_spec.places_of (header_spec.view_of image.now.header)) i p → OnOk result (length (O.written output.new) ≡ length (O.written output.old) + p.size) }
+    ensures changed { (S.size source.old ≡ image.now.length → ⊥) → (result ≡ Err SectionFault.SourceChanged) × (source.new ≡ source.old) × (output.new ≡ output.old) }
     ensures read_faults { S.read_faults source.old ≤ S.read_faults source.new }
     ensures write_faults { O.write_faults output.old ≤ O.write_faults output.new }
     ensures cause { IfErr result (λ e. MoveCause e (S.read_faults source.old) (S.read_faults source.new) (O.write_faults output.old) (O.write_faults output.new) (IsTrue S.tells → IsOpened (S.content source.old) image.now → ⊥)) }
+    ensures clean { OnOk result ((S.read_faults source.new ≡ S.read_faults source.old) × (O.write_faults output.new ≡ O.write_faults output.old)) }
+    ensures full_faults { O.full_faults output.new ≡ O.full_faults output.old + full_handed result }
 {
     let place = section(image, i);
     if source.length() != image.length {
@@ -76,9 +79,15 @@ pub fn unpack_fragment<S: Source, O: Output>(
     ensures front { IsTrue S.tells → Begins (O.written output.old) (O.written output.new) (header_spec.fragment_of (S.content source.old) (header_spec.view_of image.now.header) i) }
     ensures least { length (O.written output.old) ≤ length (O.written output.new) }
     ensures most { length (O.written output.new) ≤ length (O.written output.old) + header_spec.ramdisk_size (header_spec.view_of image.now.header) }
+    ensures within { IsTrue S.tells → OnOk result (header_spec.IsWithin (header_spec.view_of image.now.header) (header_spec.entry_of (S.content source.old) (header_spec.view_of image.now.header) i)) }
+    ensures part { IsTrue S.tells → OnOk result (header_spec.fragment_of (S.content source.old) (header_spec.view_of image.now.header) i ≡ header_spec.ramdisk_part (S.content source.old) (header_spec.view_of image.now.header) (header_spec.entry_of (S.content source.old) (header_spec.view_of image.now.header) i)) }
+    ensures all { IsTrue S.tells → OnOk result (length (O.written output.new) ≡ length (O.written output.old) + (header_spec.entry_of (S.content source.old) (header_spec.view_of image.now.header) i).ramdisk_size) }
+    ensures changed { (S.size source.old ≡ image.now.length → ⊥) → (result ≡ Err SectionFault.SourceChanged) × (source.new ≡ source.old) × (output.new ≡ output.old) }
     ensures read_faults { S.read_faults source.old ≤ S.read_faults source.new }
     ensures write_faults { O.write_faults output.old ≤ O.write_faults output.new }
     ensures cause { IfErr result (λ e. MoveCause e (S.read_faults source.old) (S.read_faults source.new) (O.write_faults output.old) (O.write_faults output.new) (IsTrue S.tells → IsOpened (S.content source.old) image.now → ⊥)) }
+    ensures clean { OnOk result ((S.read_faults source.new ≡ S.read_faults source.old) × (O.write_faults output.new ≡ O.write_faults output.old)) }
+    ensures full_faults { O.full_faults output.new ≡ O.full_faults output.old + full_handed result }
 {
     let entry = match fragment(image, i, source, w, m) {
         Ok(entry) => entry,

@@ -2,6 +2,7 @@
 
 ghost use Rattle.std.specs.Prelude.{◌≡◌, ◌<◌, ◌≤◌, ◌*◌, ◌^◌, IfOk, OnOk, MatchResult, length, slice_index, Some, None};
 ghost use Rattle.abt_headers.specs.Vendor.{view, tail_view};
+ghost use Rattle.abt_sections.specs.Cause.{full_handed};
 ghost use Rattle.abt_sections.specs.Fields.{vendor_fields};
 ghost use Rattle.abt_sections.specs.Refusal.{vendor_refusal};
 ghost use Rattle.abt_sections.specs.VendorCanon as canon;
@@ -21,6 +22,7 @@ pub(crate) fn check_vendor_spec(spec: &VendorSpec, m: &mut Meter) -> Result<Page
     ensures page { IfOk result (λ p. p ≡ canon.vendor_page_for (vendor_fields spec.now)) }
     ensures name { OnOk result (length spec.now.name.now ≤ 15) }
     ensures cmdline { OnOk result (length spec.now.cmdline.now ≤ 2047) }
+    ensures failed { full_handed result ≡ 0 }
 {
     if spec.version < 3 || spec.version > 4 {
         return Err(SectionFault::Header(HeaderFault::Version(spec.version)));

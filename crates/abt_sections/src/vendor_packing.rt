@@ -5,7 +5,7 @@ ghost use Rattle.std.specs.List.{concat};
 ghost use Rattle.abt_headers.specs.Page as of_page;
 ghost use Rattle.abt_headers.specs.Vendor.{view, vendor_page, vendor_record, vendor_size};
 ghost use Rattle.abt_sections.specs.VendorCanon as canon;
-ghost use Rattle.abt_sections.specs.Cause.{MoveCause, PackCause, total};
+ghost use Rattle.abt_sections.specs.Cause.{MoveCause, PackCause, total, full_handed};
 ghost use Rattle.abt_sections.specs.Fields.{vendor_fields};
 ghost use Rattle.abt_sections.specs.Grown.{Begins};
 ghost use Rattle.abt_sections.specs.Layout as layout;
@@ -34,49 +34,45 @@ fn write_vendor_header<O: Output>(
     ensures write_frame { O.write_frame output.new ≡ O.write_frame output.old }
     ensures write_faults { O.write_faults output.old ≤ O.write_faults output.new }
     ensures cause { IfErr result (λ e. MoveCause e 0 0 (O.write_faults output.old) (O.write_faults output.new) ⊥) }
+    ensures clean { OnOk result (O.write_faults output.new ≡ O.write_faults output.old) }
+    ensures full_faults { O.full_faults output.new ≡ O.full_faults output.old + full_handed result }
 {
     let mut record = [0u8; 2128];
     let size = header.encode(&mut record);
     write_record(&record[..size], header.page_size(), output, w, m)
 }
 
-/// Copies ramdisks one after another, which must have so many bytes together.
+/// Copies ramdisks one after another, each of which must still have its length then.
 fn write_ramdisks<S: Source, O: Output>(
     ramdisks: &mut [S],
-    size: u32,
     output: &mut O,
     w: &mut Window,
     m: &mut Meter,
 ) -> Result<(), SectionFault>
     ensures content { IsTrue S.tells → map S.content ramdisks.new ≡ map S.content ramdisks.old }
     ensures size { IsTrue S.tells → map S.size ramdisks.new ≡ map S.size ramdisks.old }
+    ensures lasting { OnOk result (map S.size ramdisks.new ≡ map S.size ramdisks.old) }
     ensures frame { map S.read_frame ramdisks.new ≡ map S.read_frame ramdisks.old }
     ensures written { IsTrue S.tells → OnOk result (O.written output.new ≡ O.written output.old ++ concat (map S.content ramdisks.old)) }
     ensures front { IsTrue S.tells → Begins (O.written output.old) (O.written output.new) (concat (map S.content ramdisks.old)) }
     ensures least { length (O.written output.old) ≤ length (O.written output.new) }
-    ensures most { length (O.written output.new) ≤ length (O.written output.old) + size }
-    ensures all { OnOk result (length (O.written output.new) ≡ length (O.written output.old) + size) }
+    ensures most { length (O.written output.new) ≤ length (O.written output.old) + total S.size ramdisks.old }
+    ensures all { OnOk result (length (O.written output.new) ≡ length (O.written output.old) + total S.size ramdisks.old) }
     ensures write_frame { O.write_frame output.new ≡ O.write_frame output.old }
     ensures read_faults { total S.read_faults ramdisks.old ≤ total S.read_faults ramdisks.new }
     ensures write_faults { O.write_faults output.old ≤ O.write_faults output.new }
-    ensures cause { IfErr result (λ e. MoveCause e (total S.read_faults ramdisks.old) (total S.read_faults ramdisks.new) (O.write_faults output.old) (O.write_faults output.new) (IsTrue S.tells → total S.size ramdisks.old ≡ size → ⊥)) }
+    ensures cause { IfErr result (λ e. MoveCause e (total S.read_faults ramdisks.old) (total S.read_faults ramdisks.new) (O.write_faults output.old) (O.write_faults output.new) (IsTrue S.tells → ⊥)) }
+    ensures clean { OnOk result ((total S.read_faults ramdisks.new ≡ total S.read_faults ramdisks.old) × (O.write_faults output.new ≡ O.write_faults output.old)) }
+    ensures full_faults { O.full_faults output.new ≡ O.full_faults output.old + full_handed result }
 {
-    let mut left = size;
     for i in 0..ramdisks.len() {
         m.tick();
         let ramdisk = &mut ramdisks[i];
-        let n = ramdisk.length();
-        if n > left as u64 {
-            return Err(SectionFault::SourceChanged);
-        }
-        match write_bytes(ramdisk, n as u32, output, w, m) {
+        let size = ramdisk.length();
+        match write_bytes(ramdisk, size, output, w, m) {
             Ok(()) => {}
             Err(fault) => return Err(fault),
         }
-        left -= n as u32;
-    }
-    if left > 0 {
-        return Err(SectionFault::SourceChanged);
     }
     Ok(())
 }
@@ -94,15 +90,15 @@ fn entry_for(fragment: &FragmentSpec, size: u32, offset: u32) -> RamdiskEntry
     }
 }
 
-/// Writes the table: an entry for each fragment, which lie end to end and have so many bytes together.
+/// Writes the table: an entry for each fragment, which lie end to end.
 fn write_table<S: Source, O: Output>(
     fragments: &[FragmentSpec],
     ramdisks: &[S],
-    size: u32,
     output: &mut O,
     m: &mut Meter,
 ) -> Result<(), SectionFault>
-    requires { length fragments.now ≡ length ramdisks.now }
+    requires count { length fragments.now ≡ length ramdisks.now }
+    requires small { total S.size ramdisks.now ≤ 4294967295 }
     ensures written { OnOk result (O.written output.new ≡ O.written output.old ++ canon.table_for fragments.now (map S.size ramdisks.now) 0) }
     ensures front { Begins (O.written output.old) (O.written output.new) (canon.table_for fragments.now (map S.size ramdisks.now) 0) }
     ensures least { length (O.written output.old) ≤ length (O.written output.new) }
@@ -110,21 +106,20 @@ fn write_table<S: Source, O: Output>(
     ensures all { OnOk result (length (O.written output.new) ≡ length (O.written output.old) + 108 * length fragments.now) }
     ensures write_frame { O.write_frame output.new ≡ O.write_frame output.old }
     ensures write_faults { O.write_faults output.old ≤ O.write_faults output.new }
-    ensures cause { IfErr result (λ e. MoveCause e 0 0 (O.write_faults output.old) (O.write_faults output.new) (total S.size ramdisks.now ≡ size → ⊥)) }
+    ensures cause { IfErr result (λ e. MoveCause e 0 0 (O.write_faults output.old) (O.write_faults output.new) ⊥) }
+    ensures clean { OnOk result (O.write_faults output.new ≡ O.write_faults output.old) }
+    ensures full_faults { O.full_faults output.new ≡ O.full_faults output.old + full_handed result }
 {
     let mut offset = 0u32;
     for i in 0..ramdisks.len() {
         m.tick();
-        let n = ramdisks[i].length();
-        if n > (size - offset) as u64 {
-            return Err(SectionFault::SourceChanged);
-        }
-        let entry = entry_for(&fragments[i], n as u32, offset);
+        let size = ramdisks[i].length() as u32;
+        let entry = entry_for(&fragments[i], size, offset);
         match write_out(output, &entry.encode(), m) {
             Ok(()) => {}
             Err(fault) => return Err(SectionFault::Write(fault)),
         }
-        offset += n as u32;
+        offset += size;
     }
     Ok(())
 }
@@ -138,9 +133,11 @@ fn write_vendor_ramdisk<S: Source, O: Output>(
     w: &mut Window,
     m: &mut Meter,
 ) -> Result<(), SectionFault>
-    requires { 0 < page }
+    requires some { 0 < page }
+    requires sized { total S.size ramdisks.old ≡ size }
     ensures content { IsTrue S.tells → map S.content ramdisks.new ≡ map S.content ramdisks.old }
     ensures size { IsTrue S.tells → map S.size ramdisks.new ≡ map S.size ramdisks.old }
+    ensures lasting { OnOk result (map S.size ramdisks.new ≡ map S.size ramdisks.old) }
     ensures frame { map S.read_frame ramdisks.new ≡ map S.read_frame ramdisks.old }
     ensures written { IsTrue S.tells → OnOk result (O.written output.new ≡ O.written output.old ++ layout.padded page (concat (map S.content ramdisks.old))) }
     ensures front { IsTrue S.tells → Begins (O.written output.old) (O.written output.new) (layout.padded page (concat (map S.content ramdisks.old))) }
@@ -150,10 +147,12 @@ fn write_vendor_ramdisk<S: Source, O: Output>(
     ensures write_frame { O.write_frame output.new ≡ O.write_frame output.old }
     ensures read_faults { total S.read_faults ramdisks.old ≤ total S.read_faults ramdisks.new }
     ensures write_faults { O.write_faults output.old ≤ O.write_faults output.new }
-    ensures cause { IfErr result (λ e. MoveCause e (total S.read_faults ramdisks.old) (total S.read_faults ramdisks.new) (O.write_faults output.old) (O.write_faults output.new) (IsTrue S.tells → total S.size ramdisks.old ≡ size → ⊥)) }
+    ensures cause { IfErr result (λ e. MoveCause e (total S.read_faults ramdisks.old) (total S.read_faults ramdisks.new) (O.write_faults output.old) (O.write_faults output.new) (IsTrue S.tells → ⊥)) }
+    ensures clean { OnOk result ((total S.read_faults ramdisks.new ≡ total S.read_faults ramdisks.old) × (O.write_faults output.new ≡ O.write_faults output.old)) }
+    ensures full_faults { O.full_faults output.new ≡ O.full_faults output.old + full_handed result }
 {
     let _free = padding(size as u64, page);
-    match write_ramdisks(ramdisks, size, output, w, m) {
+    match write_ramdisks(ramdisks, output, w, m) {
         Ok(()) => {}
         Err(fault) => return Err(fault),
     }
@@ -161,7 +160,7 @@ fn write_vendor_ramdisk<S: Source, O: Output>(
 }
 
 /// Writes the table and the bootconfig, each with zeros up to a page boundary.
-fn write_version_4<S: Source, O: Output>(
+fn write_table_and_bootconfig<S: Source, O: Output>(
     fragments: &[FragmentSpec],
     ramdisks: &[S],
     bootconfig: &mut S,
@@ -173,20 +172,25 @@ fn write_version_4<S: Source, O: Output>(
 ) -> Result<(), SectionFault>
     requires some { 0 < page }
     requires count { length fragments.now ≡ length ramdisks.now }
+    requires ramdisk { total S.size ramdisks.now ≡ slice_index sizes.now 0 }
     requires table { slice_index sizes.now 2 ≡ 108 * length fragments.now }
     ensures content { IsTrue S.tells → S.content bootconfig.new ≡ S.content bootconfig.old }
+    ensures lasting { OnOk result ((S.size bootconfig.old ≡ slice_index sizes.now 3) × (S.size bootconfig.new ≡ slice_index sizes.now 3)) }
     ensures frame { S.read_frame bootconfig.new ≡ S.read_frame bootconfig.old }
     ensures written { IsTrue S.tells → OnOk result (O.written output.new ≡ O.written output.old ++ layout.laid page (canon.table_for fragments.now (map S.size ramdisks.now) 0 ∷ S.content bootconfig.old ∷ [])) }
     ensures front { IsTrue S.tells → Begins (O.written output.old) (O.written output.new) (layout.laid page (canon.table_for fragments.now (map S.size ramdisks.now) 0 ∷ S.content bootconfig.old ∷ [])) }
+    ensures table { OnOk result (take (108 * length fragments.now) (drop (length (O.written output.old)) (O.written output.new)) ≡ canon.table_for fragments.now (map S.size ramdisks.now) 0) }
     ensures least { length (O.written output.old) ≤ length (O.written output.new) }
     ensures most { length (O.written output.new) ≤ length (O.written output.old) + layout.laid_size page (drop 2 sizes.now) }
     ensures all { OnOk result (length (O.written output.new) ≡ length (O.written output.old) + layout.laid_size page (drop 2 sizes.now)) }
     ensures write_frame { O.write_frame output.new ≡ O.write_frame output.old }
     ensures read_faults { S.read_faults bootconfig.old ≤ S.read_faults bootconfig.new }
     ensures write_faults { O.write_faults output.old ≤ O.write_faults output.new }
-    ensures cause { IfErr result (λ e. MoveCause e (S.read_faults bootconfig.old) (S.read_faults bootconfig.new) (O.write_faults output.old) (O.write_faults output.new) (IsTrue S.tells → total S.size ramdisks.now ≡ slice_index sizes.now 0 → S.size bootconfig.old ≡ slice_index sizes.now 3 → ⊥)) }
+    ensures cause { IfErr result (λ e. MoveCause e (S.read_faults bootconfig.old) (S.read_faults bootconfig.new) (O.write_faults output.old) (O.write_faults output.new) (IsTrue S.tells → S.size bootconfig.old ≡ slice_index sizes.now 3 → ⊥)) }
+    ensures clean { OnOk result ((S.read_faults bootconfig.new ≡ S.read_faults bootconfig.old) × (O.write_faults output.new ≡ O.write_faults output.old)) }
+    ensures full_faults { O.full_faults output.new ≡ O.full_faults output.old + full_handed result }
 {
-    match write_table(fragments, ramdisks, sizes[0], output, m) {
+    match write_table(fragments, ramdisks, output, m) {
         Ok(()) => {}
         Err(fault) => return Err(fault),
     }
@@ -198,7 +202,7 @@ fn write_version_4<S: Source, O: Output>(
 }
 
 /// Writes the record, the vendor ramdisk and the dtb, each with zeros up to a page boundary.
-fn write_version_3<S: Source, O: Output>(
+fn write_first_sections<S: Source, O: Output>(
     header: &VendorHeader,
     ramdisks: &mut [S],
     dtb: &mut S,
@@ -207,8 +211,10 @@ fn write_version_3<S: Source, O: Output>(
     w: &mut Window,
     m: &mut Meter,
 ) -> Result<(), SectionFault>
+    requires ramdisk { total S.size ramdisks.old ≡ slice_index sizes.now 0 }
     ensures content { IsTrue S.tells → map S.content ramdisks.new ≡ map S.content ramdisks.old }
     ensures size { IsTrue S.tells → map S.size ramdisks.new ≡ map S.size ramdisks.old }
+    ensures lasting { OnOk result ((map S.size ramdisks.new ≡ map S.size ramdisks.old) × (S.size dtb.old ≡ slice_index sizes.now 1) × (S.size dtb.new ≡ slice_index sizes.now 1)) }
     ensures frame { map S.read_frame ramdisks.new ≡ map S.read_frame ramdisks.old }
     ensures dtb_content { IsTrue S.tells → S.content dtb.new ≡ S.content dtb.old }
     ensures dtb_frame { S.read_frame dtb.new ≡ S.read_frame dtb.old }
@@ -221,7 +227,9 @@ fn write_version_3<S: Source, O: Output>(
     ensures read_faults { total S.read_faults ramdisks.old ≤ total S.read_faults ramdisks.new }
     ensures dtb_faults { S.read_faults dtb.old ≤ S.read_faults dtb.new }
     ensures write_faults { O.write_faults output.old ≤ O.write_faults output.new }
-    ensures cause { IfErr result (λ e. MoveCause e (total S.read_faults ramdisks.old + S.read_faults dtb.old) (total S.read_faults ramdisks.new + S.read_faults dtb.new) (O.write_faults output.old) (O.write_faults output.new) (IsTrue S.tells → total S.size ramdisks.old ≡ slice_index sizes.now 0 → S.size dtb.old ≡ slice_index sizes.now 1 → ⊥)) }
+    ensures cause { IfErr result (λ e. MoveCause e (total S.read_faults ramdisks.old + S.read_faults dtb.old) (total S.read_faults ramdisks.new + S.read_faults dtb.new) (O.write_faults output.old) (O.write_faults output.new) (IsTrue S.tells → S.size dtb.old ≡ slice_index sizes.now 1 → ⊥)) }
+    ensures clean { OnOk result ((total S.read_faults ramdisks.new ≡ total S.read_faults ramdisks.old) × (S.read_faults dtb.new ≡ S.read_faults dtb.old) × (O.write_faults output.new ≡ O.write_faults output.old)) }
+    ensures full_faults { O.full_faults output.new ≡ O.full_faults output.old + full_handed result }
 {
     let page = header.page_size();
     match write_vendor_header(header, output, w, m) {
@@ -243,7 +251,8 @@ fn write_version_3<S: Source, O: Output>(
 ///
 /// # Errors
 /// Before anything is written, the first of: `Header(Version)`, `Header(PageSize)`, `Name`, `CommandLine`,
-/// `SectionTooLarge`. Then `Read`, `Write` and `SourceChanged` as they come: what stands is a beginning of the image.
+/// `SectionTooLarge`. Then `Read`, `Write` and `SourceChanged` as they come, the last also where a part's length is no
+/// longer the first that it told: what stands is a beginning of the image.
 pub fn pack_vendor<S: Source, O: Output>(
     spec: &VendorSpec,
     fragments: &[FragmentSpec],
@@ -266,26 +275,30 @@ pub fn pack_vendor<S: Source, O: Output>(
     ensures refused { IfRefused (pack_vendor_refusal (vendor_fields spec.now) (canon.vendor_sizes_for (total S.size ramdisks.old) (S.size dtb.old) (length fragments.now) (S.size bootconfig.old))) (λ f. (result ≡ Err f) × (output.new ≡ output.old)) }
     ensures written { IsTrue S.tells → OnOk result (O.written output.new ≡ O.written output.old ++ canon.vendor_canon (vendor_fields spec.now) (canon.vendor_parts fragments.now (map S.content ramdisks.old) (S.content dtb.old) (S.content bootconfig.old))) }
     ensures front { IsTrue S.tells → Begins (O.written output.old) (O.written output.new) (canon.vendor_canon (vendor_fields spec.now) (canon.vendor_parts fragments.now (map S.content ramdisks.old) (S.content dtb.old) (S.content bootconfig.old))) }
+    ensures table { spec.now.version ≡ 4 → OnOk result (take (108 * length fragments.now) (drop (length (O.written output.old) + canon.table_place (vendor_fields spec.now) (canon.vendor_sizes_for (total S.size ramdisks.old) (S.size dtb.old) (length fragments.now) (S.size bootconfig.old))) (O.written output.new)) ≡ canon.table_for fragments.now (map S.size ramdisks.old) 0) }
     ensures least { length (O.written output.old) ≤ length (O.written output.new) }
     ensures most { length (O.written output.new) ≤ length (O.written output.old) + canon.vendor_image_size (vendor_fields spec.now) (canon.vendor_sizes_for (total S.size ramdisks.old) (S.size dtb.old) (length fragments.now) (S.size bootconfig.old)) }
     ensures packed { IfOk result (λ p. (p.bytes ≡ canon.vendor_image_size (vendor_fields spec.now) (canon.vendor_sizes_for (total S.size ramdisks.old) (S.size dtb.old) (length fragments.now) (S.size bootconfig.old))) × (length (O.written output.new) ≡ length (O.written output.old) + p.bytes)) }
+    ensures lasting { OnOk result ((map S.size ramdisks.new ≡ map S.size ramdisks.old) × (S.size dtb.new ≡ S.size dtb.old) × (S.size bootconfig.new ≡ S.size bootconfig.old)) }
     ensures read_faults { total S.read_faults ramdisks.old ≤ total S.read_faults ramdisks.new }
     ensures dtb_faults { S.read_faults dtb.old ≤ S.read_faults dtb.new }
     ensures bootconfig_faults { S.read_faults bootconfig.old ≤ S.read_faults bootconfig.new }
     ensures write_faults { O.write_faults output.old ≤ O.write_faults output.new }
     ensures cause { IfErr result (λ e. PackCause (pack_vendor_refusal (vendor_fields spec.now) (canon.vendor_sizes_for (total S.size ramdisks.old) (S.size dtb.old) (length fragments.now) (S.size bootconfig.old))) e (total S.read_faults ramdisks.old + S.read_faults dtb.old + S.read_faults bootconfig.old) (total S.read_faults ramdisks.new + S.read_faults dtb.new + S.read_faults bootconfig.new) (O.write_faults output.old) (O.write_faults output.new) (IsTrue S.tells → ⊥)) }
+    ensures clean { OnOk result ((total S.read_faults ramdisks.new ≡ total S.read_faults ramdisks.old) × (S.read_faults dtb.new ≡ S.read_faults dtb.old) × (S.read_faults bootconfig.new ≡ S.read_faults bootconfig.old) × (O.write_faults output.new ≡ O.write_faults output.old)) }
+    ensures full_faults { O.full_faults output.new ≡ O.full_faults output.old + full_handed result }
 {
     let page = check_vendor_spec(spec, m)?;
     let sizes = vendor_sizes(fragments.len(), ramdisks, dtb, bootconfig, m)?;
     let header = vendor_header_for(spec, page, &sizes, fragments.len() as u32);
     let bytes = page.bytes();
-    write_version_3(&header, ramdisks, dtb, &sizes, output, w, m)?;
+    write_first_sections(&header, ramdisks, dtb, &sizes, output, w, m)?;
     if spec.version == 3 {
         return Ok(Packed {
             bytes: image_bytes(bytes, 2112, &sizes, 2, m),
         });
     }
-    match write_version_4(fragments, ramdisks, bootconfig, &sizes, bytes, output, w, m) {
+    match write_table_and_bootconfig(fragments, ramdisks, bootconfig, &sizes, bytes, output, w, m) {
         Ok(()) => {}
         Err(fault) => return Err(fault),
     }

@@ -5,7 +5,7 @@
 
 ghost use Rattle.std.specs.Prelude.{◌≡◌, ◌<◌, ◌≤◌, ◌+◌, ◌-◌, ◌*◌, ◌^◌, ◌++◌, IsTrue, IfErr, OnOk, length, map, take};
 ghost use Rattle.abt_headers.specs.Page as of_page;
-ghost use Rattle.abt_sections.specs.Cause.{MoveCause, total};
+ghost use Rattle.abt_sections.specs.Cause.{MoveCause, total, full_handed};
 ghost use Rattle.abt_sections.specs.Fields.{filled};
 ghost use Rattle.abt_sections.specs.Grown.{Begins};
 ghost use Rattle.abt_sections.specs.Layout as layout;
@@ -42,6 +42,8 @@ pub(crate) fn write_padding<O: Output>(
     ensures write_frame { O.write_frame output.new ≡ O.write_frame output.old }
     ensures write_faults { O.write_faults output.old ≤ O.write_faults output.new }
     ensures cause { IfErr result (λ e. MoveCause e 0 0 (O.write_faults output.old) (O.write_faults output.new) ⊥) }
+    ensures clean { OnOk result (O.write_faults output.new ≡ O.write_faults output.old) }
+    ensures full_faults { O.full_faults output.new ≡ O.full_faults output.old + full_handed result }
 {
     match write_zeros(output, padding(n, page), w, m) {
         Ok(()) => Ok(()),
@@ -67,6 +69,8 @@ pub(crate) fn write_record<O: Output>(
     ensures write_frame { O.write_frame output.new ≡ O.write_frame output.old }
     ensures write_faults { O.write_faults output.old ≤ O.write_faults output.new }
     ensures cause { IfErr result (λ e. MoveCause e 0 0 (O.write_faults output.old) (O.write_faults output.new) ⊥) }
+    ensures clean { OnOk result (O.write_faults output.new ≡ O.write_faults output.old) }
+    ensures full_faults { O.full_faults output.new ≡ O.full_faults output.old + full_handed result }
 {
     let n = bytes.len() as u64;
     match write_out(output, bytes, m) {
@@ -76,10 +80,10 @@ pub(crate) fn write_record<O: Output>(
     write_padding(n, page, output, w, m)
 }
 
-/// Copies a part that must have this size.
+/// Copies a part that must have this size, and must still have it then.
 pub(crate) fn write_bytes<S: Source, O: Output>(
     part: &mut S,
-    size: u32,
+    size: u64,
     output: &mut O,
     w: &mut Window,
     m: &mut Meter,
@@ -89,24 +93,33 @@ pub(crate) fn write_bytes<S: Source, O: Output>(
     ensures frame { S.read_frame part.new ≡ S.read_frame part.old }
     ensures written { IsTrue S.tells → OnOk result (O.written output.new ≡ O.written output.old ++ S.content part.old) }
     ensures front { IsTrue S.tells → Begins (O.written output.old) (O.written output.new) (S.content part.old) }
+    ensures grown { take (length (O.written output.old)) (O.written output.new) ≡ O.written output.old }
     ensures least { length (O.written output.old) ≤ length (O.written output.new) }
     ensures most { length (O.written output.new) ≤ length (O.written output.old) + size }
     ensures all { OnOk result (length (O.written output.new) ≡ length (O.written output.old) + size) }
     ensures sized { IsTrue S.tells → OnOk result (length (S.content part.old) ≡ size) }
+    ensures lasting { OnOk result ((S.size part.old ≡ size) × (S.size part.new ≡ size)) }
     ensures write_frame { O.write_frame output.new ≡ O.write_frame output.old }
     ensures read_faults { S.read_faults part.old ≤ S.read_faults part.new }
     ensures write_faults { O.write_faults output.old ≤ O.write_faults output.new }
     ensures cause { IfErr result (λ e. MoveCause e (S.read_faults part.old) (S.read_faults part.new) (O.write_faults output.old) (O.write_faults output.new) (IsTrue S.tells → S.size part.old ≡ size → ⊥)) }
+    ensures clean { OnOk result ((S.read_faults part.new ≡ S.read_faults part.old) × (O.write_faults output.new ≡ O.write_faults output.old)) }
+    ensures full_faults { O.full_faults output.new ≡ O.full_faults output.old + full_handed result }
 {
-    if part.length() != size as u64 {
+    if part.length() != size {
         return Err(SectionFault::SourceChanged);
     }
-    match copy_range(part, 0, size as u64, output, w, m) {
-        Ok(()) => Ok(()),
-        Err(CopyFault::Read(fault)) => Err(SectionFault::Read(fault)),
-        Err(CopyFault::Write(fault)) => Err(SectionFault::Write(fault)),
-        Err(CopyFault::Changed) => Err(SectionFault::SourceChanged),
+    match copy_range(part, 0, size, output, w, m) {
+        Ok(()) => {}
+        Err(CopyFault::Read(fault)) => return Err(SectionFault::Read(fault)),
+        Err(CopyFault::Write(fault)) => return Err(SectionFault::Write(fault)),
+        Err(CopyFault::Changed) => return Err(SectionFault::SourceChanged),
     }
+    let last = part.length();
+    if last != size {
+        return Err(SectionFault::SourceChanged);
+    }
+    Ok(())
 }
 
 /// Writes a part that must have this size, and zeros up to a page boundary.
@@ -124,16 +137,20 @@ pub(crate) fn write_part<S: Source, O: Output>(
     ensures frame { S.read_frame part.new ≡ S.read_frame part.old }
     ensures written { IsTrue S.tells → OnOk result (O.written output.new ≡ O.written output.old ++ layout.padded page (S.content part.old)) }
     ensures front { IsTrue S.tells → Begins (O.written output.old) (O.written output.new) (layout.padded page (S.content part.old)) }
+    ensures grown { take (length (O.written output.old)) (O.written output.new) ≡ O.written output.old }
     ensures least { length (O.written output.old) ≤ length (O.written output.new) }
     ensures most { length (O.written output.new) ≤ length (O.written output.old) + of_page.pages size page * page }
     ensures all { OnOk result (length (O.written output.new) ≡ length (O.written output.old) + of_page.pages size page * page) }
+    ensures lasting { OnOk result ((S.size part.old ≡ size) × (S.size part.new ≡ size)) }
     ensures write_frame { O.write_frame output.new ≡ O.write_frame output.old }
     ensures read_faults { S.read_faults part.old ≤ S.read_faults part.new }
     ensures write_faults { O.write_faults output.old ≤ O.write_faults output.new }
     ensures cause { IfErr result (λ e. MoveCause e (S.read_faults part.old) (S.read_faults part.new) (O.write_faults output.old) (O.write_faults output.new) (IsTrue S.tells → S.size part.old ≡ size → ⊥)) }
+    ensures clean { OnOk result ((S.read_faults part.new ≡ S.read_faults part.old) × (O.write_faults output.new ≡ O.write_faults output.old)) }
+    ensures full_faults { O.full_faults output.new ≡ O.full_faults output.old + full_handed result }
 {
     let _free = padding(size as u64, page);
-    match write_bytes(part, size, output, w, m) {
+    match write_bytes(part, size as u64, output, w, m) {
         Ok(()) => {}
         Err(fault) => return Err(fault),
     }
@@ -159,10 +176,13 @@ pub(crate) fn write_parts<S: Source, O: Output>(
     ensures least { length (O.written output.old) ≤ length (O.written output.new) }
     ensures most { length (O.written output.new) ≤ length (O.written output.old) + layout.laid_size page (take (length parts.old) sizes.now) }
     ensures all { OnOk result (length (O.written output.new) ≡ length (O.written output.old) + layout.laid_size page (take (length parts.old) sizes.now)) }
+    ensures lasting { OnOk result (map S.size parts.new ≡ take (length parts.old) sizes.now) }
     ensures write_frame { O.write_frame output.new ≡ O.write_frame output.old }
     ensures read_faults { total S.read_faults parts.old ≤ total S.read_faults parts.new }
     ensures write_faults { O.write_faults output.old ≤ O.write_faults output.new }
     ensures cause { IfErr result (λ e. MoveCause e (total S.read_faults parts.old) (total S.read_faults parts.new) (O.write_faults output.old) (O.write_faults output.new) (IsTrue S.tells → sizes.now ≡ filled 5 (map S.size parts.old) → ⊥)) }
+    ensures clean { OnOk result ((total S.read_faults parts.new ≡ total S.read_faults parts.old) × (O.write_faults output.new ≡ O.write_faults output.old)) }
+    ensures full_faults { O.full_faults output.new ≡ O.full_faults output.old + full_handed result }
 {
     for i in 0..parts.len() {
         m.tick();

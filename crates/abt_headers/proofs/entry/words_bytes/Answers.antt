@@ -1,4 +1,4 @@
-use Rattle.std.proofs.Common.{◌≡◌, ◌∙◌}
+use Rattle.std.proofs.Common.{◌∙◌}
 use Rattle.abt_headers.proofs.EntryLaws.{words_flat}
 use Rattle.abt_headers.proofs.entry.words_bytes.Goals as goal
 

@@ -1,6 +1,5 @@
 use Rattle.std.proofs.Common.{◌≡◌, ℕ, ◌*◌, List, ap, arith, length, length-drop, drop, ◌∙◌}
 use Rattle.std.proofs.lemmas.List.{take_all}
-use Rattle.std.specs.Prelude.{slice_index}
 use Rattle.abt_headers.specs.Entry.{words_at}
 use Rattle.abt_headers.specs.Field.{number_at}
 use Rattle.abt_headers.proofs.EntryLaws.{words_read}

@@ -1,6 +1,5 @@
-use Rattle.std.proofs.Common.{◌≡◌, ◌≤◌, ℕ, List, arith, length, ap, sym, ◌∙◌, None, Option}
+use Rattle.std.proofs.Common.{◌≡◌, ◌≤◌, ℕ, List, arith, length, ap, ◌∙◌, None}
 use Rattle.std.specs.Prelude.{IsTrue}
-use Rattle.abt_headers.specs.declared.sections.Section.{Section}
 use Rattle.abt_sections.specs.Header.{view_of, places_of}
 use Rattle.abt_sections.specs.Open.{beyond, IsOpened}
 use Rattle.abt_sections.proofs.Causes.{read_on}

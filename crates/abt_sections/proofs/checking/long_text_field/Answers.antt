@@ -1,4 +1,4 @@
-use Rattle.std.proofs.Common.{◌≡◌, Bool, cond, ◌&&◌, sym, ap, ◌∙◌}
+use Rattle.std.proofs.Common.{Bool, cond, ◌&&◌, sym, ap, ◌∙◌}
 use Rattle.abt_sections.specs.Fields.{no_zero}
 use Rattle.abt_sections.specs.Check.{all_zero, text_field}
 use Rattle.abt_sections.proofs.TextFields.{long_text}

@@ -1,4 +1,4 @@
-use Rattle.std.proofs.Common.{◌≡◌, ◌≤◌, ◌+◌, ◌<◌, arith, ap, sym, ◌∙◌, length}
+use Rattle.std.proofs.Common.{◌≤◌, ◌+◌, ◌<◌, arith, ap, sym, ◌∙◌, length}
 use Rattle.std.specs.Prelude.{IsTrue}
 use Rattle.abt_sections.proofs.Causes.{read_on}
 use Rattle.abt_sections.proofs.Zeros.{more_zeros, not_zeros}
@@ -15,14 +15,14 @@ returns-in-Err-clause-cause g c =
     let last : f c.read_front.new.source ≤ f c.read_front.new.source = omega arith in
     read_on c.in-Err.fault (f c.args.source.now) (f now) (f c.read_front.new.source) (f c.read_front.new.source)
     (IsTrue s.tells → (0 < ask → place + ask ≤ length (s.content now)) → ⊥) (IsTrue s.tells → ⊥)
-    v.faults last (λ changed tells. changed tells (λ some. omega (arith, c.length-length.ensures.told tells, ap length (v.content tells), c.next_ask-ask.ensures.within))) c.in-Err.ensures.cause
+    (omega (arith, v.faults)) last (λ changed tells. changed tells (λ some. omega (arith, c.length-length.ensures.told tells, ap length (v.content tells), c.next_ask-ask.ensures.within))) c.in-Err.ensures.cause
 
-pub returns-then-not-all_zero-clause-value : goal.returns-then-not-all_zero-clause-value
-returns-then-not-all_zero-clause-value g c = λ tells.
+pub returns-then-not-zero-clause-value : goal.returns-then-not-zero-clause-value
+returns-then-not-zero-clause-value g c = λ tells.
     let e = c.in-Ok.ensures in
     let v = c.loop-done.invariant in
     let ask = c.next_ask-ask.result in
-    not_zeros _ _ c.args.at c.loop-done.done ask c.args.n c.part.result.now (v.content tells) (c.part.ensures.value ∙ e.bytes tells) (v.zeros tells) (sym c.all_zero.ensures ∙ c.if-not-all_zero.true) (omega arith)
+    not_zeros _ _ c.args.at c.loop-done.done ask c.args.n c.part.result.now (v.content tells) (c.part.ensures.value ∙ e.bytes tells) (v.zeros tells) (sym c.all_zero-zero.ensures ∙ c.if-not-zero.true) (omega arith)
 
 pub loop-done-preserved : goal.loop-done-preserved
 loop-done-preserved g c =
@@ -34,6 +34,6 @@ loop-done-preserved g c =
       content = λ tells. e.content tells ∙ v.content tells;
       size = λ tells. e.size tells ∙ v.size tells;
       frame = e.frame ∙ v.frame;
-      faults = omega (arith, e.faults, v.faults);
-      zeros = λ tells. more_zeros _ _ c.args.at c.loop-done.done ask c.part.result.now (v.content tells) (c.part.ensures.value ∙ e.bytes tells) (v.zeros tells) (sym c.all_zero.ensures ∙ c.if-not-all_zero.false);
+      faults = e.clean ∙ v.faults;
+      zeros = λ tells. more_zeros _ _ c.args.at c.loop-done.done ask c.part.result.now (v.content tells) (c.part.ensures.value ∙ e.bytes tells) (v.zeros tells) (sym c.all_zero-zero.ensures ∙ c.if-not-zero.false);
     }

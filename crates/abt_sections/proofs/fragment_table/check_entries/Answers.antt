@@ -1,4 +1,4 @@
-use Rattle.std.proofs.Common.{◌≡◌, ◌<◌, ◌≤◌, ◌+◌, ◌*◌, arith, length, ap, None}
+use Rattle.std.proofs.Common.{◌≡◌, ◌≤◌, ◌+◌, ◌*◌, arith, length, ap, None}
 use Rattle.std.specs.Prelude.{IsTrue}
 use Rattle.abt_sections.specs.Header.{view_of, places_of}
 use Rattle.abt_sections.specs.Open.{beyond}
@@ -28,4 +28,4 @@ returns-in-Err-clause-cause g c =
     let last : f c.next_entry.new.source ≤ f c.next_entry.new.source = omega arith in
     read_opens c.in-Err.fault (f c.args.source.now) (f now) (f c.next_entry.new.source) (f c.next_entry.new.source)
     (IsTrue s.tells → c.table_of-table.result.at + 108 * c.table_of-table.result.count ≤ length (s.content now) → ⊥) (IsTrue s.tells → beyond (places_of h) (length x) ≡ None → ⊥)
-    v.faults last (λ changed tells there. changed tells (omega (arith, table_there h (length x) c.loop-i.i t.whole there (omega (arith, t.count)), t.at, t.count, ap length (v.content tells)))) c.in-Err.ensures.cause
+    (omega (arith, v.faults)) last (λ changed tells there. changed tells (omega (arith, table_there h (length x) c.loop-i.i t.whole there (omega (arith, t.count)), t.at, t.count, ap length (v.content tells)))) c.in-Err.ensures.cause

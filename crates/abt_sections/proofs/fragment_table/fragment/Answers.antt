@@ -1,6 +1,6 @@
-use Rattle.std.proofs.Common.{◌≡◌, ◌<◌, ◌≤◌, ◌+◌, ◌*◌, arith, length, ap}
+use Rattle.std.proofs.Common.{◌≤◌, ◌+◌, ◌*◌, arith, length}
 use Rattle.std.specs.Prelude.{IsTrue}
-use Rattle.abt_sections.specs.Header.{view_of, places_of}
+use Rattle.abt_sections.specs.Header.{view_of}
 use Rattle.abt_sections.specs.Open.{IsOpened}
 use Rattle.abt_sections.proofs.Causes.{read_on}
 use Rattle.abt_sections.proofs.Tables.{entry_there}

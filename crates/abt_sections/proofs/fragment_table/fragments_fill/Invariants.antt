@@ -1,4 +1,4 @@
-use Rattle.std.proofs.Common.{◌≡◌, ◌+◌, ◌≤◌, ◌<◌, ◌*◌, ℕ, length}
+use Rattle.std.proofs.Common.{◌≡◌, ◌+◌, ◌≤◌, ◌<◌, ◌*◌, ℕ}
 use Rattle.std.specs.Prelude.{IsTrue}
 use Rattle.abt_sections.specs.Entries.{EntriesStand}
 use Rattle.abt_sections.specs.Header.{view_of, entry_of}
@@ -13,7 +13,7 @@ invariant-loop-i g l =
       content : IsTrue s.tells → s.content l.source ≡ s.content l.fn.source;
       size : IsTrue s.tells → s.size l.source ≡ s.size l.fn.source;
       frame : s.read_frame l.source ≡ s.read_frame l.fn.source;
-      faults : s.read_faults l.fn.source ≤ s.read_faults l.source;
+      faults : s.read_faults l.source ≡ s.read_faults l.fn.source;
       from : l.held.first ≤ l.i;
       to : l.i ≤ l.held.end;
       few : l.held.end ≤ l.held.first + 606;

@@ -1,4 +1,4 @@
-use Rattle.std.proofs.Common.{◌≡◌, ap, sym, ◌∙◌, arith}
+use Rattle.std.proofs.Common.{arith}
 use Rattle.abt_sections.proofs.Digests.{hash_more}
 use Rattle.abt_sections.proofs.hashing.hash_part.Goals as goal
 

@@ -1,4 +1,4 @@
-use Rattle.std.proofs.Common.{◌≡◌, ◌≤◌, ◌+◌, ◌-◌, ℕ, List, arith, ap, sym, ◌∙◌, length, length-set, map, get_or, set, take}
+use Rattle.std.proofs.Common.{◌≡◌, arith, ◌∙◌, length-set, map, get_or}
 use Rattle.std.proofs.lemmas.List.Sums.{sum_by-set}
 use Rattle.std.specs.Prelude.{IsTrue}
 use Rattle.abt_sections.specs.Cause.{total}
@@ -22,7 +22,7 @@ loop-i-preserved g c =
       content = λ tells. kept s.content ps c.loop-i.i d new (e.content tells) ∙ v.content tells;
       size = λ tells. kept s.size ps c.loop-i.i d new (e.size tells) ∙ v.size tells;
       frame = kept s.read_frame ps c.loop-i.i d new e.frame ∙ v.frame;
-      faults = omega (arith, v.faults, sum_by-set s.read_faults ps c.loop-i.i new d (omega arith), e.faults);
+      faults = omega (arith, v.faults, sum_by-set s.read_faults ps c.loop-i.i new d (omega arith), e.clean);
       hashed = λ tells.
           hash_next _ _ _ (next_part s.content ps c.args.parts.now c.loop-i.i d (v.content tells) (omega arith)) (e.hashed tells _ (v.hashed tells));
     }
@@ -40,7 +40,7 @@ returns-in-Err-clause-cause g c =
     let d = c.index-parts-i.result in
     part_read s.read_faults ps c.loop-i.i (total s.read_faults c.args.parts.now) d c.hash_part.new.part c.in-Err.fault
     (IsTrue s.tells → s.size (get_or ps c.loop-i.i d) ≡ get_or c.args.sizes.now c.loop-i.i 0 → ⊥) (IsTrue s.tells → c.args.sizes.now ≡ filled 5 (map s.size c.args.parts.now) → ⊥)
-    (omega arith) v.faults (λ changed tells same. changed tells (part_size s.size ps c.args.parts.now c.loop-i.i d c.args.sizes.now (v.size tells) same (omega arith))) c.in-Err.ensures.cause
+    (omega arith) (omega (arith, v.faults)) (λ changed tells same. changed tells (part_size s.size ps c.args.parts.now c.loop-i.i d c.args.sizes.now (v.size tells) same (omega arith))) c.in-Err.ensures.cause
 
 pub returns-clause-id : goal.returns-clause-id
 returns-clause-id g c = λ tells.

@@ -1,4 +1,4 @@
-use Rattle.std.proofs.Common.{◌≡◌, ◌≤◌, ℕ, List, length, map, take}
+use Rattle.std.proofs.Common.{◌≡◌, length, map, take}
 use Rattle.std.specs.Prelude.{IsTrue}
 use Rattle.sha1.specs.Sha1.{Holds}
 use Rattle.abt_sections.specs.Id.{sized_parts}
@@ -13,6 +13,6 @@ invariant-loop-i g l =
       content : IsTrue s.tells → map s.content l.parts ≡ map s.content l.fn.parts;
       size : IsTrue s.tells → map s.size l.parts ≡ map s.size l.fn.parts;
       frame : map s.read_frame l.parts ≡ map s.read_frame l.fn.parts;
-      faults : total s.read_faults l.fn.parts ≤ total s.read_faults l.parts;
+      faults : total s.read_faults l.parts ≡ total s.read_faults l.fn.parts;
       hashed : IsTrue s.tells → Holds l.hasher (sized_parts (take l.i (map s.content l.fn.parts)));
     }

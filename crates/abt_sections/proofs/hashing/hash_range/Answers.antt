@@ -1,4 +1,4 @@
-use Rattle.std.proofs.Common.{arith, ap, length, ◌∙◌, ◌+◌, ◌≤◌, ◌<◌, ◌≡◌, drop}
+use Rattle.std.proofs.Common.{arith, ap, length, ◌∙◌, ◌+◌, ◌≤◌, ◌<◌}
 use Rattle.std.specs.Prelude.{IsTrue}
 use Rattle.abt_sections.proofs.Digests.{hashed_next}
 use Rattle.abt_sections.proofs.Causes.{read_on}
@@ -14,7 +14,7 @@ loop-at-preserved g c =
       content = λ tells. e.content tells ∙ i.content tells;
       size = λ tells. e.size tells ∙ i.size tells;
       frame = e.frame ∙ i.frame;
-      faults = omega arith;
+      faults = e.clean ∙ i.faults;
       present = λ tells h. omega (arith, e.present tells (k.some (omega arith)), ap length (i.content tells));
       hashed = λ tells t h. hashed_next _ _ _ t c.args.from c.loop-at.at c.next_ask-ask.result (i.content tells) (rw (c.part.ensures.value, e.bytes tells) at (c.update.ensures _ (i.hashed tells t h)));
     }
@@ -31,4 +31,4 @@ returns-in-Err-clause-cause g c =
     let z : f c.read_front.new.source ≤ f c.read_front.new.source = omega arith in
     read_on c.in-Err.fault (f c.args.source.now) (f now) (f c.read_front.new.source) (f c.read_front.new.source)
     (IsTrue s.tells → (0 < ask → (c.args.from + at) + ask ≤ length (s.content now)) → ⊥) (IsTrue s.tells → (0 < c.args.n → c.args.from + c.args.n ≤ length (s.content c.args.source.now)) → ⊥)
-    i.faults z (λ changed tells there. changed tells (λ some. omega (arith, there (omega arith), ap length (i.content tells)))) e.cause
+    (omega (arith, i.faults)) z (λ changed tells there. changed tells (λ some. omega (arith, there (omega arith), ap length (i.content tells)))) e.cause

@@ -11,7 +11,7 @@ invariant-loop-at g l =
       content : IsTrue g.S.Source.tells → bytes l.source ≡ bytes l.fn.source;
       size : IsTrue g.S.Source.tells → g.S.Source.size l.source ≡ g.S.Source.size l.fn.source;
       frame : g.S.Source.read_frame l.source ≡ g.S.Source.read_frame l.fn.source;
-      faults : g.S.Source.read_faults l.fn.source ≤ g.S.Source.read_faults l.source;
+      faults : g.S.Source.read_faults l.source ≡ g.S.Source.read_faults l.fn.source;
       present : IsTrue g.S.Source.tells → 0 < l.at → l.from + l.at ≤ length (bytes l.fn.source);
       hashed : IsTrue g.S.Source.tells → (t : List ℕ) → Holds l.fn.hasher t → Holds l.hasher (t ++ take l.at (drop l.from (bytes l.fn.source)));
     }

@@ -1,4 +1,4 @@
-use Rattle.std.proofs.Common.{arith, ap, sym, ◌∙◌, ◌≤◌, ◌+◌, ◌<◌, ◌≡◌, length, None}
+use Rattle.std.proofs.Common.{arith, ap, ◌∙◌, ◌≤◌, ◌+◌, ◌<◌, ◌≡◌, length, None}
 use Rattle.std.specs.Prelude.{IsTrue}
 use Rattle.abt_sections.specs.Layout.{part_of}
 use Rattle.abt_sections.proofs.Digests.{hash_stored, id_is}
@@ -15,7 +15,7 @@ loop-i-preserved g c =
       content = λ tells. e.content tells ∙ i.content tells;
       size = λ tells. e.size tells ∙ i.size tells;
       frame = e.frame ∙ i.frame;
-      faults = omega (arith, e.faults, i.faults);
+      faults = e.clean ∙ i.faults;
       hashed = λ tells.
           hash_stored c.update.new.self _ _ c.args.sections.now c.loop-i.i c.place-place.result (i.content tells) (omega arith) c.place-place.ensures (e.present tells)
           (rw c.to_le_bytes.ensures at (c.update.ensures _ (e.hashed tells _ (i.hashed tells))));
@@ -38,4 +38,4 @@ returns-in-Err-clause-cause g c =
     let last : f c.hash_range.new.source ≤ f c.hash_range.new.source = omega arith in
     read_on c.in-Err.fault (f c.args.source.now) (f now) (f c.hash_range.new.source) (f c.hash_range.new.source)
     (IsTrue s.tells → (0 < p.size → p.at + p.size ≤ length (s.content now)) → ⊥) (IsTrue s.tells → beyond ps (length x) ≡ None → ⊥)
-    v.faults last (λ changed tells there. changed tells (λ some. omega (arith, place_there ps (length x) c.loop-i.i p there (omega arith) c.place-place.ensures some, ap length (v.content tells)))) c.in-Err.ensures.cause
+    (omega (arith, v.faults)) last (λ changed tells there. changed tells (λ some. omega (arith, place_there ps (length x) c.loop-i.i p there (omega arith) c.place-place.ensures some, ap length (v.content tells)))) c.in-Err.ensures.cause

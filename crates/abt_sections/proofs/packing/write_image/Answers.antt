@@ -1,6 +1,5 @@
-use Rattle.std.proofs.Common.{◌≡◌, map}
 use Rattle.abt_headers.specs.Boot.{boot_page, boot_record}
-use Rattle.abt_sections.specs.Layout.{padded, laid}
+use Rattle.abt_sections.specs.Layout.{padded}
 use Rattle.abt_sections.proofs.Growing.{begins_then}
 use Rattle.abt_sections.proofs.packing.write_image.Goals as goal
 

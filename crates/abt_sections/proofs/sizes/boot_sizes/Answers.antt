@@ -1,15 +1,15 @@
-use Rattle.std.proofs.Common.{◌≡◌, ◌≤◌, ◌<◌, ℕ, List, arith, ap, sym, ◌∙◌, Some, length, length-set, map, take, get_or}
+use Rattle.std.proofs.Common.{◌≡◌, ◌≤◌, ℕ, List, arith, ap, sym, ◌∙◌, Some, length, length-set, map, get_or}
 use Rattle.std.proofs.lemmas.List.{length-map, take_all}
 use Rattle.abt_headers.specs.declared.sections.Section.{Section}
 use Rattle.abt_headers.specs.declared.sections.Section.TheVariants.{Kernel}
 use Rattle.abt_sections.specs.declared.fault.SectionFault.TheVariants.{SectionTooLarge}
 use Rattle.abt_sections.specs.Fields.{filled}
-use Rattle.abt_sections.specs.Refusal.{boot_names, size_refusal}
+use Rattle.abt_sections.specs.Refusal.{boot_names}
 use Rattle.abt_sections.proofs.Sizing.{passes, stops, none_left, fill_more, size_at, few}
 use Rattle.abt_sections.proofs.sizes.boot_sizes.Goals as goal
 
-pub returns-then-n : goal.returns-then-n
-returns-then-n g c =
+pub returns-then-n-clause-value : goal.returns-then-n-clause-value
+returns-then-n-clause-value g c =
     let names = boot_names c.args.version in
     let f = g.S.Source.size in
     let ps = c.args.parts.now in
@@ -31,8 +31,8 @@ loop-i-preserved g c =
       filled = fill_more 5 i c.length-n.result (map f ps) c.loop-i.sizes (omega (arith, length-map ps f)) (omega (arith, most)) n c.loop-i.invariant.filled;
     }
 
-pub returns : goal.returns
-returns g c =
+pub returns-clause-value : goal.returns-clause-value
+returns-clause-value g c =
     let all = map g.S.Source.size c.args.parts.now in
     let over : length all ≤ c.loop-i.i = omega (arith, length-map c.args.parts.now g.S.Source.size) in (
       sym c.loop-i.invariant.so_far ∙ none_left (boot_names c.args.version) all c.loop-i.i over,

@@ -1,4 +1,4 @@
-use Rattle.std.proofs.Common.{◌≡◌, ◌≤◌, length, map, take, drop}
+use Rattle.std.proofs.Common.{◌≡◌, length, map, take, drop}
 use Rattle.abt_sections.specs.Fields.{filled}
 use Rattle.abt_sections.specs.Refusal.{boot_names, size_refusal}
 use Rattle.abt_sections.proofs.sizes.boot_sizes.Given as goal

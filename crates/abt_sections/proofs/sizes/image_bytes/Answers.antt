@@ -1,4 +1,4 @@
-use Rattle.std.proofs.Common.{◌≡◌, ◌≤◌, ◌+◌, ◌*◌, ℕ, arith, ap, length}
+use Rattle.std.proofs.Common.{◌*◌, ℕ, arith, ap}
 use Rattle.std.proofs.lemmas.List.Sums.{sum_by_more}
 use Rattle.abt_headers.specs.Page.{pages}
 use Rattle.abt_sections.proofs.sizes.image_bytes.Goals as goal

@@ -1,4 +1,4 @@
-use Rattle.std.proofs.Common.{◌≡◌, ℕ, List, ap, ◌∙◌, length}
+use Rattle.std.proofs.Common.{ℕ, List, ap, ◌∙◌}
 use Rattle.abt_sections.specs.Fields.{filled}
 use Rattle.abt_sections.proofs.Bytes.{back_filled}
 use Rattle.abt_sections.proofs.texts.filled_back.Goals as goal

@@ -1,4 +1,4 @@
-use Rattle.std.proofs.Common.{◌≡◌, ◌<◌, ◌≤◌, ◌+◌, arith, length}
+use Rattle.std.proofs.Common.{arith, length}
 use Rattle.abt_sections.specs.Header.{view_of, places_of}
 use Rattle.abt_sections.proofs.Tables.{place_there}
 use Rattle.abt_sections.proofs.unpacking.unpack.Goals as goal

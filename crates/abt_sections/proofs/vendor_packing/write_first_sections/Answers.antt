@@ -1,9 +1,9 @@
-use Rattle.std.proofs.Common.{◌≡◌, ◌≤◌, ◌++◌, arith, length, map}
+use Rattle.std.proofs.Common.{◌++◌, arith, map}
 use Rattle.std.specs.List.{concat}
 use Rattle.abt_headers.specs.Vendor.{view, vendor_page, vendor_record}
 use Rattle.abt_sections.specs.Layout.{padded}
 use Rattle.abt_sections.proofs.Growing.{begins_then, begins_stop}
-use Rattle.abt_sections.proofs.vendor_packing.write_version_3.Goals as goal
+use Rattle.abt_sections.proofs.vendor_packing.write_first_sections.Goals as goal
 
 pub returns-in-Err-write_vendor_ramdisk-clause-front : goal.returns-in-Err-write_vendor_ramdisk-clause-front
 returns-in-Err-write_vendor_ramdisk-clause-front g c = λ tells.

@@ -1,4 +1,4 @@
-use Rattle.std.proofs.Common.{◌≡◌, ◌≤◌, ◌+◌, ◌++◌, ℕ, List, length, map, take}
+use Rattle.std.proofs.Common.{◌≡◌, ◌+◌, ◌++◌, length, map, take}
 use Rattle.std.specs.Prelude.{IsTrue}
 use Rattle.std.specs.List.{concat}
 use Rattle.abt_sections.specs.Cause.{total}
@@ -11,13 +11,12 @@ invariant-loop-i g l =
     record {
       long : length l.ramdisks ≡ length l.fn.ramdisks;
       content : IsTrue s.tells → map s.content l.ramdisks ≡ map s.content l.fn.ramdisks;
-      size : IsTrue s.tells → map s.size l.ramdisks ≡ map s.size l.fn.ramdisks;
+      lasting : map s.size l.ramdisks ≡ map s.size l.fn.ramdisks;
       frame : map s.read_frame l.ramdisks ≡ map s.read_frame l.fn.ramdisks;
       written : IsTrue s.tells → o.written l.output ≡ o.written l.fn.output ++ concat (take l.i (map s.content l.fn.ramdisks));
-      all : length (o.written l.output) + l.left ≡ length (o.written l.fn.output) + l.size;
-      within : l.left ≤ l.size;
-      left : IsTrue s.tells → l.left + total s.size (take l.i l.fn.ramdisks) ≡ l.size;
+      all : length (o.written l.output) ≡ length (o.written l.fn.output) + total s.size (take l.i l.fn.ramdisks);
       write_frame : o.write_frame l.output ≡ o.write_frame l.fn.output;
-      read_faults : total s.read_faults l.fn.ramdisks ≤ total s.read_faults l.ramdisks;
-      write_faults : o.write_faults l.fn.output ≤ o.write_faults l.output;
+      read_faults : total s.read_faults l.ramdisks ≡ total s.read_faults l.fn.ramdisks;
+      write_faults : o.write_faults l.output ≡ o.write_faults l.fn.output;
+      full_faults : o.full_faults l.output ≡ o.full_faults l.fn.output;
     }

@@ -1,21 +1,12 @@
-use Rattle.std.proofs.Common.{rules, ◌≡◌, ◌≤◌, ◌<◌, ◌+◌, ◌*◌, ◌++◌, ℕ, List, arith, ap, sym, ◌∙◌, length, map, get_or, take}
+use Rattle.std.proofs.Common.{rules, ◌≡◌, ◌+◌, ◌++◌, ℕ, List, arith, ap, sym, ◌∙◌, map, get_or, take}
 use Rattle.std.proofs.lemmas.List.{get_or_default}
 use Rattle.std.proofs.lemmas.List.Sums.{sum_by_more}
 use Rattle.abt_headers.specs.Entry.{entry_record}
-use Rattle.abt_sections.specs.Cause.{total}
 use Rattle.abt_sections.specs.VendorCanon.{table_for}
 use Rattle.abt_sections.proofs.Parts.{get_map}
-use Rattle.abt_sections.proofs.Growing.{begins_then, begins_stop, begins_is, begins_all, then_all}
+use Rattle.abt_sections.proofs.Growing.{begins_then, begins_stop, begins_is, then_all}
 use Rattle.abt_sections.proofs.VendorTables.{table_next, table_front}
 use Rattle.abt_sections.proofs.vendor_packing.write_table.Goals as goal
-
-pub returns-then-n-size-clause-front : goal.returns-then-n-size-clause-front
-returns-then-n-size-clause-front g c =
-    let fs = c.args.fragments.now in
-    let ns = map g.S.Source.size c.args.ramdisks.now in
-    let i = c.loop-i.i in
-    let r = table_front fs ns 0 i in
-    begins_is _ _ _ _ r.1 (begins_stop _ _ (table_for (take i fs) (take i ns) 0) r.0 (begins_all _ _ _ c.loop-i.invariant.written))
 
 pub returns-in-Err-clause-front : goal.returns-in-Err-clause-front
 returns-in-Err-clause-front g c =
@@ -25,10 +16,10 @@ returns-in-Err-clause-front g c =
     let ns = map f ps in
     let i = c.loop-i.i in
     let d = c.index-ramdisks-i.result in
-    let n = c.length-n.ensures.size in
+    let n = c.length-size.ensures.size in
     let t = table_for (take i fs) (take i ns) 0 in
-    let here : get_or ns i c.length-n.result ≡ c.length-n.result = ap (λ (k : ℕ). get_or ns i k) n ∙ get_map f ps i d ∙ ap f (sym c.index-ramdisks-i.is) ∙ sym n in
-    let next = table_next f fs ps i _ c.length-n.result c.loop-i.offset (omega arith) (omega arith) (get_or_default fs i _ _ (omega arith)) here c.loop-i.invariant.offset in
+    let here : get_or ns i c.length-size.result ≡ c.length-size.result = ap (λ (k : ℕ). get_or ns i k) n ∙ get_map f ps i d ∙ ap f (sym c.index-ramdisks-i.is) ∙ sym n in
+    let next = table_next f fs ps i _ c.length-size.result c.loop-i.offset (omega arith) (omega arith) (get_or_default fs i _ _ (omega arith)) here c.loop-i.invariant.offset in
     let r = table_front fs ns 0 (i + 1) in
     begins_is _ _ _ _ r.1
     (begins_stop _ _ (table_for (take (i + 1) fs) (take (i + 1) ns) 0) r.0
@@ -45,18 +36,18 @@ loop-i-preserved g c =
     let ns = map f ps in
     let i = c.loop-i.i in
     let d = c.index-ramdisks-i.result in
-    let n = c.length-n.ensures.size in
+    let n = c.length-size.ensures.size in
     let w0 = g.O.Output.written c.args.output.now in
     let t = table_for (take i fs) (take i ns) 0 in
-    let here : get_or ns i c.length-n.result ≡ c.length-n.result = ap (λ (k : ℕ). get_or ns i k) n ∙ get_map f ps i d ∙ ap f (sym c.index-ramdisks-i.is) ∙ sym n in
-    let next = table_next f fs ps i _ c.length-n.result c.loop-i.offset (omega arith) (omega arith) (get_or_default fs i _ _ (omega arith)) here v.offset in
+    let here : get_or ns i c.length-size.result ≡ c.length-size.result = ap (λ (k : ℕ). get_or ns i k) n ∙ get_map f ps i d ∙ ap f (sym c.index-ramdisks-i.is) ∙ sym n in
+    let next = table_next f fs ps i _ c.length-size.result c.loop-i.offset (omega arith) (omega arith) (get_or_default fs i _ _ (omega arith)) here v.offset in
     record {
-      within = omega arith;
       offset = omega (arith, v.offset, n, ap f c.index-ramdisks-i.is, sum_by_more f ps i d (omega arith));
       written =
           then_all _ _ _ t _ v.written e.ok
           ∙ ap (λ (l : List ℕ). w0 ++ l) (ap (λ (l : List ℕ). t ++ l) (c.encode.ensures.bytes ∙ ap entry_record c.entry_for-entry.ensures) ∙ next);
       all = search rules;
       write_frame = e.frame ∙ v.write_frame;
-      write_faults = omega (arith, v.write_faults, e.faults);
+      write_faults = e.clean ∙ v.write_faults;
+      full_faults = omega (arith, e.full_faults, v.full_faults);
     }

@@ -1,9 +1,10 @@
-use Rattle.std.proofs.Common.{◌≡◌, ◌≤◌, ℕ, List, [], ◌∷◌, ◌+◌, ◌*◌, ◌++◌, append_assoc, append-nil, arith, ap, sym, ◌∙◌, subst, length, length-append, map, get_or}
+use Rattle.std.proofs.Common.{◌≡◌, ℕ, List, [], ◌*◌, ◌++◌, append_assoc, append-nil, arith, ap, sym, ◌∙◌, subst, length, length-append, map, get_or, take}
 use Rattle.std.specs.Prelude.{OnOk}
 use Rattle.abt_sections.specs.Layout.{padded, zeros_behind}
 use Rattle.abt_sections.specs.VendorCanon.{table_for}
-use Rattle.abt_sections.proofs.Growing.{begins_then, begins_stop, begins_is, then_all}
-use Rattle.abt_sections.proofs.vendor_packing.write_version_4.Goals as goal
+use Rattle.abt_sections.proofs.Causes.{on_ok}
+use Rattle.abt_sections.proofs.Growing.{begins_then, begins_stop, begins_is, then_all, still_stands}
+use Rattle.abt_sections.proofs.vendor_packing.write_table_and_bootconfig.Goals as goal
 
 pub returns-in-Err-write_padding-clause-front : goal.returns-in-Err-write_padding-clause-front
 returns-in-Err-write_padding-clause-front g c = λ tells.
@@ -40,3 +41,14 @@ returns-clause-front g c = λ tells.
     let long : get_or c.args.sizes.now 2 0 ≡ length t = omega (arith, ap length e.written, length-append w0 t, e.all, c.requires.table) in
     let first : g.O.Output.written c.write_padding.new.output ≡ w0 ++ padded page t = then_all _ _ _ t _ e.written p.written ∙ ap (λ (k : ℕ). w0 ++ (t ++ zeros_behind k page)) long in
     begins_then _ _ _ (padded page t) (b ++ []) first (begins_is _ _ _ _ (sym (append-nil b)) (c.write_part.ensures.front tells)) c.write_part.ensures.least
+
+pub returns-clause-table : goal.returns-clause-table
+returns-clause-table g c =
+    let page = c.args.page in
+    let t = table_for c.args.fragments.now (map g.S.Source.size c.args.ramdisks.now) 0 in
+    let w0 = g.O.Output.written c.args.output.now in
+    let e = c.in-Ok.ensures in
+    let p = c.in-Ok-write_padding.ensures in
+    let long : length t ≡ 108 * length c.args.fragments.now = omega (arith, ap length e.written, length-append w0 t, e.all) in
+    let whole : g.O.Output.written c.write_padding.new.output ≡ w0 ++ (t ++ zeros_behind (get_or c.args.sizes.now 2 0) page) = then_all _ _ _ t _ e.written p.written in
+    on_ok c.write_part.result (still_stands w0 t (zeros_behind (get_or c.args.sizes.now 2 0) page) _ _ long (subst (λ (l : List ℕ). take (length l) (g.O.Output.written c.write_part.new.output) ≡ l) whole c.write_part.ensures.grown))

@@ -1,4 +1,4 @@
-use Rattle.std.proofs.Common.{◌≡◌, ℕ, ◌+◌, ◌++◌, ap, sym, arith, length, length-append, map}
+use Rattle.std.proofs.Common.{◌≡◌, ℕ, ◌++◌, ap, arith, length, length-append, map}
 use Rattle.std.specs.List.{concat}
 use Rattle.abt_sections.specs.Layout.{zeros_behind}
 use Rattle.abt_sections.proofs.Growing.{begins_then, begins_is}

@@ -1,4 +1,4 @@
-use Rattle.std.proofs.Common.{◌≡◌, ℕ, ◌++◌, ap, sym}
+use Rattle.std.proofs.Common.{ℕ, ◌++◌, ap, sym}
 use Rattle.abt_sections.specs.Layout.{zeros_behind}
 use Rattle.abt_sections.proofs.Growing.{begins_then, begins_is}
 use Rattle.abt_sections.proofs.writing.write_part.Goals as goal

@@ -1,4 +1,4 @@
-use Rattle.std.proofs.Common.{◌≡◌, ◌≤◌, ◌+◌, ◌*◌, ℕ, List, arith, ap, sym, ◌∙◌, length, length-set, map, get_or, set, take, drop, ◌++◌}
+use Rattle.std.proofs.Common.{◌≡◌, ◌≤◌, ◌+◌, ◌*◌, ℕ, List, arith, ap, ◌∙◌, length, length-set, map, get_or, take, drop, ◌++◌}
 use Rattle.std.specs.Prelude.{IsTrue}
 use Rattle.std.proofs.lemmas.List.Sums.{sum_by-set, sum_by_more}
 use Rattle.abt_headers.specs.Page.{pages}
@@ -9,7 +9,7 @@ use Rattle.abt_sections.proofs.Causes.{part_move}
 use Rattle.abt_sections.proofs.Growing.{begins_then, begins_stop, begins_is}
 use Rattle.abt_sections.proofs.Growing as growing
 use Rattle.abt_sections.proofs.Layouts.{laid_next, laid_at, laid_less}
-use Rattle.abt_sections.proofs.Parts.{kept, next_part, part_size}
+use Rattle.abt_sections.proofs.Parts.{kept, next_part, part_size, sizes_next}
 use Rattle.abt_sections.proofs.writing.write_parts.Goals as goal
 
 pub returns-in-Err-clause-front : goal.returns-in-Err-clause-front
@@ -44,7 +44,7 @@ returns-in-Err-clause-cause g c =
     let last : o.write_faults c.write_part.new.output ≤ o.write_faults c.write_part.new.output = omega arith in
     part_move s.read_faults ps c.loop-i.i (total s.read_faults c.args.parts.now) (o.write_faults c.args.output.now) (o.write_faults c.loop-i.output) (o.write_faults c.write_part.new.output) (o.write_faults c.write_part.new.output) d c.write_part.new.part c.in-Err.fault
     (IsTrue s.tells → s.size (get_or ps c.loop-i.i d) ≡ get_or c.args.sizes.now c.loop-i.i 0 → ⊥) (IsTrue s.tells → c.args.sizes.now ≡ filled 5 (map s.size c.args.parts.now) → ⊥)
-    (omega arith) v.read_faults v.write_faults last (λ changed tells same. changed tells (part_size s.size ps c.args.parts.now c.loop-i.i d c.args.sizes.now (v.size tells) same (omega arith))) c.in-Err.ensures.cause
+    (omega arith) (omega (arith, v.read_faults)) (omega (arith, v.write_faults)) last (λ changed tells same. changed tells (part_size s.size ps c.args.parts.now c.loop-i.i d c.args.sizes.now (v.size tells) same (omega arith))) c.in-Err.ensures.cause
 
 pub loop-i-preserved : goal.loop-i-preserved
 loop-i-preserved g c =
@@ -69,6 +69,20 @@ loop-i-preserved g c =
           growing.then_all _ _ _ (laid page (take i all)) (padded page b) (v.written tells) (e.written tells) ∙ ap (λ (l : List ℕ). g.O.Output.written c.args.output.now ++ l) (laid_next page all b i next);
       all = omega (arith, v.all, e.all, sum_by_more p c.args.sizes.now i 0 (omega arith));
       write_frame = e.write_frame ∙ v.write_frame;
-      read_faults = omega (arith, v.read_faults, sum_by-set s.read_faults ps i new d (omega arith), e.read_faults);
-      write_faults = omega (arith, v.write_faults, e.write_faults);
+      read_faults = omega (arith, v.read_faults, sum_by-set s.read_faults ps i new d (omega arith), e.clean);
+      write_faults = omega (arith, v.write_faults, e.clean);
+      full_faults = e.full_faults ∙ omega (arith, v.full_faults);
+      lasting = sizes_next s.size ps i new c.args.sizes.now (omega arith) (omega arith) v.lasting e.lasting.1;
     }
+
+pub returns-in-Err-clause-size : goal.returns-in-Err-clause-size
+returns-in-Err-clause-size g c = λ tells.
+    kept g.S.Source.size c.loop-i.parts c.loop-i.i c.index-parts-i.result c.write_part.new.part (c.in-Err.ensures.size tells) ∙ c.loop-i.invariant.size tells
+
+pub returns-in-Err-clause-frame : goal.returns-in-Err-clause-frame
+returns-in-Err-clause-frame g c =
+    kept g.S.Source.read_frame c.loop-i.parts c.loop-i.i c.index-parts-i.result c.write_part.new.part c.in-Err.ensures.frame ∙ c.loop-i.invariant.frame
+
+pub returns-in-Err-clause-content : goal.returns-in-Err-clause-content
+returns-in-Err-clause-content g c = λ tells.
+    kept g.S.Source.content c.loop-i.parts c.loop-i.i c.index-parts-i.result c.write_part.new.part (c.in-Err.ensures.content tells) ∙ c.loop-i.invariant.content tells

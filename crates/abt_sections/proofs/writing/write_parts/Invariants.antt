@@ -1,4 +1,4 @@
-use Rattle.std.proofs.Common.{◌≡◌, ◌≤◌, ◌+◌, ◌++◌, ℕ, List, length, map, take}
+use Rattle.std.proofs.Common.{◌≡◌, ◌+◌, ◌++◌, length, map, take}
 use Rattle.std.specs.Prelude.{IsTrue}
 use Rattle.abt_sections.specs.Cause.{total}
 use Rattle.abt_sections.specs.Layout.{laid, laid_size}
@@ -15,7 +15,9 @@ invariant-loop-i g l =
       frame : map s.read_frame l.parts ≡ map s.read_frame l.fn.parts;
       written : IsTrue s.tells → o.written l.output ≡ o.written l.fn.output ++ laid l.page (take l.i (map s.content l.fn.parts));
       all : length (o.written l.output) ≡ length (o.written l.fn.output) + laid_size l.page (take l.i l.sizes);
+      lasting : take l.i (map s.size l.parts) ≡ take l.i l.sizes;
       write_frame : o.write_frame l.output ≡ o.write_frame l.fn.output;
-      read_faults : total s.read_faults l.fn.parts ≤ total s.read_faults l.parts;
-      write_faults : o.write_faults l.fn.output ≤ o.write_faults l.output;
+      read_faults : total s.read_faults l.parts ≡ total s.read_faults l.fn.parts;
+      write_faults : o.write_faults l.output ≡ o.write_faults l.fn.output;
+      full_faults : o.full_faults l.output ≡ o.full_faults l.fn.output;
     }

@@ -1,4 +1,3 @@
-use Rattle.std.proofs.Common.{◌≡◌}
 use Rattle.abt_sections.proofs.Growing.{begins_then}
 use Rattle.abt_sections.proofs.writing.write_record.Goals as goal
 
