@@ -1,7 +1,8 @@
 # make            proves and builds the program, and leaves it as build/abootimg
 # make run        the same, and runs its main job, on the image that it holds
 # make test       the gate: every proof from nothing, the edits that must fail, the tests, the claims and the examples
-# make install    copies the program and its manual page below PREFIX (by default /usr/local); proves nothing
+# make lib        proves and builds the C library, and leaves it as build/libabootimg.a
+# make install    copies what was built (program, manual page, C library) below PREFIX (/usr/local); proves nothing
 # make man        writes the manual page build/abootimg.1 from docs/COMMANDS.md
 # make compare    compares the commands with AOSP's tools, byte for byte
 # make bench      times the commands against AOSP's tools (needs 8 GiB of disk)
@@ -17,12 +18,14 @@ PREFIX ?= /usr/local
 DESTDIR ?=
 PROGRAM = build/abootimg
 MANUAL = build/abootimg.1
+LIBRARY = build/libabootimg.a
+VERSION = 0.1.0
 
 # All that the program is made from, so that with no change since nothing is proved and rt is not called.
 SOURCES := $(shell find crates -name out -prune -o -name must-fail -prune -o \
 	-type f \( -name '*.rt' -o -name '*.antt' \) -print)
 
-.PHONY: all run test install man compare bench clean help
+.PHONY: all run lib test install install-lib man compare bench clean help
 
 all: $(PROGRAM) $(MANUAL)
 
@@ -38,6 +41,13 @@ $(MANUAL): docs/COMMANDS.md tools/make_man.py
 run: $(PROGRAM)
 	$(PROGRAM)
 
+lib: $(LIBRARY)
+
+$(LIBRARY): crates.txt $(SOURCES)
+	tools/prove.py --rt $(RT) --jobs $(JOBS) abt_c
+	@mkdir -p build
+	@install -m 644 crates/abt_c/out/libabt_c.a $(LIBRARY)
+
 test:
 	@tools/test.py --rt $(RT)
 
@@ -48,6 +58,14 @@ install: $(MANUAL)
 	install -d $(DESTDIR)$(PREFIX)/bin $(DESTDIR)$(PREFIX)/share/man/man1
 	install -m 755 $(PROGRAM) $(DESTDIR)$(PREFIX)/bin/abootimg
 	install -m 644 $(MANUAL) $(DESTDIR)$(PREFIX)/share/man/man1/abootimg.1
+	@test ! -f $(LIBRARY) || $(MAKE) --no-print-directory install-lib
+
+install-lib:
+	install -d $(DESTDIR)$(PREFIX)/include $(DESTDIR)$(PREFIX)/lib/pkgconfig
+	install -m 644 $(LIBRARY) $(DESTDIR)$(PREFIX)/lib/libabootimg.a
+	install -m 644 include/abootimg.h $(DESTDIR)$(PREFIX)/include/abootimg.h
+	sed -e 's,@PREFIX@,$(PREFIX),' -e 's,@VERSION@,$(VERSION),' include/abootimg.pc.in \
+		> $(DESTDIR)$(PREFIX)/lib/pkgconfig/abootimg.pc
 
 compare: $(PROGRAM)
 	ABOOTIMG=$(PROGRAM) tools/compare_simg2img.sh

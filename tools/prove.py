@@ -1,7 +1,7 @@
 #!/usr/bin/env python3
-"""Proves and builds the program and every crate that it stands on, as many crates at once as processors and memory hold.
+"""Proves and builds crates and every crate that they stand on, as many at once as processors and memory hold.
 
-  tools/prove.py [--rt rt] [--jobs N] [--memory MIB] [PROGRAM]       PROGRAM is the crate abootimg
+  tools/prove.py [--rt rt] [--jobs N] [--memory MIB] [CRATE ..]       without a CRATE the program abootimg
 
 `rt` locks each crate that a crate stands on, so two runs of it in one tree wait for each other. Here each crate is proved
 in a folder of its own below build/proving: its sources, the built libraries below it (linked, not copied), and its own `out`,
@@ -223,16 +223,19 @@ def main():
     parser.add_argument("--rt", default=os.environ.get("RT", "rt"))
     parser.add_argument("--jobs", type=int, default=0)
     parser.add_argument("--memory", type=int, default=2200)
-    parser.add_argument("program", nargs="?", default="abootimg")
+    parser.add_argument("crates", nargs="*", metavar="CRATE")
     words = parser.parse_args()
+    words.crates = words.crates or ["abootimg"]
     if not shutil.which(words.rt):
         sys.exit(f"{words.rt} is not there: the Rattle toolchain's command must be on the path")
     signal.signal(signal.SIGTERM, lambda *_: sys.exit(143))
     try:
         lines, uses = crate_lines()
-        if words.program not in lines:
-            sys.exit(f"crates.txt has no crate {words.program}")
-        wanted = [*below(words.program, uses), words.program]
+        wanted = []
+        for name in words.crates:
+            if name not in lines:
+                sys.exit(f"crates.txt has no crate {name}")
+            wanted += [it for it in [*below(name, uses), name] if it not in wanted]
         held = [locked(name) for name in sorted(wanted)]
         put_back()
         prove(words, lines, uses, wanted)

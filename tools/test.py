@@ -1,11 +1,12 @@
 #!/usr/bin/env python3
 """The gate: `rt ci`, and then the scripts that hold the documents and the built program to what they say.
 
-  tools/test.py [--rt rt] [--program FILE]      (--program: the scripts alone, on a program that was built before)
+  tools/test.py [--rt rt] [--program FILE]      (--program: the scripts alone, on what was built before)
 
 `rt ci` proves every crate from nothing, tries the must-fail edits, runs the tests, and leaves the program that it built as
-crates/abootimg/out/abootimg. Each script then runs on that program and ends in a line 'N passed, M failed'. The last line of
-all is the sum of these. The exit status is 0 where nothing failed.
+crates/abootimg/out/abootimg. Each script then runs on that program and ends in a line 'N passed, M failed'. The C library,
+which `rt ci` proves and does not build, is built for the script that tries it, where there are compilers of C and C++. The
+last line of all is the sum of these. The exit status is 0 where nothing failed.
 """
 import argparse
 import os
@@ -19,7 +20,8 @@ from prove import put_back
 
 HERE = os.path.dirname(os.path.dirname(os.path.abspath(__file__)))
 BUILT = os.path.join(HERE, "crates", "abootimg", "out", "abootimg")
-LAST = re.compile(r"(\d+) passed, (\d+) failed")
+LAST = re.compile(r"(?:[\w ]+: )?(\d+) passed, (\d+) failed")
+LIBRARY = os.path.join(HERE, "build", "libabootimg.a")
 
 # Each script, and whether it runs the program.
 SCRIPTS = (
@@ -56,6 +58,27 @@ def followed(words, name, **how):
     return passed, failed
 
 
+def library_tried(rt, builds, program):
+    """Builds the C library, and tries it beside the program."""
+    script = "tools/try_c_library.sh"
+    compilers = [os.environ.get("CC", "cc"), os.environ.get("CXX", "c++")]
+    lacking = [it for it in compilers if not shutil.which(it)]
+    if lacking:
+        print(f"== {script}: not run, since there is no {lacking[0]}")
+        return 0, 0
+    if builds:
+        made = subprocess.run([os.path.join(HERE, "tools/prove.py"), "--rt", rt, "abt_c"], stderr=subprocess.STDOUT)
+        if made.returncode:
+            print(f"== {script}: not run, since the library was not built")
+            return 0, 1
+        os.makedirs(os.path.dirname(LIBRARY), exist_ok=True)
+        shutil.copy(os.path.join(HERE, "crates", "abt_c", "out", "libabt_c.a"), LIBRARY)
+    if not os.path.isfile(LIBRARY):
+        print(f"== {script}: not run, since there is no {os.path.relpath(LIBRARY, HERE)}")
+        return 0, 0
+    return followed([os.path.join(HERE, script), LIBRARY, program], script)
+
+
 def main():
     parser = argparse.ArgumentParser(description=__doc__, formatter_class=argparse.RawDescriptionHelpFormatter)
     parser.add_argument("--rt", default=os.environ.get("RT", "rt"))
@@ -76,6 +99,8 @@ def main():
         else:
             environment = {**os.environ, "ABOOTIMG": program, "PYTHONDONTWRITEBYTECODE": "1"}
             counts.append(followed([os.path.join(HERE, script)], script, env=environment))
+    if os.path.exists(os.path.join(HERE, "tools/try_c_library.sh")) and os.access(program, os.X_OK):
+        counts.append(library_tried(words.rt, not words.program, program))
     passed, failed = (sum(it) for it in zip(*counts))
     if not words.program and not failed:
         os.makedirs(os.path.join(HERE, "build"), exist_ok=True)
