@@ -106,7 +106,7 @@ def definition(crate, file, name):
 def contract(crate, function):
     """The names of the clauses of a public function, '-' for one without a name, or None where there is no such function."""
     owner, _, name = function.rpartition("::")
-    head = re.compile(rf"(\s*)(?:pub (?:const )?|final )?fn {re.escape(name)}\b")
+    head = re.compile(rf"(\s*)(?:pub (?:const )?(?:extern \"C\" )?|final )?fn {re.escape(name)}\b")
     for path in sorted(glob.glob(os.path.join(HERE, "crates", crate, "src", "**", "*.rt"), recursive=True)):
         inside = ""
         text = lines_of(os.path.relpath(path, HERE))
