@@ -2,7 +2,7 @@
 use Rattle.std.proofs.Common.{◌≡◌, ℕ, zero, suc, List, [], ◌∷◌, length, take, replicate, refl, ap, ◌∙◌, arith}
 use Rattle.std.specs.List.{AllByRecursion}
 use Rattle.std.proofs.lemmas.List.{take_all}
-use Rattle.abt_sparse.specs.Block.{Block, Raw, Fill, Skip}
+use Rattle.abt_sparse.specs.Block.{Block, Fill, Skip}
 use Rattle.abt_runs.specs.Part.{IsRaw, AllOf}
 use Rattle.abt_runs.specs.declared.part.RunKind.{RunKind}
 use Rattle.abt_runs.specs.declared.part.RunKind.TheVariants as kinds

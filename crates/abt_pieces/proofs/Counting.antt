@@ -1,17 +1,17 @@
 -- The numbers of a piece, counted from left to right part by part.
-use Rattle.std.proofs.Common.{◌≡◌, ℕ, zero, suc, ◌+◌, ◌-◌, ◌*◌, ◌<◌, ◌≤◌, Bool, true, false, List, [], ◌∷◌, ◌++◌, length, map, replicate, take, drop, refl, sym, ap, subst, ◌∙◌, append_assoc, append-nil, arith, inl, inr, if◌then◌else◌, ◌==◌, length-append}
-use Rattle.std.proofs.lemmas.Bool.{cases_Bool, eqb-false}
+use Rattle.std.proofs.Common.{◌≡◌, ℕ, zero, suc, ◌+◌, ◌<◌, true, false, List, [], ◌∷◌, ◌++◌, length, replicate, refl, sym, ap, ◌∙◌, arith, inl, inr}
+use Rattle.std.proofs.lemmas.Bool.{cases_Bool}
 use Rattle.abt_sparse.specs.Block.{Block, Raw, Fill, Skip, AreBlocks}
-use Rattle.abt_sparse.specs.Runs.{runs, alike, grouped}
+use Rattle.abt_sparse.specs.Runs.{runs, alike}
 use Rattle.abt_sparse.specs.Chunk.{piece}
-use Rattle.abt_sparse.proofs.Weights.{runs_head, grouped-apart, grouped-alike, total, step, full, more}
+use Rattle.abt_sparse.proofs.Weights.{runs_head, grouped-apart, grouped-alike, total, step, full}
 use Rattle.abt_sparse.proofs.Lengths.{length-piece}
-use Rattle.abt_runs.specs.Part.{AllOf, is_end}
+use Rattle.abt_runs.specs.Part.{AllOf}
 use Rattle.abt_runs.specs.declared.part.RunKind.{RunKind}
 use Rattle.abt_runs.specs.declared.part.RunKind.TheVariants as kinds
 use Rattle.abt_runs.specs.Whole.{alike_kinds}
 use Rattle.abt_pieces.specs.declared.contents.Contents.{Contents}
-use Rattle.abt_pieces.specs.Contents.{kind_of, opens, opens_len, head_len, data_len, held, with_part, contents_before, counts, sizes, written_in, last_of, IsContents}
+use Rattle.abt_pieces.specs.Contents.{kind_of, opens, opens_len, data_len, held, with_part, contents_before, counts, sizes, written_in, last_of, IsContents}
 use Rattle.abt_pieces.specs.Plan.{last_kind}
 use Rattle.abt_pieces.specs.declared.tail.Tail.TheVariants as tails
 use Rattle.abt_runs.proofs.Alike.{kind_is, alike_is, self_alike, tail_of_all}

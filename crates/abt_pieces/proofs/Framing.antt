@@ -1,10 +1,9 @@
 -- The blocks of a piece, and the parts of the image in it.
-use Rattle.std.proofs.Common.{◌≡◌, ℕ, zero, suc, ◌+◌, ◌-◌, ◌<◌, ◌≤◌, Bool, true, false, IsTrue, List, [], ◌∷◌, ◌++◌, length, take, drop, replicate, refl, sym, ap, subst, ◌∙◌, append_assoc, append-nil, arith, inl, inr, length-append, length-drop, ◌⊎◌}
-use Rattle.std.proofs.lemmas.Bool.{cases_Bool}
+use Rattle.std.proofs.Common.{◌≡◌, ℕ, zero, suc, ◌+◌, ◌-◌, ◌<◌, ◌≤◌, true, false, List, [], ◌∷◌, ◌++◌, length, take, drop, replicate, refl, sym, ap, subst, ◌∙◌, append_assoc, arith, inl, inr, length-append, length-drop, ◌⊎◌}
 use Rattle.std.proofs.lemmas.List.{drop-drop, length-take-le, take-take, length-replicate, take-append-le, drop-append-le, take_all, take-append-drop}
-use Rattle.std.proofs.Math.Seq.{take-add, drop-append-add}
-use Rattle.abt_sparse.specs.Block.{Block, Raw, Fill, Skip}
-use Rattle.abt_sparse.specs.Runs.{runs, framed}
+use Rattle.std.proofs.Math.Seq.{drop-append-add}
+use Rattle.abt_sparse.specs.Block.{Block, Skip}
+use Rattle.abt_sparse.specs.Runs.{runs}
 use Rattle.abt_runs.specs.Part.{AllOf, PartOf, is_end}
 use Rattle.abt_runs.specs.declared.part.Run.{Run}
 use Rattle.abt_runs.specs.declared.part.RunKind.{RunKind}

@@ -1,6 +1,6 @@
 -- What is written is a front of what was to come, call after call.
-use Rattle.std.proofs.Common.{◌≡◌, ℕ, ◌+◌, ◌-◌, ◌≤◌, ◌<◌, min, List, [], ◌∷◌, ◌++◌, length, take, drop, refl, sym, ap, ◌∙◌, append_assoc, append-nil, arith, length-append, length-drop, Bool, true, false, IsTrue, Option, Some, None, ◌⊎◌, inl, inr}
-use Rattle.std.proofs.lemmas.List.{drop-drop, length-take, length-take-le, take-append-le, take_all}
+use Rattle.std.proofs.Common.{◌≡◌, ℕ, ◌+◌, ◌-◌, ◌≤◌, ◌<◌, List, [], ◌∷◌, ◌++◌, length, take, drop, refl, sym, ap, ◌∙◌, append_assoc, append-nil, arith, length-append, length-drop, Bool, true, false, IsTrue, ◌⊎◌, inl, inr}
+use Rattle.std.proofs.lemmas.List.{drop-drop, length-take, take-append-le, take_all}
 use Rattle.std.proofs.Math.Seq.{take-add, take-append_seam, drop-append_seam}
 use Rattle.abt_runs.specs.Part.{Caused}
 use Rattle.abt_runs.specs.declared.part.RunFault.{RunFault}

@@ -1,16 +1,13 @@
 -- A gatherer with a part more.
-use Rattle.std.proofs.Common.{◌≡◌, ℕ, zero, suc, ◌+◌, ◌-◌, ◌<◌, ◌≤◌, nat_lt, Bool, true, false, IsTrue, IfSome, IfNone, Option, Some, None, List, [], ◌∷◌, ◌++◌, length, take, drop, refl, sym, ap, subst, ◌∙◌, arith, inl, inr, ◌⊎◌, ◌==◌, ◌&&◌, not}
+use Rattle.std.proofs.Common.{◌≡◌, ℕ, ◌+◌, ◌<◌, ◌≤◌, nat_lt, true, false, IfSome, IfNone, Some, None, List, length, refl, sym, ap, ◌∙◌, arith, inl, inr, ◌⊎◌, ◌==◌, ◌&&◌, not}
 use Rattle.std.proofs.lemmas.Bool.{cases_Bool, eqb-true, eqb-false, ltb-true, ltb-false}
 use Rattle.abt_sparse.specs.Block.{Block}
-use Rattle.abt_sparse.specs.Runs.{runs}
-use Rattle.abt_runs.specs.Part.{AllOf, PartOf, is_end}
+use Rattle.abt_runs.specs.Part.{PartOf, is_end}
 use Rattle.abt_runs.specs.declared.part.Cursor.{Cursor}
 use Rattle.abt_runs.specs.declared.part.Run.{Run}
-use Rattle.abt_runs.specs.declared.part.RunKind.{RunKind}
 use Rattle.abt_runs.specs.declared.part.RunKind.TheVariants as kinds
-use Rattle.abt_pieces.specs.Plan.{between}
 use Rattle.abt_runs.specs.Whole.{alike_kinds}
-use Rattle.abt_pieces.specs.Gather.{frame, Gathered, Closed, ClosedRun, RawFrom, SoundGatherer, ToldGatherer, begun_with, gathered_on, look_left}
+use Rattle.abt_pieces.specs.Gather.{frame, Gathered, Closed, ClosedRun, SoundGatherer, ToldGatherer, begun_with, gathered_on, look_left}
 use Rattle.abt_pieces.specs.declared.gather.Gatherer.{Gatherer}
 use Rattle.abt_runs.proofs.Alike.{alike_same}
 use Rattle.abt_pieces.proofs.Framing.{gather_more, gather_still, gather_begun, first_closed}

@@ -1,21 +1,20 @@
 -- A writer that goes on: with a run's chunk begun, with a part of a raw run found, with bytes copied.
-use Rattle.std.proofs.Common.{◌≡◌, ℕ, zero, suc, ◌+◌, ◌-◌, ◌*◌, ◌<◌, ◌≤◌, Bool, true, false, List, [], ◌∷◌, ◌++◌, length, map, take, drop, refl, sym, ap, subst, ◌∙◌, append_assoc, append-nil, arith, inl, inr, ◌⊎◌, length-append, length-drop, mul-le-mul_left, Option, Some, None, Result, Ok, Err, OnOk, IfErr, IsTrue, ◌^◌, nat_lt, ◌==◌, ◌&&◌, not}
+use Rattle.std.proofs.Common.{◌≡◌, ℕ, suc, ◌+◌, ◌-◌, ◌*◌, ◌<◌, ◌≤◌, Bool, true, false, List, [], ◌∷◌, ◌++◌, length, take, drop, refl, sym, ap, subst, ◌∙◌, arith, inl, inr, ◌⊎◌, length-append, length-drop, mul-le-mul_left, Option, Some, None, Result, Ok, Err, OnOk, IfErr, IsTrue, ◌^◌, nat_lt, ◌==◌, ◌&&◌, not}
 use Rattle.std.proofs.lemmas.Bool.{cases_Bool, eqb-true, eqb-false, ltb-true, ltb-false}
-use Rattle.std.proofs.lemmas.List.{drop-drop, length-take-le, take-take, take-append-le, drop-append-le, take_all, take-append-drop}
-use Rattle.std.proofs.Math.Seq.{take-add, drop-append-add, drop-append_seam}
+use Rattle.std.proofs.lemmas.List.{drop-drop, length-take-le, take-take, take-append-le, drop-append-le}
 use Rattle.std.proofs.Math.ListN.{drop_of_length-le}
-use Rattle.abt_sparse.specs.Block.{Block, Raw, Fill, Skip, AreBlocks}
+use Rattle.abt_sparse.specs.Block.{Block, AreBlocks}
 use Rattle.abt_sparse.specs.Runs.{runs}
 use Rattle.abt_runs.specs.Part.{AllOf, PartOf, is_end, raw_of}
 use Rattle.abt_runs.specs.declared.part.Cursor.{Cursor}
 use Rattle.abt_runs.specs.declared.part.Run.{Run}
 use Rattle.abt_runs.specs.declared.part.RunKind.{RunKind}
 use Rattle.abt_runs.specs.declared.part.RunKind.TheVariants as kinds
-use Rattle.abt_runs.proofs.Alike.{kind_of, kind_is}
+use Rattle.abt_runs.proofs.Alike.{kind_is}
 use Rattle.abt_pieces.specs.Plan.{between}
 use Rattle.abt_pieces.specs.Contents.{head_len, data_len}
 use Rattle.abt_pieces.specs.Gather.{frame, Closed, ClosedRun, RawFrom, SoundGatherer, ToldGatherer, look_left}
-use Rattle.abt_pieces.specs.Write.{front_bytes, chunks_of, chunk_len, begins, to_copy, rest_of, frame_of, IsCopying, SoundCopying, SoundWriter, ToldCopy, ToldCopying, ToldWriter, starts, chunk_begun, ChunkCause, raw_part, next_copying, copied_on, copy_left, write_left, passed_to}
+use Rattle.abt_pieces.specs.Write.{front_bytes, chunks_of, chunk_len, begins, to_copy, rest_of, frame_of, IsCopying, SoundCopying, SoundWriter, ToldCopy, ToldCopying, ToldWriter, starts, chunk_begun, ChunkCause, next_copying, copied_on, copy_left, write_left, passed_to}
 use Rattle.abt_pieces.specs.declared.gather.Gatherer.{Gatherer}
 use Rattle.abt_pieces.specs.declared.write.Copying.{Copying}
 use Rattle.abt_pieces.specs.declared.write.Writer.{Writer}
@@ -24,7 +23,7 @@ use Rattle.abt_pieces.specs.Fault.{HasCause}
 use Rattle.abt_pieces.proofs.Fronts.{wrote_rest, chunk_cause}
 use Rattle.abt_pieces.proofs.Classes.{all_take}
 use Rattle.abt_pieces.proofs.Framing.{frame_take, length-frame}
-use Rattle.abt_pieces.proofs.Writing.{blocks_take, blocks_drop, run_data, front_long, data_long, first_chunk, between_two, raw_back, raw_front, raw_long, raw_behind, raw_within, frame_blocks}
+use Rattle.abt_pieces.proofs.Writing.{blocks_take, blocks_drop, run_data, front_long, data_long, first_chunk, raw_back, raw_front, raw_long, raw_behind, raw_within, frame_blocks}
 
 -- ---- a chunk that begins
 

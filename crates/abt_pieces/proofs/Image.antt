@@ -1,10 +1,10 @@
 -- What is written of a piece leads to a sparse image, whatever the source gave.
 use Rattle.std.proofs.Common.{◌≡◌, ℕ, zero, suc, ◌+◌, ◌-◌, ◌*◌, ◌^◌, ◌<◌, ◌≤◌, Bool, true, false, List, [], ◌∷◌, ◌++◌, length, refl, sym, ap, subst, ◌∙◌, append_assoc, append-nil, arith, length-append, length-take, length-drop, take-append-drop, take, drop, ◌%◌, not, Option, Some, None, Result, Ok, Err, OnOk, IfOk, ◌==◌, ◌&&◌, inl, inr, ◌⊎◌}
-use Rattle.std.specs.List.{flat_map, concat, AllByRecursion}
+use Rattle.std.specs.List.{concat, AllByRecursion}
 use Rattle.std.proofs.lemmas.List.{take_all}
-use Rattle.std.proofs.lemmas.Bool.{cases_Bool, eqb-true, eqb-false}
+use Rattle.std.proofs.lemmas.Bool.{cases_Bool, eqb-true}
 use Rattle.abt_sparse.specs.Block.{split}
-use Rattle.abt_sparse.specs.Chunk.{Header, Chunk, Raws, Fills, Skips, Crc, IsChunk, count, data_of, plain, plain_header, header_record, image_of}
+use Rattle.abt_sparse.specs.Chunk.{Header, Chunk, Raws, Fills, Skips, count, data_of, plain, plain_header, header_record, image_of}
 use Rattle.abt_sparse.specs.Fails.{Spells, counted_in}
 use Rattle.abt_sparse.proofs.ChunkLaws.{length-split}
 use Rattle.abt_sparse.proofs.PieceLaws.{CanWrite, image_spells}
@@ -14,7 +14,7 @@ use Rattle.abt_runs.specs.declared.part.Run.{Run}
 use Rattle.abt_runs.specs.declared.part.RunKind.{RunKind}
 use Rattle.abt_runs.specs.declared.part.RunKind.TheVariants as kinds
 use Rattle.abt_pieces.specs.Contents.{head_len, data_len}
-use Rattle.abt_pieces.specs.Gather.{ClosedRun, SoundGatherer, first_gatherer}
+use Rattle.abt_pieces.specs.Gather.{ClosedRun, SoundGatherer}
 use Rattle.abt_pieces.specs.Write.{begins, front_bytes, chunk_len, chunk_begun, starts, copied_on, next_copying, raw_part, SoundWriter}
 use Rattle.abt_pieces.specs.Cutter.{first_writer, is_begun, has_failed, OnMore}
 use Rattle.abt_pieces.specs.Image.{Appended, Leads, IsImage, IsPlain, AreChunks, MayCome, StageMayCome, copy_to_come}

@@ -12,3 +12,4 @@ pub mod Spending
 pub mod Stepping
 pub mod SpendingStages
 pub mod Image
+pub mod Turning

@@ -1,11 +1,11 @@
 -- What a planner's numbers are of the blocks that it has passed.
-use Rattle.std.proofs.Common.{◌≡◌, ℕ, zero, suc, ◌+◌, ◌-◌, ◌*◌, ◌/◌, ◌%◌, ◌<◌, ◌≤◌, nat_lt, nat_le, Bool, true, false, IsTrue, List, [], ◌∷◌, ◌++◌, length, take, drop, replicate, refl, sym, ap, subst, ◌∙◌, append_assoc, append-nil, arith, inl, inr, bytes_eq, length-drop, mul-le-mul_left, le-leb, leb-true, ltb-false, ◌⊎◌, ◌==◌}
+use Rattle.std.proofs.Common.{◌≡◌, ℕ, zero, suc, ◌+◌, ◌-◌, ◌*◌, ◌/◌, ◌%◌, ◌<◌, ◌≤◌, nat_lt, nat_le, Bool, false, List, [], ◌∷◌, ◌++◌, length, take, drop, replicate, refl, sym, ap, ◌∙◌, append_assoc, append-nil, arith, inl, inr, bytes_eq, length-drop, mul-le-mul_left, le-leb, leb-true, ltb-false, ◌⊎◌, ◌==◌}
 use Rattle.std.specs.List.{AllByRecursion}
 use Rattle.std.proofs.lemmas.Bool.{cases_Bool, lt-leb, eqb-false, ltb-true}
 use Rattle.std.proofs.lemmas.List.{drop-drop, length-take-le, length-replicate}
 use Rattle.std.proofs.Math.Seq.{take-add}
 use Rattle.abt_sparse.specs.Block.{Block, Raw, Fill, Skip, AreBlocks}
-use Rattle.abt_sparse.specs.Runs.{runs, framed, weight, alike, greedy, tail_parts}
+use Rattle.abt_sparse.specs.Runs.{runs, framed, weight, tail_parts}
 use Rattle.abt_sparse.specs.Gains.{Behind, Fresh, After, moved, gain, gains, behind_all}
 use Rattle.abt_sparse.proofs.Gains.{gains-append, weight_gains}
 use Rattle.abt_sparse.proofs.RunLaws.{bytes_same}

@@ -1,12 +1,11 @@
 -- What writing a piece reads, step by step.
-use Rattle.std.proofs.Common.{◌≡◌, ◌==◌, if◌then◌else◌, ℕ, zero, suc, ◌+◌, ◌-◌, ◌*◌, ◌<◌, ◌≤◌, nat_lt, min, Bool, true, false, refl, sym, ap, subst, ◌∙◌, arith, inl, inr, ◌⊎◌, mul-le-mul_right, Option, Some, None, Result, Ok, Err, OnOk, IfOk}
+use Rattle.std.proofs.Common.{◌≡◌, ◌==◌, ℕ, zero, suc, ◌+◌, ◌-◌, ◌*◌, ◌<◌, ◌≤◌, nat_lt, true, refl, sym, ap, subst, ◌∙◌, arith, inl, inr, mul-le-mul_right, Some, None, Result, Ok, Err, OnOk, IfOk}
 use Rattle.std.proofs.lemmas.Bool.{cases_Bool, eqb-true, ltb-true, ltb-false, lt-ltb}
 use Rattle.abt_runs.specs.Part.{Earliest, afresh, entry, is_end}
 use Rattle.abt_runs.specs.declared.part.Cursor.{Cursor}
 use Rattle.abt_runs.specs.declared.part.Run.{Run}
 use Rattle.abt_runs.specs.declared.part.RunKind.{RunKind}
 use Rattle.abt_runs.specs.declared.part.RunKind.TheVariants as kinds
-use Rattle.abt_runs.proofs.Alike.{alike_same}
 use Rattle.abt_pieces.specs.Contents.{data_len}
 use Rattle.abt_pieces.specs.Gather.{ClosedRun, SoundGatherer, gathered_on, gathered_to, first_gatherer}
 use Rattle.abt_pieces.specs.Write.{begins, starts, chunk_begun, next_copying, copied_on, IsCopying}
@@ -15,8 +14,8 @@ use Rattle.abt_pieces.specs.declared.gather.Gatherer.{Gatherer}
 use Rattle.abt_pieces.specs.declared.write.Copying.{Copying}
 use Rattle.abt_pieces.specs.declared.write.Writer.{Writer}
 use Rattle.abt_pieces.specs.declared.fault.PieceFault.{PieceFault}
-use Rattle.abt_pieces.proofs.Gathering.{OnCase, still, begun, more, closes, on_case, same_at}
-use Rattle.abt_pieces.proofs.Going.{PartCase, void, raws, other, part_case, CopyCase, ended, goes, copy_case, some_of, mul_split, goes_on, gathering, copying_on}
+use Rattle.abt_pieces.proofs.Gathering.{still, begun, more, closes, on_case, same_at}
+use Rattle.abt_pieces.proofs.Going.{void, raws, other, part_case, ended, goes, copy_case, some_of, mul_split, gathering}
 use Rattle.abt_pieces.proofs.Counts.{entry_most, entry_none, not_below}
 
 pub same_afresh : (d : Cursor) → d.ask ≡ 1 → afresh d ≡ d

@@ -1,11 +1,11 @@
 -- What cutting a piece reads, stage by stage.
-use Rattle.std.proofs.Common.{Result, Ok, Err, OnOk, ◌≡◌, ℕ, ◌+◌, ◌-◌, ◌*◌, ◌<◌, ◌≤◌, nat_lt, Bool, true, false, refl, sym, ap, ◌∙◌, arith, inl, inr, ◌⊎◌}
-use Rattle.std.proofs.lemmas.Bool.{cases_Bool, ltb-true, ltb-false, lt-ltb}
+use Rattle.std.proofs.Common.{Result, Ok, Err, OnOk, ◌≡◌, ℕ, ◌+◌, ◌-◌, ◌*◌, ◌<◌, ◌≤◌, nat_lt, false, refl, arith, inl, inr}
+use Rattle.std.proofs.lemmas.Bool.{cases_Bool, ltb-true, ltb-false}
 use Rattle.abt_runs.specs.Part.{entry}
 use Rattle.abt_runs.specs.declared.part.Cursor.{Cursor}
 use Rattle.abt_pieces.specs.Gather.{gathered_to}
 use Rattle.abt_pieces.specs.Cutter.{first_writer, is_begun, OnMore}
-use Rattle.abt_pieces.specs.Spent.{both, Spent, SpentGathering, SpentPart, SpentCopying}
+use Rattle.abt_pieces.specs.Spent.{both, Spent}
 use Rattle.abt_pieces.specs.SpentStage.{all_passes, SpentPlan, SpentOutline, SpentWriting, SpentStage, SpentPiece}
 use Rattle.abt_pieces.specs.declared.fault.PieceFault.{PieceFault}
 use Rattle.abt_pieces.specs.declared.stage.Stage.{Stage}
@@ -16,7 +16,7 @@ use Rattle.abt_pieces.specs.declared.tail.Tail.TheVariants as tails
 use Rattle.abt_pieces.specs.declared.outline.Outline.{Outline}
 use Rattle.abt_pieces.specs.declared.plan.Planner.{Planner}
 use Rattle.abt_pieces.specs.declared.write.Writer.{Writer}
-use Rattle.abt_pieces.proofs.Counts.{entry_most, entry_none, not_below}
+use Rattle.abt_pieces.proofs.Counts.{entry_most, entry_none}
 use Rattle.abt_pieces.proofs.Spending.{spent_first}
 
 -- a plan that goes on

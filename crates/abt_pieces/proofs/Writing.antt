@@ -1,14 +1,13 @@
 -- The bytes of a chunk: what stands in front of its blocks, and the blocks.
-use Rattle.std.proofs.Common.{◌≡◌, ℕ, zero, suc, ◌+◌, ◌-◌, ◌*◌, ◌<◌, ◌≤◌, Bool, true, false, List, [], ◌∷◌, ◌++◌, length, map, take, drop, replicate, refl, sym, ap, subst, ◌∙◌, append_assoc, append-nil, arith, inl, inr, ◌⊎◌, length-append, length-drop, mul-le-mul_left, Option, Some, None, ◌^◌}
+use Rattle.std.proofs.Common.{◌≡◌, ℕ, zero, suc, ◌+◌, ◌-◌, ◌*◌, ◌<◌, ◌≤◌, List, [], ◌∷◌, ◌++◌, length, map, take, drop, replicate, refl, sym, ap, ◌∙◌, append_assoc, append-nil, arith, length-append, length-drop}
 use Rattle.std.specs.List.{AllByRecursion, flat_map, concat}
-use Rattle.std.specs.Int.{w16, w32, to_le_bytes}
+use Rattle.std.specs.Int.{w16, to_le_bytes}
 use Rattle.std.proofs.lemmas.Grind.{flat_map-append}
-use Rattle.std.proofs.lemmas.List.{drop-drop, length-take-le, take-take, length-replicate, take-append-le, drop-append-le, take_all, take-append-drop, length-map}
-use Rattle.std.proofs.Math.Seq.{take-add, drop-append-add, drop-append_seam}
-use Rattle.std.proofs.Math.ListN.{drop_of_length-le}
-use Rattle.abt_sparse.specs.Block.{Block, Raw, Fill, Skip, IsBlock, AreBlocks}
+use Rattle.std.proofs.lemmas.List.{drop-drop, length-take-le, take-append-le, drop-append-le, length-map}
+use Rattle.std.proofs.Math.Seq.{take-add, drop-append_seam}
+use Rattle.abt_sparse.specs.Block.{Block, Raw, Fill, Skip, AreBlocks}
 use Rattle.abt_sparse.specs.Runs.{runs}
-use Rattle.abt_sparse.specs.Chunk.{Chunk, Raws, Fills, Skips, plain, chunk_of_run, raw_bytes, data_of, chunk_bytes}
+use Rattle.abt_sparse.specs.Chunk.{plain, chunk_of_run, raw_bytes, chunk_bytes}
 use Rattle.abt_sparse.specs.ChunkHead.{chunk_record}
 use Rattle.abt_sparse.specs.declared.kind.ChunkKind.TheVariants as chunks
 use Rattle.abt_runs.specs.Part.{AllOf, IsRaw, raw_of}

@@ -4,8 +4,8 @@ use Rattle.std.proofs.Props.{props}
 use Rattle.abt_runs.specs.declared.part.Cursor.{Cursor}
 use Rattle.abt_pieces.specs.Plan.{Slim, Even}
 use Rattle.abt_pieces.specs.Gather.{SoundGatherer}
-use Rattle.abt_pieces.specs.Write.{IsCopying, SoundCopying, SoundWriter}
-use Rattle.abt_pieces.specs.Cutter.{SoundPlanner, SoundOutline, SoundWriting, SoundStage, TakenPlan, TakenStage, SoundCutter}
+use Rattle.abt_pieces.specs.Write.{SoundCopying, SoundWriter}
+use Rattle.abt_pieces.specs.Cutter.{SoundPlanner, SoundOutline, SoundWriting, SoundStage, TakenStage, SoundCutter}
 use Rattle.abt_pieces.specs.declared.tail.Tail.{Tail}
 use Rattle.abt_pieces.specs.declared.tail.Tail.TheVariants as tails
 use Rattle.abt_pieces.specs.declared.gather.Gatherer.{Gatherer}

@@ -1,5 +1,5 @@
 -- What a piece holds, counted from left to right as its blocks are passed.
-use Rattle.std.specs.Prelude.{◌≡◌, ℕ, ◌+◌, ◌*◌, List, [], ◌∷◌, ◌++◌, replicate, zero, suc, if◌then◌else◌}
+use Rattle.std.specs.Prelude.{◌≡◌, ℕ, ◌+◌, ◌*◌, List, [], ◌∷◌, zero, suc, if◌then◌else◌}
 use Rattle.abt_sparse.specs.Block.{Block, Raw, Fill, Skip}
 use Rattle.abt_runs.specs.declared.part.RunKind.{RunKind}
 use Rattle.abt_runs.specs.declared.part.RunKind.TheVariants as kinds

@@ -1,5 +1,5 @@
 -- The runs of a piece, and a run that is being gathered.
-use Rattle.std.specs.Prelude.{◌≡◌, ℕ, ◌+◌, ◌-◌, ◌≤◌, ◌<◌, Bool, true, false, IsTrue, List, [], ◌∷◌, ◌++◌, length, take, drop, nat_lt, ◌==◌, ◌&&◌, not, Option, Some, None, if◌then◌else◌}
+use Rattle.std.specs.Prelude.{◌≡◌, ℕ, ◌+◌, ◌-◌, ◌≤◌, ◌<◌, true, List, ◌∷◌, length, drop, nat_lt, ◌==◌, ◌&&◌, not, Option, Some, None, if◌then◌else◌}
 use Rattle.abt_sparse.specs.Block.{Block}
 use Rattle.abt_sparse.specs.Runs.{framed, runs}
 use Rattle.abt_runs.specs.Part.{AllOf, is_end, entry}

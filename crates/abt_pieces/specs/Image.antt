@@ -1,5 +1,5 @@
 -- What a piece is whatever the source gave: a sparse image of all blocks. And what may still come of one that is being written.
-use Rattle.std.specs.Prelude.{◌≡◌, ℕ, ◌+◌, ◌-◌, ◌^◌, ◌<◌, List, [], ◌++◌, length, Option, Some, None, ⊤}
+use Rattle.std.specs.Prelude.{◌≡◌, ℕ, ◌+◌, ◌-◌, ◌^◌, ◌<◌, List, [], ◌++◌, length, Option, Some, None}
 use Rattle.std.specs.List.{flat_map, AllByRecursion}
 use Rattle.abt_sparse.specs.Chunk.{Chunk, IsChunk, data_of, plain, plain_header}
 use Rattle.abt_sparse.specs.Fails.{Spells, counted_in}

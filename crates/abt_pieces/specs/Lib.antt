@@ -9,3 +9,4 @@ pub mod Cutter
 pub mod SpentStage
 pub mod Alike
 pub mod Image
+pub mod Turn

@@ -1,5 +1,5 @@
 -- A piece that is being written, and what of it is still to come.
-use Rattle.std.specs.Prelude.{◌≡◌, ℕ, zero, suc, ◌+◌, ◌-◌, ◌*◌, ◌^◌, ◌≤◌, ◌<◌, Bool, true, false, List, [], ◌∷◌, ◌++◌, length, take, drop, map, Option, Some, None, ⊤, ◌⊎◌, ◌==◌, ◌&&◌, not, min, if◌then◌else◌}
+use Rattle.std.specs.Prelude.{◌≡◌, ℕ, ◌+◌, ◌-◌, ◌*◌, ◌^◌, ◌≤◌, ◌<◌, List, [], ◌++◌, length, drop, map, Option, Some, None, ⊤, ◌⊎◌, ◌==◌, ◌&&◌, not, min, if◌then◌else◌}
 use Rattle.std.specs.List.{flat_map}
 use Rattle.abt_sparse.specs.declared.kind.ChunkKind.TheVariants as chunks
 use Rattle.abt_sparse.specs.Block.{Block}

@@ -10,6 +10,7 @@ ghost use Rattle.abt_pieces.specs.Alike.{SoundCutter-prop};
 ghost use Rattle.abt_pieces.specs.Cutter.{SoundOutline, SoundCutter, ToldCutter, Made, Passed, segments_left, coming, has_more, is_begun, has_failed, piece_words};
 ghost use Rattle.abt_pieces.specs.Image.{Appended, IsImage};
 ghost use Rattle.abt_pieces.specs.SpentStage.{all_passes};
+ghost use Rattle.abt_pieces.specs.Turn.{NextInTurn};
 ghost use Rattle.abt_pieces.specs.declared.stage.Stage.{Stage};
 
 use crate::PieceFault;
@@ -127,8 +128,10 @@ impl<R: BlockRuns + Drop> Cutter<R> {
     /// Writes the next piece, and answers what it is; `None` after the last. It refuses with
     /// `Read` and `Write` where a device has failed, and with `SourceChanged` where the source is
     /// no longer the one that was opened; then it answers the same fault again. What stands of a
-    /// piece after a fault is a beginning of it, and never more than the limit. No piece may be begun:
-    /// the last `step`, if there was one, did not answer `More`.
+    /// piece after a fault is a beginning of it, and never more than the limit. Whatever the source
+    /// gave, a piece that was answered is a sparse image of all blocks, and nothing stands behind it.
+    /// `Write(Full)` comes only of an output that is full, and took less than the limit. No piece may
+    /// be begun: the last `step`, if there was one, did not answer `More`.
     pub fn next_piece<S: Source, O: Output>(
         &mut self,
         source: &mut S,
@@ -241,4 +244,10 @@ impl<R: BlockRuns + Drop> Cutter<R> {
 /// the limit has fewer pieces.
 pub fn no_fewer_pieces()
     ensures { (b limit made s : ℕ) (l : List Block) (st : Stage) (parts : List (List Block)) → Made b limit l made (segments_left b limit l s st) → Division limit b l parts → made + (if has_more st then 1 else 0) ≤ length parts }
+{}
+
+/// What a cutter writes next, with so many pieces made, is the one behind them of all pieces of the
+/// image.
+pub fn next_in_turn()
+    ensures { NextInTurn }
 {}

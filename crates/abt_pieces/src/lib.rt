@@ -11,6 +11,9 @@
 //! - `chunk`, `write`: headers, and writing a piece in steps that hold numbers alone;
 //! - `stage`, `piece_steps`, `cutter`: one step of cutting, and whole pieces;
 //! - `fault`: why all this is refused.
+//!
+//! What a source that tells its bytes comes to is said exactly (`specs/Cutter`); whatever a source
+//! gives, each piece reads as a sparse image of all blocks (`specs/Image`).
 #![tactic(auto)]
 
 mod chunk;
@@ -27,7 +30,7 @@ mod write;
 
 pub use chunk::{write_front, write_header};
 pub use contents::{Contents, copied_len, head_len};
-pub use cutter::{Cutter, least_limit, no_fewer_pieces};
+pub use cutter::{Cutter, least_limit, next_in_turn, no_fewer_pieces};
 pub use fault::{PieceFault, run_fault};
 pub use gather::{Gatherer, framed_part};
 pub use outline::{Outline, Piece};

@@ -1,9 +1,8 @@
 -- What is written of a sparse image leads to one, whatever the source gave.
-use Rattle.std.proofs.Common.{◌≡◌, ℕ, suc, ◌+◌, ◌-◌, ◌*◌, ◌^◌, ◌<◌, ◌≤◌, min, Bool, true, false, List, [], ◌++◌, length, refl, sym, ap, subst, ◌∙◌, append_assoc, append-nil, arith, length-append, mul-le-mul_right, Option, Some, None, Result, Ok, Err, OnOk, IfOk, ◌==◌, ◌&&◌, inl, inr, ◌%◌}
+use Rattle.std.proofs.Common.{◌≡◌, ℕ, suc, ◌+◌, ◌-◌, ◌*◌, ◌^◌, ◌<◌, ◌≤◌, Bool, true, false, List, [], ◌++◌, length, refl, sym, ap, subst, ◌∙◌, append_assoc, append-nil, arith, length-append, mul-le-mul_right, Some, None, Result, Ok, Err, OnOk, IfOk, ◌==◌, ◌&&◌, inl, inr, ◌%◌}
 use Rattle.std.proofs.lemmas.Bool.{cases_Bool, and_parts, eqb-true}
 use Rattle.abt_sparse.specs.Chunk.{header_record, plain_header}
 use Rattle.abt_runs.specs.Part.{is_end}
-use Rattle.abt_runs.specs.Raw.{RawPlace}
 use Rattle.abt_runs.specs.declared.part.Cursor.{Cursor}
 use Rattle.abt_runs.specs.declared.part.Run.{Run}
 use Rattle.abt_runs.specs.declared.part.RunKind.{RunKind}
@@ -14,7 +13,7 @@ use Rattle.abt_pieces.specs.Image.{Appended, Leads, IsImage, AreChunks}
 use Rattle.abt_pieces.specs.declared.fault.PieceFault.{PieceFault}
 use Rattle.abt_pieces.specs.declared.gather.Gatherer.{Gatherer}
 use Rattle.abt_pieces.proofs.Image.{OneChunk, raw_one, fill_one, skip_one, joined_chunks, no_raw, chunks_image, leads_same}
-use Rattle.abt_sparsify.specs.Sparsify.{MayCome, chunk_to_come, blocks_to_come, run_begun, raw_begun, front_begun, begun_as, run_front, run_head, next_blocks, cut_on, chunk_opened, copied_cutting, first_sparser}
+use Rattle.abt_sparsify.specs.Sparsify.{MayCome, chunk_to_come, blocks_to_come, run_begun, raw_begun, front_begun, begun_as, run_front, run_head, next_blocks, chunk_opened, copied_cutting, first_sparser}
 use Rattle.abt_sparsify.specs.declared.count.Written.{Written}
 use Rattle.abt_sparsify.specs.declared.write.Cutting.{Cutting}
 use Rattle.abt_sparsify.specs.declared.write.Sparser.{Sparser}

@@ -73,6 +73,8 @@ fn write_image<S: Source, O: Output>(
 /// with `TooLarge` exactly where there are more than 2^32 - 1 blocks; both before anything is
 /// written. `Read` and `Write` come only where that device has failed, and what stands then is a
 /// beginning of the image; `SourceChanged` comes only of a source that does not tell its bytes.
+/// Whatever the source gave, what was written where it is answered is a sparse image of so many
+/// blocks, and nothing stands behind it.
 pub fn sparsify<S: Source, O: Output>(
     source: &mut S,
     block_size: u32,

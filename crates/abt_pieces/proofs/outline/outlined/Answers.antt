@@ -1,4 +1,3 @@
-use Rattle.std.proofs.Common.{arith, ap, sym, ◌∙◌, ◌≡◌, length}
 use Rattle.abt_pieces.proofs.Planning.{outlined}
 use Rattle.abt_pieces.proofs.outline.outlined.Goals as goal
 

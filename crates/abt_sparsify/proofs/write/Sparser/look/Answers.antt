@@ -1,4 +1,4 @@
-use Rattle.std.proofs.Common.{sym, refl, ◌≡◌}
+use Rattle.std.proofs.Common.{sym, refl}
 use Rattle.abt_pieces.proofs.Fronts.{wrote_part}
 use Rattle.abt_pieces.proofs.Going.{chunk_causes}
 use Rattle.abt_sparsify.specs.Sparsify.{end_place}
