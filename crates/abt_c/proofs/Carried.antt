@@ -1,0 +1,73 @@
+-- What a pull says of the machine, it says of the states with its numbers.
+use Rattle.std.proofs.Common.{◌≡◌, ℕ, ◌<◌, ◌+◌, ◌*◌, ◌++◌, List, [], take, length, Bool, true, false, if◌then◌else◌, ◌==◌, refl, arith, ap, sym, ◌∙◌, subst, append_assoc}
+use Rattle.abt_sparse.specs.View.{view}
+use Rattle.abt_chunks.specs.Ahead.{before, somes, fills, gaps}
+use Rattle.std.specs.Prelude.{Ok}
+use Rattle.abt_chunks.specs.Walking.{ahead, ahead_in, Says, Leaves}
+use Rattle.abt_chunks.specs.Pulling as pulling
+use Rattle.abt_chunks.specs.Pulling.{PullSays, PullLeaves, IsKept}
+use Rattle.abt_chunks.specs.declared.walk.Phase.{Phase}
+use Rattle.abt_chunks.specs.declared.walk.Phase.TheVariants as phases
+use Rattle.abt_chunks.specs.declared.walk.Walk.{Walk}
+use Rattle.abt_chunks.specs.declared.walk.Part.TheVariants as parts
+use Rattle.abt_chunks.specs.declared.feed.Puller.{Puller}
+use Rattle.abt_chunks.specs.declared.feed.Pull.{Pull}
+use Rattle.abt_chunks.specs.declared.feed.Pull.TheVariants as pulls
+use Rattle.abt_c.specs.declared.state.AbtSparse.{AbtSparse}
+use Rattle.abt_c.specs.Standing.{Stands, StateSays, coming, coming_of, phase_number, front_of, kind_of, kind_or, header_of, place_in, place_of}
+use Rattle.abt_sparse.specs.Chunk.{Header}
+use Rattle.abt_sparse.specs.declared.kind.ChunkKind.{ChunkKind}
+
+pub due_back : (b : Bool) → ((if b then 1 else 0) == 1) ≡ b
+due_back true = refl
+due_back false = refl
+
+pub phase_is : (q : Phase) (w : Walk) (y : List ℕ) → (phase_number q ≡ 3 → ⊥) → coming_of (phase_number q) w.kind w.due (view w.header) w.index w.have w.extra w.raw w.words w.word w.position y ≡ ahead_in q w y
+phase_is phases.Header w y live = refl
+phase_is phases.Body w y live = refl
+phase_is phases.Done w y live = refl
+phase_is (phases.Failed f) w y live = absurd (live refl)
+
+pub fronts : (s : AbtSparse) (p : Puller) → Stands s p → front_of s ≡ pulling.front_of p
+fronts s p e = ap (λ (n : ℕ). take n s.held) e.count ∙ ap (λ (l : List ℕ). take p.count l) e.held
+
+pub coming_is : (s : AbtSparse) (p : Puller) → Stands s p → (phase_number p.walk.phase ≡ 3 → ⊥) → (y : List ℕ) → coming s y ≡ ahead p.walk (pulling.front_of p ++ y)
+coming_is s p e live y =
+    ap (λ (v : ℕ). coming_of v (kind_of s) (s.due == 1) (header_of s) s.index s.have s.extra s.raw s.words s.word s.position (front_of s ++ y)) e.phase
+    ∙ ap (λ (v : ChunkKind). coming_of (phase_number p.walk.phase) v (s.due == 1) (header_of s) s.index s.have s.extra s.raw s.words s.word s.position (front_of s ++ y)) (ap kind_or e.kind)
+    ∙ ap (λ (v : Bool). coming_of (phase_number p.walk.phase) p.walk.kind v (header_of s) s.index s.have s.extra s.raw s.words s.word s.position (front_of s ++ y)) (ap (λ (n : ℕ). n == 1) e.due ∙ due_back p.walk.due)
+    ∙ ap (λ (v : Header). coming_of (phase_number p.walk.phase) p.walk.kind p.walk.due v s.index s.have s.extra s.raw s.words s.word s.position (front_of s ++ y)) e.header
+    ∙ ap (λ (v : ℕ). coming_of (phase_number p.walk.phase) p.walk.kind p.walk.due (view p.walk.header) v s.have s.extra s.raw s.words s.word s.position (front_of s ++ y)) e.index
+    ∙ ap (λ (v : ℕ). coming_of (phase_number p.walk.phase) p.walk.kind p.walk.due (view p.walk.header) p.walk.index v s.extra s.raw s.words s.word s.position (front_of s ++ y)) e.have
+    ∙ ap (λ (v : ℕ). coming_of (phase_number p.walk.phase) p.walk.kind p.walk.due (view p.walk.header) p.walk.index p.walk.have v s.raw s.words s.word s.position (front_of s ++ y)) e.extra
+    ∙ ap (λ (v : ℕ). coming_of (phase_number p.walk.phase) p.walk.kind p.walk.due (view p.walk.header) p.walk.index p.walk.have p.walk.extra v s.words s.word s.position (front_of s ++ y)) e.raw
+    ∙ ap (λ (v : ℕ). coming_of (phase_number p.walk.phase) p.walk.kind p.walk.due (view p.walk.header) p.walk.index p.walk.have p.walk.extra p.walk.raw v s.word s.position (front_of s ++ y)) e.words
+    ∙ ap (λ (v : List ℕ). coming_of (phase_number p.walk.phase) p.walk.kind p.walk.due (view p.walk.header) p.walk.index p.walk.have p.walk.extra p.walk.raw p.walk.words v s.position (front_of s ++ y)) e.word
+    ∙ ap (λ (v : ℕ). coming_of (phase_number p.walk.phase) p.walk.kind p.walk.due (view p.walk.header) p.walk.index p.walk.have p.walk.extra p.walk.raw p.walk.words p.walk.word v (front_of s ++ y)) e.position
+    ∙ ap (λ (v : List ℕ). coming_of (phase_number p.walk.phase) p.walk.kind p.walk.due (view p.walk.header) p.walk.index p.walk.have p.walk.extra p.walk.raw p.walk.words p.walk.word p.walk.position v) (ap (λ (l : List ℕ). l ++ y) (fronts s p e))
+    ∙ phase_is p.walk.phase p.walk (pulling.front_of p ++ y) live
+
+pub goes_on : (q : Phase) → q ≡ phases.Body → phase_number q ≡ 3 → ⊥
+goes_on q e z = let r : 1 ≡ 3 = ap phase_number (sym e) ∙ z in omega (arith, r)
+
+pub joined : (s : AbtSparse) (p : Puller) (c t : List ℕ) → Stands s p → (phase_number p.walk.phase ≡ 3 → ⊥) → coming s (c ++ t) ≡ ahead p.walk ((pulling.front_of p ++ c) ++ t)
+joined s p c t e live = coming_is s p e live (c ++ t) ∙ ap (λ (l : List ℕ). ahead p.walk l) (sym (append_assoc (pulling.front_of p) c t))
+
+pub after : (s : AbtSparse) (p : Puller) (t : List ℕ) → Stands s p → p.walk.phase ≡ phases.Body → p.count ≡ 0 → coming s t ≡ ahead p.walk t
+after s p t e b z = coming_is s p e (goes_on p.walk.phase b) t ∙ ap (λ (n : ℕ). ahead p.walk (take n p.held ++ t)) z
+
+pub carried : (q : Pull) (s s' : AbtSparse) (p p' : Puller) (c t : List ℕ) → Stands s p → Stands s' p' → (phase_number p.walk.phase ≡ 3 → ⊥) → PullSays q p p' c t → IsKept q p p' → PullLeaves q p' → StateSays q s s' c t
+carried pulls.Need s s' p p' c t e f live x k l =
+    joined s p c t e live
+    ∙ ap (λ (v : List ℕ). ahead p.walk (v ++ t)) (sym x.1)
+    ∙ ap (λ (w : Walk). ahead w (pulling.front_of p' ++ t)) (sym x.0)
+    ∙ sym (coming_is s' p' f (λ z. live (ap (λ (w : Walk). phase_number w.phase) (sym x.0) ∙ z)) t)
+carried (pulls.Gives (parts.Raw n)) s s' p p' c t e f live x k l =
+    let fs : front_of s ≡ pulling.front_of p = fronts s p e in
+    subst (λ (v : List ℕ). (length (v ++ c) ≡ n) × (coming s (c ++ t) ≡ before (somes (v ++ c)) (coming s' t))) (sym fs)
+    (x.0, joined s p c t e live ∙ x.1 ∙ ap (λ a. before (somes (pulling.front_of p ++ c)) a) (sym (after s' p' t f l k.0)))
+carried (pulls.Gives (parts.Words word n)) s s' p p' c t e f live x k l = joined s p c t e live ∙ x ∙ ap (λ a. before (fills n word) a) (sym (after s' p' t f l k.0))
+carried (pulls.Gives (parts.Skip n)) s s' p p' c t e f live x k l = joined s p c t e live ∙ x ∙ ap (λ a. before (gaps n) a) (sym (after s' p' t f l k.0))
+carried (pulls.Gives parts.Nothing) s s' p p' c t e f live x k l = joined s p c t e live ∙ x ∙ sym (after s' p' t f l k.0)
+carried (pulls.Gives parts.End) s s' p p' c t e f live x k l = subst (λ h. coming s (c ++ t) ≡ record { cells = []; ending = Ok (h, t) }) (sym f.header) (joined s p c t e live ∙ x)
+carried (pulls.Gives (parts.Fault y)) s s' p p' c t e f live x k l = joined s p c t e live ∙ x

@@ -1,0 +1,105 @@
+-- What follows from the numbers of a part, and from those of a state that was left.
+use Rattle.std.proofs.Common.{◌≡◌, ℕ, ◌≤◌, ◌<◌, ◌+◌, ◌∙◌, refl, arith, ap, sym, Bool, true, false, Some}
+use Rattle.std.specs.Prelude.{◌↔◌}
+use Rattle.abt_sparse.specs.Number.{number_of}
+use Rattle.abt_sparse.specs.Chunk.{Header}
+use Rattle.abt_sparse.specs.declared.fault.SparseFault.{SparseFault}
+use Rattle.abt_sparse.specs.declared.fault.SparseFault.TheVariants as faults
+use Rattle.abt_chunks.specs.declared.walk.Part.{Part}
+use Rattle.abt_chunks.specs.declared.walk.Part.TheVariants as parts
+use Rattle.abt_chunks.specs.declared.walk.Phase.{Phase}
+use Rattle.abt_chunks.specs.declared.walk.Phase.TheVariants as phases
+use Rattle.abt_chunks.specs.declared.walk.Walk.{Walk}
+use Rattle.abt_chunks.specs.declared.feed.Puller.{Puller}
+use Rattle.abt_chunks.specs.declared.feed.Pull.{Pull}
+use Rattle.abt_chunks.specs.declared.feed.Pull.TheVariants as pulls
+use Rattle.abt_chunks.specs.Pulling.{IsLent}
+use Rattle.abt_chunks.specs.Walking as walking
+use Rattle.abt_c.specs.declared.state.AbtPart.{AbtPart}
+use Rattle.abt_c.specs.declared.state.AbtSparse.{AbtSparse}
+use Rattle.abt_c.specs.Standing.{Stands, IsLeft, kept_fault, kind_or, phase_number, place_in, place_of}
+use Rattle.abt_c.specs.Telling.{PartIs}
+
+pub number_low : (f : SparseFault) → number_of f ≤ 12
+number_low faults.Magic = omega arith
+number_low (faults.Major n) = omega arith
+number_low (faults.FileHeaderSize n) = omega arith
+number_low (faults.ChunkHeaderSize n) = omega arith
+number_low (faults.BlockSize n) = omega arith
+number_low (faults.ChunkType i k) = omega arith
+number_low (faults.ChunkLength i) = omega arith
+number_low (faults.TooManyBlocks i) = omega arith
+number_low (faults.TooFewBlocks n) = omega arith
+number_low (faults.Truncated n) = omega arith
+number_low (faults.Read d) = omega arith
+number_low (faults.Write d) = omega arith
+
+pub number_some : (f : SparseFault) → 0 < number_of f
+number_some faults.Magic = omega arith
+number_some (faults.Major n) = omega arith
+number_some (faults.FileHeaderSize n) = omega arith
+number_some (faults.ChunkHeaderSize n) = omega arith
+number_some (faults.BlockSize n) = omega arith
+number_some (faults.ChunkType i k) = omega arith
+number_some (faults.ChunkLength i) = omega arith
+number_some (faults.TooManyBlocks i) = omega arith
+number_some (faults.TooFewBlocks n) = omega arith
+number_some (faults.Truncated n) = omega arith
+number_some (faults.Read d) = omega arith
+number_some (faults.Write d) = omega arith
+
+-- no part of an image has the fault of a spoiled state
+pub not_spoiled : (q : Pull) (o : AbtPart) → PartIs q o → o.fault ≡ 90 → ⊥
+not_spoiled pulls.Need o is e = absurd (omega (arith, is.1, e))
+not_spoiled (pulls.Gives (parts.Raw n)) o is e = absurd (omega (arith, is.1, e))
+not_spoiled (pulls.Gives (parts.Words word n)) o is e = absurd (omega (arith, is.1, e))
+not_spoiled (pulls.Gives (parts.Skip n)) o is e = absurd (omega (arith, is.1, e))
+not_spoiled (pulls.Gives parts.Nothing) o is e = absurd (omega (arith, is.1, e))
+not_spoiled (pulls.Gives parts.End) o is e = absurd (omega (arith, is.1, e))
+not_spoiled (pulls.Gives (parts.Fault f)) o is e = absurd (omega (arith, is.1, e, number_low f))
+
+-- only a refusal has a fault
+pub kind_fault : (q : Pull) (o : AbtPart) → PartIs q o → (o.kind ≡ 6) ↔ (0 < o.fault)
+kind_fault pulls.Need o is = (λ e. absurd (omega (arith, is.0, e)), λ e. absurd (omega (arith, is.1, e)))
+kind_fault (pulls.Gives (parts.Raw n)) o is = (λ e. absurd (omega (arith, is.0, e)), λ e. absurd (omega (arith, is.1, e)))
+kind_fault (pulls.Gives (parts.Words word n)) o is = (λ e. absurd (omega (arith, is.0, e)), λ e. absurd (omega (arith, is.1, e)))
+kind_fault (pulls.Gives (parts.Skip n)) o is = (λ e. absurd (omega (arith, is.0, e)), λ e. absurd (omega (arith, is.1, e)))
+kind_fault (pulls.Gives parts.Nothing) o is = (λ e. absurd (omega (arith, is.0, e)), λ e. absurd (omega (arith, is.1, e)))
+kind_fault (pulls.Gives parts.End) o is = (λ e. absurd (omega (arith, is.0, e)), λ e. absurd (omega (arith, is.1, e)))
+kind_fault (pulls.Gives (parts.Fault f)) o is = (λ e. omega (arith, is.1, number_some f), λ e. is.0)
+
+-- raw bytes lie within what was used
+pub lent_within : (q : Pull) (used : ℕ) (o : AbtPart) → PartIs q o → IsLent q used → o.used ≡ used → o.offset ≡ 0 → o.kind ≡ 1 → o.offset + o.length ≤ o.used
+lent_within pulls.Need used o is lent u z e = absurd (omega (arith, is.0, e))
+lent_within (pulls.Gives (parts.Raw n)) used o is lent u z e = omega (arith, is.2, lent, u, z)
+lent_within (pulls.Gives (parts.Words word n)) used o is lent u z e = absurd (omega (arith, is.0, e))
+lent_within (pulls.Gives (parts.Skip n)) used o is lent u z e = absurd (omega (arith, is.0, e))
+lent_within (pulls.Gives parts.Nothing) used o is lent u z e = absurd (omega (arith, is.0, e))
+lent_within (pulls.Gives parts.End) used o is lent u z e = absurd (omega (arith, is.0, e))
+lent_within (pulls.Gives (parts.Fault f)) used o is lent u z e = absurd (omega (arith, is.0, e))
+
+-- ---- states that were left
+
+kept_in : (q : Phase) (n : ℕ) → 3 ≤ phase_number q → n ≡ kept_fault q → (0 < n) × (n ≤ 12)
+kept_in phases.Header n lt e = absurd (omega (arith, lt))
+kept_in phases.Body n lt e = absurd (omega (arith, lt))
+kept_in phases.Done n lt e = absurd (omega (arith, lt))
+kept_in (phases.Failed f) n lt e = (omega (arith, e, number_some f), omega (arith, e, number_low f))
+
+-- one that has failed keeps the fault of an image
+pub kept : (s : AbtSparse) → IsLeft s → 3 ≤ s.phase → (0 < s.fault) × (s.fault ≤ 12)
+kept s l lt = kept_in l.puller.walk.phase s.fault (let e = l.stands.phase in omega (arith, e, lt)) l.fault
+
+pub not_kept : (n m : ℕ) → n ≡ m → m ≤ 12 → n ≡ 90 → ⊥
+not_kept n m e le q = absurd (omega (arith, e, le, q))
+
+place_at : (q : Phase) (w : Walk) → place_in (phase_number q) w.kind w.have w.header.blk_sz w.raw w.words ≡ walking.place_in q w
+place_at phases.Header w = refl
+place_at phases.Body w = refl
+place_at phases.Done w = refl
+place_at (phases.Failed f) w = refl
+
+pub place_is : (s : AbtSparse) (p : Puller) → Stands s p → walking.place_of p.walk ≡ place_of s
+place_is s p e =
+    let size : s.blk_sz ≡ p.walk.header.blk_sz = ap (λ (h : Header). h.blk_sz) e.header in
+    sym (rw (e.phase, e.kind, e.have, size, e.raw, e.words) (place_at p.walk.phase p.walk))

@@ -1,0 +1,112 @@
+-- The numbers of a reader, as C keeps them, and the machine whose numbers they are.
+use Rattle.std.specs.Prelude.{◌≡◌, ℕ, ◌+◌, ◌-◌, ◌*◌, ◌++◌, List, [], take, length, Option, Some, None, Bool, true, false, Ok, if◌then◌else◌, ◌==◌}
+use Rattle.abt_sparse.specs.declared.kind.ChunkKind.{ChunkKind}
+use Rattle.abt_sparse.specs.declared.kind.ChunkKind.TheVariants as kinds
+use Rattle.abt_sparse.specs.Chunk.{Header}
+use Rattle.abt_sparse.specs.Number.{number_of}
+use Rattle.abt_sparse.specs.Reading.{kind_at, outcome}
+use Rattle.abt_sparse.specs.View.{view}
+use Rattle.abt_chunks.specs.Ahead.{Ahead, seen, walk, before, somes, fills, gaps, stopping, left_of}
+use Rattle.abt_chunks.specs.declared.walk.Part.{Part}
+use Rattle.abt_chunks.specs.declared.walk.Part.TheVariants as parts
+use Rattle.abt_chunks.specs.declared.walk.Phase.{Phase}
+use Rattle.abt_chunks.specs.declared.walk.Phase.TheVariants as phases
+use Rattle.abt_chunks.specs.declared.feed.Pull.{Pull}
+use Rattle.abt_chunks.specs.declared.feed.Pull.TheVariants as pulls
+use Rattle.abt_chunks.specs.declared.feed.Puller.{Puller}
+use Rattle.abt_c.specs.declared.state.AbtPart.{AbtPart}
+use Rattle.abt_c.specs.declared.state.AbtSparse.{AbtSparse}
+use Rattle.abt_c.specs.Telling.{PartIs, detail_of}
+
+abbrev pub phase_number : Phase → ℕ
+phase_number phases.Header = 0
+phase_number phases.Body = 1
+phase_number phases.Done = 2
+phase_number (phases.Failed f) = 3
+
+-- the fault that a phase keeps, with its detail, and none
+abbrev pub kept_fault : Phase → ℕ
+kept_fault (phases.Failed f) = number_of f
+kept_fault p = 0
+
+abbrev pub kept_detail : Phase → ℕ
+kept_detail (phases.Failed f) = detail_of f
+kept_detail p = 0
+
+abbrev pub header_of : AbtSparse → Header
+header_of s = record { minor = s.minor; file_hdr_sz = s.file_hdr_sz; chunk_hdr_sz = s.chunk_hdr_sz; blk_sz = s.blk_sz; total_blks = s.total_blks; total_chunks = s.total_chunks; image_checksum = s.image_checksum }
+
+-- a state and the machine of the same numbers
+pub record Stands (s : AbtSparse) (p : Puller) : Type 0 where
+  pub phase : s.phase ≡ phase_number p.walk.phase
+  pub header : header_of s ≡ view p.walk.header
+  pub kind : kind_at s.kind ≡ Some p.walk.kind
+  pub due : s.due ≡ (if p.walk.due then 1 else 0)
+  pub word : s.word ≡ p.walk.word
+  pub index : s.index ≡ p.walk.index
+  pub have : s.have ≡ p.walk.have
+  pub extra : s.extra ≡ p.walk.extra
+  pub raw : s.raw ≡ p.walk.raw
+  pub words : s.words ≡ p.walk.words
+  pub position : s.position ≡ p.walk.position
+  pub held : s.held ≡ p.held
+  pub count : s.count ≡ p.count
+
+-- A state that one of the calls left, and none has spoiled: a machine has its numbers, and the fault that it keeps.
+pub record IsLeft (s : AbtSparse) : Type 0 where
+  pub puller : Puller
+  pub stands : Stands s puller
+  pub fault : s.fault ≡ kept_fault puller.walk.phase
+  pub detail : s.detail ≡ kept_detail puller.walk.phase
+
+-- ---- what lies ahead of a state, in its own numbers
+
+abbrev pub kind_or : Option ChunkKind → ChunkKind
+kind_or (Some k) = k
+kind_or None = kinds.Skip
+
+abbrev pub kind_of : AbtSparse → ChunkKind
+kind_of s = kind_or (kind_at s.kind)
+
+-- where the next byte of a block lies in the expanded image
+abbrev pub place_in : ℕ → ChunkKind → ℕ → ℕ → ℕ → ℕ → ℕ
+place_in phase kind have size raw words = if phase == 0 then 0 else have * size - left_of kind raw words
+
+abbrev pub place_of : AbtSparse → ℕ
+place_of s = place_in s.phase (kind_of s) s.have s.blk_sz s.raw s.words
+
+-- the bytes that it holds of a header or of a word
+abbrev pub front_of : AbtSparse → List ℕ
+front_of s = take s.count s.held
+
+abbrev pub coming_of : ℕ → ChunkKind → Bool → Header → ℕ → ℕ → ℕ → ℕ → ℕ → List ℕ → ℕ → List ℕ → Ahead
+coming_of phase k due h index have extra raw words word position y =
+    if phase == 0 then seen (outcome y) else if phase == 1 then walk k due h index have extra raw words word (position + length y) y else record { cells = []; ending = Ok (h, y) }
+
+-- what lies ahead of a state that has not failed, where these bytes are still to be given
+abbrev pub coming : AbtSparse → List ℕ → Ahead
+coming s y = coming_of s.phase (kind_of s) (s.due == 1) (header_of s) s.index s.have s.extra s.raw s.words s.word s.position (front_of s ++ y)
+
+-- ---- what a call says
+
+-- of what lay ahead, whatever bytes t follow those that were used
+abbrev pub StateSays : Pull → AbtSparse → AbtSparse → List ℕ → List ℕ → Type 0
+StateSays pulls.Need s s' c t = coming s (c ++ t) ≡ coming s' t
+StateSays (pulls.Gives (parts.Raw n)) s s' c t = (length (front_of s ++ c) ≡ n) × (coming s (c ++ t) ≡ before (somes (front_of s ++ c)) (coming s' t))
+StateSays (pulls.Gives (parts.Words word n)) s s' c t = coming s (c ++ t) ≡ before (fills n word) (coming s' t)
+StateSays (pulls.Gives (parts.Skip n)) s s' c t = coming s (c ++ t) ≡ before (gaps n) (coming s' t)
+StateSays (pulls.Gives parts.Nothing) s s' c t = coming s (c ++ t) ≡ coming s' t
+StateSays (pulls.Gives parts.End) s s' c t = coming s (c ++ t) ≡ record { cells = []; ending = Ok (header_of s', t) }
+StateSays (pulls.Gives (parts.Fault f)) s s' c t = coming s (c ++ t) ≡ stopping f
+
+-- a part o was told, for which the bytes c were used
+pub record Told (o : AbtPart) (s s' : AbtSparse) (c : List ℕ) : Type 0 where
+  pub pull : Pull
+  pub is : PartIs pull o
+  pub says : (t : List ℕ) → StateSays pull s s' c t
+
+-- the same where the input has ended, and nothing follows
+pub record Ended (o : AbtPart) (s s' : AbtSparse) : Type 0 where
+  pub part : Part
+  pub is : PartIs (pulls.Gives part) o
+  pub says : StateSays (pulls.Gives part) s s' [] []

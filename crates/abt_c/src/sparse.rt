@@ -1,0 +1,136 @@
+//! A sparse image, read by a program that has it in pieces.
+
+ghost use Rattle.std.specs.Prelude.{◌≡◌, ◌≤◌, ◌<◌, ◌+◌, ◌*◌, ◌↔◌, take, length};
+ghost use Rattle.abt_c.specs.Standing.{Ended, IsLeft, Told, place_of};
+
+use crate::state::{AbtPart, AbtSize, AbtSparse};
+use crate::stored::{puller_in, state_of};
+use crate::told::{STATE, part_of, refused};
+use abt_chunks::{Pull, Puller};
+
+/// What is answered in a state that has failed: its fault once more, where it is one of an image.
+fn again(state: &AbtSparse) -> AbtPart
+    ensures kind { result.kind ≡ 6 }
+    ensures used { result.used ≡ 0 }
+    ensures some { 0 < result.fault }
+    ensures same { 0 < state.now.fault → state.now.fault ≤ 12 → (result.fault ≡ state.now.fault) × (result.detail ≡ state.now.detail) }
+{
+    if state.fault == 0 || state.fault > 12 {
+        return refused(STATE, 0);
+    }
+    refused(state.fault, state.detail)
+}
+
+/// Sets a state to the one before the first byte.
+#[unsafe(no_mangle)]
+pub extern "C" fn abt_sparse_init(state: &mut AbtSparse)
+    ensures left { IsLeft state.new }
+    ensures first { state.new.phase ≡ 0 }
+    ensures none { state.new.count ≡ 0 }
+{
+    *state = state_of(&Puller::new());
+}
+
+/// The next part of the image, as far as this input goes: it is what comes behind all that was used before. 0, or the
+/// number of the fault.
+#[unsafe(no_mangle)]
+pub extern "C" fn abt_sparse_next(state: &mut AbtSparse, input: &[u8], out: &mut AbtPart) -> u32
+    ensures fault { result ≡ out.new.fault }
+    ensures kind { (out.new.kind ≡ 6) ↔ (0 < out.new.fault) }
+    ensures used { out.new.used ≤ length input.now }
+    // What lay ahead of the state is this part, and then what lies ahead of it now, whatever bytes follow.
+    ensures told { state.old.phase < 3 → (out.new.fault ≡ 90 → ⊥) → Told out.new state.old state.new (take out.new.used input.now) }
+    ensures lent { out.new.kind ≡ 1 → out.new.offset + out.new.length ≤ out.new.used }
+    ensures place { state.old.phase < 3 → (out.new.fault ≡ 90 → ⊥) → out.new.position ≡ place_of state.old }
+    // A state that these calls left is taken and left so; another one is left as it is.
+    ensures left { IsLeft state.old → IsLeft state.new × (out.new.fault ≡ 90 → ⊥) }
+    ensures spoiled { out.new.fault ≡ 90 → state.new ≡ state.old }
+    // After a fault it answers that again.
+    ensures again { 3 ≤ state.old.phase → (state.new ≡ state.old) × (out.new.used ≡ 0) }
+    ensures same { IsLeft state.old → 3 ≤ state.old.phase → (out.new.fault ≡ state.old.fault) × (out.new.detail ≡ state.old.detail) }
+{
+    if state.phase >= 3 {
+        *out = again(state);
+        return out.fault;
+    }
+    match puller_in(state) {
+        None => {
+            *out = refused(STATE, 0);
+            STATE
+        }
+        Some(mut puller) => {
+            let place = puller.walk.place();
+            let pulled = puller.pull(input);
+            *out = part_of(pulled.pull, pulled.used, place);
+            *state = state_of(&puller);
+            out.fault
+        }
+    }
+}
+
+/// The part behind all others where the input has ended. 0, or the number of the fault: an image that is cut short has
+/// fault 10.
+#[unsafe(no_mangle)]
+pub extern "C" fn abt_sparse_last(state: &mut AbtSparse, out: &mut AbtPart) -> u32
+    ensures fault { result ≡ out.new.fault }
+    ensures kind { (out.new.kind ≡ 6) ↔ (0 < out.new.fault) }
+    ensures used { out.new.used ≡ 0 }
+    ensures told { state.old.phase < 3 → (out.new.fault ≡ 90 → ⊥) → Ended out.new state.old state.new }
+    ensures place { state.old.phase < 3 → (out.new.fault ≡ 90 → ⊥) → out.new.position ≡ place_of state.old }
+    ensures left { IsLeft state.old → IsLeft state.new × (out.new.fault ≡ 90 → ⊥) }
+    ensures spoiled { out.new.fault ≡ 90 → state.new ≡ state.old }
+    ensures again { 3 ≤ state.old.phase → state.new ≡ state.old }
+    ensures same { IsLeft state.old → 3 ≤ state.old.phase → (out.new.fault ≡ state.old.fault) × (out.new.detail ≡ state.old.detail) }
+{
+    if state.phase >= 3 {
+        *out = again(state);
+        return out.fault;
+    }
+    match puller_in(state) {
+        None => {
+            *out = refused(STATE, 0);
+            STATE
+        }
+        Some(mut puller) => {
+            let place = puller.walk.place();
+            let part = puller.last();
+            *out = part_of(Pull::Gives(part), 0, place);
+            *state = state_of(&puller);
+            out.fault
+        }
+    }
+}
+
+/// How large the image is, once its header has been read; before that all numbers are 0. 0, or the number of the fault
+/// that the state keeps.
+#[unsafe(no_mangle)]
+pub extern "C" fn abt_sparse_size(state: &AbtSparse, out: &mut AbtSize) -> u32
+    ensures unread { state.now.phase ≡ 0 → result ≡ 0 → (out.new.block_size ≡ 0) × (out.new.bytes ≡ 0) }
+    ensures block_size { 0 < state.now.phase → result ≡ 0 → out.new.block_size ≡ state.now.blk_sz }
+    ensures blocks { 0 < state.now.phase → result ≡ 0 → out.new.blocks ≡ state.now.total_blks }
+    ensures chunks { 0 < state.now.phase → result ≡ 0 → out.new.chunks ≡ state.now.total_chunks }
+    ensures bytes { 0 < state.now.phase → result ≡ 0 → out.new.bytes ≡ state.now.total_blks * state.now.blk_sz }
+    ensures left { IsLeft state.now → (result ≡ 90 → ⊥) }
+{
+    *out = AbtSize {
+        bytes: 0,
+        block_size: 0,
+        blocks: 0,
+        chunks: 0,
+    };
+    if state.phase >= 3 {
+        return again(state).fault;
+    }
+    if puller_in(state).is_none() {
+        return STATE;
+    }
+    if state.phase > 0 {
+        *out = AbtSize {
+            bytes: u64::from(state.total_blks) * u64::from(state.blk_sz),
+            block_size: state.blk_sz,
+            blocks: state.total_blks,
+            chunks: state.total_chunks,
+        };
+    }
+    0
+}

@@ -1,0 +1,175 @@
+//! From the numbers that C keeps to the reading machine, with all of its conditions checked, and back.
+
+ghost use Rattle.std.specs.Prelude.{◌≡◌, ◌≤◌, ◌<◌, ◌+◌, ◌*◌, IfSome, IsNone, if◌then◌else◌, true, false};
+ghost use Rattle.abt_sparse.specs.View.{view};
+ghost use Rattle.abt_chunks.specs.Ahead.{left_of};
+ghost use Rattle.abt_chunks.specs.declared.feed.Puller.{Puller as FedWalk};
+ghost use Rattle.abt_sparse.specs.declared.header.SparseHeader.{SparseHeader as ReadHeader};
+ghost use Rattle.abt_c.specs.Standing.{Stands, header_of, kept_detail, kept_fault, phase_number};
+
+use crate::state::AbtSparse;
+use crate::told::detail;
+use abt_chunks::{ChunkKind, Phase, Puller, SparseHeader, Walk};
+
+/// The header in a state, where its numbers are those of a header.
+fn header_in(s: &AbtSparse) -> Option<SparseHeader>
+    ensures some { IfSome result (λ h. header_of s.now ≡ view h) }
+    ensures none { IsNone result → (h : ReadHeader) → header_of s.now ≡ view h → ⊥ }
+{
+    if s.file_hdr_sz < 28 || s.chunk_hdr_sz < 12 || s.blk_sz == 0 || s.blk_sz % 4 != 0 {
+        return None;
+    }
+    Some(SparseHeader {
+        minor: s.minor,
+        file_hdr_sz: s.file_hdr_sz,
+        chunk_hdr_sz: s.chunk_hdr_sz,
+        blk_sz: s.blk_sz,
+        total_blks: s.total_blks,
+        total_chunks: s.total_chunks,
+        image_checksum: s.image_checksum,
+    })
+}
+
+/// The phase of this number, where the walk has not failed.
+fn phase_in(phase: u32) -> Option<Phase>
+    ensures some { IfSome result (λ p. phase ≡ phase_number p) }
+    ensures none { IsNone result → 3 ≤ phase }
+{
+    match phase {
+        0 => Some(Phase::Header),
+        1 => Some(Phase::Body),
+        2 => Some(Phase::Done),
+        _ => None,
+    }
+}
+
+/// Whether a word is due.
+fn is_due(due: u32) -> bool
+    requires { due ≤ 1 }
+    ensures { due ≡ (if result then 1 else 0) }
+{
+    due == 1
+}
+
+/// Whether so much may be left of chunks that have so many bytes of blocks.
+fn is_laid(kind: ChunkKind, raw: u64, words: u64, upto: u64) -> bool
+    ensures laid { result ≡ true → left_of kind raw words ≤ upto }
+    ensures more { result ≡ false → upto < left_of kind raw words }
+{
+    match kind {
+        ChunkKind::Raw => raw <= upto,
+        ChunkKind::Fill => words <= upto / 4,
+        ChunkKind::Skip => words <= upto / 4,
+        ChunkKind::Crc => true,
+    }
+}
+
+/// Whether a reader may have come so far.
+fn is_placed(position: u64, extra: u32, raw: u64, due: bool, index: u32) -> bool
+    ensures placed { result ≡ true → position + extra + raw + (if due then 4 else 0) ≤ 65535 + 4294967295 * index }
+    ensures more { result ≡ false → 65535 + 4294967295 * index < position + extra + raw + (if due then 4 else 0) }
+{
+    let most = 65535 + 4294967295 * u64::from(index);
+    let lacking = u64::from(extra) + if due { 4 } else { 0 };
+    if position > most {
+        return false;
+    }
+    if raw > most - position {
+        return false;
+    }
+    lacking <= most - position - raw
+}
+
+/// The machine in a state that has not failed, where its numbers are those of one.
+pub fn puller_in(s: &AbtSparse) -> Option<Puller>
+    ensures some { IfSome result (λ p. Stands s.now p) }
+    ensures none { IsNone result → (p : FedWalk) → Stands s.now p → 3 ≤ s.now.phase }
+{
+    let phase = match phase_in(s.phase) {
+        Some(phase) => phase,
+        None => return None,
+    };
+    let kind = match ChunkKind::from_code(s.kind) {
+        Some(kind) => kind,
+        None => return None,
+    };
+    let header = match header_in(s) {
+        Some(header) => header,
+        None => return None,
+    };
+    if s.index > header.total_chunks || s.have > header.total_blks || s.count > 28 || s.due > 1 {
+        return None;
+    }
+    if u64::from(s.have) > 4294967295 * u64::from(s.index) {
+        return None;
+    }
+    let due = is_due(s.due);
+    let upto = u64::from(s.have) * u64::from(header.blk_sz);
+    if !is_laid(kind, s.raw, s.words, upto) {
+        return None;
+    }
+    if !is_placed(s.position, s.extra, s.raw, due, s.index) {
+        return None;
+    }
+    let walk = Walk {
+        phase,
+        header,
+        kind,
+        blocks: s.blocks,
+        due,
+        word: s.word,
+        index: s.index,
+        have: s.have,
+        extra: s.extra,
+        raw: s.raw,
+        words: s.words,
+        position: s.position,
+    };
+    if s.count as usize > walk.whole().saturating_sub(1) {
+        return None;
+    }
+    Some(Puller {
+        walk,
+        held: s.held,
+        count: s.count as usize,
+    })
+}
+
+/// The numbers of a machine.
+pub fn state_of(p: &Puller) -> AbtSparse
+    ensures stands { Stands result p.now }
+    ensures fault { result.fault ≡ kept_fault p.now.walk.phase }
+    ensures detail { result.detail ≡ kept_detail p.now.walk.phase }
+{
+    let w = p.walk;
+    let (phase, fault, detail) = match w.phase {
+        Phase::Header => (0, 0, 0),
+        Phase::Body => (1, 0, 0),
+        Phase::Done => (2, 0, 0),
+        Phase::Failed(fault) => (3, fault.number(), detail(fault)),
+    };
+    AbtSparse {
+        position: w.position,
+        raw: w.raw,
+        words: w.words,
+        detail,
+        phase,
+        fault,
+        blk_sz: w.header.blk_sz,
+        total_blks: w.header.total_blks,
+        total_chunks: w.header.total_chunks,
+        image_checksum: w.header.image_checksum,
+        blocks: w.blocks,
+        index: w.index,
+        have: w.have,
+        extra: w.extra,
+        minor: w.header.minor,
+        file_hdr_sz: w.header.file_hdr_sz,
+        chunk_hdr_sz: w.header.chunk_hdr_sz,
+        kind: w.kind.code(),
+        due: if w.due { 1 } else { 0 },
+        count: p.count as u32,
+        word: w.word,
+        held: p.held,
+    }
+}
