@@ -1,4 +1,5 @@
--- What a piece is whatever the source gave: a sparse image of all blocks. And what may still come of one that is being written.
+-- What a piece is whatever the source gave: a sparse image of all blocks. And what may still come of one that is being
+-- written.
 use Rattle.std.specs.Prelude.{◌≡◌, ℕ, ◌+◌, ◌-◌, ◌^◌, ◌<◌, List, [], ◌++◌, length, Option, Some, None}
 use Rattle.std.specs.List.{flat_map, AllByRecursion}
 use Rattle.abt_sparse.specs.Chunk.{Chunk, IsChunk, data_of, plain, plain_header}
@@ -42,7 +43,8 @@ abbrev pub copy_to_come : Option Copying → ℕ
 copy_to_come None = 0
 copy_to_come (Some c) = c.left
 
--- t may come behind what is written: the rest of the raw run, and all chunks still to be begun, with all blocks behind the open run's first
+-- t may come behind what is written: the rest of the raw run, and all chunks still to be begun, with all blocks from the
+-- open run's first on
 pub record MayCome (b n : ℕ) (w : Writer) (t : List ℕ) : Type 0 where
   pub raw : List ℕ
   pub rest : List ℕ

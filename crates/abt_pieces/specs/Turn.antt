@@ -15,4 +15,5 @@ pub record HasAt {X : Type 0} (xs : List X) (i : ℕ) (x : X) : Type 0 where
 
 -- Of an image's pieces the one behind those that are made is the piece of the segment that begins where they end.
 abbrev pub NextInTurn : Type 0
-NextInTurn = (b limit made s e : ℕ) (l : List Block) → Made b limit l made (segments_left b limit l s Between) → FirstPiece b l limit s e → HasAt (pieces limit b l) made (piece b (frame l s e))
+NextInTurn = (b limit made s e : ℕ) (l : List Block) → Made b limit l made (segments_left b limit l s Between)
+    → FirstPiece b l limit s e → HasAt (pieces limit b l) made (piece b (frame l s e))

@@ -108,7 +108,8 @@ pub record ToldSparser (n b : ℕ) (f : List Block) (s : Sparser) : Type 0 where
 
 -- ---- what may come whatever the source gives
 
--- how many bytes of the open chunk are still to be copied, and how many blocks of the run are in chunks still to be begun
+-- how many bytes of the open chunk are still to be copied, and how many blocks of the run are in chunks still to be
+-- begun
 abbrev pub chunk_to_come : ℕ → Option Cutting → ℕ
 chunk_to_come b None = 0
 chunk_to_come b (Some c) = c.blocks * b - c.done
@@ -117,7 +118,8 @@ abbrev pub blocks_to_come : Option Cutting → ℕ
 blocks_to_come None = 0
 blocks_to_come (Some c) = c.left
 
--- t may come behind what is written: the rest of the open chunk, and all chunks still to be begun, with all blocks that are left of n
+-- t may come behind what is written: the rest of the open chunk, and all chunks still to be begun, with all blocks that
+-- are left of n
 pub record MayCome (b n : ℕ) (s : Sparser) (t : List ℕ) : Type 0 where
   pub raw : List ℕ
   pub rest : List ℕ
