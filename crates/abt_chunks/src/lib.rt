@@ -44,4 +44,4 @@ pub use feed::{Pull, Pulled, Puller};
 pub use laws::listings_are_right;
 pub use listing::Chunks;
 pub use progress::{ChunkInfo, Expanded, Progress};
-pub use walk::{Part, Phase, Taken, Turn, Walk};
+pub use walk::{Part, Phase, Taken, Walk};
