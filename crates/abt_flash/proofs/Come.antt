@@ -78,7 +78,6 @@ come_first tells s k x size past p taken laid first none fine = record {
 unless_fault : (f : FlashFault) (P Q : Type 0) → (P → Q) → UnlessDevice f P → UnlessDevice f Q
 unless_fault (fails.Read d) P Q go h = tt
 unless_fault (fails.Write d) P Q go h = tt
-unless_fault (fails.Sync d) P Q go h = tt
 unless_fault f P Q go h = go h
 
 pub unless_map : {X : Type 0} (r : Result X FlashFault) (P Q : Type 0) → (P → Q) → Unless r P → Unless r Q
@@ -402,6 +401,10 @@ module _ (tells : Bool) (s s' : Walk) (x x' read rest : List ℕ) (k size : ℕ)
         short = measures.2;
         none = omega (arith, none, i.counted, count);
       }
+  fault_flashes (fails.Sync d) e leaves heads measures none =
+      let laid = min (written_by e.all) (2 ^ 64 - 1) in
+      let answer : Flashed = record { blocks = min (laid / s'.header.blk_sz) s'.header.total_blks } in
+      (answer, image_of x e.all rest s.header s'.header answer size taken0 taken' laid (outcome x) (is_so x bytes) (e.told ∙ ap (λ (a : Ahead). before e.all a) (at_done s' rest leaves)) (known measures.0) measures.1 e.counted refl refl)
   fault_flashes f e leaves heads measures none = tt
 
   pub fault_holds : (f : FlashFault) → Ends tells (Err f) s' x read rest past0 past' p0 p' taken0 taken' laid' → Leaves (Err f) s'.phase → Measures (Err f) s size → OnShort {X = Progress} (Err f) (p' ≡ p) → IsTrue tells → Holds (Err f) p0 p' x
@@ -412,6 +415,10 @@ module _ (tells : Bool) (s s' : Walk) (x x' read rest : List ℕ) (k size : ℕ)
   fault_holds (fails.PartitionTooSmall need) e leaves measures same t =
       let zero = short_none measures.0 (rw (← measures.1) measures.2) in
       same ∙ i.content t ∙ ap (over p0) zero ∙ sym (over_none p0)
+  fault_holds (fails.Sync d) e leaves measures same t =
+      let q = e.told ∙ ap (λ (a : Ahead). before e.all a) (at_done s' rest leaves) in
+      let are : given (outcome x) ≡ e.all = sym (seen_given (outcome x)) ∙ ap (λ (a : Ahead). a.cells) q ∙ append-nil e.all in
+      e.content t ∙ ap (over p0) (sym are)
   fault_holds f e leaves measures same t = tt
 
 pub going_phase : (st : Stage) (p : Phase) → Goes st p → IsGoing p

@@ -12,3 +12,4 @@ pub mod PieceFlash
 pub mod Onward
 pub mod Summing
 pub mod Refusing
+pub mod Records

@@ -1,9 +1,9 @@
 -- What flashing a piece leaves, and why it may be refused.
-use Rattle.std.proofs.Common.{◌≡◌, ℕ, ◌+◌, ◌-◌, ◌*◌, ◌^◌, ◌≤◌, ◌<◌, Bool, List, [], ◌++◌, length, map, take, drop, Result, Ok, Err, refl, sym, ap, subst, ◌∙◌, append-nil, arith, length-drop, take-append-drop}
+use Rattle.std.proofs.Common.{◌≡◌, ℕ, ◌+◌, ◌-◌, ◌*◌, ◌^◌, ◌≤◌, ◌<◌, Bool, List, [], ◌++◌, length, map, take, drop, Option, Result, Ok, Err, refl, sym, ap, subst, ◌∙◌, append-nil, arith, length-drop, take-append-drop}
 use Rattle.std.specs.Prelude.{IsTrue}
 use Rattle.std.proofs.lemmas.List.{length-take-le, drop-drop}
 use Rattle.std.proofs.Math.Seq.{drop-append_seam}
-use Rattle.abt_sparse.specs.Block.{Block, IsBlockSize, AreBlocks, cells}
+use Rattle.abt_sparse.specs.Block.{Block, IsBlockSize, AreBlocks, cells, over}
 use Rattle.abt_sparse.specs.Runs.{runs, framed}
 use Rattle.abt_sparse.specs.Chunk.{Header, Chunk, classed, piece, plain_header, chunk_of_run}
 use Rattle.abt_sparse.specs.Reading.{Image, Fault, outcome}
@@ -18,10 +18,18 @@ use Rattle.abt_pieces.specs.Contents.{written_in}
 use Rattle.abt_pieces.specs.Gather.{frame}
 use Rattle.abt_pieces.specs.Outline.{segment_at, first_part}
 use Rattle.abt_pieces.specs.Plan.{between, FirstPiece}
-use Rattle.abt_flash.specs.Fault.{HasCause}
-use Rattle.abt_flash.specs.Flashing.{Whole, Refused, Short, Flashes}
-use Rattle.abt_flash.specs.Delivering.{StopsFor}
-use Rattle.abt_flash.specs.Causes.{flashing_cause}
+use Rattle.abt_pieces.specs.declared.fault.PieceFault.{PieceFault}
+use Rattle.abt_pieces.specs.declared.fault.PieceFault.TheVariants as cuts
+use Rattle.abt_io.specs.declared.device.DeviceFault.TheVariants as devices
+use Rattle.abt_pieces.specs.Fault.{HasCause as CutCause}
+use Rattle.abt_pieces.specs.Image.{IsImage}
+use Rattle.abt_flash.specs.declared.fault.Cause.{Cause}
+use Rattle.abt_flash.specs.declared.fault.Cause.TheVariants as causes
+use Rattle.abt_flash.specs.Fault.{HasCause, refused_syncs}
+use Rattle.abt_flash.specs.Flashing.{Whole, Refused, Short, Flashes, Holds}
+use Rattle.abt_flash.specs.Devices.{Counts}
+use Rattle.abt_flash.specs.Delivering.{OnFlashed, StopsFor, unsynced_by}
+use Rattle.abt_flash.specs.Causes.{cutting_cause, flashing_cause}
 use Rattle.abt_flash.specs.Going.{blocks_at}
 use Rattle.abt_flash.specs.declared.stage.Flashed.{Flashed}
 use Rattle.abt_flash.specs.declared.fault.FlashFault.{FlashFault}
@@ -130,18 +138,86 @@ only_devices b n f y rest (LimitTooSmall k) size had has r room h = tt
 only_devices b n f y rest (Stopped k c) size had has r room h = tt
 only_devices b n f y rest (NoSuchPiece k) size had has r room h = tt
 
-pub flash_stops : (e : FlashFault) (source spool : Bool) (r r' w w' g0 g g' p p' : ℕ) → g0 ≤ g → HasCause e g g' p p' → (IsTrue source → IsTrue spool → IsDevices e) → StopsFor (flashing_cause e) source spool r r' w w' g0 g' p p'
-flash_stops (Sparse f) source spool r r' w w' g0 g g' p p' le h only = only
-flash_stops (PartitionTooSmall n) source spool r r' w w' g0 g g' p p' le h only = only
-flash_stops (Read d) source spool r r' w w' g0 g g' p p' le h only = omega (arith, h, le)
-flash_stops (Write d) source spool r r' w w' g0 g g' p p' le h only = h
-flash_stops (Sync d) source spool r r' w w' g0 g g' p p' le h only = h
-flash_stops TooLarge source spool r r' w w' g0 g g' p p' le h only = absurd h
-flash_stops SourceChanged source spool r r' w w' g0 g g' p p' le h only = absurd h
-flash_stops (BadBlock n) source spool r r' w w' g0 g g' p p' le h only = absurd h
-flash_stops (LimitTooSmall n) source spool r r' w w' g0 g g' p p' le h only = absurd h
-flash_stops (Stopped n c) source spool r r' w w' g0 g g' p p' le h only = absurd h
-flash_stops (NoSuchPiece n) source spool r r' w w' g0 g g' p p' le h only = absurd h
+pub flash_stops : (e : FlashFault) (source spool : Bool) (a z : Counts) (g : ℕ) → a.spool_faults ≤ g → HasCause e g z.spool_faults a.put_faults z.put_faults → (IsTrue spool → IsDevices e) → StopsFor (flashing_cause e) source spool a z
+flash_stops (Sparse f) source spool a z g le h only = only
+flash_stops (PartitionTooSmall n) source spool a z g le h only = only
+flash_stops (Read d) source spool a z g le h only = let x = h.0 in (omega (arith, x, le), h.1)
+flash_stops (Write d) source spool a z g le h only = (h.0, h.1)
+flash_stops (Sync d) source spool a z g le h only = (h.0, h.1)
+flash_stops TooLarge source spool a z g le h only = absurd h
+flash_stops SourceChanged source spool a z g le h only = absurd h
+flash_stops (BadBlock n) source spool a z g le h only = absurd h
+flash_stops (LimitTooSmall n) source spool a z g le h only = absurd h
+flash_stops (Stopped n c) source spool a z g le h only = absurd h
+flash_stops (NoSuchPiece n) source spool a z g le h only = absurd h
+
+-- a piece that was not written: the source or the spool has failed, or the source tells nothing
+pub cut_stops : (e : PieceFault) (source spool : Bool) (a z : Counts) (w w' : ℕ) → CutCause e source a.read_faults z.read_faults w w' → (w < w' → a.write_faults < z.write_faults) → (e ≡ cuts.Write devices.Full → ⊥) → StopsFor (cutting_cause e) source spool a z
+cut_stops (cuts.Read d) source spool a z w w' h more full = h
+cut_stops (cuts.Write devices.Failed) source spool a z w w' h more full = (more h, refl)
+cut_stops (cuts.Write devices.Full) source spool a z w w' h more full = absurd (full refl)
+cut_stops cuts.SourceChanged source spool a z w w' h more full = h
+cut_stops cuts.TooLarge source spool a z w w' h more full = absurd h
+cut_stops (cuts.BadBlock n) source spool a z w w' h more full = absurd h
+cut_stops (cuts.LimitTooSmall n) source spool a z w w' h more full = absurd h
+
+-- an image of n blocks, whatever these are
+pub image_reads : (b n : ℕ) (y : List ℕ) (i : IsImage b n y) → Reads b n (classed i.chunks) y
+image_reads b n y i = record { header = plain_header b n (length i.chunks); chunks = i.chunks; spelled = i.spelled; size = refl; count = refl; blocks = refl }
+
+-- a piece that was refused is flashed whole where its sync was
+pub laid_stops : (e : FlashFault) (p p' x : List ℕ) (cs : List (Option ℕ)) → Holds (Err e) p p' x → given (outcome x) ≡ cs → OnFlashed (Err (flashing_cause e)) (p' ≡ over p cs)
+laid_stops (Sync d) p p' x cs h same = h ∙ ap (over p) same
+laid_stops (Sparse f) p p' x cs h same = tt
+laid_stops (PartitionTooSmall n) p p' x cs h same = tt
+laid_stops (Read d) p p' x cs h same = tt
+laid_stops (Write d) p p' x cs h same = tt
+laid_stops TooLarge p p' x cs h same = tt
+laid_stops SourceChanged p p' x cs h same = tt
+laid_stops (BadBlock n) p p' x cs h same = tt
+laid_stops (LimitTooSmall n) p p' x cs h same = tt
+laid_stops (Stopped n c) p p' x cs h same = tt
+laid_stops (NoSuchPiece n) p p' x cs h same = tt
+
+-- and only then a sync was refused
+pub unsynced_stops : (e : FlashFault) (r r' p p' : ℕ) → HasCause e r r' p p' → unsynced_by (Err (flashing_cause e)) ≡ refused_syncs {X = Flashed} (Err e)
+unsynced_stops (Sync d) r r' p p' h = refl
+unsynced_stops (Sparse f) r r' p p' h = refl
+unsynced_stops (PartitionTooSmall n) r r' p p' h = refl
+unsynced_stops (Read d) r r' p p' h = refl
+unsynced_stops (Write d) r r' p p' h = refl
+unsynced_stops TooLarge r r' p p' h = absurd h
+unsynced_stops SourceChanged r r' p p' h = absurd h
+unsynced_stops (BadBlock n) r r' p p' h = absurd h
+unsynced_stops (LimitTooSmall n) r r' p p' h = absurd h
+unsynced_stops (Stopped n c) r r' p p' h = absurd h
+unsynced_stops (NoSuchPiece n) r r' p p' h = absurd h
+
+-- a piece that was not written was not synced
+pub unsynced_cut : (e : PieceFault) → unsynced_by (Err (cutting_cause e)) ≡ 0
+unsynced_cut (cuts.Read d) = refl
+unsynced_cut (cuts.Write d) = refl
+unsynced_cut cuts.SourceChanged = refl
+unsynced_cut cuts.TooLarge = refl
+unsynced_cut (cuts.BadBlock n) = refl
+unsynced_cut (cuts.LimitTooSmall n) = refl
+
+pub laid_cut : (e : PieceFault) (P : Type 0) → OnFlashed (Err (cutting_cause e)) P
+laid_cut (cuts.Read d) P = tt
+laid_cut (cuts.Write d) P = tt
+laid_cut cuts.SourceChanged P = tt
+laid_cut cuts.TooLarge P = tt
+laid_cut (cuts.BadBlock n) P = tt
+laid_cut (cuts.LimitTooSmall n) P = tt
+
+pub on_flashed : (c : Cause) (P : Type 0) → P → OnFlashed (Err c) P
+on_flashed (causes.Sync d) P h = h
+on_flashed (causes.Read d) P h = tt
+on_flashed (causes.Write d) P h = tt
+on_flashed causes.SourceChanged P h = tt
+on_flashed (causes.SpoolWrite d) P h = tt
+on_flashed (causes.SpoolRead d) P h = tt
+on_flashed causes.SpoolChanged P h = tt
 
 -- ---- the spool
 

@@ -5,6 +5,7 @@ use Rattle.abt_sparse.specs.Reading.{outcome}
 use Rattle.abt_sparse.specs.Block.{classify}
 use Rattle.abt_runs.specs.Sparse.{blocks_in}
 use Rattle.abt_flash.specs.Raw.{RawRefused}
+use Rattle.abt_flash.specs.Devices.{Counts}
 use Rattle.abt_flash.specs.Delivering.{Refused, Room, StopsFor}
 use Rattle.abt_flash.specs.Sparse.{Fits, IsImage, SparseRefused, size_in}
 use Rattle.abt_flash.specs.declared.fault.Cause.{Cause}
@@ -22,52 +23,59 @@ pub record Opens (x : List ℕ) (b n : ℕ) : Type 0 where
 fits_of : (x : List ℕ) (b n limit size : ℕ) → Opens x b n → Room limit b n size → Fits x limit size
 fits_of x b n limit size o room = record { image = o.image; room = rw (o.size, o.count) room }
 
-stops_since : (c : Cause) (source spool : Bool) (r0 r r' w w' g g' p p' : ℕ) → r0 ≤ r → StopsFor c source spool r r' w w' g g' p p' → StopsFor c source spool r0 r' w w' g g' p p'
-stops_since (causes.Read d) source spool r0 r r' w w' g g' p p' le h = omega (arith, h, le)
-stops_since (causes.Write d) source spool r0 r r' w w' g g' p p' le h = h
-stops_since causes.SourceChanged source spool r0 r r' w w' g g' p p' le h = h
-stops_since (causes.Sync d) source spool r0 r r' w w' g g' p p' le h = h
-stops_since (causes.SpoolWrite d) source spool r0 r r' w w' g g' p p' le h = h
-stops_since (causes.SpoolRead d) source spool r0 r r' w w' g g' p p' le h = h
-stops_since causes.SpoolChanged source spool r0 r r' w w' g g' p p' le h = h
+-- no device has failed more often at the first of two times
+pub record NoFewer (a b : Counts) : Type 0 where
+  pub read : a.read_faults ≤ b.read_faults
+  pub write : a.write_faults ≤ b.write_faults
+  pub spool : a.spool_faults ≤ b.spool_faults
+  pub put : a.put_faults ≤ b.put_faults
 
-sparse_fault : (e : FlashFault) (x : List ℕ) (limit b n size made : ℕ) (source spool : Bool) (r0 r r' w w' g g' p p' : ℕ) → r0 ≤ r → (IsTrue source → Opens x b n) → Refused e limit b n size made source spool r r' w w' g g' p p' → SparseRefused e x limit size made source spool r0 r' w w' g g' p p'
-sparse_fault (LimitTooSmall least) x limit b n size made source spool r0 r r' w w' g g' p p' le o h = (h.1, λ t. ((o t).image, h.0 ∙ ap (λ (k : ℕ). 64 + k) (sym (o t).size)))
-sparse_fault (PartitionTooSmall need) x limit b n size made source spool r0 r r' w w' g g' p p' le o h = (h.2, λ t. let z = o t in (z.image, rw z.size h.0, rw (z.size, z.count) h.1))
-sparse_fault (Read d) x limit b n size made source spool r0 r r' w w' g g' p p' le o h = let z = h.1 in omega (arith, z, le)
-sparse_fault SourceChanged x limit b n size made source spool r0 r r' w w' g g' p p' le o h = h.1
-sparse_fault (NoSuchPiece k) x limit b n size made source spool r0 r r' w w' g g' p p' le o h = (h.1, h.2, λ t. fits_of x b n limit size (o t) h.0)
-sparse_fault (Stopped j c) x limit b n size made source spool r0 r r' w w' g g' p p' le o h = (h.1, stops_since c source spool r0 r r' w w' g g' p p' le h.2, λ t. fits_of x b n limit size (o t) h.0)
-sparse_fault (Sparse f) x limit b n size made source spool r0 r r' w w' g g' p p' le o h = absurd h
-sparse_fault (Write d) x limit b n size made source spool r0 r r' w w' g g' p p' le o h = absurd h
-sparse_fault TooLarge x limit b n size made source spool r0 r r' w w' g g' p p' le o h = absurd h
-sparse_fault (BadBlock k) x limit b n size made source spool r0 r r' w w' g g' p p' le o h = absurd h
-sparse_fault (Sync d) x limit b n size made source spool r0 r r' w w' g g' p p' le o h = absurd h
+pub stops_since : (c : Cause) (source spool : Bool) (a b z : Counts) → NoFewer a b → StopsFor c source spool b z → StopsFor c source spool a z
+stops_since (causes.Read d) source spool a b z le h = let x = le.read in let y = h.0 in (omega (arith, y, x), h.1)
+stops_since (causes.Write d) source spool a b z le h = let x = le.put in let y = h.0 in (omega (arith, y, x), h.1)
+stops_since causes.SourceChanged source spool a b z le h = h
+stops_since (causes.Sync d) source spool a b z le h = let x = le.put in let y = h.0 in (omega (arith, y, x), h.1)
+stops_since (causes.SpoolWrite d) source spool a b z le h = let x = le.write in let y = h.0 in (omega (arith, y, x), h.1)
+stops_since (causes.SpoolRead d) source spool a b z le h = let x = le.spool in let y = h.0 in (omega (arith, y, x), h.1)
+stops_since causes.SpoolChanged source spool a b z le h = h
 
-pub sparse_refused : (a : Result Delivered FlashFault) (x : List ℕ) (limit b n size made : ℕ) (source spool : Bool) (r0 r r' w w' g g' p p' : ℕ) → r0 ≤ r → (IsTrue source → Opens x b n)
-    → IfErr a (λ e. Refused e limit b n size made source spool r r' w w' g g' p p') → IfErr a (λ e. SparseRefused e x limit size made source spool r0 r' w w' g g' p p')
-sparse_refused (Ok d) x limit b n size made source spool r0 r r' w w' g g' p p' le o h = tt
-sparse_refused (Err e) x limit b n size made source spool r0 r r' w w' g g' p p' le o h = sparse_fault e x limit b n size made source spool r0 r r' w w' g g' p p' le o h
+pub sparse_fault : (e : FlashFault) (x : List ℕ) (limit b n size made : ℕ) (source spool : Bool) (a c z : Counts) → NoFewer a c → (IsTrue source → Opens x b n) → Refused e limit b n size made source spool c z → SparseRefused e x limit size made source spool a z
+sparse_fault (LimitTooSmall least) x limit b n size made source spool a c z le o h = (h.1, λ t. ((o t).image, h.0 ∙ ap (λ (k : ℕ). 64 + k) (sym (o t).size)))
+sparse_fault (PartitionTooSmall need) x limit b n size made source spool a c z le o h = (h.2, λ t. let y = o t in (y.image, rw y.size h.0, rw (y.size, y.count) h.1))
+sparse_fault (Read d) x limit b n size made source spool a c z le o h = let y = h.1 in let m = le.read in (omega (arith, y, m), h.2)
+sparse_fault SourceChanged x limit b n size made source spool a c z le o h = h.1
+sparse_fault (NoSuchPiece k) x limit b n size made source spool a c z le o h = (h.1, h.2, λ t. fits_of x b n limit size (o t) h.0)
+sparse_fault (Stopped j s) x limit b n size made source spool a c z le o h = (h.1, stops_since s source spool a c z le h.2, λ t. fits_of x b n limit size (o t) h.0)
+sparse_fault (Sparse f) x limit b n size made source spool a c z le o h = absurd h
+sparse_fault (Write d) x limit b n size made source spool a c z le o h = absurd h
+sparse_fault TooLarge x limit b n size made source spool a c z le o h = absurd h
+sparse_fault (BadBlock k) x limit b n size made source spool a c z le o h = absurd h
+sparse_fault (Sync d) x limit b n size made source spool a c z le o h = absurd h
+
+pub sparse_refused : (r : Result Delivered FlashFault) (x : List ℕ) (limit b n size made : ℕ) (source spool : Bool) (a c z : Counts) → NoFewer a c → (IsTrue source → Opens x b n)
+    → IfErr r (λ e. Refused e limit b n size made source spool c z) → IfErr r (λ e. SparseRefused e x limit size made source spool a z)
+sparse_refused (Ok d) x limit b n size made source spool a c z le o h = tt
+sparse_refused (Err e) x limit b n size made source spool a c z le o h = sparse_fault e x limit b n size made source spool a c z le o h
 
 pub fits_sparse : (x : List ℕ) (b n limit size : ℕ) → Opens x b n → Room limit b n size → Fits x limit size
 fits_sparse x b n limit size o room = fits_of x b n limit size o room
 
 -- ---- a raw image
 
-raw_fault : (e : FlashFault) (x : List ℕ) (long limit b n size made : ℕ) (source spool : Bool) (r0 r r' w w' g g' p p' : ℕ) → r0 ≤ r → (IsTrue source → length (classify b x) ≡ n) → Refused e limit b n size made source spool r r' w w' g g' p p' → RawRefused e b x long limit size made source spool r0 r' w w' g g' p p'
-raw_fault (LimitTooSmall least) x long limit b n size made source spool r0 r r' w w' g g' p p' le o h = h
-raw_fault (PartitionTooSmall need) x long limit b n size made source spool r0 r r' w w' g g' p p' le o h = (h.0, h.2, λ t. rw (o t) h.1)
-raw_fault (Read d) x long limit b n size made source spool r0 r r' w w' g g' p p' le o h = let z = h.1 in omega (arith, z, le)
-raw_fault SourceChanged x long limit b n size made source spool r0 r r' w w' g g' p p' le o h = h.1
-raw_fault (NoSuchPiece k) x long limit b n size made source spool r0 r r' w w' g g' p p' le o h = (h.1, h.2, λ t. rw (o t) (h.0))
-raw_fault (Stopped j c) x long limit b n size made source spool r0 r r' w w' g g' p p' le o h = (h.1, stops_since c source spool r0 r r' w w' g g' p p' le h.2, λ t. rw (o t) (h.0))
-raw_fault (Sparse f) x long limit b n size made source spool r0 r r' w w' g g' p p' le o h = absurd h
-raw_fault (Write d) x long limit b n size made source spool r0 r r' w w' g g' p p' le o h = absurd h
-raw_fault TooLarge x long limit b n size made source spool r0 r r' w w' g g' p p' le o h = absurd h
-raw_fault (BadBlock k) x long limit b n size made source spool r0 r r' w w' g g' p p' le o h = absurd h
-raw_fault (Sync d) x long limit b n size made source spool r0 r r' w w' g g' p p' le o h = absurd h
+raw_fault : (e : FlashFault) (x : List ℕ) (long limit b n size made : ℕ) (source spool : Bool) (a z : Counts) → (IsTrue source → length (classify b x) ≡ n) → Refused e limit b n size made source spool a z → RawRefused e b x long limit size made source spool a z
+raw_fault (LimitTooSmall least) x long limit b n size made source spool a z o h = h
+raw_fault (PartitionTooSmall need) x long limit b n size made source spool a z o h = (h.0, h.2, λ t. rw (o t) h.1)
+raw_fault (Read d) x long limit b n size made source spool a z o h = (h.1, h.2)
+raw_fault SourceChanged x long limit b n size made source spool a z o h = h.1
+raw_fault (NoSuchPiece k) x long limit b n size made source spool a z o h = (h.1, h.2, λ t. rw (o t) (h.0))
+raw_fault (Stopped j c) x long limit b n size made source spool a z o h = (h.1, h.2, λ t. rw (o t) (h.0))
+raw_fault (Sparse f) x long limit b n size made source spool a z o h = absurd h
+raw_fault (Write d) x long limit b n size made source spool a z o h = absurd h
+raw_fault TooLarge x long limit b n size made source spool a z o h = absurd h
+raw_fault (BadBlock k) x long limit b n size made source spool a z o h = absurd h
+raw_fault (Sync d) x long limit b n size made source spool a z o h = absurd h
 
-pub raw_refused : (a : Result Delivered FlashFault) (x : List ℕ) (long limit b n size made : ℕ) (source spool : Bool) (r r' w w' g g' p p' : ℕ) → (IsTrue source → length (classify b x) ≡ n)
-    → IfErr a (λ e. Refused e limit b n size made source spool r r' w w' g g' p p') → IfErr a (λ e. RawRefused e b x long limit size made source spool r r' w w' g g' p p')
-raw_refused (Ok d) x long limit b n size made source spool r r' w w' g g' p p' o h = tt
-raw_refused (Err e) x long limit b n size made source spool r r' w w' g g' p p' o h = raw_fault e x long limit b n size made source spool r r r' w w' g g' p p' (omega arith) o h
+pub raw_refused : (r : Result Delivered FlashFault) (x : List ℕ) (long limit b n size made : ℕ) (source spool : Bool) (a z : Counts) → (IsTrue source → length (classify b x) ≡ n)
+    → IfErr r (λ e. Refused e limit b n size made source spool a z) → IfErr r (λ e. RawRefused e b x long limit size made source spool a z)
+raw_refused (Ok d) x long limit b n size made source spool a z o h = tt
+raw_refused (Err e) x long limit b n size made source spool a z o h = raw_fault e x long limit b n size made source spool a z o h

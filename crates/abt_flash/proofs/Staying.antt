@@ -8,7 +8,8 @@ use Rattle.abt_sparse.specs.Mending.{Mendable}
 use Rattle.abt_sparse.proofs.MendLaws.{mendable_first}
 use Rattle.abt_pieces.specs.Gather.{frame}
 use Rattle.abt_flash.specs.Laying.{During, writes}
-use Rattle.abt_flash.specs.Delivering.{AlwaysMendable, LeavesMendable, MendableThen, StaysMendable, blocks_in_first}
+use Rattle.abt_flash.specs.Devices.{PartitionState}
+use Rattle.abt_flash.specs.Delivering.{AlwaysMendable, ImageBlocks, LeavesMendable, MendableThen, StaysMendable, blocks_in_first}
 use Rattle.abt_flash.specs.Going.{blocks_at, MendableAt, Staying}
 use Rattle.abt_flash.proofs.Mended.{leaves_same, leaves_mendable, mendable_now, mendable_before, mendable_within, mendable_behind}
 
@@ -85,7 +86,7 @@ pub fresh_leaves : (limit b : ℕ) (l : List Block) (m : Moment) → m.pending �
 fresh_leaves limit b l m none q may = let e = leaves_same m q none may in subst (λ (y : List ℕ). Mendable b l m.content y 0) (sym e) (mendable_first b l m.content)
 
 -- so every moment of a delivery is
-pub from_fresh : (limit b : ℕ) (l : List Block) (old new : Past) (before after : List ℕ) → old.pending ≡ [] → StaysMendable limit b l 0 old new before after → AlwaysMendable limit b l old new before after
-from_fresh limit b l old new before after none h =
-    let fresh = fresh_leaves limit b l (moment_of old before) none in
-    record { since = h.since before 0 (omega arith) fresh; now = h.now before 0 (omega arith) fresh }
+pub from_fresh : (i : ImageBlocks) (limit : ℕ) (old new : PartitionState) → old.past.pending ≡ [] → StaysMendable limit i.size i.blocks 0 old.past new.past old.content new.content → AlwaysMendable i limit old new
+from_fresh i limit old new none h =
+    let fresh = fresh_leaves limit i.size i.blocks (moment_of old.past old.content) none in
+    record { since = h.since old.content 0 (omega arith) fresh; now = h.now old.content 0 (omega arith) fresh }

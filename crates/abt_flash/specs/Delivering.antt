@@ -1,10 +1,16 @@
 -- What delivering an image piece by piece promises: of the spool, of the partition, and of every moment on the way.
-use Rattle.std.specs.Prelude.{◌≡◌, ℕ, ◌+◌, ◌-◌, ◌*◌, ◌≤◌, ◌<◌, List, [], ◌∷◌, ◌++◌, length, take, drop, replicate, Bool, false, IsTrue, Result, Ok, Err}
+use Rattle.std.specs.Prelude.{◌≡◌, ℕ, ◌+◌, ◌-◌, ◌*◌, ◌≤◌, ◌<◌, List, [], ◌∷◌, ◌++◌, length, take, drop, replicate, max, Bool, false, IsTrue, Result, Ok, Err, OnOk}
+use Rattle.std.specs.List.{concat}
+use Rattle.abt_io.specs.declared.device.DeviceFault.TheVariants.{Failed}
+use Rattle.abt_io.specs.declared.meter.Meter.{Meter}
 use Rattle.abt_io.specs.Moment.{Moment, Past, MayLeave, EachSince, moment_of}
-use Rattle.abt_sparse.specs.Block.{Block, Skip}
-use Rattle.abt_sparse.specs.Runs.{segments, joined}
+use Rattle.abt_sparse.specs.Block.{Block, Skip, cells, over}
+use Rattle.abt_sparse.specs.Runs.{segments, joined, Division}
 use Rattle.abt_sparse.specs.Pieces.{pieces}
 use Rattle.abt_sparse.specs.Mending.{Mendable}
+use Rattle.abt_pieces.specs.Contents.{written_in}
+use Rattle.abt_flash.specs.Devices.{Counts, PartitionState, SpoolState, all_bytes, all_calls}
+use Rattle.abt_flash.specs.Fault.{refused_syncs}
 use Rattle.abt_flash.specs.declared.fault.Cause.{Cause}
 use Rattle.abt_flash.specs.declared.fault.Cause.TheVariants as causes
 use Rattle.abt_flash.specs.declared.answer.Delivered.{Delivered}
@@ -63,14 +69,9 @@ pub record StaysMendable (limit b : ℕ) (l : List Block) (made : ℕ) (old new 
   pub since : (p : List ℕ) (done : ℕ) → made ≤ done → LeavesMendable limit b l p done (moment_of old before) → EachSince old.moments new.moments (MendableThen limit b l p made old.synced)
   pub now : (p : List ℕ) (done : ℕ) → made ≤ done → LeavesMendable limit b l p done (moment_of old before) → MendableThen limit b l p made old.synced (moment_of new after)
 
--- Of a whole delivery, over a partition of which nothing was pending: at every moment of it, and after it, a stop leaves what a delivery mends.
-pub record AlwaysMendable (limit b : ℕ) (l : List Block) (old new : Past) (before after : List ℕ) : Type 0 where
-  pub since : EachSince old.moments new.moments (MendableThen limit b l before 0 old.synced)
-  pub now : MendableThen limit b l before 0 old.synced (moment_of new after)
-
 -- ---- what is answered
 
--- how many pieces were begun, of which the first ones, `made`, were only planned. What was refused before any piece, and perhaps while planning, is counted with all that it was to plan.
+-- how many pieces were begun behind the first ones, `made`
 abbrev pub begun : ℕ → Result Delivered FlashFault → ℕ
 begun made (Ok d) = made + d.pieces
 begun made (Err (Stopped j c)) = j
@@ -96,15 +97,34 @@ OnEarly (Ok d) P = Unit {0}
 OnEarly (Err (Stopped j c)) P = Unit {0}
 OnEarly (Err f) P = P
 
--- Why a piece is not finished: the device that the cause names has failed in this call (its faults of each kind are counted before and after), or one of those whose bytes passed tells nothing.
-abbrev pub StopsFor : Cause → Bool → Bool → ℕ → ℕ → ℕ → ℕ → ℕ → ℕ → ℕ → ℕ → Type 0
-StopsFor (causes.Read d) source spool r r' w w' g g' p p' = r < r'
-StopsFor (causes.Write d) source spool r r' w w' g g' p p' = p < p'
-StopsFor causes.SourceChanged source spool r r' w w' g g' p p' = source ≡ false
-StopsFor (causes.Sync d) source spool r r' w w' g g' p p' = p < p'
-StopsFor (causes.SpoolWrite d) source spool r r' w w' g g' p p' = w < w'
-StopsFor (causes.SpoolRead d) source spool r r' w w' g g' p p' = g < g'
-StopsFor causes.SpoolChanged source spool r r' w w' g g' p p' = IsTrue source → IsTrue spool → ⊥
+-- Why a piece is not finished: the device that the cause names has failed in this call, and for no other reason than that; or a source whose bytes passed tells nothing, or a spool. A spool that has room for the limit is never full.
+abbrev pub StopsFor : Cause → Bool → Bool → Counts → Counts → Type 0
+StopsFor (causes.Read d) source spool a z = (a.read_faults < z.read_faults) × (d ≡ Failed)
+StopsFor (causes.Write d) source spool a z = (a.put_faults < z.put_faults) × (d ≡ Failed)
+StopsFor causes.SourceChanged source spool a z = source ≡ false
+StopsFor (causes.Sync d) source spool a z = (a.put_faults < z.put_faults) × (d ≡ Failed)
+StopsFor (causes.SpoolWrite d) source spool a z = (a.write_faults < z.write_faults) × (d ≡ Failed)
+StopsFor (causes.SpoolRead d) source spool a z = (a.spool_faults < z.spool_faults) × (d ≡ Failed)
+StopsFor causes.SpoolChanged source spool a z = IsTrue spool → ⊥
+
+-- no device has failed
+pub record NoneFailed (a z : Counts) : Type 0 where
+  pub read : z.read_faults ≡ a.read_faults
+  pub write : z.write_faults ≡ a.write_faults
+  pub spool : z.spool_faults ≡ a.spool_faults
+  pub put : z.put_faults ≡ a.put_faults
+
+-- P, where a piece was flashed whole, also where it was not synced
+abbrev pub OnFlashed : Result (Unit {0}) Cause → Type 0 → Type 0
+OnFlashed (Ok u) P = P
+OnFlashed (Err (causes.Sync d)) P = P
+OnFlashed (Err c) P = Unit {0}
+
+-- 1 where a sync was refused
+abbrev pub unsynced_by : Result (Unit {0}) Cause → ℕ
+unsynced_by (Ok u) = 0
+unsynced_by (Err (causes.Sync d)) = 1
+unsynced_by (Err c) = 0
 
 -- The limit has room for each block, and the partition for all n of them.
 pub record Room (limit b n size : ℕ) : Type 0 where
@@ -112,25 +132,87 @@ pub record Room (limit b n size : ℕ) : Type 0 where
   pub all : n * b ≤ size
 
 -- Why an opened image of n blocks of b bytes is not delivered behind its first pieces, in this order: the limit, the partition, planning, and then a stop alone.
-abbrev pub Refused : FlashFault → ℕ → ℕ → ℕ → ℕ → ℕ → Bool → Bool → ℕ → ℕ → ℕ → ℕ → ℕ → ℕ → ℕ → ℕ → Type 0
-Refused (LimitTooSmall least) limit b n size made source spool r r' w w' g g' p p' = (least ≡ 64 + b) × (limit < least)
-Refused (PartitionTooSmall need) limit b n size made source spool r r' w w' g g' p p' = (64 + b ≤ limit) × (need ≡ n * b) × (size < need)
-Refused (Read d) limit b n size made source spool r r' w w' g g' p p' = Room limit b n size × (r < r')
-Refused SourceChanged limit b n size made source spool r r' w w' g g' p p' = Room limit b n size × (source ≡ false)
-Refused (NoSuchPiece k) limit b n size made source spool r r' w w' g g' p p' = Room limit b n size × (0 < k) × (k ≤ made)
-Refused (Stopped j c) limit b n size made source spool r r' w w' g g' p p' = Room limit b n size × (made < j) × StopsFor c source spool r r' w w' g g' p p'
-Refused (Sparse f) limit b n size made source spool r r' w w' g g' p p' = ⊥
-Refused (Write d) limit b n size made source spool r r' w w' g g' p p' = ⊥
-Refused TooLarge limit b n size made source spool r r' w w' g g' p p' = ⊥
-Refused (BadBlock q) limit b n size made source spool r r' w w' g g' p p' = ⊥
-Refused (Sync d) limit b n size made source spool r r' w w' g g' p p' = ⊥
+abbrev pub Refused : FlashFault → ℕ → ℕ → ℕ → ℕ → ℕ → Bool → Bool → Counts → Counts → Type 0
+Refused (LimitTooSmall least) limit b n size made source spool a z = (least ≡ 64 + b) × (limit < least)
+Refused (PartitionTooSmall need) limit b n size made source spool a z = (64 + b ≤ limit) × (need ≡ n * b) × (size < need)
+Refused (Read d) limit b n size made source spool a z = Room limit b n size × (a.read_faults < z.read_faults) × (d ≡ Failed)
+Refused SourceChanged limit b n size made source spool a z = Room limit b n size × (source ≡ false)
+Refused (NoSuchPiece k) limit b n size made source spool a z = Room limit b n size × (0 < k) × (k ≤ made)
+Refused (Stopped j c) limit b n size made source spool a z = Room limit b n size × (made < j) × StopsFor c source spool a z
+Refused (Sparse f) limit b n size made source spool a z = ⊥
+Refused (Write d) limit b n size made source spool a z = ⊥
+Refused TooLarge limit b n size made source spool a z = ⊥
+Refused (BadBlock q) limit b n size made source spool a z = ⊥
+Refused (Sync d) limit b n size made source spool a z = ⊥
+
+-- ---- what a delivery does
+
+-- An image as a delivery knows it: how many bytes a block has, and its blocks.
+pub record ImageBlocks : Type 0 where
+  pub size : ℕ
+  pub blocks : List Block
+
+-- how many pieces it has within this limit
+abbrev pub pieces_in : ℕ → ImageBlocks → ℕ
+pieces_in limit i = length (pieces limit i.size i.blocks)
+
+-- no division of it has fewer than k parts
+abbrev pub IsLeast : ℕ → ℕ → ImageBlocks → Type 0
+IsLeast limit k i = (parts : List (List Block)) → Division limit i.size i.blocks parts → k ≤ length parts
+
+-- What a spool was given by a call that delivers an image behind its first pieces.
+pub record GivesPieces (source spool : Bool) (i : ImageBlocks) (limit made : ℕ) (r : Result Delivered FlashFault) (old new : SpoolState) : Type 0 where
+  -- its room stays, and behind each clear at most the limit was written, also of a piece that was only begun
+  pub room : new.size ≡ old.size
+  pub fits : PiecesFit limit old.cuts new.cuts (length old.written) (length new.written)
+  -- exactly the pieces that are left, each behind a clear of its own, and where it was refused a beginning of them
+  pub written : IsTrue source → OnOk r (new.written ≡ old.written ++ concat (pieces_behind limit i.size i.blocks made))
+  pub cuts : IsTrue source → OnOk r (new.cuts ≡ with_cuts old.cuts (length old.written) (pieces_behind limit i.size i.blocks made))
+  pub begins : IsTrue source → Begins new.written (old.written ++ concat (pieces_behind limit i.size i.blocks made))
+  -- each byte of them was read back
+  pub back : IsTrue source → IsTrue spool → OnOk r (new.given + length old.written ≡ old.given + length new.written)
+
+-- What it leaves on the partition.
+pub record LaysBlocks (source spool partition : Bool) (i : ImageBlocks) (limit made : ℕ) (r : Result Delivered FlashFault) (old new : PartitionState) : Type 0 where
+  -- its length stays, and nothing is read of it
+  pub size : new.size ≡ old.size
+  pub unread : (new.reads ≡ old.reads) × (new.given ≡ old.given)
+  -- the raw and fill blocks behind the first pieces are laid over what it held, each byte of them written once
+  pub laid : IsTrue source → IsTrue spool → IsTrue partition → OnOk r (new.content ≡ over old.content (cells i.size (blocks_behind (blocks_in_first limit i.size i.blocks made) i.blocks)))
+  pub once : IsTrue source → IsTrue spool → OnOk r (new.taken ≡ old.taken + i.size * written_in (blocks_behind (blocks_in_first limit i.size i.blocks made) i.blocks))
+  -- each piece that was finished was synced, and every sync has succeeded but one that the answer names
+  pub synced : new.past.synced ≡ old.past.synced + finished made r
+  pub unsynced : new.syncs + old.past.synced ≡ old.syncs + new.past.synced + refused_syncs r
+  -- nothing is pending in the end, so a crash leaves exactly what it holds
+  pub settled : IsTrue partition → OnOk r (new.past.pending ≡ [])
+  pub lasts : IsTrue partition → OnOk r ((q : List ℕ) → MayLeave (moment_of new.past new.content) q → q ≡ new.content)
+
+-- Of a whole delivery, over a partition of which nothing was pending: at every moment of it, and after it, a stop leaves what a delivery mends.
+pub record AlwaysMendable (i : ImageBlocks) (limit : ℕ) (old new : PartitionState) : Type 0 where
+  pub since : EachSince old.past.moments new.past.moments (MendableThen limit i.size i.blocks old.content 0 old.past.synced)
+  pub now : MendableThen limit i.size i.blocks old.content 0 old.past.synced (moment_of new.past new.content)
+
+-- What is whole of the image when a call begins behind its first pieces stays so at every moment, and an Ok mends all else.
+pub record MendsBlocks (i : ImageBlocks) (limit made : ℕ) (r : Result Delivered FlashFault) (old new : PartitionState) : Type 0 where
+  pub stays : StaysMendable limit i.size i.blocks made old.past new.past old.content new.content
+  pub mends : OnOk r ((p : List ℕ) (done : ℕ) → made ≤ done → Mendable i.size i.blocks p old.content (blocks_in_first limit i.size i.blocks done) → new.content ≡ over p (cells i.size i.blocks))
 
 -- ---- what it costs
 
--- the calls of all devices: of the source, of the spool (read, written, cleared) and of the partition (written, synced)
-abbrev pub all_calls : ℕ → ℕ → ℕ → ℕ → ℕ → ℕ → ℕ
-all_calls reads spool_reads spool_writes clears puts syncs = reads + spool_reads + spool_writes + clears + puts + syncs
+-- So many pieces were begun, of which the first ones, `made`, were only to be planned. Where planning was refused these are the pieces that were planned, of k that the image has; before that none was.
+abbrev pub HasBegun : Bool → ℕ → Result Delivered FlashFault → ℕ → ℕ → Type 0
+HasBegun source k (Ok d) made n = n ≡ made + d.pieces
+HasBegun source k (Err (Stopped j c)) made n = n ≡ j
+HasBegun source k (Err (NoSuchPiece j)) made n = n ≡ j
+HasBegun source k (Err (Read d)) made n = (n ≤ made) × (IsTrue source → n ≤ k)
+HasBegun source k (Err SourceChanged) made n = n ≤ made
+HasBegun source k (Err f) made n = n ≡ 0
 
--- the bytes that all devices gave or took
-abbrev pub all_bytes : ℕ → ℕ → ℕ → ℕ → ℕ
-all_bytes given spool_given written taken = given + spool_given + written + taken
+-- The calls of all devices, and the turns of loops, are at most 8 for each byte that a device gave or took, and so many for each piece that was begun and once more; of a raw image some words may be compared that were not read. No step receives more than 65,580 bytes.
+pub record Costs (source : Bool) (i : ImageBlocks) (limit words each made : ℕ) (r : Result Delivered FlashFault) (old new : Counts) (m m' : Meter) : Type 0 where
+  pub begun : ℕ
+  pub counted : HasBegun source (pieces_in limit i) r made begun
+  pub calls : all_calls new + 8 * all_bytes old ≤ all_calls old + 8 * all_bytes new + each * (begun + 1)
+  pub turns : m'.turns.number + 8 * all_bytes old ≤ m.turns.number + 8 * all_bytes new + 8 * words + each * (begun + 1)
+  pub steps : new.given + new.spool_given + 65580 * m.steps.number ≤ old.given + old.spool_given + 65580 * m'.steps.number
+  pub greatest : m'.greatest.number ≤ max m.greatest.number 65580

@@ -1,5 +1,6 @@
 -- The numbers of faults, and what causes each.
-use Rattle.std.specs.Prelude.{ℕ, ◌<◌, Result, Ok, Err}
+use Rattle.std.specs.Prelude.{◌≡◌, ℕ, ◌<◌, Result, Ok, Err}
+use Rattle.abt_io.specs.declared.device.DeviceFault.TheVariants.{Failed}
 use Rattle.abt_sparse.specs.Number.{number_of}
 use Rattle.abt_sparse.specs.declared.fault.SparseFault.{SparseFault}
 use Rattle.abt_sparse.specs.declared.fault.SparseFault.TheVariants as of_sparse
@@ -42,22 +43,42 @@ IsOwn (of_sparse.Read d) = ⊥
 IsOwn (of_sparse.Write d) = ⊥
 IsOwn f = Unit {0}
 
--- Of a flash: 11 comes where the input's faults rose, 12 and 18 where the partition's did. 13 to 16, 19 and 31 never come.
+-- Of a flash: 11 comes where the input has failed, 12 and 18 where the partition has, and each count of faults is as before
+-- where that device isn't named. The reason that it gave is handed on, and is never that it is full. 13 to 16, 19 and 31
+-- never come.
 abbrev pub HasCause : FlashFault → ℕ → ℕ → ℕ → ℕ → Type 0
-HasCause (Sparse f) r r' p p' = IsOwn f
-HasCause (Read d) r r' p p' = r < r'
-HasCause (Write d) r r' p p' = p < p'
-HasCause (PartitionTooSmall n) r r' p p' = Unit {0}
-HasCause (Sync d) r r' p p' = p < p'
+HasCause (Sparse f) r r' p p' = IsOwn f × (r' ≡ r) × (p' ≡ p)
+HasCause (Read d) r r' p p' = (r < r') × (d ≡ Failed) × (p' ≡ p)
+HasCause (Write d) r r' p p' = (p < p') × (d ≡ Failed) × (r' ≡ r)
+HasCause (PartitionTooSmall n) r r' p p' = (r' ≡ r) × (p' ≡ p)
+HasCause (Sync d) r r' p p' = (p < p') × (d ≡ Failed) × (r' ≡ r)
 HasCause f r r' p p' = ⊥
 
 abbrev pub Rises : {X : Type 0} → Result X FlashFault → ℕ → ℕ → ℕ → ℕ → Type 0
-Rises (Ok x) r r' p p' = Unit {0}
+Rises (Ok x) r r' p p' = (r' ≡ r) × (p' ≡ p)
 Rises (Err f) r r' p p' = HasCause f r r' p p'
 
 -- and of writing a part alone
 abbrev pub PutCause : {X : Type 0} → Result X FlashFault → ℕ → ℕ → Type 0
-PutCause (Ok x) p p' = Unit {0}
-PutCause (Err (Write d)) p p' = p < p'
-PutCause (Err (Sync d)) p p' = p < p'
+PutCause (Ok x) p p' = p' ≡ p
+PutCause (Err (Write d)) p p' = (p < p') × (d ≡ Failed)
+PutCause (Err (Sync d)) p p' = (p < p') × (d ≡ Failed)
 PutCause (Err f) p p' = ⊥
+
+-- 1 where a sync was refused. Of each other refusal every sync that was called has succeeded.
+abbrev pub refused_syncs : {X : Type 0} → Result X FlashFault → ℕ
+refused_syncs (Ok x) = 0
+refused_syncs (Err (Sync d)) = 1
+refused_syncs (Err (Stopped j (causes.Sync d))) = 1
+refused_syncs (Err f) = 0
+
+-- P, where a sync was refused; and save where a write was
+abbrev pub OnUnsynced : {X : Type 0} → Result X FlashFault → Type 0 → Type 0
+OnUnsynced (Ok x) P = Unit {0}
+OnUnsynced (Err (Sync d)) P = P
+OnUnsynced (Err f) P = Unit {0}
+
+abbrev pub UnlessUnwritten : {X : Type 0} → Result X FlashFault → Type 0 → Type 0
+UnlessUnwritten (Ok x) P = P
+UnlessUnwritten (Err (Write d)) P = Unit {0}
+UnlessUnwritten (Err f) P = P

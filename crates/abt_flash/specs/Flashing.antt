@@ -6,7 +6,7 @@ use Rattle.abt_sparse.specs.Fails.{Fails, Spells, SpellsHeader}
 use Rattle.abt_sparse.specs.Pieces.{flashed}
 use Rattle.abt_pieces.specs.Contents.{written_in}
 use Rattle.abt_flash.specs.declared.fault.FlashFault.{FlashFault}
-use Rattle.abt_flash.specs.declared.fault.FlashFault.TheVariants.{Sparse, PartitionTooSmall}
+use Rattle.abt_flash.specs.declared.fault.FlashFault.TheVariants.{Sparse, Sync, PartitionTooSmall}
 use Rattle.abt_flash.specs.declared.stage.Flashed.{Flashed}
 
 -- An image that fits a partition of this size stands at the front of x, and rest behind it. The answer counts its raw
@@ -34,17 +34,20 @@ pub record Short (need size taken taken' : ℕ) (x : List ℕ) : Type 0 where
   pub short : size < need
   pub none : taken' ≡ taken
 
--- what is answered over an input x of which rest is left, and a partition of this size, save where a device failed
+-- what is answered over an input x of which rest is left, and a partition of this size, save where bytes were not read or
+-- not written. A sync is refused behind the whole image.
 abbrev pub Flashes : Result Flashed FlashFault → ℕ → ℕ → ℕ → List ℕ → List ℕ → Type 0
 Flashes (Ok e) size taken taken' x rest = Whole e size taken taken' x rest
 Flashes (Err (Sparse f)) size taken taken' x rest = Refused f size x
 Flashes (Err (PartitionTooSmall need)) size taken taken' x rest = Short need size taken taken' x
+Flashes (Err (Sync d)) size taken taken' x rest = (e : Flashed) × Whole e size taken taken' x rest
 Flashes (Err f) size taken taken' x rest = Unit {0}
 
 -- What a partition that held p holds behind it: what x gives is laid over it, an image or what comes before a fault. One
--- that is too small is as it was.
+-- that is too small is as it was, and one that was not synced holds all of the image, of which a crash may leave less.
 abbrev pub Holds : Result Flashed FlashFault → List ℕ → List ℕ → List ℕ → Type 0
 Holds (Ok e) p p' x = p' ≡ flashed p x
 Holds (Err (Sparse f)) p p' x = p' ≡ flashed p x
 Holds (Err (PartitionTooSmall need)) p p' x = p' ≡ p
+Holds (Err (Sync d)) p p' x = p' ≡ flashed p x
 Holds (Err f) p p' x = Unit {0}

@@ -9,7 +9,10 @@ use Rattle.abt_pieces.specs.Outline.{segment_at}
 use Rattle.abt_pieces.specs.Cutter.{segments_left}
 use Rattle.abt_pieces.specs.declared.stage.Stage.{Stage}
 use Rattle.abt_pieces.specs.declared.stage.Stage.TheVariants.{Between, Plan, Begin, Write, Done, Failed}
-use Rattle.abt_flash.specs.Delivering.{StopsFor, MendableThen}
+use Rattle.abt_io.specs.declared.meter.Meter.{Meter}
+use Rattle.abt_io.specs.declared.device.DeviceFault.TheVariants.{Failed as DeviceFailed}
+use Rattle.abt_flash.specs.Devices.{Counts}
+use Rattle.abt_flash.specs.Delivering.{HasBegun, StopsFor, MendableThen}
 use Rattle.abt_flash.specs.declared.fault.FlashFault.{FlashFault}
 use Rattle.abt_flash.specs.declared.fault.FlashFault.TheVariants as flashes
 
@@ -60,15 +63,9 @@ pub record Staying (limit b : ℕ) (l : List Block) (p : List ℕ) (made synced 
 
 -- ---- refusals
 
--- how many pieces were planned at most, where so many were to be
-abbrev pub planned : {X : Type 0} → ℕ → Result X FlashFault → ℕ
-planned before (Ok x) = before
-planned before (Err (flashes.NoSuchPiece k)) = k
-planned before (Err e) = before
-
 -- planning is refused by the source, or since no piece is left
 abbrev pub PlanRefused : FlashFault → ℕ → Bool → ℕ → ℕ → Type 0
-PlanRefused (flashes.Read d) before tells r r' = r < r'
+PlanRefused (flashes.Read d) before tells r r' = (r < r') × (d ≡ DeviceFailed)
 PlanRefused flashes.SourceChanged before tells r r' = tells ≡ false
 PlanRefused (flashes.NoSuchPiece k) before tells r r' = (0 < k) × (k ≤ before)
 PlanRefused (flashes.Sparse f) before tells r r' = ⊥
@@ -80,16 +77,38 @@ PlanRefused (flashes.PartitionTooSmall n) before tells r r' = ⊥
 PlanRefused (flashes.Sync d) before tells r r' = ⊥
 PlanRefused (flashes.Stopped n c) before tells r r' = ⊥
 
+-- so many pieces were planned, where so many were to be, of k that the image has
+abbrev pub HasPlanned : Bool → ℕ → Result (Unit {0}) FlashFault → ℕ → ℕ → Type 0
+HasPlanned tells k (Ok u) before n = n ≡ before
+HasPlanned tells k (Err f) before n = HasBegun tells k (Err f) before n
+
+-- what planning costs
+pub record PlanCosts (tells : Bool) (k before one : ℕ) (r : Result (Unit {0}) FlashFault) (reads given reads' given' : ℕ) (m m' : Meter) : Type 0 where
+  pub begun : ℕ
+  pub counted : HasPlanned tells k r before begun
+  pub calls : reads' + 8 * given ≤ reads + 8 * given' + 128 * (begun + 1)
+  pub turns : m'.turns.number + 8 * given ≤ m.turns.number + 8 * given' + 4 * one + 129 * (begun + 1) + 1
+
 -- from the first piece on there are stops alone
-abbrev pub StopsIn : FlashFault → ℕ → Bool → Bool → ℕ → ℕ → ℕ → ℕ → ℕ → ℕ → ℕ → ℕ → Type 0
-StopsIn (flashes.Stopped j c) made source spool r r' w w' g g' p p' = (made < j) × StopsFor c source spool r r' w w' g g' p p'
-StopsIn (flashes.Read d) made source spool r r' w w' g g' p p' = ⊥
-StopsIn flashes.SourceChanged made source spool r r' w w' g g' p p' = ⊥
-StopsIn (flashes.NoSuchPiece k) made source spool r r' w w' g g' p p' = ⊥
-StopsIn (flashes.Sparse f) made source spool r r' w w' g g' p p' = ⊥
-StopsIn (flashes.Write d) made source spool r r' w w' g g' p p' = ⊥
-StopsIn flashes.TooLarge made source spool r r' w w' g g' p p' = ⊥
-StopsIn (flashes.BadBlock n) made source spool r r' w w' g g' p p' = ⊥
-StopsIn (flashes.LimitTooSmall n) made source spool r r' w w' g g' p p' = ⊥
-StopsIn (flashes.PartitionTooSmall n) made source spool r r' w w' g g' p p' = ⊥
-StopsIn (flashes.Sync d) made source spool r r' w w' g g' p p' = ⊥
+abbrev pub StopsIn : FlashFault → ℕ → Bool → Bool → Counts → Counts → Type 0
+StopsIn (flashes.Stopped j c) made source spool a z = (made < j) × StopsFor c source spool a z
+StopsIn (flashes.Read d) made source spool a z = ⊥
+StopsIn flashes.SourceChanged made source spool a z = ⊥
+StopsIn (flashes.NoSuchPiece k) made source spool a z = ⊥
+StopsIn (flashes.Sparse f) made source spool a z = ⊥
+StopsIn (flashes.Write d) made source spool a z = ⊥
+StopsIn flashes.TooLarge made source spool a z = ⊥
+StopsIn (flashes.BadBlock n) made source spool a z = ⊥
+StopsIn (flashes.LimitTooSmall n) made source spool a z = ⊥
+StopsIn (flashes.PartitionTooSmall n) made source spool a z = ⊥
+StopsIn (flashes.Sync d) made source spool a z = ⊥
+
+-- ---- what a piece costs
+
+-- the calls of all devices: of the source, of the spool (read, written, cleared) and of the partition (written, synced)
+abbrev pub calls_in : ℕ → ℕ → ℕ → ℕ → ℕ → ℕ → ℕ
+calls_in reads spool_reads spool_writes clears puts syncs = reads + spool_reads + spool_writes + clears + puts + syncs
+
+-- the bytes that all devices gave or took
+abbrev pub bytes_in : ℕ → ℕ → ℕ → ℕ → ℕ
+bytes_in given spool_given written taken = given + spool_given + written + taken

@@ -2,6 +2,7 @@ pub mod Fault
 pub mod Laying
 pub mod Stepping
 pub mod Flashing
+pub mod Devices
 pub mod Delivering
 pub mod Going
 pub mod Causes

@@ -3,7 +3,9 @@ use Rattle.std.specs.Prelude.{◌≡◌, ℕ, ◌+◌, ◌-◌, ◌*◌, ◌≤�
 use Rattle.abt_sparse.specs.Number.{number_of}
 use Rattle.abt_sparse.specs.Reading.{Outcome, Image, Fault, outcome}
 use Rattle.abt_runs.specs.Sparse.{blocks_in}
-use Rattle.abt_flash.specs.Delivering.{Room, StopsFor}
+use Rattle.abt_io.specs.declared.device.DeviceFault.TheVariants.{Failed}
+use Rattle.abt_flash.specs.Devices.{Counts}
+use Rattle.abt_flash.specs.Delivering.{ImageBlocks, Room, StopsFor}
 use Rattle.abt_flash.specs.declared.fault.FlashFault.{FlashFault}
 use Rattle.abt_flash.specs.declared.fault.FlashFault.TheVariants.{Sparse, Read, Write, TooLarge, SourceChanged, BadBlock, LimitTooSmall, PartitionTooSmall, Sync, Stopped, NoSuchPiece}
 
@@ -25,21 +27,25 @@ rest_in (Fault f cells) = []
 abbrev pub image_length : List ℕ → ℕ
 image_length x = length x - length (rest_in (outcome x))
 
+-- that image
+abbrev pub sparse_image : List ℕ → ImageBlocks
+sparse_image x = record { size = size_in (outcome x); blocks = blocks_in (outcome x) }
+
 -- x begins with an image, the limit has room for each of its blocks, and the partition for all
 pub record Fits (x : List ℕ) (limit size : ℕ) : Type 0 where
   pub image : IsImage (outcome x)
   pub room : Room limit (size_in (outcome x)) (length (blocks_in (outcome x))) size
 
 -- Why the sparse image at the front of x is not delivered behind its first pieces, in order: its own fault, the limit, the partition, planning, and then a stop alone. A source that fails or has changed is told of at any time.
-abbrev pub SparseRefused : FlashFault → List ℕ → ℕ → ℕ → ℕ → Bool → Bool → ℕ → ℕ → ℕ → ℕ → ℕ → ℕ → ℕ → ℕ → Type 0
-SparseRefused (Sparse f) x limit size made source spool r r' w w' g g' p p' = (number_of f ≤ 10) × (IsTrue source → (cells : List (Option ℕ)) × (outcome x ≡ Fault f cells))
-SparseRefused (Read d) x limit size made source spool r r' w w' g g' p p' = r < r'
-SparseRefused SourceChanged x limit size made source spool r r' w w' g g' p p' = source ≡ false
-SparseRefused (LimitTooSmall least) x limit size made source spool r r' w w' g g' p p' = (limit < least) × (IsTrue source → IsImage (outcome x) × (least ≡ 64 + size_in (outcome x)))
-SparseRefused (PartitionTooSmall need) x limit size made source spool r r' w w' g g' p p' = (size < need) × (IsTrue source → IsImage (outcome x) × (64 + size_in (outcome x) ≤ limit) × (need ≡ length (blocks_in (outcome x)) * size_in (outcome x)))
-SparseRefused (NoSuchPiece k) x limit size made source spool r r' w w' g g' p p' = (0 < k) × (k ≤ made) × (IsTrue source → Fits x limit size)
-SparseRefused (Stopped j c) x limit size made source spool r r' w w' g g' p p' = (made < j) × StopsFor c source spool r r' w w' g g' p p' × (IsTrue source → Fits x limit size)
-SparseRefused (Write d) x limit size made source spool r r' w w' g g' p p' = ⊥
-SparseRefused TooLarge x limit size made source spool r r' w w' g g' p p' = ⊥
-SparseRefused (BadBlock q) x limit size made source spool r r' w w' g g' p p' = ⊥
-SparseRefused (Sync d) x limit size made source spool r r' w w' g g' p p' = ⊥
+abbrev pub SparseRefused : FlashFault → List ℕ → ℕ → ℕ → ℕ → Bool → Bool → Counts → Counts → Type 0
+SparseRefused (Sparse f) x limit size made source spool a z = (number_of f ≤ 10) × (IsTrue source → (cells : List (Option ℕ)) × (outcome x ≡ Fault f cells))
+SparseRefused (Read d) x limit size made source spool a z = (a.read_faults < z.read_faults) × (d ≡ Failed)
+SparseRefused SourceChanged x limit size made source spool a z = source ≡ false
+SparseRefused (LimitTooSmall least) x limit size made source spool a z = (limit < least) × (IsTrue source → IsImage (outcome x) × (least ≡ 64 + size_in (outcome x)))
+SparseRefused (PartitionTooSmall need) x limit size made source spool a z = (size < need) × (IsTrue source → IsImage (outcome x) × (64 + size_in (outcome x) ≤ limit) × (need ≡ length (blocks_in (outcome x)) * size_in (outcome x)))
+SparseRefused (NoSuchPiece k) x limit size made source spool a z = (0 < k) × (k ≤ made) × (IsTrue source → Fits x limit size)
+SparseRefused (Stopped j c) x limit size made source spool a z = (made < j) × StopsFor c source spool a z × (IsTrue source → Fits x limit size)
+SparseRefused (Write d) x limit size made source spool a z = ⊥
+SparseRefused TooLarge x limit size made source spool a z = ⊥
+SparseRefused (BadBlock q) x limit size made source spool a z = ⊥
+SparseRefused (Sync d) x limit size made source spool a z = ⊥

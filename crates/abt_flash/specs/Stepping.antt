@@ -40,11 +40,10 @@ abbrev pub OnDone : Result Progress FlashFault → Type 0 → Type 0
 OnDone (Ok answers.Done) P = P
 OnDone r P = Unit {0}
 
--- P, save where a device has failed
+-- P, save where bytes were not read or not written
 abbrev pub UnlessDevice : FlashFault → Type 0 → Type 0
 UnlessDevice (Read d) P = Unit {0}
 UnlessDevice (Write d) P = Unit {0}
-UnlessDevice (Sync d) P = Unit {0}
 UnlessDevice f P = P
 
 abbrev pub Unless : {X : Type 0} → Result X FlashFault → Type 0 → Type 0
@@ -70,6 +69,7 @@ abbrev pub Leaves : Result Progress FlashFault → Phase → Type 0
 Leaves (Ok answers.More) p = p ≡ phases.Body
 Leaves (Ok answers.Done) p = p ≡ phases.Done
 Leaves (Err (Sparse f)) p = p ≡ phases.Failed f
+Leaves (Err (Sync d)) p = p ≡ phases.Done
 Leaves (Err f) p = Unit {0}
 
 -- the bytes that all blocks of the image take, and whether its header is behind, with its extra bytes
@@ -98,6 +98,7 @@ is_short_of s size = passed s && nat_lt size (need_of s)
 abbrev pub Measures : Result Progress FlashFault → Walk → ℕ → Type 0
 Measures (Err (PartitionTooSmall need)) s size = (passed s ≡ true) × (need ≡ need_of s) × (size < need)
 Measures (Ok answers.Done) s size = (passed s ≡ true) × (need_of s ≤ size)
+Measures (Err (Sync d)) s size = (passed s ≡ true) × (need_of s ≤ size)
 Measures r s size = passed s ≡ true → need_of s ≤ size
 
 -- P, where the partition was too small
@@ -136,4 +137,5 @@ abbrev pub Heads : Result Progress FlashFault → Walk → Walk → List ℕ →
 Heads (Ok answers.More) s s' x y = (upcoming s x).head ≡ (upcoming s' y).head
 Heads (Ok answers.Done) s s' x y = (upcoming s x).head ≡ Some (view s'.header)
 Heads (Err (Sparse f)) s s' x y = (upcoming s x).head ≡ head_in s.phase (at_end s) s
+Heads (Err (Sync d)) s s' x y = (upcoming s x).head ≡ Some (view s'.header)
 Heads (Err f) s s' x y = Unit {0}

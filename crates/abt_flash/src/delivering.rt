@@ -9,8 +9,10 @@ ghost use Rattle.abt_pieces.specs.Contents.{written_in};
 ghost use Rattle.abt_pieces.specs.Cutter.{ToldCutter, piece_words};
 ghost use Rattle.abt_pieces.specs.SpentStage.{all_passes};
 ghost use Rattle.abt_pieces.specs.declared.stage.Stage.{Stage};
-ghost use Rattle.abt_flash.specs.Delivering.{Begins, CountsTo, PiecesFit, StaysMendable, StopsFor, all_bytes, all_calls, begun, blocks_behind, finished, pieces_behind, with_cuts};
-ghost use Rattle.abt_flash.specs.Going.{StopsIn, PlanRefused, planned};
+ghost use Rattle.abt_flash.specs.Devices.{counts};
+ghost use Rattle.abt_flash.specs.Fault.{refused_syncs};
+ghost use Rattle.abt_flash.specs.Delivering.{Begins, CountsTo, NoneFailed, PiecesFit, StaysMendable, begun, blocks_behind, finished, pieces_behind, with_cuts};
+ghost use Rattle.abt_flash.specs.Going.{PlanCosts, PlanRefused, StopsIn, bytes_in, calls_in};
 ghost use Rattle.abt_flash.specs.Causes.{planning_fault};
 
 use crate::answer::Delivered;
@@ -59,11 +61,12 @@ pub(crate) fn plan_pieces<R: BlockRuns + Drop, S: Source>(
     ensures frame { S.read_frame source.new ≡ S.read_frame source.old }
     ensures given { S.given source.old ≤ S.given source.new }
     ensures charged { OnOk result (S.given source.new + R.charge cutter.old.runs cutter.old.start ≤ S.given source.old + R.charge cutter.old.runs cutter.new.start + before * (48 + R.one cutter.old.runs)) }
-    ensures calls { S.reads source.new + 8 * S.given source.old ≤ S.reads source.old + 8 * S.given source.new + 128 * (planned before result + 1) }
-    ensures turns { m.new.turns.number + 8 * S.given source.old ≤ m.old.turns.number + 8 * S.given source.new + 4 * R.one cutter.old.runs + 129 * (planned before result + 1) + 1 }
+    ensures costs { PlanCosts S.tells (length (segments cutter.old.limit (R.size cutter.old.runs) (R.list cutter.old.runs (S.content source.old)))) before (R.one cutter.old.runs) result
+        (S.reads source.old) (S.given source.old) (S.reads source.new) (S.given source.new) m.old m.new }
     ensures steps { S.given source.new + 65580 * m.old.steps.number ≤ S.given source.old + 65580 * m.new.steps.number }
     ensures greatest { m.new.greatest.number ≤ max m.old.greatest.number 65580 }
     ensures faults { S.read_faults source.old ≤ S.read_faults source.new }
+    ensures clean { OnOk result (S.read_faults source.new ≡ S.read_faults source.old) }
 {
     let _count = cutter.runs.blocks();
     'pieces: loop {
@@ -98,9 +101,12 @@ pub(crate) fn deliver_rest<R: BlockRuns + Drop, S: Source, L: Spool, P: Partitio
     requires few { cutter.old.made ≤ max 1 (R.count cutter.old.runs) }
     requires opened { IsTrue S.tells → R.opened cutter.old.runs (S.content source.old) }
     requires told { IsTrue S.tells → ToldCutter (R.place cutter.old.runs (S.content source.old)) (R.together cutter.old.runs (S.content source.old)) (R.size cutter.old.runs) (R.list cutter.old.runs (S.content source.old)) cutter.old.limit cutter.old.made cutter.old.start cutter.old.stage }
+    requires capacity { cutter.old.limit ≤ L.size spool.old }
     requires room { R.count cutter.old.runs * R.size cutter.old.runs ≤ P.size partition.old }
     // What is answered.
-    ensures stops { IfErr result (λ e. StopsIn e cutter.old.made S.tells L.tells (S.read_faults source.old) (S.read_faults source.new) (L.write_faults spool.old + L.clear_faults spool.old) (L.write_faults spool.new + L.clear_faults spool.new) (L.read_faults spool.old) (L.read_faults spool.new) (P.put_faults partition.old) (P.put_faults partition.new)) }
+    ensures stops { IfErr result (λ e. StopsIn e cutter.old.made S.tells L.tells
+        (counts S.Source L.Input L.Output L.Spool.own P.Partition.own source.old spool.old partition.old)
+        (counts S.Source L.Input L.Output L.Spool.own P.Partition.own source.new spool.new partition.new)) }
     ensures some { IfOk result (λ d. 0 < d.pieces) }
     ensures few { begun cutter.old.made result ≤ max 1 (R.count cutter.old.runs) }
     ensures counted { IsTrue S.tells → CountsTo result cutter.old.made (length (segments cutter.old.limit (R.size cutter.old.runs) (R.list cutter.old.runs (S.content source.old)))) }
@@ -120,6 +126,7 @@ pub(crate) fn deliver_rest<R: BlockRuns + Drop, S: Source, L: Spool, P: Partitio
     ensures stays { IsTrue S.tells → IsTrue L.tells → IsTrue P.tells → StaysMendable cutter.old.limit (R.size cutter.old.runs) (R.list cutter.old.runs (S.content source.old)) cutter.old.made (P.past partition.old) (P.past partition.new) (P.content partition.old) (P.content partition.new) }
     ensures settled { IsTrue P.tells → OnOk result ((P.past partition.new).pending ≡ []) }
     ensures synced { (P.past partition.new).synced ≡ (P.past partition.old).synced + finished cutter.old.made result }
+    ensures unsynced { P.syncs partition.new + (P.past partition.old).synced ≡ P.syncs partition.old + (P.past partition.new).synced + refused_syncs result }
     ensures blocks { IsTrue S.tells → IsTrue L.tells → OnOk result (P.taken partition.new ≡ P.taken partition.old + R.size cutter.old.runs * written_in (drop cutter.old.start.block (R.list cutter.old.runs (S.content source.old)))) }
     // Bytes.
     ensures given { S.given source.old ≤ S.given source.new }
@@ -130,8 +137,8 @@ pub(crate) fn deliver_rest<R: BlockRuns + Drop, S: Source, L: Spool, P: Partitio
     ensures back { IsTrue S.tells → IsTrue L.tells → OnOk result (L.given spool.new + length (L.written spool.old) ≡ L.given spool.old + length (L.written spool.new)) }
     ensures spent { IsTrue S.tells → IfOk result (λ d. S.given source.new + all_passes (R.charge cutter.old.runs) (R.copied cutter.old.runs) cutter.old.start + (80 + R.one cutter.old.runs) ≤ S.given source.old + 3 * R.pass cutter.old.runs + R.image cutter.old.runs + 48 + d.pieces * (80 + R.one cutter.old.runs)) }
     // Work.
-    ensures calls { all_calls (S.reads source.new) (L.reads spool.new) (L.writes spool.new) (L.clears spool.new) (P.puts partition.new) (P.syncs partition.new) + 8 * all_bytes (S.given source.old) (L.given spool.old) (length (L.written spool.old)) (P.taken partition.old) + 258 * cutter.old.made ≤ all_calls (S.reads source.old) (L.reads spool.old) (L.writes spool.old) (L.clears spool.old) (P.puts partition.old) (P.syncs partition.old) + 8 * all_bytes (S.given source.new) (L.given spool.new) (length (L.written spool.new)) (P.taken partition.new) + 258 * begun cutter.old.made result }
-    ensures turns { m.new.turns.number + 8 * all_bytes (S.given source.old) (L.given spool.old) (length (L.written spool.old)) (P.taken partition.old) + 258 * cutter.old.made ≤ m.old.turns.number + 8 * all_bytes (S.given source.new) (L.given spool.new) (length (L.written spool.new)) (P.taken partition.new) + 258 * begun cutter.old.made result + 4 * R.one cutter.old.runs + 1 }
+    ensures calls { calls_in (S.reads source.new) (L.reads spool.new) (L.writes spool.new) (L.clears spool.new) (P.puts partition.new) (P.syncs partition.new) + 8 * bytes_in (S.given source.old) (L.given spool.old) (length (L.written spool.old)) (P.taken partition.old) + 258 * cutter.old.made ≤ calls_in (S.reads source.old) (L.reads spool.old) (L.writes spool.old) (L.clears spool.old) (P.puts partition.old) (P.syncs partition.old) + 8 * bytes_in (S.given source.new) (L.given spool.new) (length (L.written spool.new)) (P.taken partition.new) + 258 * begun cutter.old.made result }
+    ensures turns { m.new.turns.number + 8 * bytes_in (S.given source.old) (L.given spool.old) (length (L.written spool.old)) (P.taken partition.old) + 258 * cutter.old.made ≤ m.old.turns.number + 8 * bytes_in (S.given source.new) (L.given spool.new) (length (L.written spool.new)) (P.taken partition.new) + 258 * begun cutter.old.made result + 4 * R.one cutter.old.runs + 1 }
     ensures steps { S.given source.new + L.given spool.new + 65580 * m.old.steps.number ≤ S.given source.old + L.given spool.old + 65580 * m.new.steps.number }
     ensures greatest { m.new.greatest.number ≤ max m.old.greatest.number 65580 }
     // Who failed.
@@ -139,6 +146,9 @@ pub(crate) fn deliver_rest<R: BlockRuns + Drop, S: Source, L: Spool, P: Partitio
     ensures write_faults { L.write_faults spool.old + L.clear_faults spool.old ≤ L.write_faults spool.new + L.clear_faults spool.new }
     ensures spool_faults { L.read_faults spool.old ≤ L.read_faults spool.new }
     ensures put_faults { P.put_faults partition.old ≤ P.put_faults partition.new }
+    ensures clean { OnOk result (NoneFailed
+        (counts S.Source L.Input L.Output L.Spool.own P.Partition.own source.old spool.old partition.old)
+        (counts S.Source L.Input L.Output L.Spool.own P.Partition.own source.new spool.new partition.new)) }
 {
     let _limit = cutter.limit;
     let _count = cutter.runs.blocks();

@@ -2,7 +2,7 @@
 
 ghost use Rattle.std.specs.Prelude.{◌≡◌, ◌<◌, ◌≤◌, ◌+◌, ◌-◌, ◌*◌, ◌/◌, ◌^◌, ℕ, List, [], true, IsTrue, OnOk, Err, length, take, drop, max, min, nat_lt, ◌||◌, if◌then◌else◌};
 ghost use Rattle.abt_chunks.specs.Walking.{at_end, todo};
-ghost use Rattle.abt_flash.specs.Fault.{Rises};
+ghost use Rattle.abt_flash.specs.Fault.{Rises, refused_syncs};
 ghost use Rattle.abt_flash.specs.Laying.{put_by};
 ghost use Rattle.abt_flash.specs.Stepping.{Goes, Heads, IsFresh, IsOver, Laid, Leaves, Measures, OnDone, OnMore, OnShort, answer_of, idle, is_done, is_short_of, need_of, passed, stage_of};
 
@@ -159,6 +159,8 @@ impl Flasher {
         ensures leaves { Goes self.old.stage self.old.walk.phase → Leaves result self.new.walk.phase }
         ensures settled { Goes self.old.stage self.old.walk.phase → IsTrue P.tells → OnDone result ((P.past partition.new).pending ≡ []) }
         ensures synced { (P.past partition.new).synced ≡ (P.past partition.old).synced + (if is_done self.old.stage result then 1 else 0) }
+        // A sync that was called has succeeded, save where the answer says that it was refused.
+        ensures refused_syncs { Goes self.old.stage self.old.walk.phase → P.syncs partition.new + (P.past partition.old).synced ≡ P.syncs partition.old + (P.past partition.new).synced + refused_syncs result }
         ensures again { IsOver self.old.stage → (self.new ≡ self.old) × (input.new ≡ input.old) × (partition.new ≡ partition.old) }
         ensures cause { Goes self.old.stage self.old.walk.phase → Rises result (I.read_faults input.old) (I.read_faults input.new) (P.put_faults partition.old) (P.put_faults partition.new) }
         ensures size { P.size partition.new ≡ P.size partition.old }

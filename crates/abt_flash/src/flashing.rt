@@ -4,7 +4,7 @@ ghost use Rattle.std.specs.Prelude.{◌≡◌, ◌<◌, ◌≤◌, ◌+◌, ◌-
 ghost use Rattle.abt_io.specs.Moment.{EachSince, Keeps, moment_of};
 ghost use Rattle.abt_sparse.specs.Pieces.{given};
 ghost use Rattle.abt_sparse.specs.Reading.{outcome};
-ghost use Rattle.abt_flash.specs.Fault.{Rises};
+ghost use Rattle.abt_flash.specs.Fault.{Rises, refused_syncs};
 ghost use Rattle.abt_flash.specs.Laying.{During, writes};
 ghost use Rattle.abt_flash.specs.Flashing.{Flashes, Holds};
 ghost use Rattle.abt_flash.specs.Stepping.{OnShort};
@@ -39,6 +39,7 @@ pub fn flash<I: Input, P: Partition>(
     ensures seen { IsTrue I.tells → IsTrue P.tells → Keeps (writes (given (outcome (take (I.given input.new - I.given input.old) (I.remaining input.old))))) (moment_of (P.past partition.old) (P.content partition.old)) (moment_of (P.past partition.new) (P.content partition.new)) }
     ensures settled { IsTrue P.tells → OnOk result ((P.past partition.new).pending ≡ []) }
     ensures synced { (P.past partition.new).synced ≡ (P.past partition.old).synced + (if is_ok result then 1 else 0) }
+    ensures refused_syncs { P.syncs partition.new + (P.past partition.old).synced ≡ P.syncs partition.old + (P.past partition.new).synced + refused_syncs result }
     // One that is too small is not called.
     ensures untouched { OnShort result (partition.new ≡ partition.old) }
     ensures size { P.size partition.new ≡ P.size partition.old }

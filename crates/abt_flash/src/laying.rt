@@ -1,11 +1,12 @@
 //! Writing what a part of an image gives to its place on a partition.
 
-ghost use Rattle.std.specs.Prelude.{◌≡◌, ◌<◌, ◌≤◌, ◌+◌, ◌*◌, ◌^◌, IsTrue, OnOk, OnErr, replicate};
+ghost use Rattle.std.specs.Prelude.{◌≡◌, ◌<◌, ◌≤◌, ◌+◌, ◌*◌, ◌^◌, IsTrue, OnOk, OnErr, IfErr, false, replicate};
 ghost use Rattle.std.specs.List.{concat};
 ghost use Rattle.abt_io.specs.Moment.{EachSince, Keeps, KeepsUnsynced, in_range, moment_of, put_at};
 ghost use Rattle.abt_sparse.specs.Block.{over};
 ghost use Rattle.abt_chunks.specs.Expanding.{IsWritable};
-ghost use Rattle.abt_flash.specs.Fault.{PutCause};
+ghost use Rattle.abt_chunks.specs.Walking.{is_fault};
+ghost use Rattle.abt_flash.specs.Fault.{OnUnsynced, PutCause, UnlessUnwritten, refused_syncs};
 ghost use Rattle.abt_flash.specs.Laying.{During, IsStill, Settles, cells_by, from_place, put_by, syncs_by};
 
 use crate::fault::FlashFault;
@@ -36,8 +37,9 @@ fn lay_words<P: Partition>(
     ensures syncs { P.syncs partition.new ≡ P.syncs partition.old }
     ensures all { OnOk result (P.taken partition.new ≡ P.taken partition.old + 4 * n) }
     ensures taken { P.taken partition.old ≤ P.taken partition.new }
-    ensures faults { P.put_faults partition.old ≤ P.put_faults partition.new }
     ensures cause { OnErr result (P.put_faults partition.old < P.put_faults partition.new) }
+    ensures clean { OnOk result (P.put_faults partition.new ≡ P.put_faults partition.old) }
+    ensures failed { IfErr result (λ e. e ≡ DeviceFault.Failed) }
     ensures calls { P.puts partition.new + 2 * P.taken partition.old ≤ P.puts partition.old + 2 * P.taken partition.new + 1 }
     ensures turns { m.new.turns.number + 2 * P.taken partition.old ≤ m.old.turns.number + 2 * P.taken partition.new + 16 }
     ensures few { OnOk result (m.new.turns.number + 2 * P.taken partition.old ≤ m.old.turns.number + 2 * P.taken partition.new) }
@@ -73,7 +75,7 @@ pub(crate) fn lay_part<P: Partition>(
     requires fits { at + put_by part ≤ P.size partition.old }
     requires below { at + put_by part < 2 ^ 64 }
     ensures size { P.size partition.new ≡ P.size partition.old }
-    ensures laid { IsTrue P.tells → OnOk result (P.content partition.new ≡ over (P.content partition.old) (from_place at (cells_by part w.old.bytes))) }
+    ensures laid { IsTrue P.tells → UnlessUnwritten result (P.content partition.new ≡ over (P.content partition.old) (from_place at (cells_by part w.old.bytes))) }
     // No byte outside the range that is written is touched at any moment.
     ensures kept { IsTrue P.tells → Keeps (in_range at (put_by part)) (moment_of (P.past partition.old) (P.content partition.old)) (moment_of (P.past partition.new) (P.content partition.new)) }
     ensures moments { IsTrue P.tells → EachSince (P.past partition.old).moments (P.past partition.new).moments (During (in_range at (put_by part)) (moment_of (P.past partition.old) (P.content partition.old)) (moment_of (P.past partition.new) (P.content partition.new))) }
@@ -82,10 +84,13 @@ pub(crate) fn lay_part<P: Partition>(
     ensures reads { P.reads partition.new ≡ P.reads partition.old }
     ensures given { P.given partition.new ≡ P.given partition.old }
     ensures read_faults { P.read_faults partition.new ≡ P.read_faults partition.old }
-    ensures all { OnOk result (P.taken partition.new ≡ P.taken partition.old + put_by part) }
+    ensures sound { OnErr result (is_fault part ≡ false) }
+    // A sync is refused behind the end of the image, and leaves what is written.
+    ensures ends { OnUnsynced result (part ≡ Part.End) }
+    ensures refused_syncs { P.syncs partition.new + (P.past partition.old).synced ≡ P.syncs partition.old + (P.past partition.new).synced + refused_syncs result }
+    ensures all { UnlessUnwritten result (P.taken partition.new ≡ P.taken partition.old + put_by part) }
     ensures taken { P.taken partition.old ≤ P.taken partition.new }
     ensures still { IsStill part → partition.new ≡ partition.old }
-    ensures faults { P.put_faults partition.old ≤ P.put_faults partition.new }
     ensures cause { PutCause result (P.put_faults partition.old) (P.put_faults partition.new) }
     ensures calls { P.puts partition.new + P.syncs partition.new + 2 * P.taken partition.old ≤ P.puts partition.old + P.syncs partition.old + 2 * P.taken partition.new + 1 }
     ensures turns { m.new.turns.number + 2 * P.taken partition.old ≤ m.old.turns.number + 2 * P.taken partition.new + 16 }

@@ -1,9 +1,11 @@
 //! Flashing sparse images to a partition: one image read forward, or an image cut into pieces that go through a spool.
 //!
-//! What the layers above use is the contract of [`flash`]. It answers Ok exactly where an image stands at the front of
-//! the input, the partition has room for its blocks and no device fails; then the partition holds what it held, with the
-//! image's raw and fill blocks laid over it, each byte of them written once, and is synced. At no moment another byte is
-//! touched. Nothing is read of the partition, and no call takes memory.
+//! What the layers above use are the contracts of [`flash`] and [`deliver`]. `flash` answers Ok exactly where an image
+//! stands at the front of the input, the partition has room for its blocks and no device fails; then the partition holds
+//! what it held, with the image's raw and fill blocks laid over it, each byte of them written once, and is synced. At no
+//! moment another byte is touched. `deliver` leaves the same by way of the spool, which is given exactly the pieces of
+//! the image, each within the limit; whatever a stop leaves on the way, `resume` mends. Nothing is read of the partition,
+//! and no call takes memory.
 //!
 //! | file | what is in it |
 //! |---|---|
@@ -19,8 +21,9 @@
 //! | `sparse.rt`, `raw.rt` | `deliver`, `resume`, `deliver_raw`, `resume_raw`: sparse images, and raw ones |
 //!
 //! `specs/Flashing.antt` says what a flash answers, `specs/Laying.antt` what a call may touch, and `specs/Stepping.antt`
-//! what a step does; `specs/Delivering.antt` says what a delivery promises of the spool, of the partition and of every
-//! moment, and `specs/Sparse.antt` and `specs/Raw.antt` why one is refused.
+//! what a step does. `specs/Delivering.antt` has a record for each promise of a delivery: what it gives the spool, what it
+//! lays on the partition, what every moment of it leaves, and what it costs; `specs/Devices.antt` is what these know of
+//! the devices, and `specs/Sparse.antt` and `specs/Raw.antt` say what image is meant, and why it is refused.
 #![tactic(auto)]
 
 mod answer;

@@ -11,8 +11,9 @@ ghost use Rattle.abt_pieces.specs.Plan.{FirstPiece};
 ghost use Rattle.abt_pieces.specs.SpentStage.{all_passes};
 ghost use Rattle.abt_pieces.specs.declared.stage.Stage.{Stage};
 ghost use Rattle.abt_flash.specs.Laying.{During, writes};
-ghost use Rattle.abt_flash.specs.Delivering.{Begins, PiecesFit, StopsFor, all_bytes, all_calls};
-ghost use Rattle.abt_flash.specs.Going.{StandsAt, blocks_at};
+ghost use Rattle.abt_flash.specs.Devices.{counts};
+ghost use Rattle.abt_flash.specs.Delivering.{Begins, NoneFailed, OnFlashed, PiecesFit, StopsFor, unsynced_by};
+ghost use Rattle.abt_flash.specs.Going.{StandsAt, blocks_at, bytes_in, calls_in};
 ghost use Rattle.abt_flash.specs.Causes.{cutting_cause, flashing_cause};
 
 use crate::fault::{Cause, FlashFault};
@@ -66,6 +67,7 @@ pub(crate) fn deliver_piece<R: BlockRuns + Drop, S: Source, L: Spool, P: Partiti
     requires between { cutter.old.stage ≡ Stage.Between }
     requires opened { IsTrue S.tells → R.opened cutter.old.runs (S.content source.old) }
     requires told { IsTrue S.tells → ToldCutter (R.place cutter.old.runs (S.content source.old)) (R.together cutter.old.runs (S.content source.old)) (R.size cutter.old.runs) (R.list cutter.old.runs (S.content source.old)) cutter.old.limit cutter.old.made cutter.old.start cutter.old.stage }
+    requires capacity { cutter.old.limit ≤ L.size spool.old }
     requires room { R.count cutter.old.runs * R.size cutter.old.runs ≤ P.size partition.old }
     // The cutter goes behind the piece.
     ensures runs { cutter.new.runs ≡ cutter.old.runs }
@@ -74,7 +76,7 @@ pub(crate) fn deliver_piece<R: BlockRuns + Drop, S: Source, L: Spool, P: Partiti
     ensures made { OnOk result (cutter.new.made ≡ cutter.old.made + 1) }
     ensures stands { OnOk result (StandsAt (R.count cutter.old.runs) cutter.new.start.block cutter.new.stage) }
     ensures moves { OnOk result (cutter.new.start.block < R.count cutter.old.runs → cutter.old.start.block < cutter.new.start.block) }
-    ensures greatest_end { IsTrue S.tells → OnOk result (FirstPiece (R.size cutter.old.runs) (R.list cutter.old.runs (S.content source.old)) cutter.old.limit cutter.old.start.block cutter.new.start.block) }
+    ensures greatest_end { IsTrue S.tells → OnFlashed result (FirstPiece (R.size cutter.old.runs) (R.list cutter.old.runs (S.content source.old)) cutter.old.limit cutter.old.start.block cutter.new.start.block) }
     // The source.
     ensures content { IsTrue S.tells → S.content source.new ≡ S.content source.old }
     ensures frame { S.read_frame source.new ≡ S.read_frame source.old }
@@ -87,11 +89,12 @@ pub(crate) fn deliver_piece<R: BlockRuns + Drop, S: Source, L: Spool, P: Partiti
     // The partition gets its blocks, and nothing else is touched.
     ensures size { P.size partition.new ≡ P.size partition.old }
     ensures unread { (P.reads partition.new ≡ P.reads partition.old) × (P.given partition.new ≡ P.given partition.old) }
-    ensures laid { IsTrue S.tells → IsTrue L.tells → IsTrue P.tells → OnOk result (P.content partition.new ≡ over (P.content partition.old) (cells (R.size cutter.old.runs) (frame (R.list cutter.old.runs (S.content source.old)) cutter.old.start.block cutter.new.start.block))) }
+    ensures laid { IsTrue S.tells → IsTrue L.tells → IsTrue P.tells → OnFlashed result (P.content partition.new ≡ over (P.content partition.old) (cells (R.size cutter.old.runs) (frame (R.list cutter.old.runs (S.content source.old)) cutter.old.start.block cutter.new.start.block))) }
     ensures kept { IsTrue S.tells → IsTrue L.tells → IsTrue P.tells → Keeps (writes (cells (R.size cutter.old.runs) (blocks_at cutter.old.limit (R.size cutter.old.runs) (R.list cutter.old.runs (S.content source.old)) cutter.old.start.block))) (moment_of (P.past partition.old) (P.content partition.old)) (moment_of (P.past partition.new) (P.content partition.new)) }
     ensures moments { IsTrue S.tells → IsTrue L.tells → IsTrue P.tells → EachSince (P.past partition.old).moments (P.past partition.new).moments (During (writes (cells (R.size cutter.old.runs) (blocks_at cutter.old.limit (R.size cutter.old.runs) (R.list cutter.old.runs (S.content source.old)) cutter.old.start.block))) (moment_of (P.past partition.old) (P.content partition.old)) (moment_of (P.past partition.new) (P.content partition.new))) }
     ensures settled { IsTrue P.tells → OnOk result ((P.past partition.new).pending ≡ []) }
     ensures synced { (P.past partition.new).synced ≡ (P.past partition.old).synced + (if is_ok result then 1 else 0) }
+    ensures unsynced { P.syncs partition.new + (P.past partition.old).synced ≡ P.syncs partition.old + (P.past partition.new).synced + unsynced_by result }
     ensures blocks { IsTrue S.tells → IsTrue L.tells → OnOk result (P.taken partition.new ≡ P.taken partition.old + R.size cutter.old.runs * written_in (frame (R.list cutter.old.runs (S.content source.old)) cutter.old.start.block cutter.new.start.block)) }
     // Bytes, which only grow.
     ensures given { S.given source.old ≤ S.given source.new }
@@ -103,9 +106,9 @@ pub(crate) fn deliver_piece<R: BlockRuns + Drop, S: Source, L: Spool, P: Partiti
     ensures spent { IsTrue S.tells → OnOk result (S.given source.new + all_passes (R.charge cutter.old.runs) (R.copied cutter.old.runs) cutter.old.start ≤ S.given source.old + all_passes (R.charge cutter.old.runs) (R.copied cutter.old.runs) cutter.new.start + 80 + R.one cutter.old.runs) }
     ensures spent_end { IsTrue S.tells → OnOk result (R.count cutter.old.runs ≤ cutter.new.start.block → S.given source.new + all_passes (R.charge cutter.old.runs) (R.copied cutter.old.runs) cutter.old.start ≤ S.given source.old + all_passes (R.charge cutter.old.runs) (R.copied cutter.old.runs) cutter.new.start + 48) }
     // Work.
-    ensures calls { all_calls (S.reads source.new) (L.reads spool.new) (L.writes spool.new) (L.clears spool.new) (P.puts partition.new) (P.syncs partition.new) + 8 * all_bytes (S.given source.old) (L.given spool.old) (length (L.written spool.old)) (P.taken partition.old) ≤ all_calls (S.reads source.old) (L.reads spool.old) (L.writes spool.old) (L.clears spool.old) (P.puts partition.old) (P.syncs partition.old) + 8 * all_bytes (S.given source.new) (L.given spool.new) (length (L.written spool.new)) (P.taken partition.new) + 257 }
-    ensures turns { m.new.turns.number + 8 * all_bytes (S.given source.old) (L.given spool.old) (length (L.written spool.old)) (P.taken partition.old) ≤ m.old.turns.number + 8 * all_bytes (S.given source.new) (L.given spool.new) (length (L.written spool.new)) (P.taken partition.new) + 256 + 3 * R.one cutter.old.runs }
-    ensures words { OnOk result (m.new.turns.number + 8 * all_bytes (S.given source.old) (L.given spool.old) (length (L.written spool.old)) (P.taken partition.old) ≤ m.old.turns.number + 8 * all_bytes (S.given source.new) (L.given spool.new) (length (L.written spool.new)) (P.taken partition.new) + 256 + piece_words (R.one cutter.old.runs) (R.count cutter.old.runs) cutter.new.start.block) }
+    ensures calls { calls_in (S.reads source.new) (L.reads spool.new) (L.writes spool.new) (L.clears spool.new) (P.puts partition.new) (P.syncs partition.new) + 8 * bytes_in (S.given source.old) (L.given spool.old) (length (L.written spool.old)) (P.taken partition.old) ≤ calls_in (S.reads source.old) (L.reads spool.old) (L.writes spool.old) (L.clears spool.old) (P.puts partition.old) (P.syncs partition.old) + 8 * bytes_in (S.given source.new) (L.given spool.new) (length (L.written spool.new)) (P.taken partition.new) + 257 }
+    ensures turns { m.new.turns.number + 8 * bytes_in (S.given source.old) (L.given spool.old) (length (L.written spool.old)) (P.taken partition.old) ≤ m.old.turns.number + 8 * bytes_in (S.given source.new) (L.given spool.new) (length (L.written spool.new)) (P.taken partition.new) + 256 + 3 * R.one cutter.old.runs }
+    ensures words { OnOk result (m.new.turns.number + 8 * bytes_in (S.given source.old) (L.given spool.old) (length (L.written spool.old)) (P.taken partition.old) ≤ m.old.turns.number + 8 * bytes_in (S.given source.new) (L.given spool.new) (length (L.written spool.new)) (P.taken partition.new) + 256 + piece_words (R.one cutter.old.runs) (R.count cutter.old.runs) cutter.new.start.block) }
     ensures steps { S.given source.new + L.given spool.new + 65580 * m.old.steps.number ≤ S.given source.old + L.given spool.old + 65580 * m.new.steps.number }
     ensures greatest { m.new.greatest.number ≤ max m.old.greatest.number 65580 }
     // Who failed.
@@ -113,7 +116,12 @@ pub(crate) fn deliver_piece<R: BlockRuns + Drop, S: Source, L: Spool, P: Partiti
     ensures write_faults { L.write_faults spool.old + L.clear_faults spool.old ≤ L.write_faults spool.new + L.clear_faults spool.new }
     ensures spool_faults { L.read_faults spool.old ≤ L.read_faults spool.new }
     ensures put_faults { P.put_faults partition.old ≤ P.put_faults partition.new }
-    ensures cause { IfErr result (λ e. StopsFor e S.tells L.tells (S.read_faults source.old) (S.read_faults source.new) (L.write_faults spool.old + L.clear_faults spool.old) (L.write_faults spool.new + L.clear_faults spool.new) (L.read_faults spool.old) (L.read_faults spool.new) (P.put_faults partition.old) (P.put_faults partition.new)) }
+    ensures cause { IfErr result (λ e. StopsFor e S.tells L.tells
+        (counts S.Source L.Input L.Output L.Spool.own P.Partition.own source.old spool.old partition.old)
+        (counts S.Source L.Input L.Output L.Spool.own P.Partition.own source.new spool.new partition.new)) }
+    ensures clean { OnOk result (NoneFailed
+        (counts S.Source L.Input L.Output L.Spool.own P.Partition.own source.old spool.old partition.old)
+        (counts S.Source L.Input L.Output L.Spool.own P.Partition.own source.new spool.new partition.new)) }
 {
     let _limit = cutter.limit;
     let _count = cutter.runs.blocks();

@@ -1,17 +1,9 @@
 //! Delivering a sparse image, whole or from one of its pieces on.
 
-ghost use Rattle.std.specs.Prelude.{◌≡◌, ◌<◌, ◌≤◌, ◌+◌, ◌-◌, ◌*◌, ◌^◌, ◌++◌, [], ℕ, List, IsTrue, IfOk, IfErr, OnOk, length, max};
-ghost use Rattle.std.specs.List.{concat};
-ghost use Rattle.abt_io.specs.Moment.{EachSince, MayLeave, moment_of};
-ghost use Rattle.abt_sparse.specs.Block.{Block, cells, over};
-ghost use Rattle.abt_sparse.specs.Mending.{Mendable};
-ghost use Rattle.abt_sparse.specs.Pieces.{pieces};
-ghost use Rattle.abt_sparse.specs.Reading.{outcome};
-ghost use Rattle.abt_sparse.specs.Runs.{Division};
-ghost use Rattle.abt_pieces.specs.Contents.{written_in};
-ghost use Rattle.abt_runs.specs.Sparse.{blocks_in};
-ghost use Rattle.abt_flash.specs.Delivering.{AlwaysMendable, Begins, CountsTo, OnEarly, PiecesFit, StaysMendable, all_bytes, all_calls, begun, blocks_behind, blocks_in_first, finished, pieces_behind, with_cuts};
-ghost use Rattle.abt_flash.specs.Sparse.{Fits, SparseRefused, image_length, size_in};
+ghost use Rattle.std.specs.Prelude.{◌≡◌, ◌<◌, ◌≤◌, ◌+◌, ◌-◌, ◌*◌, ◌^◌, [], IsTrue, IfOk, IfErr, OnOk, length};
+ghost use Rattle.abt_flash.specs.Devices.{counts, partition_state, spool_state};
+ghost use Rattle.abt_flash.specs.Delivering.{AlwaysMendable, Costs, CountsTo, GivesPieces, IsLeast, LaysBlocks, MendsBlocks, NoneFailed, OnEarly, pieces_in};
+ghost use Rattle.abt_flash.specs.Sparse.{Fits, SparseRefused, image_length, sparse_image};
 ghost use Rattle.abt_flash.specs.Causes.{run_fault_of};
 
 use crate::answer::Delivered;
@@ -46,38 +38,35 @@ pub(crate) fn sparse_behind<S: Source, L: Spool, P: Partition>(
     requires capacity { limit ≤ L.size spool.old }
     // What is answered.
     ensures granted { IsTrue S.tells → OnOk result (Fits (S.content source.old) limit (P.size partition.old)) }
-    ensures refused { IfErr result (λ e. SparseRefused e (S.content source.old) limit (P.size partition.old) before S.tells L.tells (S.read_faults source.old) (S.read_faults source.new) (L.write_faults spool.old + L.clear_faults spool.old) (L.write_faults spool.new + L.clear_faults spool.new) (L.read_faults spool.old) (L.read_faults spool.new) (P.put_faults partition.old) (P.put_faults partition.new)) }
+    ensures refused { IfErr result (λ e. SparseRefused e (S.content source.old) limit (P.size partition.old) before S.tells L.tells
+        (counts S.Source L.Input L.Output L.Spool.own P.Partition.own source.old spool.old partition.old)
+        (counts S.Source L.Input L.Output L.Spool.own P.Partition.own source.new spool.new partition.new)) }
     ensures early { OnEarly result ((spool.new ≡ spool.old) × (partition.new ≡ partition.old)) }
     ensures some { IfOk result (λ d. 0 < d.pieces) }
-    ensures counted { IsTrue S.tells → CountsTo result before (length (pieces limit (size_in (outcome (S.content source.old))) (blocks_in (outcome (S.content source.old))))) }
-    ensures least { IsTrue S.tells → IfOk result (λ d. (parts : List (List Block)) → Division limit (size_in (outcome (S.content source.old))) (blocks_in (outcome (S.content source.old))) parts → before + d.pieces ≤ length parts) }
-    // The source.
+    ensures counted { IsTrue S.tells → CountsTo result before (pieces_in limit (sparse_image (S.content source.old))) }
+    // No division of the image within the limit has fewer parts.
+    ensures least { IsTrue S.tells → IfOk result (λ d. IsLeast limit (before + d.pieces)
+        (sparse_image (S.content source.old))) }
+    ensures clean { OnOk result (NoneFailed
+        (counts S.Source L.Input L.Output L.Spool.own P.Partition.own source.old spool.old partition.old)
+        (counts S.Source L.Input L.Output L.Spool.own P.Partition.own source.new spool.new partition.new)) }
+    // What it wrote.
+    ensures spool { GivesPieces S.tells L.tells (sparse_image (S.content source.old)) limit before result
+        (spool_state L.Input L.Output L.Spool.own spool.old) (spool_state L.Input L.Output L.Spool.own spool.new) }
+    ensures partition { LaysBlocks S.tells L.tells P.tells (sparse_image (S.content source.old)) limit before result
+        (partition_state P.Source P.Partition.own partition.old) (partition_state P.Source P.Partition.own partition.new) }
+    // What stays.
+    ensures mends { IsTrue S.tells → IsTrue L.tells → IsTrue P.tells → MendsBlocks
+        (sparse_image (S.content source.old)) limit before result
+        (partition_state P.Source P.Partition.own partition.old) (partition_state P.Source P.Partition.own partition.new) }
     ensures content { IsTrue S.tells → S.content source.new ≡ S.content source.old }
     ensures frame { S.read_frame source.new ≡ S.read_frame source.old }
-    // The spool.
-    ensures room { L.size spool.new ≡ L.size spool.old }
-    ensures fits { PiecesFit limit (L.cuts spool.old) (L.cuts spool.new) (length (L.written spool.old)) (length (L.written spool.new)) }
-    ensures written { IsTrue S.tells → OnOk result (L.written spool.new ≡ L.written spool.old ++ concat (pieces_behind limit (size_in (outcome (S.content source.old))) (blocks_in (outcome (S.content source.old))) before)) }
-    ensures cuts { IsTrue S.tells → OnOk result (L.cuts spool.new ≡ with_cuts (L.cuts spool.old) (length (L.written spool.old)) (pieces_behind limit (size_in (outcome (S.content source.old))) (blocks_in (outcome (S.content source.old))) before)) }
-    ensures begins { IsTrue S.tells → Begins (L.written spool.new) (L.written spool.old ++ concat (pieces_behind limit (size_in (outcome (S.content source.old))) (blocks_in (outcome (S.content source.old))) before)) }
-    // The partition.
-    ensures size { P.size partition.new ≡ P.size partition.old }
-    ensures unread { (P.reads partition.new ≡ P.reads partition.old) × (P.given partition.new ≡ P.given partition.old) }
-    ensures laid { IsTrue S.tells → IsTrue L.tells → IsTrue P.tells → OnOk result (P.content partition.new ≡ over (P.content partition.old) (cells (size_in (outcome (S.content source.old))) (blocks_behind (blocks_in_first limit (size_in (outcome (S.content source.old))) (blocks_in (outcome (S.content source.old))) before) (blocks_in (outcome (S.content source.old)))))) }
-    ensures mends { IsTrue S.tells → IsTrue L.tells → IsTrue P.tells → OnOk result ((p : List ℕ) (done : ℕ) → before ≤ done → Mendable (size_in (outcome (S.content source.old))) (blocks_in (outcome (S.content source.old))) p (P.content partition.old) (blocks_in_first limit (size_in (outcome (S.content source.old))) (blocks_in (outcome (S.content source.old))) done) → P.content partition.new ≡ over p (cells (size_in (outcome (S.content source.old))) (blocks_in (outcome (S.content source.old))))) }
-    ensures stays { IsTrue S.tells → IsTrue L.tells → IsTrue P.tells → StaysMendable limit (size_in (outcome (S.content source.old))) (blocks_in (outcome (S.content source.old))) before (P.past partition.old) (P.past partition.new) (P.content partition.old) (P.content partition.new) }
-    ensures settled { IsTrue P.tells → OnOk result ((P.past partition.new).pending ≡ []) }
-    ensures synced { (P.past partition.new).synced ≡ (P.past partition.old).synced + finished before result }
-    ensures blocks { IsTrue S.tells → IsTrue L.tells → OnOk result (P.taken partition.new ≡ P.taken partition.old + size_in (outcome (S.content source.old)) * written_in (blocks_behind (blocks_in_first limit (size_in (outcome (S.content source.old))) (blocks_in (outcome (S.content source.old))) before) (blocks_in (outcome (S.content source.old))))) }
-    // Bytes.
+    // What it cost.
     ensures reads { IsTrue S.tells → IfOk result (λ d. S.given source.new ≤ S.given source.old + 8 * image_length (S.content source.old) + 128 * (before + d.pieces + 1)) }
     ensures long { IsTrue S.tells → IfOk result (λ d. length (L.written spool.new) ≤ length (L.written spool.old) + image_length (S.content source.old) + 80 * d.pieces) }
-    ensures back { IsTrue S.tells → IsTrue L.tells → OnOk result (L.given spool.new + length (L.written spool.old) ≡ L.given spool.old + length (L.written spool.new)) }
-    // Work.
-    ensures calls { all_calls (S.reads source.new) (L.reads spool.new) (L.writes spool.new) (L.clears spool.new) (P.puts partition.new) (P.syncs partition.new) + 8 * all_bytes (S.given source.old) (L.given spool.old) (length (L.written spool.old)) (P.taken partition.old) ≤ all_calls (S.reads source.old) (L.reads spool.old) (L.writes spool.old) (L.clears spool.old) (P.puts partition.old) (P.syncs partition.old) + 8 * all_bytes (S.given source.new) (L.given spool.new) (length (L.written spool.new)) (P.taken partition.new) + 512 * (begun before result + 1) }
-    ensures turns { m.new.turns.number + 8 * all_bytes (S.given source.old) (L.given spool.old) (length (L.written spool.old)) (P.taken partition.old) ≤ m.old.turns.number + 8 * all_bytes (S.given source.new) (L.given spool.new) (length (L.written spool.new)) (P.taken partition.new) + 512 * (begun before result + 1) }
-    ensures steps { S.given source.new + L.given spool.new + 65580 * m.old.steps.number ≤ S.given source.old + L.given spool.old + 65580 * m.new.steps.number }
-    ensures greatest { m.new.greatest.number ≤ max m.old.greatest.number 65580 }
+    ensures costs { Costs S.tells (sparse_image (S.content source.old)) limit 0 512 before result
+        (counts S.Source L.Input L.Output L.Spool.own P.Partition.own source.old spool.old partition.old)
+        (counts S.Source L.Input L.Output L.Spool.own P.Partition.own source.new spool.new partition.new) m.old m.new }
 {
     match SparseRuns::open(source, w, m) {
         Ok(runs) => deliver_behind(runs, source, limit, before, spool, partition, w, m),
@@ -98,38 +87,34 @@ pub fn deliver<S: Source, L: Spool, P: Partition>(
     requires capacity { limit ≤ L.size spool.old }
     // What is answered.
     ensures granted { IsTrue S.tells → OnOk result (Fits (S.content source.old) limit (P.size partition.old)) }
-    ensures refused { IfErr result (λ e. SparseRefused e (S.content source.old) limit (P.size partition.old) 0 S.tells L.tells (S.read_faults source.old) (S.read_faults source.new) (L.write_faults spool.old + L.clear_faults spool.old) (L.write_faults spool.new + L.clear_faults spool.new) (L.read_faults spool.old) (L.read_faults spool.new) (P.put_faults partition.old) (P.put_faults partition.new)) }
+    ensures refused { IfErr result (λ e. SparseRefused e (S.content source.old) limit (P.size partition.old) 0 S.tells L.tells
+        (counts S.Source L.Input L.Output L.Spool.own P.Partition.own source.old spool.old partition.old)
+        (counts S.Source L.Input L.Output L.Spool.own P.Partition.own source.new spool.new partition.new)) }
     ensures early { OnEarly result ((spool.new ≡ spool.old) × (partition.new ≡ partition.old)) }
     ensures some { IfOk result (λ d. 0 < d.pieces) }
-    ensures counted { IsTrue S.tells → CountsTo result 0 (length (pieces limit (size_in (outcome (S.content source.old))) (blocks_in (outcome (S.content source.old))))) }
-    ensures least { IsTrue S.tells → IfOk result (λ d. (parts : List (List Block)) → Division limit (size_in (outcome (S.content source.old))) (blocks_in (outcome (S.content source.old))) parts → d.pieces ≤ length parts) }
-    // The source.
+    ensures counted { IsTrue S.tells → CountsTo result 0 (pieces_in limit (sparse_image (S.content source.old))) }
+    // No division of the image within the limit has fewer parts.
+    ensures least { IsTrue S.tells → IfOk result (λ d. IsLeast limit (d.pieces) (sparse_image (S.content source.old))) }
+    ensures clean { OnOk result (NoneFailed
+        (counts S.Source L.Input L.Output L.Spool.own P.Partition.own source.old spool.old partition.old)
+        (counts S.Source L.Input L.Output L.Spool.own P.Partition.own source.new spool.new partition.new)) }
+    // What it wrote.
+    ensures spool { GivesPieces S.tells L.tells (sparse_image (S.content source.old)) limit 0 result
+        (spool_state L.Input L.Output L.Spool.own spool.old) (spool_state L.Input L.Output L.Spool.own spool.new) }
+    ensures partition { LaysBlocks S.tells L.tells P.tells (sparse_image (S.content source.old)) limit 0 result
+        (partition_state P.Source P.Partition.own partition.old) (partition_state P.Source P.Partition.own partition.new) }
+    // What stays.
+    ensures mendable { IsTrue S.tells → IsTrue L.tells → IsTrue P.tells → (P.past partition.old).pending ≡ [] → AlwaysMendable
+        (sparse_image (S.content source.old)) limit
+        (partition_state P.Source P.Partition.own partition.old) (partition_state P.Source P.Partition.own partition.new) }
     ensures content { IsTrue S.tells → S.content source.new ≡ S.content source.old }
     ensures frame { S.read_frame source.new ≡ S.read_frame source.old }
-    // The spool.
-    ensures room { L.size spool.new ≡ L.size spool.old }
-    ensures fits { PiecesFit limit (L.cuts spool.old) (L.cuts spool.new) (length (L.written spool.old)) (length (L.written spool.new)) }
-    ensures written { IsTrue S.tells → OnOk result (L.written spool.new ≡ L.written spool.old ++ concat (pieces limit (size_in (outcome (S.content source.old))) (blocks_in (outcome (S.content source.old))))) }
-    ensures cuts { IsTrue S.tells → OnOk result (L.cuts spool.new ≡ with_cuts (L.cuts spool.old) (length (L.written spool.old)) (pieces limit (size_in (outcome (S.content source.old))) (blocks_in (outcome (S.content source.old))))) }
-    ensures begins { IsTrue S.tells → Begins (L.written spool.new) (L.written spool.old ++ concat (pieces limit (size_in (outcome (S.content source.old))) (blocks_in (outcome (S.content source.old))))) }
-    // The partition.
-    ensures size { P.size partition.new ≡ P.size partition.old }
-    ensures unread { (P.reads partition.new ≡ P.reads partition.old) × (P.given partition.new ≡ P.given partition.old) }
-    ensures laid { IsTrue S.tells → IsTrue L.tells → IsTrue P.tells → OnOk result (P.content partition.new ≡ over (P.content partition.old) (cells (size_in (outcome (S.content source.old))) (blocks_in (outcome (S.content source.old))))) }
-    ensures mendable { IsTrue S.tells → IsTrue L.tells → IsTrue P.tells → (P.past partition.old).pending ≡ [] → AlwaysMendable limit (size_in (outcome (S.content source.old))) (blocks_in (outcome (S.content source.old))) (P.past partition.old) (P.past partition.new) (P.content partition.old) (P.content partition.new) }
-    ensures settled { IsTrue P.tells → OnOk result ((P.past partition.new).pending ≡ []) }
-    ensures lasts { IsTrue S.tells → IsTrue L.tells → IsTrue P.tells → OnOk result ((q : List ℕ) → MayLeave (moment_of (P.past partition.new) (P.content partition.new)) q → q ≡ over (P.content partition.old) (cells (size_in (outcome (S.content source.old))) (blocks_in (outcome (S.content source.old))))) }
-    ensures synced { (P.past partition.new).synced ≡ (P.past partition.old).synced + finished 0 result }
-    ensures blocks { IsTrue S.tells → IsTrue L.tells → OnOk result (P.taken partition.new ≡ P.taken partition.old + size_in (outcome (S.content source.old)) * written_in (blocks_in (outcome (S.content source.old)))) }
-    // Bytes.
+    // What it cost.
     ensures reads { IsTrue S.tells → IfOk result (λ d. S.given source.new ≤ S.given source.old + 8 * image_length (S.content source.old) + 128 * (d.pieces + 1)) }
     ensures long { IsTrue S.tells → IfOk result (λ d. length (L.written spool.new) ≤ length (L.written spool.old) + image_length (S.content source.old) + 80 * d.pieces) }
-    ensures back { IsTrue S.tells → IsTrue L.tells → OnOk result (L.given spool.new + length (L.written spool.old) ≡ L.given spool.old + length (L.written spool.new)) }
-    // Work.
-    ensures calls { all_calls (S.reads source.new) (L.reads spool.new) (L.writes spool.new) (L.clears spool.new) (P.puts partition.new) (P.syncs partition.new) + 8 * all_bytes (S.given source.old) (L.given spool.old) (length (L.written spool.old)) (P.taken partition.old) ≤ all_calls (S.reads source.old) (L.reads spool.old) (L.writes spool.old) (L.clears spool.old) (P.puts partition.old) (P.syncs partition.old) + 8 * all_bytes (S.given source.new) (L.given spool.new) (length (L.written spool.new)) (P.taken partition.new) + 512 * (begun 0 result + 1) }
-    ensures turns { m.new.turns.number + 8 * all_bytes (S.given source.old) (L.given spool.old) (length (L.written spool.old)) (P.taken partition.old) ≤ m.old.turns.number + 8 * all_bytes (S.given source.new) (L.given spool.new) (length (L.written spool.new)) (P.taken partition.new) + 512 * (begun 0 result + 1) }
-    ensures steps { S.given source.new + L.given spool.new + 65580 * m.old.steps.number ≤ S.given source.old + L.given spool.old + 65580 * m.new.steps.number }
-    ensures greatest { m.new.greatest.number ≤ max m.old.greatest.number 65580 }
+    ensures costs { Costs S.tells (sparse_image (S.content source.old)) limit 0 512 0 result
+        (counts S.Source L.Input L.Output L.Spool.own P.Partition.own source.old spool.old partition.old)
+        (counts S.Source L.Input L.Output L.Spool.own P.Partition.own source.new spool.new partition.new) m.old m.new }
 {
     sparse_behind(source, limit, 0, spool, partition, w, m)
 }
@@ -148,39 +133,37 @@ pub fn resume<S: Source, L: Spool, P: Partition>(
     requires capacity { limit ≤ L.size spool.old }
     // What is answered.
     ensures granted { IsTrue S.tells → OnOk result (Fits (S.content source.old) limit (P.size partition.old)) }
-    ensures refused { IfErr result (λ e. SparseRefused e (S.content source.old) limit (P.size partition.old) (from_piece - 1) S.tells L.tells (S.read_faults source.old) (S.read_faults source.new) (L.write_faults spool.old + L.clear_faults spool.old) (L.write_faults spool.new + L.clear_faults spool.new) (L.read_faults spool.old) (L.read_faults spool.new) (P.put_faults partition.old) (P.put_faults partition.new)) }
+    ensures refused { IfErr result (λ e. SparseRefused e (S.content source.old) limit (P.size partition.old) (from_piece - 1) S.tells L.tells
+        (counts S.Source L.Input L.Output L.Spool.own P.Partition.own source.old spool.old partition.old)
+        (counts S.Source L.Input L.Output L.Spool.own P.Partition.own source.new spool.new partition.new)) }
     ensures early { OnEarly result ((spool.new ≡ spool.old) × (partition.new ≡ partition.old)) }
     ensures some { IfOk result (λ d. 0 < d.pieces) }
-    ensures counted { IsTrue S.tells → CountsTo result (from_piece - 1) (length (pieces limit (size_in (outcome (S.content source.old))) (blocks_in (outcome (S.content source.old))))) }
-    ensures least { IsTrue S.tells → IfOk result (λ d. (parts : List (List Block)) → Division limit (size_in (outcome (S.content source.old))) (blocks_in (outcome (S.content source.old))) parts → (from_piece - 1) + d.pieces ≤ length parts) }
-    // The source.
+    ensures counted { IsTrue S.tells → CountsTo result (from_piece - 1) (pieces_in limit
+        (sparse_image (S.content source.old))) }
+    // No division of the image within the limit has fewer parts.
+    ensures least { IsTrue S.tells → IfOk result (λ d. IsLeast limit ((from_piece - 1) + d.pieces)
+        (sparse_image (S.content source.old))) }
+    ensures clean { OnOk result (NoneFailed
+        (counts S.Source L.Input L.Output L.Spool.own P.Partition.own source.old spool.old partition.old)
+        (counts S.Source L.Input L.Output L.Spool.own P.Partition.own source.new spool.new partition.new)) }
+    // What it wrote.
+    ensures spool { GivesPieces S.tells L.tells (sparse_image (S.content source.old)) limit (from_piece - 1) result
+        (spool_state L.Input L.Output L.Spool.own spool.old) (spool_state L.Input L.Output L.Spool.own spool.new) }
+    ensures partition { LaysBlocks S.tells L.tells P.tells
+        (sparse_image (S.content source.old)) limit (from_piece - 1) result
+        (partition_state P.Source P.Partition.own partition.old) (partition_state P.Source P.Partition.own partition.new) }
+    // What stays.
+    ensures mends { IsTrue S.tells → IsTrue L.tells → IsTrue P.tells → MendsBlocks
+        (sparse_image (S.content source.old)) limit (from_piece - 1) result
+        (partition_state P.Source P.Partition.own partition.old) (partition_state P.Source P.Partition.own partition.new) }
     ensures content { IsTrue S.tells → S.content source.new ≡ S.content source.old }
     ensures frame { S.read_frame source.new ≡ S.read_frame source.old }
-    // The spool.
-    ensures room { L.size spool.new ≡ L.size spool.old }
-    ensures fits { PiecesFit limit (L.cuts spool.old) (L.cuts spool.new) (length (L.written spool.old)) (length (L.written spool.new)) }
-    ensures written { IsTrue S.tells → OnOk result (L.written spool.new ≡ L.written spool.old ++ concat (pieces_behind limit (size_in (outcome (S.content source.old))) (blocks_in (outcome (S.content source.old))) (from_piece - 1))) }
-    ensures cuts { IsTrue S.tells → OnOk result (L.cuts spool.new ≡ with_cuts (L.cuts spool.old) (length (L.written spool.old)) (pieces_behind limit (size_in (outcome (S.content source.old))) (blocks_in (outcome (S.content source.old))) (from_piece - 1))) }
-    ensures begins { IsTrue S.tells → Begins (L.written spool.new) (L.written spool.old ++ concat (pieces_behind limit (size_in (outcome (S.content source.old))) (blocks_in (outcome (S.content source.old))) (from_piece - 1))) }
-    // The partition.
-    ensures size { P.size partition.new ≡ P.size partition.old }
-    ensures unread { (P.reads partition.new ≡ P.reads partition.old) × (P.given partition.new ≡ P.given partition.old) }
-    ensures laid { IsTrue S.tells → IsTrue L.tells → IsTrue P.tells → OnOk result (P.content partition.new ≡ over (P.content partition.old) (cells (size_in (outcome (S.content source.old))) (blocks_behind (blocks_in_first limit (size_in (outcome (S.content source.old))) (blocks_in (outcome (S.content source.old))) (from_piece - 1)) (blocks_in (outcome (S.content source.old)))))) }
-    ensures mends { IsTrue S.tells → IsTrue L.tells → IsTrue P.tells → OnOk result ((p : List ℕ) (done : ℕ) → from_piece - 1 ≤ done → Mendable (size_in (outcome (S.content source.old))) (blocks_in (outcome (S.content source.old))) p (P.content partition.old) (blocks_in_first limit (size_in (outcome (S.content source.old))) (blocks_in (outcome (S.content source.old))) done) → P.content partition.new ≡ over p (cells (size_in (outcome (S.content source.old))) (blocks_in (outcome (S.content source.old))))) }
-    ensures stays { IsTrue S.tells → IsTrue L.tells → IsTrue P.tells → StaysMendable limit (size_in (outcome (S.content source.old))) (blocks_in (outcome (S.content source.old))) (from_piece - 1) (P.past partition.old) (P.past partition.new) (P.content partition.old) (P.content partition.new) }
-    ensures settled { IsTrue P.tells → OnOk result ((P.past partition.new).pending ≡ []) }
-    ensures lasts { IsTrue P.tells → OnOk result ((q : List ℕ) → MayLeave (moment_of (P.past partition.new) (P.content partition.new)) q → q ≡ P.content partition.new) }
-    ensures synced { (P.past partition.new).synced ≡ (P.past partition.old).synced + finished (from_piece - 1) result }
-    ensures blocks { IsTrue S.tells → IsTrue L.tells → OnOk result (P.taken partition.new ≡ P.taken partition.old + size_in (outcome (S.content source.old)) * written_in (blocks_behind (blocks_in_first limit (size_in (outcome (S.content source.old))) (blocks_in (outcome (S.content source.old))) (from_piece - 1)) (blocks_in (outcome (S.content source.old))))) }
-    // Bytes.
+    // What it cost.
     ensures reads { IsTrue S.tells → IfOk result (λ d. S.given source.new ≤ S.given source.old + 8 * image_length (S.content source.old) + 128 * ((from_piece - 1) + d.pieces + 1)) }
     ensures long { IsTrue S.tells → IfOk result (λ d. length (L.written spool.new) ≤ length (L.written spool.old) + image_length (S.content source.old) + 80 * d.pieces) }
-    ensures back { IsTrue S.tells → IsTrue L.tells → OnOk result (L.given spool.new + length (L.written spool.old) ≡ L.given spool.old + length (L.written spool.new)) }
-    // Work.
-    ensures calls { all_calls (S.reads source.new) (L.reads spool.new) (L.writes spool.new) (L.clears spool.new) (P.puts partition.new) (P.syncs partition.new) + 8 * all_bytes (S.given source.old) (L.given spool.old) (length (L.written spool.old)) (P.taken partition.old) ≤ all_calls (S.reads source.old) (L.reads spool.old) (L.writes spool.old) (L.clears spool.old) (P.puts partition.old) (P.syncs partition.old) + 8 * all_bytes (S.given source.new) (L.given spool.new) (length (L.written spool.new)) (P.taken partition.new) + 512 * (begun (from_piece - 1) result + 1) }
-    ensures turns { m.new.turns.number + 8 * all_bytes (S.given source.old) (L.given spool.old) (length (L.written spool.old)) (P.taken partition.old) ≤ m.old.turns.number + 8 * all_bytes (S.given source.new) (L.given spool.new) (length (L.written spool.new)) (P.taken partition.new) + 512 * (begun (from_piece - 1) result + 1) }
-    ensures steps { S.given source.new + L.given spool.new + 65580 * m.old.steps.number ≤ S.given source.old + L.given spool.old + 65580 * m.new.steps.number }
-    ensures greatest { m.new.greatest.number ≤ max m.old.greatest.number 65580 }
+    ensures costs { Costs S.tells (sparse_image (S.content source.old)) limit 0 512 (from_piece - 1) result
+        (counts S.Source L.Input L.Output L.Spool.own P.Partition.own source.old spool.old partition.old)
+        (counts S.Source L.Input L.Output L.Spool.own P.Partition.own source.new spool.new partition.new) m.old m.new }
 {
     sparse_behind(source, limit, from_piece - 1, spool, partition, w, m)
 }

@@ -1,4 +1,4 @@
-use Rattle.std.proofs.Common.{◌≡◌, ℕ, ◌+◌, ◌-◌, ◌*◌, ◌≤◌, ◌<◌, ◌^◌, ◌++◌, List, length, refl, sym, ap, ◌∙◌, arith, inl, inr, length-append, append-nil}
+use Rattle.std.proofs.Common.{◌≡◌, ℕ, ◌+◌, ◌-◌, ◌*◌, ◌≤◌, ◌<◌, ◌^◌, ◌++◌, List, length, Err, refl, sym, ap, ◌∙◌, arith, inl, inr, length-append, append-nil}
 use Rattle.std.specs.List.{concat}
 use Rattle.abt_sparse.specs.Block.{Block, IsBlockSize}
 use Rattle.abt_sparse.specs.Laws.{flashed_all}
@@ -13,6 +13,13 @@ use Rattle.abt_flash.specs.Going.{StandsAt, Unbroken, frames_left, pieces_left, 
 use Rattle.abt_flash.proofs.Left.{behind, frames_more, pieces_more, written_more, pieces_behind_are, laid_left, stands_left, one_left, pieces_front}
 use Rattle.abt_flash.proofs.Onward.{unbroken_first, unbroken_more, still_between, now_done, few_more, words_more, spent_more, spent_last, spent_whole}
 use Rattle.abt_flash.proofs.Spooled.{fits_none, fits_then, written_then, begins_then, cuts_then}
+use Rattle.abt_flash.specs.Delivering.{unsynced_by}
+use Rattle.abt_flash.specs.Fault.{refused_syncs}
+use Rattle.abt_flash.specs.declared.answer.Delivered.{Delivered}
+use Rattle.abt_flash.specs.declared.fault.Cause.{Cause}
+use Rattle.abt_flash.specs.declared.fault.Cause.TheVariants as causes
+use Rattle.abt_flash.specs.declared.fault.FlashFault.TheVariants.{Stopped}
+use Rattle.abt_flash.proofs.Refusing.{stops_since}
 use Rattle.abt_flash.proofs.Staying.{staying_first, staying_more, staying_stop, staying_now, staying_last}
 use Rattle.abt_flash.proofs.delivering.deliver_rest.Goals as goal
 
@@ -61,10 +68,11 @@ pieces-init g c =
       turns = omega arith;
       steps = omega arith;
       greatest = omega arith;
-      read_faults = omega arith;
-      write_faults = omega arith;
-      spool_faults = omega arith;
-      put_faults = omega arith;
+      read_faults = refl;
+      write_faults = refl;
+      spool_faults = refl;
+      put_faults = refl;
+      unsynced = refl;
     }
 
 pub pieces-preserved : goal.pieces-preserved
@@ -163,10 +171,11 @@ pieces-preserved g c =
           omega (arith, z, y, words, i.turns, c.tick.ensures.turns, o.made);
       steps = omega (arith, e.steps, i.steps, c.tick.ensures.steps);
       greatest = omega (arith, e.greatest, i.greatest, c.tick.ensures.greatest);
-      read_faults = omega (arith, e.read_faults, i.read_faults);
-      write_faults = omega (arith, e.write_faults, i.write_faults);
-      spool_faults = omega (arith, e.spool_faults, i.spool_faults);
-      put_faults = omega (arith, e.put_faults, i.put_faults);
+      read_faults = o.clean.read ∙ i.read_faults;
+      write_faults = o.clean.write ∙ i.write_faults;
+      spool_faults = o.clean.spool ∙ i.spool_faults;
+      put_faults = o.clean.put ∙ i.put_faults;
+      unsynced = omega (arith, i.unsynced, o.unsynced);
     }
 
 -- ---- behind the last piece
@@ -261,6 +270,28 @@ returns-then-not-more-clause-spent g c tells =
     spent_whole (g.S.Source.given c.args.source.now) (g.S.Source.given c.pieces.source) (passes c.args.cutter.now.start) 0 (passes c.pieces.cutter.start) c.args.cutter.now.made c.pieces.cutter.made d one (g.R.BlockRuns.pass c.args.cutter.now.runs) (g.R.BlockRuns.image c.args.cutter.now.runs) (omega (arith, order)) (omega (arith, most, copies)) (i.spent_end tells is)
 
 -- ---- where a piece was stopped
+
+refused_stop : (j : ℕ) (c : Cause) → refused_syncs {X = Delivered} (Err (Stopped j c)) ≡ unsynced_by (Err c)
+refused_stop j (causes.Sync d) = refl
+refused_stop j (causes.Read d) = refl
+refused_stop j (causes.Write d) = refl
+refused_stop j causes.SourceChanged = refl
+refused_stop j (causes.SpoolWrite d) = refl
+refused_stop j (causes.SpoolRead d) = refl
+refused_stop j causes.SpoolChanged = refl
+
+pub returns-in-Err-clause-unsynced : goal.returns-in-Err-clause-unsynced
+returns-in-Err-clause-unsynced g c =
+    let i = c.pieces.invariant in
+    let one = c.in-Err.ensures.unsynced in
+    let same = refused_stop (c.pieces.cutter.made + 1) c.in-Err.cause in
+    omega (arith, one, same, i.unsynced)
+
+pub returns-in-Err-clause-stops : goal.returns-in-Err-clause-stops
+returns-in-Err-clause-stops g c =
+    let i = c.pieces.invariant in
+    let order = i.order in
+    (omega (arith, order), stops_since c.in-Err.cause _ _ _ _ _ (record { read = omega (arith, i.read_faults); write = omega (arith, i.write_faults); spool = omega (arith, i.spool_faults); put = omega (arith, i.put_faults) }) c.in-Err.ensures.cause)
 
 pub returns-in-Err-clause-counted : goal.returns-in-Err-clause-counted
 returns-in-Err-clause-counted g c tells =

@@ -7,8 +7,8 @@ use Rattle.abt_pieces.specs.Contents.{written_in}
 use Rattle.abt_pieces.specs.Cutter.{ToldCutter}
 use Rattle.abt_pieces.specs.SpentStage.{all_passes}
 use Rattle.abt_pieces.specs.declared.stage.Stage.TheVariants.{Between, Done}
-use Rattle.abt_flash.specs.Delivering.{LeavesMendable, PiecesFit, all_bytes, all_calls, with_cuts}
-use Rattle.abt_flash.specs.Going.{Staying, Unbroken, frames_left, pieces_left, words_so_far}
+use Rattle.abt_flash.specs.Delivering.{LeavesMendable, PiecesFit, with_cuts}
+use Rattle.abt_flash.specs.Going.{Staying, Unbroken, bytes_in, calls_in, frames_left, pieces_left, words_so_far}
 use Rattle.abt_flash.proofs.delivering.deliver_rest.Given as goal
 
 abbrev pub invariant-pieces : goal.invariant-pieces
@@ -56,14 +56,15 @@ invariant-pieces g l =
       back : IsTrue g.S.Source.tells → IsTrue g.L.Input.tells → gave l.spool + length (bytes l.fn.spool) ≡ gave l.fn.spool + length (bytes l.spool);
       spent : IsTrue g.S.Source.tells → l.cutter.stage ≡ Between → g.S.Source.given l.source + passes l.fn.cutter.start + l.fn.cutter.made * (80 + one) ≤ g.S.Source.given l.fn.source + passes l.cutter.start + l.cutter.made * (80 + one);
       spent_end : IsTrue g.S.Source.tells → l.cutter.stage ≡ Done → g.S.Source.given l.source + passes l.fn.cutter.start + l.fn.cutter.made * (80 + one) + (80 + one) ≤ g.S.Source.given l.fn.source + passes l.cutter.start + l.cutter.made * (80 + one) + 48;
-      calls : all_calls (g.S.Source.reads l.source) (g.L.Input.reads l.spool) (g.L.Output.writes l.spool) (g.L.Spool.clears l.spool) (g.P.Partition.puts l.partition) (g.P.Partition.syncs l.partition) + 8 * all_bytes (g.S.Source.given l.fn.source) (gave l.fn.spool) (length (bytes l.fn.spool)) (g.P.Partition.taken l.fn.partition) + 258 * l.fn.cutter.made ≤ all_calls (g.S.Source.reads l.fn.source) (g.L.Input.reads l.fn.spool) (g.L.Output.writes l.fn.spool) (g.L.Spool.clears l.fn.spool) (g.P.Partition.puts l.fn.partition) (g.P.Partition.syncs l.fn.partition) + 8 * all_bytes (g.S.Source.given l.source) (gave l.spool) (length (bytes l.spool)) (g.P.Partition.taken l.partition) + 258 * l.cutter.made;
-      turns : l.m.turns.number + 8 * all_bytes (g.S.Source.given l.fn.source) (gave l.fn.spool) (length (bytes l.fn.spool)) (g.P.Partition.taken l.fn.partition) + 258 * l.fn.cutter.made ≤ l.fn.m.turns.number + 8 * all_bytes (g.S.Source.given l.source) (gave l.spool) (length (bytes l.spool)) (g.P.Partition.taken l.partition) + words_so_far one n l.cutter.start.block l.cutter.stage + 258 * l.cutter.made;
+      calls : calls_in (g.S.Source.reads l.source) (g.L.Input.reads l.spool) (g.L.Output.writes l.spool) (g.L.Spool.clears l.spool) (g.P.Partition.puts l.partition) (g.P.Partition.syncs l.partition) + 8 * bytes_in (g.S.Source.given l.fn.source) (gave l.fn.spool) (length (bytes l.fn.spool)) (g.P.Partition.taken l.fn.partition) + 258 * l.fn.cutter.made ≤ calls_in (g.S.Source.reads l.fn.source) (g.L.Input.reads l.fn.spool) (g.L.Output.writes l.fn.spool) (g.L.Spool.clears l.fn.spool) (g.P.Partition.puts l.fn.partition) (g.P.Partition.syncs l.fn.partition) + 8 * bytes_in (g.S.Source.given l.source) (gave l.spool) (length (bytes l.spool)) (g.P.Partition.taken l.partition) + 258 * l.cutter.made;
+      turns : l.m.turns.number + 8 * bytes_in (g.S.Source.given l.fn.source) (gave l.fn.spool) (length (bytes l.fn.spool)) (g.P.Partition.taken l.fn.partition) + 258 * l.fn.cutter.made ≤ l.fn.m.turns.number + 8 * bytes_in (g.S.Source.given l.source) (gave l.spool) (length (bytes l.spool)) (g.P.Partition.taken l.partition) + words_so_far one n l.cutter.start.block l.cutter.stage + 258 * l.cutter.made;
       steps : g.S.Source.given l.source + gave l.spool + 65580 * l.fn.m.steps.number ≤ g.S.Source.given l.fn.source + gave l.fn.spool + 65580 * l.m.steps.number;
       greatest : l.m.greatest.number ≤ max l.fn.m.greatest.number 65580;
-      read_faults : g.S.Source.read_faults l.fn.source ≤ g.S.Source.read_faults l.source;
-      write_faults : g.L.Output.write_faults l.fn.spool + g.L.Spool.clear_faults l.fn.spool ≤ g.L.Output.write_faults l.spool + g.L.Spool.clear_faults l.spool;
-      spool_faults : g.L.Input.read_faults l.fn.spool ≤ g.L.Input.read_faults l.spool;
-      put_faults : g.P.Partition.put_faults l.fn.partition ≤ g.P.Partition.put_faults l.partition;
+      read_faults : g.S.Source.read_faults l.source ≡ g.S.Source.read_faults l.fn.source;
+      write_faults : g.L.Output.write_faults l.spool + g.L.Spool.clear_faults l.spool ≡ g.L.Output.write_faults l.fn.spool + g.L.Spool.clear_faults l.fn.spool;
+      spool_faults : g.L.Input.read_faults l.spool ≡ g.L.Input.read_faults l.fn.spool;
+      put_faults : g.P.Partition.put_faults l.partition ≡ g.P.Partition.put_faults l.fn.partition;
+      unsynced : g.P.Partition.syncs l.partition + (past l.fn.partition).synced ≡ g.P.Partition.syncs l.fn.partition + (past l.partition).synced;
     }
 
 abbrev pub decreases-pieces : goal.decreases-pieces

@@ -25,7 +25,7 @@ invariant-pieces g l =
       turns : l.m.turns.number + 8 * g.S.Source.given l.fn.source ≤ l.fn.m.turns.number + 8 * g.S.Source.given l.source + words_so_far one n l.cutter.start.block l.cutter.stage + 129 * l.cutter.made;
       steps : g.S.Source.given l.source + 65580 * l.fn.m.steps.number ≤ g.S.Source.given l.fn.source + 65580 * l.m.steps.number;
       greatest : l.m.greatest.number ≤ max l.fn.m.greatest.number 65580;
-      faults : g.S.Source.read_faults l.fn.source ≤ g.S.Source.read_faults l.source;
+      faults : g.S.Source.read_faults l.source ≡ g.S.Source.read_faults l.fn.source;
     }
 
 abbrev pub decreases-pieces : goal.decreases-pieces

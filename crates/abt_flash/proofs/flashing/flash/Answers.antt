@@ -27,8 +27,9 @@ steps-init g c =
       unread = (refl, refl, refl);
       taken = omega arith;
       frame = refl;
-      read_faults = omega arith;
-      put_faults = omega arith;
+      read_faults = refl;
+      put_faults = refl;
+      syncs = refl;
       calls = rw c.open-machine.ensures.walk (omega arith);
       turns = rw c.open-machine.ensures.walk (omega arith);
       steps = omega arith;
@@ -51,6 +52,7 @@ steps-preserved g c =
     let stage = rw more at c.step.ensures.stage in
     let body = rw c.in-Ok-More.field-0-is at (m.leaves i.goes) in
     let quiet : (g.P.Partition.past c.step.new.partition).synced ≡ (g.P.Partition.past c.steps.partition).synced = let q = rw (more, not_done c.steps.machine.stage) at c.step.ensures.synced in omega (arith, q) in
+    let clean : (g.I.Input.read_faults c.step.new.input ≡ g.I.Input.read_faults c.steps.input) × (g.P.Partition.put_faults c.step.new.partition ≡ g.P.Partition.put_faults c.steps.partition) = rw more at (e.cause i.goes) in
     let going = going_phase c.steps.machine.stage c.steps.machine.walk.phase i.goes in
     let fresh = rw c.in-Ok-More.field-0-is at (m.fresh i.goes) in
     let begins = rw c.in-Ok-More.field-0-is at m.begins in
@@ -79,8 +81,9 @@ steps-preserved g c =
       unread = (e.unread.0 ∙ i.unread.0, e.unread.1 ∙ i.unread.1, e.unread.2 ∙ i.unread.2);
       taken = omega arith;
       frame = e.frame ∙ i.frame;
-      read_faults = omega arith;
-      put_faults = omega arith;
+      read_faults = clean.0 ∙ i.read_faults;
+      put_faults = clean.1 ∙ i.put_faults;
+      syncs = let q = rw more at (e.refused_syncs i.goes) in omega (arith, q, quiet, i.syncs);
       calls = omega arith;
       turns = omega arith;
       steps = omega arith;
@@ -233,3 +236,12 @@ returns-in-Err-clause-untouched g c =
     let i = c.steps.invariant in
     let m = c.in-Err.ensures in
     short_first c.in-Err.fault c.steps.machine.walk _ _ _ (going_phase c.steps.machine.stage c.steps.machine.walk.phase i.goes) (rw i.size at (m.measures i.goes)) i.measured i.fresh (λ p q. q ∙ p) m.short
+
+pub returns-in-Ok-Done-clause-cause : goal.returns-in-Ok-Done-clause-cause
+returns-in-Ok-Done-clause-cause g c =
+    let i = c.steps.invariant in
+    let clean = c.in-Ok-Done.ensures.cause i.goes in
+    (clean.0 ∙ i.read_faults, clean.1 ∙ i.put_faults)
+
+pub returns-in-Err-clause-cause : goal.returns-in-Err-clause-cause
+returns-in-Err-clause-cause g c = let i = c.steps.invariant in rw (i.read_faults, i.put_faults) at (c.in-Err.ensures.cause i.goes)

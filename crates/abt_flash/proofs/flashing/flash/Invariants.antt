@@ -26,8 +26,9 @@ invariant-steps g l =
       unread : (g.P.Source.reads l.partition ≡ g.P.Source.reads l.fn.partition) × (g.P.Source.given l.partition ≡ g.P.Source.given l.fn.partition) × (g.P.Source.read_faults l.partition ≡ g.P.Source.read_faults l.fn.partition);
       taken : took l.fn.partition ≤ took l.partition;
       frame : g.I.Input.read_frame l.input ≡ g.I.Input.read_frame l.fn.input;
-      read_faults : g.I.Input.read_faults l.fn.input ≤ g.I.Input.read_faults l.input;
-      put_faults : g.P.Partition.put_faults l.fn.partition ≤ g.P.Partition.put_faults l.partition;
+      read_faults : g.I.Input.read_faults l.input ≡ g.I.Input.read_faults l.fn.input;
+      put_faults : g.P.Partition.put_faults l.partition ≡ g.P.Partition.put_faults l.fn.partition;
+      syncs : g.P.Partition.syncs l.partition ≡ g.P.Partition.syncs l.fn.partition;
       calls : g.I.Input.reads l.input + g.P.Partition.puts l.partition + g.P.Partition.syncs l.partition + 2 * idle l.machine.walk + 8 * got l.fn.input + 8 * took l.fn.partition ≤ g.I.Input.reads l.fn.input + g.P.Partition.puts l.fn.partition + g.P.Partition.syncs l.fn.partition + 8 * got l.input + 8 * took l.partition;
       turns : l.m.turns.number + 3 * idle l.machine.walk + 8 * got l.fn.input + 8 * took l.fn.partition ≤ l.fn.m.turns.number + 8 * got l.input + 8 * took l.partition;
       steps : got l.input + 65580 * l.fn.m.steps.number ≤ got l.fn.input + 65580 * l.m.steps.number;

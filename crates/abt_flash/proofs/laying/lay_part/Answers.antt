@@ -57,6 +57,12 @@ returns-in-Ok-sync-clause-laid g c tells =
     same_content _ _ (c.in-Ok-sync.ensures.kept tells) ∙ sym (nothing_over p c.args.at)
     ∙ ap (λ (q : Part). over p (from_place c.args.at (cells_by q c.args.w.now.bytes))) (sym c.in-End.is)
 
+pub returns-in-Err-sync-clause-laid : goal.returns-in-Err-sync-clause-laid
+returns-in-Err-sync-clause-laid g c tells =
+    let p = g.P.Source.content c.args.partition.now in
+    same_content _ _ (c.in-Err-sync.ensures.kept tells) ∙ sym (nothing_over p c.args.at)
+    ∙ ap (λ (q : Part). over p (from_place c.args.at (cells_by q c.args.w.now.bytes))) (sym c.in-End.is)
+
 pub returns-in-Ok-sync-clause-moments : goal.returns-in-Ok-sync-clause-moments
 returns-in-Ok-sync-clause-moments g c tells = during_sync _ _ _ _ _ (c.in-Ok-sync.ensures.kept tells) (c.in-Ok-sync.ensures.moments tells)
 

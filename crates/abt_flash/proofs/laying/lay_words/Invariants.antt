@@ -21,7 +21,7 @@ invariant-writes g l =
       given : g.P.Source.given l.partition ≡ g.P.Source.given l.fn.partition;
       read_faults : g.P.Source.read_faults l.partition ≡ g.P.Source.read_faults l.fn.partition;
       syncs : g.P.Partition.syncs l.partition ≡ g.P.Partition.syncs l.fn.partition;
-      faults : g.P.Partition.put_faults l.fn.partition ≤ g.P.Partition.put_faults l.partition;
+      faults : g.P.Partition.put_faults l.partition ≡ g.P.Partition.put_faults l.fn.partition;
       calls : g.P.Partition.puts l.partition ≤ g.P.Partition.puts l.fn.partition + 8 * l.done;
       turns : l.m.turns.number ≤ l.fn.m.turns.number + 14 + 6 * l.done;
       few : l.m.turns.number ≤ l.fn.m.turns.number + l.n + 6 * l.done;

@@ -1,29 +1,91 @@
-use Rattle.std.proofs.Common.{◌≡◌, ℕ, ◌+◌, ◌*◌, ◌≤◌, ◌<◌, ◌^◌, drop, refl, sym, ap, ◌∙◌, arith, inl}
+use Rattle.std.specs.Prelude.{IsTrue}
+use Rattle.std.proofs.Common.{◌≡◌, ℕ, ◌+◌, ◌*◌, ◌≤◌, ◌<◌, ◌^◌, List, length, drop, Err, refl, sym, ap, ◌∙◌, arith, inl}
+use Rattle.abt_io.specs.Moment.{MayLeave, moment_of}
 use Rattle.abt_sparse.specs.Block.{IsBlockSize, cells, over}
 use Rattle.abt_sparse.proofs.MendLaws.{mended}
+use Rattle.abt_sparse.specs.Runs.{segments}
 use Rattle.abt_sparse.proofs.Totals.{length-pieces}
 use Rattle.abt_pieces.specs.Contents.{written_in}
 use Rattle.abt_pieces.specs.SpentStage.{all_passes}
 use Rattle.abt_pieces.specs.declared.stage.Stage.TheVariants.{Between}
-use Rattle.abt_flash.specs.Delivering.{blocks_behind, blocks_in_first}
-use Rattle.abt_flash.proofs.Left.{behind}
-use Rattle.abt_flash.proofs.Staying.{stays_none, blocks_grow}
+use Rattle.abt_flash.specs.Delivering.{begun, blocks_behind, blocks_in_first, pieces_in}
+use Rattle.abt_flash.proofs.Left.{Behind, behind}
+use Rattle.abt_flash.proofs.Mended.{leaves_same}
+use Rattle.abt_flash.proofs.Records.{begins_same, gives_none, lays_none, mends_none, opening_begins, opening_early, plan_early, rest_begins, rest_more}
+use Rattle.abt_flash.proofs.Staying.{blocks_grow}
 use Rattle.abt_flash.proofs.Summing.{on_ok, least_of, behind_written, reads_of}
 use Rattle.abt_flash.proofs.opened.deliver_behind.Goals as goal
 
-pub returns-in-Err-clause-stays : goal.returns-in-Err-clause-stays
-returns-in-Err-clause-stays g c tells spool partition = stays_none _ _ _ _ _ _
+-- ---- where no cutter was opened
 
-pub returns-then-length-need-clause-stays : goal.returns-then-length-need-clause-stays
-returns-then-length-need-clause-stays g c tells spool partition = stays_none _ _ _ _ _ _
+pub returns-in-Err-clause-spool : goal.returns-in-Err-clause-spool
+returns-in-Err-clause-spool g c = gives_none _ _ _ _ _ _ _
 
-pub returns-in-Err-plan_pieces-clause-stays : goal.returns-in-Err-plan_pieces-clause-stays
-returns-in-Err-plan_pieces-clause-stays g c tells spool partition = stays_none _ _ _ _ _ _
+pub returns-in-Err-clause-partition : goal.returns-in-Err-clause-partition
+returns-in-Err-clause-partition g c = lays_none _ _ _ _ _ _ _ _ (rw c.not_opened.ensures (opening_early c.in-Err.fault))
+
+pub returns-in-Err-clause-mends : goal.returns-in-Err-clause-mends
+returns-in-Err-clause-mends g c tells spool partition = mends_none _ _ _ _ _
+
+pub returns-in-Err-clause-costs : goal.returns-in-Err-clause-costs
+returns-in-Err-clause-costs g c = record {
+  begun = 0;
+  counted = rw c.not_opened.ensures (opening_begins _ _ _ c.in-Err.fault);
+  calls = omega arith;
+  turns = omega arith;
+  steps = omega arith;
+  greatest = omega arith;
+}
+
+-- ---- where the partition is too small
+
+pub returns-then-length-need-clause-spool : goal.returns-then-length-need-clause-spool
+returns-then-length-need-clause-spool g c = gives_none _ _ _ _ _ _ _
+
+pub returns-then-length-need-clause-partition : goal.returns-then-length-need-clause-partition
+returns-then-length-need-clause-partition g c = lays_none _ _ _ _ _ _ _ _ tt
+
+pub returns-then-length-need-clause-mends : goal.returns-then-length-need-clause-mends
+returns-then-length-need-clause-mends g c tells spool partition = mends_none _ _ _ _ _
+
+pub returns-then-length-need-clause-costs : goal.returns-then-length-need-clause-costs
+returns-then-length-need-clause-costs g c = record { begun = 0; counted = refl; calls = omega arith; turns = omega arith; steps = omega arith; greatest = omega arith }
+
+-- ---- where planning was refused
+
+pub returns-in-Err-plan_pieces-clause-spool : goal.returns-in-Err-plan_pieces-clause-spool
+returns-in-Err-plan_pieces-clause-spool g c = gives_none _ _ _ _ _ _ _
+
+pub returns-in-Err-plan_pieces-clause-partition : goal.returns-in-Err-plan_pieces-clause-partition
+returns-in-Err-plan_pieces-clause-partition g c = lays_none _ _ _ _ _ _ _ _ (plan_early _ _ _ _ _ c.in-Err-plan_pieces.ensures.refused)
+
+pub returns-in-Err-plan_pieces-clause-mends : goal.returns-in-Err-plan_pieces-clause-mends
+returns-in-Err-plan_pieces-clause-mends g c tells spool partition = mends_none _ _ _ _ _
 
 pub returns-in-Err-plan_pieces-clause-counted : goal.returns-in-Err-plan_pieces-clause-counted
 returns-in-Err-plan_pieces-clause-counted g c tells =
     let o = c.in-Ok.ensures in
     rw (length-pieces c.args.limit (g.R.BlockRuns.size c.args.runs) (g.R.BlockRuns.list c.args.runs (g.S.Source.content c.args.source.now))) (rw (o.runs, o.limit) at (c.in-Err-plan_pieces.ensures.counted tells))
+
+pub returns-in-Err-plan_pieces-clause-costs : goal.returns-in-Err-plan_pieces-clause-costs
+returns-in-Err-plan_pieces-clause-costs g c =
+    let o = c.in-Ok.ensures in
+    let p = c.in-Err-plan_pieces.ensures in
+    let b = g.R.BlockRuns.size c.args.runs in
+    let all = g.R.BlockRuns.list c.args.runs (g.S.Source.content c.args.source.now) in
+    let same : length (segments c.in-Ok.cutter.limit (g.R.BlockRuns.size c.in-Ok.cutter.runs) (g.R.BlockRuns.list c.in-Ok.cutter.runs (g.S.Source.content c.args.source.now))) ≡ length (segments c.args.limit b all) = rw (o.runs, o.limit) refl in
+    let calls = p.costs.calls in
+    let turns = rw o.runs at p.costs.turns in
+    record {
+      begun = p.costs.begun;
+      counted = begins_same _ _ _ _ _ (Err c.in-Err-plan_pieces.fault) (λ t. same ∙ sym (length-pieces c.args.limit b all)) p.costs.counted;
+      calls = omega (arith, calls, p.given);
+      turns = omega (arith, turns, p.given);
+      steps = omega (arith, p.steps);
+      greatest = p.greatest;
+    }
+
+-- ---- where all pieces behind the first ones were delivered, or one was stopped
 
 pub returns-clause-counted : goal.returns-clause-counted
 returns-clause-counted g c tells =
@@ -37,23 +99,53 @@ returns-clause-least g c tells =
     let p = c.in-Ok-plan_pieces.ensures in
     least_of c.args.limit (g.R.BlockRuns.size c.args.runs) (g.R.BlockRuns.list c.args.runs (g.S.Source.content c.args.source.now)) c.args.before c.deliver_rest.result (rw (p.runs, o.runs, p.content tells, p.limit, o.limit, p.planned.1) at (c.deliver_rest.ensures.counted tells))
 
-pub returns-clause-laid : goal.returns-clause-laid
-returns-clause-laid g c tells spool partition =
+pub returns-clause-spool : goal.returns-clause-spool
+returns-clause-spool g c =
     let o = c.in-Ok.ensures in
     let p = c.in-Ok-plan_pieces.ensures in
+    let r = c.deliver_rest.ensures in
+    record {
+      room = r.capacity;
+      fits = rw (p.limit, o.limit) at r.fits;
+      written = λ tells. rw (p.runs, o.runs, p.content tells, p.limit, o.limit, p.planned.1) at (r.written tells);
+      cuts = λ tells. rw (p.runs, o.runs, p.content tells, p.limit, o.limit, p.planned.1) at (r.cuts tells);
+      begins = λ tells. rw (p.runs, o.runs, p.content tells, p.limit, o.limit, p.planned.1) at (r.begins tells);
+      back = λ tells spool. r.back tells spool;
+    }
+
+pub returns-clause-partition : goal.returns-clause-partition
+returns-clause-partition g c =
+    let o = c.in-Ok.ensures in
+    let p = c.in-Ok-plan_pieces.ensures in
+    let r = c.deliver_rest.ensures in
     let b = g.R.BlockRuns.size c.args.runs in
     let all = g.R.BlockRuns.list c.args.runs (g.S.Source.content c.args.source.now) in
+    let here : IsTrue g.S.Source.tells → Behind c.args.limit b all c.args.before c.plan_pieces.new.cutter.start.block Between = λ tells.
     let long = g.met.R.BlockRuns.long c.args.runs _ (c.requires.opened tells) in
     let within : c.plan_pieces.new.cutter.start.block ≤ g.R.BlockRuns.count c.args.runs = rw (p.runs, o.runs) at (g.met.R.BlockRuns.bounded c.plan_pieces.new.cutter.runs _ c.plan_pieces.new.cutter.sound.within) in
     let made = rw (o.runs, p.limit, o.limit, p.planned.0, p.planned.1) at (p.told tells).cuts in
-    let here = behind c.args.limit b all c.args.before c.plan_pieces.new.cutter.start.block Between made (inl refl) (omega (arith, long, within)) in
-    let laid = rw (p.runs, o.runs, p.content tells) at (c.deliver_rest.ensures.laid tells spool partition) in
-    on_ok c.deliver_rest.result (λ e. e ∙ ap (λ (n : ℕ). over (g.P.Source.content c.args.partition.now) (cells b (blocks_behind n all))) (sym here.blocks)) laid
+    behind c.args.limit b all c.args.before c.plan_pieces.new.cutter.start.block Between made (inl refl) (omega (arith, long, within)) in
+    record {
+      size = r.size;
+      unread = r.unread;
+      laid = λ tells spool partition.
+          let laid = rw (p.runs, o.runs, p.content tells) at (r.laid tells spool partition) in
+          on_ok c.deliver_rest.result (λ e. e ∙ ap (λ (n : ℕ). over (g.P.Source.content c.args.partition.now) (cells b (blocks_behind n all))) (sym (here tells).blocks)) laid;
+      once = λ tells spool.
+          let wrote = rw (p.runs, o.runs, p.content tells) at (r.blocks tells spool) in
+          let same : written_in (drop c.plan_pieces.new.cutter.start.block all) ≡ written_in (blocks_behind (blocks_in_first c.args.limit b all c.args.before) all) = sym (behind_written c.plan_pieces.new.cutter.start.block all) ∙ ap (λ (n : ℕ). written_in (blocks_behind n all)) (sym (here tells).blocks) in
+          on_ok c.deliver_rest.result (λ e. e ∙ ap (λ (k : ℕ). g.P.Partition.taken c.args.partition.now + b * k) same) wrote;
+      synced = rw p.planned.1 at r.synced;
+      unsynced = r.unsynced;
+      settled = r.settled;
+      lasts = λ partition. on_ok c.deliver_rest.result (λ none q may. leaves_same (moment_of (g.P.Partition.past c.deliver_rest.new.partition) (g.P.Source.content c.deliver_rest.new.partition)) q none may) (r.settled partition);
+    }
 
 pub returns-clause-mends : goal.returns-clause-mends
 returns-clause-mends g c tells spool partition =
     let o = c.in-Ok.ensures in
     let p = c.in-Ok-plan_pieces.ensures in
+    let r = c.deliver_rest.ensures in
     let b = g.R.BlockRuns.size c.args.runs in
     let all = g.R.BlockRuns.list c.args.runs (g.S.Source.content c.args.source.now) in
     let long = g.met.R.BlockRuns.long c.args.runs _ (c.requires.opened tells) in
@@ -66,22 +158,11 @@ returns-clause-mends g c tells spool partition =
     let within : c.plan_pieces.new.cutter.start.block ≤ g.R.BlockRuns.count c.args.runs = rw (p.runs, o.runs) at (g.met.R.BlockRuns.bounded c.plan_pieces.new.cutter.runs _ c.plan_pieces.new.cutter.sound.within) in
     let made = rw (o.runs, p.limit, o.limit, p.planned.0, p.planned.1) at (p.told tells).cuts in
     let here = behind c.args.limit b all c.args.before c.plan_pieces.new.cutter.start.block Between made (inl refl) (omega (arith, long, within)) in
-    let laid = rw (p.runs, o.runs, p.content tells) at (c.deliver_rest.ensures.laid tells spool partition) in
-    on_ok c.deliver_rest.result (λ e q done le m. e ∙ mended b all q (g.P.Source.content c.args.partition.now) (blocks_in_first c.args.limit b all done) c.plan_pieces.new.cutter.start.block size good m (rw (← here.blocks) (blocks_grow c.args.limit b all c.args.before done le))) laid
-
-pub returns-clause-blocks : goal.returns-clause-blocks
-returns-clause-blocks g c tells spool =
-    let o = c.in-Ok.ensures in
-    let p = c.in-Ok-plan_pieces.ensures in
-    let b = g.R.BlockRuns.size c.args.runs in
-    let all = g.R.BlockRuns.list c.args.runs (g.S.Source.content c.args.source.now) in
-    let long = g.met.R.BlockRuns.long c.args.runs _ (c.requires.opened tells) in
-    let within : c.plan_pieces.new.cutter.start.block ≤ g.R.BlockRuns.count c.args.runs = rw (p.runs, o.runs) at (g.met.R.BlockRuns.bounded c.plan_pieces.new.cutter.runs _ c.plan_pieces.new.cutter.sound.within) in
-    let made = rw (o.runs, p.limit, o.limit, p.planned.0, p.planned.1) at (p.told tells).cuts in
-    let here = behind c.args.limit b all c.args.before c.plan_pieces.new.cutter.start.block Between made (inl refl) (omega (arith, long, within)) in
-    let wrote = rw (p.runs, o.runs, p.content tells) at (c.deliver_rest.ensures.blocks tells spool) in
-    let same : written_in (drop c.plan_pieces.new.cutter.start.block all) ≡ written_in (blocks_behind (blocks_in_first c.args.limit b all c.args.before) all) = sym (behind_written c.plan_pieces.new.cutter.start.block all) ∙ ap (λ (n : ℕ). written_in (blocks_behind n all)) (sym here.blocks) in
-    on_ok c.deliver_rest.result (λ e. e ∙ ap (λ (k : ℕ). g.P.Partition.taken c.args.partition.now + b * k) same) wrote
+    let laid = rw (p.runs, o.runs, p.content tells) at (r.laid tells spool partition) in
+    record {
+      stays = rw (p.runs, o.runs, p.content tells, p.limit, o.limit, p.planned.1) at (r.stays tells spool partition);
+      mends = on_ok c.deliver_rest.result (λ e q done le m. e ∙ mended b all q (g.P.Source.content c.args.partition.now) (blocks_in_first c.args.limit b all done) c.plan_pieces.new.cutter.start.block size good m (rw (← here.blocks) (blocks_grow c.args.limit b all c.args.before done le))) laid;
+    }
 
 pub returns-clause-reads : goal.returns-clause-reads
 returns-clause-reads g c tells =
@@ -94,3 +175,30 @@ returns-clause-reads g c tells =
     reads_of c.deliver_rest.result (g.S.Source.given c.args.source.now) (g.S.Source.given c.plan_pieces.new.source) (g.S.Source.given c.deliver_rest.new.source) (charge c.in-Ok.cutter.start) (charge c.plan_pieces.new.cutter.start)
     (all_passes charge (g.R.BlockRuns.copied c.args.runs) c.plan_pieces.new.cutter.start) (g.R.BlockRuns.pass c.args.runs) (g.R.BlockRuns.image c.args.runs) (g.R.BlockRuns.count c.args.runs) (g.R.BlockRuns.one c.args.runs) (g.R.BlockRuns.opening c.args.runs) c.args.before
     r.some few (g.met.R.BlockRuns.spared c.args.runs) (g.met.R.BlockRuns.economy c.args.runs) (rw o.runs at p.charged) (omega arith) spent
+
+pub returns-clause-costs : goal.returns-clause-costs
+returns-clause-costs g c =
+    let o = c.in-Ok.ensures in
+    let p = c.in-Ok-plan_pieces.ensures in
+    let r = c.deliver_rest.ensures in
+    let all = begun c.args.before c.deliver_rest.result in
+    let stops = rw p.planned.1 at r.stops in
+    let more = rest_more c.args.before c.deliver_rest.result _ _ _ _ stops in
+    let planned = p.costs.counted in
+    let plan_calls = p.costs.calls in
+    let plan_turns = rw o.runs at p.costs.turns in
+    let calls = rw p.planned.1 at r.calls in
+    let turns = rw (p.planned.1, p.runs, o.runs) at r.turns in
+    record {
+      begun = all;
+      counted = rest_begins _ _ c.args.before c.deliver_rest.result _ _ _ _ stops;
+      calls = omega (arith, more, planned, plan_calls, calls, p.given);
+      turns = omega (arith, more, planned, plan_turns, turns, p.given);
+      steps = omega (arith, p.steps, r.steps);
+      greatest = omega (arith, p.greatest, r.greatest);
+    }
+
+pub returns-clause-clean : goal.returns-clause-clean
+returns-clause-clean g c =
+    let before = c.in-Ok-plan_pieces.ensures.clean in
+    on_ok c.deliver_rest.result (λ e. record { read = e.read ∙ before; write = e.write; spool = e.spool; put = e.put }) c.deliver_rest.ensures.clean

@@ -1,6 +1,6 @@
-use Rattle.std.proofs.Common.{◌≡◌, ℕ, ◌+◌, ◌≤◌, ◌<◌, ◌^◌, ◌++◌, ◌∷◌, List, length, sym, ap, subst, ◌∙◌, arith, length-append}
+use Rattle.std.proofs.Common.{◌≡◌, ℕ, ◌+◌, ◌≤◌, ◌<◌, ◌^◌, ◌++◌, ◌∷◌, List, length, refl, sym, ap, subst, ◌∙◌, arith, inl, inr, false, length-append}
 use Rattle.std.specs.Prelude.{IsTrue}
-use Rattle.abt_io.specs.Frame.{ReadFrame, WriteFrame}
+use Rattle.abt_io.specs.Frame.{ReadFrame, WriteFrame, last_cut}
 use Rattle.abt_sparse.specs.Block.{IsBlockSize, cells, over}
 use Rattle.abt_sparse.specs.Chunk.{piece}
 use Rattle.abt_sparse.specs.Pieces.{given}
@@ -9,10 +9,13 @@ use Rattle.abt_pieces.specs.Gather.{frame}
 use Rattle.abt_pieces.specs.Plan.{FirstPiece}
 use Rattle.abt_pieces.proofs.Cutting.{piece_is}
 use Rattle.abt_flash.specs.Going.{blocks_at}
-use Rattle.abt_flash.proofs.PieceFlash.{Reads, piece_reads, given_reads, all_flashed, only_devices, flash_stops, behind_clear, all_read, touched_reads}
+use Rattle.abt_pieces.specs.Cutter.{has_failed}
+use Rattle.abt_pieces.specs.Fault.{HasCause as CutCause}
+use Rattle.abt_pieces.specs.Image.{Appended, IsImage}
+use Rattle.abt_flash.proofs.PieceFlash.{Reads, cut_stops, image_reads, piece_reads, given_reads, all_flashed, only_devices, flash_stops, laid_stops, unsynced_stops, laid_cut, unsynced_cut, on_flashed, behind_clear, all_read, touched_reads}
 use Rattle.abt_flash.proofs.Spooled.{fits_one, begins_front}
 use Rattle.abt_flash.proofs.piece.deliver_piece.Goals as goal
-use Rattle.abt_flash.proofs.piece.deliver_piece.Goals.{After-flash, In-Ok-Some}
+use Rattle.abt_flash.proofs.piece.deliver_piece.Goals.{After-flash, In-Err-next_piece, In-Ok-Some}
 use Rattle.abt_flash.proofs.piece.deliver_piece.Given.{Over}
 
 -- ---- the piece that was written
@@ -76,6 +79,23 @@ after_cuts g c =
     ∙ ap (λ (f : WriteFrame). f.cuts) (sym (g.met.L.Spool.writing c.next_piece.new.output) ∙ c.next_piece.ensures.write_frame ∙ g.met.L.Spool.writing c.clear.new.self)
     ∙ c.in-Ok.ensures.cut
 
+-- ---- the same of every source
+
+image : (g : Over) (c : In-Ok-Some g) → Appended (IsImage (g.R.BlockRuns.size c.args.cutter.now.runs) (g.R.BlockRuns.count c.args.cutter.now.runs)) (g.L.Output.written c.clear.new.self) (g.L.Output.written c.next_piece.new.output)
+image g c = rw c.in-Ok-Some.field-0-is at c.in-Ok-Some.ensures.image
+
+gives : (g : Over) (c : In-Ok-Some g) → IsTrue g.L.Input.tells → g.L.Input.remaining c.next_piece.new.output ≡ (image g c).wrote
+gives g c spool =
+    let same = sym (g.met.L.Spool.writing c.next_piece.new.output) ∙ c.next_piece.ensures.write_frame ∙ g.met.L.Spool.writing c.clear.new.self in
+    let gone : g.L.Spool.gone c.next_piece.new.output ≡ length (g.L.Output.written c.clear.new.self) = ap (λ (f : WriteFrame). f.gone) same ∙ c.in-Ok.ensures.gone ∙ ap length (sym c.clear.ensures.written) in
+    g.met.L.Spool.held c.next_piece.new.output spool ∙ behind_clear _ _ _ _ (image g c).behind gone
+
+cut_cause : (g : Over) (c : In-Err-next_piece g) → CutCause c.in-Err-next_piece.fault g.S.Source.tells (g.S.Source.read_faults c.args.source.now) (g.S.Source.read_faults c.next_piece.new.source) (g.L.Output.write_faults c.clear.new.self) (g.L.Output.write_faults c.next_piece.new.output)
+cut_cause g c = elim c.in-Err-next_piece.ensures.cause [
+  | inl is ↦ absurd (let z = sym c.requires.between ∙ is in cc)
+  | inr h ↦ h
+]
+
 -- ---- where the piece was not written
 
 pub returns-in-Err-next_piece-clause-fits : goal.returns-in-Err-next_piece-clause-fits
@@ -86,6 +106,17 @@ returns-in-Err-next_piece-clause-fits g c =
 
 pub returns-in-Err-next_piece-clause-begins : goal.returns-in-Err-next_piece-clause-begins
 returns-in-Err-next_piece-clause-begins g c tells = rw (c.requires.between, c.clear.ensures.written) at (begins_front _ _ _ _ (c.next_piece.ensures.front tells))
+
+pub returns-in-Err-next_piece-clause-unsynced : goal.returns-in-Err-next_piece-clause-unsynced
+returns-in-Err-next_piece-clause-unsynced g c =
+    let none = unsynced_cut c.in-Err-next_piece.fault in
+    rw (c.not_written.ensures) (omega (arith, none))
+
+pub returns-in-Err-next_piece-clause-laid : goal.returns-in-Err-next_piece-clause-laid
+returns-in-Err-next_piece-clause-laid g c tells spool partition = rw (c.not_written.ensures) (laid_cut c.in-Err-next_piece.fault _)
+
+pub returns-in-Err-next_piece-clause-greatest_end : goal.returns-in-Err-next_piece-clause-greatest_end
+returns-in-Err-next_piece-clause-greatest_end g c tells = rw (c.not_written.ensures) (laid_cut c.in-Err-next_piece.fault _)
 
 -- ---- where it was flashed
 
@@ -158,9 +189,55 @@ returns-in-Err-flash-clause-kept g c tells spool partition = rw (touches g ((goa
 pub returns-in-Err-flash-clause-moments : goal.returns-in-Err-flash-clause-moments
 returns-in-Err-flash-clause-moments g c tells spool partition = rw (touches g ((goal.at.returns-in-Err-flash-clause-moments g c).In-Ok-Some) tells spool) at (c.flash.ensures.moments spool partition)
 
+pub returns-in-Err-flash-clause-unsynced : goal.returns-in-Err-flash-clause-unsynced
+returns-in-Err-flash-clause-unsynced g c =
+    let same = unsynced_stops c.in-Err-flash.fault _ _ _ _ c.in-Err-flash.ensures.cause in
+    let sum = c.in-Err-flash.ensures.refused_syncs in
+    rw (c.not_flashed.ensures) (omega (arith, same, sum))
+
+pub returns-in-Err-flash-clause-greatest_end : goal.returns-in-Err-flash-clause-greatest_end
+returns-in-Err-flash-clause-greatest_end g c tells = on_flashed _ _ (segment g ((goal.at.returns-in-Err-flash-clause-greatest_end g c).In-Ok-Some) tells)
+
+pub returns-in-Err-flash-clause-laid : goal.returns-in-Err-flash-clause-laid
+returns-in-Err-flash-clause-laid g c tells spool partition =
+    let s = (goal.at.returns-in-Err-flash-clause-laid g c).In-Ok-Some in
+    rw (c.not_flashed.ensures) (laid_stops c.in-Err-flash.fault _ _ _ _ (c.in-Err-flash.ensures.holds spool partition) (ap (λ (x : List ℕ). given (outcome x)) (comes g s tells spool) ∙ given_reads _ _ _ _ (reads g s tells)))
+
 pub returns-in-Err-flash-clause-cause : goal.returns-in-Err-flash-clause-cause
 returns-in-Err-flash-clause-cause g c =
     let s = (goal.at.returns-in-Err-flash-clause-cause g c).In-Ok-Some in
     let same : g.L.Input.read_faults c.next_piece.new.output ≡ g.L.Input.read_faults c.clear.new.self = ap (λ (f : WriteFrame). f.read_faults) (sym (g.met.L.Spool.writing c.next_piece.new.output) ∙ c.next_piece.ensures.write_frame ∙ g.met.L.Spool.writing c.clear.new.self) in
-    rw (c.not_flashed.ensures) (flash_stops _ _ _ _ _ _ _ _ _ _ _ _ (omega (arith, same, c.clear.ensures.read_faults)) c.in-Err-flash.ensures.cause
-    (λ tells spool. only_devices _ _ _ _ _ _ _ _ _ (reads g s tells) c.requires.room (rw (comes g s tells spool) at (c.in-Err-flash.ensures.flashes spool))))
+    rw (c.not_flashed.ensures) (flash_stops _ _ _ _ _ _ (omega (arith, same, c.clear.ensures.read_faults)) c.in-Err-flash.ensures.cause
+    (λ spool. only_devices _ _ _ _ _ _ _ _ _ (image_reads _ _ _ (image g s).is) c.requires.room (rw (gives g s spool) at (c.in-Err-flash.ensures.flashes spool))))
+
+-- ---- who failed
+
+pub returns-in-Ok-flash-clause-clean : goal.returns-in-Ok-flash-clause-clean
+returns-in-Ok-flash-clause-clean g c =
+    let o = c.in-Ok-Some.ensures.clean in
+    let f = c.in-Ok-flash.ensures.cause in
+    let writing = sym (g.met.L.Spool.writing c.next_piece.new.output) ∙ c.next_piece.ensures.write_frame ∙ g.met.L.Spool.writing c.clear.new.self in
+    let reading = sym (g.met.L.Spool.reading c.flash.new.input) ∙ c.flash.ensures.frame ∙ g.met.L.Spool.reading c.next_piece.new.output in
+    let wrote = ap (λ (q : ReadFrame). q.write_faults) reading ∙ o.1 ∙ c.clear.ensures.write_faults in
+    let cleared = ap (λ (q : ReadFrame). q.clear_faults) reading ∙ ap (λ (q : WriteFrame). q.clear_faults) writing ∙ c.in-Ok.ensures.clean in
+    record {
+      read = o.0;
+      write = omega (arith, wrote, cleared);
+      spool = f.0 ∙ ap (λ (q : WriteFrame). q.read_faults) writing ∙ c.clear.ensures.read_faults;
+      put = f.1;
+    }
+
+pub returns-in-Err-next_piece-clause-cause : goal.returns-in-Err-next_piece-clause-cause
+returns-in-Err-next_piece-clause-cause g c =
+    let writing = sym (g.met.L.Spool.writing c.next_piece.new.output) ∙ c.next_piece.ensures.write_frame ∙ g.met.L.Spool.writing c.clear.new.self in
+    let cleared = ap (λ (q : WriteFrame). q.clear_faults) writing in
+    let cuts = ap (λ (q : WriteFrame). q.cuts) writing ∙ c.in-Ok.ensures.cut in
+    let room = ap (λ (q : WriteFrame). q.capacity) writing ∙ c.clear.ensures.size in
+    let long = ap length c.clear.ensures.written in
+    rw (c.not_written.ensures) (cut_stops c.in-Err-next_piece.fault _ _ _ _ _ _ (cut_cause g ((goal.at.returns-in-Err-next_piece-clause-cause g c).In-Err-next_piece)) (λ more. omega (arith, more, cleared, c.clear.ensures.write_faults, c.clear.ensures.faults))
+    (λ is.
+    let begun : has_failed c.args.cutter.now.stage ≡ false = rw c.requires.between refl in
+    let h = c.in-Err-next_piece.ensures.full begun (rw is refl) in
+    let filled = g.met.L.Spool.filled c.next_piece.new.output h.0 in
+    let last : last_cut (g.L.Spool.cuts c.next_piece.new.output) ≡ length (g.L.Output.written c.args.spool.now) = ap last_cut cuts in
+    omega (arith, filled, last, h.1, room, long, c.requires.capacity)))

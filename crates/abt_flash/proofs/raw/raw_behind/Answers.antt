@@ -1,8 +1,10 @@
-use Rattle.std.proofs.Common.{◌≡◌, length}
+use Rattle.std.proofs.Common.{◌≡◌, length, ap, arith}
 use Rattle.std.specs.Prelude.{IsTrue}
 use Rattle.abt_sparse.specs.Block.{classify}
 use Rattle.abt_runs.specs.RawLaws.{raw_long}
-use Rattle.abt_flash.proofs.Staying.{stays_none}
+use Rattle.abt_flash.specs.Delivering.{ImageBlocks, pieces_in}
+use Rattle.abt_flash.specs.Raw.{raw_image}
+use Rattle.abt_flash.proofs.Records.{costs_more, counts_same, gives_none, gives_same, lays_none, lays_same, least_same, mends_none, mends_same, run_begins, run_early}
 use Rattle.abt_flash.proofs.Refusing.{raw_refused}
 use Rattle.abt_flash.proofs.raw.raw_behind.Goals as goal
 use Rattle.abt_flash.proofs.raw.raw_behind.Goals.{In-Ok}
@@ -13,6 +15,10 @@ counts g c tells =
     let s = c.in-Ok.runs in
     rw (c.in-Ok.ensures.size.0) at (raw_long s.length s.blocks s.size (g.S.Source.content c.args.source.now) s.some s.covers s.last (c.in-Ok.ensures.opened tells))
 
+-- the opened image is the source's in blocks of this size
+same : (g : Over) (c : In-Ok g) → raw_image c.in-Ok.runs.size (g.S.Source.content c.args.source.now) ≡ raw_image c.args.b (g.S.Source.content c.args.source.now)
+same g c = ap (λ n. raw_image n (g.S.Source.content c.args.source.now)) c.in-Ok.ensures.size.0
+
 pub returns-in-Ok-clause-granted : goal.returns-in-Ok-clause-granted
 returns-in-Ok-clause-granted g c tells =
     let k = (goal.at.returns-in-Ok-clause-granted g c).In-Ok in
@@ -20,13 +26,47 @@ returns-in-Ok-clause-granted g c tells =
 
 pub returns-in-Ok-clause-refused : goal.returns-in-Ok-clause-refused
 returns-in-Ok-clause-refused g c =
-    raw_refused c.deliver_behind.result _ _ _ _ _ _ _ _ _ _ _ _ _ _ _ _ _ (λ tells. counts g ((goal.at.returns-in-Ok-clause-refused g c).In-Ok) tells) (rw (c.in-Ok.ensures.size.0) at c.deliver_behind.ensures.refused)
+    raw_refused c.deliver_behind.result _ _ _ _ _ _ _ _ _ _ _ (λ tells. counts g ((goal.at.returns-in-Ok-clause-refused g c).In-Ok) tells) (rw (c.in-Ok.ensures.size.0) at c.deliver_behind.ensures.refused)
+
+pub returns-in-Ok-clause-counted : goal.returns-in-Ok-clause-counted
+returns-in-Ok-clause-counted g c tells = counts_same c.deliver_behind.result _ _ _ _ (same g ((goal.at.returns-in-Ok-clause-counted g c).In-Ok)) (c.deliver_behind.ensures.counted tells)
+
+pub returns-in-Ok-clause-least : goal.returns-in-Ok-clause-least
+returns-in-Ok-clause-least g c tells = least_same c.deliver_behind.result _ _ _ _ (same g ((goal.at.returns-in-Ok-clause-least g c).In-Ok)) (c.deliver_behind.ensures.least tells)
+
+pub returns-in-Ok-clause-spool : goal.returns-in-Ok-clause-spool
+returns-in-Ok-clause-spool g c = gives_same _ _ _ _ _ _ c.deliver_behind.result _ _ (λ tells. same g ((goal.at.returns-in-Ok-clause-spool g c).In-Ok)) c.deliver_behind.ensures.spool
+
+pub returns-in-Ok-clause-partition : goal.returns-in-Ok-clause-partition
+returns-in-Ok-clause-partition g c = lays_same _ _ _ _ _ _ _ c.deliver_behind.result _ _ (λ tells. same g ((goal.at.returns-in-Ok-clause-partition g c).In-Ok)) c.deliver_behind.ensures.partition
 
 pub returns-in-Ok-clause-mends : goal.returns-in-Ok-clause-mends
-returns-in-Ok-clause-mends g c tells spool partition = rw (c.in-Ok.ensures.size.0) at (c.deliver_behind.ensures.mends tells spool partition)
+returns-in-Ok-clause-mends g c tells spool partition = mends_same _ _ _ _ c.deliver_behind.result _ _ (same g ((goal.at.returns-in-Ok-clause-mends g c).In-Ok)) (c.deliver_behind.ensures.mends tells spool partition)
 
 pub returns-in-Ok-clause-long : goal.returns-in-Ok-clause-long
 returns-in-Ok-clause-long g c tells = rw (counts g ((goal.at.returns-in-Ok-clause-long g c).In-Ok) tells) (rw (c.in-Ok.ensures.size.0) at c.deliver_behind.ensures.long)
 
-pub returns-in-Err-clause-stays : goal.returns-in-Err-clause-stays
-returns-in-Err-clause-stays g c tells spool partition = stays_none _ _ _ _ _ _
+pub returns-in-Ok-clause-costs : goal.returns-in-Ok-clause-costs
+returns-in-Ok-clause-costs g c =
+    costs_more _ _ _ _ _ _ _ _ _ _ (rw (c.in-Ok.ensures.size.0) at c.deliver_behind.ensures.costs)
+
+-- ---- where it was not opened
+
+pub returns-in-Err-clause-spool : goal.returns-in-Err-clause-spool
+returns-in-Err-clause-spool g c = gives_none _ _ _ _ _ _ _
+
+pub returns-in-Err-clause-partition : goal.returns-in-Err-clause-partition
+returns-in-Err-clause-partition g c = lays_none _ _ _ _ _ _ _ _ (rw c.not_read.ensures (run_early c.in-Err.fault))
+
+pub returns-in-Err-clause-mends : goal.returns-in-Err-clause-mends
+returns-in-Err-clause-mends g c tells spool partition = mends_none _ _ _ _ _
+
+pub returns-in-Err-clause-costs : goal.returns-in-Err-clause-costs
+returns-in-Err-clause-costs g c = record {
+  begun = 0;
+  counted = rw c.not_read.ensures (run_begins _ _ _ c.in-Err.fault);
+  calls = omega arith;
+  turns = omega arith;
+  steps = omega arith;
+  greatest = omega arith;
+}

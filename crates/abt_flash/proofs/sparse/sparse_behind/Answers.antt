@@ -1,10 +1,12 @@
-use Rattle.std.proofs.Common.{◌≡◌, ap}
+use Rattle.std.proofs.Common.{◌≡◌, ap, sym, ◌∙◌, arith}
 use Rattle.std.specs.Prelude.{IsTrue}
 use Rattle.abt_sparse.specs.Reading.{outcome}
 use Rattle.abt_sparse.specs.View.{view}
+use Rattle.abt_runs.specs.Sparse.{blocks_in}
 use Rattle.abt_runs.specs.SparseLaws.{sparse_long}
-use Rattle.abt_flash.specs.Sparse.{size_in}
-use Rattle.abt_flash.proofs.Staying.{stays_none}
+use Rattle.abt_flash.specs.Delivering.{ImageBlocks, pieces_in}
+use Rattle.abt_flash.specs.Sparse.{size_in, sparse_image}
+use Rattle.abt_flash.proofs.Records.{begins_same, counts_same, gives_none, gives_same, image_same, lays_none, lays_same, least_same, mends_none, mends_same, run_begins, run_early}
 use Rattle.abt_flash.proofs.Summing.{on_ok}
 use Rattle.abt_flash.proofs.Refusing.{Opens, sparse_refused, fits_sparse}
 use Rattle.abt_flash.proofs.sparse.sparse_behind.Goals as goal
@@ -16,17 +18,74 @@ opens g c tells =
     let o = c.in-Ok.ensures.opened tells in
     record { image = rw (o.is_image) tt; size = ap size_in o.is_image; count = sparse_long (view c.in-Ok.runs.header) c.in-Ok.runs.length c.in-Ok.runs.image (g.S.Source.content c.args.source.now) o }
 
+-- the opened image is the one in front
+same : (g : Over) (c : In-Ok g) → IsTrue g.S.Source.tells → (let i : ImageBlocks = record { size = c.in-Ok.runs.header.blk_sz; blocks = blocks_in (outcome (g.S.Source.content c.open.new.source)) } in i ≡ sparse_image (g.S.Source.content c.args.source.now))
+same g c tells = image_same _ _ _ _ (sym (opens g c tells).size) (ap (λ x. blocks_in (outcome x)) (c.open.ensures.content tells))
+
 pub returns-in-Ok-clause-granted : goal.returns-in-Ok-clause-granted
 returns-in-Ok-clause-granted g c tells = on_ok c.deliver_behind.result (λ room. fits_sparse _ _ _ _ _ (opens g ((goal.at.returns-in-Ok-clause-granted g c).In-Ok) tells) room) c.deliver_behind.ensures.granted
 
 pub returns-in-Ok-clause-refused : goal.returns-in-Ok-clause-refused
-returns-in-Ok-clause-refused g c = sparse_refused c.deliver_behind.result _ _ _ _ _ _ _ _ _ _ _ _ _ _ _ _ _ c.open.ensures.faults (λ tells. opens g ((goal.at.returns-in-Ok-clause-refused g c).In-Ok) tells) c.deliver_behind.ensures.refused
+returns-in-Ok-clause-refused g c =
+    let more = c.open.ensures.faults in
+    sparse_refused c.deliver_behind.result _ _ _ _ _ _ _ _ _ _ _ (record { read = more; write = omega arith; spool = omega arith; put = omega arith }) (λ tells. opens g ((goal.at.returns-in-Ok-clause-refused g c).In-Ok) tells) c.deliver_behind.ensures.refused
+
+pub returns-in-Ok-clause-counted : goal.returns-in-Ok-clause-counted
+returns-in-Ok-clause-counted g c tells = counts_same c.deliver_behind.result _ _ _ _ (same g ((goal.at.returns-in-Ok-clause-counted g c).In-Ok) tells) (c.deliver_behind.ensures.counted tells)
+
+pub returns-in-Ok-clause-least : goal.returns-in-Ok-clause-least
+returns-in-Ok-clause-least g c tells = least_same c.deliver_behind.result _ _ _ _ (same g ((goal.at.returns-in-Ok-clause-least g c).In-Ok) tells) (c.deliver_behind.ensures.least tells)
+
+pub returns-in-Ok-clause-spool : goal.returns-in-Ok-clause-spool
+returns-in-Ok-clause-spool g c = gives_same _ _ _ _ _ _ c.deliver_behind.result _ _ (λ tells. same g ((goal.at.returns-in-Ok-clause-spool g c).In-Ok) tells) c.deliver_behind.ensures.spool
+
+pub returns-in-Ok-clause-partition : goal.returns-in-Ok-clause-partition
+returns-in-Ok-clause-partition g c = lays_same _ _ _ _ _ _ _ c.deliver_behind.result _ _ (λ tells. same g ((goal.at.returns-in-Ok-clause-partition g c).In-Ok) tells) c.deliver_behind.ensures.partition
 
 pub returns-in-Ok-clause-mends : goal.returns-in-Ok-clause-mends
-returns-in-Ok-clause-mends g c tells spool partition =
-    let o = c.in-Ok.ensures.opened tells in
-    let size : size_in (outcome (g.S.Source.content c.args.source.now)) ≡ c.in-Ok.runs.header.blk_sz = ap size_in o.is_image in
-    rw size (rw (c.open.ensures.content tells) at (c.deliver_behind.ensures.mends tells spool partition))
+returns-in-Ok-clause-mends g c tells spool partition = mends_same _ _ _ _ c.deliver_behind.result _ _ (same g ((goal.at.returns-in-Ok-clause-mends g c).In-Ok) tells) (c.deliver_behind.ensures.mends tells spool partition)
 
-pub returns-in-Err-clause-stays : goal.returns-in-Err-clause-stays
-returns-in-Err-clause-stays g c tells spool partition = stays_none _ _ _ _ _ _
+pub returns-in-Ok-clause-costs : goal.returns-in-Ok-clause-costs
+returns-in-Ok-clause-costs g c =
+    let e = c.open.ensures in
+    let d = c.deliver_behind.ensures.costs in
+    let calls = d.calls in
+    let turns = d.turns in
+    let steps = d.steps in
+    let greatest = d.greatest in
+    record {
+      begun = d.begun;
+      counted = begins_same _ _ _ _ _ c.deliver_behind.result (λ tells. ap (λ i. pieces_in c.args.limit i) (same g ((goal.at.returns-in-Ok-clause-costs g c).In-Ok) tells)) d.counted;
+      calls = omega (arith, calls, e.calls, e.given);
+      turns = omega (arith, turns, e.turns, e.given);
+      steps = omega (arith, steps, e.received, e.given);
+      greatest = omega (arith, greatest, e.greatest);
+    }
+
+-- ---- where it was not opened
+
+pub returns-in-Err-clause-spool : goal.returns-in-Err-clause-spool
+returns-in-Err-clause-spool g c = gives_none _ _ _ _ _ _ _
+
+pub returns-in-Err-clause-partition : goal.returns-in-Err-clause-partition
+returns-in-Err-clause-partition g c = lays_none _ _ _ _ _ _ _ _ (rw c.not_read.ensures (run_early c.in-Err.fault))
+
+pub returns-in-Err-clause-mends : goal.returns-in-Err-clause-mends
+returns-in-Err-clause-mends g c tells spool partition = mends_none _ _ _ _ _
+
+pub returns-in-Err-clause-costs : goal.returns-in-Err-clause-costs
+returns-in-Err-clause-costs g c =
+    let e = c.open.ensures in
+    record {
+      begun = 0;
+      counted = rw c.not_read.ensures (run_begins _ _ _ c.in-Err.fault);
+      calls = omega (arith, e.calls, e.given);
+      turns = omega (arith, e.turns, e.given);
+      steps = omega (arith, e.received, e.given);
+      greatest = omega (arith, e.greatest);
+    }
+
+pub returns-in-Ok-clause-clean : goal.returns-in-Ok-clause-clean
+returns-in-Ok-clause-clean g c =
+    let before = c.in-Ok.ensures.clean in
+    on_ok c.deliver_behind.result (λ e. record { read = e.read ∙ before; write = e.write; spool = e.spool; put = e.put }) c.deliver_behind.ensures.clean
