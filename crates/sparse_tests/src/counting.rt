@@ -1,46 +1,123 @@
-//! A source that counts what it hands out.
+//! A device that counts the bytes that it hands out and takes.
 
-use abt_io::{DeviceFault, Source};
+use abt_io::{DeviceFault, Input, Output, Source, Spool};
 
-/// Counts the bytes that its source hands out, in a plain number.
+/// Counts the bytes that its device hands out and takes, in plain numbers. It is of each kind but a partition that its
+/// device is of.
 #[derive(Drop)]
-pub struct Counting<S> {
-    pub source: S,
+pub struct Counting<D> {
+    pub device: D,
     pub handed: u64,
+    pub taken: u64,
 }
 
-impl<S> Counting<S> {
-    pub fn new(source: S) -> Counting<S> {
-        Counting { source, handed: 0 }
+impl<D> Counting<D> {
+    /// The device, of which nothing is counted yet.
+    pub fn new(device: D) -> Counting<D> {
+        Counting {
+            device,
+            handed: 0,
+            taken: 0,
+        }
     }
 }
 
-impl<S: Source> Source for Counting<S> {
-    ghost tells = { S.tells };
+impl<D: Source> Source for Counting<D> {
+    ghost tells = { D.tells };
 
-    ghost content = { λ c. S.content c.source };
+    ghost content = { λ c. D.content c.device };
 
-    ghost size = { λ c. S.size c.source };
+    ghost size = { λ c. D.size c.device };
 
-    ghost reads = { λ c. S.reads c.source };
+    ghost reads = { λ c. D.reads c.device };
 
-    ghost given = { λ c. S.given c.source };
+    ghost given = { λ c. D.given c.device };
 
-    ghost read_faults = { λ c. S.read_faults c.source };
+    ghost read_faults = { λ c. D.read_faults c.device };
 
-    ghost read_frame = { λ c. S.read_frame c.source };
+    ghost read_frame = { λ c. D.read_frame c.device };
 
-    ghost sized = { λ c t. S.sized c.source t };
+    ghost sized = { λ c t. D.sized c.device t };
 
-    ghost are_bytes = { λ c t. S.are_bytes c.source t };
+    ghost are_bytes = { λ c t. D.are_bytes c.device t };
 
     fn length(&self) -> u64 {
-        self.source.length()
+        self.device.length()
     }
 
     fn read_at(&mut self, at: u64, out: &mut [u8]) -> Result<usize, DeviceFault> {
-        let n = self.source.read_at(at, out)?;
+        let n = self.device.read_at(at, out)?;
         self.handed = self.handed.saturating_add(n as u64);
         Ok(n)
+    }
+}
+
+impl<D: Input> Input for Counting<D> {
+    ghost tells = { D.tells };
+
+    ghost remaining = { λ c. D.remaining c.device };
+
+    ghost reads = { λ c. D.reads c.device };
+
+    ghost given = { λ c. D.given c.device };
+
+    ghost read_faults = { λ c. D.read_faults c.device };
+
+    ghost read_frame = { λ c. D.read_frame c.device };
+
+    ghost are_bytes = { λ c t. D.are_bytes c.device t };
+
+    fn read(&mut self, out: &mut [u8]) -> Result<usize, DeviceFault> {
+        let n = self.device.read(out)?;
+        self.handed = self.handed.saturating_add(n as u64);
+        Ok(n)
+    }
+}
+
+impl<D: Output> Output for Counting<D> {
+    ghost written = { λ c. D.written c.device };
+
+    ghost is_full = { λ c. D.is_full c.device };
+
+    ghost writes = { λ c. D.writes c.device };
+
+    ghost write_faults = { λ c. D.write_faults c.device };
+
+    ghost full_faults = { λ c. D.full_faults c.device };
+
+    ghost write_frame = { λ c. D.write_frame c.device };
+
+    fn write(&mut self, bytes: &[u8]) -> Result<usize, DeviceFault> {
+        let n = self.device.write(bytes)?;
+        self.taken = self.taken.saturating_add(n as u64);
+        Ok(n)
+    }
+}
+
+impl<D: Spool> Spool for Counting<D> {
+    ghost size = { λ c. D.size c.device };
+
+    ghost gone = { λ c. D.gone c.device };
+
+    ghost cuts = { λ c. D.cuts c.device };
+
+    ghost clears = { λ c. D.clears c.device };
+
+    ghost clear_faults = { λ c. D.clear_faults c.device };
+
+    ghost reading = { λ c. D.reading c.device };
+
+    ghost writing = { λ c. D.writing c.device };
+
+    ghost held = { λ c t. D.held c.device t };
+
+    ghost filled = { λ c t. D.filled c.device t };
+
+    fn capacity(&self) -> u64 {
+        self.device.capacity()
+    }
+
+    fn clear(&mut self) -> Result<(), DeviceFault> {
+        self.device.clear()
     }
 }

@@ -10,7 +10,6 @@ use abt_io::{
     Cut, DeviceFault, Faulty, Forward, FromRead, Meter, SliceOutput, SliceSource, ToWrite, Window,
 };
 use abt_sparse::SparseFault;
-use std::test::Fail;
 
 /// What image A expands to.
 const ROW_A: [u8; 12] = [65, 66, 67, 68, 4, 3, 2, 1, 0, 0, 0, 0];
@@ -53,7 +52,7 @@ fn holds_some(room: &[u8; 14]) -> bool {
 }
 
 #[test]
-fn image_a(rt: HostRuntime) {
+fn the_three_kinds_expand_in_any_cut(rt: HostRuntime) {
     for most in [1, 13, 1000] {
         let most = most.max(1);
         let mut room = [9u8; 14];
@@ -63,7 +62,7 @@ fn image_a(rt: HostRuntime) {
 }
 
 #[test]
-fn any_minor(rt: HostRuntime) {
+fn any_minor_version_is_accepted(rt: HostRuntime) {
     let mut image = THREE_KINDS;
     image[6] = 7;
     let mut room = [9u8; 14];
@@ -72,7 +71,7 @@ fn any_minor(rt: HostRuntime) {
 }
 
 #[test]
-fn nothing(rt: HostRuntime) {
+fn an_image_of_no_blocks_expands_to_nothing(rt: HostRuntime) {
     let mut room = [9u8; 14];
     assert_eq!(rt;
         expanded(&EMPTY, 13, &mut room),
@@ -85,7 +84,7 @@ fn nothing(rt: HostRuntime) {
 }
 
 #[test]
-fn behind_a_checksum(rt: HostRuntime) {
+fn bytes_behind_the_last_chunk_are_left_unread(rt: HostRuntime) {
     let mut image = [0x7Fu8; 89];
     image[..88].copy_from_slice(&WITH_CHECKSUM);
     let mut room = [9u8; 14];
@@ -102,7 +101,7 @@ fn behind_a_checksum(rt: HostRuntime) {
 }
 
 #[test]
-fn longer_headers(rt: HostRuntime) {
+fn longer_headers_are_passed_over(rt: HostRuntime) {
     let mut room = [9u8; 14];
     let mut input = Forward::new(SliceSource::new(&LONG_HEADERS));
     let mut output = SliceOutput::new(&mut room);
@@ -120,7 +119,7 @@ fn longer_headers(rt: HostRuntime) {
 }
 
 #[test]
-fn longer_headers_cut_off(rt: HostRuntime) {
+fn a_longer_header_cut_off_is_truncated(rt: HostRuntime) {
     let mut room = [9u8; 14];
     assert_eq!(rt;
         expanded(&LONG_HEADERS[..31], 13, &mut room),
@@ -134,7 +133,7 @@ fn longer_headers_cut_off(rt: HostRuntime) {
 }
 
 #[test]
-fn each_beginning(rt: HostRuntime) {
+fn each_beginning_is_truncated_and_what_it_gives_stands(rt: HostRuntime) {
     for m in 0..88 {
         let came = if m < 40 {
             0
@@ -157,7 +156,7 @@ fn each_beginning(rt: HostRuntime) {
 }
 
 #[test]
-fn a_window_and_more(rt: HostRuntime) {
+fn a_raw_chunk_longer_than_a_window_expands(rt: HostRuntime) {
     let mut image = [0u8; 65_580];
     for i in 0..65_580 {
         image[i] = (i % 251) as u8;
@@ -178,7 +177,7 @@ fn a_window_and_more(rt: HostRuntime) {
 
 /// A fill of more words than the window holds: 40,000 of them.
 #[test]
-fn a_long_fill(rt: HostRuntime) {
+fn a_fill_longer_than_a_window_expands(rt: HostRuntime) {
     let mut image = [0u8; 44];
     image[..28].copy_from_slice(&EMPTY);
     image[16..20].copy_from_slice(&[0x40, 0x9C, 0, 0]);
@@ -199,7 +198,7 @@ fn a_long_fill(rt: HostRuntime) {
 }
 
 #[test]
-fn empty_chunks(rt: HostRuntime) {
+fn chunks_of_no_blocks_give_no_bytes(rt: HostRuntime) {
     let mut image = [0u8; 120_028];
     image[..28].copy_from_slice(&EMPTY);
     image[20..24].copy_from_slice(&[0x10, 0x27, 0, 0]);
@@ -220,7 +219,7 @@ fn empty_chunks(rt: HostRuntime) {
 }
 
 #[test]
-fn bad_headers(rt: HostRuntime) {
+fn a_bad_header_is_refused_before_any_write(rt: HostRuntime) {
     let mut room = [9u8; 14];
     let mut image = THREE_KINDS;
     image[0] = 0;
@@ -255,7 +254,7 @@ fn bad_headers(rt: HostRuntime) {
 }
 
 #[test]
-fn bad_chunks(rt: HostRuntime) {
+fn a_bad_chunk_is_refused_and_those_before_it_stand(rt: HostRuntime) {
     let mut room = [9u8; 14];
     assert_eq!(rt;
         expanded(&TOO_MANY, 13, &mut room),
@@ -298,7 +297,7 @@ fn bad_chunks(rt: HostRuntime) {
 }
 
 #[test]
-fn blocks_of_a_checksum(rt: HostRuntime) {
+fn the_block_count_of_a_checksum_is_ignored(rt: HostRuntime) {
     let mut image = WITH_CHECKSUM;
     image[76] = 7;
     let mut room = [9u8; 14];
@@ -307,7 +306,7 @@ fn blocks_of_a_checksum(rt: HostRuntime) {
 }
 
 #[test]
-fn full(rt: HostRuntime) {
+fn a_full_output_holds_as_much_as_it_has_room_for(rt: HostRuntime) {
     let mut room = [9u8; 5];
     assert_eq!(rt;
         expanded(&THREE_KINDS, 13, &mut room),
@@ -316,53 +315,62 @@ fn full(rt: HostRuntime) {
     assert_eq!(rt; room.as_slice(), [65, 66, 67, 68, 4].as_slice());
 }
 
-#[test]
-fn each_read_fails(rt: HostRuntime) {
-    let mut clean = false;
-    for n in 1..100 {
-        let mut room = [9u8; 14];
-        let answer = {
-            let mut input = Faulty::new(
-                Cut::new(Forward::new(SliceSource::new(&THREE_KINDS)), 5),
-                n,
-            );
-            let mut output = SliceOutput::new(&mut room);
-            let mut w = Window::new();
-            let mut m = Meter::new();
-            expand(&mut input, &mut output, &mut w, &mut m)
-        };
-        if answer == Ok(DONE_A) {
-            assert!(rt; holds(&room, 12));
-            clean = true;
-            break;
-        }
-        assert_eq!(rt; answer, Err(SparseFault::Read(DeviceFault::Failed)));
-        assert!(rt; holds_some(&room));
-    }
-    assert!(rt; clean);
+/// Expands where a call of each device fails, at 0 none: the answer, and how many calls each had.
+fn failing(
+    read: u64,
+    write: u64,
+    room: &mut [u8; 14],
+) -> (Result<Expanded, SparseFault>, u64, u64) {
+    let mut input = Faulty::new(
+        Cut::new(Forward::new(SliceSource::new(&THREE_KINDS)), 5),
+        read,
+    );
+    let mut output = Faulty::new(Cut::new(SliceOutput::new(room), 3), write);
+    let mut w = Window::new();
+    let mut m = Meter::new();
+    let answer = expand(&mut input, &mut output, &mut w, &mut m);
+    (answer, input.seen, output.seen)
 }
 
 #[test]
-fn each_write_fails(rt: HostRuntime) {
-    let mut clean = false;
-    for n in 1..100 {
+fn each_read_fails_and_a_beginning_stands(rt: HostRuntime) {
+    let mut room = [9u8; 14];
+    let (answer, reads, _) = failing(0, 0, &mut room);
+    assert_eq!(rt; answer, Ok(DONE_A));
+    assert!(rt; holds(&room, 12));
+    // 28 bytes, three times twelve and twice four, at most five in a call.
+    assert_eq!(rt; reads, 6 + 3 * 3 + 2);
+    for n in 1..reads.saturating_add(1) {
         let mut room = [9u8; 14];
-        let answer = {
-            let mut input = Forward::new(SliceSource::new(&THREE_KINDS));
-            let mut output = Faulty::new(Cut::new(SliceOutput::new(&mut room), 3), n);
-            let mut w = Window::new();
-            let mut m = Meter::new();
-            expand(&mut input, &mut output, &mut w, &mut m)
-        };
-        if answer == Ok(DONE_A) {
-            assert!(rt; holds(&room, 12));
-            clean = true;
-            break;
-        }
-        assert_eq!(rt; answer, Err(SparseFault::Write(DeviceFault::Failed)));
+        let (answer, had, _) = failing(n, 0, &mut room);
+        assert_eq!(rt; answer, Err(SparseFault::Read(DeviceFault::Failed)));
+        assert_eq!(rt; had, n);
         assert!(rt; holds_some(&room));
     }
-    assert!(rt; clean);
+    let mut room = [9u8; 14];
+    let (answer, had, _) = failing(reads.saturating_add(1), 0, &mut room);
+    assert_eq!(rt; answer, Ok(DONE_A));
+    assert_eq!(rt; had, reads);
+}
+
+#[test]
+fn each_write_fails_and_a_beginning_stands(rt: HostRuntime) {
+    let mut room = [9u8; 14];
+    let (answer, _, writes) = failing(0, 0, &mut room);
+    assert_eq!(rt; answer, Ok(DONE_A));
+    // Three blocks of four bytes, at most three in a call.
+    assert_eq!(rt; writes, 3 * 2);
+    for n in 1..writes.saturating_add(1) {
+        let mut room = [9u8; 14];
+        let (answer, _, had) = failing(0, n, &mut room);
+        assert_eq!(rt; answer, Err(SparseFault::Write(DeviceFault::Failed)));
+        assert_eq!(rt; had, n);
+        assert!(rt; holds_some(&room));
+    }
+    let mut room = [9u8; 14];
+    let (answer, _, had) = failing(0, writes.saturating_add(1), &mut room);
+    assert_eq!(rt; answer, Ok(DONE_A));
+    assert_eq!(rt; had, writes);
 }
 
 /// Steps until the machine has answered something else than More, and then once more.
@@ -389,7 +397,7 @@ fn stepped(bytes: &[u8], room: &mut [u8]) -> (Result<Progress, SparseFault>, u64
 }
 
 #[test]
-fn answers_again(rt: HostRuntime) {
+fn a_machine_that_is_over_answers_the_same_again(rt: HostRuntime) {
     let mut room = [9u8; 14];
     let (last, position, same) = stepped(&THREE_KINDS, &mut room);
     assert_eq!(rt; last, Ok(Progress::Done));
@@ -405,7 +413,7 @@ fn answers_again(rt: HostRuntime) {
 }
 
 #[test]
-fn devices_that_tell_nothing(rt: HostRuntime) {
+fn a_reader_expands_into_a_writer(rt: HostRuntime) {
     let mut room = [9u8; 14];
     let mut input = FromRead::new(THREE_KINDS.as_slice());
     let mut output = ToWrite::new(room.as_mut_slice());

@@ -1,5 +1,5 @@
 //! Tests of sparse images: their records, reading, classed blocks, cutting and sparsing, over the public calls of
-//! `abt_sparse`, `abt_chunks`, `abt_runs` and `abt_pieces`.
+//! `abt_sparse`, `abt_chunks`, `abt_runs`, `abt_pieces` and `abt_sparsify`.
 //!
 //! The images of `vectors` and the source of `counting` are lent to other crates of tests.
 //!
@@ -9,6 +9,7 @@
 //! | `counting.rt` | a source that counts what it hands out |
 //! | `records.rt` | the two records at their bytes, and the texts of the faults |
 //! | `expanding.rt`, `listing.rt` | an image read forward |
+//! | `feeding.rt` | an image fed in pieces of any length |
 //! | `walks.rt` | an image as classed blocks |
 //! | `raw_pieces.rt`, `sparse_pieces.rt` | cutting raw images, and sparse ones |
 //! | `sparsing.rt` | a raw image written as a sparse one |
@@ -17,6 +18,8 @@
 pub mod counting;
 #[cfg(test)]
 mod expanding;
+#[cfg(test)]
+mod feeding;
 #[cfg(test)]
 mod listing;
 #[cfg(test)]

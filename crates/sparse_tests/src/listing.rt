@@ -4,7 +4,6 @@ use crate::vectors::{EMPTY, LONG_HEADERS, THREE_KINDS, WITH_CHECKSUM};
 use abt_chunks::{ChunkInfo, Chunks};
 use abt_io::{Cut, DeviceFault, Faulty, Forward, FromRead, Input, Meter, SliceSource, Window};
 use abt_sparse::{ChunkKind, SparseFault, SparseHeader};
-use std::test::Fail;
 
 const RAW: ChunkInfo = ChunkInfo {
     index: 0,
@@ -74,7 +73,7 @@ fn listed<I: Input>(
 }
 
 #[test]
-fn image_c(rt: HostRuntime) {
+fn each_chunk_is_listed_with_its_blocks_and_word(rt: HostRuntime) {
     let want = [RAW, FILL, SKIP, CHECKSUM];
     let mut input = Cut::new(Forward::new(SliceSource::new(&WITH_CHECKSUM)), 5);
     let (count, header, end) = listed(&mut input, &want);
@@ -99,7 +98,7 @@ fn image_c(rt: HostRuntime) {
 }
 
 #[test]
-fn no_chunk_before_its_data(rt: HostRuntime) {
+fn no_chunk_is_listed_before_its_data_came(rt: HostRuntime) {
     let mut input = Forward::new(SliceSource::new(&THREE_KINDS[..47]));
     let (count, header, end) = listed(&mut input, &[RAW]);
     assert_eq!(rt; count, 1);
@@ -115,7 +114,7 @@ fn no_chunk_before_its_data(rt: HostRuntime) {
 }
 
 #[test]
-fn longer_headers(rt: HostRuntime) {
+fn longer_headers_are_passed_over(rt: HostRuntime) {
     let skip = ChunkInfo {
         index: 0,
         kind: ChunkKind::Skip,
@@ -134,7 +133,7 @@ fn longer_headers(rt: HostRuntime) {
 }
 
 #[test]
-fn blocks_past_the_total(rt: HostRuntime) {
+fn blocks_past_the_total_are_refused(rt: HostRuntime) {
     let mut image = [0u8; 52];
     image[..28].copy_from_slice(&EMPTY);
     image[16..20].copy_from_slice(&[0xFF, 0xFF, 0xFF, 0xFF]);
@@ -154,7 +153,7 @@ fn blocks_past_the_total(rt: HostRuntime) {
 }
 
 #[test]
-fn chunks_of_no_blocks(rt: HostRuntime) {
+fn chunks_of_no_blocks_are_listed(rt: HostRuntime) {
     let mut image = [0u8; 52];
     image[..28].copy_from_slice(&EMPTY);
     image[20] = 2;
@@ -175,20 +174,32 @@ fn chunks_of_no_blocks(rt: HostRuntime) {
 }
 
 #[test]
-fn each_read_fails(rt: HostRuntime) {
+fn each_read_fails_and_the_chunks_before_are_listed(rt: HostRuntime) {
     let want = [RAW, FILL, SKIP, CHECKSUM];
-    let mut clean = false;
-    for n in 1..100 {
-        let mut input = Faulty::new(
-            Cut::new(Forward::new(SliceSource::new(&WITH_CHECKSUM)), 5),
-            n,
-        );
-        let (_count, _header, end) = listed(&mut input, &want);
-        if end == Ok(true) {
-            clean = true;
-            break;
+    let input = Cut::new(Forward::new(SliceSource::new(&WITH_CHECKSUM)), 5);
+    let mut input = Faulty::new(input, 0);
+    let (count, _header, end) = listed(&mut input, &want);
+    assert_eq!(rt; (count, end), (4, Ok(true)));
+    // 28 bytes, four times twelve and three times four, at most five in a call.
+    let reads = input.seen;
+    assert_eq!(rt; reads, 6 + 4 * 3 + 3);
+    for n in 1..reads.saturating_add(2) {
+        let input = Cut::new(Forward::new(SliceSource::new(&WITH_CHECKSUM)), 5);
+        let mut input = Faulty::new(input, n);
+        let (count, _header, end) = listed(&mut input, &want);
+        if n > reads {
+            assert_eq!(rt; (count, end), (4, Ok(true)));
+        } else {
+            assert_eq!(rt; end, Err(SparseFault::Read(DeviceFault::Failed)));
+            assert_eq!(rt; input.seen, n);
+            // A chunk is listed when its data came: behind calls 10, 14, 17 and 21.
+            let whole = match n {
+                0..=10 => 0,
+                11..=14 => 1,
+                15..=17 => 2,
+                _ => 3,
+            };
+            assert_eq!(rt; count, whole, "call {n}");
         }
-        assert_eq!(rt; end, Err(SparseFault::Read(DeviceFault::Failed)));
     }
-    assert!(rt; clean);
 }

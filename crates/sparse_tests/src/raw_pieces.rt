@@ -2,25 +2,18 @@
 ghost use Rattle.std.specs.Prelude.{◌≡◌, IsTrue};
 ghost use Rattle.abt_pieces.specs.Cutter.{ToldCutter};
 
+use crate::vectors::{MIXED, MIXED_FIRST, MIXED_SECOND};
 use abt_io::{
     Cut, DeviceFault, Faulty, Long, Meter, Output, SliceOutput, SliceSource, Source, Window,
 };
 use abt_pieces::{Cutter, Piece, PieceFault, PieceProgress, least_limit};
 use abt_runs::{BlockRuns, RawRuns};
+use std::process::Abort;
 use std::test::Fail;
-
-/// A fill block, a raw block and a last block of two bytes.
-const MIXED: &[u8] = b"AAAAAAAAABCDEFGHIJ";
-
-const FIRST: &[u8] =
-    b"\x3a\xff\x26\xed\x01\x00\x00\x00\x1c\x00\x0c\x00\x08\x00\x00\x00\x03\x00\x00\x00\x03\x00\x00\x00\x00\x00\x00\x00\xc2\xca\x00\x00\x01\x00\x00\x00\x10\x00\x00\x00AAAA\xc1\xca\x00\x00\x01\x00\x00\x00\x14\x00\x00\x00ABCDEFGH\xc3\xca\x00\x00\x01\x00\x00\x00\x0c\x00\x00\x00";
-
-const SECOND: &[u8] =
-    b"\x3a\xff\x26\xed\x01\x00\x00\x00\x1c\x00\x0c\x00\x08\x00\x00\x00\x03\x00\x00\x00\x02\x00\x00\x00\x00\x00\x00\x00\xc3\xca\x00\x00\x02\x00\x00\x00\x0c\x00\x00\x00\xc1\xca\x00\x00\x01\x00\x00\x00\x14\x00\x00\x00IJ\x00\x00\x00\x00\x00\x00";
 
 #[test]
 fn a_raw_image_in_two_pieces(rt: HostRuntime) -> Result<(), Fail> {
-    let mut source = Cut::new(SliceSource::new(MIXED), 3);
+    let mut source = Cut::new(SliceSource::new(&MIXED), 3);
     let mut w = Window::new();
     let mut m = Meter::new();
     let mut cutter = Cutter::open(RawRuns::open(&source, 8)?, 88)?;
@@ -37,7 +30,7 @@ fn a_raw_image_in_two_pieces(rt: HostRuntime) -> Result<(), Fail> {
             bytes: 76
         })
     );
-    assert_eq!(rt; output.written(), FIRST);
+    assert_eq!(rt; output.written(), MIXED_FIRST.as_slice());
     let mut room = [0; 100];
     let mut output = SliceOutput::new(&mut room);
     let second = cutter.next_piece(&mut source, &mut output, &mut w, &mut m)?;
@@ -50,7 +43,7 @@ fn a_raw_image_in_two_pieces(rt: HostRuntime) -> Result<(), Fail> {
             bytes: 60
         })
     );
-    assert_eq!(rt; output.written(), SECOND);
+    assert_eq!(rt; output.written(), MIXED_SECOND.as_slice());
     assert!(rt; !cutter.more());
     assert_eq!(rt;
         cutter.next_piece(&mut source, &mut output, &mut w, &mut m)?,
@@ -87,7 +80,7 @@ fn stepped<R: BlockRuns + Drop, S: Source, O: Output>(
 
 #[test]
 fn step_by_step_the_pieces_are_the_same(rt: HostRuntime) -> Result<(), Fail> {
-    let mut source = Faulty::new(Cut::new(SliceSource::new(MIXED), 3), 0);
+    let mut source = Faulty::new(Cut::new(SliceSource::new(&MIXED), 3), 0);
     let mut w = Window::new();
     let mut m = Meter::new();
     let mut cutter = Cutter::open(RawRuns::open(&source, 8)?, 88)?;
@@ -103,7 +96,7 @@ fn step_by_step_the_pieces_are_the_same(rt: HostRuntime) -> Result<(), Fail> {
             bytes: 76
         })
     );
-    assert_eq!(rt; output.written(), FIRST);
+    assert_eq!(rt; output.written(), MIXED_FIRST.as_slice());
     let mut room = [0; 100];
     let mut output = SliceOutput::new(&mut room);
     let second = stepped(&mut cutter, &mut source, &mut output, &mut w, &mut m)?;
@@ -116,7 +109,7 @@ fn step_by_step_the_pieces_are_the_same(rt: HostRuntime) -> Result<(), Fail> {
             bytes: 60
         })
     );
-    assert_eq!(rt; output.written(), SECOND);
+    assert_eq!(rt; output.written(), MIXED_SECOND.as_slice());
     let calls = source.seen;
     assert_eq!(rt;
         stepped(&mut cutter, &mut source, &mut output, &mut w, &mut m)?,
@@ -158,7 +151,7 @@ fn a_step_writes_little_more_than_it_received(rt: HostRuntime) -> Result<(), Fai
 
 #[test]
 fn a_step_behind_a_fault_calls_no_device(rt: HostRuntime) -> Result<(), Fail> {
-    let mut source = Faulty::new(SliceSource::new(MIXED), 1);
+    let mut source = Faulty::new(SliceSource::new(&MIXED), 1);
     let mut w = Window::new();
     let mut m = Meter::new();
     let mut cutter = Cutter::open(RawRuns::open(&source, 8)?, 88)?;
@@ -182,7 +175,7 @@ fn a_step_behind_a_fault_calls_no_device(rt: HostRuntime) -> Result<(), Fail> {
 
 #[test]
 fn a_piece_is_passed_over(rt: HostRuntime) -> Result<(), Fail> {
-    let mut source = SliceSource::new(MIXED);
+    let mut source = SliceSource::new(&MIXED);
     let mut w = Window::new();
     let mut m = Meter::new();
     let mut cutter = Cutter::open(RawRuns::open(&source, 8)?, 88)?;
@@ -199,7 +192,7 @@ fn a_piece_is_passed_over(rt: HostRuntime) -> Result<(), Fail> {
     let mut room = [0; 100];
     let mut output = SliceOutput::new(&mut room);
     cutter.next_piece(&mut source, &mut output, &mut w, &mut m)?;
-    assert_eq!(rt; output.written(), SECOND);
+    assert_eq!(rt; output.written(), MIXED_SECOND.as_slice());
     assert_eq!(rt; cutter.skip_piece(&mut source, &mut w, &mut m)?, None);
     Ok(())
 }
@@ -229,7 +222,7 @@ fn an_image_of_no_blocks_is_one_piece(rt: HostRuntime) -> Result<(), Fail> {
 
 #[test]
 fn a_limit_below_the_least_is_refused(rt: HostRuntime) -> Result<(), Fail> {
-    let source = SliceSource::new(MIXED);
+    let source = SliceSource::new(&MIXED);
     assert_eq!(rt; least_limit(8), 72);
     match Cutter::open(RawRuns::open(&source, 8)?, 71) {
         Ok(_) => assert!(rt; false),
@@ -241,41 +234,60 @@ fn a_limit_below_the_least_is_refused(rt: HostRuntime) -> Result<(), Fail> {
     Ok(())
 }
 
-#[test]
-fn a_failing_source_or_output_is_answered_again(rt: HostRuntime) -> Result<(), Fail> {
+/// Cuts the first piece of `MIXED` where a call of each device fails, at 0 none, and once more behind a fault, which is
+/// answered again and calls no device. What was written is a beginning of the piece.
+fn failing<R: Abort>(
+    rt: &R,
+    read: u64,
+    write: u64,
+) -> Result<(Result<Option<Piece>, PieceFault>, u64, u64), Fail> {
     let mut w = Window::new();
     let mut m = Meter::new();
-    for n in 1..6 {
-        let mut source = Faulty::new(SliceSource::new(MIXED), n);
-        let mut cutter = Cutter::open(RawRuns::open(&source, 8)?, 88)?;
-        let mut room = [0; 100];
-        let mut output = SliceOutput::new(&mut room);
-        let fault = Err(PieceFault::Read(DeviceFault::Failed));
-        assert_eq!(rt;
-            cutter.next_piece(&mut source, &mut output, &mut w, &mut m),
-            fault
-        );
-        assert_eq!(rt;
-            cutter.next_piece(&mut source, &mut output, &mut w, &mut m),
-            fault
-        );
-        assert!(rt; FIRST.starts_with(output.written()));
+    let mut room = [0; 100];
+    let mut source = Faulty::new(SliceSource::new(&MIXED), read);
+    let mut output = Faulty::new(SliceOutput::new(&mut room), write);
+    let mut cutter = Cutter::open(RawRuns::open(&source, 8)?, 88)?;
+    let answer = cutter.next_piece(&mut source, &mut output, &mut w, &mut m);
+    let calls = (source.seen, output.seen);
+    if answer.is_err() {
+        let again = cutter.next_piece(&mut source, &mut output, &mut w, &mut m);
+        assert_eq!(rt; again, answer);
+        assert_eq!(rt; (source.seen, output.seen), calls);
     }
-    for n in 1..4 {
-        let mut source = SliceSource::new(MIXED);
-        let mut cutter = Cutter::open(RawRuns::open(&source, 8)?, 88)?;
-        let mut room = [0; 100];
-        let mut output = Faulty::new(SliceOutput::new(&mut room), n);
-        let fault = Err(PieceFault::Write(DeviceFault::Failed));
-        assert_eq!(rt;
-            cutter.next_piece(&mut source, &mut output, &mut w, &mut m),
-            fault
-        );
-        assert_eq!(rt;
-            cutter.next_piece(&mut source, &mut output, &mut w, &mut m),
-            fault
-        );
-        assert!(rt; FIRST.starts_with(output.device.written()));
+    let written = output.device.written();
+    assert!(rt; MIXED_FIRST.starts_with(written));
+    assert_eq!(rt; answer.is_ok(), written.len() == 76);
+    Ok((answer, calls.0, calls.1))
+}
+
+#[test]
+fn a_failing_source_is_answered_again(rt: HostRuntime) -> Result<(), Fail> {
+    let (answer, reads, _) = failing(&rt, 0, 0)?;
+    assert!(rt; answer.is_ok());
+    assert!(rt; reads > 4);
+    for n in 1..reads.saturating_add(1) {
+        let (answer, had, _) = failing(&rt, n, 0)?;
+        assert_eq!(rt; answer, Err(PieceFault::Read(DeviceFault::Failed)));
+        assert_eq!(rt; had, n);
     }
+    let (answer, had, _) = failing(&rt, reads.saturating_add(1), 0)?;
+    assert!(rt; answer.is_ok());
+    assert_eq!(rt; had, reads);
+    Ok(())
+}
+
+#[test]
+fn a_failing_output_is_answered_again(rt: HostRuntime) -> Result<(), Fail> {
+    let (answer, _, writes) = failing(&rt, 0, 0)?;
+    assert!(rt; answer.is_ok());
+    assert!(rt; writes > 2);
+    for n in 1..writes.saturating_add(1) {
+        let (answer, _, had) = failing(&rt, 0, n)?;
+        assert_eq!(rt; answer, Err(PieceFault::Write(DeviceFault::Failed)));
+        assert_eq!(rt; had, n);
+    }
+    let (answer, _, had) = failing(&rt, 0, writes.saturating_add(1))?;
+    assert!(rt; answer.is_ok());
+    assert_eq!(rt; had, writes);
     Ok(())
 }

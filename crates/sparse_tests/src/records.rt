@@ -118,7 +118,7 @@ fn a_chunk_header_and_its_bytes(rt: HostRuntime) {
 }
 
 #[test]
-fn kinds_and_their_numbers(rt: HostRuntime) {
+fn each_kind_has_its_number(rt: HostRuntime) {
     assert_eq!(rt; ChunkKind::from_code(0xCAC1), Some(ChunkKind::Raw));
     assert_eq!(rt; ChunkKind::from_code(0xCAC2), Some(ChunkKind::Fill));
     assert_eq!(rt; ChunkKind::from_code(0xCAC3), Some(ChunkKind::Skip));
@@ -130,7 +130,7 @@ fn kinds_and_their_numbers(rt: HostRuntime) {
 }
 
 #[test]
-fn faults_and_their_texts(rt: HostRuntime) -> Result<(), Fail> {
+fn each_fault_has_its_number_and_text(rt: HostRuntime) -> Result<(), Fail> {
     let faults = [
         (SparseFault::Magic, 1, "1 Magic"),
         (SparseFault::Major(2), 2, "2 Major 2"),

@@ -141,7 +141,7 @@ fn expect_pieces<R: Abort>(rt: &R, image: &[u8], limit: u32, pieces: &[(u32, &[u
 }
 
 #[test]
-fn published_pieces(rt: HostRuntime) {
+fn published_images_are_cut_into_published_pieces(rt: HostRuntime) {
     let three: &[(u32, &[u8])] = &[
         (1, &FIRST_OF_THREE),
         (2, &SECOND_OF_THREE),
@@ -181,7 +181,7 @@ fn chunks_without_blocks_make_no_piece_of_their_own(rt: HostRuntime) {
 
 // Both pieces of a source that tells its bytes.
 #[test]
-fn two_pieces_of_lent_bytes(rt: HostRuntime) -> Result<(), Fail> {
+fn lent_bytes_are_cut_into_published_pieces(rt: HostRuntime) -> Result<(), Fail> {
     let mut source = SliceSource::new(&THREE_KINDS);
     let mut w = Window::new();
     let mut m = Meter::new();
@@ -317,44 +317,47 @@ fn a_source_that_grows_makes_no_piece_too_long(rt: HostRuntime) {
     assert!(rt; clean);
 }
 
-// The three pieces of `NO_GAP`, where call number `n` of one of the devices fails: whether all came.
-fn cuts_before<R: Abort>(rt: &R, source: u64, output: u64, fault: u32) -> bool {
+/// Cuts `NO_GAP` into its three pieces, where a call of each device fails, at 0 none. What was written is a beginning
+/// of the pieces; the fault, 0 for none, and how many calls each device had.
+fn cut_failing<R: Abort>(rt: &R, read: u64, write: u64) -> (u32, u64, u64) {
     let mut whole = [0u8; 180];
     whole[..56].copy_from_slice(&FIRST_OF_THREE);
     whole[56..124].copy_from_slice(&SECOND_OF_THREE);
     whole[124..].copy_from_slice(&THIRD_OF_THREE);
-    let mut source = unchanging(&NO_GAP, source);
+    let mut source = unchanging(&NO_GAP, read);
     let mut room = [0u8; 256];
-    let mut output = Faulty::new(SliceOutput::new(&mut room), output);
+    let mut output = Faulty::new(SliceOutput::new(&mut room), write);
     let cutting = cut(rt, &mut source, 68, &mut output);
     let written = output.device.written();
     assert!(rt; whole.starts_with(written));
-    if cutting.fault == 0 {
-        assert!(rt; written == whole.as_slice());
-        return true;
-    }
-    assert_eq!(rt; cutting.fault, fault);
-    false
+    assert_eq!(rt; cutting.fault == 0, written.len() == 180);
+    (cutting.fault, source.seen, output.seen)
 }
 
 #[test]
-fn each_call_of_a_device_may_fail(rt: HostRuntime) {
-    let mut reads = 0;
-    for n in 1..100 {
-        if cuts_before(&rt, n, 0, 11) {
-            reads = n - 1;
-            break;
-        }
-    }
+fn each_read_fails_and_a_beginning_of_the_pieces_stands(rt: HostRuntime) {
+    let (fault, reads, _) = cut_failing(&rt, 0, 0);
+    assert_eq!(rt; fault, 0);
     // The opening, and for each piece its plan and its bytes, read more than once each.
     assert!(rt; reads > 10);
-    let mut writes = 0;
-    for n in 1..100 {
-        if cuts_before(&rt, 0, n, 12) {
-            writes = n - 1;
-            break;
-        }
+    for n in 1..reads.saturating_add(1) {
+        let (fault, had, _) = cut_failing(&rt, n, 0);
+        assert_eq!(rt; (fault, had), (11, n));
     }
+    let (fault, had, _) = cut_failing(&rt, reads.saturating_add(1), 0);
+    assert_eq!(rt; (fault, had), (0, reads));
+}
+
+#[test]
+fn each_write_fails_and_a_beginning_of_the_pieces_stands(rt: HostRuntime) {
+    let (fault, _, writes) = cut_failing(&rt, 0, 0);
+    assert_eq!(rt; fault, 0);
     // Four a piece: its header, the fronts of its chunks, and the data of the raw one.
     assert_eq!(rt; writes, 12);
+    for n in 1..writes.saturating_add(1) {
+        let (fault, _, had) = cut_failing(&rt, 0, n);
+        assert_eq!(rt; (fault, had), (12, n));
+    }
+    let (fault, _, had) = cut_failing(&rt, 0, writes.saturating_add(1));
+    assert_eq!(rt; (fault, had), (0, writes));
 }

@@ -154,3 +154,52 @@ pub const TWO_HALVES: [u8; 52] = [
     0xc3, 0xca, 0, 0, 0, 0, 0, 0x80, 12, 0, 0, 0,
     0xc3, 0xca, 0, 0, 0, 0, 0, 0x80, 12, 0, 0, 0,
 ];
+
+/// Raw bytes: in blocks of 4 two of one word, and two bytes.
+pub const WORDS: [u8; 10] = *b"AAAAAAAAAB";
+
+/// Their sparse image in blocks of 4: fill 41414141 (2), fill 41420000 (1).
+#[rattlefmt::skip]
+pub const WORDS_IMAGE: [u8; 60] = [
+    0x3a, 0xff, 0x26, 0xed, 1, 0, 0, 0, 28, 0, 12, 0, 4, 0, 0, 0, 3, 0, 0, 0, 2, 0, 0, 0, 0, 0, 0, 0,
+    0xc2, 0xca, 0, 0, 2, 0, 0, 0, 16, 0, 0, 0, b'A', b'A', b'A', b'A',
+    0xc2, 0xca, 0, 0, 1, 0, 0, 0, 16, 0, 0, 0, b'A', b'B', 0, 0,
+];
+
+/// Raw bytes: in blocks of 8 one of one word, one raw, and two bytes.
+pub const MIXED: [u8; 18] = *b"AAAAAAAAABCDEFGHIJ";
+
+/// What they leave on a partition in blocks of 8.
+pub const OVER_MIXED: [u8; 24] = *b"AAAAAAAAABCDEFGHIJ\0\0\0\0\0\0";
+
+/// Their sparse image in blocks of 8: fill 41414141 (1), raw (2).
+#[rattlefmt::skip]
+pub const MIXED_IMAGE: [u8; 72] = [
+    0x3a, 0xff, 0x26, 0xed, 1, 0, 0, 0, 28, 0, 12, 0, 8, 0, 0, 0, 3, 0, 0, 0, 2, 0, 0, 0, 0, 0, 0, 0,
+    0xc2, 0xca, 0, 0, 1, 0, 0, 0, 16, 0, 0, 0, b'A', b'A', b'A', b'A',
+    0xc1, 0xca, 0, 0, 2, 0, 0, 0, 28, 0, 0, 0, b'A', b'B', b'C', b'D', b'E', b'F', b'G', b'H', b'I', b'J', 0, 0, 0, 0, 0, 0,
+];
+
+/// The piece of it that has the first two blocks: fill 41414141 (1), raw (1), don't care (1).
+#[rattlefmt::skip]
+pub const MIXED_FIRST: [u8; 76] = [
+    0x3a, 0xff, 0x26, 0xed, 1, 0, 0, 0, 28, 0, 12, 0, 8, 0, 0, 0, 3, 0, 0, 0, 3, 0, 0, 0, 0, 0, 0, 0,
+    0xc2, 0xca, 0, 0, 1, 0, 0, 0, 16, 0, 0, 0, b'A', b'A', b'A', b'A',
+    0xc1, 0xca, 0, 0, 1, 0, 0, 0, 20, 0, 0, 0, b'A', b'B', b'C', b'D', b'E', b'F', b'G', b'H',
+    0xc3, 0xca, 0, 0, 1, 0, 0, 0, 12, 0, 0, 0,
+];
+
+/// The piece of it that has the third: don't care (2), raw (1).
+#[rattlefmt::skip]
+pub const MIXED_SECOND: [u8; 60] = [
+    0x3a, 0xff, 0x26, 0xed, 1, 0, 0, 0, 28, 0, 12, 0, 8, 0, 0, 0, 3, 0, 0, 0, 2, 0, 0, 0, 0, 0, 0, 0,
+    0xc3, 0xca, 0, 0, 2, 0, 0, 0, 12, 0, 0, 0,
+    0xc1, 0xca, 0, 0, 1, 0, 0, 0, 20, 0, 0, 0, b'I', b'J', 0, 0, 0, 0, 0, 0,
+];
+
+/// Raw bytes: five raw blocks of 8.
+pub const LETTERS: [u8; 40] = *b"abcdefghijklmnopqrstuvwxyzABCDEFGHIJKLMN";
+
+/// Their sparse image in chunks of at most two blocks.
+pub const LETTERS_IMAGE: [u8; 104] =
+    *b"\x3a\xff\x26\xed\x01\0\0\0\x1c\0\x0c\0\x08\0\0\0\x05\0\0\0\x03\0\0\0\0\0\0\0\xc1\xca\0\0\x02\0\0\0\x1c\0\0\0abcdefghijklmnop\xc1\xca\0\0\x02\0\0\0\x1c\0\0\0qrstuvwxyzABCDEF\xc1\xca\0\0\x01\0\0\0\x14\0\0\0GHIJKLMN";

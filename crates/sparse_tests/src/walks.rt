@@ -17,7 +17,7 @@ fn refusal(bytes: &[u8]) -> Option<RunFault> {
 }
 
 #[test]
-fn words_of_every_length(rt: HostRuntime) {
+fn one_byte_that_differs_leaves_no_equal_word(rt: HostRuntime) {
     let mut block = [0u8; 132];
     for word in 0..33 {
         block[4 * word] = b'a';
@@ -41,7 +41,7 @@ fn words_of_every_length(rt: HostRuntime) {
 }
 
 #[test]
-fn block_sizes(rt: HostRuntime) {
+fn a_block_size_out_of_bounds_is_refused(rt: HostRuntime) {
     let source = SliceSource::new(b"AAAAAAAAAB");
     assert_eq!(rt;
         RawRuns::open(&source, 0).err(),
@@ -62,7 +62,7 @@ fn block_sizes(rt: HostRuntime) {
 }
 
 #[test]
-fn raw_walk(rt: HostRuntime) -> Result<(), Fail> {
+fn a_raw_image_is_walked_in_runs_of_at_most_the_cap(rt: HostRuntime) -> Result<(), Fail> {
     let mut source = Cut::new(SliceSource::new(b"AAAAAAAAABCDEFGHIJ"), 3);
     let mut w = Window::new();
     let mut m = Meter::new();
@@ -83,7 +83,7 @@ fn raw_walk(rt: HostRuntime) -> Result<(), Fail> {
 }
 
 #[test]
-fn sparse_walk(rt: HostRuntime) -> Result<(), Fail> {
+fn a_sparse_image_is_walked_run_by_run(rt: HostRuntime) -> Result<(), Fail> {
     let mut source = Cut::new(SliceSource::new(&WITH_CHECKSUM), 5);
     let mut w = Window::new();
     let mut m = Meter::new();
@@ -103,7 +103,7 @@ fn sparse_walk(rt: HostRuntime) -> Result<(), Fail> {
 }
 
 #[test]
-fn chunks_of_one_run(rt: HostRuntime) -> Result<(), Fail> {
+fn chunks_of_one_class_make_one_run(rt: HostRuntime) -> Result<(), Fail> {
     let mut source = SliceSource::new(&GAPS);
     let mut w = Window::new();
     let mut m = Meter::new();
@@ -116,7 +116,7 @@ fn chunks_of_one_run(rt: HostRuntime) -> Result<(), Fail> {
 }
 
 #[test]
-fn largest_chunk(rt: HostRuntime) -> Result<(), Fail> {
+fn a_chunk_may_have_as_many_blocks_as_there_are_numbers(rt: HostRuntime) -> Result<(), Fail> {
     let mut source = SliceSource::new(&MOST_BLOCKS);
     let mut w = Window::new();
     let mut m = Meter::new();
@@ -132,7 +132,7 @@ fn largest_chunk(rt: HostRuntime) -> Result<(), Fail> {
 }
 
 #[test]
-fn cut_short(rt: HostRuntime) {
+fn each_beginning_is_truncated(rt: HostRuntime) {
     for length in 0..88 {
         assert_eq!(rt;
             refusal(&WITH_CHECKSUM[..length]),
@@ -152,7 +152,7 @@ fn cut_short(rt: HostRuntime) {
 }
 
 #[test]
-fn wrong_fields(rt: HostRuntime) {
+fn each_wrong_field_is_refused(rt: HostRuntime) {
     let mut image = LONG_HEADERS;
     image[8] = 27;
     assert_eq!(rt;
@@ -201,7 +201,7 @@ fn wrong_fields(rt: HostRuntime) {
 }
 
 #[test]
-fn copied(rt: HostRuntime) -> Result<(), Fail> {
+fn raw_bytes_are_copied_from_their_place(rt: HostRuntime) -> Result<(), Fail> {
     let mut source = SliceSource::new(&THREE_KINDS);
     let mut w = Window::new();
     let mut m = Meter::new();
@@ -218,7 +218,7 @@ fn copied(rt: HostRuntime) -> Result<(), Fail> {
 }
 
 #[test]
-fn failing_reads(rt: HostRuntime) {
+fn each_step_of_an_opening_that_fails_is_answered_again(rt: HostRuntime) {
     for n in 1..5 {
         let mut source = Faulty::new(SliceSource::new(&THREE_KINDS), n);
         let mut w = Window::new();
@@ -238,7 +238,7 @@ fn failing_reads(rt: HostRuntime) {
 }
 
 #[test]
-fn numbers_and_texts(rt: HostRuntime) -> Result<(), Fail> {
+fn each_fault_has_its_number_and_text(rt: HostRuntime) -> Result<(), Fail> {
     let faults = [
         (
             RunFault::Sparse(SparseFault::Truncated { at: 47 }),
@@ -258,7 +258,7 @@ fn numbers_and_texts(rt: HostRuntime) -> Result<(), Fail> {
 }
 
 #[test]
-fn too_large(rt: HostRuntime) {
+fn a_raw_image_of_too_many_blocks_is_refused(rt: HostRuntime) {
     // One byte more than 2^32 - 1 blocks of 4.
     let source = Long::new(SliceSource::new(&[]), 17_179_869_181);
     assert_eq!(rt; RawRuns::open(&source, 4).err(), Some(RunFault::TooLarge));
@@ -269,7 +269,7 @@ fn too_large(rt: HostRuntime) {
 }
 
 #[test]
-fn chunks_without_blocks(rt: HostRuntime) -> Result<(), Fail> {
+fn chunks_of_no_blocks_make_no_run(rt: HostRuntime) -> Result<(), Fail> {
     let mut image = [0u8; 120_028];
     for i in 0..28 {
         image[i] = HEADER_OF_MANY[i];
@@ -313,7 +313,7 @@ fn runs_of_a<R: Abort>(
 }
 
 #[test]
-fn switching_in_a_walk(rt: HostRuntime) {
+fn a_source_that_changes_in_a_walk_is_refused(rt: HostRuntime) {
     let mut clean = false;
     for n in 0..12 {
         let mut source = SwitchSource::new(&THREE_KINDS, &THREE_KINDS[..40], n);
@@ -333,7 +333,7 @@ fn switching_in_a_walk(rt: HostRuntime) {
 }
 
 #[test]
-fn switching_in_an_opening(rt: HostRuntime) {
+fn a_source_that_changes_in_an_opening_is_refused(rt: HostRuntime) {
     for n in 0..5 {
         let mut source = SwitchSource::new(&THREE_KINDS, &THREE_KINDS[..40], n);
         let mut w = Window::new();
@@ -359,47 +359,67 @@ fn switching_in_an_opening(rt: HostRuntime) {
     }
 }
 
-/// Image A opened, its first run, the part behind that run and three bytes of it, where call number
-/// `n` of the source fails.
-fn sparse_calls(n: u64) -> Result<usize, RunFault> {
-    let mut source = Faulty::new(SliceSource::new(&THREE_KINDS), n);
+/// Image `THREE_KINDS` opened, its first run, the part behind that run and three bytes of it.
+fn sparse_calls(source: &mut Faulty<SliceSource<'_>>) -> Result<usize, RunFault> {
     let mut w = Window::new();
     let mut m = Meter::new();
     let mut out = [0u8; 3];
-    let mut runs = SparseRuns::open(&mut source, &mut w, &mut m)?;
+    let mut runs = SparseRuns::open(source, &mut w, &mut m)?;
     let start = runs.start();
-    let raw = runs.next_run(&mut source, start, 9, &mut w, &mut m)?;
-    runs.next_part(&mut source, raw.next, 9, &mut w, &mut m)?;
+    let raw = runs.next_run(source, start, 9, &mut w, &mut m)?;
+    runs.next_part(source, raw.next, 9, &mut w, &mut m)?;
     if let RunKind::Raw = raw.kind {
-        return runs.copy(&mut source, raw.here, 1, &mut out, &mut m);
+        return runs.copy(source, raw.here, 1, &mut out, &mut m);
     }
     Ok(0)
 }
 
-/// The one run of a raw image of two blocks and three bytes of it, where call number `n` fails.
-fn raw_calls(n: u64) -> Result<usize, RunFault> {
-    let mut source = Faulty::new(SliceSource::new(b"ABCDEFGHIJKLMNOP"), n);
+/// The one run of a raw image of two blocks and three bytes of it.
+fn raw_calls(source: &mut Faulty<SliceSource<'_>>) -> Result<usize, RunFault> {
     let mut w = Window::new();
     let mut m = Meter::new();
     let mut out = [0u8; 3];
-    let mut runs = RawRuns::open(&source, 8)?;
+    let mut runs = RawRuns::open(source, 8)?;
     let start = runs.start();
-    let raw = runs.next_run(&mut source, start, 9, &mut w, &mut m)?;
+    let raw = runs.next_run(source, start, 9, &mut w, &mut m)?;
     if let RunKind::Raw = raw.kind {
-        return runs.copy(&mut source, raw.here, 1, &mut out, &mut m);
+        return runs.copy(source, raw.here, 1, &mut out, &mut m);
     }
     Ok(0)
+}
+
+const TWO_BLOCKS: [u8; 16] = *b"ABCDEFGHIJKLMNOP";
+
+#[test]
+fn each_call_of_a_sparse_image_fails_and_is_answered(rt: HostRuntime) {
+    let mut source = Faulty::new(SliceSource::new(&THREE_KINDS), 0);
+    assert_eq!(rt; sparse_calls(&mut source), Ok(3));
+    let calls = source.seen;
+    assert!(rt; calls > 4);
+    for n in 1..calls.saturating_add(1) {
+        let mut source = Faulty::new(SliceSource::new(&THREE_KINDS), n);
+        let fault = Err(RunFault::Read(DeviceFault::Failed));
+        assert_eq!(rt; sparse_calls(&mut source), fault);
+        assert_eq!(rt; source.seen, n);
+    }
+    let mut source = Faulty::new(SliceSource::new(&THREE_KINDS), calls.saturating_add(1));
+    assert_eq!(rt; sparse_calls(&mut source), Ok(3));
+    assert_eq!(rt; source.seen, calls);
 }
 
 #[test]
-fn failing_calls(rt: HostRuntime) {
-    let fault = Err(RunFault::Read(DeviceFault::Failed));
-    for n in 1..11 {
-        assert_eq!(rt; sparse_calls(n), fault);
+fn each_call_of_a_raw_image_fails_and_is_answered(rt: HostRuntime) {
+    let mut source = Faulty::new(SliceSource::new(&TWO_BLOCKS), 0);
+    assert_eq!(rt; raw_calls(&mut source), Ok(3));
+    let calls = source.seen;
+    assert!(rt; calls > 1);
+    for n in 1..calls.saturating_add(1) {
+        let mut source = Faulty::new(SliceSource::new(&TWO_BLOCKS), n);
+        let fault = Err(RunFault::Read(DeviceFault::Failed));
+        assert_eq!(rt; raw_calls(&mut source), fault);
+        assert_eq!(rt; source.seen, n);
     }
-    assert_eq!(rt; sparse_calls(11), Ok(3));
-    for n in 1..4 {
-        assert_eq!(rt; raw_calls(n), fault);
-    }
-    assert_eq!(rt; raw_calls(4), Ok(3));
+    let mut source = Faulty::new(SliceSource::new(&TWO_BLOCKS), calls.saturating_add(1));
+    assert_eq!(rt; raw_calls(&mut source), Ok(3));
+    assert_eq!(rt; source.seen, calls);
 }

@@ -1,7 +1,7 @@
 use Rattle.std.proofs.Common.{◌≡◌}
 use Rattle.std.specs.Prelude.{IsTrue}
 use Rattle.abt_pieces.specs.Cutter.{ToldCutter}
-use Rattle.abt_pieces.proofs.tests.stepped.Given as goal
+use Rattle.sparse_tests.proofs.raw_pieces.stepped.Given as goal
 
 abbrev pub invariant-steps : goal.invariant-steps
 invariant-steps g l =

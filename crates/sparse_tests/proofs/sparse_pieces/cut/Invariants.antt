@@ -1,6 +1,6 @@
 use Rattle.std.proofs.Common.{◌≡◌, false}
 use Rattle.abt_pieces.specs.Cutter.{is_begun}
-use Rattle.abt_pieces.proofs.tests.images.cut.Given as goal
+use Rattle.sparse_tests.proofs.sparse_pieces.cut.Given as goal
 
 abbrev pub invariant-loop : goal.invariant-loop
 invariant-loop g l =
