@@ -15,6 +15,7 @@ cd "$work"
 # A boot image of version 0 with pages of 2,048 bytes and a kernel of one byte.
 { printf 'ANDROID!\001' && head -c 27 /dev/zero && printf '\000\010' && head -c 2010 /dev/zero && printf 'K'; } > boot.img
 mkdir parts
+truncate -s 8192 part
 
 cat > refuse.c <<'C'
 #define _GNU_SOURCE
@@ -86,7 +87,9 @@ for words in "" "list image.simg" "expand image.simg raw.img" "list no-such-file
     "info boot.img" "unpack boot.img parts" "unpack boot.img none" \
     "cut image.simg 1200 piece" "cut plain.raw 1200 piece --raw 1024" "cut no-such-file 1200 piece" \
     "cut image.simg 1200 no-such-folder/piece" "cut image.simg 1k piece" \
-    "sparse plain.raw raw.img --block 1024" "sparse plain.raw no-such-folder/raw.img"; do
+    "sparse plain.raw raw.img --block 1024" "sparse plain.raw no-such-folder/raw.img" \
+    "expand image.simg image.simg" "flash image.simg part" "flash image.simg part 1200 spool" \
+    "flash plain.raw part 1200 spool --raw 1024 --from 2" "flash image.simg no-such-file"; do
     # shellcheck disable=SC2086
     run 0 $words
     want_status=$status

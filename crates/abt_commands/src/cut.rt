@@ -3,11 +3,12 @@
 ghost use Rattle.std.specs.Prelude.{◌≡◌, false};
 ghost use Rattle.abt_pieces.specs.Cutter.{is_begun};
 
-use crate::files::{create_buffered, open_source, send};
+use crate::files::send;
+use crate::session::{Session, identity_at};
 use abt_io::{FileSource, Meter, Output, Window};
 use abt_pieces::{Cutter, Piece};
 use abt_runs::{BlockRuns, RawRuns, SparseRuns};
-use abt_texts::{CommandFault, Text, write_fault};
+use abt_texts::{CommandFault, ShownPath};
 use std::alloc::Global;
 use std::fs::File;
 use std::rt::Files;
@@ -28,73 +29,65 @@ pub struct CutOrder<'a> {
 /// Writes each piece of an image to a file of its own, and prints what they are.
 ///
 /// A piece's file is opened when its turn comes, and its line is printed when all of it is in the file. Pieces and lines
-/// before a fault stand.
-pub fn cut_file<R: Files<File = File>, O: Output>(
-    rt: &R,
-    alloc: Global,
+/// before a fault stand. Where the image is one of the files that are there for pieces, nothing is written. The next piece
+/// of an older cut is named, since it is no piece of this one.
+pub fn cut_file<R: Files<File = File>, I, O: Output, E: Output>(
+    session: &mut Session<'_, R, I, O, E>,
     order: CutOrder<'_>,
-    out: &mut O,
     w: &mut Window,
     m: &mut Meter,
 ) -> Result<(), CommandFault> {
-    let mut source = open_source(rt, alloc, order.input)?;
-    match order.raw {
+    let mut source = session.open_source("IN", order.input)?;
+    let pieces = match order.raw {
         Some(size) => {
             let runs = RawRuns::open(&source, size).map_err(CommandFault::Run)?;
-            cut_runs(rt, alloc, runs, &mut source, order, out, w, m)
+            cut_runs(session, runs, &mut source, order, w, m)?
         }
         None => {
             let runs = SparseRuns::open(&mut source, w, m).map_err(CommandFault::Run)?;
-            cut_runs(rt, alloc, runs, &mut source, order, out, w, m)
+            cut_runs(session, runs, &mut source, order, w, m)?
         }
-    }
+    };
+    session.report(format_args!("pieces {pieces}"))?;
+    name_left_over(session, order.prefix, pieces.saturating_add(1))
 }
 
-fn cut_runs<R: Files<File = File>, B: BlockRuns + Drop, O: Output>(
-    rt: &R,
-    alloc: Global,
+// Writes all pieces, and answers how many they are.
+fn cut_runs<R: Files<File = File>, B: BlockRuns + Drop, I, O: Output, E: Output>(
+    session: &mut Session<'_, R, I, O, E>,
     runs: B,
     source: &mut FileSource,
     order: CutOrder<'_>,
-    out: &mut O,
     w: &mut Window,
     m: &mut Meter,
-) -> Result<(), CommandFault> {
+) -> Result<u32, CommandFault> {
     let mut cutter = Cutter::open(runs, order.limit).map_err(CommandFault::Piece)?;
-    let mut text = Text::new(out);
-    let prefix = order.prefix;
+    refuse_input_as_piece(session, order)?;
     let mut pieces = 0;
     for number in 1..=u32::MAX {
         m.tick();
         if !cutter.more() {
             break;
         }
-        let Ok(path) = format!(in alloc; "{prefix}.{number}") else {
-            return Err(CommandFault::Memory);
-        };
-        if let Some(piece) = write_piece(rt, alloc, &mut cutter, source, path.as_str(), w, m)? {
+        let path = piece_path(session.alloc, order.prefix, number)?;
+        if let Some(piece) = write_piece(session, &mut cutter, source, path.as_str(), w, m)? {
             let Piece {
                 first,
                 past,
                 bytes,
                 ..
             } = piece;
-            text.line(format_args!("piece {number} blocks {first} {past} bytes {bytes}"))
-                .map_err(write_fault)?;
             // At once: no piece is begun before it is known that the line of the last one is out.
-            text.finish().map_err(write_fault)?;
+            session.report(format_args!("piece {number} blocks {first} {past} bytes {bytes}"))?;
         }
         pieces = number;
     }
-    text.line(format_args!("pieces {pieces}"))
-        .map_err(write_fault)?;
-    text.finish().map_err(write_fault)
+    Ok(pieces)
 }
 
 // Writes the next piece to the file of this path, which is created or emptied, and holds all of the piece then.
-fn write_piece<R: Files<File = File>, B: BlockRuns + Drop>(
-    rt: &R,
-    alloc: Global,
+fn write_piece<R: Files<File = File>, B: BlockRuns + Drop, I, O: Output, E: Output>(
+    session: &mut Session<'_, R, I, O, E>,
     cutter: &mut Cutter<B>,
     source: &mut FileSource,
     path: &str,
@@ -105,8 +98,60 @@ fn write_piece<R: Files<File = File>, B: BlockRuns + Drop>(
     ensures unbegun { is_begun cutter.new.stage ≡ false }
     ensures runs { cutter.new.runs ≡ cutter.old.runs }
 {
-    let mut output = create_buffered(rt, alloc, path)?;
+    let mut output = session.create_buffered("PIECE", path)?;
     let piece = cutter.next_piece(source, &mut output, w, m);
     send(&mut output)?;
-    piece.map_err(CommandFault::Piece)
+    let piece = piece.map_err(CommandFault::Piece)?;
+    session.is_unfinished = false;
+    Ok(piece)
+}
+
+fn piece_path(alloc: Global, prefix: &str, number: u32) -> Result<String, CommandFault> {
+    match format!(in alloc; "{prefix}.{number}") {
+        Ok(path) => Ok(path),
+        Err(_) => Err(CommandFault::Memory),
+    }
+}
+
+// Refuses the image where it has the name of a piece, or is one of the files that stand there for pieces.
+fn refuse_input_as_piece<R: Files<File = File>, I, O: Output, E: Output>(
+    session: &mut Session<'_, R, I, O, E>,
+    order: CutOrder<'_>,
+) -> Result<(), CommandFault> {
+    if is_piece_of(order.input, order.prefix) {
+        session.refuse_input("PIECE", order.input)?;
+    }
+    for number in 1..=u32::MAX {
+        let path = piece_path(session.alloc, order.prefix, number)?;
+        if identity_at(session.rt, path.as_str()).is_none() {
+            return Ok(());
+        }
+        session.refuse_input("PIECE", path.as_str())?;
+    }
+    Ok(())
+}
+
+// Whether a path is PREFIX, a point and digits.
+fn is_piece_of(path: &str, prefix: &str) -> bool {
+    let Some(rest) = path.strip_prefix(prefix) else {
+        return false;
+    };
+    match rest.strip_prefix('.') {
+        Some(digits) => !digits.is_empty() && digits.bytes().all(|byte| byte.is_ascii_digit()),
+        None => false,
+    }
+}
+
+// Says where a piece of an older cut stands behind the last one.
+fn name_left_over<R: Files<File = File>, I, O: Output, E: Output>(
+    session: &mut Session<'_, R, I, O, E>,
+    prefix: &str,
+    number: u32,
+) -> Result<(), CommandFault> {
+    let path = piece_path(session.alloc, prefix, number)?;
+    if identity_at(session.rt, path.as_str()).is_some() {
+        let shown = ShownPath(path.as_str());
+        session.note(format_args!("abootimg: left over {shown}"));
+    }
+    Ok(())
 }

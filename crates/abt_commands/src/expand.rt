@@ -1,31 +1,56 @@
 //! The command `expand`: the raw image that a sparse image stands for.
 
-use crate::files::{create, open};
+use crate::input::ForwardInput;
 use crate::raw_file::RawFile;
-use abt_chunks::expand;
+use crate::session::Session;
+use abt_chunks::{Expanded, expand};
 use abt_io::{FromRead, Meter, Output, ToWrite, Window};
-use abt_texts::{CommandFault, Text, write_fault};
-use std::alloc::Global;
+use abt_texts::CommandFault;
 use std::fs::File;
+use std::io::Read;
 use std::rt::Files;
 
-/// Writes the raw image of a sparse one, and prints what it has.
-pub fn expand_file<R: Files<File = File>, O: Output>(
-    rt: &R,
-    alloc: Global,
+/// Writes the raw image of a sparse one, and prints what it has. `-` is standard input, and standard output.
+pub fn expand_file<R: Files<File = File>, I: Read, O: Output, E: Output>(
+    session: &mut Session<'_, R, I, O, E>,
     input: &str,
     output: &str,
-    out: &mut O,
     w: &mut Window,
     m: &mut Meter,
 ) -> Result<(), CommandFault> {
-    let mut from = FromRead::new(open(rt, alloc, input)?);
-    let mut to = ToWrite::new(RawFile::new(create(rt, alloc, output)?));
-    let expanded = expand(&mut from, &mut to, w, m).map_err(CommandFault::Sparse)?;
-    let mut text = Text::new(out);
+    let file = session.open(input)?;
+    let expanded = if output == "-" {
+        session.write_to_standard_output("OUT")?;
+        expand_out(session, file, w, m)?
+    } else {
+        expand_to(session, file, output, w, m)?
+    };
+    session.is_unfinished = false;
     let blocks = expanded.blocks;
     let bytes = expanded.bytes;
-    text.line(format_args!("blocks {blocks} bytes {bytes}"))
-        .map_err(write_fault)?;
-    text.finish().map_err(write_fault)
+    session.report(format_args!("blocks {blocks} bytes {bytes}"))
+}
+
+fn expand_out<R: Files<File = File>, I: Read, O: Output, E: Output>(
+    session: &mut Session<'_, R, I, O, E>,
+    file: Option<File>,
+    w: &mut Window,
+    m: &mut Meter,
+) -> Result<Expanded, CommandFault> {
+    let reason = session.streams.reason;
+    let mut from = FromRead::new(ForwardInput::new(file, &mut *session.streams.input, reason));
+    expand(&mut from, &mut *session.streams.out, w, m).map_err(CommandFault::Sparse)
+}
+
+fn expand_to<R: Files<File = File>, I: Read, O: Output, E: Output>(
+    session: &mut Session<'_, R, I, O, E>,
+    file: Option<File>,
+    output: &str,
+    w: &mut Window,
+    m: &mut Meter,
+) -> Result<Expanded, CommandFault> {
+    let reason = session.streams.reason;
+    let mut to = ToWrite::new(RawFile::new(session.create("OUT", output)?, reason));
+    let mut from = FromRead::new(ForwardInput::new(file, &mut *session.streams.input, reason));
+    expand(&mut from, &mut to, w, m).map_err(CommandFault::Sparse)
 }

@@ -1,76 +1,234 @@
 //! Every file that a command reads or writes: each is opened here, created or emptied here, and brought to its end here.
+//!
+//! No file that is read is ever written: what an output is the same file as, by device and inode, is looked at before it is
+//! emptied.
 
-use abt_io::{DeviceFault, FileSource, ToWrite};
+use crate::identity::Identity;
+use crate::noting::Noted;
+use crate::session::{Session, identity_at, place_at};
+use abt_io::{DeviceFault, FilePartition, FileSource, Output, ToWrite};
 use abt_texts::{CommandFault, write_fault};
-use std::alloc::Global;
-use std::fs::File;
+use std::fs::{File, Metadata, OpenOptions};
 use std::io;
 use std::io::{BufWriter, Write};
+use std::os::unix::fs::FileTypeExt;
 use std::rt::Files;
 
-/// Opens a file to read.
-pub fn open<R: Files<File = File>>(
-    rt: &R,
-    alloc: Global,
-    path: &str,
-) -> Result<File, CommandFault> {
-    opened(File::open(rt, path), alloc, path)
-}
+// The number of 'Is a directory'.
+const IS_A_FOLDER: i32 = 21;
 
-/// Opens a file to write, which is created or emptied.
-pub fn create<R: Files<File = File>>(
-    rt: &R,
-    alloc: Global,
-    path: &str,
-) -> Result<File, CommandFault> {
-    opened(File::create(rt, path), alloc, path)
-}
+/// A file that takes small writes together, as those of chunk headers, until `send`.
+pub type BufferedFile<'a> = ToWrite<BufWriter<Noted<'a, File>>>;
 
-/// Opens a file to read at any place. One whose length can't be told, as a pipe, is refused like one that isn't there.
-pub fn open_source<R: Files<File = File>>(
-    rt: &R,
-    alloc: Global,
-    path: &str,
-) -> Result<FileSource, CommandFault> {
-    match FileSource::new(open(rt, alloc, path)?) {
-        Ok(source) => Ok(source),
-        Err(_) => Err(cannot_open(alloc, path)),
-    }
-}
-
-fn opened(file: io::Result<File>, alloc: Global, path: &str) -> Result<File, CommandFault> {
-    match file {
-        Ok(file) => Ok(file),
-        Err(error) => {
-            if error.kind() == io::ErrorKind::OutOfMemory {
-                return Err(CommandFault::Memory);
+impl<'a, R: Files<File = File>, I, O: Output, E: Output> Session<'a, R, I, O, E> {
+    /// Opens what is read forward: `-` is standard input, which is no file of ours. A folder is refused.
+    pub fn open(&mut self, path: &str) -> Result<Option<File>, CommandFault> {
+        self.opening = Some(place_at(self.alloc, "IN", path)?);
+        if path == "-" {
+            if let Some(identity) = identity_at(self.rt, "/dev/stdin") {
+                self.take(identity)?;
             }
-            Err(cannot_open(alloc, path))
+            self.input = self.opening.take();
+            return Ok(None);
+        }
+        let file = self.opened(File::open(self.rt, path), path)?;
+        let metadata = self.metadata_of(&file, path)?;
+        self.take(Identity::new(&metadata))?;
+        self.input = self.opening.take();
+        Ok(Some(file))
+    }
+
+    /// Opens what is read at any place. What is neither a file nor a block device has no length, and is refused.
+    pub fn open_source(
+        &mut self,
+        role: &'static str,
+        path: &str,
+    ) -> Result<FileSource, CommandFault> {
+        self.opening = Some(place_at(self.alloc, role, path)?);
+        let file = self.opened(File::open(self.rt, path), path)?;
+        let metadata = self.metadata_of(&file, path)?;
+        self.require_length(&metadata, path)?;
+        self.take(Identity::new(&metadata))?;
+        self.input = self.opening.take();
+        match FileSource::new(file) {
+            Ok(source) => Ok(source),
+            Err(_) => Err(self.cannot_open(path)),
+        }
+    }
+
+    /// Opens what is written in place, which must be there.
+    pub fn open_partition(&mut self, path: &str) -> Result<FilePartition, CommandFault> {
+        let mut how = OpenOptions::new();
+        how.write(true);
+        let (file, metadata) = self.open_output(&how, "PARTITION", path)?;
+        self.require_length(&metadata, path)?;
+        self.take(Identity::new(&metadata))?;
+        self.output = self.opening.take();
+        match FilePartition::new(file) {
+            Ok(partition) => Ok(partition),
+            Err(_) => Err(self.cannot_open(path)),
+        }
+    }
+
+    /// Creates a file, or empties it where it was there.
+    pub fn create(&mut self, role: &'static str, path: &str) -> Result<File, CommandFault> {
+        let mut how = OpenOptions::new();
+        how.write(true).create(true);
+        let file = self.open_output(&how, role, path)?;
+        let file = self.emptied(file, path)?;
+        self.output = self.opening.take();
+        self.is_unfinished = true;
+        Ok(file)
+    }
+
+    /// The same of a file that takes small writes together.
+    pub fn create_buffered(
+        &mut self,
+        role: &'static str,
+        path: &str,
+    ) -> Result<BufferedFile<'a>, CommandFault> {
+        let file = Noted::new(self.create(role, path)?, self.streams.reason);
+        match BufWriter::new(self.alloc, file) {
+            Ok(writer) => Ok(ToWrite::new(writer)),
+            Err(_) => Err(CommandFault::Memory),
+        }
+    }
+
+    /// Creates or empties the file that pieces go through, which is read again.
+    pub fn create_spool(&mut self, path: &str) -> Result<File, CommandFault> {
+        let mut how = OpenOptions::new();
+        how.read(true).write(true).create(true);
+        let (file, metadata) = self.open_output(&how, "SPOOL", path)?;
+        if !metadata.is_file() {
+            return Err(self.cannot_open(path));
+        }
+        let file = self.emptied((file, metadata), path)?;
+        self.spool = self.opening.take();
+        Ok(file)
+    }
+
+    /// Data goes to standard output, which must not be a file that is read.
+    pub fn write_to_standard_output(&mut self, role: &'static str) -> Result<(), CommandFault> {
+        self.opening = Some(place_at(self.alloc, role, "-")?);
+        if let Some(identity) = self.standard_output {
+            self.refuse_taken(identity, "-")?;
+        }
+        self.is_data_on_output = true;
+        self.is_unfinished = true;
+        self.output = self.opening.take();
+        Ok(())
+    }
+
+    /// Refuses a path that is going to be written where it is a file that is read.
+    pub fn refuse_input(&mut self, role: &'static str, path: &str) -> Result<(), CommandFault> {
+        self.opening = Some(place_at(self.alloc, role, path)?);
+        match identity_at(self.rt, path) {
+            Some(identity) => self.refuse_taken(identity, path),
+            None => Ok(()),
+        }
+    }
+
+    // Opens an output as it is, and refuses it where it is a file that is read.
+    fn open_output(
+        &mut self,
+        how: &OpenOptions,
+        role: &'static str,
+        path: &str,
+    ) -> Result<(File, Metadata), CommandFault> {
+        self.opening = Some(place_at(self.alloc, role, path)?);
+        let file = self.opened(how.open(self.rt, path), path)?;
+        let metadata = self.metadata_of(&file, path)?;
+        let identity = Identity::new(&metadata);
+        self.refuse_taken(identity, path)?;
+        if self.standard_output == Some(identity) {
+            self.is_data_on_output = true;
+        }
+        Ok((file, metadata))
+    }
+
+    // Empties a file; a pipe and a device have nothing to empty.
+    fn emptied(&mut self, opened: (File, Metadata), path: &str) -> Result<File, CommandFault> {
+        let (file, metadata) = opened;
+        if metadata.is_file() && metadata.len() > 0 {
+            let cut = file.set_len(0);
+            if let Err(error) = cut {
+                self.streams.reason.set(error.raw_os_error());
+                return Err(self.cannot_open(path));
+            }
+        }
+        Ok(file)
+    }
+
+    fn refuse_taken(&mut self, identity: Identity, path: &str) -> Result<(), CommandFault> {
+        if identity.holds_data && self.taken.as_slice().contains(&identity) {
+            return Err(self.same_file(path));
+        }
+        Ok(())
+    }
+
+    // No output may be this file.
+    fn take(&mut self, identity: Identity) -> Result<(), CommandFault> {
+        match self.taken.push(identity) {
+            Ok(()) => Ok(()),
+            Err(_) => Err(CommandFault::Memory),
+        }
+    }
+
+    fn require_length(&mut self, metadata: &Metadata, path: &str) -> Result<(), CommandFault> {
+        if metadata.is_file() || metadata.file_type().is_block_device() {
+            return Ok(());
+        }
+        self.streams.reason.set(None);
+        Err(self.cannot_open(path))
+    }
+
+    // What the system tells of an open file. A folder, which opens to be read and then gives no bytes, is refused.
+    fn metadata_of(&mut self, file: &File, path: &str) -> Result<Metadata, CommandFault> {
+        match file.metadata() {
+            Ok(metadata) => {
+                if metadata.is_dir() {
+                    self.streams.reason.set(Some(IS_A_FOLDER));
+                    return Err(self.cannot_open(path));
+                }
+                Ok(metadata)
+            }
+            Err(error) => Err(self.not_opened(error, path)),
+        }
+    }
+
+    fn opened(&mut self, file: io::Result<File>, path: &str) -> Result<File, CommandFault> {
+        match file {
+            Ok(file) => Ok(file),
+            Err(error) => Err(self.not_opened(error, path)),
+        }
+    }
+
+    fn not_opened(&mut self, error: io::Error, path: &str) -> CommandFault {
+        if error.kind() == io::ErrorKind::OutOfMemory {
+            return CommandFault::Memory;
+        }
+        self.streams.reason.set(error.raw_os_error());
+        self.cannot_open(path)
+    }
+
+    fn same_file(&mut self, path: &str) -> CommandFault {
+        self.streams.reason.set(None);
+        match place_at(self.alloc, "", path) {
+            Ok(place) => CommandFault::SameFile(place.path),
+            Err(fault) => fault,
+        }
+    }
+
+    fn cannot_open(&mut self, path: &str) -> CommandFault {
+        match place_at(self.alloc, "", path) {
+            Ok(place) => CommandFault::CannotOpen(place.path),
+            Err(fault) => fault,
         }
     }
 }
 
-fn cannot_open(alloc: Global, path: &str) -> CommandFault {
-    match String::from_str(alloc, path) {
-        Ok(path) => CommandFault::CannotOpen(path),
-        Err(_) => CommandFault::Memory,
-    }
-}
-
-/// A file that is created or emptied, and takes small writes together, as those of chunk headers, until `send`.
-pub fn create_buffered<R: Files<File = File>>(
-    rt: &R,
-    alloc: Global,
-    path: &str,
-) -> Result<ToWrite<BufWriter<File>>, CommandFault> {
-    match BufWriter::new(alloc, create(rt, alloc, path)?) {
-        Ok(writer) => Ok(ToWrite::new(writer)),
-        Err(_) => Err(CommandFault::Memory),
-    }
-}
-
 /// Brings to the file what it took together.
-pub fn send(output: &mut ToWrite<BufWriter<File>>) -> Result<(), CommandFault> {
+pub fn send(output: &mut BufferedFile<'_>) -> Result<(), CommandFault> {
     match output.writer.flush() {
         Ok(()) => Ok(()),
         Err(_) => Err(write_fault(DeviceFault::Failed)),

@@ -1,21 +1,22 @@
 //! The command `list`: the header and the chunks of a sparse image.
 
-use crate::files::open;
+use crate::input::ForwardInput;
+use crate::session::Session;
 use abt_io::{FromRead, Meter, Output, Window};
 use abt_texts::{CommandFault, report_list};
-use std::alloc::Global;
 use std::fs::File;
+use std::io::Read;
 use std::rt::Files;
 
-/// Prints the header and each chunk of a sparse image.
-pub fn list_file<R: Files<File = File>, O: Output>(
-    rt: &R,
-    alloc: Global,
+/// Prints the header and each chunk of a sparse image. `-` is standard input.
+pub fn list_file<R: Files<File = File>, I: Read, O: Output, E: Output>(
+    session: &mut Session<'_, R, I, O, E>,
     input: &str,
-    out: &mut O,
     w: &mut Window,
     m: &mut Meter,
 ) -> Result<(), CommandFault> {
-    let mut from = FromRead::new(open(rt, alloc, input)?);
-    report_list(&mut from, out, w, m).map_err(CommandFault::Sparse)
+    let file = session.open(input)?;
+    let reason = session.streams.reason;
+    let mut from = FromRead::new(ForwardInput::new(file, &mut *session.streams.input, reason));
+    report_list(&mut from, &mut *session.streams.out, w, m).map_err(CommandFault::Sparse)
 }

@@ -2,14 +2,15 @@
 
 ghost use Rattle.std.specs.Prelude.{◌≡◌, ◌≤◌};
 
-use crate::files::create;
+use crate::noting::Noted;
 use crate::pack_parts::Parts;
 use crate::pack_ramdisks::Ramdisks;
 use crate::pack_words::PackWords;
+use crate::session::Session;
 use abt_headers::{HeaderFault, OsVersion};
 use abt_io::{FileSource, Meter, Output, ToWrite, Window};
 use abt_sections::{BootSpec, Packed, SectionFault, VendorSpec, pack_boot, pack_vendor};
-use abt_texts::{CommandFault, FragmentWord, ImageKind, OPTIONS, Text, os_from_word, write_fault};
+use abt_texts::{CommandFault, FragmentWord, ImageKind, OPTIONS, os_from_word};
 use std::alloc::Global;
 use std::fs::File;
 use std::rt::Files;
@@ -17,41 +18,33 @@ use std::rt::Files;
 /// Packs the image that the words ask for, and prints how many bytes it has.
 ///
 /// The words are judged before any file is opened, and the parts are open before OUT is created or emptied.
-pub fn pack_file<R: Files<File = File>, O: Output>(
-    rt: &R,
-    alloc: Global,
+pub fn pack_file<R: Files<File = File>, I, O: Output, E: Output>(
+    session: &mut Session<'_, R, I, O, E>,
     words: &PackWords<'_>,
-    out: &mut O,
     w: &mut Window,
     m: &mut Meter,
 ) -> Result<(), CommandFault> {
     let kind = ImageKind::new(words.is_vendor, words.version).map_err(header_fault)?;
     check_options(kind, words)?;
-    let fragments = read_fragments(alloc, kind, words.fragments())?;
+    let fragments = read_fragments(session.alloc, kind, words.fragments())?;
     let os = read_os(words.text("os"))?;
-    let parts = Parts::open(rt, alloc, words)?;
-    let ramdisks = Ramdisks::open(rt, alloc, fragments.as_slice())?;
-    let mut output = ToWrite::new(create(rt, alloc, words.output)?);
+    let parts = Parts::open(session, words)?;
+    let ramdisks = Ramdisks::open(session, fragments.as_slice())?;
+    let file = session.create("OUT", words.output)?;
+    session.input = None;
+    let mut output = ToWrite::new(Noted::new(file, session.streams.reason));
     let packed = match kind {
         ImageKind::Boot(version) => {
             pack_boot_parts(&boot_spec(version, words, os), parts, &mut output, w, m)
         }
         ImageKind::Vendor(version) => {
-            pack_vendor_parts(
-                &vendor_spec(version, words),
-                parts,
-                ramdisks,
-                &mut output,
-                w,
-                m,
-            )
+            let spec = vendor_spec(version, words);
+            pack_vendor_parts(&spec, parts, ramdisks, &mut output, w, m)
         }
     };
     let bytes = packed.map_err(CommandFault::Section)?.bytes;
-    let mut text = Text::new(out);
-    text.line(format_args!("bytes {bytes}"))
-        .map_err(write_fault)?;
-    text.finish().map_err(write_fault)
+    session.is_unfinished = false;
+    session.report(format_args!("bytes {bytes}"))
 }
 
 fn header_fault(fault: HeaderFault) -> CommandFault {

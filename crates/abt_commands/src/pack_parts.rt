@@ -1,10 +1,9 @@
 //! The files of the parts that an image is packed from, each open to be read.
 
-use crate::files::open_source;
 use crate::pack_words::PackWords;
-use abt_io::FileSource;
+use crate::session::Session;
+use abt_io::{FileSource, Output};
 use abt_texts::CommandFault;
-use std::alloc::Global;
 use std::fs::File;
 use std::rt::Files;
 
@@ -22,30 +21,29 @@ pub struct Parts {
 
 impl Parts {
     /// Opens the files in the order of the table.
-    pub fn open<R: Files<File = File>>(
-        rt: &R,
-        alloc: Global,
+    pub fn open<R: Files<File = File>, I, O: Output, E: Output>(
+        session: &mut Session<'_, R, I, O, E>,
         words: &PackWords<'_>,
     ) -> Result<Parts, CommandFault> {
         Ok(Parts {
-            kernel: open_part(rt, alloc, words.text("kernel"))?,
-            ramdisk: open_part(rt, alloc, words.text("ramdisk"))?,
-            second: open_part(rt, alloc, words.text("second"))?,
-            recovery_dtbo: open_part(rt, alloc, words.text("recovery-dtbo"))?,
-            dtb: open_part(rt, alloc, words.text("dtb"))?,
-            signature: open_part(rt, alloc, words.text("signature"))?,
-            bootconfig: open_part(rt, alloc, words.text("bootconfig"))?,
+            kernel: open_part(session, words, "kernel")?,
+            ramdisk: open_part(session, words, "ramdisk")?,
+            second: open_part(session, words, "second")?,
+            recovery_dtbo: open_part(session, words, "recovery-dtbo")?,
+            dtb: open_part(session, words, "dtb")?,
+            signature: open_part(session, words, "signature")?,
+            bootconfig: open_part(session, words, "bootconfig")?,
         })
     }
 }
 
-fn open_part<R: Files<File = File>>(
-    rt: &R,
-    alloc: Global,
-    path: Option<&str>,
+fn open_part<R: Files<File = File>, I, O: Output, E: Output>(
+    session: &mut Session<'_, R, I, O, E>,
+    words: &PackWords<'_>,
+    option: &'static str,
 ) -> Result<FileSource, CommandFault> {
-    match path {
-        Some(path) => open_source(rt, alloc, path),
+    match words.text(option) {
+        Some(path) => session.open_source(option, path),
         None => Ok(FileSource::empty()),
     }
 }

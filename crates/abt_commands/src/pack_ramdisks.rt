@@ -2,8 +2,8 @@
 
 ghost use Rattle.std.specs.Prelude.{◌≡◌, length};
 
-use crate::files::open_source;
-use abt_io::FileSource;
+use crate::session::Session;
+use abt_io::{FileSource, Output};
 use abt_sections::FragmentSpec;
 use abt_texts::{CommandFault, FragmentWord};
 use std::alloc::Global;
@@ -28,14 +28,13 @@ impl Ramdisks {
     }
 
     /// Opens the files in order.
-    pub fn open<R: Files<File = File>>(
-        rt: &R,
-        alloc: Global,
+    pub fn open<R: Files<File = File>, I, O: Output, E: Output>(
+        session: &mut Session<'_, R, I, O, E>,
         fragments: &[FragmentWord<'_>],
     ) -> Result<Ramdisks, CommandFault> {
-        let mut ramdisks = Ramdisks::new(alloc);
+        let mut ramdisks = Ramdisks::new(session.alloc);
         for fragment in fragments {
-            let source = open_source(rt, alloc, fragment.path)?;
+            let source = session.open_source("FRAGMENT", fragment.path)?;
             ramdisks = ramdisks.with(fragment.spec, source)?;
         }
         Ok(ramdisks)

@@ -1,5 +1,6 @@
 //! The words of `pack`: its options by the table of `abt_texts`, and what a parse gives.
 
+use crate::words::verbose;
 use abt_texts::{OPTIONS, PackOption, Value};
 use clap::{Arg, ArgAction, ArgMatches, Command, value_parser};
 use std::alloc::{AllocError, Global};
@@ -123,5 +124,5 @@ fn paths<'a>(alloc: Global, command: Command<'a>) -> Result<Command<'a>, AllocEr
         .help(
             "A ramdisk of a vendor 4 image: TYPE:NAME:FILE, TYPE one of none, platform, recovery, dlkm",
         );
-    command.arg(output)?.arg(fragments)
+    command.arg(output)?.arg(fragments)?.arg(verbose(alloc))
 }

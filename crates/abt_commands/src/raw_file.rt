@@ -2,6 +2,8 @@
 
 ghost use Rattle.std.specs.Io.{WritesAtMost};
 
+use crate::noting::kept_answer;
+use crate::session::Reason;
 use std::fs::File;
 use std::io;
 use std::io::Write;
@@ -13,30 +15,35 @@ use std::os::unix::fs::FileExt;
 /// room and no time. So the file holds exactly what was written, after every call. A pipe and a device are given all
 /// bytes.
 #[derive(Drop)]
-pub struct RawFile {
+pub struct RawFile<'a> {
     file: File,
     // How long the file is, where it is a regular one.
     length: Option<u64>,
+    reason: &'a Reason,
 }
 
-impl RawFile {
+impl<'a> RawFile<'a> {
     /// Begins at the front of this file, which is empty.
-    pub fn new(file: File) -> RawFile {
+    pub fn new(file: File, reason: &'a Reason) -> RawFile<'a> {
         let is_regular = match file.metadata() {
             Ok(metadata) => metadata.is_file(),
             Err(_) => false,
         };
         let length = if is_regular { Some(0) } else { None };
-        RawFile { file, length }
+        RawFile {
+            file,
+            length,
+            reason,
+        }
     }
 }
 
-impl Write for RawFile {
+impl Write for RawFile<'_> {
     fn write(&mut self, bytes: &[u8]) -> io::Result<usize> {
         let Some(length) = self.length else {
-            return self.file.write(bytes);
+            return kept_answer(self.file.write(bytes), self.reason);
         };
-        let n = write_behind(&self.file, length, bytes)?;
+        let n = kept_answer(write_behind(&self.file, length, bytes), self.reason)?;
         self.length = Some(length.saturating_add(n as u64));
         Ok(n)
     }

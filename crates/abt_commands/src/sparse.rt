@@ -1,11 +1,11 @@
 //! The command `sparse`: a raw image as a sparse one.
 
-use crate::files::{create_buffered, open_source, send};
-use abt_io::{Meter, Output, Window};
+use crate::files::send;
+use crate::session::Session;
+use abt_io::{FileSource, Meter, Output, Window};
 use abt_runs::{BlockRuns, RawRuns};
-use abt_sparsify::sparsify;
-use abt_texts::{CommandFault, Text, write_fault};
-use std::alloc::Global;
+use abt_sparsify::{Written, sparsify};
+use abt_texts::CommandFault;
 use std::fs::File;
 use std::rt::Files;
 
@@ -23,28 +23,40 @@ pub struct SparseOrder<'a> {
     pub block: u32,
 }
 
-/// Writes the sparse image of a raw one, and prints what it has.
-pub fn sparse_file<R: Files<File = File>, O: Output>(
-    rt: &R,
-    alloc: Global,
+/// Writes the sparse image of a raw one, and prints what it has. `-` is standard output.
+pub fn sparse_file<R: Files<File = File>, I, O: Output, E: Output>(
+    session: &mut Session<'_, R, I, O, E>,
     order: SparseOrder<'_>,
-    out: &mut O,
     w: &mut Window,
     m: &mut Meter,
 ) -> Result<(), CommandFault> {
-    let mut source = open_source(rt, alloc, order.input)?;
-    let mut output = create_buffered(rt, alloc, order.output)?;
-    // A block size that no raw image has is refused here, before it divides.
-    let runs = RawRuns::open(&source, order.block).map_err(CommandFault::Run)?;
-    let most = CHUNK_DATA / runs.block_size();
-    let written = sparsify(&mut source, order.block, most, &mut output, w, m);
-    send(&mut output)?;
-    let written = written.map_err(CommandFault::Piece)?;
+    let mut source = session.open_source("IN", order.input)?;
+    let written = if order.output == "-" {
+        session.write_to_standard_output("OUT")?;
+        let out = &mut *session.streams.out;
+        sparse_into(&mut source, order.block, out, w, m)?
+    } else {
+        let mut output = session.create_buffered("OUT", order.output)?;
+        let written = sparse_into(&mut source, order.block, &mut output, w, m);
+        send(&mut output)?;
+        written?
+    };
+    session.is_unfinished = false;
     let blocks = written.blocks;
     let chunks = written.chunks;
     let bytes = written.bytes;
-    let mut text = Text::new(out);
-    text.line(format_args!("blocks {blocks} chunks {chunks} bytes {bytes}"))
-        .map_err(write_fault)?;
-    text.finish().map_err(write_fault)
+    session.report(format_args!("blocks {blocks} chunks {chunks} bytes {bytes}"))
+}
+
+// A block size that no raw image has is refused before it divides.
+fn sparse_into<T: Output>(
+    source: &mut FileSource,
+    block: u32,
+    output: &mut T,
+    w: &mut Window,
+    m: &mut Meter,
+) -> Result<Written, CommandFault> {
+    let runs = RawRuns::open(source, block).map_err(CommandFault::Run)?;
+    let most = CHUNK_DATA / runs.block_size();
+    sparsify(source, block, most, output, w, m).map_err(CommandFault::Piece)
 }

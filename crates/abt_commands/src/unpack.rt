@@ -1,39 +1,69 @@
 //! The command `unpack`: the sections and ramdisk fragments of an image, each into a file of its own.
 
-use crate::files::{create, open_source};
-use abt_io::{DeviceFault, FileSource, Meter, Output, ToWrite, Window};
+use crate::noting::Noted;
+use crate::session::Session;
+use abt_headers::Section;
+use abt_io::{FileSource, Meter, Output, ToWrite, Window};
 use abt_sections::{Image, fragment, fragments, open, section, sections, unpack, unpack_fragment};
-use abt_texts::{CommandFault, Text, write_fault};
+use abt_texts::CommandFault;
 use std::alloc::Global;
-use std::fmt;
 use std::fs::File;
 use std::rt::Files;
 
 /// Writes each section and then each ramdisk fragment of an image to a file of this folder, which must be there.
 ///
-/// Each file is opened when its turn comes, and its line is printed when it is whole.
-pub fn unpack_file<R: Files<File = File>, O: Output>(
-    rt: &R,
-    alloc: Global,
+/// Each file is opened when its turn comes, and its line is printed when it is whole. Where the image is one of the files
+/// that are going to be written, none is.
+pub fn unpack_file<R: Files<File = File>, I, O: Output, E: Output>(
+    session: &mut Session<'_, R, I, O, E>,
     input: &str,
     folder: &str,
-    out: &mut O,
     w: &mut Window,
     m: &mut Meter,
 ) -> Result<(), CommandFault> {
-    let mut source = open_source(rt, alloc, input)?;
+    let mut source = session.open_source("IN", input)?;
     let image = open(&mut source, w, m).map_err(CommandFault::Section)?;
-    unpack_sections(rt, alloc, &image, &mut source, folder, out, w, m)?;
-    unpack_fragments(rt, alloc, &image, &mut source, folder, out, w, m)
+    refuse_input_as_part(session, &image, folder)?;
+    unpack_sections(session, &image, &mut source, folder, w, m)?;
+    unpack_fragments(session, &image, &mut source, folder, w, m)
 }
 
-fn unpack_sections<R: Files<File = File>, O: Output>(
-    rt: &R,
-    alloc: Global,
+// Refuses the image where it is a file that is going to be written.
+fn refuse_input_as_part<R: Files<File = File>, I, O: Output, E: Output>(
+    session: &mut Session<'_, R, I, O, E>,
+    image: &Image,
+    folder: &str,
+) -> Result<(), CommandFault> {
+    for i in 0..sections(image) {
+        let path = section_path(session.alloc, folder, section(image, i).kind)?;
+        session.refuse_input("PART", path.as_str())?;
+    }
+    for i in 0..fragments(image) {
+        let path = fragment_path(session.alloc, folder, i)?;
+        session.refuse_input("PART", path.as_str())?;
+    }
+    Ok(())
+}
+
+fn section_path(alloc: Global, folder: &str, kind: Section) -> Result<String, CommandFault> {
+    match format!(in alloc; "{folder}/{kind}") {
+        Ok(path) => Ok(path),
+        Err(_) => Err(CommandFault::Memory),
+    }
+}
+
+fn fragment_path(alloc: Global, folder: &str, i: u32) -> Result<String, CommandFault> {
+    match format!(in alloc; "{folder}/fragment.{i}") {
+        Ok(path) => Ok(path),
+        Err(_) => Err(CommandFault::Memory),
+    }
+}
+
+fn unpack_sections<R: Files<File = File>, I, O: Output, E: Output>(
+    session: &mut Session<'_, R, I, O, E>,
     image: &Image,
     source: &mut FileSource,
     folder: &str,
-    out: &mut O,
     w: &mut Window,
     m: &mut Meter,
 ) -> Result<(), CommandFault> {
@@ -42,43 +72,34 @@ fn unpack_sections<R: Files<File = File>, O: Output>(
         let place = section(image, i);
         let kind = place.kind;
         let size = place.size;
-        let Ok(path) = format!(in alloc; "{folder}/{kind}") else {
-            return Err(CommandFault::Memory);
-        };
-        let mut to = ToWrite::new(create(rt, alloc, path.as_str())?);
+        let path = section_path(session.alloc, folder, kind)?;
+        let file = session.create("PART", path.as_str())?;
+        let mut to = ToWrite::new(Noted::new(file, session.streams.reason));
         unpack(image, i, source, &mut to, w, m).map_err(CommandFault::Section)?;
-        tell(out, format_args!("{kind} {size}")).map_err(write_fault)?;
+        session.is_unfinished = false;
+        session.report(format_args!("{kind} {size}"))?;
     }
     Ok(())
 }
 
-fn unpack_fragments<R: Files<File = File>, O: Output>(
-    rt: &R,
-    alloc: Global,
+fn unpack_fragments<R: Files<File = File>, I, O: Output, E: Output>(
+    session: &mut Session<'_, R, I, O, E>,
     image: &Image,
     source: &mut FileSource,
     folder: &str,
-    out: &mut O,
     w: &mut Window,
     m: &mut Meter,
 ) -> Result<(), CommandFault> {
     for i in 0..fragments(image) {
         m.tick();
-        let Ok(path) = format!(in alloc; "{folder}/fragment.{i}") else {
-            return Err(CommandFault::Memory);
-        };
-        let mut to = ToWrite::new(create(rt, alloc, path.as_str())?);
+        let path = fragment_path(session.alloc, folder, i)?;
+        let file = session.create("PART", path.as_str())?;
+        let mut to = ToWrite::new(Noted::new(file, session.streams.reason));
         let entry = fragment(image, i, source, w, m).map_err(CommandFault::Section)?;
         unpack_fragment(image, i, source, &mut to, w, m).map_err(CommandFault::Section)?;
+        session.is_unfinished = false;
         let size = entry.ramdisk_size;
-        tell(out, format_args!("fragment {i} {size}")).map_err(write_fault)?;
+        session.report(format_args!("fragment {i} {size}"))?;
     }
     Ok(())
-}
-
-// Prints a line at once.
-fn tell<O: Output, D: fmt::Display + Drop>(out: &mut O, line: D) -> Result<(), DeviceFault> {
-    let mut text = Text::new(out);
-    text.line(line)?;
-    text.finish()
 }

@@ -13,4 +13,5 @@ is_usage (faults.Piece fault) = false
 is_usage (faults.Flash fault) = false
 is_usage (faults.Section fault) = false
 is_usage (faults.CannotOpen path) = false
+is_usage (faults.SameFile path) = false
 is_usage faults.Memory = false

@@ -39,6 +39,9 @@ pub enum CommandFault {
     /// This file can't be opened.
     #[error("cannot open {0}")]
     CannotOpen(String),
+    /// What would be written is a file that is read.
+    #[error("same file {0}")]
+    SameFile(String),
     /// Memory was wanted and refused.
     #[error("memory")]
     Memory,
@@ -58,7 +61,20 @@ impl CommandFault {
             CommandFault::Flash(_) => false,
             CommandFault::Section(_) => false,
             CommandFault::CannotOpen(_) => false,
+            CommandFault::SameFile(_) => false,
             CommandFault::Memory => false,
+        }
+    }
+
+    /// The fault's number, where it has one.
+    pub fn number(&self) -> Option<u32> {
+        match self {
+            CommandFault::Sparse(fault) => Some(fault.number()),
+            CommandFault::Run(fault) => Some(fault.number()),
+            CommandFault::Piece(fault) => Some(fault.number()),
+            CommandFault::Flash(fault) => Some(fault.number()),
+            CommandFault::Section(fault) => Some(fault.number()),
+            _ => None,
         }
     }
 }

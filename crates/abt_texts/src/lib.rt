@@ -12,9 +12,11 @@
 //! | `pack_options.rt` | the options of `pack`, and which image carries which |
 //! | `os_word.rt`, `fragment_word.rt` | the words of `--os` and FRAGMENT |
 //! | `fault.rt`, `exit_status.rt` | why a command is refused, the line that says so, and the exit status |
+//! | `advising.rt`, `shown_path.rt` | which file a fault is about and what can be done, and a path as it is shown |
 //! | `text_output.rt`, `held.rt` | text into an output, and the buffer that it waits in |
 #![tactic(auto)]
 
+mod advising;
 mod demonstration;
 mod exit_status;
 mod fault;
@@ -28,8 +30,10 @@ mod listing;
 mod os_word;
 mod pack_options;
 mod shown;
+mod shown_path;
 mod text_output;
 
+pub use advising::{Side, advice, is_of_a_device, side_of};
 pub use demonstration::{IMAGE, demo};
 pub use exit_status::{DONE, REFUSED, USAGE, status};
 pub use fault::{CommandFault, fault_text, write_fault};
@@ -38,4 +42,5 @@ pub use info::report_info;
 pub use listing::report_list;
 pub use os_word::os_from_word;
 pub use pack_options::{ImageKind, OPTIONS, PackOption, Value};
-pub use text_output::Text;
+pub use shown_path::ShownPath;
+pub use text_output::{Text, print_line};

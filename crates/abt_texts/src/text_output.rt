@@ -120,3 +120,17 @@ impl<O: Output> fmt::Write for Text<'_, O> {
         }
     }
 }
+
+/// Prints a line at once.
+pub fn print_line<O: Output, D: fmt::Display + Drop>(
+    output: &mut O,
+    line: D,
+) -> Result<(), DeviceFault>
+    ensures { OnOk result (IfSome (with_newline (D.output line)) (λ bs. O.written output.new ≡ O.written output.old ++ bs)) }
+{
+    let mut text = Text::new(output);
+    match text.line(line) {
+        Ok(()) => text.finish(),
+        Err(fault) => Err(fault),
+    }
+}

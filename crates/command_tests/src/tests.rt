@@ -3,10 +3,12 @@
 mod boot_images;
 mod commands;
 mod cutting;
+mod flashing;
 mod images;
 mod infos;
 mod listings;
 mod packing;
+mod saving;
 mod sparsing;
 mod texts;
 mod unpacking;

@@ -1,7 +1,7 @@
 //! The command line from words to files: what `run` prints and answers.
 
 use crate::tests::images::{WITH_CRC, libsparse, libsparse_raw};
-use abt_commands::run;
+use abt_commands::{Reason, Streams, run};
 use abt_io::{Faulty, Meter, SliceOutput, Window};
 use abt_texts::IMAGE;
 use std::convert::AsStr;
@@ -26,7 +26,16 @@ pub fn expect<R: Files<File = File> + AllocGlobal + Abort, S: AsStr>(
     let mut err_room = [0u8; 1500];
     let mut out = SliceOutput::new(&mut out_room);
     let mut err = SliceOutput::new(&mut err_room);
-    let answered = run(rt, rt.alloc(), words, &mut out, &mut err, &mut w, &mut m);
+    let reason = Reason::new(None);
+    let mut input = b"".as_slice();
+    let streams = Streams {
+        input: &mut input,
+        out: &mut out,
+        err: &mut err,
+        is_terminal: false,
+        reason: &reason,
+    };
+    let answered = run(rt, rt.alloc(), words, streams, &mut w, &mut m);
     assert!(rt; out.written() == out_text.as_bytes());
     assert!(rt; err.written() == err_text.as_bytes());
     assert_eq!(rt; answered, status);
@@ -149,12 +158,14 @@ fn a_file_that_is_not_there_is_named(rt: HostRuntime) -> Result<(), Fail> {
         told,
         1,
     );
-    // A folder opens to be read, and then gives no bytes.
+    // A folder would open to be read, and then give no bytes.
+    let told = "abootimg: cannot open /\n";
+    expect(&rt, &["abootimg", "list", "/"], "", told, 1);
     expect(
         &rt,
-        &["abootimg", "list", "/"],
+        &["abootimg", "expand", image.as_str(), "/"],
         "",
-        "abootimg: 11 Read\n",
+        told,
         1,
     );
     fs::remove_file(&rt, image.as_str())?;
@@ -186,7 +197,7 @@ fn wrong_words_are_told_on_standard_error(rt: HostRuntime) {
         &["abootimg", "expand", "a", "b", "c"],
         "",
         "error: unexpected argument 'c' found\n\n\
-         Usage: abootimg expand <IN> <OUT>\n\n\
+         Usage: abootimg expand [OPTIONS] <IN> <OUT>\n\n\
          For more information, try '--help'.\n",
         2,
     );
@@ -199,11 +210,12 @@ fn help_and_version_go_to_standard_output(rt: HostRuntime) {
         &rt,
         &["abootimg", "list", "--help"],
         "Prints the header and every chunk of a sparse image\n\n\
-         Usage: abootimg list <IN>\n\n\
+         Usage: abootimg list [OPTIONS] <IN>\n\n\
          Arguments:\n  \
-           <IN>  The sparse image, a file or a pipe such as /dev/stdin\n\n\
+           <IN>  The sparse image, a file or a pipe, or - for standard input\n\n\
          Options:\n  \
-           -h, --help  Print help\n\n\
+           -v, --verbose  Tells of a refusal in a second line which file it is about, and why\n  \
+           -h, --help     Print help\n\n\
          Example: abootimg list system.img\n",
         "",
         0,
@@ -218,7 +230,16 @@ pub fn expect_write_fault<R: Files<File = File> + AllocGlobal + Abort>(rt: &R, w
     let mut err_room = [0u8; 100];
     let mut out = Faulty::new(SliceOutput::new(&mut out_room), 1);
     let mut err = SliceOutput::new(&mut err_room);
-    let answered = run(rt, rt.alloc(), words, &mut out, &mut err, &mut w, &mut m);
+    let reason = Reason::new(None);
+    let mut input = b"".as_slice();
+    let streams = Streams {
+        input: &mut input,
+        out: &mut out,
+        err: &mut err,
+        is_terminal: false,
+        reason: &reason,
+    };
+    let answered = run(rt, rt.alloc(), words, streams, &mut w, &mut m);
     assert!(rt; err.written() == b"abootimg: 12 Write\n".as_slice());
     assert_eq!(rt; answered, 1);
 }

@@ -183,24 +183,10 @@ fn a_refused_image_makes_no_piece(rt: HostRuntime) -> Result<(), Fail> {
 
 #[test]
 fn pieces_before_a_fault_stand(rt: HostRuntime) -> Result<(), Fail> {
-    // The image is in the file of the second piece, which is emptied when its turn comes.
     let prefix = place(&rt, "cut-itself")?;
     let first = place(&rt, "cut-itself.1")?;
-    let image = place(&rt, "cut-itself.2")?;
-    let input = image.as_str();
     let pieces = prefix.as_str();
     let line = "piece 1 blocks 0 1 bytes 56\n";
-    fs::write(&rt, input, IMAGE.as_slice())?;
-    let told = "abootimg: 14 SourceChanged\n";
-    expect(
-        &rt,
-        &["abootimg", "cut", input, "68", pieces],
-        line,
-        told,
-        1,
-    );
-    assert!(rt; taken(&rt, first.as_str())?.as_slice() == FIRST.as_slice());
-    assert!(rt; taken(&rt, input)?.is_empty());
     // The file of the second piece has no room. What is gathered for it is written before its line is printed.
     let image = place(&rt, "cut-itself.simg")?;
     let input = image.as_str();
@@ -287,6 +273,7 @@ fn wrong_words_of_cut_are_told(rt: HostRuntime) {
            <PREFIX>  The pieces are the files PREFIX.1, PREFIX.2 and so on\n\n\
          Options:\n      \
                --raw <N>  IN is a raw image in blocks of N bytes: a multiple of 4, at most 65536\n  \
+           -v, --verbose  Tells of a refusal in a second line which file it is about, and why\n  \
            -h, --help     Print help\n\n\
          Example: abootimg cut system.img 268435456 system.piece\n",
         "",

@@ -1,6 +1,7 @@
 //! The line of each fault, and the line of the demonstration.
 
 use abt_chunks::SparseFault;
+use abt_flash::{Cause, FlashFault};
 use abt_headers::{HeaderFault, Section};
 use abt_io::{Cut, DeviceFault, Faulty, Meter, SliceOutput, Window};
 use abt_sections::SectionFault;
@@ -111,6 +112,36 @@ fn each_fault_of_a_boot_image_has_its_line(rt: HostRuntime) {
     ];
     for (fault, text) in lines {
         expect_text(&rt, CommandFault::Section(fault), text);
+    }
+}
+
+#[test]
+fn each_fault_of_flashing_has_its_line(rt: HostRuntime) {
+    let failed = DeviceFault::Failed;
+    let stopped = |cause| FlashFault::Stopped { piece: 7, cause };
+    let lines = [
+        (FlashFault::Read(failed), "abootimg: 11 Read\n"),
+        (FlashFault::Write(failed), "abootimg: 12 Write\n"),
+        (
+            FlashFault::PartitionTooSmall { need: 12 },
+            "abootimg: 17 PartitionTooSmall need 12\n",
+        ),
+        (FlashFault::Sync(failed), "abootimg: 18 Sync\n"),
+        (
+            stopped(Cause::Read(failed)),
+            "abootimg: 19 Stopped piece 7 cause 11\n",
+        ),
+        (
+            stopped(Cause::SpoolChanged),
+            "abootimg: 19 Stopped piece 7 cause 34\n",
+        ),
+        (
+            FlashFault::NoSuchPiece { pieces: 3 },
+            "abootimg: 31 NoSuchPiece pieces 3\n",
+        ),
+    ];
+    for (fault, text) in lines {
+        expect_text(&rt, CommandFault::Flash(fault), text);
     }
 }
 

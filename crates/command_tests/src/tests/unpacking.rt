@@ -92,16 +92,6 @@ fn what_came_before_a_refusal_stands(rt: HostRuntime) -> Result<(), Fail> {
         1,
     );
     expect_part(&rt, folder.as_str(), "ramdisk", &[7])?;
-    // The image is itself the file of its kernel, which is emptied.
-    let kernel = format!(in rt.alloc(); "{}/kernel", folder.as_str())?;
-    fs::write(&rt, kernel.as_str(), five_parts(&rt).as_slice())?;
-    expect(
-        &rt,
-        &["abootimg", "unpack", kernel.as_str(), folder.as_str()],
-        "",
-        "abootimg: 14 SourceChanged\n",
-        1,
-    );
     fs::remove_dir_all(&rt, folder.as_str())?;
     fs::remove_file(&rt, image.as_str())?;
     Ok(())
@@ -167,7 +157,7 @@ fn wrong_words_of_boot_images_are_told(rt: HostRuntime) {
         &["abootimg", "info", "a", "b"],
         "",
         "error: unexpected argument 'b' found\n\n\
-         Usage: abootimg info <IN>\n\n\
+         Usage: abootimg info [OPTIONS] <IN>\n\n\
          For more information, try '--help'.\n",
         2,
     );
