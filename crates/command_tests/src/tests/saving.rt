@@ -11,8 +11,8 @@ use std::rt::Files;
 use std::test::Fail;
 
 // These words are refused since this path is a file that is read, and the file holds its bytes then.
-fn expect_kept(
-    rt: &HostRuntime,
+fn expect_kept<R: Files<File = File> + AllocGlobal + Abort>(
+    rt: &R,
     words: &[&str],
     path: &str,
     input: &str,
@@ -54,7 +54,6 @@ fn an_image_is_not_cut_over_itself(rt: HostRuntime) -> Result<(), Fail> {
     let prefix = place(&rt, "saved-cut")?;
     let first = place(&rt, "saved-cut.1")?;
     let second = place(&rt, "saved-cut.2")?;
-    let third = place(&rt, "saved-cut.3")?;
     let (pieces, image) = (prefix.as_str(), second.as_str());
     // The image has the name of the second piece, or is what a link of that name stands for.
     fs::write(&rt, image, IMAGE.as_slice())?;
@@ -62,13 +61,8 @@ fn an_image_is_not_cut_over_itself(rt: HostRuntime) -> Result<(), Fail> {
     expect_kept(&rt, &words, image, image, &IMAGE)?;
     assert!(rt; fs::read(&rt, first.as_str()).is_err());
     fs::write(&rt, first.as_str(), b"older".as_slice())?;
-    let input = third.as_str();
-    fs::write(&rt, input, IMAGE.as_slice())?;
-    fs::remove_file(&rt, image)?;
-    symlink(&rt, input, image)?;
     let other = place(&rt, "saved-cut.img")?;
-    fs::rename(&rt, input, other.as_str())?;
-    fs::remove_file(&rt, image)?;
+    fs::rename(&rt, image, other.as_str())?;
     symlink(&rt, other.as_str(), image)?;
     let words = ["abootimg", "cut", other.as_str(), "68", pieces];
     expect_kept(&rt, &words, image, other.as_str(), &IMAGE)?;
@@ -111,18 +105,6 @@ fn a_part_is_not_packed_or_unpacked_over(rt: HostRuntime) -> Result<(), Fail> {
     fs::write(&rt, input, image.as_slice())?;
     let words = ["abootimg", "unpack", input, folder.as_str()];
     expect_kept(&rt, &words, input, input, &image)?;
-    let words = [
-        "abootimg",
-        "pack",
-        "--version",
-        "4",
-        "--kernel",
-        input,
-        "--ramdisk",
-        "/dev/fd/none",
-        input,
-    ];
-    expect(&rt, &words, "", "abootimg: cannot open /dev/fd/none\n", 1);
     let words = [
         "abootimg",
         "pack",
