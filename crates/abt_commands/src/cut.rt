@@ -8,7 +8,7 @@ use crate::session::{Session, identity_at};
 use abt_io::{FileSource, Meter, Output, Window};
 use abt_pieces::{Cutter, Piece};
 use abt_runs::{BlockRuns, RawRuns, SparseRuns};
-use abt_texts::{CommandFault, ShownPath};
+use abt_texts::{CommandFault, ShownPath, write_fault};
 use std::alloc::Global;
 use std::fs::File;
 use std::rt::Files;
@@ -48,7 +48,9 @@ pub fn cut_file<R: Files<File = File>, I, O: Output, E: Output>(
             cut_runs(session, runs, &mut source, order, w, m)?
         }
     };
-    session.report(format_args!("pieces {pieces}"))?;
+    session
+        .report(format_args!("pieces {pieces}"))
+        .map_err(write_fault)?;
     name_left_over(session, order.prefix, pieces.saturating_add(1))
 }
 
@@ -78,7 +80,9 @@ fn cut_runs<R: Files<File = File>, B: BlockRuns + Drop, I, O: Output, E: Output>
                 ..
             } = piece;
             // At once: no piece is begun before it is known that the line of the last one is out.
-            session.report(format_args!("piece {number} blocks {first} {past} bytes {bytes}"))?;
+            session
+                .report(format_args!("piece {number} blocks {first} {past} bytes {bytes}"))
+                .map_err(write_fault)?;
         }
         pieces = number;
     }

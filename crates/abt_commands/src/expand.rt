@@ -5,7 +5,7 @@ use crate::raw_file::RawFile;
 use crate::session::Session;
 use abt_chunks::{Expanded, expand};
 use abt_io::{FromRead, Meter, Output, ToWrite, Window};
-use abt_texts::CommandFault;
+use abt_texts::{CommandFault, write_fault};
 use std::fs::File;
 use std::io::Read;
 use std::rt::Files;
@@ -28,7 +28,9 @@ pub fn expand_file<R: Files<File = File>, I: Read, O: Output, E: Output>(
     session.is_unfinished = false;
     let blocks = expanded.blocks;
     let bytes = expanded.bytes;
-    session.report(format_args!("blocks {blocks} bytes {bytes}"))
+    session
+        .report(format_args!("blocks {blocks} bytes {bytes}"))
+        .map_err(write_fault)
 }
 
 fn expand_out<R: Files<File = File>, I: Read, O: Output, E: Output>(
@@ -37,9 +39,9 @@ fn expand_out<R: Files<File = File>, I: Read, O: Output, E: Output>(
     w: &mut Window,
     m: &mut Meter,
 ) -> Result<Expanded, CommandFault> {
-    let reason = session.streams.reason;
-    let mut from = FromRead::new(ForwardInput::new(file, &mut *session.streams.input, reason));
-    expand(&mut from, &mut *session.streams.out, w, m).map_err(CommandFault::Sparse)
+    let reason = session.reason;
+    let mut from = FromRead::new(ForwardInput::new(file, &mut *session.standard_input, reason));
+    expand(&mut from, &mut *session.out, w, m).map_err(CommandFault::Sparse)
 }
 
 fn expand_to<R: Files<File = File>, I: Read, O: Output, E: Output>(
@@ -49,8 +51,8 @@ fn expand_to<R: Files<File = File>, I: Read, O: Output, E: Output>(
     w: &mut Window,
     m: &mut Meter,
 ) -> Result<Expanded, CommandFault> {
-    let reason = session.streams.reason;
+    let reason = session.reason;
     let mut to = ToWrite::new(RawFile::new(session.create("OUT", output)?, reason));
-    let mut from = FromRead::new(ForwardInput::new(file, &mut *session.streams.input, reason));
+    let mut from = FromRead::new(ForwardInput::new(file, &mut *session.standard_input, reason));
     expand(&mut from, &mut to, w, m).map_err(CommandFault::Sparse)
 }

@@ -5,7 +5,7 @@
 
 use crate::identity::Identity;
 use crate::noting::Noted;
-use crate::session::{Session, identity_at, place_at};
+use crate::session::{Session, identity_at, place_at, shown_path};
 use abt_io::{DeviceFault, FilePartition, FileSource, Output, ToWrite};
 use abt_texts::{CommandFault, write_fault};
 use std::fs::{File, Metadata, OpenOptions};
@@ -39,11 +39,7 @@ impl<'a, R: Files<File = File>, I, O: Output, E: Output> Session<'a, R, I, O, E>
     }
 
     /// Opens what is read at any place. What is neither a file nor a block device has no length, and is refused.
-    pub fn open_source(
-        &mut self,
-        role: &'static str,
-        path: &str,
-    ) -> Result<FileSource, CommandFault> {
+    pub fn open_source(&mut self, role: &str, path: &str) -> Result<FileSource, CommandFault> {
         self.opening = Some(place_at(self.alloc, role, path)?);
         let file = self.opened(File::open(self.rt, path), path)?;
         let metadata = self.metadata_of(&file, path)?;
@@ -71,7 +67,7 @@ impl<'a, R: Files<File = File>, I, O: Output, E: Output> Session<'a, R, I, O, E>
     }
 
     /// Creates a file, or empties it where it was there.
-    pub fn create(&mut self, role: &'static str, path: &str) -> Result<File, CommandFault> {
+    pub fn create(&mut self, role: &str, path: &str) -> Result<File, CommandFault> {
         let mut how = OpenOptions::new();
         how.write(true).create(true);
         let file = self.open_output(&how, role, path)?;
@@ -84,10 +80,10 @@ impl<'a, R: Files<File = File>, I, O: Output, E: Output> Session<'a, R, I, O, E>
     /// The same of a file that takes small writes together.
     pub fn create_buffered(
         &mut self,
-        role: &'static str,
+        role: &str,
         path: &str,
     ) -> Result<BufferedFile<'a>, CommandFault> {
-        let file = Noted::new(self.create(role, path)?, self.streams.reason);
+        let file = Noted::new(self.create(role, path)?, self.reason);
         match BufWriter::new(self.alloc, file) {
             Ok(writer) => Ok(ToWrite::new(writer)),
             Err(_) => Err(CommandFault::Memory),
@@ -108,7 +104,7 @@ impl<'a, R: Files<File = File>, I, O: Output, E: Output> Session<'a, R, I, O, E>
     }
 
     /// Data goes to standard output, which must not be a file that is read.
-    pub fn write_to_standard_output(&mut self, role: &'static str) -> Result<(), CommandFault> {
+    pub fn write_to_standard_output(&mut self, role: &str) -> Result<(), CommandFault> {
         self.opening = Some(place_at(self.alloc, role, "-")?);
         if let Some(identity) = self.standard_output {
             self.refuse_taken(identity, "-")?;
@@ -120,7 +116,7 @@ impl<'a, R: Files<File = File>, I, O: Output, E: Output> Session<'a, R, I, O, E>
     }
 
     /// Refuses a path that is going to be written where it is a file that is read.
-    pub fn refuse_input(&mut self, role: &'static str, path: &str) -> Result<(), CommandFault> {
+    pub fn refuse_input(&mut self, role: &str, path: &str) -> Result<(), CommandFault> {
         self.opening = Some(place_at(self.alloc, role, path)?);
         match identity_at(self.rt, path) {
             Some(identity) => self.refuse_taken(identity, path),
@@ -132,7 +128,7 @@ impl<'a, R: Files<File = File>, I, O: Output, E: Output> Session<'a, R, I, O, E>
     fn open_output(
         &mut self,
         how: &OpenOptions,
-        role: &'static str,
+        role: &str,
         path: &str,
     ) -> Result<(File, Metadata), CommandFault> {
         self.opening = Some(place_at(self.alloc, role, path)?);
@@ -152,7 +148,7 @@ impl<'a, R: Files<File = File>, I, O: Output, E: Output> Session<'a, R, I, O, E>
         if metadata.is_file() && metadata.len() > 0 {
             let cut = file.set_len(0);
             if let Err(error) = cut {
-                self.streams.reason.set(error.raw_os_error());
+                self.reason.set(error.raw_os_error());
                 return Err(self.cannot_open(path));
             }
         }
@@ -178,7 +174,7 @@ impl<'a, R: Files<File = File>, I, O: Output, E: Output> Session<'a, R, I, O, E>
         if metadata.is_file() || metadata.file_type().is_block_device() {
             return Ok(());
         }
-        self.streams.reason.set(None);
+        self.reason.set(None);
         Err(self.cannot_open(path))
     }
 
@@ -187,7 +183,7 @@ impl<'a, R: Files<File = File>, I, O: Output, E: Output> Session<'a, R, I, O, E>
         match file.metadata() {
             Ok(metadata) => {
                 if metadata.is_dir() {
-                    self.streams.reason.set(Some(IS_A_FOLDER));
+                    self.reason.set(Some(IS_A_FOLDER));
                     return Err(self.cannot_open(path));
                 }
                 Ok(metadata)
@@ -207,21 +203,21 @@ impl<'a, R: Files<File = File>, I, O: Output, E: Output> Session<'a, R, I, O, E>
         if error.kind() == io::ErrorKind::OutOfMemory {
             return CommandFault::Memory;
         }
-        self.streams.reason.set(error.raw_os_error());
+        self.reason.set(error.raw_os_error());
         self.cannot_open(path)
     }
 
     fn same_file(&mut self, path: &str) -> CommandFault {
-        self.streams.reason.set(None);
-        match place_at(self.alloc, "", path) {
-            Ok(place) => CommandFault::SameFile(place.path),
+        self.reason.set(None);
+        match shown_path(self.alloc, path) {
+            Ok(path) => CommandFault::SameFile(path),
             Err(fault) => fault,
         }
     }
 
     fn cannot_open(&mut self, path: &str) -> CommandFault {
-        match place_at(self.alloc, "", path) {
-            Ok(place) => CommandFault::CannotOpen(place.path),
+        match shown_path(self.alloc, path) {
+            Ok(path) => CommandFault::CannotOpen(path),
             Err(fault) => fault,
         }
     }

@@ -4,9 +4,9 @@ ghost use Rattle.std.specs.Prelude.{◌≤◌};
 
 use crate::input::ForwardInput;
 use crate::session::Session;
-use abt_flash::{flash, resume, resume_raw};
-use abt_io::{FileSpool, FromRead, Meter, Output, Window};
-use abt_texts::CommandFault;
+use abt_flash::{Flashed, flash, resume, resume_raw};
+use abt_io::{FilePartition, FileSpool, FromRead, Meter, Output, Window};
+use abt_texts::{CommandFault, write_fault};
 use std::fs::File;
 use std::io::Read;
 use std::rt::Files;
@@ -57,11 +57,22 @@ fn flash_forward<R: Files<File = File>, I: Read, O: Output, E: Output>(
 ) -> Result<(), CommandFault> {
     let file = session.open(order.input)?;
     let mut partition = session.open_partition(order.partition)?;
-    let reason = session.streams.reason;
-    let mut from = FromRead::new(ForwardInput::new(file, &mut *session.streams.input, reason));
-    let flashed = flash(&mut from, &mut partition, w, m).map_err(CommandFault::Flash)?;
-    let blocks = flashed.blocks;
-    session.report(format_args!("blocks {blocks}"))
+    let blocks = flash_from(session, file, &mut partition, w, m)?.blocks;
+    session
+        .report(format_args!("blocks {blocks}"))
+        .map_err(write_fault)
+}
+
+fn flash_from<R: Files<File = File>, I: Read, O: Output, E: Output>(
+    session: &mut Session<'_, R, I, O, E>,
+    file: Option<File>,
+    partition: &mut FilePartition,
+    w: &mut Window,
+    m: &mut Meter,
+) -> Result<Flashed, CommandFault> {
+    let reason = session.reason;
+    let mut from = FromRead::new(ForwardInput::new(file, &mut *session.standard_input, reason));
+    flash(&mut from, partition, w, m).map_err(CommandFault::Flash)
 }
 
 // The image is read at any place, so that standard input will do only where it is a file.
@@ -101,5 +112,7 @@ fn flash_pieces<R: Files<File = File>, I: Read, O: Output, E: Output>(
         None => resume(&mut source, limit, from, &mut spool, &mut partition, w, m),
     };
     let count = delivered.map_err(CommandFault::Flash)?.pieces;
-    session.report(format_args!("pieces {count}"))
+    session
+        .report(format_args!("pieces {count}"))
+        .map_err(write_fault)
 }

@@ -14,5 +14,5 @@ pub fn info_file<R: Files<File = File>, I, O: Output, E: Output>(
     m: &mut Meter,
 ) -> Result<(), CommandFault> {
     let mut source = session.open_source("IN", input)?;
-    report_info(&mut source, &mut *session.streams.out, w, m).map_err(CommandFault::Section)
+    report_info(&mut source, &mut *session.out, w, m).map_err(CommandFault::Section)
 }

@@ -16,7 +16,7 @@ pub fn list_file<R: Files<File = File>, I: Read, O: Output, E: Output>(
     m: &mut Meter,
 ) -> Result<(), CommandFault> {
     let file = session.open(input)?;
-    let reason = session.streams.reason;
-    let mut from = FromRead::new(ForwardInput::new(file, &mut *session.streams.input, reason));
-    report_list(&mut from, &mut *session.streams.out, w, m).map_err(CommandFault::Sparse)
+    let reason = session.reason;
+    let mut from = FromRead::new(ForwardInput::new(file, &mut *session.standard_input, reason));
+    report_list(&mut from, &mut *session.out, w, m).map_err(CommandFault::Sparse)
 }

@@ -10,7 +10,7 @@ use crate::session::Session;
 use abt_headers::{HeaderFault, OsVersion};
 use abt_io::{FileSource, Meter, Output, ToWrite, Window};
 use abt_sections::{BootSpec, Packed, SectionFault, VendorSpec, pack_boot, pack_vendor};
-use abt_texts::{CommandFault, FragmentWord, ImageKind, OPTIONS, os_from_word};
+use abt_texts::{CommandFault, FragmentWord, ImageKind, OPTIONS, os_from_word, write_fault};
 use std::alloc::Global;
 use std::fs::File;
 use std::rt::Files;
@@ -32,7 +32,7 @@ pub fn pack_file<R: Files<File = File>, I, O: Output, E: Output>(
     let ramdisks = Ramdisks::open(session, fragments.as_slice())?;
     let file = session.create("OUT", words.output)?;
     session.input = None;
-    let mut output = ToWrite::new(Noted::new(file, session.streams.reason));
+    let mut output = ToWrite::new(Noted::new(file, session.reason));
     let packed = match kind {
         ImageKind::Boot(version) => {
             pack_boot_parts(&boot_spec(version, words, os), parts, &mut output, w, m)
@@ -44,7 +44,9 @@ pub fn pack_file<R: Files<File = File>, I, O: Output, E: Output>(
     };
     let bytes = packed.map_err(CommandFault::Section)?.bytes;
     session.is_unfinished = false;
-    session.report(format_args!("bytes {bytes}"))
+    session
+        .report(format_args!("bytes {bytes}"))
+        .map_err(write_fault)
 }
 
 fn header_fault(fault: HeaderFault) -> CommandFault {

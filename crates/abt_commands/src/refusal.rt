@@ -1,6 +1,6 @@
 //! The second line of a refusal: which file it is about, and why.
 
-use crate::session::{Place, Session};
+use crate::session::Session;
 use abt_flash::FlashFault;
 use abt_texts::{CommandFault, Side, advice, is_of_a_device, side_of};
 use std::alloc::{AllocError, Global};
@@ -20,13 +20,10 @@ fn line_of<R, I, O, E>(
 ) -> Result<String, AllocError> {
     let alloc = session.alloc;
     let side = side_of(fault);
-    let why = why(alloc, session.streams.reason.get(), fault)?;
+    let why = why(alloc, session.reason.get(), fault)?;
     let why = why.as_str();
     let about = match place_of(session, side) {
-        Some(place) => {
-            let Place { role, path } = place;
-            format!(in alloc; "  {role} {path}: {why}")?
-        }
+        Some(place) => format!(in alloc; "  {place}: {why}")?,
         None => format!(in alloc; "  {why}")?,
     };
     let about = match fault {
@@ -36,14 +33,17 @@ fn line_of<R, I, O, E>(
         _ => about,
     };
     match &session.output {
-        Some(Place { role, path }) if session.is_unfinished => {
-            format!(in alloc; "{about}; {role} {path} is broken off")
+        Some(place) if session.is_unfinished => {
+            format!(in alloc; "{about}; {place} is broken off")
         }
         _ => format!(in alloc; "{about}"),
     }
 }
 
-fn place_of<'s, R, I, O, E>(session: &'s Session<'_, R, I, O, E>, side: Side) -> Option<&'s Place> {
+fn place_of<'s, R, I, O, E>(
+    session: &'s Session<'_, R, I, O, E>,
+    side: Side,
+) -> Option<&'s String> {
     match side {
         Side::Opening => session.opening.as_ref(),
         Side::Input => session.input.as_ref(),

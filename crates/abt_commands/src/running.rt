@@ -67,13 +67,13 @@ fn carry_out<R: Files<File = File>, I: Read, O: Output, E: Output>(
 ) -> u8
     ensures { result ≤ 2 }
 {
-    let is_verbose = order.is_verbose || session.streams.is_terminal;
+    let is_verbose = order.is_verbose || session.is_terminal;
     let outcome = obey(&mut session, order.task, w, m);
     let line = match &outcome {
         Err(fault) if is_verbose => second_line(&session, fault),
         _ => None,
     };
-    let answer = status(outcome, &mut *session.streams.err);
+    let answer = status(outcome, &mut *session.err);
     if let Some(line) = line {
         session.note(line.as_str());
     }

@@ -2,7 +2,7 @@
 
 use crate::identity::Identity;
 use abt_io::{DeviceFault, Output};
-use abt_texts::{CommandFault, ShownPath, print_line, write_fault};
+use abt_texts::{CommandFault, ShownPath, print_line};
 use std::alloc::Global;
 use std::cell::Cell;
 use std::rt::Files;
@@ -26,41 +26,48 @@ pub struct Streams<'a, I, O, E> {
     pub reason: &'a Reason,
 }
 
-/// A file as the second line of a refusal names it.
-#[derive(Debug, Drop)]
-pub struct Place {
-    /// The word that gave it, as `IN`.
-    pub role: &'static str,
-    /// Its path, which a terminal can show.
-    pub path: String,
-}
-
 /// What a command has at hand, and what it has opened.
 #[derive(Drop)]
 pub struct Session<'a, R, I, O, E> {
     pub rt: &'a R,
     pub alloc: Global,
-    pub streams: Streams<'a, I, O, E>,
+    pub standard_input: &'a mut I,
+    pub out: &'a mut O,
+    pub err: &'a mut E,
+    pub is_terminal: bool,
+    pub reason: &'a Reason,
     /// The files that are read, and the partition: none of them may be an output.
     pub taken: Vec<Identity>,
     /// Standard output, where the system tells what it is.
     pub standard_output: Option<Identity>,
     /// Whether data goes to standard output: then no report does.
     pub is_data_on_output: bool,
-    pub opening: Option<Place>,
-    pub input: Option<Place>,
-    pub output: Option<Place>,
-    pub spool: Option<Place>,
+    /// What a refusal is about: each file by the word that gave it and its path, as `IN raw.img`.
+    pub opening: Option<String>,
+    pub input: Option<String>,
+    pub output: Option<String>,
+    pub spool: Option<String>,
     /// Whether the output was begun and isn't whole.
     pub is_unfinished: bool,
 }
 
 impl<'a, R: Files, I, O: Output, E: Output> Session<'a, R, I, O, E> {
     pub fn new(rt: &'a R, alloc: Global, streams: Streams<'a, I, O, E>) -> Session<'a, R, I, O, E> {
+        let Streams {
+            input,
+            out,
+            err,
+            is_terminal,
+            reason,
+        } = streams;
         Session {
             rt,
             alloc,
-            streams,
+            standard_input: input,
+            out,
+            err,
+            is_terminal,
+            reason,
             taken: Vec::new(alloc),
             standard_output: identity_at(rt, "/dev/stdout"),
             is_data_on_output: false,
@@ -73,33 +80,21 @@ impl<'a, R: Files, I, O: Output, E: Output> Session<'a, R, I, O, E> {
     }
 
     /// Prints a line of the report, to standard output, or to standard error where data goes to standard output.
-    pub fn report<D: fmt::Display + Drop>(&mut self, line: D) -> Result<(), CommandFault> {
+    pub fn report<D: fmt::Display + Drop>(&mut self, line: D) -> Result<(), DeviceFault> {
         let told = if self.is_data_on_output {
-            print_line(&mut *self.streams.err, line)
+            print_line(&mut *self.err, line)
         } else {
-            print_line(&mut *self.streams.out, line)
+            print_line(&mut *self.out, line)
         };
-        match told {
-            Ok(()) => Ok(()),
-            Err(fault) => Err(self.not_reported(fault)),
+        if told.is_err() {
+            self.output = place_at(self.alloc, "report", "standard output").ok();
         }
-    }
-
-    // The report could not be printed.
-    fn not_reported(&mut self, fault: DeviceFault) -> CommandFault {
-        self.is_unfinished = false;
-        match place_at(self.alloc, "report", "standard output") {
-            Ok(place) => {
-                self.output = Some(place);
-                write_fault(fault)
-            }
-            Err(fault) => fault,
-        }
+        told
     }
 
     /// Prints a line to standard error, which nothing rests on.
     pub fn note<D: fmt::Display + Drop>(&mut self, line: D) {
-        let _ = print_line(&mut *self.streams.err, line);
+        let _ = print_line(&mut *self.err, line);
     }
 }
 
@@ -112,10 +107,19 @@ pub fn identity_at<R: Files>(rt: &R, path: &str) -> Option<Identity> {
 }
 
 /// A file as the second line of a refusal names it.
-pub fn place_at(alloc: Global, role: &'static str, path: &str) -> Result<Place, CommandFault> {
+pub fn place_at(alloc: Global, role: &str, path: &str) -> Result<String, CommandFault> {
+    let shown = ShownPath(path);
+    match format!(in alloc; "{role} {shown}") {
+        Ok(place) => Ok(place),
+        Err(_) => Err(CommandFault::Memory),
+    }
+}
+
+/// A path as the first line of a refusal names it.
+pub fn shown_path(alloc: Global, path: &str) -> Result<String, CommandFault> {
     let shown = ShownPath(path);
     match format!(in alloc; "{shown}") {
-        Ok(path) => Ok(Place { role, path }),
+        Ok(path) => Ok(path),
         Err(_) => Err(CommandFault::Memory),
     }
 }

@@ -5,7 +5,7 @@ use crate::session::Session;
 use abt_io::{FileSource, Meter, Output, Window};
 use abt_runs::{BlockRuns, RawRuns};
 use abt_sparsify::{Written, sparsify};
-use abt_texts::CommandFault;
+use abt_texts::{CommandFault, write_fault};
 use std::fs::File;
 use std::rt::Files;
 
@@ -33,7 +33,7 @@ pub fn sparse_file<R: Files<File = File>, I, O: Output, E: Output>(
     let mut source = session.open_source("IN", order.input)?;
     let written = if order.output == "-" {
         session.write_to_standard_output("OUT")?;
-        let out = &mut *session.streams.out;
+        let out = &mut *session.out;
         sparse_into(&mut source, order.block, out, w, m)?
     } else {
         let mut output = session.create_buffered("OUT", order.output)?;
@@ -45,7 +45,9 @@ pub fn sparse_file<R: Files<File = File>, I, O: Output, E: Output>(
     let blocks = written.blocks;
     let chunks = written.chunks;
     let bytes = written.bytes;
-    session.report(format_args!("blocks {blocks} chunks {chunks} bytes {bytes}"))
+    session
+        .report(format_args!("blocks {blocks} chunks {chunks} bytes {bytes}"))
+        .map_err(write_fault)
 }
 
 // A block size that no raw image has is refused before it divides.

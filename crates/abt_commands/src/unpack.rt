@@ -5,7 +5,7 @@ use crate::session::Session;
 use abt_headers::Section;
 use abt_io::{FileSource, Meter, Output, ToWrite, Window};
 use abt_sections::{Image, fragment, fragments, open, section, sections, unpack, unpack_fragment};
-use abt_texts::CommandFault;
+use abt_texts::{CommandFault, write_fault};
 use std::alloc::Global;
 use std::fs::File;
 use std::rt::Files;
@@ -74,10 +74,12 @@ fn unpack_sections<R: Files<File = File>, I, O: Output, E: Output>(
         let size = place.size;
         let path = section_path(session.alloc, folder, kind)?;
         let file = session.create("PART", path.as_str())?;
-        let mut to = ToWrite::new(Noted::new(file, session.streams.reason));
+        let mut to = ToWrite::new(Noted::new(file, session.reason));
         unpack(image, i, source, &mut to, w, m).map_err(CommandFault::Section)?;
         session.is_unfinished = false;
-        session.report(format_args!("{kind} {size}"))?;
+        session
+            .report(format_args!("{kind} {size}"))
+            .map_err(write_fault)?;
     }
     Ok(())
 }
@@ -94,12 +96,14 @@ fn unpack_fragments<R: Files<File = File>, I, O: Output, E: Output>(
         m.tick();
         let path = fragment_path(session.alloc, folder, i)?;
         let file = session.create("PART", path.as_str())?;
-        let mut to = ToWrite::new(Noted::new(file, session.streams.reason));
+        let mut to = ToWrite::new(Noted::new(file, session.reason));
         let entry = fragment(image, i, source, w, m).map_err(CommandFault::Section)?;
         unpack_fragment(image, i, source, &mut to, w, m).map_err(CommandFault::Section)?;
         session.is_unfinished = false;
         let size = entry.ramdisk_size;
-        session.report(format_args!("fragment {i} {size}"))?;
+        session
+            .report(format_args!("fragment {i} {size}"))
+            .map_err(write_fault)?;
     }
     Ok(())
 }
