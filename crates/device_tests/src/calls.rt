@@ -1,6 +1,6 @@
 //! Each call of a trait through its bound, and the counts, which take no bytes.
 
-ghost use Rattle.std.specs.Prelude.{◌≤◌, ◌+◌, ◌<◌, ◌^◌, length};
+ghost use Rattle.std.specs.Prelude.{◌≤◌, ◌+◌, ◌<◌, length};
 
 use abt_io::*;
 use std::mem::size_of;

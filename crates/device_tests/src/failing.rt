@@ -139,3 +139,20 @@ fn the_first_write_over_the_byte_is_marred_and_no_other(rt: HostRuntime) {
     }
     assert_eq!(rt; room.as_slice(), b"abcdef".as_slice());
 }
+
+#[test]
+fn a_marred_range_is_filled_as_far_as_the_partition_takes(rt: HostRuntime) {
+    let mut room = *b"......";
+    let mut m = Meter::new();
+    {
+        let partition = Cut::new(SlicePartition::new(&mut room), 1);
+        let mut partition = Marred::new(partition, 3, b'?');
+        assert_eq!(rt;
+            write_all_at(&mut partition, 2, b"cd", &mut m),
+            Err(DeviceFault::Failed)
+        );
+        // A second write over the byte passes.
+        assert_eq!(rt; write_all_at(&mut partition, 3, b"d", &mut m), Ok(()));
+    }
+    assert_eq!(rt; room, *b"..?d..");
+}

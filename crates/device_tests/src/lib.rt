@@ -4,6 +4,7 @@
 //! |---|---|
 //! | `calls.rt` | each call of a trait through its bound, as the other files make it; counts take no bytes |
 //! | `movers.rt` | the movers, over each device in memory |
+//! | `overwriting.rt` | bytes that are written over what stands in an output |
 //! | `failing.rt` | each call of each trait fails in turn, and does not reach the device |
 //! | `crashes.rt` | what a crash leaves behind each call, with each pick |
 //! | `files.rt` | devices over real files |
@@ -20,5 +21,7 @@ mod failing;
 mod files;
 #[cfg(test)]
 mod movers;
+#[cfg(test)]
+mod overwriting;
 #[cfg(test)]
 mod streams;

@@ -1,5 +1,7 @@
 //! The movers, over each device in memory.
 
+ghost use Rattle.std.specs.Prelude.{◌≤◌, length};
+
 use crate::calls::{capacity_of, length_of, partition_calls, spool_calls};
 use abt_io::*;
 
@@ -31,6 +33,23 @@ fn writing_into_a_full_output_fails(rt: HostRuntime) {
     assert_eq!(rt; output.written(), b"abc".as_slice());
     // An empty write finds room even there.
     assert_eq!(rt; write_out(&mut output, b"", &mut m), Ok(()));
+}
+
+/// One write of an output.
+fn write<O: Output>(output: &mut O, bytes: &[u8]) -> Result<usize, DeviceFault>
+    requires { length bytes.now ≤ 65536 }
+{
+    output.write(bytes)
+}
+
+#[test]
+fn an_output_takes_as_much_as_has_room_and_refuses_a_nonempty_write_alone(rt: HostRuntime) {
+    let mut room = [0u8; 3];
+    let mut output = SliceOutput::new(&mut room);
+    assert_eq!(rt; write(&mut output, b"abcde"), Ok(3));
+    assert_eq!(rt; write(&mut output, b""), Ok(0));
+    assert_eq!(rt; write(&mut output, b"d"), Err(DeviceFault::Full));
+    assert_eq!(rt; output.written(), b"abc".as_slice());
 }
 
 #[test]
