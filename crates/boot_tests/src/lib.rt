@@ -4,12 +4,20 @@
 //! |---|---|
 //! | `records.rt` | the records at bytes that another program wrote, places, the order of faults |
 //! | `vectors.rt` | those bytes |
+//! | `samples.rt` | fields, parts and images that tests pack, here and in other crates of tests |
 //! | `images.rt` | whole images: packed, opened, checked and unpacked |
+//! | `failing.rt` | one failing call at each place |
+//! | `changing.rt` | sources that change |
 #![tactic(auto)]
 
+#[cfg(test)]
+mod changing;
+#[cfg(test)]
+mod failing;
 #[cfg(test)]
 mod images;
 #[cfg(test)]
 mod records;
+pub mod samples;
 #[cfg(test)]
 mod vectors;

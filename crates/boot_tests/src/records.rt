@@ -53,7 +53,7 @@ fn decodes_to_vendor(rt: &impl Abort, record: &[u8], header: &VendorHeader) {
 }
 
 #[test]
-fn mkbootimg_writes_boot_0(rt: HostRuntime) -> Result<(), Fail> {
+fn the_boot_0_record_of_mkbootimg_is_read(rt: HostRuntime) -> Result<(), Fail> {
     let id = b"\xdcU\xf0k{\x12\x7f\x17\xfd\x9f\xa6\xe1\xca\x91\xd0$\x97\x82<\xa1";
     let header = BootHeader::V0(BootFront {
         kernel_size: 8,
@@ -77,7 +77,7 @@ fn mkbootimg_writes_boot_0(rt: HostRuntime) -> Result<(), Fail> {
 }
 
 #[test]
-fn mkbootimg_writes_boot_1(rt: HostRuntime) -> Result<(), Fail> {
+fn the_boot_1_record_of_mkbootimg_is_read(rt: HostRuntime) -> Result<(), Fail> {
     let id = b"SaXu\x81n6\x15\x91\x8e\x99\xa0\x155\xe5\xf3\x19/\x164";
     let front = BootFront {
         kernel_size: 8,
@@ -107,7 +107,7 @@ fn mkbootimg_writes_boot_1(rt: HostRuntime) -> Result<(), Fail> {
 }
 
 #[test]
-fn mkbootimg_writes_boot_2(rt: HostRuntime) -> Result<(), Fail> {
+fn the_boot_2_record_of_mkbootimg_is_read(rt: HostRuntime) -> Result<(), Fail> {
     let id = b"0\x16\xad\x5c\xf5q\xc7\xf1u\xa4\xddv\x0b\xb3\xca\x5c_Ds8";
     let front = BootFront {
         kernel_size: 8,
@@ -142,7 +142,7 @@ fn mkbootimg_writes_boot_2(rt: HostRuntime) -> Result<(), Fail> {
 
 // This `mkbootimg` writes 1,596 as the header's size, and 2,108 below: they are kept as read.
 #[test]
-fn mkbootimg_writes_boot_3(rt: HostRuntime) -> Result<(), Fail> {
+fn the_boot_3_record_of_mkbootimg_is_read(rt: HostRuntime) -> Result<(), Fail> {
     let header = BootHeader::V3(ShortFront {
         kernel_size: 8,
         ramdisk_size: 11,
@@ -158,7 +158,7 @@ fn mkbootimg_writes_boot_3(rt: HostRuntime) -> Result<(), Fail> {
 }
 
 #[test]
-fn mkbootimg_writes_vendor_3(rt: HostRuntime) {
+fn the_vendor_3_record_of_mkbootimg_is_read(rt: HostRuntime) {
     let header = VendorHeader::V3(VendorFront {
         page_size: PageSize::Of2048,
         kernel_addr: 0x1000_8000,
@@ -242,7 +242,7 @@ fn stand_at(rt: &impl Abort, sections: &Sections, places: &[(Section, u64, u32)]
 }
 
 #[test]
-fn places_of_boot_images(rt: HostRuntime) {
+fn sections_of_a_boot_image_stand_at_page_boundaries(rt: HostRuntime) {
     let one = BootHeader::V0(front(PageSize::Of2048, 1, 0, 0));
     let places = [
         (Section::Kernel, 2048, 1),
@@ -283,7 +283,7 @@ fn places_of_boot_images(rt: HostRuntime) {
 }
 
 #[test]
-fn places_above_32_bits(rt: HostRuntime) {
+fn places_may_lie_above_32_bits(rt: HostRuntime) {
     let most = u32::MAX;
     let large = BootHeader::V1(front(PageSize::Of131072, most, most, most), dtbo(most));
     let places = [
@@ -296,7 +296,7 @@ fn places_above_32_bits(rt: HostRuntime) {
 }
 
 #[test]
-fn places_of_vendor_boot_images(rt: HostRuntime) {
+fn sections_of_a_vendor_image_stand_at_page_boundaries(rt: HostRuntime) {
     // The header takes two pages.
     let three = VendorHeader::V3(vendor_front(PageSize::Of2048, 10, 3));
     let places = [(Section::VendorRamdisk, 4096, 10), (Section::Dtb, 6144, 3)];
@@ -351,7 +351,7 @@ fn refuses(rt: &impl Abort, bytes: &[u8; 1660], length: usize, fault: HeaderFaul
 }
 
 #[test]
-fn boot_faults_in_order(rt: HostRuntime) {
+fn a_boot_record_is_refused_for_its_first_fault(rt: HostRuntime) {
     let mut bytes = record::<1660>(&rt, &[(0, b"ANDROID!")]);
     refuses(&rt, &bytes, 7, HeaderFault::Short { need: 8 });
     refuses(&rt, &bytes, 43, HeaderFault::Short { need: 44 });
@@ -374,7 +374,7 @@ fn boot_faults_in_order(rt: HostRuntime) {
 }
 
 #[test]
-fn page_sizes(rt: HostRuntime) {
+fn seven_page_sizes_are_accepted(rt: HostRuntime) {
     let mut bytes = record::<1660>(&rt, &[(0, b"ANDROID!")]);
     for page in [0u32, 1, 1024, 2047, 3000, 4097, 262_144, 0x8000_0800] {
         bytes[36..40].copy_from_slice(&page.to_le_bytes());
@@ -401,7 +401,7 @@ fn refuses_vendor(rt: &impl Abort, bytes: &[u8; 2128], length: usize, fault: Hea
 }
 
 #[test]
-fn vendor_faults_in_order(rt: HostRuntime) {
+fn a_vendor_record_is_refused_for_its_first_fault(rt: HostRuntime) {
     let mut bytes = record::<2128>(&rt, &[(0, b"VNDRBOOT")]);
     refuses_vendor(&rt, &bytes, 7, HeaderFault::Short { need: 8 });
     refuses_vendor(&rt, &bytes, 11, HeaderFault::Short { need: 12 });
@@ -439,7 +439,7 @@ fn with_table(rt: &impl Abort, size: u32, entries: u32, entry_size: u32) -> [u8;
 }
 
 #[test]
-fn tables_of_whole_entries(rt: HostRuntime) {
+fn a_table_has_whole_entries(rt: HostRuntime) {
     let header = VendorHeader::V4(
         vendor_front(PageSize::Of2048, 0, 0),
         VendorTail {
@@ -464,7 +464,7 @@ fn tables_of_whole_entries(rt: HostRuntime) {
 }
 
 #[test]
-fn entry_of_a_ramdisk_table(rt: HostRuntime) {
+fn an_entry_of_a_ramdisk_table_is_read_and_written(rt: HostRuntime) {
     let mut bytes = record::<108>(
         &rt,
         &[
@@ -489,7 +489,7 @@ fn entry_of_a_ramdisk_table(rt: HostRuntime) {
 }
 
 #[test]
-fn os_versions(rt: HostRuntime) -> Result<(), Fail> {
+fn an_os_version_is_its_bits(rt: HostRuntime) -> Result<(), Fail> {
     let os = OsVersion::new(13, 0, 0, 2023, 5)?;
     assert_eq!(rt; os.raw(), 436_207_989);
     assert_eq!(rt; os.raw().to_le_bytes(), [0x75, 0x01, 0x00, 0x1a]);
@@ -524,7 +524,7 @@ fn os_versions(rt: HostRuntime) -> Result<(), Fail> {
 }
 
 #[test]
-fn texts(rt: HostRuntime) -> Result<(), Fail> {
+fn each_fault_and_section_has_its_text(rt: HostRuntime) -> Result<(), Fail> {
     for (fault, number, want) in [
         (HeaderFault::Magic, 20, "20 Magic"),
         (HeaderFault::Version(5), 21, "21 Version 5"),
@@ -550,7 +550,7 @@ fn texts(rt: HostRuntime) -> Result<(), Fail> {
 
 // These say something and do nothing.
 #[test]
-fn laws() {
+fn the_laws_are_there() {
     front_decides();
     vendor_front_decides();
     boot_again();

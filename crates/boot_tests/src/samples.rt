@@ -1,0 +1,171 @@
+//! Fields, parts and images that tests pack, here and in other crates of tests.
+
+ghost use Rattle.std.specs.Prelude.{◌≡◌};
+
+use abt_headers::OsVersion;
+use abt_io::{Meter, SliceOutput, SliceSource, Window};
+use abt_sections::{
+    BootSpec, FragmentSpec, Image, Packed, VendorSpec, Verdict, check, open, pack_boot,
+    pack_vendor, section, sections,
+};
+use std::process::Abort;
+
+pub fn boot(version: u32, page: u32) -> BootSpec<'static>
+    ensures { result.version ≡ version }
+{
+    BootSpec {
+        version,
+        page,
+        kernel_addr: 0,
+        ramdisk_addr: 0,
+        second_addr: 0,
+        tags_addr: 0,
+        dtb_addr: 0,
+        os: OsVersion::from_raw(0),
+        name: &[],
+        cmdline: &[],
+    }
+}
+
+pub fn with_texts<'a>(name: &'a [u8], cmdline: &'a [u8]) -> BootSpec<'a>
+    ensures { result.version ≡ 0 }
+{
+    BootSpec {
+        version: 0,
+        page: 2048,
+        kernel_addr: 0,
+        ramdisk_addr: 0,
+        second_addr: 0,
+        tags_addr: 0,
+        dtb_addr: 0,
+        os: OsVersion::from_raw(0),
+        name,
+        cmdline,
+    }
+}
+
+pub fn vendor(version: u32, page: u32) -> VendorSpec<'static>
+    ensures { result.version ≡ version }
+{
+    VendorSpec {
+        version,
+        page,
+        kernel_addr: 0,
+        ramdisk_addr: 0,
+        tags_addr: 0,
+        dtb_addr: 0,
+        name: &[],
+        cmdline: &[],
+    }
+}
+
+pub fn verdict(canonical: bool, padding: bool, id: bool, offset: bool) -> Verdict {
+    Verdict {
+        padding,
+        id,
+        offset,
+        canonical,
+    }
+}
+
+/// Packs the image of one kernel byte `K` of version 0 with pages of 2,048 bytes.
+pub fn pack_k(rt: &impl Abort, room: &mut [u8], w: &mut Window, m: &mut Meter) {
+    let mut parts = [
+        SliceSource::new(b"K"),
+        SliceSource::new(&[]),
+        SliceSource::new(&[]),
+    ];
+    let mut output = SliceOutput::new(room);
+    let packed = pack_boot(&boot(0, 2048), &mut parts, &mut output, w, m);
+    assert!(rt; packed == Ok(Packed { bytes: 4096 }));
+}
+
+/// The first `n` bytes.
+pub fn front(bytes: &[u8], n: usize) -> &[u8] {
+    &bytes[..n.min(bytes.len())]
+}
+
+pub fn set_byte(bytes: &mut [u8], at: usize, byte: u8) {
+    if at < bytes.len() {
+        bytes[at] = byte;
+    }
+}
+
+pub fn opened(rt: &impl Abort, bytes: &[u8], w: &mut Window, m: &mut Meter) -> Image {
+    open(&mut SliceSource::new(bytes), w, m).expect(rt, "opens")
+}
+
+pub fn checked(rt: &impl Abort, bytes: &[u8], w: &mut Window, m: &mut Meter) -> Verdict {
+    let image = opened(rt, bytes, w, m);
+    check(&image, &mut SliceSource::new(bytes), w, m).expect(rt, "checks")
+}
+
+pub fn assert_places(rt: &impl Abort, image: &Image, want: &[u64]) {
+    for (i, at) in want.iter().enumerate() {
+        if i < sections(image) {
+            assert!(rt; section(image, i).at == *at);
+        } else {
+            assert!(rt; false);
+        }
+    }
+}
+
+pub const PLAIN: FragmentSpec = FragmentSpec {
+    kind: 1,
+    name: [0; 32],
+    board_id: [0; 16],
+};
+
+/// Packs fragments of 5 and 7 bytes, a dtb of 1 and a bootconfig of 2 bytes.
+pub fn pack_four(
+    rt: &impl Abort,
+    page: u32,
+    room: &mut [u8],
+    w: &mut Window,
+    m: &mut Meter,
+) -> u64 {
+    let mut ramdisks = [SliceSource::new(b"first"), SliceSource::new(b"second!")];
+    let mut dtb = SliceSource::new(b"d");
+    let mut bootconfig = SliceSource::new(b"bc");
+    let mut output = SliceOutput::new(room);
+    let packed = pack_vendor(
+        &vendor(4, page),
+        &[PLAIN, PLAIN],
+        &mut ramdisks,
+        &mut dtb,
+        &mut bootconfig,
+        &mut output,
+        w,
+        m,
+    );
+    packed.expect(rt, "packs").bytes
+}
+
+/// The numbers from 0 to 250, again and again.
+pub fn numbers() -> [u8; 3000] {
+    let mut bytes = [0u8; 3000];
+    for i in 0..3000 {
+        bytes[i] = (i % 251) as u8;
+    }
+    bytes
+}
+
+/// How long the parts of the image of version 2 are, each the first of `numbers`.
+pub const FIVE: [usize; 5] = [3000, 1, 0, 5, 2049];
+
+/// Packs the image of version 2 of these parts, with pages of 2,048 bytes.
+pub fn pack_five(rt: &impl Abort, room: &mut [u8; 14336]) {
+    let bytes = numbers();
+    let mut parts = [
+        SliceSource::new(&bytes),
+        SliceSource::new(&bytes[..1]),
+        SliceSource::new(&[]),
+        SliceSource::new(&bytes[..5]),
+        SliceSource::new(&bytes[..2049]),
+    ];
+    let mut output = SliceOutput::new(room);
+    let mut w = Window::new();
+    let mut m = Meter::new();
+    let packed = pack_boot(&boot(2, 2048), &mut parts, &mut output, &mut w, &mut m);
+    assert!(rt; packed == Ok(Packed { bytes: 14336 }));
+}
