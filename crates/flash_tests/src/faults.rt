@@ -6,7 +6,7 @@ use abt_sparse::SparseFault;
 use std::test::Fail;
 
 #[test]
-fn numbers_and_texts(rt: HostRuntime) -> Result<(), Fail> {
+fn each_fault_has_its_number_and_text(rt: HostRuntime) -> Result<(), Fail> {
     let failed = DeviceFault::Failed;
     let rows = [
         (
@@ -52,7 +52,7 @@ fn numbers_and_texts(rt: HostRuntime) -> Result<(), Fail> {
 }
 
 #[test]
-fn causes(rt: HostRuntime) -> Result<(), Fail> {
+fn each_cause_has_its_number_and_text(rt: HostRuntime) -> Result<(), Fail> {
     let failed = DeviceFault::Failed;
     let rows = [
         (Cause::Read(failed), 11, "11"),

@@ -41,7 +41,7 @@ fn holds(room: &[u8; 16], count: usize) -> bool {
 }
 
 #[test]
-fn image_a(rt: HostRuntime) {
+fn raw_and_fill_are_written_and_the_rest_is_left(rt: HostRuntime) {
     for most in [1, 13, 1000] {
         let most = most.max(1);
         let mut room = [255u8; 16];
@@ -51,14 +51,14 @@ fn image_a(rt: HostRuntime) {
 }
 
 #[test]
-fn nothing(rt: HostRuntime) {
+fn an_image_of_no_blocks_writes_nothing(rt: HostRuntime) {
     let mut room = [255u8; 16];
     assert_eq!(rt; flashed(&EMPTY, 13, &mut room), Ok(Flashed { blocks: 0 }));
     assert!(rt; holds(&room, 0));
 }
 
 #[test]
-fn behind_a_checksum(rt: HostRuntime) {
+fn bytes_behind_the_last_chunk_are_left_unread(rt: HostRuntime) {
     let mut image = [0x7Fu8; 89];
     image[..88].copy_from_slice(&WITH_CHECKSUM);
     let mut room = [255u8; 16];
@@ -74,7 +74,7 @@ fn behind_a_checksum(rt: HostRuntime) {
 }
 
 #[test]
-fn too_small(rt: HostRuntime) {
+fn a_partition_that_is_too_small_is_left_as_it_was(rt: HostRuntime) {
     let mut room = [255u8; 11];
     assert_eq!(rt;
         flashed(&THREE_KINDS, 13, &mut room),
@@ -96,7 +96,7 @@ fn too_small(rt: HostRuntime) {
 }
 
 #[test]
-fn too_small_for_a_header(rt: HostRuntime) {
+fn a_small_partition_is_refused_behind_the_header(rt: HostRuntime) {
     let mut room = [255u8; 11];
     assert_eq!(rt;
         flashed(&THREE_KINDS[..28], 13, &mut room),
@@ -110,7 +110,7 @@ fn too_small_for_a_header(rt: HostRuntime) {
 }
 
 #[test]
-fn too_small_for_a_longer_header(rt: HostRuntime) {
+fn a_small_partition_is_refused_behind_the_longer_header(rt: HostRuntime) {
     let mut room = [255u8; 3];
     assert_eq!(rt;
         flashed(&LONG_HEADERS[..32], 13, &mut room),
@@ -124,7 +124,7 @@ fn too_small_for_a_longer_header(rt: HostRuntime) {
 }
 
 #[test]
-fn more_than_any_partition(rt: HostRuntime) {
+fn the_most_blocks_need_more_than_any_partition(rt: HostRuntime) {
     let mut image = [0u8; 40];
     image[..28].copy_from_slice(&EMPTY);
     image[16..20].copy_from_slice(&[255, 255, 255, 255]);
@@ -141,7 +141,7 @@ fn more_than_any_partition(rt: HostRuntime) {
 }
 
 #[test]
-fn each_beginning(rt: HostRuntime) {
+fn each_beginning_is_truncated_and_what_it_gives_stands(rt: HostRuntime) {
     for m in 0..88 {
         let came = if m < 40 {
             0
@@ -162,7 +162,7 @@ fn each_beginning(rt: HostRuntime) {
 }
 
 #[test]
-fn a_fault_behind_blocks(rt: HostRuntime) {
+fn blocks_before_a_bad_chunk_stand(rt: HostRuntime) {
     let mut room = [255u8; 16];
     assert_eq!(rt;
         flashed(&TOO_MANY, 13, &mut room),
@@ -173,7 +173,7 @@ fn a_fault_behind_blocks(rt: HostRuntime) {
 
 /// A fill of more words than the window holds, 40,000 of them, behind a gap of two blocks.
 #[test]
-fn a_long_fill(rt: HostRuntime) {
+fn a_fill_longer_than_a_window_is_written(rt: HostRuntime) {
     let mut image = [0u8; 56];
     image[..28].copy_from_slice(&EMPTY);
     image[16..20].copy_from_slice(&[0x42, 0x9C, 0, 0]);
@@ -194,34 +194,39 @@ fn a_long_fill(rt: HostRuntime) {
     assert_eq!(rt; room[160_008], 9);
 }
 
-#[test]
-fn each_read_fails(rt: HostRuntime) {
-    let mut clean = false;
-    for n in 1..100 {
-        let mut room = [255u8; 16];
-        let answer = {
-            let mut input = Faulty::new(
-                Cut::new(Forward::new(SliceSource::new(&THREE_KINDS)), 5),
-                n,
-            );
-            let mut partition = SlicePartition::new(&mut room);
-            let mut w = Window::new();
-            let mut m = Meter::new();
-            flash(&mut input, &mut partition, &mut w, &mut m)
-        };
-        if answer == DONE_A {
-            assert!(rt; holds(&room, 8));
-            clean = true;
-            break;
-        }
-        assert_eq!(rt; answer, Err(FlashFault::Read(DeviceFault::Failed)));
-        assert!(rt; holds(&room, 0) || holds(&room, 4) || holds(&room, 8));
-    }
-    assert!(rt; clean);
+/// Flashes image `THREE_KINDS` where call `n` of the input fails, at 0 none: the answer, and how many calls there were.
+fn read_fails(n: u64, room: &mut [u8; 16]) -> (Result<Flashed, FlashFault>, u64) {
+    let mut input = Faulty::new(Cut::new(Forward::new(SliceSource::new(&THREE_KINDS)), 5), n);
+    let mut partition = SlicePartition::new(room);
+    let mut w = Window::new();
+    let mut m = Meter::new();
+    let answer = flash(&mut input, &mut partition, &mut w, &mut m);
+    (answer, input.seen)
 }
 
-/// Call `n` of the partition fails, and then the power does.
-fn stopped(n: u64, pick: Pick, room: &mut [u8; 16]) -> Result<Flashed, FlashFault> {
+#[test]
+fn each_read_fails_and_whole_chunks_stand(rt: HostRuntime) {
+    let mut room = [255u8; 16];
+    let (answer, calls) = read_fails(0, &mut room);
+    assert_eq!(rt; answer, DONE_A);
+    // 28 bytes, three times twelve and twice four, at most five in a call.
+    assert_eq!(rt; calls, 6 + 3 * 3 + 2);
+    for n in 1..calls.saturating_add(2) {
+        let mut room = [255u8; 16];
+        let (answer, had) = read_fails(n, &mut room);
+        if n > calls {
+            assert_eq!(rt; answer, DONE_A);
+            assert!(rt; holds(&room, 8));
+        } else {
+            assert_eq!(rt; answer, Err(FlashFault::Read(DeviceFault::Failed)));
+            assert!(rt; holds(&room, 0) || holds(&room, 4) || holds(&room, 8));
+            assert_eq!(rt; had, n);
+        }
+    }
+}
+
+/// Call `n` of the partition fails, at 0 none, and then the power does: the answer, and how many calls there were.
+fn stopped(n: u64, pick: Pick, room: &mut [u8; 16]) -> (Result<Flashed, FlashFault>, u64) {
     let mut stable = [0u8; 16];
     let mut touched = [0u8; 16];
     let partition = CrashPartition::new(room, &mut stable, &mut touched);
@@ -230,16 +235,23 @@ fn stopped(n: u64, pick: Pick, room: &mut [u8; 16]) -> Result<Flashed, FlashFaul
     let mut w = Window::new();
     let mut m = Meter::new();
     let answer = flash(&mut input, &mut partition, &mut w, &mut m);
+    let seen = partition.seen;
     partition.inner().device.crash(pick);
-    answer
+    (answer, seen)
 }
 
 #[test]
-fn each_write_fails(rt: HostRuntime) {
+fn each_call_of_the_partition_fails_and_no_other_byte_is_touched(rt: HostRuntime) {
     for pick in [Pick::Old, Pick::New, Pick::Byte(0x5a)] {
-        for n in 1..=6 {
+        let mut room = [255u8; 16];
+        let (answer, calls) = stopped(0, pick, &mut room);
+        assert_eq!(rt; answer, DONE_A);
+        assert!(rt; holds(&room, 8));
+        // Two blocks, each in a write of three bytes and one of one, and a sync.
+        assert_eq!(rt; calls, 5);
+        for n in 1..7 {
             let mut room = [255u8; 16];
-            let answer = stopped(n, pick, &mut room);
+            let (answer, _) = stopped(n, pick, &mut room);
             if n == 6 {
                 assert_eq!(rt; answer, DONE_A);
                 assert!(rt; holds(&room, 8));
@@ -248,13 +260,13 @@ fn each_write_fails(rt: HostRuntime) {
             } else {
                 assert_eq!(rt; answer, Err(FlashFault::Write(DeviceFault::Failed)));
             }
-            assert_eq!(rt; &room[8..], [255u8; 8].as_slice());
+            assert!(rt; room.ends_with(&[255u8; 8]));
         }
     }
 }
 
 #[test]
-fn answers_again(rt: HostRuntime) {
+fn a_machine_that_is_done_answers_done_again(rt: HostRuntime) {
     let mut room = [255u8; 16];
     {
         let mut input = Forward::new(SliceSource::new(&THREE_KINDS));
@@ -280,7 +292,7 @@ fn answers_again(rt: HostRuntime) {
 }
 
 #[test]
-fn refuses_again(rt: HostRuntime) {
+fn a_machine_that_refused_refuses_again_and_reads_no_more(rt: HostRuntime) {
     let mut room = [255u8; 11];
     let mut input = Forward::new(SliceSource::new(&THREE_KINDS));
     let mut partition = SlicePartition::new(&mut room);
@@ -301,7 +313,7 @@ fn refuses_again(rt: HostRuntime) {
 }
 
 #[test]
-fn devices_that_tell_nothing(rt: HostRuntime) {
+fn a_reader_is_flashed(rt: HostRuntime) {
     let mut room = [255u8; 16];
     {
         let mut input = FromRead::new(THREE_KINDS.as_slice());
