@@ -182,6 +182,14 @@ def check_documents(checks, under):
             checks.that(os.path.exists(os.path.join(folder, link)), f"{path}: the link {link} leads to a file")
         paths = set(re.findall(r"`((?:crates|docs|tools|bench|examples)/[\w./-]+)`", text))
         paths |= {"crates/" + it for it in re.findall(r"`(\w+/src/[\w/]+\.rt)`", text)}
+        # A file without its folder stands beside the one that is named before it on the line.
+        for line in text.split("\n"):
+            beside = ""
+            for it in re.findall(r"`([\w/]+\.rt)`", line):
+                if "/" in it:
+                    beside = os.path.dirname(it)
+                elif beside:
+                    paths.add(f"crates/{beside}/{it}")
         for it in sorted(it for it in paths if "NAME" not in it):
             checks.that(os.path.exists(os.path.join(HERE, it)), f"{path}: {it} is there")
     page = subprocess.run(
