@@ -239,7 +239,7 @@ fn flash<'a>(alloc: Global) -> Result<Command<'a>, AllocError> {
              is synced, and gives way to the next. Where that stops in piece J, --from J mends it.\n\
              Examples:\n  \
              abootimg flash system.img /dev/block/by-name/system\n  \
-             abootimg flash system.img /dev/block/by-name/system 268435456 /tmp/spool",
+             abootimg flash system.img /dev/block/by-name/system 268435456 spool",
         )
         .arg(path(alloc, "IN", SPARSE_IN))?
         .arg(path(

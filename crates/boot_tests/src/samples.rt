@@ -154,7 +154,7 @@ pub fn numbers() -> [u8; 3000] {
 pub const FIVE: [usize; 5] = [3000, 1, 0, 5, 2049];
 
 /// Packs the image of version 2 of these parts, with pages of 2,048 bytes.
-pub fn pack_five(rt: &impl Abort, room: &mut [u8; 14336]) {
+pub fn pack_five(rt: &impl Abort, room: &mut [u8]) {
     let bytes = numbers();
     let mut parts = [
         SliceSource::new(&bytes),
