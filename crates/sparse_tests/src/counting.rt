@@ -1,5 +1,7 @@
 //! A device that counts the bytes that it hands out and takes.
 
+ghost use Rattle.std.specs.Prelude.{◌≡◌};
+
 use abt_io::{DeviceFault, Input, Output, Source, Spool};
 
 /// Counts the bytes that its device hands out and takes, in plain numbers. It is of each kind but a partition that its
@@ -13,7 +15,11 @@ pub struct Counting<D> {
 
 impl<D> Counting<D> {
     /// The device, of which nothing is counted yet.
-    pub fn new(device: D) -> Counting<D> {
+    pub fn new(device: D) -> Counting<D>
+        ensures device { result.device ≡ device }
+        ensures handed { result.handed ≡ 0 }
+        ensures taken { result.taken ≡ 0 }
+    {
         Counting {
             device,
             handed: 0,

@@ -100,37 +100,75 @@ fn flashes_in_pieces_and_from_a_piece_on(rt: HostRuntime) -> Result<(), Fail> {
     Ok(())
 }
 
+// A raw image in blocks of this size is refused for this reason, and the partition is not touched.
+fn expect_raw_refused<'a, R: Files<File = File> + AllocGlobal + Abort>(
+    rt: &R,
+    size: &'a str,
+    input: &'a str,
+    part: &'a str,
+    through: &'a str,
+    told: &str,
+) -> Result<(), Fail> {
+    let words = [
+        "abootimg", "flash", "--raw", size, input, part, "88", through,
+    ];
+    expect_untouched(rt, &words, part, told)
+}
+
 #[test]
 fn flashes_a_raw_image(rt: HostRuntime) -> Result<(), Fail> {
     let image = place(&rt, "flash-raw.img")?;
     let partition = place(&rt, "flash-raw.part")?;
     let spool = place(&rt, "flash-raw.spool")?;
-    let (input, part, through) = (image.as_str(), partition.as_str(), spool.as_str());
-    fs::write(&rt, input, b"AAAAAAAAABCDEFGHIJ".as_slice())?;
-    fs::write(&rt, part, [255u8; 32].as_slice())?;
+    fs::write(&rt, image.as_str(), b"AAAAAAAAABCDEFGHIJ".as_slice())?;
+    fs::write(&rt, partition.as_str(), [255u8; 32].as_slice())?;
     let words = [
-        "abootimg", "flash", "--raw", "8", input, part, "88", through,
+        "abootimg",
+        "flash",
+        "--raw",
+        "8",
+        image.as_str(),
+        partition.as_str(),
+        "88",
+        spool.as_str(),
     ];
     expect(&rt, &words, "pieces 2\n", "", 0);
-    let holds = fs::read(&rt, part)?;
+    let holds = fs::read(&rt, partition.as_str())?;
     assert!(rt;
         holds.as_slice()
             == b"AAAAAAAAABCDEFGHIJ\0\0\0\0\0\0\xff\xff\xff\xff\xff\xff\xff\xff".as_slice()
     );
-    fs::write(&rt, part, [255u8; 16].as_slice())?;
-    for (size, told) in [
-        ("6", "abootimg: 15 BadBlock 6\n"),
-        ("65536", "abootimg: 16 LimitTooSmall least 65600\n"),
-        ("8", "abootimg: 17 PartitionTooSmall need 24\n"),
-    ] {
-        let words = [
-            "abootimg", "flash", "--raw", size, input, part, "88", through,
-        ];
-        expect_untouched(&rt, &words, part, told)?;
-    }
-    fs::remove_file(&rt, input)?;
-    fs::remove_file(&rt, part)?;
-    fs::remove_file(&rt, through)?;
+    fs::write(&rt, partition.as_str(), [255u8; 16].as_slice())?;
+    let told = "abootimg: 15 BadBlock 6\n";
+    expect_raw_refused(
+        &rt,
+        "6",
+        image.as_str(),
+        partition.as_str(),
+        spool.as_str(),
+        told,
+    )?;
+    let told = "abootimg: 16 LimitTooSmall least 65600\n";
+    expect_raw_refused(
+        &rt,
+        "65536",
+        image.as_str(),
+        partition.as_str(),
+        spool.as_str(),
+        told,
+    )?;
+    let told = "abootimg: 17 PartitionTooSmall need 24\n";
+    expect_raw_refused(
+        &rt,
+        "8",
+        image.as_str(),
+        partition.as_str(),
+        spool.as_str(),
+        told,
+    )?;
+    fs::remove_file(&rt, image.as_str())?;
+    fs::remove_file(&rt, partition.as_str())?;
+    fs::remove_file(&rt, spool.as_str())?;
     Ok(())
 }
 

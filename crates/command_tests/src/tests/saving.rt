@@ -24,26 +24,35 @@ fn expect_kept<R: Files<File = File> + AllocGlobal + Abort>(
     Ok(())
 }
 
+// No command writes the image over this path, which stands for the image's own file, as `other` does.
+fn expect_not_written_over<'a, R: Files<File = File> + AllocGlobal + Abort>(
+    rt: &R,
+    input: &'a str,
+    other: &'a str,
+    path: &'a str,
+) -> Result<(), Fail> {
+    let expand = ["abootimg", "expand", input, path];
+    expect_kept(rt, &expand, path, input, &IMAGE)?;
+    let sparse = ["abootimg", "sparse", input, path];
+    expect_kept(rt, &sparse, path, input, &IMAGE)?;
+    let flash = ["abootimg", "flash", input, path];
+    expect_kept(rt, &flash, path, input, &IMAGE)?;
+    let pieces = ["abootimg", "flash", input, other, "68", path];
+    expect_kept(rt, &pieces, other, input, &IMAGE)
+}
+
 #[test]
 fn a_sparse_image_is_not_written_over(rt: HostRuntime) -> Result<(), Fail> {
     let image = place(&rt, "saved.simg")?;
     let link = place(&rt, "saved.link")?;
     let other = place(&rt, "saved.hard")?;
-    let input = image.as_str();
-    fs::write(&rt, input, IMAGE.as_slice())?;
-    symlink(&rt, input, link.as_str())?;
-    fs::hard_link(&rt, input, other.as_str())?;
-    for path in [input, link.as_str(), other.as_str()] {
-        let expand = ["abootimg", "expand", input, path];
-        expect_kept(&rt, &expand, path, input, &IMAGE)?;
-        let sparse = ["abootimg", "sparse", input, path];
-        expect_kept(&rt, &sparse, path, input, &IMAGE)?;
-        let flash = ["abootimg", "flash", input, path];
-        expect_kept(&rt, &flash, path, input, &IMAGE)?;
-        let pieces = ["abootimg", "flash", input, other.as_str(), "68", path];
-        expect_kept(&rt, &pieces, other.as_str(), input, &IMAGE)?;
-    }
-    fs::remove_file(&rt, input)?;
+    fs::write(&rt, image.as_str(), IMAGE.as_slice())?;
+    symlink(&rt, image.as_str(), link.as_str())?;
+    fs::hard_link(&rt, image.as_str(), other.as_str())?;
+    expect_not_written_over(&rt, image.as_str(), other.as_str(), image.as_str())?;
+    expect_not_written_over(&rt, image.as_str(), other.as_str(), link.as_str())?;
+    expect_not_written_over(&rt, image.as_str(), other.as_str(), other.as_str())?;
+    fs::remove_file(&rt, image.as_str())?;
     fs::remove_file(&rt, link.as_str())?;
     fs::remove_file(&rt, other.as_str())?;
     Ok(())
@@ -95,26 +104,44 @@ fn the_piece_of_an_older_cut_is_named(rt: HostRuntime) -> Result<(), Fail> {
     Ok(())
 }
 
-#[test]
-fn a_part_is_not_packed_or_unpacked_over(rt: HostRuntime) -> Result<(), Fail> {
-    let folder = place(&rt, "saved-parts")?;
-    fs::create_dir(&rt, folder.as_str())?;
-    let kernel = format!(in rt.alloc(); "{}/kernel", folder.as_str())?;
-    let input = kernel.as_str();
-    let image = five_parts(&rt);
-    fs::write(&rt, input, image.as_slice())?;
-    let words = ["abootimg", "unpack", input, folder.as_str()];
-    expect_kept(&rt, &words, input, input, &image)?;
+// The image of these bytes has the name of its own kernel in this folder.
+fn expect_not_unpacked_over<'a, R: Files<File = File> + AllocGlobal + Abort>(
+    rt: &R,
+    input: &'a str,
+    folder: &'a str,
+    bytes: &[u8],
+) -> Result<(), Fail> {
+    let words = ["abootimg", "unpack", input, folder];
+    expect_kept(rt, &words, input, input, bytes)
+}
+
+// The image to be packed has the name of the kernel of these bytes.
+fn expect_not_packed_over<R: Files<File = File> + AllocGlobal + Abort>(
+    rt: &R,
+    kernel: &str,
+    bytes: &[u8],
+) -> Result<(), Fail> {
     let words = [
         "abootimg",
         "pack",
         "--version",
         "4",
         "--kernel",
-        input,
-        input,
+        kernel,
+        kernel,
     ];
-    expect_kept(&rt, &words, input, input, &image)?;
+    expect_kept(rt, &words, kernel, kernel, bytes)
+}
+
+#[test]
+fn a_part_is_not_packed_or_unpacked_over(rt: HostRuntime) -> Result<(), Fail> {
+    let folder = place(&rt, "saved-parts")?;
+    fs::create_dir(&rt, folder.as_str())?;
+    let kernel = format!(in rt.alloc(); "{}/kernel", folder.as_str())?;
+    let image = five_parts(&rt);
+    fs::write(&rt, kernel.as_str(), image.as_slice())?;
+    expect_not_unpacked_over(&rt, kernel.as_str(), folder.as_str(), &image)?;
+    expect_not_packed_over(&rt, kernel.as_str(), &image)?;
     fs::remove_dir_all(&rt, folder.as_str())?;
     Ok(())
 }
