@@ -1,8 +1,7 @@
 //! Sources that are other bytes after some of their calls.
 
-use crate::samples::{
-    FIVE, PLAIN, boot, front, numbers, opened, pack_five, pack_four, set_byte, vendor,
-};
+use crate::opening::opened;
+use crate::samples::{FIVE, PLAIN, boot, front, numbers, pack_five, pack_four, set_byte, vendor};
 use abt_io::{Cut, Faulty, Meter, SliceOutput, SliceSource, SwitchSource, Window};
 use abt_sections::{
     Image, Packed, SectionFault, check, fragment, fragments, pack_boot, pack_vendor, sections,
@@ -35,13 +34,7 @@ fn is_refused_unread<R: Abort>(rt: &R, image: &Image, bytes: &[u8]) {
 #[test]
 fn a_source_of_another_length_has_changed_and_is_not_read(rt: HostRuntime) {
     let mut longer = [1u8; 20481];
-    pack_four(
-        &rt,
-        4096,
-        &mut longer,
-        &mut Window::new(),
-        &mut Meter::new(),
-    );
+    assert!(rt; pack_four(4096, &mut longer, &mut Window::new(), &mut Meter::new(),).is_ok());
     let image = opened(
         &rt,
         front(&longer, 20480),
@@ -58,7 +51,7 @@ fn a_source_of_another_length_has_changed_and_is_not_read(rt: HostRuntime) {
 #[test]
 fn an_entry_that_is_no_longer_accepted_has_changed(rt: HostRuntime) {
     let mut bytes = [1u8; 20480];
-    pack_four(&rt, 4096, &mut bytes, &mut Window::new(), &mut Meter::new());
+    assert!(rt; pack_four(4096, &mut bytes, &mut Window::new(), &mut Meter::new()).is_ok());
     let image = opened(&rt, &bytes, &mut Window::new(), &mut Meter::new());
     // The second fragment has one byte more than the vendor ramdisk.
     set_byte(&mut bytes, 12396, 8);
@@ -104,7 +97,7 @@ fn unpacks<R: Abort>(rt: &R, image: &Image, i: usize, bytes: &[u8; 14336], calls
 #[test]
 fn an_image_that_shrinks_gives_a_beginning_of_each_section(rt: HostRuntime) {
     let mut bytes = [1u8; 14336];
-    pack_five(&rt, &mut bytes);
+    assert_eq!(rt; pack_five(&mut bytes), Ok(Packed { bytes: 14336 }));
     let image = opened(&rt, &bytes, &mut Window::new(), &mut Meter::new());
     // Reads of 1,000 bytes, and none of an empty section; the length is asked for before them.
     for (i, reads) in [(0, 3), (1, 1), (2, 0), (3, 1), (4, 3)] {
@@ -146,7 +139,7 @@ fn packs_shrinking<R: Abort>(rt: &R, calls: u64, whole: &[u8; 14336]) -> Option<
 #[test]
 fn a_part_that_shrinks_has_changed_and_a_beginning_stands(rt: HostRuntime) {
     let mut whole = [1u8; 14336];
-    pack_five(&rt, &mut whole);
+    assert_eq!(rt; pack_five(&mut whole), Ok(Packed { bytes: 14336 }));
     // It is read for the id and for the bytes.
     for calls in 1..3 {
         assert!(rt;
@@ -180,7 +173,7 @@ fn a_part_of_other_bytes_is_packed_under_the_id_of_the_first(rt: HostRuntime) {
 #[test]
 fn fragments_whose_lengths_change_while_their_sum_stays_have_changed(rt: HostRuntime) {
     let mut whole = [1u8; 20480];
-    pack_four(&rt, 4096, &mut whole, &mut Window::new(), &mut Meter::new());
+    assert!(rt; pack_four(4096, &mut whole, &mut Window::new(), &mut Meter::new()).is_ok());
     let mut ramdisks = [
         SwitchSource::new(b"first", b"first!", 1),
         SwitchSource::new(b"second!", b"second", 1),

@@ -1,10 +1,11 @@
 //! One failing call at each place: what is answered, and what stands.
 
-use crate::samples::{FIVE, PLAIN, boot, front, numbers, opened, pack_five, pack_four, vendor};
+use crate::opening::opened;
+use crate::samples::{FIVE, PLAIN, boot, front, numbers, pack_five, pack_four, vendor};
 use abt_io::{Cut, DeviceFault, Faulty, Meter, SliceOutput, SliceSource, Window};
 use abt_sections::{
-    Image, SectionFault, check, fragment, fragments, image_id, open, pack_boot, pack_vendor,
-    sections, unpack, unpack_fragment,
+    Image, Packed, SectionFault, check, fragment, fragments, image_id, open, pack_boot,
+    pack_vendor, sections, unpack, unpack_fragment,
 };
 use std::process::Abort;
 
@@ -49,7 +50,7 @@ fn packing_fails<R: Abort>(
 #[test]
 fn each_read_of_each_part_fails_and_a_beginning_of_the_image_stands(rt: HostRuntime) {
     let mut whole = [1u8; 14336];
-    pack_five(&rt, &mut whole);
+    assert_eq!(rt; pack_five(&mut whole), Ok(Packed { bytes: 14336 }));
     // Asks of 1,000 bytes, for the id and for the bytes.
     for (failing, asks) in [(0, 3u64), (1, 1), (2, 0), (3, 1), (4, 3)] {
         for (is_id, times) in [(true, 1u64), (false, 2)] {
@@ -92,7 +93,7 @@ fn output_fails<R: Abort>(rt: &R, n: u64, whole: &[u8; 14336]) -> (Option<Sectio
 #[test]
 fn each_write_of_an_image_fails_and_a_beginning_stands(rt: HostRuntime) {
     let mut whole = [1u8; 14336];
-    pack_five(&rt, &mut whole);
+    assert_eq!(rt; pack_five(&mut whole), Ok(Packed { bytes: 14336 }));
     let (fault, calls) = output_fails(&rt, 0, &whole);
     assert!(rt; fault.is_none());
     // The record, four parts, and the padding of each.
@@ -153,7 +154,7 @@ fn vendor_fails<R: Abort>(
 #[test]
 fn each_call_of_packing_a_vendor_image_fails_and_a_beginning_stands(rt: HostRuntime) {
     let mut whole = [1u8; 20480];
-    pack_four(&rt, 4096, &mut whole, &mut Window::new(), &mut Meter::new());
+    assert!(rt; pack_four(4096, &mut whole, &mut Window::new(), &mut Meter::new()).is_ok());
     for failing in 0..5 {
         let (fault, calls) = vendor_fails(&rt, failing, 0, &whole);
         assert!(rt; fault.is_none());
@@ -205,7 +206,7 @@ fn unpacking_fails<R: Abort>(
 #[test]
 fn each_call_of_unpacking_each_section_fails_and_a_beginning_of_it_stands(rt: HostRuntime) {
     let mut bytes = [1u8; 14336];
-    pack_five(&rt, &mut bytes);
+    assert_eq!(rt; pack_five(&mut bytes), Ok(Packed { bytes: 14336 }));
     let image = opened(&rt, &bytes, &mut Window::new(), &mut Meter::new());
     assert_eq!(rt; sections(&image), 5);
     // Reads of 1,000 bytes, each written by 700.
@@ -273,7 +274,7 @@ fn reading_fails(
 #[test]
 fn each_read_of_opening_checking_and_a_fragment_fails(rt: HostRuntime) {
     let mut bytes = [1u8; 20480];
-    pack_four(&rt, 4096, &mut bytes, &mut Window::new(), &mut Meter::new());
+    assert!(rt; pack_four(4096, &mut bytes, &mut Window::new(), &mut Meter::new()).is_ok());
     let image = opened(&rt, &bytes, &mut Window::new(), &mut Meter::new());
     assert_eq!(rt; fragments(&image), 2);
     for (reading, few) in [
@@ -321,7 +322,7 @@ fn fragment_fails<R: Abort>(
 #[test]
 fn each_call_of_unpacking_a_fragment_fails_and_a_beginning_of_it_stands(rt: HostRuntime) {
     let mut bytes = [1u8; 20480];
-    pack_four(&rt, 4096, &mut bytes, &mut Window::new(), &mut Meter::new());
+    assert!(rt; pack_four(4096, &mut bytes, &mut Window::new(), &mut Meter::new()).is_ok());
     let image = opened(&rt, &bytes, &mut Window::new(), &mut Meter::new());
     let (fault, reads, writes) = fragment_fails(&rt, &image, &bytes, 0, 0);
     assert!(rt; fault.is_none());

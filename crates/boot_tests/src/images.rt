@@ -1,9 +1,7 @@
 //! Whole images: packed, opened, checked and unpacked, at values from outside.
 
-use crate::samples::{
-    assert_places, boot, checked, front, opened, pack_four, pack_k, set_byte, vendor, verdict,
-    with_texts,
-};
+use crate::opening::{assert_places, checked, opened};
+use crate::samples::{boot, front, pack_four, pack_k, set_byte, vendor, verdict, with_texts};
 use abt_headers::{HeaderFault, Section};
 use abt_io::{Faulty, Long, Meter, SliceOutput, SliceSource, Window};
 use abt_sections::{
@@ -17,7 +15,10 @@ fn one_kernel_byte_is_packed_and_checked(rt: HostRuntime) {
     let mut w = Window::new();
     let mut m = Meter::new();
     let mut room = [1u8; 4096];
-    pack_k(&rt, &mut room, &mut w, &mut m);
+    assert_eq!(rt;
+        pack_k(&mut room, &mut w, &mut m),
+        Ok(Packed { bytes: 4096 })
+    );
     assert!(rt; room[2048] == 0x4b);
     // The SHA-1 of 4b 01000000 00000000 00000000, as `sha1sum` prints it, and twelve zeros.
     let id = [
@@ -45,7 +46,10 @@ fn the_id_of_parts_is_that_of_their_image(rt: HostRuntime) {
     let mut w = Window::new();
     let mut m = Meter::new();
     let mut room = [1u8; 4096];
-    pack_k(&rt, &mut room, &mut w, &mut m);
+    assert_eq!(rt;
+        pack_k(&mut room, &mut w, &mut m),
+        Ok(Packed { bytes: 4096 })
+    );
     let mut parts = [
         SliceSource::new(b"K"),
         SliceSource::new(&[]),
@@ -194,7 +198,10 @@ fn a_vendor_image_of_version_4_is_packed_and_its_fragment_unpacked(rt: HostRunti
     let mut w = Window::new();
     let mut m = Meter::new();
     let mut room = [1u8; 20480];
-    assert!(rt; pack_four(&rt, 4096, &mut room, &mut w, &mut m) == 20480);
+    assert_eq!(rt;
+        pack_four(4096, &mut room, &mut w, &mut m),
+        Ok(Packed { bytes: 20480 })
+    );
     let image = opened(&rt, &room, &mut w, &mut m);
     assert_places(&rt, &image, &[4096, 8192, 12288, 16384]);
     assert_eq!(rt; &room[2112..2116], [216, 0, 0, 0].as_slice());
@@ -213,7 +220,10 @@ fn a_vendor_image_of_version_4_is_packed_and_its_fragment_unpacked(rt: HostRunti
     }
     assert_eq!(rt; output.written(), b"second!".as_slice());
     let mut half = [1u8; 12288];
-    assert!(rt; pack_four(&rt, 2048, &mut half, &mut w, &mut m) == 12288);
+    assert_eq!(rt;
+        pack_four(2048, &mut half, &mut w, &mut m),
+        Ok(Packed { bytes: 12288 })
+    );
     let small = opened(&rt, &half, &mut w, &mut m);
     assert_places(&rt, &small, &[4096, 6144, 8192, 10240]);
 }
@@ -247,7 +257,7 @@ fn a_bad_table_is_refused(rt: HostRuntime) {
     let mut w = Window::new();
     let mut m = Meter::new();
     let mut room = [1u8; 20480];
-    pack_four(&rt, 4096, &mut room, &mut w, &mut m);
+    assert!(rt; pack_four(4096, &mut room, &mut w, &mut m).is_ok());
     let cut = open(&mut SliceSource::new(front(&room, 16385)), &mut w, &mut m);
     assert!(rt;
         cut == Err(SectionFault::SectionTruncated {

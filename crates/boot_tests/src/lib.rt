@@ -5,6 +5,7 @@
 //! | `records.rt` | the records at bytes that another program wrote, places, the order of faults |
 //! | `vectors.rt` | those bytes |
 //! | `samples.rt` | fields, parts and images that tests pack, here and in other crates of tests |
+//! | `opening.rt` | opening and checking an image that stands |
 //! | `images.rt` | whole images: packed, opened, checked and unpacked |
 //! | `failing.rt` | one failing call at each place |
 //! | `changing.rt` | sources that change |
@@ -16,6 +17,8 @@ mod changing;
 mod failing;
 #[cfg(test)]
 mod images;
+#[cfg(test)]
+mod opening;
 #[cfg(test)]
 mod records;
 pub mod samples;

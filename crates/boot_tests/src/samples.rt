@@ -5,10 +5,8 @@ ghost use Rattle.std.specs.Prelude.{◌≡◌};
 use abt_headers::OsVersion;
 use abt_io::{Meter, SliceOutput, SliceSource, Window};
 use abt_sections::{
-    BootSpec, FragmentSpec, Image, Packed, VendorSpec, Verdict, check, open, pack_boot,
-    pack_vendor, section, sections,
+    BootSpec, FragmentSpec, Packed, SectionFault, VendorSpec, Verdict, pack_boot, pack_vendor,
 };
-use std::process::Abort;
 
 pub fn boot(version: u32, page: u32) -> BootSpec<'static>
     ensures { result.version ≡ version }
@@ -69,15 +67,14 @@ pub fn verdict(canonical: bool, padding: bool, id: bool, offset: bool) -> Verdic
 }
 
 /// Packs the image of one kernel byte `K` of version 0 with pages of 2,048 bytes.
-pub fn pack_k(rt: &impl Abort, room: &mut [u8], w: &mut Window, m: &mut Meter) {
+pub fn pack_k(room: &mut [u8], w: &mut Window, m: &mut Meter) -> Result<Packed, SectionFault> {
     let mut parts = [
         SliceSource::new(b"K"),
         SliceSource::new(&[]),
         SliceSource::new(&[]),
     ];
     let mut output = SliceOutput::new(room);
-    let packed = pack_boot(&boot(0, 2048), &mut parts, &mut output, w, m);
-    assert!(rt; packed == Ok(Packed { bytes: 4096 }));
+    pack_boot(&boot(0, 2048), &mut parts, &mut output, w, m)
 }
 
 /// The first `n` bytes.
@@ -91,25 +88,6 @@ pub fn set_byte(bytes: &mut [u8], at: usize, byte: u8) {
     }
 }
 
-pub fn opened(rt: &impl Abort, bytes: &[u8], w: &mut Window, m: &mut Meter) -> Image {
-    open(&mut SliceSource::new(bytes), w, m).expect(rt, "opens")
-}
-
-pub fn checked(rt: &impl Abort, bytes: &[u8], w: &mut Window, m: &mut Meter) -> Verdict {
-    let image = opened(rt, bytes, w, m);
-    check(&image, &mut SliceSource::new(bytes), w, m).expect(rt, "checks")
-}
-
-pub fn assert_places(rt: &impl Abort, image: &Image, want: &[u64]) {
-    for (i, at) in want.iter().enumerate() {
-        if i < sections(image) {
-            assert!(rt; section(image, i).at == *at);
-        } else {
-            assert!(rt; false);
-        }
-    }
-}
-
 pub const PLAIN: FragmentSpec = FragmentSpec {
     kind: 1,
     name: [0; 32],
@@ -118,17 +96,16 @@ pub const PLAIN: FragmentSpec = FragmentSpec {
 
 /// Packs fragments of 5 and 7 bytes, a dtb of 1 and a bootconfig of 2 bytes.
 pub fn pack_four(
-    rt: &impl Abort,
     page: u32,
     room: &mut [u8],
     w: &mut Window,
     m: &mut Meter,
-) -> u64 {
+) -> Result<Packed, SectionFault> {
     let mut ramdisks = [SliceSource::new(b"first"), SliceSource::new(b"second!")];
     let mut dtb = SliceSource::new(b"d");
     let mut bootconfig = SliceSource::new(b"bc");
     let mut output = SliceOutput::new(room);
-    let packed = pack_vendor(
+    pack_vendor(
         &vendor(4, page),
         &[PLAIN, PLAIN],
         &mut ramdisks,
@@ -137,8 +114,7 @@ pub fn pack_four(
         &mut output,
         w,
         m,
-    );
-    packed.expect(rt, "packs").bytes
+    )
 }
 
 /// The numbers from 0 to 250, again and again.
@@ -154,7 +130,7 @@ pub fn numbers() -> [u8; 3000] {
 pub const FIVE: [usize; 5] = [3000, 1, 0, 5, 2049];
 
 /// Packs the image of version 2 of these parts, with pages of 2,048 bytes.
-pub fn pack_five(rt: &impl Abort, room: &mut [u8]) {
+pub fn pack_five(room: &mut [u8]) -> Result<Packed, SectionFault> {
     let bytes = numbers();
     let mut parts = [
         SliceSource::new(&bytes),
@@ -166,6 +142,5 @@ pub fn pack_five(rt: &impl Abort, room: &mut [u8]) {
     let mut output = SliceOutput::new(room);
     let mut w = Window::new();
     let mut m = Meter::new();
-    let packed = pack_boot(&boot(2, 2048), &mut parts, &mut output, &mut w, &mut m);
-    assert!(rt; packed == Ok(Packed { bytes: 14336 }));
+    pack_boot(&boot(2, 2048), &mut parts, &mut output, &mut w, &mut m)
 }

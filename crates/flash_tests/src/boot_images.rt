@@ -2,7 +2,7 @@
 
 use abt_flash::{Delivered, FlashFault, deliver};
 use abt_io::{Meter, SliceOutput, SlicePartition, SliceSource, SliceSpool, Window};
-use abt_sections::{fragments, open, sections, unpack, unpack_fragment};
+use abt_sections::{Packed, fragments, open, sections, unpack, unpack_fragment};
 use abt_sparsify::{Written, sparsify};
 use boot_tests::samples::{FIVE, front, numbers, pack_five, pack_four, pack_k};
 
@@ -71,7 +71,10 @@ fn unpacked_fragment(cells: &[u8], i: u32, room: &mut [u8]) -> Option<usize> {
 #[test]
 fn one_kernel_byte_goes_the_whole_way_round(rt: HostRuntime) {
     let mut image = [1u8; 4096];
-    pack_k(&rt, &mut image, &mut Window::new(), &mut Meter::new());
+    assert_eq!(rt;
+        pack_k(&mut image, &mut Window::new(), &mut Meter::new()),
+        Ok(Packed { bytes: 4096 })
+    );
     let mut cells = [255u8; 5000];
     let (_, refused) = delivered(&image, 4096, 4159, &mut cells);
     assert_eq!(rt; refused, Err(FlashFault::LimitTooSmall { least: 4160 }));
@@ -94,7 +97,7 @@ fn one_kernel_byte_goes_the_whole_way_round(rt: HostRuntime) {
 #[test]
 fn five_parts_go_the_whole_way_round_in_many_pieces(rt: HostRuntime) {
     let mut image = [1u8; 14336];
-    pack_five(&rt, &mut image);
+    assert_eq!(rt; pack_five(&mut image), Ok(Packed { bytes: 14336 }));
     let bytes = numbers();
     for b in [512, 2048] {
         let mut cells = [255u8; 14400];
@@ -112,7 +115,7 @@ fn five_parts_go_the_whole_way_round_in_many_pieces(rt: HostRuntime) {
 #[test]
 fn two_fragments_go_the_whole_way_round_in_many_pieces(rt: HostRuntime) {
     let mut image = [1u8; 20480];
-    pack_four(&rt, 4096, &mut image, &mut Window::new(), &mut Meter::new());
+    assert!(rt; pack_four(4096, &mut image, &mut Window::new(), &mut Meter::new()).is_ok());
     let mut cells = [255u8; 20480];
     let (_, answer) = delivered(&image, 2048, 2112, &mut cells);
     assert!(rt; answer.is_ok_and(|done| done.pieces > 3));
