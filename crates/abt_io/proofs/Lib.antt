@@ -1,5 +1,6 @@
 pub mod Copied
 pub mod Filled
+pub mod Fronts
 pub mod Moments
 pub mod Overs
 pub mod Parts

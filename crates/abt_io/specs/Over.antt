@@ -1,5 +1,5 @@
 -- Bytes that are written over what stands at a place.
-use Rattle.std.specs.Prelude.{◌≡◌, ℕ, ◌<◌, List, length, take}
+use Rattle.std.specs.Prelude.{◌≡◌, ℕ, ◌<◌, List, ◌++◌, length, take, drop}
 use Rattle.abt_io.specs.Frame.{Logged}
 use Rattle.abt_io.specs.Moment.{put_at}
 
@@ -12,3 +12,7 @@ pub record WritesFront (old new : List ℕ) (at : ℕ) (bytes : List ℕ) : Type
   pub count : ℕ
   pub short : count < length bytes
   pub written : new ≡ put_at old at (take count bytes)
+
+-- what stands, with the first `kept` bytes of this front in its place
+abbrev pub with_front : List ℕ → ℕ → List ℕ → List ℕ
+with_front front kept stands = take kept front ++ drop kept stands

@@ -15,8 +15,8 @@
 //!
 //! - `window`: the 65,536 bytes that are lent down to every call; `laying`: one word all over it.
 //! - `meter`, `tally`, `log`, `history`: what contracts count, with no bytes at run time.
-//! - `device`: the five traits, and `overwrite`, an output that can be written over. Their words stand
-//!   in `specs/`: `Count`, `Bytes`, `Frame` (what a read or a write leaves as it was), `Moment` (what a
+//! - `device`: the five traits, and `overwrite`, an output that can be written over; `front_last`: one
+//!   whose first bytes are laid last. Their words stand in `specs/`: `Count`, `Bytes`, `Frame` (what a read or a write leaves as it was), `Moment` (what a
 //!   crash may leave), `Over` (what writing over leaves), `Cause` (who failed).
 //! - `gathering`, `writing`, `copying`: the movers, generic over the traits.
 //! - `slices`, `partition`, `spool`: devices over lent memory, which tell their bytes; `bytes` and
@@ -34,6 +34,7 @@ mod device;
 mod file_output;
 mod files;
 mod forward;
+mod front_last;
 mod gathering;
 mod history;
 mod laws;
@@ -58,6 +59,7 @@ pub use device::{DeviceFault, Input, Output, Partition, Source, Spool};
 pub use file_output::FileOutput;
 pub use files::{FilePartition, FileSource, FileSpool};
 pub use forward::Forward;
+pub use front_last::{FRONT, FrontLast};
 pub use gathering::{Gathered, gather, gather_at};
 pub use history::History;
 pub use laws::{moments_join, runs_join, untouched_bytes_last};

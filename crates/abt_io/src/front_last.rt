@@ -1,0 +1,122 @@
+//! An output whose first bytes are laid last, so that no reader takes what was broken off for a whole
+//! image: an image without its magic is none.
+
+ghost use Rattle.std.specs.Prelude.{◌≡◌, ◌<◌, ◌≤◌, ◌+◌, ◌++◌, [], IsTrue, IfOk, IfErr, OnOk, OnErr, IsErrOf, false, length, take, replicate};
+ghost use Rattle.abt_io.specs.Count.{count_of, full_of};
+ghost use Rattle.abt_io.specs.Over.{WritesFront, with_front};
+
+use crate::{DeviceFault, Meter, Output, Overwrite, write_over_all};
+
+/// How many bytes are kept back: those of the longest magic.
+pub const FRONT: usize = 8;
+
+/// Keeps back the first `FRONT` bytes that it is given, and writes zeros in their place, until `finish`
+/// lays them. All that comes behind them goes straight to the output.
+///
+/// Up to `finish`, zeros stand in the place of all that is kept back: that is a fact of the type.
+#[derive(Drop)]
+pub struct FrontLast<O: Overwrite> {
+    pub output: O,
+    /// What is kept back, in front.
+    pub front: [u8; FRONT],
+    /// How many bytes are kept back.
+    pub kept: usize,
+    /// Nothing was laid yet.
+    pub is_open: bool,
+    pub ghost room: { kept ≤ 8 },
+    pub ghost stand: { kept ≤ length (O.written output) },
+    pub ghost zeros: { take kept (O.written output) ≡ replicate kept 0 },
+    pub ghost next: { IsTrue is_open → kept < 8 → length (O.written output) ≡ kept },
+}
+
+impl<O: Overwrite> FrontLast<O> {
+    /// Begins with an output that nothing was written to.
+    pub fn new(output: O) -> FrontLast<O>
+        requires { O.written output ≡ [] }
+        ensures output { result.output ≡ output }
+        ensures kept { result.kept ≡ 0 }
+        ensures open { IsTrue result.is_open }
+    {
+        FrontLast {
+            output,
+            front: [0; FRONT],
+            kept: 0,
+            is_open: true,
+        }
+    }
+
+    /// Lays what was kept back over the zeros in its place, after which nothing is kept back. Where it
+    /// fails, a front of that is laid, shorter than all.
+    pub fn finish(&mut self, m: &mut Meter) -> Result<(), DeviceFault>
+        ensures laid { OnOk result (O.written self.new.output ≡ with_front self.old.front self.old.kept (O.written self.old.output)) }
+        ensures front { OnErr result (WritesFront (O.written self.old.output) (O.written self.new.output) 0 (take self.old.kept self.old.front)) }
+        ensures kept { self.new.kept ≡ 0 }
+        ensures frame { O.write_frame self.new.output ≡ O.write_frame self.old.output }
+        ensures calls { O.writes self.new.output ≤ O.writes self.old.output + 8 }
+        ensures faults { O.write_faults self.old.output ≤ O.write_faults self.new.output }
+        ensures cause { OnErr result (O.write_faults self.old.output < O.write_faults self.new.output) }
+        ensures clean { OnOk result (O.write_faults self.new.output ≡ O.write_faults self.old.output) }
+        ensures full_faults { O.full_faults self.new.output ≡ O.full_faults self.old.output }
+        ensures failed { IfErr result (λ e. e ≡ DeviceFault.Failed) }
+        ensures turns { m.new.turns.number ≤ m.old.turns.number + 8 }
+        ensures steps { m.new.steps.number ≡ m.old.steps.number }
+        ensures greatest { m.new.greatest.number ≡ m.old.greatest.number }
+    {
+        let kept = self.kept;
+        self.kept = 0;
+        self.is_open = false;
+        write_over_all(&mut self.output, 0, &self.front[..kept], m)
+    }
+
+    // Keeps back some of these bytes, and writes as many zeros.
+    fn keep_back(&mut self, bytes: &[u8]) -> Result<usize, DeviceFault>
+        requires open { IsTrue self.old.is_open }
+        requires room { self.old.kept < 8 }
+        ensures within { count_of result ≤ length bytes.now }
+        ensures progress { IfOk result (λ n. 0 < length bytes.now → 0 < n) }
+        ensures written { with_front self.new.front self.new.kept (O.written self.new.output)
+            ≡ with_front self.old.front self.old.kept (O.written self.old.output) ++ take (count_of result) bytes.now }
+        ensures frame { O.write_frame self.new.output ≡ O.write_frame self.old.output }
+        ensures calls { O.writes self.new.output ≡ O.writes self.old.output + 1 }
+        ensures faults { O.write_faults self.old.output ≤ O.write_faults self.new.output }
+        ensures cause { OnErr result (O.write_faults self.old.output < O.write_faults self.new.output) }
+        ensures clean { OnOk result (O.write_faults self.new.output ≡ O.write_faults self.old.output) }
+        ensures full_faults { O.full_faults self.new.output ≡ O.full_faults self.old.output + full_of result }
+        ensures full { IsErrOf result DeviceFault.Full → IsTrue (O.is_full self.old.output) }
+        ensures still_full { IsErrOf result DeviceFault.Full → IsTrue (O.is_full self.new.output) }
+    {
+        let kept = self.kept;
+        let zeros = [0u8; FRONT];
+        let n = bytes.len().min(FRONT - kept);
+        match self.output.write(&zeros[..n]) {
+            Ok(taken) => {
+                self.front[kept..kept + taken].copy_from_slice(&bytes[..taken]);
+                self.kept = kept + taken;
+                Ok(taken)
+            }
+            Err(fault) => Err(fault),
+        }
+    }
+}
+
+impl<O: Overwrite> Output for FrontLast<O> {
+    ghost written = { λ o. with_front o.front o.kept (O.written o.output) };
+
+    ghost is_full = { λ o. O.is_full o.output };
+
+    ghost writes = { λ o. O.writes o.output };
+
+    ghost write_faults = { λ o. O.write_faults o.output };
+
+    ghost full_faults = { λ o. O.full_faults o.output };
+
+    ghost write_frame = { λ o. O.write_frame o.output };
+
+    fn write(&mut self, bytes: &[u8]) -> Result<usize, DeviceFault> {
+        if self.is_open && self.kept < FRONT {
+            self.keep_back(bytes)
+        } else {
+            self.output.write(bytes)
+        }
+    }
+}
