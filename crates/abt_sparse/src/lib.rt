@@ -16,6 +16,7 @@
 //! |---|---|
 //! | `fault.rt` | `SparseFault`, why an image is refused, with its number and text |
 //! | `kind.rt` | `ChunkKind` and its type numbers |
+//! | `chunk_length.rt` | how long a chunk's data is, how many blocks it counts |
 //! | `numbers.rt` | numbers of two and four bytes at a place |
 //! | `header.rt`, `records.rt` | `SparseHeader`, and its 28 bytes |
 //! | `chunk_header.rt` | `ChunkHeader`, and its twelve bytes |
@@ -23,6 +24,7 @@
 #![tactic(auto)]
 
 mod chunk_header;
+mod chunk_length;
 mod fault;
 mod header;
 mod kind;
@@ -31,6 +33,7 @@ mod records;
 mod theorems;
 
 pub use chunk_header::ChunkHeader;
+pub use chunk_length::{counted_blocks, data_length};
 pub use fault::SparseFault;
 pub use header::SparseHeader;
 pub use kind::ChunkKind;
