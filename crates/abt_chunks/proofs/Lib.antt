@@ -7,3 +7,4 @@ pub mod Fed
 pub mod Finishing
 pub mod Showing
 pub mod Repeated
+pub mod Needed

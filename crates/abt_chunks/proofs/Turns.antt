@@ -22,6 +22,17 @@ needed_asked turns.Chunk s h = omega arith
 needed_asked turns.End s h = omega arith
 needed_asked turns.Over s h = omega arith
 
+pub needed_room : (turn : Turn) → needed_of turn ≤ 28
+needed_room turns.Header = omega arith
+needed_room turns.Extra = omega arith
+needed_room turns.Raw = omega arith
+needed_room turns.Word = omega arith
+needed_room turns.Fill = omega arith
+needed_room turns.Gap = omega arith
+needed_room turns.Chunk = omega arith
+needed_room turns.End = omega arith
+needed_room turns.Over = omega arith
+
 pub caused_own : (f : SparseFault) → IsOwn f → Caused (parts.Fault f) phases.Header 1 0
 caused_own (faults.Read d) h = absurd h
 caused_own (faults.Write d) h = absurd h

@@ -1,6 +1,7 @@
 pub mod Ahead
 pub mod Listing
 pub mod Walking
+pub mod Taking
 pub mod Cause
 pub mod Expanding
 pub mod Whole

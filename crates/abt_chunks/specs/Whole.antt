@@ -1,5 +1,6 @@
 -- What an expansion of a whole input answers and writes, in the words of what it is to be an image and to have a fault.
-use Rattle.std.specs.Prelude.{◌≡◌, ℕ, ◌*◌, List, ◌++◌, Option, Result, Ok, Err}
+use Rattle.std.specs.Prelude.{◌≡◌, ℕ, ◌*◌, ◌<◌, List, ◌++◌, length, take, Option, Result, Ok, Err}
+use Rattle.abt_sparse.specs.declared.fault.SparseFault.TheVariants.{Truncated}
 use Rattle.abt_sparse.specs.declared.fault.SparseFault.{SparseFault}
 use Rattle.abt_sparse.specs.Block.{laid, expansion}
 use Rattle.abt_sparse.specs.Chunk.{Header, Chunk, classed}
@@ -37,3 +38,12 @@ pub record Begun (old new y : List ℕ) : Type 0 where
   pub whole : List ℕ
   pub gives : Gives y whole
   pub begins : Begins new (old ++ whole)
+
+-- of these bytes nothing is known but that they end too soon
+pub record EndsTooSoon (y : List ℕ) : Type 0 where
+  pub came : List (Option ℕ)
+  pub fails : Fails y (Truncated (length y)) came
+
+-- No byte of x was read that was not needed: any fewer bytes than these end too soon.
+abbrev pub AllNeeded : List ℕ → ℕ → Type 0
+AllNeeded x read = (n : ℕ) → n < read → EndsTooSoon (take n x)

@@ -7,15 +7,14 @@ ghost use Rattle.abt_chunks.specs.Ahead.{finish};
 ghost use Rattle.abt_chunks.specs.Cause.{Clean, wanted};
 ghost use Rattle.abt_chunks.specs.Walking.{IsOver, ahead, owed, todo};
 ghost use Rattle.abt_chunks.specs.Expanding.{Begins, IsGoing, OnMore, Rises, Stands, Unless, answer_of};
-ghost use Rattle.abt_chunks.specs.Whole.{Begun, Expands};
+ghost use Rattle.abt_chunks.specs.Whole.{AllNeeded, Begun, Expands};
 ghost use Rattle.abt_chunks.specs.declared.progress.Progress.TheVariants.{More};
 
 use crate::expansion::write_part;
-use crate::kinds::length_of_data;
 use crate::progress::{Expanded, Progress};
 use crate::walk::{Part, Phase, Walk};
 use abt_io::{Input, Meter, Output, Window};
-use abt_sparse::{ChunkKind, SparseFault};
+use abt_sparse::{ChunkKind, SparseFault, data_length};
 
 /// What a step answers once its part has been written.
 pub fn answer(part: Part) -> Result<Progress, SparseFault>
@@ -56,31 +55,46 @@ impl Expander {
         ensures asked { I.given input.old ≤ I.given input.new × I.given input.new ≤ I.given input.old + 65536 }
         ensures wanted { I.given input.new - I.given input.old ≤ wanted self.old.walk }
         ensures present { IsTrue I.tells → I.given input.new - I.given input.old ≤ length (I.remaining input.old) }
-        ensures rest { IsTrue I.tells → I.remaining input.new ≡ drop (I.given input.new - I.given input.old) (I.remaining input.old) }
+        ensures rest { IsTrue I.tells → I.remaining input.new ≡ drop (I.given input.new - I.given input.old)
+            (I.remaining input.old) }
         // What is written, finished by what is still to be read, is the whole.
-        ensures told { IsTrue I.tells → (t : List ℕ) → (IsTrue (is_err result) → t ≡ I.remaining input.new) → Unless result (finish (O.written output.old) (ahead self.old.walk (take (I.given input.new - I.given input.old) (I.remaining input.old) ++ t)) ≡ finish (O.written output.new) (ahead self.new.walk t)) }
+        ensures told { IsTrue I.tells → (t : List ℕ) → (IsTrue (is_err result) → t ≡ I.remaining input.new) →
+            Unless result (finish (O.written output.old) (ahead self.old.walk
+            (take (I.given input.new - I.given input.old) (I.remaining input.old) ++ t)) ≡ finish
+            (O.written output.new) (ahead self.new.walk t)) }
         // And it is a beginning of what the bytes read so far give.
-        ensures begun { IsTrue I.tells → Begins (O.written output.new) (finish (O.written output.old) (ahead self.old.walk (take (I.given input.new - I.given input.old) (I.remaining input.old)))).0 }
+        ensures begun { IsTrue I.tells → Begins (O.written output.new)
+            (finish (O.written output.old) (ahead self.old.walk
+            (take (I.given input.new - I.given input.old) (I.remaining input.old)))).0 }
         // Nothing is held over: what the bytes read so far give is written, but for the words that a fill or a gap still owes.
-        ensures held { IsTrue I.tells → OnOk result ((finish (O.written output.old) (ahead self.old.walk (take (I.given input.new - I.given input.old) (I.remaining input.old)))).0 ≡ O.written output.new ++ laid (owed self.new.walk)) }
+        ensures held { IsTrue I.tells → OnOk result ((finish (O.written output.old)
+            (ahead self.old.walk (take (I.given input.new - I.given input.old) (I.remaining input.old)))).0 ≡
+            O.written output.new ++ laid (owed self.new.walk)) }
         ensures grown { length (O.written output.old) ≤ length (O.written output.new) }
         ensures stands { Stands result self.new.walk.phase }
-        ensures cause { IsGoing self.old.walk.phase → Rises result (I.read_faults input.old) (I.read_faults input.new) (O.write_faults output.old) (O.write_faults output.new) }
+        ensures cause { IsGoing self.old.walk.phase → Rises result (I.read_faults input.old) (I.read_faults input.new)
+            (O.write_faults output.old) (O.write_faults output.new) }
         ensures clean { Clean result (I.read_faults input.old) (I.read_faults input.new)
             (O.write_faults output.old) (O.write_faults output.new) }
         ensures full_faults { IsGoing self.old.walk.phase →
             O.full_faults output.new ≡ O.full_faults output.old + full_answered result }
-        ensures again { IsOver self.old.walk.phase → (self.new.walk ≡ self.old.walk) × (input.new ≡ input.old) × (output.new ≡ output.old) }
+        ensures again { IsOver self.old.walk.phase → (self.new.walk ≡ self.old.walk) × (input.new ≡ input.old) ×
+            (output.new ≡ output.old) }
         ensures fewer { OnMore result (todo self.new.walk < todo self.old.walk) }
         ensures read_frame { I.read_frame input.new ≡ I.read_frame input.old }
         ensures write_frame { O.write_frame output.new ≡ O.write_frame output.old }
         ensures read_faults { I.read_faults input.old ≤ I.read_faults input.new }
         ensures write_faults { O.write_faults output.old ≤ O.write_faults output.new }
         ensures reads { I.reads input.new ≤ I.reads input.old + (I.given input.new - I.given input.old) + 1 }
-        ensures writes { O.writes output.new ≤ O.writes output.old + 2 * (length (O.written output.new) - length (O.written output.old)) + 1 }
-        ensures progress { OnMore result (0 < (I.given input.new - I.given input.old) + (length (O.written output.new) - length (O.written output.old))) }
-        ensures turns { m.new.turns.number ≤ m.old.turns.number + (I.given input.new - I.given input.old) + 2 * (length (O.written output.new) - length (O.written output.old)) + 17 }
-        ensures few { OnMore result (m.new.turns.number ≤ m.old.turns.number + (I.given input.new - I.given input.old) + 2 * (length (O.written output.new) - length (O.written output.old)) + 2) }
+        ensures writes { O.writes output.new ≤ O.writes output.old + 2 *
+            (length (O.written output.new) - length (O.written output.old)) + 1 }
+        ensures progress { OnMore result (0 < (I.given input.new - I.given input.old) +
+            (length (O.written output.new) - length (O.written output.old))) }
+        ensures turns { m.new.turns.number ≤ m.old.turns.number + (I.given input.new - I.given input.old) + 2 *
+            (length (O.written output.new) - length (O.written output.old)) + 17 }
+        ensures few { OnMore result (m.new.turns.number ≤ m.old.turns.number +
+            (I.given input.new - I.given input.old) + 2 * (length (O.written output.new) - length
+            (O.written output.old)) + 2) }
         ensures steps { m.new.steps.number ≡ m.old.steps.number + 1 }
         ensures greatest { m.new.greatest.number ≡ max m.old.greatest.number (I.given input.new - I.given input.old) }
     {
@@ -99,8 +113,9 @@ impl Expander {
     }
 }
 
-/// Writes the expansion of the image at the front of the input, and reads no further. An error is the first fault of the
-/// image (1 to 10), behind what comes before it, or a device's (11 reading, 12 writing), behind a beginning of that.
+/// Writes the expansion of the image at the front of the input, and reads no further than it needs. An error is the first
+/// fault of the image (1 to 10), behind what comes before it, or a device's (11 reading, 12 writing), behind a beginning
+/// of that.
 pub fn expand<I: Input, O: Output>(
     input: &mut I,
     output: &mut O,
@@ -108,12 +123,18 @@ pub fn expand<I: Input, O: Output>(
     m: &mut Meter,
 ) -> Result<Expanded, SparseFault>
     ensures present { IsTrue I.tells → I.given input.new - I.given input.old ≤ length (I.remaining input.old) }
-    ensures rest { IsTrue I.tells → I.remaining input.new ≡ drop (I.given input.new - I.given input.old) (I.remaining input.old) }
+    ensures rest { IsTrue I.tells → I.remaining input.new ≡ drop (I.given input.new - I.given input.old)
+        (I.remaining input.old) }
     // An image is expanded, and anything else is refused with its own fault, behind what came before it.
-    ensures expands { IsTrue I.tells → Expands result (O.written output.old) (O.written output.new) (I.remaining input.old) (I.remaining input.new) }
+    ensures expands { IsTrue I.tells → Expands result (O.written output.old) (O.written output.new)
+        (I.remaining input.old) (I.remaining input.new) }
     // What is written is a beginning of what the bytes read give.
-    ensures begun { IsTrue I.tells → Begun (O.written output.old) (O.written output.new) (take (I.given input.new - I.given input.old) (I.remaining input.old)) }
-    ensures cause { Rises result (I.read_faults input.old) (I.read_faults input.new) (O.write_faults output.old) (O.write_faults output.new) }
+    ensures begun { IsTrue I.tells → Begun (O.written output.old) (O.written output.new)
+        (take (I.given input.new - I.given input.old) (I.remaining input.old)) }
+    // No byte is read that is not needed: none behind an image, and none once a fault is known.
+    ensures needed { IsTrue I.tells → AllNeeded (I.remaining input.old) (I.given input.new - I.given input.old) }
+    ensures cause { Rises result (I.read_faults input.old) (I.read_faults input.new) (O.write_faults output.old)
+        (O.write_faults output.new) }
     ensures clean { Clean result (I.read_faults input.old) (I.read_faults input.new)
         (O.write_faults output.old) (O.write_faults output.new) }
     ensures full_faults { O.full_faults output.new ≡ O.full_faults output.old + full_answered result }
@@ -123,8 +144,12 @@ pub fn expand<I: Input, O: Output>(
     ensures write_frame { O.write_frame output.new ≡ O.write_frame output.old }
     ensures read_faults { I.read_faults input.old ≤ I.read_faults input.new }
     ensures write_faults { O.write_faults output.old ≤ O.write_faults output.new }
-    ensures calls { (I.reads input.new - I.reads input.old) + (O.writes output.new - O.writes output.old) ≤ 8 * ((I.given input.new - I.given input.old) + (length (O.written output.new) - length (O.written output.old))) + 512 }
-    ensures turns { m.new.turns.number ≤ m.old.turns.number + 8 * ((I.given input.new - I.given input.old) + (length (O.written output.new) - length (O.written output.old))) + 512 }
+    ensures calls { (I.reads input.new - I.reads input.old) + (O.writes output.new - O.writes output.old) ≤ 8 *
+        ((I.given input.new - I.given input.old) + (length (O.written output.new) - length (O.written output.old))) +
+        512 }
+    ensures turns { m.new.turns.number ≤ m.old.turns.number + 8 *
+        ((I.given input.new - I.given input.old) + (length (O.written output.new) - length (O.written output.old))) +
+        512 }
     ensures steps { I.given input.new + 65580 * m.old.steps.number ≤ I.given input.old + 65580 * m.new.steps.number }
     ensures greatest { m.new.greatest.number ≤ max m.old.greatest.number 65580 }
 {
@@ -137,7 +162,7 @@ pub fn expand<I: Input, O: Output>(
                 let header = machine.walk.header;
                 return Ok(Expanded {
                     blocks: header.total_blks,
-                    bytes: length_of_data(header.blk_sz, ChunkKind::Raw, header.total_blks),
+                    bytes: data_length(header.blk_sz, ChunkKind::Raw, header.total_blks),
                 });
             }
             Err(fault) => return Err(fault),

@@ -17,7 +17,8 @@ pub fn write_part<O: Output>(
 ) -> Result<(), DeviceFault>
     requires { IsWritable part }
     ensures ok { OnOk result (O.written output.new ≡ O.written output.old ++ laid_by part w.old.bytes) }
-    ensures front { O.written output.new ≡ O.written output.old ++ take (length (O.written output.new) - length (O.written output.old)) (laid_by part w.old.bytes) }
+    ensures front { O.written output.new ≡ O.written output.old ++ take
+        (length (O.written output.new) - length (O.written output.old)) (laid_by part w.old.bytes) }
     ensures grown { length (O.written output.old) ≤ length (O.written output.new) }
     ensures some { OnOk result (IsWords part → length (O.written output.old) < length (O.written output.new)) }
     ensures quiet { IsQuiet part → output.new ≡ output.old }
@@ -26,9 +27,12 @@ pub fn write_part<O: Output>(
     ensures cause { OnErr result (O.write_faults output.old < O.write_faults output.new) }
     ensures clean { OnOk result (O.write_faults output.new ≡ O.write_faults output.old) }
     ensures full_faults { O.full_faults output.new ≡ O.full_faults output.old + full_of result }
-    ensures calls { O.writes output.new + 2 * length (O.written output.old) ≤ O.writes output.old + 2 * length (O.written output.new) + 1 }
-    ensures turns { m.new.turns.number + 2 * length (O.written output.old) ≤ m.old.turns.number + 2 * length (O.written output.new) + 16 }
-    ensures few { OnOk result (m.new.turns.number + 2 * length (O.written output.old) ≤ m.old.turns.number + 2 * length (O.written output.new) + 1) }
+    ensures calls { O.writes output.new + 2 * length (O.written output.old) ≤ O.writes output.old + 2 * length
+        (O.written output.new) + 1 }
+    ensures turns { m.new.turns.number + 2 * length (O.written output.old) ≤ m.old.turns.number + 2 * length
+        (O.written output.new) + 16 }
+    ensures few { OnOk result (m.new.turns.number + 2 * length (O.written output.old) ≤ m.old.turns.number +
+        2 * length (O.written output.new) + 1) }
     ensures steps { m.new.steps.number ≡ m.old.steps.number }
     ensures greatest { m.new.greatest.number ≡ m.old.greatest.number }
 {
@@ -50,7 +54,8 @@ fn write_words<O: Output>(
 ) -> Result<(), DeviceFault>
     requires { 0 < n }
     ensures ok { OnOk result (O.written output.new ≡ O.written output.old ++ concat (replicate n word)) }
-    ensures front { O.written output.new ≡ O.written output.old ++ take (length (O.written output.new) - length (O.written output.old)) (concat (replicate n word)) }
+    ensures front { O.written output.new ≡ O.written output.old ++ take
+        (length (O.written output.new) - length (O.written output.old)) (concat (replicate n word)) }
     ensures grown { length (O.written output.old) ≤ length (O.written output.new) }
     ensures all { OnOk result (length (O.written output.new) ≡ length (O.written output.old) + 4 * n) }
     ensures frame { O.write_frame output.new ≡ O.write_frame output.old }
@@ -58,9 +63,12 @@ fn write_words<O: Output>(
     ensures cause { OnErr result (O.write_faults output.old < O.write_faults output.new) }
     ensures clean { OnOk result (O.write_faults output.new ≡ O.write_faults output.old) }
     ensures full_faults { O.full_faults output.new ≡ O.full_faults output.old + full_of result }
-    ensures calls { O.writes output.new + 2 * length (O.written output.old) ≤ O.writes output.old + 2 * length (O.written output.new) + 1 }
-    ensures turns { m.new.turns.number + 2 * length (O.written output.old) ≤ m.old.turns.number + 2 * length (O.written output.new) + 16 }
-    ensures few { OnOk result (m.new.turns.number + 2 * length (O.written output.old) ≤ m.old.turns.number + 2 * length (O.written output.new)) }
+    ensures calls { O.writes output.new + 2 * length (O.written output.old) ≤ O.writes output.old + 2 * length
+        (O.written output.new) + 1 }
+    ensures turns { m.new.turns.number + 2 * length (O.written output.old) ≤ m.old.turns.number + 2 * length
+        (O.written output.new) + 16 }
+    ensures few { OnOk result (m.new.turns.number + 2 * length (O.written output.old) ≤ m.old.turns.number +
+        2 * length (O.written output.new)) }
     ensures steps { m.new.steps.number ≡ m.old.steps.number }
     ensures greatest { m.new.greatest.number ≡ m.old.greatest.number }
 {

@@ -1,24 +1,10 @@
 //! What follows from the kind of a chunk, in small functions that the machine calls and the proofs cite.
 
-ghost use Rattle.std.specs.Prelude.{◌≡◌, ◌<◌, ◌-◌, ◌^◌};
-ghost use Rattle.abt_sparse.specs.Reading.{data_len, counted};
+ghost use Rattle.std.specs.Prelude.{◌≡◌, ◌<◌, ◌^◌};
 ghost use Rattle.abt_chunks.specs.Ahead.{raw_of, due_of, words_of, left_of};
 ghost use Rattle.abt_chunks.specs.Walking.{is_spent};
 
 use abt_sparse::ChunkKind;
-
-/// How many bytes of data a chunk of so many blocks has behind its header.
-pub fn length_of_data(block_size: u32, kind: ChunkKind, blocks: u32) -> u64
-    ensures value { result ≡ data_len block_size kind blocks }
-    ensures fits { result < 2 ^ 64 - 2 ^ 32 }
-{
-    match kind {
-        ChunkKind::Raw => u64::from(blocks) * u64::from(block_size),
-        ChunkKind::Fill => 4,
-        ChunkKind::Skip => 0,
-        ChunkKind::Crc => 4,
-    }
-}
 
 /// How many bytes of the chunk's blocks are still to be given.
 pub fn bytes_left(kind: ChunkKind, raw: u64, words: u64) -> u64
@@ -30,16 +16,6 @@ pub fn bytes_left(kind: ChunkKind, raw: u64, words: u64) -> u64
         ChunkKind::Fill => 4 * words,
         ChunkKind::Skip => 4 * words,
         ChunkKind::Crc => 0,
-    }
-}
-
-/// The blocks that it counts: those of a checksum are ignored.
-pub fn counted_blocks(kind: ChunkKind, blocks: u32) -> u32
-    ensures { result ≡ counted kind blocks }
-{
-    match kind {
-        ChunkKind::Crc => 0,
-        _ => blocks,
     }
 }
 

@@ -5,6 +5,7 @@ ghost use Rattle.abt_sparse.specs.Cause.{full_answered};
 ghost use Rattle.abt_chunks.specs.Cause.{Clean, UnlessCut, wanted};
 ghost use Rattle.abt_chunks.specs.Expanding.{IsGoing, OnDone, OnMore, Rises, Stands, UnlessDevice};
 ghost use Rattle.abt_chunks.specs.Listing.{headless, listing_of};
+ghost use Rattle.abt_chunks.specs.Taking.{ReadsOn, input_state};
 ghost use Rattle.abt_chunks.specs.Walking.{IsOver, MayEnd, Numbers, at_end, info_at, is_between, todo};
 ghost use Rattle.abt_chunks.specs.Showing.{IsFew, ListsTo, Lists_next, Opens, Passes, Settles, Stands_next};
 
@@ -31,8 +32,7 @@ fn step<I: Input>(
     m: &mut Meter,
 ) -> Result<Progress, SparseFault>
     ensures asked { I.given input.old ≤ I.given input.new × I.given input.new ≤ I.given input.old + 65536 }
-    ensures present { IsTrue I.tells → I.given input.new - I.given input.old ≤ length (I.remaining input.old) }
-    ensures rest { IsTrue I.tells → I.remaining input.new ≡ drop (I.given input.new - I.given input.old) (I.remaining input.old) }
+    ensures input { ReadsOn I.tells (input_state I.Input input.old) (input_state I.Input input.new) }
     ensures lists { IsTrue I.tells → ListsTo result walk.old walk.new (I.remaining input.old) (I.remaining input.new) }
     ensures numbers { OnMore result (Numbers walk.old.phase walk.old walk.new (I.given input.new - I.given input.old)) }
     ensures closes { OnDone result (MayEnd walk.old.phase walk.old) }
@@ -45,8 +45,6 @@ fn step<I: Input>(
     ensures failed { IsGoing walk.old.phase → full_answered result ≡ 0 }
     ensures again { IsOver walk.old.phase → (walk.new ≡ walk.old) × (input.new ≡ input.old) }
     ensures fewer { OnMore result (todo walk.new < todo walk.old) }
-    ensures read_frame { I.read_frame input.new ≡ I.read_frame input.old }
-    ensures read_faults { I.read_faults input.old ≤ I.read_faults input.new }
     ensures reads { I.reads input.new ≤ I.reads input.old + (I.given input.new - I.given input.old) + 1 }
     ensures moves { OnMore result (at_end walk.new ≡ false → 0 < I.given input.new - I.given input.old) }
     ensures turns { m.new.turns.number ≤ m.old.turns.number + (I.given input.new - I.given input.old) + 1 }
@@ -68,8 +66,7 @@ fn pass<I: Input>(
 ) -> Result<(), SparseFault>
     requires { walk.old.phase ≡ Phase.Body }
     ensures given { I.given input.old ≤ I.given input.new }
-    ensures present { IsTrue I.tells → I.given input.new - I.given input.old ≤ length (I.remaining input.old) }
-    ensures rest { IsTrue I.tells → I.remaining input.new ≡ drop (I.given input.new - I.given input.old) (I.remaining input.old) }
+    ensures input { ReadsOn I.tells (input_state I.Input input.old) (input_state I.Input input.new) }
     ensures passes { IsTrue I.tells → Passes result walk.old walk.new (I.remaining input.old) (I.remaining input.new) }
     ensures settles { Settles result walk.new }
     ensures index { OnOk result (walk.new.index ≡ walk.old.index) }
@@ -78,8 +75,6 @@ fn pass<I: Input>(
     ensures cause { Rises result (I.read_faults input.old) (I.read_faults input.new) 0 0 }
     ensures clean { Clean result (I.read_faults input.old) (I.read_faults input.new) 0 0 }
     ensures failed { full_answered result ≡ 0 }
-    ensures read_frame { I.read_frame input.new ≡ I.read_frame input.old }
-    ensures read_faults { I.read_faults input.old ≤ I.read_faults input.new }
     ensures reads { I.reads input.new ≤ I.reads input.old + 2 * (I.given input.new - I.given input.old) + 1 }
     ensures turns { m.new.turns.number ≤ m.old.turns.number + 3 * (I.given input.new - I.given input.old) + 2 }
     ensures steps { I.given input.new + 65536 * m.old.steps.number ≤ I.given input.old + 65536 * m.new.steps.number }
@@ -122,8 +117,11 @@ impl Chunks {
     ) -> Result<Chunks, SparseFault>
         ensures given { I.given input.old ≤ I.given input.new }
         ensures present { IsTrue I.tells → I.given input.new - I.given input.old ≤ length (I.remaining input.old) }
-        ensures rest { IsTrue I.tells → I.remaining input.new ≡ drop (I.given input.new - I.given input.old) (I.remaining input.old) }
-        ensures opens { IsTrue I.tells → MatchResult result (λ chunks. Opens chunks.walk (I.remaining input.old) (I.remaining input.new)) (λ fault. UnlessDevice fault (listing_of (I.remaining input.old) ≡ headless fault)) }
+        ensures rest { IsTrue I.tells → I.remaining input.new ≡ drop (I.given input.new - I.given input.old)
+            (I.remaining input.old) }
+        ensures opens { IsTrue I.tells → MatchResult result (λ chunks. Opens chunks.walk (I.remaining input.old)
+            (I.remaining input.new)) (λ fault. UnlessDevice fault
+            (listing_of (I.remaining input.old) ≡ headless fault)) }
         // A header that is refused for what it says is known once its 28 bytes have been read, and no more are.
         ensures bounded { IfErr result (λ f. UnlessCut f (I.given input.new ≤ I.given input.old + 28)) }
         ensures cause { Rises result (I.read_faults input.old) (I.read_faults input.new) 0 0 }
@@ -133,7 +131,8 @@ impl Chunks {
         ensures read_faults { I.read_faults input.old ≤ I.read_faults input.new }
         ensures calls { I.reads input.new ≤ I.reads input.old + 8 * (I.given input.new - I.given input.old) + 8 }
         ensures turns { m.new.turns.number ≤ m.old.turns.number + 8 * (I.given input.new - I.given input.old) + 8 }
-        ensures steps { I.given input.new + 65536 * m.old.steps.number ≤ I.given input.old + 65536 * m.new.steps.number }
+        ensures steps { I.given input.new + 65536 * m.old.steps.number ≤ I.given input.old +
+            65536 * m.new.steps.number }
         ensures greatest { m.new.greatest.number ≤ max m.old.greatest.number 65536 }
     {
         let mut walk = Walk::new();
@@ -166,13 +165,16 @@ impl Chunks {
     ) -> Result<Option<ChunkInfo>, SparseFault>
         ensures given { I.given input.old ≤ I.given input.new }
         ensures present { IsTrue I.tells → I.given input.new - I.given input.old ≤ length (I.remaining input.old) }
-        ensures rest { IsTrue I.tells → I.remaining input.new ≡ drop (I.given input.new - I.given input.old) (I.remaining input.old) }
-        ensures lists { IsTrue I.tells → Lists_next result self.old.walk self.new.walk (I.remaining input.old) (I.remaining input.new) }
+        ensures rest { IsTrue I.tells → I.remaining input.new ≡ drop (I.given input.new - I.given input.old)
+            (I.remaining input.old) }
+        ensures lists { IsTrue I.tells → Lists_next result self.old.walk self.new.walk (I.remaining input.old)
+            (I.remaining input.new) }
         ensures stands { Stands_next result self.new.walk.phase }
         ensures header { self.new.walk.header ≡ self.old.walk.header }
         // A chunk that is refused for what it says is known once its first 12 bytes have been read, and no more are.
         ensures bounded { IfErr result (λ f. UnlessCut f (I.given input.new ≤ I.given input.old + 12)) }
-        ensures cause { IsGoing self.old.walk.phase → Rises result (I.read_faults input.old) (I.read_faults input.new) 0 0 }
+        ensures cause { IsGoing self.old.walk.phase → Rises result (I.read_faults input.old)
+            (I.read_faults input.new) 0 0 }
         ensures clean { Clean result (I.read_faults input.old) (I.read_faults input.new) 0 0 }
         ensures failed { IsGoing self.old.walk.phase → full_answered result ≡ 0 }
         ensures again { IsOver self.old.walk.phase → (self.new.walk ≡ self.old.walk) × (input.new ≡ input.old) }
@@ -180,8 +182,10 @@ impl Chunks {
         ensures read_faults { I.read_faults input.old ≤ I.read_faults input.new }
         ensures calls { I.reads input.new ≤ I.reads input.old + 8 * (I.given input.new - I.given input.old) + 8 }
         ensures turns { m.new.turns.number ≤ m.old.turns.number + 8 * (I.given input.new - I.given input.old) + 8 }
-        ensures few { IsFew result (I.given input.new - I.given input.old) (I.reads input.new - I.reads input.old) (m.new.turns.number - m.old.turns.number) }
-        ensures steps { I.given input.new + 65536 * m.old.steps.number ≤ I.given input.old + 65536 * m.new.steps.number }
+        ensures few { IsFew result (I.given input.new - I.given input.old) (I.reads input.new - I.reads input.old)
+            (m.new.turns.number - m.old.turns.number) }
+        ensures steps { I.given input.new + 65536 * m.old.steps.number ≤ I.given input.old +
+            65536 * m.new.steps.number }
         ensures greatest { m.new.greatest.number ≤ max m.old.greatest.number 65536 }
     {
         m.tick();

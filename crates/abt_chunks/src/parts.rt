@@ -2,21 +2,21 @@
 //!
 //! Each function that takes a turn has the same clauses. `says`: what lies ahead is what the part gives, and then what
 //! lies ahead behind it, whatever bytes follow. `lists`: the same of what a listing shows. `short`: too few bytes are a
-//! fault. `leaves`, `moved`, `numbers`, `closes`, `empties`: the phase and the counts behind it. `inside`, `place`: where
-//! its bytes lie in the expanded image. `header`: the header of the image stays once it has been read. `cause`: whose
-//! fault it is. `fewer`: less is left to do.
+//! fault. `turn`: what every turn leaves (`TurnTaken`). `closes`, `empties`: where a chunk ends. `place`: where the next
+//! byte of a block lies in the expanded image. `cause`: whose fault it is.
 
 ghost use Rattle.std.specs.Prelude.{◌≡◌, ◌≤◌, ◌<◌, ◌+◌, ℕ, List, [], length, IsTrue, true, false, ◌-◌, take, drop};
 ghost use Rattle.abt_sparse.specs.Reading.{kind_at, number_at};
 ghost use Rattle.abt_chunks.specs.Cause.{CleanPart, full_in_part, wanted};
 ghost use Rattle.abt_chunks.specs.Expanding.{IsGoing};
 ghost use Rattle.abt_chunks.specs.Walking.{Says, Shows, Lists, Numbers, Empties, Closes, Leaves, Moved, Within, Caused, Told, AtTurn, IsOver, ask_of, needed_of, todo, place_of, upto_of, given_by, is_fault, goes_on};
+ghost use Rattle.abt_chunks.specs.Taking.{TurnTaken};
 ghost use Rattle.abt_chunks.specs.Feeding.{TakesWhole};
 
-use crate::kinds::{counted_blocks, has_word, laid_words, length_of_data, raw_bytes};
+use crate::kinds::{has_word, laid_words, raw_bytes};
 use crate::walk::{Part, Phase, Taken, Turn, Walk};
-use abt_io::{Input, Meter, Window, gather};
-use abt_sparse::{ChunkKind, SparseFault, header_of, u16_at, u32_at};
+use abt_io::{Input, Meter, WINDOW, Window, gather};
+use abt_sparse::{ChunkKind, SparseFault, counted_blocks, data_length, header_of, u16_at, u32_at};
 
 impl Walk {
     /// The header of the image, 28 bytes and its five checks.
@@ -27,16 +27,11 @@ impl Walk {
         ensures says { (t : List ℕ) → (length got.now < 28 → t ≡ []) → Says result self.old self.new got.now t }
         ensures lists { (t : List ℕ) → (length got.now < 28 → t ≡ []) → Shows result self.old self.new got.now t }
         ensures short { length got.now < 28 → IsTrue (is_fault result) }
-        ensures leaves { Leaves result self.new.phase }
-        ensures moved { Moved result (length got.now) }
-        ensures inside { place_of self.old + given_by result ≤ upto_of self.old }
+        ensures turn { TurnTaken result self.old self.new (length got.now) }
         ensures within { (fills skips : ℕ) → Within result fills skips }
         ensures empties { (fills skips : ℕ) → Empties result self.old self.new fills skips }
         ensures closes { Closes result self.old.phase self.old }
-        ensures header { self.old.phase ≡ Phase.Body → self.new.header ≡ self.old.header }
         ensures cause { Caused result self.old.phase 1 0 }
-        ensures fewer { IsTrue (goes_on result) → todo self.new < todo self.old }
-        ensures numbers { IsTrue (goes_on result) → Numbers self.old.phase self.old self.new (length got.now) }
         ensures place { IsTrue (goes_on result) → place_of self.new ≡ place_of self.old + given_by result }
     {
         if got.len() < 28 {
@@ -74,16 +69,11 @@ impl Walk {
         ensures says { (t : List ℕ) → (length got.now < 1 → t ≡ []) → Says result self.old self.new got.now t }
         ensures lists { (t : List ℕ) → (length got.now < 1 → t ≡ []) → Shows result self.old self.new got.now t }
         ensures short { length got.now < 1 → IsTrue (is_fault result) }
-        ensures leaves { Leaves result self.new.phase }
-        ensures moved { Moved result (length got.now) }
-        ensures inside { place_of self.old + given_by result ≤ upto_of self.old }
+        ensures turn { TurnTaken result self.old self.new (length got.now) }
         ensures within { (fills skips : ℕ) → Within result fills skips }
         ensures empties { (fills skips : ℕ) → Empties result self.old self.new fills skips }
         ensures closes { Closes result self.old.phase self.old }
-        ensures header { self.old.phase ≡ Phase.Body → self.new.header ≡ self.old.header }
         ensures cause { Caused result self.old.phase 1 0 }
-        ensures fewer { IsTrue (goes_on result) → todo self.new < todo self.old }
-        ensures numbers { IsTrue (goes_on result) → Numbers self.old.phase self.old self.new (length got.now) }
         ensures place { IsTrue (goes_on result) → place_of self.new ≡ place_of self.old + given_by result }
     {
         if got.is_empty() {
@@ -101,16 +91,11 @@ impl Walk {
         ensures says { (t : List ℕ) → (length got.now < 1 → t ≡ []) → Says result self.old self.new got.now t }
         ensures lists { (t : List ℕ) → (length got.now < 1 → t ≡ []) → Shows result self.old self.new got.now t }
         ensures short { length got.now < 1 → IsTrue (is_fault result) }
-        ensures leaves { Leaves result self.new.phase }
-        ensures moved { Moved result (length got.now) }
-        ensures inside { place_of self.old + given_by result ≤ upto_of self.old }
+        ensures turn { TurnTaken result self.old self.new (length got.now) }
         ensures within { (fills skips : ℕ) → Within result fills skips }
         ensures empties { (fills skips : ℕ) → Empties result self.old self.new fills skips }
         ensures closes { Closes result self.old.phase self.old }
-        ensures header { self.old.phase ≡ Phase.Body → self.new.header ≡ self.old.header }
         ensures cause { Caused result self.old.phase 1 0 }
-        ensures fewer { IsTrue (goes_on result) → todo self.new < todo self.old }
-        ensures numbers { IsTrue (goes_on result) → Numbers self.old.phase self.old self.new (length got.now) }
         ensures place { IsTrue (goes_on result) → place_of self.new ≡ place_of self.old + given_by result }
     {
         if got.is_empty() {
@@ -129,16 +114,11 @@ impl Walk {
         ensures says { (t : List ℕ) → (length got.now < 4 → t ≡ []) → Says result self.old self.new got.now t }
         ensures lists { (t : List ℕ) → (length got.now < 4 → t ≡ []) → Shows result self.old self.new got.now t }
         ensures short { length got.now < 4 → IsTrue (is_fault result) }
-        ensures leaves { Leaves result self.new.phase }
-        ensures moved { Moved result (length got.now) }
-        ensures inside { place_of self.old + given_by result ≤ upto_of self.old }
+        ensures turn { TurnTaken result self.old self.new (length got.now) }
         ensures within { (fills skips : ℕ) → Within result fills skips }
         ensures empties { (fills skips : ℕ) → Empties result self.old self.new fills skips }
         ensures closes { Closes result self.old.phase self.old }
-        ensures header { self.old.phase ≡ Phase.Body → self.new.header ≡ self.old.header }
         ensures cause { Caused result self.old.phase 1 0 }
-        ensures fewer { IsTrue (goes_on result) → todo self.new < todo self.old }
-        ensures numbers { IsTrue (goes_on result) → Numbers self.old.phase self.old self.new (length got.now) }
         ensures place { IsTrue (goes_on result) → place_of self.new ≡ place_of self.old + given_by result }
     {
         if got.len() < 4 {
@@ -159,16 +139,11 @@ impl Walk {
         ensures says { (t : List ℕ) → (length got.now < 12 → t ≡ []) → Says result self.old self.new got.now t }
         ensures lists { (t : List ℕ) → (length got.now < 12 → t ≡ []) → Shows result self.old self.new got.now t }
         ensures short { length got.now < 12 → IsTrue (is_fault result) }
-        ensures leaves { Leaves result self.new.phase }
-        ensures moved { Moved result (length got.now) }
-        ensures inside { place_of self.old + given_by result ≤ upto_of self.old }
+        ensures turn { TurnTaken result self.old self.new (length got.now) }
         ensures within { (fills skips : ℕ) → Within result fills skips }
         ensures empties { (fills skips : ℕ) → Empties result self.old self.new fills skips }
         ensures closes { Closes result self.old.phase self.old }
-        ensures header { self.old.phase ≡ Phase.Body → self.new.header ≡ self.old.header }
         ensures cause { Caused result self.old.phase 1 0 }
-        ensures fewer { IsTrue (goes_on result) → todo self.new < todo self.old }
-        ensures numbers { IsTrue (goes_on result) → Numbers self.old.phase self.old self.new (length got.now) }
         ensures place { IsTrue (goes_on result) → place_of self.new ≡ place_of self.old + given_by result }
     {
         if got.len() < 12 {
@@ -193,22 +168,17 @@ impl Walk {
         ensures no_blocks { given_by result ≡ 0 }
         ensures says { (t : List ℕ) → Says result self.old self.new got.now t }
         ensures lists { (t : List ℕ) → Shows result self.old self.new got.now t }
-        ensures leaves { Leaves result self.new.phase }
-        ensures moved { Moved result (length got.now) }
-        ensures inside { place_of self.old + given_by result ≤ upto_of self.old }
+        ensures turn { TurnTaken result self.old self.new (length got.now) }
         ensures within { (fills skips : ℕ) → Within result fills skips }
         ensures empties { (fills skips : ℕ) → Empties result self.old self.new fills skips }
         ensures closes { Closes result self.old.phase self.old }
-        ensures header { self.old.phase ≡ Phase.Body → self.new.header ≡ self.old.header }
         ensures cause { Caused result self.old.phase 1 0 }
-        ensures fewer { IsTrue (goes_on result) → todo self.new < todo self.old }
-        ensures numbers { IsTrue (goes_on result) → Numbers self.old.phase self.old self.new (length got.now) }
         ensures place { IsTrue (goes_on result) → place_of self.new ≡ place_of self.old + given_by result }
     {
         let blocks = u32_at(got, 4);
         let total = u32_at(got, 8);
         let header = self.header;
-        let length = length_of_data(header.blk_sz, kind, blocks);
+        let length = data_length(header.blk_sz, kind, blocks);
         if u64::from(total) != u64::from(header.chunk_hdr_sz) + length {
             return self.fail(SparseFault::ChunkLength { chunk: self.index });
         }
@@ -239,17 +209,12 @@ impl Walk {
         requires some { 0 < most }
         ensures says { (t : List ℕ) → Says result self.old self.new [] t }
         ensures lists { (t : List ℕ) → Shows result self.old self.new [] t }
-        ensures leaves { Leaves result self.new.phase }
+        ensures turn { TurnTaken result self.old self.new 0 }
         ensures words { Part.Words self.old.word (self.old.words - self.new.words) ≡ result }
-        ensures moved { Moved result 0 }
-        ensures inside { place_of self.old + given_by result ≤ upto_of self.old }
         ensures within { (skips : ℕ) → Within result most skips }
         ensures empties { (skips : ℕ) → Empties result self.old self.new most skips }
         ensures closes { Closes result self.old.phase self.old }
-        ensures header { self.old.phase ≡ Phase.Body → self.new.header ≡ self.old.header }
         ensures cause { Caused result Phase.Body 1 0 }
-        ensures fewer { todo self.new < todo self.old }
-        ensures numbers { Numbers self.old.phase self.old self.new 0 }
         ensures place { place_of self.new ≡ place_of self.old + given_by result }
     {
         let n = self.words.min(most);
@@ -263,17 +228,12 @@ impl Walk {
         requires some { 0 < most }
         ensures says { (t : List ℕ) → Says result self.old self.new [] t }
         ensures lists { (t : List ℕ) → Shows result self.old self.new [] t }
-        ensures leaves { Leaves result self.new.phase }
+        ensures turn { TurnTaken result self.old self.new 0 }
         ensures gap { Part.Skip (self.old.words - self.new.words) ≡ result }
-        ensures moved { Moved result 0 }
-        ensures inside { place_of self.old + given_by result ≤ upto_of self.old }
         ensures within { (fills : ℕ) → Within result fills most }
         ensures empties { (fills : ℕ) → Empties result self.old self.new fills most }
         ensures closes { Closes result self.old.phase self.old }
-        ensures header { self.old.phase ≡ Phase.Body → self.new.header ≡ self.old.header }
         ensures cause { Caused result Phase.Body 1 0 }
-        ensures fewer { todo self.new < todo self.old }
-        ensures numbers { Numbers self.old.phase self.old self.new 0 }
         ensures place { place_of self.new ≡ place_of self.old + given_by result }
     {
         let n = self.words.min(most);
@@ -286,13 +246,10 @@ impl Walk {
         requires here { AtTurn Turn.End self.old }
         ensures says { (t : List ℕ) → Says result self.old self.new [] t }
         ensures lists { (t : List ℕ) → Shows result self.old self.new [] t }
-        ensures leaves { Leaves result self.new.phase }
-        ensures moved { Moved result 0 }
-        ensures inside { place_of self.old + given_by result ≤ upto_of self.old }
+        ensures turn { TurnTaken result self.old self.new 0 }
         ensures within { (fills skips : ℕ) → Within result fills skips }
         ensures empties { (fills skips : ℕ) → Empties result self.old self.new fills skips }
         ensures closes { Closes result self.old.phase self.old }
-        ensures header { self.old.phase ≡ Phase.Body → self.new.header ≡ self.old.header }
         ensures cause { Caused result self.old.phase 1 0 }
         ensures over { goes_on result ≡ false }
     {
@@ -308,9 +265,7 @@ impl Walk {
         requires here { AtTurn Turn.Over self.now }
         ensures says { (t : List ℕ) → Says result self.now self.now [] t }
         ensures lists { (t : List ℕ) → Shows result self.now self.now [] t }
-        ensures leaves { Leaves result self.now.phase }
-        ensures moved { Moved result 0 }
-        ensures inside { place_of self.now + given_by result ≤ upto_of self.now }
+        ensures turn { TurnTaken result self.now self.now 0 }
         ensures within { (fills skips : ℕ) → Within result fills skips }
         ensures empties { (fills skips : ℕ) → Empties result self.now self.now fills skips }
         ensures closes { Closes result self.now.phase self.now }
@@ -330,19 +285,16 @@ impl Walk {
         requires fills { 0 < fills }
         requires skips { 0 < skips }
         ensures no_blocks { TakesWhole turn → given_by result ≡ 0 }
-        ensures says { (t : List ℕ) → (length got.now < needed_of turn → t ≡ []) → Says result self.old self.new got.now t }
-        ensures lists { (t : List ℕ) → (length got.now < needed_of turn → t ≡ []) → Shows result self.old self.new got.now t }
+        ensures says { (t : List ℕ) → (length got.now < needed_of turn → t ≡ []) →
+            Says result self.old self.new got.now t }
+        ensures lists { (t : List ℕ) → (length got.now < needed_of turn → t ≡ []) →
+            Shows result self.old self.new got.now t }
         ensures short { length got.now < needed_of turn → IsTrue (is_fault result) }
-        ensures leaves { Leaves result self.new.phase }
-        ensures moved { Moved result (length got.now) }
-        ensures inside { place_of self.old + given_by result ≤ upto_of self.old }
+        ensures turn { TurnTaken result self.old self.new (length got.now) }
         ensures within { Within result fills skips }
         ensures empties { Empties result self.old self.new fills skips }
         ensures closes { Closes result self.old.phase self.old }
-        ensures header { self.old.phase ≡ Phase.Body → self.new.header ≡ self.old.header }
         ensures cause { Caused result self.old.phase 1 0 }
-        ensures fewer { IsTrue (goes_on result) → todo self.new < todo self.old }
-        ensures numbers { IsTrue (goes_on result) → Numbers self.old.phase self.old self.new (length got.now) }
         ensures place { IsTrue (goes_on result) → place_of self.new ≡ place_of self.old + given_by result }
         ensures over { IsOver self.old.phase → self.new ≡ self.old }
     {
@@ -377,6 +329,57 @@ impl Walk {
         ensures wanted { result.received ≤ wanted self.old }
         ensures present { IsTrue I.tells → result.received ≤ length (I.remaining input.old) }
         ensures rest { IsTrue I.tells → I.remaining input.new ≡ drop result.received (I.remaining input.old) }
+        ensures window { IsTrue I.tells → take result.received w.new.bytes ≡ take result.received
+            (I.remaining input.old) }
+        // What it says of the image: for every continuation t, and at a fault for what is really left.
+        ensures says { IsTrue I.tells → (t : List ℕ) → (is_fault result.part ≡ true → t ≡ I.remaining input.new) →
+            Told result.part self.old self.new (take result.received (I.remaining input.old)) t }
+        ensures lists { IsTrue I.tells → (t : List ℕ) → (is_fault result.part ≡ true → t ≡ I.remaining input.new) →
+            Lists result.part self.old self.new (take result.received (I.remaining input.old)) t }
+        ensures leaves { Leaves result.part self.new.phase }
+        ensures moved { Moved result.part result.received }
+        ensures inside { place_of self.old + given_by result.part ≤ upto_of self.old }
+        ensures within { Within result.part fills skips }
+        ensures empties { Empties result.part self.old self.new fills skips }
+        ensures closes { Closes result.part self.old.phase self.old }
+        ensures header { self.old.phase ≡ Phase.Body → self.new.header ≡ self.old.header }
+        ensures cause { Caused result.part self.old.phase (I.read_faults input.old) (I.read_faults input.new) }
+        ensures clean { CleanPart result.part (I.read_faults input.old) (I.read_faults input.new) }
+        ensures failed { IsGoing self.old.phase → full_in_part result.part ≡ 0 }
+        ensures fewer { IsTrue (goes_on result.part) → todo self.new < todo self.old }
+        ensures numbers { IsTrue (goes_on result.part) → Numbers self.old.phase self.old self.new result.received }
+        ensures place { IsTrue (goes_on result.part) → place_of self.new ≡ place_of self.old + given_by result.part }
+        ensures over { IsOver self.old.phase → (self.new ≡ self.old) × (input.new ≡ input.old) }
+        ensures frame { I.read_frame input.new ≡ I.read_frame input.old }
+        ensures faults { I.read_faults input.old ≤ I.read_faults input.new }
+        ensures reads { I.reads input.new ≤ I.reads input.old + result.received + 1 }
+        ensures turns { m.new.turns.number ≤ m.old.turns.number + result.received + 1 }
+        ensures steps { m.new.steps.number ≡ m.old.steps.number }
+        ensures greatest { m.new.greatest.number ≡ m.old.greatest.number }
+    {
+        self.part_within(fills, skips, WINDOW, input, w, m)
+    }
+
+    /// The same with at most `most` bytes read, so that a caller has the rest of the window for itself.
+    pub fn part_within<I: Input>(
+        &mut self,
+        fills: u64,
+        skips: u64,
+        most: usize,
+        input: &mut I,
+        w: &mut Window,
+        m: &mut Meter,
+    ) -> Taken
+        requires fills { 0 < fills }
+        requires skips { 0 < skips }
+        requires least { 28 ≤ most }
+        requires most { most ≤ 65536 }
+        // What was received, and what is left of the input.
+        ensures received { I.given input.new ≡ I.given input.old + result.received }
+        ensures small { result.received ≤ most }
+        ensures wanted { result.received ≤ wanted self.old }
+        ensures present { IsTrue I.tells → result.received ≤ length (I.remaining input.old) }
+        ensures rest { IsTrue I.tells → I.remaining input.new ≡ drop result.received (I.remaining input.old) }
         ensures window { IsTrue I.tells → take result.received w.new.bytes ≡ take result.received (I.remaining input.old) }
         // What it says of the image: for every continuation t, and at a fault for what is really left.
         ensures says { IsTrue I.tells → (t : List ℕ) → (is_fault result.part ≡ true → t ≡ I.remaining input.new) → Told result.part self.old self.new (take result.received (I.remaining input.old)) t }
@@ -403,7 +406,8 @@ impl Walk {
         ensures greatest { m.new.greatest.number ≡ m.old.greatest.number }
     {
         let turn = self.turn();
-        let ask = self.ask(turn);
+        let wish = self.ask(turn);
+        let ask = wish.min(most);
         w.is_whole();
         let got = gather(input, w.part_mut(0, ask), m);
         let part = match got.fault {

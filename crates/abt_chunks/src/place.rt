@@ -3,10 +3,10 @@
 ghost use Rattle.std.specs.Prelude.{◌≡◌, ◌≤◌};
 ghost use Rattle.abt_chunks.specs.Walking.{at_end, AtTurn, ask_of, place_of};
 
-use crate::kinds::{bytes_left, length_of_data, nothing_left};
+use crate::kinds::{bytes_left, nothing_left};
 use crate::walk::{Part, Phase, Turn, Walk};
 use abt_io::WINDOW;
-use abt_sparse::{ChunkKind, SparseFault};
+use abt_sparse::{ChunkKind, SparseFault, data_length};
 
 impl Walk {
     /// Stops the walk: from now on every step answers this fault.
@@ -26,7 +26,7 @@ impl Walk {
         match self.phase {
             Phase::Header => 0,
             _ => {
-                let given = length_of_data(self.header.blk_sz, ChunkKind::Raw, self.have);
+                let given = data_length(self.header.blk_sz, ChunkKind::Raw, self.have);
                 given - bytes_left(self.kind, self.raw, self.words)
             }
         }

@@ -9,6 +9,7 @@ use Rattle.abt_chunks.specs.Ahead.{Ahead, seen}
 use Rattle.abt_chunks.proofs.Finishing.{told_more, begun_more, image_ends, refusal, unless_map, expansion_found, refused_found, begun_found}
 use Rattle.abt_io.specs.BytesLaws.{bytes_of_take}
 use Rattle.abt_sparse.proofs.Exactly.{is_so}
+use Rattle.abt_chunks.proofs.Needed.{needed_more, needed_none}
 use Rattle.abt_chunks.proofs.expander.expand.Goals as goal
 
 abbrev whole : List ℕ → Ahead
@@ -38,6 +39,7 @@ steps-preserved g c =
       rest = λ tells. rest_more rem (g.I.Input.remaining c.steps.input) _ k n j (i.rest tells) (e.rest tells) (omega arith);
       told = λ tells t. told_more (g.O.Output.written c.args.output.now) (g.O.Output.written c.steps.output) (g.O.Output.written c.step.new.output) rem (g.I.Input.remaining c.steps.input)
           c.steps.machine.walk c.step.new.self.walk k n j t whole (i.rest tells) (omega arith) (i.told tells) (c.in-Ok-More.ensures.told tells t (λ z. absurd cc));
+      needed = λ tells. needed_more (g.O.Output.written c.args.output.now) (g.O.Output.written c.steps.output) (g.I.Input.remaining c.args.input.now) (g.I.Input.remaining c.steps.input) c.steps.machine.walk (g.I.Input.given c.steps.input - g.I.Input.given c.args.input.now) (g.I.Input.given c.step.new.input - g.I.Input.given c.steps.input) (g.I.Input.given c.step.new.input - g.I.Input.given c.args.input.now) (g.met.I.Input.are_bytes c.args.input.now tells) (i.rest tells) (omega arith) (e.present tells) e.wanted (i.told tells) (i.needed tells);
       grown = omega arith;
       going = rw stands tt;
       read_frame = e.read_frame ∙ i.read_frame;
@@ -51,6 +53,18 @@ steps-preserved g c =
       steps = omega arith;
       greatest = omega arith;
     }
+
+pub returns-in-Ok-Done-clause-needed : goal.returns-in-Ok-Done-clause-needed
+returns-in-Ok-Done-clause-needed g c tells =
+    let i = c.steps.invariant in
+    let e = c.step.ensures in
+    needed_more (g.O.Output.written c.args.output.now) (g.O.Output.written c.steps.output) (g.I.Input.remaining c.args.input.now) (g.I.Input.remaining c.steps.input) c.steps.machine.walk (g.I.Input.given c.steps.input - g.I.Input.given c.args.input.now) (g.I.Input.given c.step.new.input - g.I.Input.given c.steps.input) (g.I.Input.given c.step.new.input - g.I.Input.given c.args.input.now) (g.met.I.Input.are_bytes c.args.input.now tells) (i.rest tells) (omega arith) (e.present tells) e.wanted (i.told tells) (i.needed tells)
+
+pub returns-in-Err-clause-needed : goal.returns-in-Err-clause-needed
+returns-in-Err-clause-needed g c tells =
+    let i = c.steps.invariant in
+    let e = c.step.ensures in
+    needed_more (g.O.Output.written c.args.output.now) (g.O.Output.written c.steps.output) (g.I.Input.remaining c.args.input.now) (g.I.Input.remaining c.steps.input) c.steps.machine.walk (g.I.Input.given c.steps.input - g.I.Input.given c.args.input.now) (g.I.Input.given c.step.new.input - g.I.Input.given c.steps.input) (g.I.Input.given c.step.new.input - g.I.Input.given c.args.input.now) (g.met.I.Input.are_bytes c.args.input.now tells) (i.rest tells) (omega arith) (e.present tells) e.wanted (i.told tells) (i.needed tells)
 
 pub returns-in-Ok-Done-clause-begun : goal.returns-in-Ok-Done-clause-begun
 returns-in-Ok-Done-clause-begun g c tells =
@@ -87,7 +101,7 @@ returns-in-Ok-Done-clause-expands g c tells =
     c.steps.machine.walk c.step.new.self.walk k n j left whole (i.rest tells) (omega arith) (i.told tells) (e.told tells left (λ z. refl)) in
     let joined : take j rem ++ left ≡ rem = ap (λ (l : List ℕ). take j rem ++ l) all ∙ take-append-drop j rem in
     let done = rw (joined, stands, append-nil) at told in
-    expansion_found rem (outcome rem) _ (g.O.Output.written c.args.output.now) (g.O.Output.written c.step.new.output) left (is_so rem (g.met.I.Input.are_bytes c.args.input.now tells)) (image_ends (outcome rem) _ (view c.step.new.self.walk.header) (g.O.Output.written c.args.output.now) (g.O.Output.written c.step.new.output) left done refl c.length_of_data.ensures.value)
+    expansion_found rem (outcome rem) _ (g.O.Output.written c.args.output.now) (g.O.Output.written c.step.new.output) left (is_so rem (g.met.I.Input.are_bytes c.args.input.now tells)) (image_ends (outcome rem) _ (view c.step.new.self.walk.header) (g.O.Output.written c.args.output.now) (g.O.Output.written c.step.new.output) left done refl c.data_length.ensures.value)
 
 pub returns-in-Err-clause-expands : goal.returns-in-Err-clause-expands
 returns-in-Err-clause-expands g c tells =

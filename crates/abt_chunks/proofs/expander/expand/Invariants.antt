@@ -4,6 +4,7 @@ use Rattle.abt_sparse.specs.Reading.{outcome}
 use Rattle.abt_chunks.specs.Ahead.{finish, seen}
 use Rattle.abt_chunks.specs.Walking.{ahead, todo}
 use Rattle.abt_chunks.specs.Expanding.{IsGoing}
+use Rattle.abt_chunks.specs.Whole.{AllNeeded}
 use Rattle.abt_chunks.proofs.expander.expand.Given as goal
 
 abbrev pub invariant-steps : goal.invariant-steps
@@ -17,6 +18,7 @@ invariant-steps g l =
       rest : IsTrue g.I.Input.tells → remaining l.input ≡ drop (got l.input - got l.fn.input) (remaining l.fn.input);
       told : IsTrue g.I.Input.tells → (t : List ℕ) →
           finish (written l.fn.output) (seen (outcome (take (got l.input - got l.fn.input) (remaining l.fn.input) ++ t))) ≡ finish (written l.output) (ahead l.machine.walk t);
+      needed : IsTrue g.I.Input.tells → AllNeeded (remaining l.fn.input) (got l.input - got l.fn.input);
       grown : length (written l.fn.output) ≤ length (written l.output);
       going : IsGoing l.machine.walk.phase;
       read_frame : g.I.Input.read_frame l.input ≡ g.I.Input.read_frame l.fn.input;

@@ -13,8 +13,8 @@ pub returns-then-from-length-clause-says : goal.returns-then-from-length-clause-
 returns-then-from-length-clause-says c t =
     let s = c.args.self.now in let h = c.requires.here in let got = c.args.got.now in
     let size = s.position + length (got ++ t) in
-    let same : c.from-2.result + c.length_of_data-length.result ≡ s.header.chunk_hdr_sz + data_len s.header.blk_sz c.args.kind (number_at 4 4 got) =
-    ap (λ (n : ℕ). n + c.length_of_data-length.result) c.from-2.ensures ∙ ap (λ (n : ℕ). s.header.chunk_hdr_sz + n) (c.length_of_data-length.ensures.value ∙ ap (λ (n : ℕ). data_len s.header.blk_sz c.args.kind n) c.u32_at-blocks.ensures) in
+    let same : c.from-2.result + c.data_length-length.result ≡ s.header.chunk_hdr_sz + data_len s.header.blk_sz c.args.kind (number_at 4 4 got) =
+    ap (λ (n : ℕ). n + c.data_length-length.result) c.from-2.ensures ∙ ap (λ (n : ℕ). s.header.chunk_hdr_sz + n) (c.data_length-length.ensures.value ∙ ap (λ (n : ℕ). data_len s.header.blk_sz c.args.kind n) c.u32_at-blocks.ensures) in
     rw (c.fail.ensures.part, h.0, h.1) (spent s.kind s.due (view s.header) s.index s.have s.raw s.words s.word size (got ++ t) h.2
     ∙ bad_length (view s.header) size s.index s.have got t c.args.kind h.3 c.requires.whole c.requires.known (λ q. c.if-from-length.true (c.from.ensures ∙ c.u32_at-total.ensures ∙ q ∙ sym same)))
 
@@ -22,8 +22,8 @@ pub returns-then-from-clause-says : goal.returns-then-from-clause-says
 returns-then-from-clause-says c t =
     let s = c.args.self.now in let h = c.requires.here in let got = c.args.got.now in
     let size = s.position + length (got ++ t) in
-    let same : c.from-2.result + c.length_of_data-length.result ≡ s.header.chunk_hdr_sz + data_len s.header.blk_sz c.args.kind (number_at 4 4 got) =
-    ap (λ (n : ℕ). n + c.length_of_data-length.result) c.from-2.ensures ∙ ap (λ (n : ℕ). s.header.chunk_hdr_sz + n) (c.length_of_data-length.ensures.value ∙ ap (λ (n : ℕ). data_len s.header.blk_sz c.args.kind n) c.u32_at-blocks.ensures) in
+    let same : c.from-2.result + c.data_length-length.result ≡ s.header.chunk_hdr_sz + data_len s.header.blk_sz c.args.kind (number_at 4 4 got) =
+    ap (λ (n : ℕ). n + c.data_length-length.result) c.from-2.ensures ∙ ap (λ (n : ℕ). s.header.chunk_hdr_sz + n) (c.data_length-length.ensures.value ∙ ap (λ (n : ℕ). data_len s.header.blk_sz c.args.kind n) c.u32_at-blocks.ensures) in
     let right : number_at 8 4 got ≡ s.header.chunk_hdr_sz + data_len s.header.blk_sz c.args.kind (number_at 4 4 got) = sym c.u32_at-total.ensures ∙ sym c.from.ensures ∙ c.if-from-length.false ∙ same in
     let cnt : c.counted_blocks-counts.result ≡ counted c.args.kind (number_at 4 4 got) = c.counted_blocks-counts.ensures ∙ ap (λ (n : ℕ). counted c.args.kind n) c.u32_at-blocks.ensures in
     let many : s.header.total_blks < s.have + counted c.args.kind (number_at 4 4 got) = omega (arith, cnt, c.if-from.true, c.from-3.ensures, c.from-4.ensures, c.from-5.ensures) in
@@ -41,7 +41,7 @@ returns-clause-says c t =
       kind_is = c.requires.known;
       blocks_is = sym c.u32_at-blocks.ensures;
       total_is = sym c.u32_at-total.ensures;
-      total_right = sym c.from.ensures ∙ c.if-from-length.false ∙ ap (λ (n : ℕ). n + c.length_of_data-length.result) c.from-2.ensures ∙ ap (λ (n : ℕ). s.header.chunk_hdr_sz + n) c.length_of_data-length.ensures.value;
+      total_right = sym c.from.ensures ∙ c.if-from-length.false ∙ ap (λ (n : ℕ). n + c.data_length-length.result) c.from-2.ensures ∙ ap (λ (n : ℕ). s.header.chunk_hdr_sz + n) c.data_length-length.ensures.value;
       room = room;
     } in
     rw (h.0, h.1, sz, c.has_word.ensures, c.counted_blocks-counts.ensures, c.from-6.ensures, c.raw_bytes.ensures, c.laid_words.ensures)
@@ -55,7 +55,7 @@ invariant_of-self c =
     let left : left_of c.args.kind c.raw_bytes.result c.laid_words.result ≡ counted c.args.kind n * s.header.blk_sz = rw (c.raw_bytes.ensures, c.laid_words.ensures) (left_new c.args.kind n s.header.blk_sz s.header.words) in
     let cnt : c.counted_blocks-counts.result ≡ counted c.args.kind n = c.counted_blocks-counts.ensures in
     let more : (s.have + c.counted_blocks-counts.result) * s.header.blk_sz ≡ s.have * s.header.blk_sz + counted c.args.kind n * s.header.blk_sz = ap (λ (k : ℕ). (s.have + k) * s.header.blk_sz) cnt ∙ omega arith in
-    let payload : c.raw_bytes.result + cond c.has_word.result 4 0 ≡ c.length_of_data-length.result = rw (c.raw_bytes.ensures, c.has_word.ensures, c.length_of_data-length.ensures.value) (data_parts c.args.kind n s.header.blk_sz) in
+    let payload : c.raw_bytes.result + cond c.has_word.result 4 0 ≡ c.data_length-length.result = rw (c.raw_bytes.ensures, c.has_word.ensures, c.data_length-length.ensures.value) (data_parts c.args.kind n s.header.blk_sz) in
     record {
       counted = omega arith;
       room = omega arith;
@@ -78,16 +78,16 @@ pub returns-then-from-length-clause-lists : goal.returns-then-from-length-clause
 returns-then-from-length-clause-lists c t =
     let s = c.args.self.now in let h = c.requires.here in let got = c.args.got.now in
     let size = s.position + length (got ++ t) in
-    let same : c.from-2.result + c.length_of_data-length.result ≡ s.header.chunk_hdr_sz + data_len s.header.blk_sz c.args.kind (number_at 4 4 got) =
-    ap (λ (n : ℕ). n + c.length_of_data-length.result) c.from-2.ensures ∙ ap (λ (n : ℕ). s.header.chunk_hdr_sz + n) (c.length_of_data-length.ensures.value ∙ ap (λ (n : ℕ). data_len s.header.blk_sz c.args.kind n) c.u32_at-blocks.ensures) in
+    let same : c.from-2.result + c.data_length-length.result ≡ s.header.chunk_hdr_sz + data_len s.header.blk_sz c.args.kind (number_at 4 4 got) =
+    ap (λ (n : ℕ). n + c.data_length-length.result) c.from-2.ensures ∙ ap (λ (n : ℕ). s.header.chunk_hdr_sz + n) (c.data_length-length.ensures.value ∙ ap (λ (n : ℕ). data_len s.header.blk_sz c.args.kind n) c.u32_at-blocks.ensures) in
     rw c.fail.ensures.part (bad_listing s (got ++ t) _ _ h.0 (ended s h.1 h.2) h.3 (bad_length_at (view s.header) size s.index s.have got t c.args.kind h.3 c.requires.whole c.requires.known (λ q. c.if-from-length.true (c.from.ensures ∙ c.u32_at-total.ensures ∙ q ∙ sym same))))
 
 pub returns-then-from-clause-lists : goal.returns-then-from-clause-lists
 returns-then-from-clause-lists c t =
     let s = c.args.self.now in let h = c.requires.here in let got = c.args.got.now in
     let size = s.position + length (got ++ t) in
-    let same : c.from-2.result + c.length_of_data-length.result ≡ s.header.chunk_hdr_sz + data_len s.header.blk_sz c.args.kind (number_at 4 4 got) =
-    ap (λ (n : ℕ). n + c.length_of_data-length.result) c.from-2.ensures ∙ ap (λ (n : ℕ). s.header.chunk_hdr_sz + n) (c.length_of_data-length.ensures.value ∙ ap (λ (n : ℕ). data_len s.header.blk_sz c.args.kind n) c.u32_at-blocks.ensures) in
+    let same : c.from-2.result + c.data_length-length.result ≡ s.header.chunk_hdr_sz + data_len s.header.blk_sz c.args.kind (number_at 4 4 got) =
+    ap (λ (n : ℕ). n + c.data_length-length.result) c.from-2.ensures ∙ ap (λ (n : ℕ). s.header.chunk_hdr_sz + n) (c.data_length-length.ensures.value ∙ ap (λ (n : ℕ). data_len s.header.blk_sz c.args.kind n) c.u32_at-blocks.ensures) in
     let right : number_at 8 4 got ≡ s.header.chunk_hdr_sz + data_len s.header.blk_sz c.args.kind (number_at 4 4 got) = sym c.u32_at-total.ensures ∙ sym c.from.ensures ∙ c.if-from-length.false ∙ same in
     let cnt : c.counted_blocks-counts.result ≡ counted c.args.kind (number_at 4 4 got) = c.counted_blocks-counts.ensures ∙ ap (λ (n : ℕ). counted c.args.kind n) c.u32_at-blocks.ensures in
     let many : s.header.total_blks < s.have + counted c.args.kind (number_at 4 4 got) = omega (arith, cnt, c.if-from.true, c.from-3.ensures, c.from-4.ensures, c.from-5.ensures) in
@@ -104,7 +104,7 @@ returns-clause-lists c t =
       kind_is = c.requires.known;
       blocks_is = sym c.u32_at-blocks.ensures;
       total_is = sym c.u32_at-total.ensures;
-      total_right = sym c.from.ensures ∙ c.if-from-length.false ∙ ap (λ (n : ℕ). n + c.length_of_data-length.result) c.from-2.ensures ∙ ap (λ (n : ℕ). s.header.chunk_hdr_sz + n) c.length_of_data-length.ensures.value;
+      total_right = sym c.from.ensures ∙ c.if-from-length.false ∙ ap (λ (n : ℕ). n + c.data_length-length.result) c.from-2.ensures ∙ ap (λ (n : ℕ). s.header.chunk_hdr_sz + n) c.data_length-length.ensures.value;
       room = room;
     } in
     upcoming_body s true (got ++ t) h.0 (ended s h.1 h.2)

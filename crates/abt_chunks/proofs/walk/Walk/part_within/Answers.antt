@@ -1,13 +1,13 @@
 use Rattle.std.proofs.Common.{◌≡◌, ◌≤◌, ◌<◌, ℕ, List, length, ◌-◌, take, drop, ◌++◌, arith, ap, ◌∙◌, subst, refl, length-take, length-drop, min}
 use Rattle.std.proofs.lemmas.List.{drop_all, take-append-le}
 use Rattle.abt_chunks.specs.Walking.{Says, Shows, ask_of, needed_of}
-use Rattle.abt_chunks.proofs.Turns.{told, needed_asked}
+use Rattle.abt_chunks.proofs.Turns.{told, needed_asked, needed_room}
 use Rattle.abt_chunks.proofs.Causes.{clean_part, own_part, read_closes, asked_wanted}
 use Rattle.abt_io.specs.Count.{full_in}
 use Rattle.abt_io.specs.declared.device.DeviceFault.{DeviceFault}
 use Rattle.abt_chunks.proofs.Listed.{lists}
-use Rattle.abt_chunks.proofs.walk.Walk.part.Goals as goal
-use Rattle.abt_chunks.proofs.walk.Walk.part.Goals.{in-Some, in-None}
+use Rattle.abt_chunks.proofs.walk.Walk.part_within.Goals as goal
+use Rattle.abt_chunks.proofs.walk.Walk.part_within.Goals.{in-Some, in-None}
 
 pub returns-clause-says : goal.returns-clause-says
 returns-clause-says g c tells t e = elim c.match-got.branch [
@@ -17,11 +17,11 @@ returns-clause-says g c tells t e = elim c.match-got.branch [
       let o = c.gather-got.ensures in
       let n = c.gather-got.result.count in
       let rem = g.I.Input.remaining c.args.input.now in
-      let got_is : w.part.result.now ≡ take n rem = w.part.ensures.value ∙ ap (λ (j : ℕ). take j (c.gather-got.new.out ++ drop c.ask-ask.result c.args.w.now.bytes)) (let z : n - 0 ≡ n = omega arith in z) ∙ take-append-le n c.gather-got.new.out (drop c.ask-ask.result c.args.w.now.bytes) o.within ∙ o.bytes tells in
+      let got_is : w.part.result.now ≡ take n rem = w.part.ensures.value ∙ ap (λ (j : ℕ). take j (c.gather-got.new.out ++ drop c.min-ask.result c.args.w.now.bytes)) (let z : n - 0 ≡ n = omega arith in z) ∙ take-append-le n c.gather-got.new.out (drop c.min-ask.result c.args.w.now.bytes) o.within ∙ o.bytes tells in
       let all : n ≡ min (length c.gather-got.new.out) (length rem) = o.all tells (rw w.in-None.is refl) in
-      let asked : length c.gather-got.new.out ≡ ask_of c.turn-turn.result c.args.self.now = let a = c.gather-got.auto.out in let v = ap length c.part_mut.ensures.value in omega (arith, a, v, c.ask-ask.ensures.value, c.ask-ask.ensures.room, length-take (c.ask-ask.result - 0) (drop 0 c.args.w.now.bytes), length-drop 0 c.args.w.now.bytes, c.is_whole.ensures) in
+      let asked : length c.gather-got.new.out ≡ min (ask_of c.turn-turn.result c.args.self.now) c.args.most = let a = c.gather-got.auto.out in let v = ap length c.part_mut.ensures.value in omega (arith, a, v, c.ask-wish.ensures.value, c.ask-wish.ensures.room, c.min-ask.ensures, length-take (c.min-ask.result - 0) (drop 0 c.args.w.now.bytes), length-drop 0 c.args.w.now.bytes, c.is_whole.ensures) in
       let ended = λ (k : length w.part.result.now < needed_of c.turn-turn.result).
-      let short : length rem ≤ n = omega (arith, all, asked, needed_asked c.turn-turn.result c.args.self.now c.turn-turn.ensures, ap length got_is, length-take n rem, o.present tells) in
+      let short : length rem ≤ n = omega (arith, all, asked, needed_room c.turn-turn.result, needed_asked c.turn-turn.result c.args.self.now c.turn-turn.ensures, ap length got_is, length-take n rem, o.present tells) in
       e (rw w.part-is (h.short k)) ∙ o.rest tells ∙ drop_all n rem short in
       rw (w.part-is, w.self-is) (told w.take-part.result c.args.self.now w.take-part.new.self (take n rem) t
       (subst (λ (l : List ℕ). Says w.take-part.result c.args.self.now w.take-part.new.self l t) got_is (h.says t ended)))
@@ -35,11 +35,11 @@ returns-clause-lists g c tells t e = elim c.match-got.branch [
       let o = c.gather-got.ensures in
       let n = c.gather-got.result.count in
       let rem = g.I.Input.remaining c.args.input.now in
-      let got_is : w.part.result.now ≡ take n rem = w.part.ensures.value ∙ ap (λ (j : ℕ). take j (c.gather-got.new.out ++ drop c.ask-ask.result c.args.w.now.bytes)) (let z : n - 0 ≡ n = omega arith in z) ∙ take-append-le n c.gather-got.new.out (drop c.ask-ask.result c.args.w.now.bytes) o.within ∙ o.bytes tells in
+      let got_is : w.part.result.now ≡ take n rem = w.part.ensures.value ∙ ap (λ (j : ℕ). take j (c.gather-got.new.out ++ drop c.min-ask.result c.args.w.now.bytes)) (let z : n - 0 ≡ n = omega arith in z) ∙ take-append-le n c.gather-got.new.out (drop c.min-ask.result c.args.w.now.bytes) o.within ∙ o.bytes tells in
       let all : n ≡ min (length c.gather-got.new.out) (length rem) = o.all tells (rw w.in-None.is refl) in
-      let asked : length c.gather-got.new.out ≡ ask_of c.turn-turn.result c.args.self.now = let a = c.gather-got.auto.out in let v = ap length c.part_mut.ensures.value in omega (arith, a, v, c.ask-ask.ensures.value, c.ask-ask.ensures.room, length-take (c.ask-ask.result - 0) (drop 0 c.args.w.now.bytes), length-drop 0 c.args.w.now.bytes, c.is_whole.ensures) in
+      let asked : length c.gather-got.new.out ≡ min (ask_of c.turn-turn.result c.args.self.now) c.args.most = let a = c.gather-got.auto.out in let v = ap length c.part_mut.ensures.value in omega (arith, a, v, c.ask-wish.ensures.value, c.ask-wish.ensures.room, c.min-ask.ensures, length-take (c.min-ask.result - 0) (drop 0 c.args.w.now.bytes), length-drop 0 c.args.w.now.bytes, c.is_whole.ensures) in
       let ended = λ (k : length w.part.result.now < needed_of c.turn-turn.result).
-      let short : length rem ≤ n = omega (arith, all, asked, needed_asked c.turn-turn.result c.args.self.now c.turn-turn.ensures, ap length got_is, length-take n rem, o.present tells) in
+      let short : length rem ≤ n = omega (arith, all, asked, needed_room c.turn-turn.result, needed_asked c.turn-turn.result c.args.self.now c.turn-turn.ensures, ap length got_is, length-take n rem, o.present tells) in
       e (rw w.part-is (h.short k)) ∙ o.rest tells ∙ drop_all n rem short in
       rw (w.part-is, w.self-is) (lists w.take-part.result c.args.self.now w.take-part.new.self (take n rem) t
       (subst (λ (l : List ℕ). Shows w.take-part.result c.args.self.now w.take-part.new.self l t) got_is (h.lists t ended)))
@@ -66,5 +66,5 @@ returns-clause-closes g c = elim c.match-got.branch [
 pub returns-clause-wanted : goal.returns-clause-wanted
 returns-clause-wanted g c =
     let n = c.gather-got.result.count in
-    let asked : length c.gather-got.new.out ≡ ask_of c.turn-turn.result c.args.self.now = let a = c.gather-got.auto.out in let v = ap length c.part_mut.ensures.value in omega (arith, a, v, c.ask-ask.ensures.value, c.ask-ask.ensures.room, length-take (c.ask-ask.result - 0) (drop 0 c.args.w.now.bytes), length-drop 0 c.args.w.now.bytes, c.is_whole.ensures) in
+    let asked : length c.gather-got.new.out ≡ min (ask_of c.turn-turn.result c.args.self.now) c.args.most = let a = c.gather-got.auto.out in let v = ap length c.part_mut.ensures.value in omega (arith, a, v, c.ask-wish.ensures.value, c.ask-wish.ensures.room, c.min-ask.ensures, length-take (c.min-ask.result - 0) (drop 0 c.args.w.now.bytes), length-drop 0 c.args.w.now.bytes, c.is_whole.ensures) in
     omega (arith, asked, c.gather-got.ensures.within, asked_wanted c.turn-turn.result c.args.self.now c.turn-turn.ensures)
