@@ -96,7 +96,7 @@ drop-split b (suc i) (suc n) y le =
     ∙ ap (λ (k : ℕ). split b k (drop (i * b) (drop b y))) (let z : n - i ≡ suc n - suc i = omega arith in z)
     ∙ ap (λ (l : List ℕ). split b (suc n - suc i) l) (drop-drop (i * b) b y ∙ ap (λ (k : ℕ). drop k y) (let z : b + i * b ≡ suc i * b = omega arith in z))
 
-take-split : (b q n : ℕ) (y : List ℕ) → q ≤ n → take q (split b n y) ≡ split b q y
+pub take-split : (b q n : ℕ) (y : List ℕ) → q ≤ n → take q (split b n y) ≡ split b q y
 take-split b zero n y le = refl
 take-split b (suc q) zero y le = absurd (omega arith)
 take-split b (suc q) (suc n) y le = ap (λ (l : List (List ℕ)). take b y ∷ l) (take-split b q n (drop b y) (omega arith))
@@ -107,7 +107,7 @@ drop-take' (suc i) zero y le = absurd (omega arith)
 drop-take' (suc i) (suc k) [] le = sym (take_all (suc k - suc i) [] (omega arith))
 drop-take' (suc i) (suc k) (x ∷ y) le = drop-take' i k y (omega arith) ∙ ap (λ (j : ℕ). take j (drop i y)) (let z : k - i ≡ suc k - suc i = omega arith in z)
 
-split-front : (b q k : ℕ) (y : List ℕ) → q * b ≤ k → split b q (take k y) ≡ split b q y
+pub split-front : (b q k : ℕ) (y : List ℕ) → q * b ≤ k → split b q (take k y) ≡ split b q y
 split-front b zero k y le = refl
 split-front b (suc q) k y le =
     let one : take b (take k y) ≡ take b y = take-take b k y (omega arith) in

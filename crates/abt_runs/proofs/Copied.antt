@@ -17,7 +17,7 @@ raw_class bytes h = elim (cases_Bool (list_all (bytes_eq (take 4 bytes)) (split 
   | inr e ↦ rw e refl
 ]
 
-raw_classes : (b q : ℕ) (z : List ℕ) → AllByRecursion IsRaw (classes b q z) → raw_of (classes b q z) ≡ take (q * b) z
+pub raw_classes : (b q : ℕ) (z : List ℕ) → AllByRecursion IsRaw (classes b q z) → raw_of (classes b q z) ≡ take (q * b) z
 raw_classes b zero z h = ap (λ (k : ℕ). take k z) (let e : 0 ≡ 0 * b = omega arith in e)
 raw_classes b (suc q) z h =
     ap (λ (l : List ℕ). l ++ raw_of (classes b q (drop b z))) (raw_class (take b z) h.0)

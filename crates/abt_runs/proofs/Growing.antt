@@ -1,5 +1,5 @@
 -- Runs that grow by parts.
-use Rattle.std.proofs.Common.{◌≡◌, ℕ, zero, suc, ◌+◌, ◌-◌, ◌<◌, ◌≤◌, ◌==◌, true, false, List, [], ◌∷◌, ◌++◌, length, take, drop, min, refl, sym, ap, subst, ◌∙◌, arith, inl, inr, Some, None, if◌then◌else◌, eqb-true, length-drop, length-append}
+use Rattle.std.proofs.Common.{◌≡◌, ◌↔◌, ℕ, zero, suc, ◌+◌, ◌-◌, ◌<◌, ◌≤◌, ◌==◌, true, false, List, [], ◌∷◌, ◌++◌, length, take, drop, min, refl, sym, ap, subst, ◌∙◌, arith, inl, inr, Some, None, if◌then◌else◌, eqb-true, length-drop, length-append}
 use Rattle.std.proofs.lemmas.Bool.{cases_Bool}
 use Rattle.std.proofs.lemmas.List.{drop-drop, length-take-le, take-append-drop}
 use Rattle.std.proofs.Math.Seq.{take-add}
@@ -204,6 +204,23 @@ none_is r p _ (moves h z n) none e = none n
 none_is r p _ (stays h z n) none e = absurd (omega arith)
 none_is r p _ (begins h z n) none e = absurd (omega arith)
 none_is r p _ (grows h z n k) none e = absurd (omega arith)
+
+-- a run that is none has no block
+pub end_is : (r p s : Run) → Joins r p s → (is_end r.kind ≡ true → r.blocks ≡ 0) → is_end s.kind ≡ true → s.blocks ≡ 0
+end_is r p _ (moves h z n) ended e = n
+end_is r p _ (stays h z n) ended e = ended e
+end_is r p _ (begins h z n) ended e = absurd cc
+end_is r p _ (grows h z n k) ended e = absurd (let f = ended e in omega (arith, f))
+
+-- it is none exactly where no block is left
+pub none_left : (r : Run) (from next count : ℕ) → (r.blocks ≡ 0 → r.kind ≡ kinds.End) → (is_end r.kind ≡ true → r.blocks ≡ 0) → next ≡ from + r.blocks → next ≤ count → (r.blocks ≡ 0 → next ≡ count) → is_end r.kind ≡ true ↔ from ≡ count
+none_left r from next count none ended at within left =
+    (λ e. let n = ended e in omega (arith, n, left n, at), λ e. ap is_end (none (omega (arith, e, at, within))))
+
+-- the part behind a run without a block is the end
+pub rests_at : (r p : Run) → Rests r p → r.blocks ≡ 0 → is_end p.kind ≡ true
+rests_at r p (ends h) n = h
+rests_at r p (differs z s k) n = absurd (omega arith)
 
 pub raw_is : (P : Cursor → Type 0) (r p s : Run) → Joins r p s → (r.blocks ≡ 0 → r.kind ≡ kinds.End) → (r.kind ≡ kinds.Raw → P r.here) → (p.kind ≡ kinds.Raw → 0 < p.blocks → P p.here) → s.kind ≡ kinds.Raw → P s.here
 raw_is P r p _ (moves h z n) none a b k = absurd (let f : r.kind ≡ kinds.End = none n in cc)

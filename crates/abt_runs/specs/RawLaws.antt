@@ -95,6 +95,9 @@ pub raw_spared : (len blocks size : ℕ) → 4 ≤ size → blocks * size < len 
 raw_spared len zero size some last = omega arith
 raw_spared len (suc n) size some last = let z : suc n - 1 ≡ n = omega arith in rw z (omega arith)
 
+pub raw_inside : (len : ℕ) → len ≤ len
+raw_inside len = omega arith
+
 pub raw_economy : (len : ℕ) → 0 + 3 * (2 * len) + 2 * len ≤ 8 * len
 raw_economy len = omega arith
 

@@ -199,6 +199,9 @@ sparse_afresh h image c w = record {
 pub sparse_spared : (n image : ℕ) → (n - 1) * 0 ≤ image
 sparse_spared n image = omega arith
 
+pub sparse_source_long : (h : Header) (long image : ℕ) (x : List ℕ) → SparseOpened h long image x → long ≡ length x
+sparse_source_long h long image x o = sym o.long_is
+
 pub sparse_economy : (image : ℕ) → image + 3 * image + 2 * image ≤ 8 * image
 sparse_economy image = omega arith
 

@@ -40,7 +40,8 @@ mod words;
 
 pub use opening::Opening;
 pub use part::{Cursor, Run, RunFault, RunKind};
-pub use raw::RawRuns;
+pub use raw::{RawRuns, leading, load_filled};
+pub use reading::Loaded;
 pub use runs::BlockRuns;
 pub use sparse::SparseRuns;
 pub use stage::{Progress, Stage};

@@ -8,11 +8,13 @@ ghost use Rattle.abt_runs.specs.Stage.{Leaves, IsOver, is_done, is_more};
 ghost use Rattle.abt_runs.specs.Verdict.{ComesTo, SameLength, CausedAt, IsFormat, ends, to_do};
 ghost use Rattle.abt_runs.specs.Head.{head_of};
 
-use crate::head::{CHUNK_HEADER, counted_blocks, data_length, head_at};
+use crate::head::{CHUNK_HEADER, head_at};
 use crate::reading::load;
 use crate::{Opening, Progress, RunFault, Stage};
 use abt_io::{Meter, Source, Window};
-use abt_sparse::{ChunkHeader, SparseFault, SparseHeader, header_of, u16_at};
+use abt_sparse::{
+    ChunkHeader, SparseFault, SparseHeader, counted_blocks, data_length, header_of, u16_at,
+};
 
 /// How long an image's header is, but for extra bytes.
 const FILE_HEADER: usize = 28;

@@ -4,7 +4,7 @@ ghost use Rattle.abt_sparse.specs.Block.{split, class_of, classify};
 ghost use Rattle.abt_runs.specs.Part.{AllOf, Caused, is_end, next_ask};
 ghost use Rattle.abt_runs.specs.Words.{kind_of_word};
 ghost use Rattle.abt_runs.specs.Raw.{RawPlace, RawPlace-prop, raw_charge, raw_padding, raw_before, raw_held, Refused};
-ghost use Rattle.abt_runs.specs.RawLaws.{raw_left, raw_long, raw_are_blocks, own_size, raw_passed, raw_copied_fits, raw_held_grows, raw_place_afresh, raw_afresh, raw_spared, raw_economy, raw_padded};
+ghost use Rattle.abt_runs.specs.RawLaws.{raw_left, raw_long, raw_are_blocks, own_size, raw_passed, raw_copied_fits, raw_held_grows, raw_place_afresh, raw_afresh, raw_spared, raw_economy, raw_padded, raw_inside};
 
 use crate::reading::{Loaded, load};
 use crate::{BlockRuns, Cursor, Run, RunFault, RunKind, equal_word};
@@ -44,7 +44,7 @@ fn kind_of(word: &Option<[u8; 4]>) -> RunKind
 }
 
 /// What the first of these n blocks are, and how many of them are alike.
-fn leading(blocks: &[u8], size: usize, n: u32, m: &mut Meter) -> (RunKind, u32)
+pub fn leading(blocks: &[u8], size: usize, n: u32, m: &mut Meter) -> (RunKind, u32)
     requires some { 4 ≤ size }
     requires words { size % 4 ≡ 0 }
     requires first { 0 < n }
@@ -55,6 +55,7 @@ fn leading(blocks: &[u8], size: usize, n: u32, m: &mut Meter) -> (RunKind, u32)
     ensures goes { is_end result.0 ≡ false }
     ensures all { AllOf result.0 (map class_of (split size result.1 blocks.now)) }
     ensures turns { 2 * m.new.turns.number + size / 2 ≤ 2 * m.old.turns.number + length blocks.now }
+    ensures looked { 4 * m.new.turns.number ≤ 4 * m.old.turns.number + (result.1 + 1) * (size + 4) }
     ensures steps { m.new.steps.number ≡ m.old.steps.number }
     ensures greatest { m.new.greatest.number ≡ m.old.greatest.number }
 {
@@ -76,7 +77,7 @@ fn leading(blocks: &[u8], size: usize, n: u32, m: &mut Meter) -> (RunKind, u32)
 }
 
 /// Reads so many bytes to the front of the window, and fills it up with zeros as far as `room`.
-fn load_filled<S: Source>(
+pub fn load_filled<S: Source>(
     source: &mut S,
     at: u64,
     want: usize,
@@ -150,7 +151,7 @@ impl RawRuns {
     }
 
     /// Where a block stands.
-    fn place_of(&self, block: u32) -> u64
+    pub fn place_of(&self, block: u32) -> u64
         requires { block < self.now.blocks }
         ensures place { result ≡ block * self.now.size }
         ensures within { result < self.now.length }
@@ -241,6 +242,10 @@ impl BlockRuns for RawRuns {
     ghost copied = { λ s c. raw_before s.length s.size c };
 
     ghost held = { λ s c n. raw_held s.length s.size c n };
+
+    ghost inside = { λ s. raw_inside s.length };
+
+    ghost source_long = { λ s x e. e };
 
     ghost long = { λ s x e. raw_long s.length s.blocks s.size x s.some s.covers s.last e };
 

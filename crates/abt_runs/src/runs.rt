@@ -1,5 +1,5 @@
 //! The trait of opened images: what is known of one, and how it is read in repeated passes.
-ghost use Rattle.std.specs.Prelude.{◌≡◌, ◌<◌, ◌≤◌, ◌+◌, ◌-◌, ◌*◌, ◌%◌, ◌^◌, ℕ, List, IsTrue, IfOk, IfErr, OnOk, length, take, drop, min, max, true, false};
+ghost use Rattle.std.specs.Prelude.{◌≡◌, ◌<◌, ◌≤◌, ◌+◌, ◌-◌, ◌*◌, ◌%◌, ◌^◌, ◌↔◌, ℕ, List, IsTrue, IfOk, IfErr, OnOk, length, take, drop, min, max, true, false};
 ghost use Rattle.abt_io.specs.Count.{count_of};
 ghost use Rattle.abt_sparse.specs.Block.{Block, AreBlocks};
 ghost use Rattle.abt_runs.specs.declared.part.Cursor.{Cursor};
@@ -188,8 +188,8 @@ pub trait BlockRuns {
         ensures cause { IfErr result (λ e. Caused e S.tells (S.read_faults source.old) (S.read_faults source.new)) };
 
     /// The run of blocks of one class that begins at a place: all that stand together, but at most
-    /// `cap` of them where they are raw. It is `RunKind::End` behind the last block. Each turn is
-    /// one step, that of `next_part`.
+    /// `cap` of them where they are raw. It is `RunKind::End` exactly where no block is left, of
+    /// whatever source. Each turn is one step, that of `next_part`.
     ///
     /// It refuses as `next_part` does.
     final fn next_run<S: Source>(
@@ -214,6 +214,7 @@ pub trait BlockRuns {
         ensures reached { IfOk result (λ r. r.kind ≡ RunKind.Raw → size self.old ≤ reach self.old r.here) }
         ensures moved { IfOk result (λ r. (r.here.block ≡ from.block) × (r.next.block ≡ from.block + r.blocks)) }
         ensures capped { IfOk result (λ r. Capped cap r) }
+        ensures end { IfOk result (λ r. IsTrue (is_end r.kind) ↔ from.block ≡ count self.old) }
         ensures charged { IfOk result (λ r. S.given source.new + charge self.old from ≤ S.given source.old + charge self.old r.next + entry from + min 65536 (16 + cap * one self.old)) }
         ensures given { S.given source.old ≤ S.given source.new }
         ensures received { S.given source.new + 65536 * m.old.steps.number ≤ S.given source.old + 65536 * m.new.steps.number }
@@ -246,6 +247,12 @@ pub trait BlockRuns {
             }
         }
     }
+
+    /// The image is no longer than its source was when it was opened.
+    ghost inside: { (s : Self) → image s ≤ source_size s };
+
+    /// The source was as long as these bytes are.
+    ghost source_long: { (s : Self) (x : List ℕ) → opened s x → source_size s ≡ length x };
 
     /// There are as many blocks as were counted.
     ghost long: { (s : Self) (x : List ℕ) → opened s x → length (list s x) ≡ count s };

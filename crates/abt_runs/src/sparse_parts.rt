@@ -6,13 +6,13 @@ ghost use Rattle.abt_sparse.specs.declared.chunk_header.ChunkHeader.{ChunkHeader
 ghost use Rattle.abt_runs.specs.Part.{Caused};
 ghost use Rattle.abt_runs.specs.Head.{head_of, HeadFits, has_word as wants_word, class_of_kind, part_of_chunk, is_raw as raws};
 ghost use Rattle.abt_runs.specs.Sparse.{SparseOpened, SparsePlace, SparseWithin, SparseWithin-prop, sparse_list, sparse_charge, data_place, blocks_together};
-ghost use Rattle.abt_runs.specs.SparseLaws.{sparse_long, sparse_are_blocks, sparse_one, sparse_left, sparse_held_grows, sparse_place_afresh, sparse_afresh, sparse_spared, sparse_economy, sparse_padded};
+ghost use Rattle.abt_runs.specs.SparseLaws.{sparse_long, sparse_are_blocks, sparse_one, sparse_left, sparse_held_grows, sparse_place_afresh, sparse_afresh, sparse_spared, sparse_economy, sparse_padded, sparse_source_long};
 
-use crate::head::{CHUNK_HEADER, counted_blocks, data_length, head_at};
+use crate::head::{CHUNK_HEADER, head_at};
 use crate::reading::load;
 use crate::{BlockRuns, Cursor, Run, RunFault, RunKind, SparseRuns};
 use abt_io::{Meter, Source, Window};
-use abt_sparse::{ChunkHeader, ChunkKind};
+use abt_sparse::{ChunkHeader, ChunkKind, counted_blocks, data_length};
 
 fn is_raw(kind: ChunkKind) -> bool
     ensures { result ≡ raws kind }
@@ -230,6 +230,10 @@ impl BlockRuns for SparseRuns {
     ghost copied = { λ s c. sparse_charge (view s.header) c };
 
     ghost held = { λ s c n. n };
+
+    ghost inside = { λ s. s.fits };
+
+    ghost source_long = { λ s x e. sparse_source_long (view s.header) s.length s.image x e };
 
     ghost long = { λ s x e. sparse_long (view s.header) s.length s.image x e };
 

@@ -14,6 +14,7 @@ loop-count-preserved c =
       at = omega arith;
       all = leading_on c.args.size c.loop-count.count c.loop-count.at c.args.blocks.now c.equal_word-word.result i.at (not_end c.equal_word-word.result) i.all (same ∙ c.equal_word.ensures);
       turns = omega arith;
+      looked = omega arith;
       steps = omega arith;
       greatest = omega arith;
     }

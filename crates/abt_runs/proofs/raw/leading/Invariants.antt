@@ -12,6 +12,7 @@ invariant-loop-count l = record {
   at : l.at ≡ l.count * l.size;
   all : AllOf (kind_of_word l.word) (classes l.size l.count l.blocks);
   turns : 2 * l.m.turns.number + l.size / 2 ≤ 2 * l.fn.m.turns.number + l.at;
+  looked : 4 * l.m.turns.number + 4 ≤ 4 * l.fn.m.turns.number + l.at + 4 * l.count;
   steps : l.m.steps.number ≡ l.fn.m.steps.number;
   greatest : l.m.greatest.number ≡ l.fn.m.greatest.number;
 }

@@ -4,7 +4,7 @@ use Rattle.abt_runs.specs.declared.part.RunFault.{RunFault}
 use Rattle.abt_runs.specs.declared.part.RunFault.TheVariants.{Sparse, Read, TooLarge, SourceChanged, BadBlock}
 use Rattle.abt_runs.specs.Part.{Caused, entry}
 use Rattle.abt_runs.specs.Whole.{room_in}
-use Rattle.abt_runs.proofs.Growing.{joins, rests, so_far, stops, is_full, next_is, blocks_are, here_is, none_is, nowhere_is, raw_is, few_are, no_room, entry_after, room_most}
+use Rattle.abt_runs.proofs.Growing.{joins, rests, so_far, stops, is_full, next_is, blocks_are, here_is, none_is, end_is, none_left, rests_at, nowhere_is, raw_is, few_are, no_room, entry_after, room_most}
 use Rattle.abt_runs.proofs.runs.BlockRuns.next_run.Goals as goal
 
 later : (e : RunFault) (tells : Bool) (a b c : ℕ) → a ≤ b → Caused e tells b c → Caused e tells a c
@@ -56,6 +56,7 @@ parts-preserved g c =
       here = here_is (λ (h : Cursor). h.block ≡ c.args.from.block) r p s j i.here (λ z. omega arith) (λ z n. omega arith);
       next = ap (λ (h : Cursor). h.block) same ∙ (let z : p.next.block ≡ c.args.from.block + s.blocks = omega arith in z);
       none = none_is r p s j i.none;
+      ended = end_is r p s j i.ended;
       nowhere = nowhere_is r p s j i.nowhere;
       few = few_are c.args.cap r p s j i.none i.few (λ k. let f = e.capped.raw k in omega (arith, f, c.room-room.ensures));
       charged = omega (arith, paid, ap (λ (h : Cursor). runs.charge self h) same);
@@ -75,6 +76,22 @@ returns-then-room-eq0-clause-run g c tells =
     let n = no_room c.args.cap c.parts.run.blocks c.parts.run.kind c.requires.some (sym c.room-room.ensures ∙ c.if-room-eq0.true) in
     let few = i.few n.0 in
     is_full c.args.cap _ c.args.from.block c.parts.run (i.so_far tells) n.0 (omega (arith, n.1, few)) c.requires.some
+
+pub returns-then-room-eq0-clause-end : goal.returns-then-room-eq0-clause-end
+returns-then-room-eq0-clause-end g c =
+    let runs = g.Self.BlockRuns in
+    let i = c.parts.invariant in
+    let self = c.args.self.now in
+    let n = no_room c.args.cap c.parts.run.blocks c.parts.run.kind c.requires.some (sym c.room-room.ensures ∙ c.if-room-eq0.true) in
+    none_left c.parts.run c.args.from.block c.parts.run.next.block (runs.count self) i.none i.ended i.next (g.met.Self.BlockRuns.bounded self c.parts.run.next i.next_within) (λ z. absurd (omega (arith, n.1, z, c.requires.some)))
+
+pub returns-in-None-clause-end : goal.returns-in-None-clause-end
+returns-in-None-clause-end g c =
+    let runs = g.Self.BlockRuns in
+    let i = c.parts.invariant in
+    let self = c.args.self.now in
+    let rest = rests c.parts.run c.in-Ok.part (sym c.joined.ensures ∙ c.in-None.is) in
+    none_left c.parts.run c.args.from.block c.parts.run.next.block (runs.count self) i.none i.ended i.next (g.met.Self.BlockRuns.bounded self c.parts.run.next i.next_within) (λ z. rw i.same at ((c.in-Ok.ensures.at_end (rests_at c.parts.run c.in-Ok.part rest z)).0))
 
 pub returns-in-Err-clause-cause : goal.returns-in-Err-clause-cause
 returns-in-Err-clause-cause g c = later c.in-Err.fault _ _ _ _ c.parts.invariant.faults c.in-Err.ensures.cause

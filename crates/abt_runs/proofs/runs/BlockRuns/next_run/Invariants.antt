@@ -1,7 +1,7 @@
-use Rattle.std.proofs.Common.{◌≡◌, ◌≤◌, ◌<◌, ◌+◌, ◌*◌, ◌-◌, max}
+use Rattle.std.proofs.Common.{◌≡◌, true, ◌≤◌, ◌<◌, ◌+◌, ◌*◌, ◌-◌, max}
 use Rattle.std.specs.Prelude.{IsTrue}
 use Rattle.abt_runs.specs.declared.part.RunKind.TheVariants as kinds
-use Rattle.abt_runs.specs.Part.{entry}
+use Rattle.abt_runs.specs.Part.{entry, is_end}
 use Rattle.abt_runs.specs.Whole.{room_in}
 use Rattle.abt_runs.proofs.Growing.{SoFar}
 use Rattle.abt_runs.proofs.runs.BlockRuns.next_run.Given as goal
@@ -25,6 +25,7 @@ invariant-parts g l =
       here : l.run.here.block ≡ l.fn.from.block;
       next : l.run.next.block ≡ l.fn.from.block + l.run.blocks;
       none : l.run.blocks ≡ 0 → l.run.kind ≡ kinds.End;
+      ended : is_end l.run.kind ≡ true → l.run.blocks ≡ 0;
       nowhere : l.run.blocks ≡ 0 → l.run.here ≡ l.run.next;
       few : l.run.kind ≡ kinds.Raw → l.run.blocks ≤ l.cap;
       charged : g.S.Source.given l.source + runs.charge self l.fn.from ≤ g.S.Source.given l.fn.source + runs.charge self l.run.next + entry l.fn.from;
