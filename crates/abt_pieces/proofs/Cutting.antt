@@ -17,8 +17,9 @@ use Rattle.abt_pieces.specs.Write.{chunks_of, rest_of, frame_of, SoundWriter, To
 use Rattle.abt_pieces.specs.declared.outline.Outline.{Outline}
 use Rattle.abt_pieces.specs.declared.plan.Planner.{Planner}
 use Rattle.std.proofs.lemmas.List.{length-map}
-use Rattle.abt_pieces.specs.Cutter.{first_writer, has_more, SoundOutline, ToldCutter, ToldStage, Made, segments_left}
+use Rattle.abt_pieces.specs.Cutter.{first_writer, has_more, is_begun, SoundOutline, ToldCutter, ToldStage, Made, segments_left}
 use Rattle.abt_pieces.specs.declared.stage.Stage.{Stage}
+use Rattle.abt_pieces.specs.declared.fault.PieceFault.{PieceFault}
 use Rattle.abt_pieces.specs.declared.stage.Stage.TheVariants.{Between, Plan, Begin, Write, Done, Failed}
 use Rattle.abt_pieces.proofs.Framing.{length-frame}
 use Rattle.abt_pieces.proofs.Counting.{skips_all}
@@ -170,3 +171,19 @@ told_more P T W b n limit made l start o old st more h sound same first place do
     | inr e ↦ inl (done (let y = ltb-false o.piece.past n e in omega (arith, y, sound.end)))
   ]);
 }
+
+-- one that has refused
+pub told_failed : (P : Cursor → Type 0) (T : Cursor → ℕ) (b limit made : ℕ) (l : List Block) (start : Cursor) (old : Stage) (f : PieceFault) → has_more old ≡ true → ToldCutter P T b l limit made start old → ToldCutter P T b l limit made start (Failed f)
+told_failed P T b limit made l start old f more h = record { place = h.place; cuts = rw (left_same b limit l start.block old more) at h.cuts; stage = tt }
+
+-- one whose piece is begun
+pub told_begun : (P : Cursor → Type 0) (T : Cursor → ℕ) (b limit made : ℕ) (l : List Block) (start : Cursor) (old st : Stage) → has_more old ≡ true → is_begun st ≡ true → ToldCutter P T b l limit made start old → ToldStage P T b l limit start.block st → ToldCutter P T b l limit made start st
+told_begun P T b limit made l start old st more begun h stage = record { place = h.place; cuts = rw (left_same b limit l start.block st (begun_more st begun)) (rw (left_same b limit l start.block old more) at h.cuts); stage = stage }
+  where
+    begun_more : (st : Stage) → is_begun st ≡ true → has_more st ≡ true
+    begun_more Between e = refl
+    begun_more (Plan p) e = refl
+    begun_more (Begin o) e = refl
+    begun_more (Write o w) e = refl
+    begun_more Done e = absurd cc
+    begun_more (Failed f) e = refl

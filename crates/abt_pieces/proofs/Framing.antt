@@ -110,7 +110,7 @@ gather_still l g r h part none =
     let e : r.next.block ≡ g.at.block = omega (arith, part.next) in
     record { behind = omega (arith, h.behind); within = omega (arith, h.within); all = rw e h.all }
 
-ended_by : (k j : RunKind) (l : List Block) (i q : ℕ) → alike_kinds k j ≡ false → AllOf j (take q (drop i l)) → (0 < q) ⊎ (i ≡ length l) → Ended k (drop i l)
+pub ended_by : (k j : RunKind) (l : List Block) (i q : ℕ) → alike_kinds k j ≡ false → AllOf j (take q (drop i l)) → (0 < q) ⊎ (i ≡ length l) → Ended k (drop i l)
 ended_by k j l i q other all some = parts (drop i l) refl
   where
     parts : (rest : List Block) → drop i l ≡ rest → Ended k rest

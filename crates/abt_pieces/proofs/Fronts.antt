@@ -7,8 +7,13 @@ use Rattle.abt_runs.specs.declared.part.RunFault.{RunFault}
 use Rattle.abt_runs.specs.declared.part.RunFault.TheVariants as of_runs
 use Rattle.abt_pieces.specs.declared.fault.PieceFault.{PieceFault}
 use Rattle.abt_pieces.specs.declared.fault.PieceFault.TheVariants.{Read, Write, TooLarge, SourceChanged, BadBlock, LimitTooSmall}
-use Rattle.abt_pieces.specs.Fault.{HasCause, fault_of_run, full_in_cut}
+use Rattle.abt_pieces.specs.Fault.{HasCause, fault_of_run, full_in_cut, full_cut}
 use Rattle.abt_pieces.specs.Write.{ChunkCause}
+use Rattle.std.proofs.Common.{Result, Ok, Err, OnOk, IfOk, IfErr, IsErrOf, max}
+use Rattle.std.proofs.lemmas.Bool.{true≢false, false≢true}
+use Rattle.abt_io.specs.Count.{full_in}
+use Rattle.abt_io.specs.declared.device.DeviceFault.{DeviceFault}
+use Rattle.abt_io.specs.declared.device.DeviceFault.TheVariants.{Failed, Full}
 
 pub grown_by : (old new x : List ℕ) → new ≡ old ++ x → length new - length old ≡ length x
 grown_by old new x e = omega (arith, ap length e, length-append old x)
@@ -101,3 +106,79 @@ run_not_full of_runs.TooLarge = refl
 run_not_full of_runs.SourceChanged = refl
 run_not_full (of_runs.BadBlock n) = refl
 run_not_full (of_runs.Sparse d) = refl
+
+-- ---- a pass over the source that has failed: nothing was written
+
+pub as_many : (n : ℕ) → n ≤ n
+as_many n = omega arith
+
+pub no_more : (n k : ℕ) → n ≤ n + k
+no_more n k = omega arith
+
+pub no_more_than : (n j k : ℕ) → n ≤ n + j + k
+no_more_than n j k = omega arith
+
+pub max_most : (n k : ℕ) → n ≤ max n k
+max_most n k = omega arith
+
+pub none_more : (n : ℕ) → n ≡ n + 0
+none_more n = omega arith
+
+pub ok_both : {A E : Type 0} (r : Result A E) (P Q : Type 0) → P → OnOk r Q → OnOk r (P × Q)
+ok_both (Ok x) P Q p q = (p, q)
+ok_both (Err e) P Q p q = tt
+
+pub run_causes : (e : PieceFault) (f : RunFault) (tells : Bool) (r r' w w' : ℕ) → e ≡ fault_of_run f → Caused f tells r r' → HasCause e tells r r' w w'
+run_causes e f tells r r' w w' is h = rw is (run_cause f tells r r' w w' h)
+
+pub run_unfilled : (e : PieceFault) (f : RunFault) (n : ℕ) → e ≡ fault_of_run f → n ≡ n + full_in_cut e
+run_unfilled e f n is = let z = run_not_full f in rw is (omega (arith, z))
+
+pub run_unsaid : (e : PieceFault) (f : RunFault) → e ≡ fault_of_run f → full_in_cut e ≡ 1 → ⊥
+run_unsaid e f is says = let z = run_not_full f in let y = rw is at says in omega (arith, y, z)
+
+-- ---- an output that failed
+
+pub says_full : {X : Type 0} (f : DeviceFault) → full_in f ≡ 1 → IsErrOf {T = X} {E = DeviceFault} (Err f) Full
+says_full Failed h = absurd (omega (arith, h))
+says_full Full h = refl
+
+pub not_full : ◌≡◌ {A = ℕ} 0 1 → ⊥
+not_full h = omega (arith, h)
+
+-- a call that has no output
+pub cause_unwritten : (e : PieceFault) (tells : Bool) (r r' w w' : ℕ) → HasCause e tells r r' 0 0 → HasCause e tells r r' w w'
+cause_unwritten (Read f) tells r r' w w' h = h
+cause_unwritten (Write f) tells r r' w w' h = absurd (omega (arith, h))
+cause_unwritten SourceChanged tells r r' w w' h = h
+cause_unwritten TooLarge tells r r' w w' h = absurd h
+cause_unwritten (BadBlock n) tells r r' w w' h = absurd h
+cause_unwritten (LimitTooSmall n) tells r r' w w' h = absurd h
+
+pub unfilled_by : (n k : ℕ) → k ≡ 0 → n ≡ n + k
+unfilled_by n k none = omega (arith, none)
+
+pub none_says : (k : ℕ) → k ≡ 0 → k ≡ 1 → ⊥
+none_says k none says = omega (arith, none, says)
+
+-- ---- a writer that has nothing more to write
+
+pub whole_goes_not : (r : Result Bool PieceFault) (A B P : Type 0) → IfOk r (λ d. (d ≡ true) × A × B) → IfOk r (λ d. d ≡ false → P)
+whole_goes_not (Ok true) A B P h = λ d. absurd (true≢false d)
+whole_goes_not (Ok false) A B P h = absurd (false≢true h.0)
+whole_goes_not (Err f) A B P h = tt
+
+pub whole_ended : (r : Result Bool PieceFault) (A B Q : Type 0) → IfOk r (λ d. (d ≡ true) × A × B) → Q → IfOk r (λ d. d ≡ true → A × Q)
+whole_ended (Ok d) A B Q h q = λ e. (h.1, q)
+whole_ended (Err f) A B Q h q = tt
+
+pub whole_cause : (r : Result Bool PieceFault) (tells : Bool) (X : Type 0) (n n' w w' : ℕ) → IfErr r (λ e. (e ≡ SourceChanged) × (X → ⊥)) → (IsTrue tells → X) → IfErr r (λ e. HasCause e tells n n' w w')
+whole_cause (Ok d) tells X n n' w w' h all = tt
+whole_cause (Err f) tells X n n' w w' h all = rw h.0 (not_told tells (λ t. h.1 (all t)))
+
+pub whole_unfilled : (r : Result Bool PieceFault) (X : Type 0) → IfErr r (λ e. (e ≡ SourceChanged) × X) → full_cut r ≡ 0
+whole_unfilled (Ok d) X h = refl
+whole_unfilled (Err f) X h = ap full_in_cut h.0
+
+pub nothing_left : (old new rest : List ℕ) (n : ℕ) → new ≡ old → n ≡ length rest → n ≡ 0 → new ≡ old ++ rest
+nothing_left old new rest n same long none = same ∙ sym (append-nil old) ∙ ap (λ (x : List ℕ). old ++ x) (sym (no_bytes rest (omega (arith, long, none))))

@@ -253,6 +253,13 @@ next_next c d r b is = elim (part_case c r b) [
   | other nay some same ↦ absurd (let z : Some d ≡ None = sym is ∙ same in cc)
 ]
 
+pub next_going : (c d : Copying) (r : Run) (b : ℕ) → next_copying c r b ≡ Some d → is_end r.kind ≡ false
+next_going c d r b is = elim (part_case c r b) [
+  | void gone going same ↦ going
+  | raws k same ↦ ap is_end k
+  | other nay some same ↦ absurd (let z : Some d ≡ None = sym is ∙ same in cc)
+]
+
 -- a source that tells gives a raw part where a raw run was seen
 pub next_told : (P : Cursor → Type 0) (T : Cursor → ℕ) (W : Cursor → Type 0) (reach : Cursor → ℕ) (b bytes : ℕ) (l : List Block) (s e u : ℕ) (c : Copying) (r : Run) → s ≤ e → e ≤ length l → AreBlocks b (frame l s e) → IsCopying W reach b s e u bytes c → c.done ≡ c.size
     → ToldCopy P T (frame l s e) u c → PartOf l c.next.block r → P r.next → P r.here → r.here.block ≡ c.next.block → (r.kind ≡ kinds.Raw → r.blocks ≤ T r.here) → (r.kind ≡ kinds.Raw → r.blocks ≤ u - c.next.block)
@@ -420,6 +427,17 @@ copied_writer P T W reach b m l w c n is sound same good told room =
 pub part_front : (n : ℕ) (ys post : List ℕ) → n ≤ length ys → take (n - 0) (ys ++ post) ≡ take n ys
 part_front n ys post le = ap (λ (m : ℕ). take m (ys ++ post)) (let z : n - 0 ≡ n = omega arith in z) ∙ take-append-le n ys post le
 
+-- nothing is left to be written of a source that tells its bytes, where no run is left
+pub told_whole : (P : Cursor → Type 0) (T : Cursor → ℕ) (W : Cursor → Type 0) (n : ℕ) (l : List Block) (w : Writer) → SoundGatherer W n w.first w.past w.gatherer → n ≡ length l → w.copying ≡ None → is_end w.gatherer.kind ≡ true → ToldWriter P T l w → (w.bytes ≡ 0) × (w.chunks ≡ 0)
+told_whole P T W n l w sound same none end told =
+    let f = frame_of l w in
+    let u = begins w.gatherer in
+    let e = sound.ended end in
+    let long : length f ≡ length l = length-frame l w.first w.past sound.inner (omega (arith, sound.past, same)) in
+    let gone : drop u f ≡ [] = drop_of_length-le f (omega (arith, long, same, e.0, e.1)) in
+    let rest : rest_of f w ≡ [] = ap (λ (c : Option Copying). to_copy f u c ++ chunks_of (drop u f)) none ∙ ap chunks_of gone in
+    (told.long ∙ ap length rest, told.count ∙ ap (λ (x : List Block). length (runs x)) gone)
+
 -- ---- what comes of the front of a chunk
 
 pub chunk_sound : {A : Type 0} (W : Cursor → Type 0) (reach : Cursor → ℕ) (n b : ℕ) (w : Writer) (g : Gatherer) (r : Run) (res : Result A PieceFault) (v : Writer) → 0 < b → SoundWriter W reach n b w → SoundGatherer W n w.first w.past g → ClosedRun w.gatherer g r
@@ -435,6 +453,11 @@ pub chunk_rest : {A : Type 0} (P : Cursor → Type 0) (T : Cursor → ℕ) (b : 
     → OnOk res (new ≡ old ++ front_bytes r.kind r.blocks (chunk_len r.kind r.blocks b)) → OnOk res (rest_of (frame_of l w) v ≡ drop (length new - length old) (rest_of (frame_of l w) w))
 chunk_rest P T b l w g r (Ok x) v old new z e h = rw e (wrote_rest old new (front_bytes r.kind r.blocks (chunk_len r.kind r.blocks b)) (rest_of (frame_of l w) w) (rest_of (frame_of l w) (chunk_begun (gathering w g) r b)) h z.chunk)
 chunk_rest P T b l w g r (Err f) v old new z e h = tt
+
+pub chunk_counted : {A : Type 0} (b : ℕ) (w : Writer) (g : Gatherer) (r : Run) (res : Result A PieceFault) (v : Writer) (old new : ℕ) → OnOk res (v ≡ chunk_begun (gathering w g) r b) → OnOk res ((0 < w.chunks) × (chunk_len r.kind r.blocks b ≤ w.bytes))
+    → OnOk res (new ≡ old + head_len r.kind) → OnOk res (new + v.bytes ≡ old + w.bytes)
+chunk_counted b w g r (Ok x) v old new e room whole = let z = ap (λ (y : Writer). y.bytes) e in omega (arith, z, room.1, whole)
+chunk_counted b w g r (Err f) v old new e room whole = tt
 
 pub chunk_left : {A : Type 0} (left : Cursor → ℕ) (W : Cursor → Type 0) (reach : Cursor → ℕ) (n b : ℕ) (w : Writer) (g : Gatherer) (r : Run) (res : Result A PieceFault) (v : Writer) → ((c : Cursor) → W c → left c < 2 ^ 64) → look_left left n w.past g < look_left left n w.past w.gatherer
     → 0 < b → SoundWriter W reach n b w → SoundGatherer W n w.first w.past g → ClosedRun w.gatherer g r → OnOk res (v ≡ chunk_begun (gathering w g) r b) → OnOk res ((0 < w.chunks) × (chunk_len r.kind r.blocks b ≤ w.bytes)) → OnOk res (write_left left n v < write_left left n w)

@@ -1,7 +1,7 @@
 -- What a planner's numbers are of the blocks that it has passed.
 use Rattle.std.proofs.Common.{◌≡◌, ℕ, zero, suc, ◌+◌, ◌-◌, ◌*◌, ◌/◌, ◌%◌, ◌<◌, ◌≤◌, nat_lt, nat_le, Bool, false, List, [], ◌∷◌, ◌++◌, length, take, drop, replicate, refl, sym, ap, ◌∙◌, append_assoc, append-nil, arith, inl, inr, bytes_eq, length-drop, mul-le-mul_left, le-leb, leb-true, ltb-false, ◌⊎◌, ◌==◌}
 use Rattle.std.specs.List.{AllByRecursion}
-use Rattle.std.proofs.lemmas.Bool.{cases_Bool, lt-leb, eqb-false, ltb-true}
+use Rattle.std.proofs.lemmas.Bool.{cases_Bool, lt-leb, eqb-false, ltb-true, ltb-false}
 use Rattle.std.proofs.lemmas.List.{drop-drop, length-take-le, length-replicate}
 use Rattle.std.proofs.Math.Seq.{take-add}
 use Rattle.abt_sparse.specs.Block.{Block, Raw, Fill, Skip, AreBlocks}
@@ -324,6 +324,49 @@ last_ask t k q size one room some le capped above = elim (cases_Bool (nat_lt (ro
     kinds_of kinds.Skip cap capped above f d m = absurd (omega arith)
     kinds_of kinds.End cap capped above f d m = absurd (omega arith)
 
+-- ---- a part that goes on within a raw chunk
+
+pub cap_some : (t : Tail) (room b : ℕ) → 0 < b → 0 < cap_of t room b
+cap_some t room b some = elim (cases_Bool (nat_lt (room - head_of t) b)) [
+  | inl e ↦ rw e (omega arith)
+  | inr e ↦
+      let f : b ≤ room - head_of t = ltb-false (room - head_of t) b e in
+      let d : b * ((room - head_of t) / b) + (room - head_of t) % b ≡ room - head_of t = omega arith in
+      let low : (room - head_of t) % b < b = omega arith in
+      rw e (not_zero ((room - head_of t) / b) (λ z. let y = rw z at d in omega (arith, y, f, low)))
+]
+  where
+    not_zero : (n : ℕ) → (n ≡ 0 → ⊥) → 0 < n
+    not_zero zero f = absurd (f refl)
+    not_zero (suc n) f = omega arith
+
+-- it has taken all the room that there was
+pub fills_up : (t : Tail) (k : RunKind) (q b room : ℕ) → 0 < b → k ≡ kinds.Raw → q ≡ cap_of t room b → gain_of t k q b ≤ room → (tail_after t k ≡ tails.Raw) × (room - gain_of t k q b < b)
+fills_up t k q b room some is all fits = rw is (
+  refl,
+  elim (cases_Bool (nat_lt (room - head_of t) b)) [
+    | inl e ↦
+        let low = ltb-true (room - head_of t) b e in
+        let one : q ≡ 1 = rw e at all in
+        let f : head_of t + q * b ≤ room = rw is at fits in
+        absurd (let g = rw one at f in omega (arith, g, low))
+    | inr e ↦
+        let some' = some in
+        let whole : q ≡ (room - head_of t) / b = rw e at all in
+        let d : b * ((room - head_of t) / b) + (room - head_of t) % b ≡ room - head_of t = omega arith in
+        let low : (room - head_of t) % b < b = omega arith in
+        let f : head_of t + q * b ≤ room = rw is at fits in
+        let g = rw (sym whole) at d in
+        omega (arith, g, low, f)
+  ],
+)
+
+pub no_room : (t : Tail) (k : RunKind) (q b room : ℕ) → 0 < q → k ≡ kinds.Raw → t ≡ tails.Raw → room < b → gain_of t k q b ≤ room → ⊥
+no_room t k q b room some raw behind little fits =
+    let f : 0 + q * b ≤ room = rw (raw, behind) at fits in
+    let m : b * 1 ≤ b * q = mul-le-mul_left b (let y : 1 ≤ q = omega arith in y) in
+    omega (arith, f, m, little)
+
 pub entry_or : (c : Cursor) → (entry c ≡ 0) ⊎ ((0 < c.used) × (entry c ≡ 16))
 entry_or c = elim (cases_Bool (c.used == 0)) [
   | inl e ↦ inl (rw e refl)
@@ -378,6 +421,10 @@ last_opens tails.Skip at bytes weight s = (omega arith, omega (arith, s))
 last_opens tails.Raw at bytes weight s = (omega arith, omega (arith, s))
 last_opens (tails.Fill w) at bytes weight s = (omega arith, omega (arith, s))
 
+-- no block follows behind the last one
+pub ends_last : (b limit : ℕ) (l : List Block) (p : Planner) → p.at.block ≡ length l → Ends b l limit p
+ends_last b limit l p e = record { over = λ x more is. absurd (let z : length (drop p.at.block l) ≡ suc (length more) = ap length is in omega (arith, z, e, length-drop p.at.block l)) }
+
 -- ---- a planner that goes no further
 
 pub planned_rests : (b : ℕ) (l : List Block) (p : Planner) → Planned b l p → Planned b l (rested p)
@@ -385,6 +432,14 @@ planned_rests b l p h = record { order = h.order; within = h.within; weight = h.
 
 pub even_rests : (p : Planner) → Even p → Even (rested p)
 even_rests p h = record { order = h.order; chunks = h.chunks; written = h.written; least = h.least; slim = h.slim }
+
+-- ---- a planner whose place moves on without a block
+
+pub planned_still : (b : ℕ) (l : List Block) (p : Planner) (next : Cursor) → next.block ≡ p.at.block → Planned b l p → Planned b l (record { first = p.first; at = next; tail = p.tail; weight = p.weight; contents = p.contents })
+planned_still b l p next e h = record { order = rw e h.order; within = rw e h.within; weight = rw e h.weight; tail = rw e h.tail; last = rw e h.last; contents = rw e h.contents }
+
+pub even_still : (p : Planner) (next : Cursor) → next.block ≡ p.at.block → Even p → Even (record { first = p.first; at = next; tail = p.tail; weight = p.weight; contents = p.contents })
+even_still p next e h = record { order = rw e h.order; chunks = rw e h.chunks; written = rw e h.written; least = h.least; slim = rw e h.slim }
 
 pub ends_rests : (b : ℕ) (l : List Block) (limit : ℕ) (p : Planner) → Ends b l limit p → Ends b l limit (rested p)
 ends_rests b l limit p h = record { over = h.over }

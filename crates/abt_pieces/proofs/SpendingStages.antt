@@ -4,7 +4,7 @@ use Rattle.std.proofs.lemmas.Bool.{cases_Bool, ltb-true, ltb-false}
 use Rattle.abt_runs.specs.Part.{entry}
 use Rattle.abt_runs.specs.declared.part.Cursor.{Cursor}
 use Rattle.abt_pieces.specs.Gather.{gathered_to}
-use Rattle.abt_pieces.specs.Cutter.{first_writer, is_begun, OnMore}
+use Rattle.abt_pieces.specs.Cutter.{first_writer, is_begun, TakenPlan, OnMore, OnEnd}
 use Rattle.abt_pieces.specs.Spent.{both, Spent}
 use Rattle.abt_pieces.specs.SpentStage.{all_passes, SpentPlan, SpentOutline, SpentWriting, SpentStage, SpentPiece}
 use Rattle.abt_pieces.specs.declared.fault.PieceFault.{PieceFault}
@@ -34,6 +34,22 @@ plan_goes charge copied b limit start t given given' p q grown charged copies in
         | inr u ↦ let z = ltb-false 0 p.at.used u in let none = entry_none p.at (omega (arith, z)) in omega (arith, h.most, none, charged, grown)
       ];
       inside = λ u. inl (inside u);
+    }
+
+-- what it takes so far
+pub plan_takes : (K : Cursor → ℕ) (b limit : ℕ) (start : Cursor) (p q : Planner) → q.contents.bytes + K p.at ≤ p.contents.bytes + K q.at + entry p.at → (0 < q.at.used → (q.tail ≡ tails.Raw) × (limit - q.weight < b))
+    → (0 < p.at.used → (p.tail ≡ tails.Raw) × (limit - p.weight < b) → ⊥) → TakenPlan K b limit start p → TakenPlan K b limit start q
+plan_takes K b limit start p q takes inside free h =
+    record {
+      most = elim (cases_Bool (nat_lt 0 p.at.used)) [
+        | inl u ↦
+            let used = ltb-true 0 p.at.used u in
+            let f = h.inside used (free used) in
+            let m = entry_most p.at in
+            omega (arith, f, m, takes)
+        | inr u ↦ let z = ltb-false 0 p.at.used u in let none = entry_none p.at (omega (arith, z)) in omega (arith, h.most, none, takes)
+      ];
+      inside = λ u other. absurd (other (inside u));
     }
 
 -- one that is done
@@ -95,6 +111,12 @@ plan_begins_spent charge copied b limit start t p at is = rw at (record { low = 
 
 pub nothing_read : (Is : Cursor → Type 0) (charge copied : Cursor → ℕ) (held : Cursor → ℕ → ℕ) (n one t given : ℕ) (o : Outline) (w : Writer) → SpentWriting Is charge copied held n one t o w → SpentWriting Is charge copied held n one (t + (given - given)) o w
 nothing_read Is charge copied held n one t given o w h = let z : t + (given - given) ≡ t = omega arith in rw z h
+
+pub end_not : (r : Result PieceProgress PieceFault) (P : Type 0) → OnEnd r ⊥ → OnEnd r P
+end_not (Ok answers.More) P h = tt
+end_not (Ok (answers.Piece p)) P h = tt
+end_not (Ok answers.End) P h = absurd h
+end_not (Err f) P h = tt
 
 pub more_of_ok : (r : Result PieceProgress PieceFault) (P : Type 0) → OnOk r P → OnMore r P
 more_of_ok (Ok answers.More) P h = h

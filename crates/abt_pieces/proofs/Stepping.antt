@@ -9,7 +9,7 @@ use Rattle.abt_pieces.specs.Contents.{contents_before}
 use Rattle.abt_pieces.specs.Gather.{frame, first_gatherer, look_left}
 use Rattle.abt_pieces.specs.Outline.{blocks_of, piece_at}
 use Rattle.abt_pieces.specs.Write.{rest_of, frame_of, write_left, writer_words}
-use Rattle.abt_pieces.specs.Cutter.{first_writer, is_begun, so_far, coming, ToldOutline, ToldCutter, TakenPlan, planned_left, silent_cut, plan_words, piece_words}
+use Rattle.abt_pieces.specs.Cutter.{first_writer, is_begun, so_far, coming, ToldOutline, ToldCutter, Passed, TakenPlan, planned_left, silent_cut, plan_words, piece_words}
 use Rattle.abt_pieces.specs.declared.outline.Piece.{Piece}
 use Rattle.abt_pieces.specs.declared.fault.PieceFault.{PieceFault}
 use Rattle.abt_pieces.specs.declared.outline.Outline.{Outline}
@@ -128,3 +128,20 @@ plan_begins K b limit start p at contents =
     let bytes : p.contents.bytes ≤ 40 = rw contents few in
     let here : K p.at ≡ K start = ap K at in
     record { most = omega (arith, bytes, here); inside = λ u other. omega (arith, bytes, here) }
+
+-- ---- behind a piece
+
+-- how a cutter stands behind a piece of an image of n blocks that ends before block e
+pub record Behind (n e : ℕ) (st : Stage) : Type 0 where
+  pub end : e ≤ n
+  pub done : e ≡ n → st ≡ Done
+  pub between : e < n → st ≡ Between
+
+pub behind_unbegun : (n e : ℕ) (st : Stage) → Behind n e st → is_begun st ≡ false
+behind_unbegun n e st h = elim (cases_Bool (nat_lt e n)) [
+  | inl l ↦ rw (h.between (ltb-true e n l)) refl
+  | inr l ↦ rw (h.done (let z = ltb-false e n l in omega (arith, z, h.end))) refl
+]
+
+pub behind_passed : (n s e : ℕ) (st : Stage) → (e < n → s < e) → Behind n e st → Passed n s e st
+behind_passed n s e st moves h = record { moves = moves; within = h.end; between = h.between; done = λ over. h.done (omega (arith, over, h.end)) }

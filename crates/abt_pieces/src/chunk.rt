@@ -20,7 +20,7 @@ fn side_by_side(header: [u8; 12], word: [u8; 4]) -> [u8; 16]
 }
 
 /// The header of a chunk, and behind it the word of a fill.
-fn chunk_front(kind: RunKind, blocks: u32, total: u32) -> [u8; 16]
+pub fn chunk_front(kind: RunKind, blocks: u32, total: u32) -> [u8; 16]
     ensures { take (length_of_head kind) result ≡ front_bytes kind blocks total }
 {
     let (kind, word) = match kind {
@@ -65,6 +65,24 @@ pub fn write_front<O: Output>(
     write_out(output, &bytes[..head_len(kind) as usize], m)
 }
 
+/// The header of an image (`sparse_header_t`).
+pub fn image_header(size: u32, count: u32, chunks: u32) -> [u8; 28]
+    requires some { 0 < size }
+    requires words { size % 4 ≡ 0 }
+    ensures { result ≡ header_record (plain_header size count chunks) }
+{
+    let header = SparseHeader {
+        minor: 0,
+        file_hdr_sz: 28,
+        chunk_hdr_sz: 12,
+        blk_sz: size,
+        total_blks: count,
+        total_chunks: chunks,
+        image_checksum: 0,
+    };
+    header.encode()
+}
+
 /// Writes the header of a piece (`sparse_header_t`).
 pub fn write_header<O: Output>(
     output: &mut O,
@@ -92,14 +110,5 @@ pub fn write_header<O: Output>(
     ensures steps { m.new.steps.number ≡ m.old.steps.number }
     ensures greatest { m.new.greatest.number ≡ m.old.greatest.number }
 {
-    let header = SparseHeader {
-        minor: 0,
-        file_hdr_sz: 28,
-        chunk_hdr_sz: 12,
-        blk_sz: size,
-        total_blks: count,
-        total_chunks: chunks,
-        image_checksum: 0,
-    };
-    write_out(output, &header.encode(), m)
+    write_out(output, &image_header(size, count, chunks), m)
 }

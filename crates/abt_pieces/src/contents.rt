@@ -5,7 +5,7 @@ ghost use Rattle.abt_pieces.specs.Contents.{opens, opens_len, data_len, held, he
 use abt_runs::{RunKind, are_alike};
 
 /// The numbers of a piece, as far as it has been passed.
-#[derive(Clone, Copy, Debug, PartialEq, Eq, Drop)]
+#[derive(Clone, Copy, Drop)]
 pub struct Contents {
     /// How many chunks it has.
     pub chunks: u32,

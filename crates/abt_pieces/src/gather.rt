@@ -59,7 +59,10 @@ pub fn framed_part<R: BlockRuns, S: Source>(
     let count = runs.blocks();
     if at.block < past {
         let cap = past - at.block;
-        let run = runs.next_part(source, at, cap, w, m)?;
+        let run = match runs.next_part(source, at, cap, w, m) {
+            Ok(run) => run,
+            Err(fault) => return Err(fault),
+        };
         if run.blocks < cap {
             return Ok(run);
         }
@@ -206,7 +209,10 @@ impl Gatherer {
         ensures clean { OnOk result (S.read_faults source.new ≡ S.read_faults source.old) }
         ensures cause { IfErr result (λ e. Caused e S.tells (S.read_faults source.old) (S.read_faults source.new)) }
     {
-        let part = framed_part(runs, source, first, past, self.at, w, m)?;
+        let part = match framed_part(runs, source, first, past, self.at, w, m) {
+            Ok(part) => part,
+            Err(fault) => return Err(fault),
+        };
         let (next, run) = self.and_part(part);
         *self = next;
         Ok(run)

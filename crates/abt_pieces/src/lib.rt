@@ -28,7 +28,7 @@ mod stage;
 mod tail;
 mod write;
 
-pub use chunk::{write_front, write_header};
+pub use chunk::{chunk_front, image_header, write_front, write_header};
 pub use contents::{Contents, copied_len, head_len};
 pub use cutter::{Cutter, least_limit, next_in_turn, no_fewer_pieces};
 pub use fault::{PieceFault, run_fault};

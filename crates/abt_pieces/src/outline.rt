@@ -24,7 +24,7 @@ pub struct Piece {
 }
 
 /// A planned piece, the number of its chunks and the place behind it.
-#[derive(Clone, Copy, Debug, PartialEq, Eq, Drop)]
+#[derive(Clone, Copy, Drop)]
 pub struct Outline {
     pub piece: Piece,
     pub chunks: u32,

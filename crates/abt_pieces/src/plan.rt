@@ -11,7 +11,7 @@ use abt_io::{Meter, Source, Window};
 use abt_runs::{BlockRuns, Cursor, RunFault, RunKind};
 
 /// Plans a piece: the place that it has come to, and what it weighs up to there.
-#[derive(Clone, Copy, Debug, PartialEq, Eq, Drop)]
+#[derive(Clone, Copy, Drop)]
 pub struct Planner {
     pub first: u32,
     pub at: Cursor,
@@ -89,7 +89,10 @@ impl Planner {
         let size = runs.block_size();
         let room = limit as u64 - self.weight;
         let cap = raw_cap(&self.tail, room, size);
-        let run = runs.next_part(source, self.at, cap, w, m)?;
+        let run = match runs.next_part(source, self.at, cap, w, m) {
+            Ok(run) => run,
+            Err(fault) => return Err(fault),
+        };
         if let RunKind::End = run.kind {
             self.at.ask = 1;
             return Ok(true);

@@ -5,7 +5,7 @@ use crate::plan::Planner;
 use crate::write::Writer;
 
 /// Where a cutter stands between its calls.
-#[derive(Clone, Copy, Debug, PartialEq, Eq, Drop)]
+#[derive(Clone, Copy, Drop)]
 pub enum Stage {
     /// Before a piece.
     Between,

@@ -5,7 +5,7 @@ ghost use Rattle.abt_pieces.specs.Plan.{head_of, fill_gain_of, skip_tail, cap_of
 use abt_runs::RunKind;
 
 /// What stands at the end of a segment so far: nothing but skipped blocks, or this behind others.
-#[derive(Clone, Copy, Debug, PartialEq, Eq, Drop)]
+#[derive(Clone, Copy, Drop)]
 pub enum Tail {
     Fresh,
     Skip,

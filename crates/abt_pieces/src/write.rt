@@ -21,7 +21,7 @@ use abt_io::{Meter, Output, Source, WINDOW, Window, write_out};
 use abt_runs::{BlockRuns, Cursor, Run, RunKind};
 
 /// A raw run whose header stands already, and whose bytes are being copied part by part.
-#[derive(Clone, Copy, Debug, PartialEq, Eq, Drop)]
+#[derive(Clone, Copy, Drop)]
 pub struct Copying {
     /// The place of the part that is being copied.
     pub here: Cursor,
@@ -36,7 +36,7 @@ pub struct Copying {
 }
 
 /// Writes one piece, in steps. It holds numbers alone.
-#[derive(Clone, Copy, Debug, PartialEq, Eq, Drop)]
+#[derive(Clone, Copy, Drop)]
 pub struct Writer {
     /// The first block of the segment.
     pub first: u32,
@@ -409,19 +409,25 @@ impl Writer {
         match self.copying {
             Some(copying) => {
                 if copying.done == copying.size {
-                    self.next_raw(copying, runs, source, w, m)?;
-                } else {
-                    self.copy_bytes(copying, runs, source, output, w, m)?;
+                    return match self.next_raw(copying, runs, source, w, m) {
+                        Ok(()) => Ok(false),
+                        Err(fault) => Err(fault),
+                    };
                 }
-                Ok(false)
+                match self.copy_bytes(copying, runs, source, output, w, m) {
+                    Ok(()) => Ok(false),
+                    Err(fault) => Err(fault),
+                }
             }
             None => {
                 if self.gatherer.is_done() {
                     m.close_step(0);
                     return self.end();
                 }
-                self.look(runs, source, output, w, m)?;
-                Ok(false)
+                match self.look(runs, source, output, w, m) {
+                    Ok(()) => Ok(false),
+                    Err(fault) => Err(fault),
+                }
             }
         }
     }

@@ -1,4 +1,5 @@
 use Rattle.std.proofs.Common.{rules, arith, ap, ◌+◌, ◌∙◌, refl, ◌≡◌, inl, inr}
+use Rattle.abt_pieces.proofs.Fronts.{as_many, max_most}
 use Rattle.abt_pieces.proofs.Planning.{first_piece, charged_on}
 use Rattle.abt_pieces.proofs.Counts.{begin_bytes, words_most, words_on}
 use Rattle.abt_pieces.specs.declared.plan.Planner.{Planner}
@@ -22,12 +23,12 @@ loop-m-init g c =
       inside = λ u. inr (rw e.at (omega arith));
       taken = rw (e.at, e.contents) (let z = begin_bytes c.args.from.block in omega arith);
       inside_taken = λ u. inr (rw (e.at, e.contents) (let z = begin_bytes c.args.from.block in omega arith));
-      given = omega arith;
-      received = omega arith;
-      most = omega arith;
+      given = as_many _;
+      received = as_many _;
+      most = max_most _ _;
       calls = omega arith;
       turns = rw e.at (omega arith);
-      faults = omega arith;
+      faults = as_many _;
       clean = refl;
     }
 
@@ -65,7 +66,7 @@ loop-m-preserved g c =
           let f = e'.fetched test in
           let d = c.tick.ensures.turns in
           omega (arith, a, b, w, f, d, i.given);
-      faults = omega arith;
+      faults = omega (arith, i.faults, e.faults);
       clean = c.in_ok-step.ensures.clean ∙ i.clean;
     }
 
@@ -147,3 +148,143 @@ returns-clause-words g c =
     let p = g.met.R.BlockRuns.padded c.args.runs.now c.loop-m.planner.at in
     let w = words_on _ (g.R.BlockRuns.one c.args.runs.now) (g.R.BlockRuns.count c.args.runs.now) c.loop-m.planner.at.block (c.loop-m.planner.at.block + 1) 1 p.0 p.1 (λ h. omega arith) refl in
     rw there (omega (arith, i.turns, b, w, i.given, e.given))
+
+pub returns-clause-same : goal.returns-clause-same
+returns-clause-same g c =
+    let i = c.loop-m.invariant in
+    let e = c.step.ensures in
+    e.same ∙ i.same
+
+pub returns-clause-content : goal.returns-clause-content
+returns-clause-content g c tells =
+    let i = c.loop-m.invariant in
+    let e = c.step.ensures in
+    e.content tells ∙ i.kept tells
+
+pub returns-clause-frame : goal.returns-clause-frame
+returns-clause-frame g c =
+    let i = c.loop-m.invariant in
+    let e = c.step.ensures in
+    e.frame ∙ i.frame
+
+pub returns-clause-given : goal.returns-clause-given
+returns-clause-given g c =
+    let i = c.loop-m.invariant in
+    let e = c.step.ensures in
+    omega (arith, i.given, e.given)
+
+pub returns-clause-received : goal.returns-clause-received
+returns-clause-received g c =
+    let i = c.loop-m.invariant in
+    let e = c.step.ensures in
+    omega (arith, i.received, e.received, e.steps)
+
+pub returns-clause-most_received : goal.returns-clause-most_received
+returns-clause-most_received g c =
+    let i = c.loop-m.invariant in
+    let e = c.step.ensures in
+    omega (arith, i.most, e.greatest, e.received)
+
+pub returns-clause-calls : goal.returns-clause-calls
+returns-clause-calls g c =
+    let i = c.loop-m.invariant in
+    let e = c.step.ensures in
+    let calls = e.calls in
+    omega (arith, calls, i.calls, i.given, e.given)
+
+pub returns-clause-faults : goal.returns-clause-faults
+returns-clause-faults g c =
+    let i = c.loop-m.invariant in
+    let e = c.step.ensures in
+    omega (arith, i.faults, e.faults)
+
+pub returns-in_err-step-clause-same : goal.returns-in_err-step-clause-same
+returns-in_err-step-clause-same g c =
+    let i = c.loop-m.invariant in
+    let e = c.step.ensures in
+    e.same ∙ i.same
+
+pub returns-in_err-step-clause-content : goal.returns-in_err-step-clause-content
+returns-in_err-step-clause-content g c tells =
+    let i = c.loop-m.invariant in
+    let e = c.step.ensures in
+    e.content tells ∙ i.kept tells
+
+pub returns-in_err-step-clause-frame : goal.returns-in_err-step-clause-frame
+returns-in_err-step-clause-frame g c =
+    let i = c.loop-m.invariant in
+    let e = c.step.ensures in
+    e.frame ∙ i.frame
+
+pub returns-in_err-step-clause-given : goal.returns-in_err-step-clause-given
+returns-in_err-step-clause-given g c =
+    let i = c.loop-m.invariant in
+    let e = c.step.ensures in
+    omega (arith, i.given, e.given)
+
+pub returns-in_err-step-clause-received : goal.returns-in_err-step-clause-received
+returns-in_err-step-clause-received g c =
+    let i = c.loop-m.invariant in
+    let e = c.step.ensures in
+    omega (arith, i.received, e.received, e.steps)
+
+pub returns-in_err-step-clause-most_received : goal.returns-in_err-step-clause-most_received
+returns-in_err-step-clause-most_received g c =
+    let i = c.loop-m.invariant in
+    let e = c.step.ensures in
+    omega (arith, i.most, e.greatest, e.received)
+
+pub returns-in_err-step-clause-calls : goal.returns-in_err-step-clause-calls
+returns-in_err-step-clause-calls g c =
+    let i = c.loop-m.invariant in
+    let e = c.step.ensures in
+    let calls = e.calls in
+    omega (arith, calls, i.calls, i.given, e.given)
+
+pub returns-in_err-step-clause-faults : goal.returns-in_err-step-clause-faults
+returns-in_err-step-clause-faults g c =
+    let i = c.loop-m.invariant in
+    let e = c.step.ensures in
+    omega (arith, i.faults, e.faults)
+
+pub returns-clause-within : goal.returns-clause-within
+returns-clause-within g c =
+    let i = c.loop-m.invariant in
+    let e = c.step.ensures in
+    rw i.same at e.within
+
+pub returns-clause-place : goal.returns-clause-place
+returns-clause-place g c tells =
+    let i = c.loop-m.invariant in
+    let e = c.step.ensures in
+    rw (i.same, i.kept tells) at (e.place tells)
+
+pub returns-clause-planned : goal.returns-clause-planned
+returns-clause-planned g c tells =
+    let i = c.loop-m.invariant in
+    let e = c.step.ensures in
+    rw (i.same, i.kept tells) at (e.planned tells)
+
+pub returns-clause-first : goal.returns-clause-first
+returns-clause-first g c =
+    let i = c.loop-m.invariant in
+    let e = c.step.ensures in
+    e.first ∙ i.first
+
+pub returns-clause-room : goal.returns-clause-room
+returns-clause-room g c =
+    let e = c.step.ensures in
+    e.room
+
+pub returns-clause-even : goal.returns-clause-even
+returns-clause-even g c =
+    let e = c.step.ensures in
+    e.even
+
+pub returns-clause-clean : goal.returns-clause-clean
+returns-clause-clean g c =
+    let i = c.loop-m.invariant in
+    c.in_ok-step.ensures.clean ∙ i.clean
+
+pub returns-clause-cause : goal.returns-clause-cause
+returns-clause-cause g c = tt

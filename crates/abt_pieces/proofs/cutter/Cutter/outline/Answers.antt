@@ -1,39 +1,98 @@
-use Rattle.std.proofs.Common.{ap, arith}
-use Rattle.abt_pieces.proofs.Fronts.{not_told}
+use Rattle.std.proofs.Common.{ap, arith, refl}
+use Rattle.abt_pieces.proofs.Fronts.{not_told, run_causes}
 use Rattle.abt_pieces.proofs.Cutting.{moves}
 use Rattle.abt_pieces.proofs.Stepping.{piece_covers_plan}
 use Rattle.abt_pieces.proofs.cutter.Cutter.outline.Goals as goal
 
-pub returns-in-Ok-planned-clause-exact : goal.returns-in-Ok-planned-clause-exact
-returns-in-Ok-planned-clause-exact g c tells =
-    let o = (c.requires.told tells).0 in
-    let e = rw c.in-Ok.ensures.same at c.in-Ok-planned.ensures.exact in
-    e _ (g.met.R.BlockRuns.long c.args.self.now.runs _ o) (g.met.R.BlockRuns.are_blocks c.args.self.now.runs _ o) (c.in-Ok.ensures.planned tells)
+-- the source has failed
+pub returns-in-Err : goal.returns-in-Err
+returns-in-Err g c =
+    let a = c.plan_piece.ensures in
+    record {
+      runs = a.same;
+      rest = (refl, refl, refl, refl);
+      content = a.content;
+      frame = a.frame;
+      sound = tt;
+      exact = λ tells. tt;
+      greatest = λ tells. tt;
+      place = λ tells. tt;
+      charged = tt;
+      charged_end = tt;
+      takes = tt;
+      given = a.given;
+      steps = a.received;
+      received = a.most_received;
+      calls = a.calls;
+      turns = a.turns;
+      words = tt;
+      faults = a.faults;
+      clean = tt;
+      cause = run_causes _ _ _ _ _ _ _ c.run_fault.ensures c.in-Err.ensures.cause;
+    }
 
-pub returns-in-Err-planned-clause-cause : goal.returns-in-Err-planned-clause-cause
-returns-in-Err-planned-clause-cause g c =
-    let r = rw c.in-Ok.ensures.same at c.in-Err-planned.ensures.refused in
-    let size = g.met.R.BlockRuns.sized c.args.self.now.runs in
-    rw r.0 (not_told _ (λ tells.
-    let o = (c.requires.told tells).0 in
-    let long = g.met.R.BlockRuns.long c.args.self.now.runs _ o in
-    moves _ _ _ c.in-Ok.planner size.0 c.args.self.now.sound.granted (c.in-Ok.ensures.ends tells) r.1 (rw long r.2)))
-
-pub returns-in-Ok-planned-clause-takes : goal.returns-in-Ok-planned-clause-takes
-returns-in-Ok-planned-clause-takes g c =
+-- the piece is planned
+pub returns-in-Ok-planned : goal.returns-in-Ok-planned
+returns-in-Ok-planned g c =
+    let a = c.plan_piece.ensures in
+    let e = c.in-Ok.ensures in
     let o = c.in-Ok-planned.ensures in
-    let next = ap (g.R.BlockRuns.taken c.args.self.now.runs) o.next.0 in
-    omega (arith, next, o.longer, c.in-Ok.ensures.takes)
+    record {
+      runs = a.same;
+      rest = (refl, refl, refl, refl);
+      content = a.content;
+      frame = a.frame;
+      sound = rw (a.same, e.first) at o.sound;
+      exact = λ tells.
+          let x = (c.requires.told tells).0 in
+          let exact = rw e.same at o.exact in
+          exact _ (g.met.R.BlockRuns.long c.args.self.now.runs _ x) (g.met.R.BlockRuns.are_blocks c.args.self.now.runs _ x) (e.planned tells);
+      greatest = λ tells. rw o.next.1 (e.greatest tells);
+      place = λ tells. rw o.next.0 (e.place tells);
+      charged = rw o.next.0 e.charged;
+      charged_end = λ over. let end = e.charged_end (rw o.next.1 at over) in rw o.next.0 end;
+      takes = let next = ap (g.R.BlockRuns.taken c.args.self.now.runs) o.next.0 in omega (arith, next, o.longer, e.takes);
+      given = a.given;
+      steps = a.received;
+      received = a.most_received;
+      calls = a.calls;
+      turns = a.turns;
+      words =
+          let z = piece_covers_plan (g.R.BlockRuns.one c.args.self.now.runs) (g.R.BlockRuns.count c.args.self.now.runs) c.in-Ok.planner.at.block in
+          rw o.next.1 (omega (arith, e.words, z));
+      faults = a.faults;
+      clean = e.clean;
+      cause = tt;
+    }
 
-pub returns-in-Ok-planned-clause-words : goal.returns-in-Ok-planned-clause-words
-returns-in-Ok-planned-clause-words g c =
-    let z = piece_covers_plan (g.R.BlockRuns.one c.args.self.now.runs) (g.R.BlockRuns.count c.args.self.now.runs) c.in-Ok.planner.at.block in
-    rw c.in-Ok-planned.ensures.next.1 (omega (arith, c.in-Ok.ensures.words, z))
-
-pub returns-in-Ok-planned-clause-charged : goal.returns-in-Ok-planned-clause-charged
-returns-in-Ok-planned-clause-charged g c = rw c.in-Ok-planned.ensures.next.0 c.in-Ok.ensures.charged
-
-pub returns-in-Ok-planned-clause-charged_end : goal.returns-in-Ok-planned-clause-charged_end
-returns-in-Ok-planned-clause-charged_end g c over =
-    let end = c.in-Ok.ensures.charged_end (rw c.in-Ok-planned.ensures.next.1 at over) in
-    rw c.in-Ok-planned.ensures.next.0 end
+-- the image ended before its blocks did
+pub returns-in-Err-planned : goal.returns-in-Err-planned
+returns-in-Err-planned g c =
+    let a = c.plan_piece.ensures in
+    let e = c.in-Ok.ensures in
+    let r = rw e.same at c.in-Err-planned.ensures.refused in
+    let size = g.met.R.BlockRuns.sized c.args.self.now.runs in
+    record {
+      runs = a.same;
+      rest = (refl, refl, refl, refl);
+      content = a.content;
+      frame = a.frame;
+      sound = tt;
+      exact = λ tells. tt;
+      greatest = λ tells. tt;
+      place = λ tells. tt;
+      charged = tt;
+      charged_end = tt;
+      takes = tt;
+      given = a.given;
+      steps = a.received;
+      received = a.most_received;
+      calls = a.calls;
+      turns = a.turns;
+      words = tt;
+      faults = a.faults;
+      clean = tt;
+      cause = rw r.0 (not_told _ (λ tells.
+          let long = g.met.R.BlockRuns.long c.args.self.now.runs _ (c.requires.told tells).0 in
+          moves _ _ _ c.in-Ok.planner size.0 c.args.self.now.sound.granted (e.ends tells) r.1 (rw long r.2)));
+    }

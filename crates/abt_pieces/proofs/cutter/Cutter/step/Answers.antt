@@ -1,7 +1,8 @@
-use Rattle.std.proofs.Common.{arith, sym}
+use Rattle.std.proofs.Common.{arith, sym, ◌≡◌, ◌∙◌}
+use Rattle.abt_pieces.specs.declared.stage.Stage.TheVariants.{Done, Failed, Write}
 use Rattle.abt_pieces.proofs.Fronts.{wrote_part}
 use Rattle.abt_pieces.proofs.Stepping.{begun_told, header_comes, first_left}
-use Rattle.abt_pieces.proofs.SpendingStages.{outline_writes, plan_begins_spent, nothing_read, more_of_ok}
+use Rattle.abt_pieces.proofs.SpendingStages.{outline_writes, plan_begins_spent, nothing_read, more_of_ok, end_not}
 use Rattle.abt_sparse.specs.Chunk.{plain_header}
 use Rattle.abt_pieces.proofs.Image.{plan_leads, header_leads, whole_header}
 use Rattle.abt_pieces.proofs.cutter.Cutter.step.Goals as goal
@@ -69,3 +70,55 @@ returns-in-Ok-clause-leads g c =
     let size = g.met.R.BlockRuns.sized c.args.self.now.runs in
     let whole = whole_header (plain_header (g.R.BlockRuns.size c.args.self.now.runs) (g.R.BlockRuns.count c.args.self.now.runs) c.in-Begin.outline.chunks) _ _ e.front c.in-Ok.ensures.whole in
     rw (c.in-Ok.ensures.stage, c.in-Begin.is) (header_leads _ _ c.args.self.now.start c.in-Begin.outline _ _ (omega (arith, size.0), size.1, e.fits.0) e.fits.1 e.fits.2 whole)
+
+-- a part of the chunks
+pub returns-in-Write : goal.returns-in-Write
+returns-in-Write g c =
+    let w = c.write.ensures in
+    record {
+      runs = w.runs;
+      limit = w.limit;
+      content = w.content;
+      frame = w.frame;
+      write_frame = w.write_frame;
+      told = w.told;
+      begun = w.begun;
+      more = w.more;
+      grown = w.grown;
+      within = w.within;
+      counted = w.counted;
+      few = w.few;
+      front = w.front;
+      rest = w.rest;
+      whole = w.whole;
+      leads = w.leads;
+      all = w.all;
+      passed = w.passed;
+      least = w.least;
+      piece = w.piece;
+      exact = w.exact;
+      left = w.left;
+      refused = w.refused;
+      given = w.given;
+      received = w.received;
+      steps = w.steps;
+      greatest = w.greatest;
+      takes = w.takes;
+      paid = w.paid;
+      spends = w.spends;
+      spent = w.spent;
+      calls = w.calls;
+      write_calls = w.write_calls;
+      turns = w.turns;
+      words = w.words;
+      piece_words = w.piece_words;
+      faults = w.faults;
+      write_faults = w.write_faults;
+      clean = w.clean;
+      full_faults = λ going. w.full_faults;
+      full = λ going. w.full;
+      cause = w.cause;
+      end = end_not c.write.result _ w.unended;
+      after_last = λ is. let z : Done ≡ Write c.in-Write.outline c.in-Write.writer = sym is ∙ c.in-Write.is in absurd cc;
+      again = λ f is. let z : Failed f ≡ Write c.in-Write.outline c.in-Write.writer = sym is ∙ c.in-Write.is in absurd cc;
+    }

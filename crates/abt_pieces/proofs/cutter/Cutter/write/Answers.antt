@@ -1,56 +1,197 @@
-use Rattle.std.proofs.Common.{sym, refl, arith, ◌∙◌, ◌≡◌}
+use Rattle.std.proofs.Common.{sym, ap, refl, arith, ◌∙◌, ◌≡◌, inr, IsTrue, length, ℕ, List}
+use Rattle.abt_pieces.specs.declared.fault.PieceFault.{PieceFault}
+use Rattle.abt_pieces.specs.declared.stage.Stage.TheVariants.{Failed}
+use Rattle.abt_pieces.proofs.Fronts.{not_full, nothing_left}
 use Rattle.abt_pieces.proofs.Cutting.{told_more}
-use Rattle.abt_pieces.proofs.Stepping.{piece_covers}
+use Rattle.abt_pieces.proofs.Stepping.{Behind, behind_unbegun, behind_passed, piece_covers, plan_most}
 use Rattle.abt_pieces.proofs.SpendingStages.{writing_goes, writing_ends}
 use Rattle.abt_pieces.proofs.Image.{nothing_appended}
 use Rattle.abt_pieces.proofs.cutter.Cutter.write.Goals as goal
 
-pub returns-in-Ok-true-clause-told : goal.returns-in-Ok-true-clause-told
-returns-in-Ok-true-clause-told g c tells =
-    let e = c.in-Ok-true.ensures in
-    let p = c.pass.ensures in
-    let long = g.met.R.BlockRuns.long c.args.self.now.runs _ (c.requires.opened tells) in
-    let h = rw c.requires.at at (c.requires.told tells) in
-    let s = rw c.requires.at at c.args.self.now.sound in
-    rw (p.limit, p.made, p.start) (told_more _ _ (g.R.BlockRuns.within c.args.self.now.runs) _ (g.R.BlockRuns.count c.args.self.now.runs) _ _ _ c.args.self.now.start c.args.outline _ _ refl h s.stage.outline (sym long) h.stage.outline.greatest h.stage.outline.place (rw e.same at p.done) (rw e.same at p.between))
-
-pub returns-in-Ok-true-clause-piece_words : goal.returns-in-Ok-true-clause-piece_words
-returns-in-Ok-true-clause-piece_words g c =
-    let s = rw c.requires.at at c.args.self.now.sound in
-    let past : c.step.new.self.past ≡ c.args.outline.piece.past = c.step.ensures.segment.1 ∙ s.stage.past in
-    let z = piece_covers (g.R.BlockRuns.one c.args.self.now.runs) (g.R.BlockRuns.count c.args.self.now.runs) c.args.outline.piece.past c.step.new.self past in
-    let t = c.in-Ok-true.ensures.words in
-    rw (c.requires.at, c.pass.ensures.piece) (omega (arith, t, z))
-
-pub returns-in-Ok-false-clause-spends : goal.returns-in-Ok-false-clause-spends
-returns-in-Ok-false-clause-spends g c tells t spent =
+-- the piece goes on
+pub returns-in-Ok-false : goal.returns-in-Ok-false
+returns-in-Ok-false g c =
+    let a = c.step.ensures in
     let e = c.in-Ok-false.ensures in
-    let sound = (rw c.requires.at at c.args.self.now.sound).stage in
-    let told = (rw c.requires.at at (c.requires.told tells)).stage in
-    let h = rw c.requires.at at spent in
-    writing_goes _ _ _ _ _ _ t _ _ c.args.outline c.args.from c.step.new.self h (e.spends tells c.args.outline.next sound.outline.within told.outline.place (sym (sound.past ∙ sound.outline.past)) h.fresh h.begun h.total h.spent)
+    let test = c.in-Ok-false.field-0-test in
+    let is = c.requires.at in
+    let s = (rw is at c.args.self.now.sound).stage in
+    let most = plan_most (g.R.BlockRuns.one c.args.self.now.runs) (g.R.BlockRuns.count c.args.self.now.runs) c.args.outline.piece.past in
+    let turns = a.turns in
+    let words = e.words in
+    record {
+      runs = a.same;
+      limit = refl;
+      content = a.content;
+      frame = a.frame;
+      write_frame = a.write_frame;
+      told = λ tells. let h = rw is at (c.requires.told tells) in record { place = h.place; cuts = h.cuts; stage = record { outline = h.stage.outline; writer = e.told tells } };
+      begun = refl;
+      more = (refl, refl);
+      grown = a.grown;
+      within = rw is (omega (arith, a.within, a.grown, s.rest, s.outline.long));
+      counted = rw is (omega (arith, e.counted, a.grown, s.rest));
+      few = a.few;
+      front = λ tells. rw is (a.front tells);
+      rest = λ tells. rw (is, a.segment.0, a.segment.1) (e.rest tells);
+      whole = λ tells. tt;
+      leads = rw is (e.leads test);
+      all = tt;
+      passed = tt;
+      least = tt;
+      piece = tt;
+      exact = λ tells. tt;
+      left = rw is (e.left test);
+      refused = tt;
+      given = a.given;
+      received = a.received;
+      steps = a.steps;
+      greatest = a.greatest;
+      takes = tt;
+      paid = let z = e.paid test in rw (is, a.segment.1) (omega (arith, z));
+      spends = λ tells t spent.
+          let told = (rw is at (c.requires.told tells)).stage in
+          let h = rw is at spent in
+          writing_goes _ _ _ _ _ _ t _ _ c.args.outline c.args.from c.step.new.self h (e.spends tells c.args.outline.next s.outline.within told.outline.place (sym (s.past ∙ s.outline.past)) h.fresh h.begun h.total h.spent);
+      spent = λ tells t spent. tt;
+      calls = a.calls;
+      write_calls = a.write_calls;
+      turns = rw is (omega (arith, turns, most));
+      words = rw is (omega (arith, words));
+      piece_words = tt;
+      faults = a.faults;
+      write_faults = a.write_faults;
+      clean = e.clean;
+      full_faults = e.full_faults;
+      full = λ says. absurd (not_full says);
+      unended = tt;
+      cause = tt;
+    }
 
-pub returns-in-Ok-true-clause-spent : goal.returns-in-Ok-true-clause-spent
-returns-in-Ok-true-clause-spent g c tells t spent =
-    let e = c.in-Ok-true.ensures in
-    let p = c.pass.ensures in
-    let sound = (rw c.requires.at at c.args.self.now.sound).stage in
-    let told = (rw c.requires.at at (c.requires.told tells)).stage in
-    let h = rw c.requires.at at spent in
-    let z = e.spent tells c.args.outline.next sound.outline.within told.outline.place (sym (sound.past ∙ sound.outline.past)) h.fresh h.begun h.total h.spent c.in-Ok-true.field-0-test in
-    rw (p.piece, p.start) (writing_ends _ _ _ _ _ _ t _ _ c.args.outline c.args.from h z)
-
-pub returns-in-Ok-false-clause-leads : goal.returns-in-Ok-false-clause-leads
-returns-in-Ok-false-clause-leads g c = rw c.requires.at (c.in-Ok-false.ensures.leads c.in-Ok-false.field-0-test)
-
-pub returns-in-Ok-true-clause-all : goal.returns-in-Ok-true-clause-all
-returns-in-Ok-true-clause-all g c =
+-- the piece is whole
+pub returns-in-Ok-true : goal.returns-in-Ok-true
+returns-in-Ok-true g c =
+    let a = c.step.ensures in
     let e = c.in-Ok-true.ensures in
     let test = c.in-Ok-true.field-0-test in
-    rw c.requires.at (nothing_appended _ _ _ (e.ended test).1 (e.all test))
+    let p = c.pass.ensures in
+    let is = c.requires.at in
+    let sound = rw is at c.args.self.now.sound in
+    let s = sound.stage in
+    let ended = e.ended test in
+    let same = ap (λ (x : List ℕ). length x) ended.1 in
+    let past : c.step.new.self.past ≡ c.args.outline.piece.past = a.segment.1 ∙ s.past in
+    let behind : Behind (g.R.BlockRuns.count c.args.self.now.runs) c.args.outline.piece.past c.pass.new.self.stage = record { end = s.outline.end; done = rw a.same at p.done; between = rw a.same at p.between } in
+    let most = plan_most (g.R.BlockRuns.one c.args.self.now.runs) (g.R.BlockRuns.count c.args.self.now.runs) c.args.outline.piece.past in
+    let turns = a.turns in
+    let words = e.words in
+    record {
+      runs = p.runs ∙ a.same;
+      limit = p.limit;
+      content = a.content;
+      frame = a.frame;
+      write_frame = a.write_frame;
+      told = λ tells.
+          let long = g.met.R.BlockRuns.long c.args.self.now.runs _ (c.requires.opened tells) in
+          let h = rw is at (c.requires.told tells) in
+          rw (p.limit, p.made, p.start) (told_more _ _ (g.R.BlockRuns.within c.args.self.now.runs) _ (g.R.BlockRuns.count c.args.self.now.runs) _ _ _ c.args.self.now.start c.args.outline _ _ refl h s.outline (sym long) h.stage.outline.greatest h.stage.outline.place behind.done behind.between);
+      begun = behind_unbegun _ _ _ behind;
+      more = tt;
+      grown = a.grown;
+      within = rw is (omega (arith, a.within, a.grown, s.rest, s.outline.long));
+      counted = tt;
+      few = a.few;
+      front = λ tells. rw is (a.front tells);
+      rest = λ tells. tt;
+      whole = λ tells. let h = rw is at (c.requires.told tells) in rw is (nothing_left _ _ _ _ ended.1 h.stage.writer.long ended.0);
+      leads = tt;
+      all = rw is (nothing_appended _ _ _ ended.1 (e.all test));
+      passed = rw p.piece (behind_passed _ _ _ _ s.outline.moves behind);
+      least = rw p.piece s.outline.least;
+      piece = rw (p.piece, p.start, is) (s.outline.first, s.outline.past, s.outline.long, omega (arith, ended.0, same), p.made);
+      exact = λ tells. let h = rw is at (c.requires.told tells) in (rw p.piece h.stage.outline.exact.is, rw (p.piece, s.outline.first) h.stage.outline.greatest);
+      left = tt;
+      refused = tt;
+      given = a.given;
+      received = a.received;
+      steps = a.steps;
+      greatest = a.greatest;
+      takes = rw (p.piece, p.start) sound.taken;
+      paid = tt;
+      spends = λ tells t spent. tt;
+      spent = λ tells t spent.
+          let told = (rw is at (c.requires.told tells)).stage in
+          let h = rw is at spent in
+          let z = e.spent tells c.args.outline.next s.outline.within told.outline.place (sym (s.past ∙ s.outline.past)) h.fresh h.begun h.total h.spent test in
+          rw (p.piece, p.start) (writing_ends _ _ _ _ _ _ t _ _ c.args.outline c.args.from h z);
+      calls = a.calls;
+      write_calls = a.write_calls;
+      turns = rw is (omega (arith, turns, most));
+      words = tt;
+      piece_words =
+          let z = piece_covers (g.R.BlockRuns.one c.args.self.now.runs) (g.R.BlockRuns.count c.args.self.now.runs) c.args.outline.piece.past c.step.new.self past in
+          rw (is, p.piece) (omega (arith, words, z));
+      faults = a.faults;
+      write_faults = a.write_faults;
+      clean = e.clean;
+      full_faults = e.full_faults;
+      full = λ says. absurd (not_full says);
+      unended = tt;
+      cause = tt;
+    }
 
-pub returns-in-Err-clause-full : goal.returns-in-Err-clause-full
-returns-in-Err-clause-full g c says =
-    let s = (rw c.requires.at at c.args.self.now.sound).stage in
-    let z = c.in-Err.ensures.full (rw c.fail.ensures.fault at says) in
-    (z.0, rw c.requires.at (omega (arith, z.1, c.step.ensures.grown, s.rest, s.outline.long)))
+-- the source or the output has failed, or the source has changed
+pub returns-in-Err : goal.returns-in-Err
+returns-in-Err g c =
+    let a = c.step.ensures in
+    let e = c.in-Err.ensures in
+    let x = c.fail.ensures in
+    let is = c.requires.at in
+    let s = (rw is at c.args.self.now.sound).stage in
+    let most = plan_most (g.R.BlockRuns.one c.args.self.now.runs) (g.R.BlockRuns.count c.args.self.now.runs) c.args.outline.piece.past in
+    let turns = a.turns in
+    record {
+      runs = x.rest.0 ∙ a.same;
+      limit = x.rest.1;
+      content = a.content;
+      frame = a.frame;
+      write_frame = a.write_frame;
+      told = λ tells. let h = rw is at (c.requires.told tells) in rw (x.rest.1, x.rest.2, x.rest.3, x.stage) (record { place = h.place; cuts = h.cuts; stage = tt });
+      begun = rw x.stage refl;
+      more = tt;
+      grown = a.grown;
+      within = rw is (omega (arith, a.within, a.grown, s.rest, s.outline.long));
+      counted = tt;
+      few = a.few;
+      front = λ tells. rw is (a.front tells);
+      rest = λ tells. tt;
+      whole = λ tells. tt;
+      leads = tt;
+      all = tt;
+      passed = tt;
+      least = tt;
+      piece = tt;
+      exact = λ tells. tt;
+      left = tt;
+      refused = x.stage ∙ ap (λ (f : PieceFault). Failed f) (sym x.fault);
+      given = a.given;
+      received = a.received;
+      steps = a.steps;
+      greatest = a.greatest;
+      takes = tt;
+      paid = tt;
+      spends = λ tells t spent. tt;
+      spent = λ tells t spent. tt;
+      calls = a.calls;
+      write_calls = a.write_calls;
+      turns = rw is (omega (arith, turns, most));
+      words = tt;
+      piece_words = tt;
+      faults = a.faults;
+      write_faults = a.write_faults;
+      clean = tt;
+      full_faults = rw x.fault e.full_faults;
+      full = λ says. let z = e.full (rw x.fault at says) in (z.0, rw is (omega (arith, z.1, a.grown, s.rest, s.outline.long)));
+      unended = tt;
+      cause = inr (rw x.fault e.cause);
+    }

@@ -1,48 +1,234 @@
-use Rattle.std.proofs.Common.{rules, arith, ap, ◌-◌}
-use Rattle.abt_pieces.proofs.Planning.{planned_on, ends_here, last_ask, ends_rests}
+use Rattle.std.proofs.Common.{rules, arith, ap, refl, sym, ◌-◌, ◌≡◌, ◌≤◌, ◌<◌, ◌+◌, ◌∙◌, true, false}
+use Rattle.std.proofs.lemmas.Bool.{true≢false, false≢true}
+use Rattle.abt_runs.specs.Part.{is_end}
+use Rattle.abt_pieces.proofs.Planning.{planned_on, planned_rests, planned_still, even_on, even_rests, even_still, ends_here, ends_last, ends_rests, last_ask, cap_some, fills_up, no_room}
 use Rattle.abt_pieces.specs.declared.contents.Contents.{Contents}
 use Rattle.abt_pieces.proofs.Counts.{words_on, takes_on}
 use Rattle.abt_pieces.proofs.plan.Planner.step.Goals as goal
 
-pub returns-then-gain-room-clause-ends : goal.returns-then-gain-room-clause-ends
-returns-then-gain-room-clause-ends g c tells =
-    let e = c.in_ok-run.ensures in
+pub returns-in-Err : goal.returns-in-Err
+returns-in-Err g c =
+    let e = c.next_part.ensures in
+    record {
+      same = e.same;
+      first = refl;
+      content = e.content;
+      frame = e.frame;
+      within = c.requires.within;
+      place = λ tells. (c.requires.told tells).1;
+      planned = c.requires.planned;
+      room = c.requires.room;
+      even = c.requires.even;
+      ends = λ tells. tt;
+      on = tt;
+      given = e.given;
+      charged = tt;
+      last = tt;
+      received = e.received;
+      at_end = tt;
+      still = tt;
+      rests = tt;
+      onward = tt;
+      inside = tt;
+      stuck = λ used tail room. tt;
+      takes = tt;
+      fetched = tt;
+      calls = e.calls;
+      turns = e.turns;
+      words = tt;
+      steps = e.steps;
+      greatest = e.greatest;
+      faults = e.faults;
+      clean = tt;
+      cause = c.in-Err.ensures.cause;
+    }
+
+-- the image has no block more
+pub returns-in-End : goal.returns-in-End
+returns-in-End g c =
+    let n = c.next_part.ensures in
+    let e = c.in-Ok.ensures in
+    let ended : is_end c.in-Ok.run'.kind ≡ true = rw c.in-End.is refl in
+    let here = g.met.R.BlockRuns.afresh_within c.args.runs.now c.args.self.now.at c.requires.within in
+    let read = e.ended ended in
+    record {
+      same = n.same;
+      first = refl;
+      content = n.content;
+      frame = n.frame;
+      within = here.within;
+      place = λ tells. g.met.R.BlockRuns.afresh_place c.args.runs.now _ c.args.self.now.at (c.requires.told tells).1;
+      planned = λ tells. planned_rests _ _ c.args.self.now (c.requires.planned tells);
+      room = c.requires.room;
+      even = even_rests c.args.self.now c.requires.even;
+      ends = λ tells d. ends_rests _ _ _ c.args.self.now (ends_last _ _ _ c.args.self.now ((e.part tells).ended ended));
+      on = λ d. absurd (true≢false d);
+      given = n.given;
+      charged = λ d. absurd (true≢false d);
+      last = λ d. omega (arith, read);
+      received = n.received;
+      at_end = λ d over. read;
+      still = λ d. refl;
+      rests = λ d. (here.charge, here.taken, here.left);
+      onward = here.copied;
+      inside = λ d. absurd (true≢false d);
+      stuck = λ used tail room. refl;
+      takes = λ d. absurd (true≢false d);
+      fetched = λ d. absurd (true≢false d);
+      calls = n.calls;
+      turns = n.turns;
+      words = λ d. absurd (true≢false d);
+      steps = n.steps;
+      greatest = n.greatest;
+      faults = n.faults;
+      clean = e.clean;
+      cause = tt;
+    }
+
+-- the place moves on, and no block is passed
+pub returns-then-run-eq0 : goal.returns-then-run-eq0
+returns-then-run-eq0 g c =
+    let n = c.next_part.ensures in
+    let e = c.in-Ok.ensures in
+    let none = c.if-run-eq0.true in
+    let going : is_end c.in-Ok.run'.kind ≡ false = search rules in
     let size = g.met.R.BlockRuns.sized c.args.runs.now in
-    λ _. ends_rests _ _ _ _ (ends_here _ _ _ c.args.self.now c.in_ok-run.run' _ (omega (arith, size)) (c.requires.planned tells) (e.part tells) (omega arith) c.requires.room (rw (c.raw_cap-cap.ensures, c.block_size-size.ensures) at e.capped) (rw c.block_size-size.ensures at c.added-gain.ensures.gain) (omega arith))
+    let cap = rw c.block_size-size.ensures at c.raw_cap-cap.ensures in
+    let there : c.in-Ok.run'.next.block ≡ c.args.self.now.at.block = omega (arith, e.moved, none) in
+    let p = g.met.R.BlockRuns.padded c.args.runs.now c.args.self.now.at in
+    record {
+      same = n.same;
+      first = refl;
+      content = n.content;
+      frame = n.frame;
+      within = e.within;
+      place = e.place;
+      planned = λ tells. planned_still _ _ c.args.self.now _ there (c.requires.planned tells);
+      room = c.requires.room;
+      even = even_still c.args.self.now _ there c.requires.even;
+      ends = λ tells d. absurd (false≢true d);
+      on = λ d. e.on going;
+      given = n.given;
+      charged = λ d. e.charged;
+      last = λ d. absurd (false≢true d);
+      received = n.received;
+      at_end = λ d. absurd (false≢true d);
+      still = λ d. absurd (false≢true d);
+      rests = λ d. absurd (false≢true d);
+      onward = omega (arith, e.onward);
+      inside = λ d used. let s = (e.stops used).1 in let z = cap_some c.args.self.now.tail (c.args.limit - c.args.self.now.weight) (g.R.BlockRuns.size c.args.runs.now) (omega (arith, size)) in absurd (omega (arith, s, none, z, cap));
+      stuck = λ used tail room. let s = (e.goes_on used).1 in absurd (omega (arith, s, none));
+      takes = λ d. omega (arith, e.takes);
+      fetched = λ d. e.fetched going;
+      calls = n.calls;
+      turns = n.turns;
+      words = λ d. words_on _ _ _ _ _ c.in-Ok.run'.blocks p.0 p.1 e.filled_up e.moved;
+      steps = n.steps;
+      greatest = n.greatest;
+      faults = n.faults;
+      clean = e.clean;
+      cause = tt;
+    }
 
-pub returns-clause-planned : goal.returns-clause-planned
-returns-clause-planned g c tells =
-    let e = c.in_ok-run.ensures in
-    planned_on _ _ c.args.self.now c.in_ok-run.run' _ _ _ _ (c.requires.planned tells) (e.part tells) (omega arith) (rw c.block_size-size.ensures at c.added-gain.ensures.gain) c.added-gain.ensures.tail c.last-last.ensures (rw c.block_size-size.ensures at c.with-self.ensures)
-
-pub returns-then-gain-room-clause-last : goal.returns-then-gain-room-clause-last
-returns-then-gain-room-clause-last g c _ =
+-- one block more would be beyond the limit
+pub returns-then-gain-room : goal.returns-then-gain-room
+returns-then-gain-room g c =
+    let n = c.next_part.ensures in
+    let e = c.in-Ok.ensures in
     let size = g.met.R.BlockRuns.sized c.args.runs.now in
     let one = g.met.R.BlockRuns.one_fits c.args.runs.now in
+    let here = g.met.R.BlockRuns.afresh_within c.args.runs.now c.args.self.now.at c.requires.within in
     let room = c.args.limit - c.args.self.now.weight in
-    let capped = rw (c.raw_cap-cap.ensures, c.block_size-size.ensures) at c.in_ok-run.ensures.capped in
+    let capped = rw (c.raw_cap-cap.ensures, c.block_size-size.ensures) at e.capped in
+    let most = rw (c.raw_cap-cap.ensures, c.block_size-size.ensures) at e.most in
     let gain = rw c.block_size-size.ensures at c.added-gain.ensures.gain in
-    let test = c.if-gain-room.true in
-    let a = last_ask c.args.self.now.tail c.in_ok-run.run'.kind c.in_ok-run.run'.blocks _ _ room (omega (arith, size)) one capped.raw (omega (arith, gain, test)) in
-    let most = rw (c.raw_cap-cap.ensures, c.block_size-size.ensures) at c.in_ok-run.ensures.most in
-    omega (arith, a, most)
+    let over = c.if-gain-room.true in
+    let some : 0 < c.in-Ok.run'.blocks = omega arith in
+    let last = last_ask c.args.self.now.tail c.in-Ok.run'.kind c.in-Ok.run'.blocks _ _ room (omega (arith, size)) one capped.raw (omega (arith, gain, over)) in
+    let bound = g.met.R.BlockRuns.bounded c.args.runs.now c.in-Ok.run'.next e.within in
+    record {
+      same = n.same;
+      first = refl;
+      content = n.content;
+      frame = n.frame;
+      within = here.within;
+      place = λ tells. g.met.R.BlockRuns.afresh_place c.args.runs.now _ c.args.self.now.at (c.requires.told tells).1;
+      planned = λ tells. planned_rests _ _ c.args.self.now (c.requires.planned tells);
+      room = c.requires.room;
+      even = even_rests c.args.self.now c.requires.even;
+      ends = λ tells d. ends_rests _ _ _ c.args.self.now (ends_here _ _ _ c.args.self.now c.in-Ok.run' _ (omega (arith, size)) (c.requires.planned tells) (e.part tells) some c.requires.room capped gain over);
+      on = λ d. absurd (true≢false d);
+      given = n.given;
+      charged = λ d. absurd (true≢false d);
+      last = λ d. omega (arith, last, most);
+      received = n.received;
+      at_end = λ d end. absurd (omega (arith, end, bound, e.moved, some));
+      still = λ d. refl;
+      rests = λ d. (here.charge, here.taken, here.left);
+      onward = here.copied;
+      inside = λ d. absurd (true≢false d);
+      stuck = λ used tail room. refl;
+      takes = λ d. absurd (true≢false d);
+      fetched = λ d. absurd (true≢false d);
+      calls = n.calls;
+      turns = n.turns;
+      words = λ d. absurd (true≢false d);
+      steps = n.steps;
+      greatest = n.greatest;
+      faults = n.faults;
+      clean = e.clean;
+      cause = tt;
+    }
 
-pub returns-then-gain-room-clause-at_end : goal.returns-then-gain-room-clause-at_end
-returns-then-gain-room-clause-at_end g c _ over =
-    let e = c.in_ok-run.ensures in
-    let b = g.met.R.BlockRuns.bounded c.args.runs.now c.in_ok-run.run'.next e.within in
-    absurd (omega (arith, b, e.moved))
-
-pub returns-clause-takes : goal.returns-clause-takes
-returns-clause-takes g c _ =
-    let e = c.in_ok-run.ensures in
-    let w = rw c.block_size-size.ensures at c.with-self.ensures in
-    let bytes = ap (λ (x : Contents). x.bytes) w in
-    let t = takes_on c.last-last.result c.in_ok-run.run'.kind c.args.self.now.at.used c.in_ok-run.run'.blocks _ c.args.self.now.contents.bytes _ _ (λ used. (e.goes_on used).0) (search rules) e.takes in
-    omega (arith, bytes, t)
-
-pub returns-clause-words : goal.returns-clause-words
-returns-clause-words g c _ =
-    let e = c.in_ok-run.ensures in
+-- the part is passed
+pub returns : goal.returns
+returns g c =
+    let n = c.next_part.ensures in
+    let e = c.in-Ok.ensures in
+    let going : is_end c.in-Ok.run'.kind ≡ false = search rules in
+    let some : 0 < c.in-Ok.run'.blocks = omega arith in
     let p = g.met.R.BlockRuns.padded c.args.runs.now c.args.self.now.at in
-    words_on _ _ _ _ _ c.in_ok-run.run'.blocks p.0 p.1 e.filled_up e.moved
+    let size = g.met.R.BlockRuns.sized c.args.runs.now in
+    let room = c.args.limit - c.args.self.now.weight in
+    let cap = rw c.block_size-size.ensures at c.raw_cap-cap.ensures in
+    let fits = c.if-gain-room.false in
+    let gain = rw c.block_size-size.ensures at c.added-gain.ensures.gain in
+    let with = rw c.block_size-size.ensures at c.with-self.ensures in
+    let bytes = ap (λ (x : Contents). x.bytes) with in
+    let takes = takes_on c.last-last.result c.in-Ok.run'.kind c.args.self.now.at.used c.in-Ok.run'.blocks _ c.args.self.now.contents.bytes _ _ (λ used. (e.goes_on used).0) going e.takes in
+    record {
+      same = n.same;
+      first = refl;
+      content = n.content;
+      frame = n.frame;
+      within = e.within;
+      place = e.place;
+      planned = λ tells. planned_on _ _ c.args.self.now c.in-Ok.run' _ _ _ _ (c.requires.planned tells) (e.part tells) some gain c.added-gain.ensures.tail c.last-last.ensures with;
+      room = omega (arith, c.requires.room, c.if-gain-room.false);
+      even = even_on c.args.self.now c.in-Ok.run' _ _ _ _ _ c.requires.even e.moved some going gain c.added-gain.ensures.tail c.last-last.ensures with;
+      ends = λ tells d. absurd (false≢true d);
+      on = λ d. e.on going;
+      given = n.given;
+      charged = λ d. e.charged;
+      last = λ d. absurd (false≢true d);
+      received = n.received;
+      at_end = λ d. absurd (false≢true d);
+      still = λ d. absurd (false≢true d);
+      rests = λ d. absurd (false≢true d);
+      onward = omega (arith, e.onward);
+      inside = λ d used.
+          let s = e.stops used in
+          let f = fills_up c.args.self.now.tail _ _ _ room (omega (arith, size)) s.0 (s.1 ∙ cap) (rw gain at fits) in
+          (c.added-gain.ensures.tail ∙ f.0, omega (arith, f.1, gain));
+      stuck = λ used tail little. absurd (no_room c.args.self.now.tail _ _ _ room some (e.goes_on used).0 tail little (rw gain at fits));
+      takes = λ d. omega (arith, bytes, takes);
+      fetched = λ d. e.fetched going;
+      calls = n.calls;
+      turns = n.turns;
+      words = λ d. words_on _ _ _ _ _ c.in-Ok.run'.blocks p.0 p.1 e.filled_up e.moved;
+      steps = n.steps;
+      greatest = n.greatest;
+      faults = n.faults;
+      clean = e.clean;
+      cause = tt;
+    }

@@ -1,113 +1,155 @@
-use Rattle.std.proofs.Common.{arith, refl}
-use Rattle.abt_pieces.proofs.Fronts.{wrote_part}
+use Rattle.std.proofs.Common.{arith, refl, ◌∙◌, ◌≡◌, ◌≤◌, ◌+◌, ◌-◌, length, IsTrue}
+use Rattle.abt_pieces.proofs.Fronts.{wrote_part, nothing_more, nothing_less, as_many, no_more, no_more_than, none_more, ok_both, run_causes, run_unfilled, run_unsaid, not_full}
 use Rattle.abt_pieces.proofs.Writing.{frame_blocks}
-use Rattle.abt_pieces.proofs.Going.{begun, chunk_sound, chunk_told, chunk_rest, chunk_left, chunk_causes, write_looks, none_small}
+use Rattle.abt_pieces.proofs.Going.{begun, still_told, still_sound, chunk_sound, chunk_told, chunk_rest, chunk_counted, chunk_left, chunk_causes, write_looks, none_small}
 use Rattle.abt_pieces.proofs.Counts.{chunk_words, chunk_paid, chunk_gathers, still_passes, writer_looks}
 use Rattle.abt_pieces.specs.Gather.{gathered_to}
 use Rattle.abt_pieces.proofs.Spending.{chunk_spent, spent_looks}
 use Rattle.abt_pieces.proofs.Image.{chunk_leads, look_comes, leads_same}
 use Rattle.abt_pieces.proofs.write.Writer.look.Goals as goal
 
-pub returns-in-Some-clause-sound : goal.returns-in-Some-clause-sound
-returns-in-Some-clause-sound g c =
+-- the source has failed
+pub returns-in-Err : goal.returns-in-Err
+returns-in-Err g c =
+    let a = c.gather.ensures in
+    let turns = a.turns in
+    record {
+      same = a.same;
+      content = a.content;
+      frame = a.frame;
+      sound = tt;
+      told = λ tells. tt;
+      segment = (refl, refl);
+      grown = as_many _;
+      within = no_more _ _;
+      counted = tt;
+      few = no_more_than _ _ _;
+      front = λ tells. nothing_more _ _;
+      rest = λ tells. tt;
+      leads = tt;
+      write_frame = refl;
+      write_faults = as_many _;
+      cause = run_causes _ _ _ _ _ _ _ c.run_fault.ensures c.in-Err.ensures.cause;
+      left = tt;
+      given = a.given;
+      paid = tt;
+      gathered = λ tells d within place is fresh. tt;
+      spends = λ tells d within place is fresh s t spent. tt;
+      calls = a.calls;
+      write_calls = no_more _ _;
+      turns = omega (arith, turns);
+      words = tt;
+      received = a.received;
+      steps = a.steps;
+      greatest = a.greatest;
+      faults = a.faults;
+      clean = tt;
+      full_faults = run_unfilled _ _ _ c.run_fault.ensures;
+      full = λ says. absurd (run_unsaid _ _ c.run_fault.ensures says);
+    }
+
+-- a run has ended, and its chunk begins
+pub returns-in-Some : goal.returns-in-Some
+returns-in-Some g c =
+    let a = c.gather.ensures in
+    let e = c.in-Ok.ensures in
+    let b = c.begin_chunk.ensures in
+    let self = c.args.self.now in
+    let on = c.gather.new.self in
     let size = c.block_size-size.ensures in
     let some = g.met.R.BlockRuns.sized c.args.runs.now in
-    let run = rw c.in-Some.is at c.in-Ok.ensures.run in
-    chunk_sound _ _ _ _ c.args.self.now c.gather.new.self c.in-Some.run' c.begin_chunk.result c.begin_chunk.new.self (omega (arith, some)) c.requires.sound c.in-Ok.ensures.sound run (rw size at c.begin_chunk.ensures.ok) (rw size at c.begin_chunk.ensures.room)
+    let run = rw c.in-Some.is at e.run in
+    let ok = rw size at b.ok in
+    let room = rw size at b.room in
+    let begins = λ (tells : IsTrue g.S.Source.tells).
+    let closed = rw c.in-Some.is at (e.closed tells) in
+    let good = frame_blocks _ _ self.first self.past (g.met.R.BlockRuns.are_blocks c.args.runs.now _ (c.requires.opened tells)) in
+    begun _ _ _ _ _ _ self on c.in-Some.run' c.requires.none good c.requires.sound.gathering (c.requires.told tells) (e.told tells) closed run in
+    let turns = a.turns in
+    let words = e.words in
+    let more = b.turns in
+    record {
+      same = a.same;
+      content = a.content;
+      frame = a.frame;
+      sound = chunk_sound _ _ _ _ self on c.in-Some.run' c.begin_chunk.result c.begin_chunk.new.self (omega (arith, some)) c.requires.sound e.sound run ok room;
+      told = λ tells. chunk_told _ _ _ _ self on c.in-Some.run' c.begin_chunk.result c.begin_chunk.new.self (begins tells) ok;
+      segment = b.segment;
+      grown = b.grown;
+      within = b.within;
+      counted = chunk_counted _ self on c.in-Some.run' c.begin_chunk.result c.begin_chunk.new.self (length (g.O.Output.written c.args.output.now)) (length (g.O.Output.written c.begin_chunk.new.output)) ok room b.whole;
+      few = omega (arith, b.few);
+      front = λ tells. wrote_part _ _ _ _ _ (rw size at b.front) (begins tells).chunk;
+      rest = λ tells. chunk_rest _ _ _ _ self on c.in-Some.run' c.begin_chunk.result c.begin_chunk.new.self (g.O.Output.written c.args.output.now) (g.O.Output.written c.begin_chunk.new.output) (begins tells) ok (rw size at b.written);
+      leads = chunk_leads _ _ _ _ self on c.in-Some.run' c.begin_chunk.result c.begin_chunk.new.self _ _ c.requires.none c.requires.going c.requires.sound e.sound run ok room (rw size at b.written) b.whole;
+      write_frame = b.frame;
+      write_faults = b.faults;
+      cause = chunk_causes c.begin_chunk.result _ self.chunks self.bytes _ (g.S.Source.read_faults c.args.source.now) (g.S.Source.read_faults c.gather.new.source) (g.O.Output.write_faults c.args.output.now) (g.O.Output.write_faults c.begin_chunk.new.output) (rw size at b.cause) (λ tells. let z = begins tells in (z.enough, z.room));
+      left = chunk_left _ (g.R.BlockRuns.within c.args.runs.now) (g.R.BlockRuns.reach c.args.runs.now) _ _ self on c.in-Some.run' c.begin_chunk.result c.begin_chunk.new.self (g.met.R.BlockRuns.left_fits c.args.runs.now) (e.left c.requires.going) (omega (arith, some)) c.requires.sound e.sound run ok room;
+      given = a.given;
+      paid = chunk_paid _ _ _ self on c.in-Some.run' c.begin_chunk.result c.begin_chunk.new.self (e.paid c.requires.going) ok;
+      gathered = λ tells d within place is fresh. chunk_gathers _ _ _ (gathered_to (g.R.BlockRuns.charge c.args.runs.now) self.past d) self on c.in-Some.run' c.begin_chunk.result c.begin_chunk.new.self (e.gathered tells d within place is fresh) ok;
+      spends = λ tells d within place is fresh s t h.
+          let sound = c.requires.sound.gathering in
+          chunk_spent _ _ _ _ _ _ _ d s t _ _ self on c.in-Some.run' c.begin_chunk.result c.begin_chunk.new.self (λ x. let z = g.met.R.BlockRuns.held_grows c.args.runs.now x 0 0 (omega arith) in z.1)
+          (λ k q. ((sound.raw k q).within, (c.requires.told tells).gathering.raw k q)) c.requires.none sound run h
+          (record { read = e.gathered tells d within place is fresh; grown = e.given; gathering = e.spends tells d within place is fresh s h.gathering }) ok;
+      calls = a.calls;
+      write_calls = b.calls;
+      turns = omega (arith, turns, more, b.grown);
+      words = chunk_words (g.R.BlockRuns.within c.args.runs.now) _ _ _ _ _ self on c.in-Some.run' c.begin_chunk.result c.begin_chunk.new.self c.requires.none c.requires.sound.gathering run (omega (arith, words, more, b.grown)) ok;
+      received = a.received;
+      steps = b.steps ∙ a.steps;
+      greatest = b.greatest ∙ a.greatest;
+      faults = a.faults;
+      clean = ok_both c.begin_chunk.result _ _ e.clean b.clean;
+      full_faults = b.full_faults;
+      full = b.full;
+    }
 
-pub returns-in-Some-clause-told : goal.returns-in-Some-clause-told
-returns-in-Some-clause-told g c tells =
-    let size = c.block_size-size.ensures in
-    let run = rw c.in-Some.is at c.in-Ok.ensures.run in
-    let closed = rw c.in-Some.is at (c.in-Ok.ensures.closed tells) in
-    let good = frame_blocks _ _ c.args.self.now.first c.args.self.now.past (g.met.R.BlockRuns.are_blocks c.args.runs.now _ (c.requires.opened tells)) in
-    let z = begun _ _ _ _ _ _ c.args.self.now c.gather.new.self c.in-Some.run' c.requires.none good c.requires.sound.gathering (c.requires.told tells) (c.in-Ok.ensures.told tells) closed run in
-    chunk_told _ _ _ _ c.args.self.now c.gather.new.self c.in-Some.run' c.begin_chunk.result c.begin_chunk.new.self z (rw size at c.begin_chunk.ensures.ok)
-
-pub returns-in-Some-clause-front : goal.returns-in-Some-clause-front
-returns-in-Some-clause-front g c tells =
-    let size = c.block_size-size.ensures in
-    let run = rw c.in-Some.is at c.in-Ok.ensures.run in
-    let closed = rw c.in-Some.is at (c.in-Ok.ensures.closed tells) in
-    let good = frame_blocks _ _ c.args.self.now.first c.args.self.now.past (g.met.R.BlockRuns.are_blocks c.args.runs.now _ (c.requires.opened tells)) in
-    let z = begun _ _ _ _ _ _ c.args.self.now c.gather.new.self c.in-Some.run' c.requires.none good c.requires.sound.gathering (c.requires.told tells) (c.in-Ok.ensures.told tells) closed run in
-    wrote_part _ _ _ _ _ (rw size at c.begin_chunk.ensures.front) z.chunk
-
-pub returns-in-Some-clause-rest : goal.returns-in-Some-clause-rest
-returns-in-Some-clause-rest g c tells =
-    let size = c.block_size-size.ensures in
-    let run = rw c.in-Some.is at c.in-Ok.ensures.run in
-    let closed = rw c.in-Some.is at (c.in-Ok.ensures.closed tells) in
-    let good = frame_blocks _ _ c.args.self.now.first c.args.self.now.past (g.met.R.BlockRuns.are_blocks c.args.runs.now _ (c.requires.opened tells)) in
-    let z = begun _ _ _ _ _ _ c.args.self.now c.gather.new.self c.in-Some.run' c.requires.none good c.requires.sound.gathering (c.requires.told tells) (c.in-Ok.ensures.told tells) closed run in
-    chunk_rest _ _ _ _ c.args.self.now c.gather.new.self c.in-Some.run' c.begin_chunk.result c.begin_chunk.new.self (g.O.Output.written c.args.output.now) (g.O.Output.written c.begin_chunk.new.output) z (rw size at c.begin_chunk.ensures.ok) (rw size at c.begin_chunk.ensures.written)
-
-pub returns-in-Some-clause-cause : goal.returns-in-Some-clause-cause
-returns-in-Some-clause-cause g c =
-    let size = c.block_size-size.ensures in
-    let run = rw c.in-Some.is at c.in-Ok.ensures.run in
-    chunk_causes c.begin_chunk.result _ c.args.self.now.chunks c.args.self.now.bytes _ (g.S.Source.read_faults c.args.source.now) (g.S.Source.read_faults c.gather.new.source) (g.O.Output.write_faults c.args.output.now) (g.O.Output.write_faults c.begin_chunk.new.output) (rw size at c.begin_chunk.ensures.cause) (λ tells.
-    let closed = rw c.in-Some.is at (c.in-Ok.ensures.closed tells) in
-    let good = frame_blocks _ _ c.args.self.now.first c.args.self.now.past (g.met.R.BlockRuns.are_blocks c.args.runs.now _ (c.requires.opened tells)) in
-    let z = begun _ _ _ _ _ _ c.args.self.now c.gather.new.self c.in-Some.run' c.requires.none good c.requires.sound.gathering (c.requires.told tells) (c.in-Ok.ensures.told tells) closed run in
-    (z.enough, z.room))
-
-pub returns-in-Some-clause-left : goal.returns-in-Some-clause-left
-returns-in-Some-clause-left g c =
-    let size = c.block_size-size.ensures in
-    let some = g.met.R.BlockRuns.sized c.args.runs.now in
-    let run = rw c.in-Some.is at c.in-Ok.ensures.run in
-    chunk_left _ (g.R.BlockRuns.within c.args.runs.now) (g.R.BlockRuns.reach c.args.runs.now) _ _ c.args.self.now c.gather.new.self c.in-Some.run' c.begin_chunk.result c.begin_chunk.new.self (g.met.R.BlockRuns.left_fits c.args.runs.now) (c.in-Ok.ensures.left c.requires.going) (omega (arith, some)) c.requires.sound c.in-Ok.ensures.sound run (rw size at c.begin_chunk.ensures.ok) (rw size at c.begin_chunk.ensures.room)
-
-pub returns-in-None-clause-left : goal.returns-in-None-clause-left
-returns-in-None-clause-left g c = write_looks _ _ _ _ (c.in-Ok.ensures.left c.requires.going) (none_small _ _ c.requires.none)
-
-pub returns-in-Some-clause-words : goal.returns-in-Some-clause-words
-returns-in-Some-clause-words g c =
-    let size = c.block_size-size.ensures in
-    let run = rw c.in-Some.is at c.in-Ok.ensures.run in
-    chunk_words (g.R.BlockRuns.within c.args.runs.now) _ _ _ _ _ c.args.self.now c.gather.new.self c.in-Some.run' c.begin_chunk.result c.begin_chunk.new.self c.requires.none c.requires.sound.gathering run
-    (let a = c.in-Ok.ensures.words in let b = c.begin_chunk.ensures.turns in omega (arith, a, b, c.begin_chunk.ensures.grown)) (rw size at c.begin_chunk.ensures.ok)
-
-pub returns-in-Some-clause-paid : goal.returns-in-Some-clause-paid
-returns-in-Some-clause-paid g c =
-    let size = c.block_size-size.ensures in
-    chunk_paid _ _ _ c.args.self.now c.gather.new.self c.in-Some.run' c.begin_chunk.result c.begin_chunk.new.self (c.in-Ok.ensures.paid c.requires.going) (rw size at c.begin_chunk.ensures.ok)
-
-pub returns-in-None-clause-words : goal.returns-in-None-clause-words
-returns-in-None-clause-words g c =
-    let grows = rw c.in-None.is at c.in-Ok.ensures.grows in
-    writer_looks _ _ _ _ c.args.self.now _ refl (still_passes c.args.self.now c.gather.new.self c.requires.none c.requires.sound.gathering.behind_it c.in-Ok.ensures.sound.behind_it grows)
-    (let a = c.in-Ok.ensures.words in omega (arith, a))
-
-pub returns-in-Some-clause-gathered : goal.returns-in-Some-clause-gathered
-returns-in-Some-clause-gathered g c tells d within place is fresh =
-    let size = c.block_size-size.ensures in
-    chunk_gathers _ _ _ (gathered_to (g.R.BlockRuns.charge c.args.runs.now) c.args.self.now.past d) c.args.self.now c.gather.new.self c.in-Some.run' c.begin_chunk.result c.begin_chunk.new.self (c.in-Ok.ensures.gathered tells d within place is fresh) (rw size at c.begin_chunk.ensures.ok)
-
-pub returns-in-Some-clause-spends : goal.returns-in-Some-clause-spends
-returns-in-Some-clause-spends g c tells d within place is fresh s t h =
-    let size = c.block_size-size.ensures in
-    let run = rw c.in-Some.is at c.in-Ok.ensures.run in
-    let sound = c.requires.sound.gathering in
-    chunk_spent _ _ _ _ _ _ _ d s t _ _ c.args.self.now c.gather.new.self c.in-Some.run' c.begin_chunk.result c.begin_chunk.new.self (λ x. let z = g.met.R.BlockRuns.held_grows c.args.runs.now x 0 0 (omega arith) in z.1)
-    (λ k some. ((sound.raw k some).within, (c.requires.told tells).gathering.raw k some)) c.requires.none sound run h
-    (record { read = c.in-Ok.ensures.gathered tells d within place is fresh; grown = c.in-Ok.ensures.given; gathering = c.in-Ok.ensures.spends tells d within place is fresh s h.gathering }) (rw size at c.begin_chunk.ensures.ok)
-
-pub returns-in-None-clause-spends : goal.returns-in-None-clause-spends
-returns-in-None-clause-spends g c tells d within place is fresh s t h =
-    let grows = rw c.in-None.is at c.in-Ok.ensures.grows in
-    spent_looks _ _ _ _ _ _ d s t _ _ c.args.self.now c.gather.new.self c.requires.none c.requires.sound.gathering c.in-Ok.ensures.sound grows h
-    (record { read = c.in-Ok.ensures.gathered tells d within place is fresh; grown = c.in-Ok.ensures.given; gathering = c.in-Ok.ensures.spends tells d within place is fresh s h.gathering })
-
-pub returns-in-Some-clause-leads : goal.returns-in-Some-clause-leads
-returns-in-Some-clause-leads g c =
-    let size = c.block_size-size.ensures in
-    let run = rw c.in-Some.is at c.in-Ok.ensures.run in
-    let e = c.begin_chunk.ensures in
-    chunk_leads _ _ _ _ c.args.self.now c.gather.new.self c.in-Some.run' c.begin_chunk.result c.begin_chunk.new.self _ _ c.requires.none c.requires.going c.requires.sound c.in-Ok.ensures.sound run (rw size at e.ok) (rw size at e.room) (rw size at e.written) e.whole
-
-pub returns-in-None-clause-leads : goal.returns-in-None-clause-leads
-returns-in-None-clause-leads g c =
-    let grows = rw c.in-None.is at c.in-Ok.ensures.grows in
-    leads_same _ _ _ _ refl (look_comes _ _ _ c.args.self.now c.gather.new.self c.requires.sound.gathering c.in-Ok.ensures.sound grows)
+-- the run is still open
+pub returns-in-None : goal.returns-in-None
+returns-in-None g c =
+    let a = c.gather.ensures in
+    let e = c.in-Ok.ensures in
+    let self = c.args.self.now in
+    let on = c.gather.new.self in
+    let grows = rw c.in-None.is at e.grows in
+    let still = λ (tells : IsTrue g.S.Source.tells). still_told _ _ _ _ _ self on c.requires.none c.requires.sound.gathering e.sound (c.requires.told tells) (e.told tells) grows in
+    let turns = a.turns in
+    let words = e.words in
+    record {
+      same = a.same;
+      content = a.content;
+      frame = a.frame;
+      sound = still_sound _ _ _ _ self on c.requires.none c.requires.sound e.sound;
+      told = λ tells. (still tells).1;
+      segment = (refl, refl);
+      grown = as_many _;
+      within = no_more _ _;
+      counted = refl;
+      few = no_more_than _ _ _;
+      front = λ tells. nothing_more _ _;
+      rest = λ tells. (still tells).0 ∙ nothing_less (g.O.Output.written c.args.output.now) _;
+      leads = leads_same _ _ _ _ refl (look_comes _ _ _ self on c.requires.sound.gathering e.sound grows);
+      write_frame = refl;
+      write_faults = as_many _;
+      cause = tt;
+      left = write_looks _ _ _ _ (e.left c.requires.going) (none_small _ _ c.requires.none);
+      given = a.given;
+      paid = e.paid c.requires.going;
+      gathered = λ tells d within place is fresh. e.gathered tells d within place is fresh;
+      spends = λ tells d within place is fresh s t h. spent_looks _ _ _ _ _ _ d s t _ _ self on c.requires.none c.requires.sound.gathering e.sound grows h
+          (record { read = e.gathered tells d within place is fresh; grown = e.given; gathering = e.spends tells d within place is fresh s h.gathering });
+      calls = a.calls;
+      write_calls = no_more _ _;
+      turns = omega (arith, turns);
+      words = writer_looks _ _ _ _ self _ refl (still_passes self on c.requires.none c.requires.sound.gathering.behind_it e.sound.behind_it grows) (omega (arith, words));
+      received = a.received;
+      steps = a.steps;
+      greatest = a.greatest;
+      faults = a.faults;
+      clean = (e.clean, refl);
+      full_faults = none_more _;
+      full = λ says. absurd (not_full says);
+    }

@@ -1,52 +1,364 @@
 use Rattle.std.proofs.Common.{arith, sym, ◌≡◌, ◌≤◌, ◌+◌, ◌-◌, ◌*◌, ◌∙◌, true, refl}
+use Rattle.std.proofs.lemmas.Bool.{false≢true}
+use Rattle.abt_pieces.proofs.Fronts.{nothing_more, nothing_less, as_many, no_more, no_more_than, none_more, not_full, cause_unwritten, unfilled_by, none_says, whole_goes_not, whole_unfilled, whole_ended, whole_cause}
+use Rattle.abt_pieces.proofs.Going.{told_whole}
 use Rattle.abt_pieces.proofs.Counts.{writer_most, writer_looked, writer_passed}
 use Rattle.abt_pieces.proofs.Spending.{always_ok, spent_same, spent_whole}
 use Rattle.abt_pieces.proofs.Image.{leads_same, end_comes}
 use Rattle.abt_pieces.proofs.write.Writer.step.Goals as goal
 
-pub returns-in_err-next_raw-in-Some-clause-turns : goal.returns-in_err-next_raw-in-Some-clause-turns
-returns-in_err-next_raw-in-Some-clause-turns g c =
-    let t = c.next_raw.ensures.turns in
-    writer_passed _ _ _ _ c.args.self.now c.in-Some.copying c.in-Some.is (omega (arith, t))
+-- the next part of the raw run
+pub returns-in-Ok : goal.returns-in-Ok
+returns-in-Ok g c =
+    let a = c.next_raw.ensures in
+    let e = c.in-Ok.ensures in
+    let turns = a.turns in
+    let words = e.words in
+    record {
+      same = a.same;
+      content = a.content;
+      frame = a.frame;
+      sound = e.sound;
+      told = e.told;
+      segment = a.segment;
+      grown = as_many _;
+      within = no_more _ _;
+      counted = omega (arith, a.bytes);
+      few = no_more_than _ _ _;
+      front = λ tells. nothing_more _ _;
+      rest = λ tells. e.rest tells ∙ nothing_less (g.O.Output.written c.args.output.now) _;
+      leads = λ d. leads_same _ _ _ _ refl e.comes;
+      all = λ d. absurd (false≢true d);
+      write_frame = refl;
+      write_faults = as_many _;
+      cause = tt;
+      left = λ d. e.left;
+      ended = λ d. absurd (false≢true d);
+      given = a.given;
+      paid = λ d. rw a.gatherer (omega (arith, e.fetched));
+      spends = λ tells d within place is fresh s t h. e.spends tells d within place is fresh s t h;
+      spent = λ tells d within place is fresh s t h whole. absurd (false≢true whole);
+      calls = a.calls;
+      write_calls = no_more _ _;
+      turns = writer_passed _ _ _ _ c.args.self.now c.in-Some.copying c.in-Some.is (omega (arith, turns));
+      words = omega (arith, words);
+      received = a.received;
+      steps = a.steps;
+      greatest = a.greatest;
+      faults = a.faults;
+      clean = (e.clean, refl);
+      full_faults = none_more _;
+      full = λ says. absurd (not_full says);
+    }
 
-pub returns-in_ok-next_raw-in-Some-clause-turns : goal.returns-in_ok-next_raw-in-Some-clause-turns
-returns-in_ok-next_raw-in-Some-clause-turns g c =
-    let t = c.next_raw.ensures.turns in
-    writer_passed _ _ _ _ c.args.self.now c.in-Some.copying c.in-Some.is (omega (arith, t))
+-- no next part
+pub returns-in-Err : goal.returns-in-Err
+returns-in-Err g c =
+    let a = c.next_raw.ensures in
+    let e = c.in-Err.ensures in
+    let turns = a.turns in
+    record {
+      same = a.same;
+      content = a.content;
+      frame = a.frame;
+      sound = tt;
+      told = λ tells. tt;
+      segment = a.segment;
+      grown = as_many _;
+      within = no_more _ _;
+      counted = tt;
+      few = no_more_than _ _ _;
+      front = λ tells. nothing_more _ _;
+      rest = λ tells. tt;
+      leads = tt;
+      all = tt;
+      write_frame = refl;
+      write_faults = as_many _;
+      cause = cause_unwritten c.in-Err.fault _ _ _ _ _ e.cause;
+      left = tt;
+      ended = tt;
+      given = a.given;
+      paid = tt;
+      spends = λ tells d within place is fresh s t h. tt;
+      spent = λ tells d within place is fresh s t h. tt;
+      calls = a.calls;
+      write_calls = no_more _ _;
+      turns = writer_passed _ _ _ _ c.args.self.now c.in-Some.copying c.in-Some.is (omega (arith, turns));
+      words = tt;
+      received = a.received;
+      steps = a.steps;
+      greatest = a.greatest;
+      faults = a.faults;
+      clean = tt;
+      full_faults = unfilled_by _ _ e.unwritten;
+      full = λ says. absurd (none_says _ e.unwritten says);
+    }
 
-pub returns-in_err-copy_bytes-in-Some-clause-turns : goal.returns-in_err-copy_bytes-in-Some-clause-turns
-returns-in_err-copy_bytes-in-Some-clause-turns g c =
-    let z = writer_most (g.R.BlockRuns.one c.args.runs.now) (g.R.BlockRuns.count c.args.runs.now) c.args.self.now in
-    omega (arith, c.copy_bytes.ensures.turns, z)
+-- bytes of the raw run
+pub returns-in-Ok-copy_bytes : goal.returns-in-Ok-copy_bytes
+returns-in-Ok-copy_bytes g c =
+    let a = c.copy_bytes.ensures in
+    let e = c.in-Ok-copy_bytes.ensures in
+    let most = writer_most (g.R.BlockRuns.one c.args.runs.now) (g.R.BlockRuns.count c.args.runs.now) c.args.self.now in
+    let turns = a.turns in
+    let words = e.words in
+    record {
+      same = a.same;
+      content = a.content;
+      frame = a.frame;
+      sound = e.sound;
+      told = e.told;
+      segment = a.segment;
+      grown = a.grown;
+      within = a.within;
+      counted = e.counted;
+      few = a.few;
+      front = a.front;
+      rest = e.rest;
+      leads = λ d. e.leads;
+      all = λ d. absurd (false≢true d);
+      write_frame = a.write_frame;
+      write_faults = a.write_faults;
+      cause = tt;
+      left = λ d. e.left;
+      ended = λ d. absurd (false≢true d);
+      given = a.given;
+      paid = λ d. rw a.gatherer (omega (arith, e.put));
+      spends = λ tells d within place is fresh s t h. e.spends tells d within place is fresh s t h;
+      spent = λ tells d within place is fresh s t h whole. absurd (false≢true whole);
+      calls = omega (arith, a.calls);
+      write_calls = a.write_calls;
+      turns = omega (arith, turns, most);
+      words = omega (arith, turns, words);
+      received = a.received;
+      steps = a.steps;
+      greatest = a.greatest;
+      faults = a.faults;
+      clean = e.clean;
+      full_faults = e.full_faults;
+      full = λ says. absurd (not_full says);
+    }
 
-pub returns-in_ok-copy_bytes-in-Some-clause-turns : goal.returns-in_ok-copy_bytes-in-Some-clause-turns
-returns-in_ok-copy_bytes-in-Some-clause-turns g c =
-    let z = writer_most (g.R.BlockRuns.one c.args.runs.now) (g.R.BlockRuns.count c.args.runs.now) c.args.self.now in
-    omega (arith, c.copy_bytes.ensures.turns, z)
+-- no bytes of it
+pub returns-in-Err-copy_bytes : goal.returns-in-Err-copy_bytes
+returns-in-Err-copy_bytes g c =
+    let a = c.copy_bytes.ensures in
+    let e = c.in-Err-copy_bytes.ensures in
+    let most = writer_most (g.R.BlockRuns.one c.args.runs.now) (g.R.BlockRuns.count c.args.runs.now) c.args.self.now in
+    let turns = a.turns in
+    record {
+      same = a.same;
+      content = a.content;
+      frame = a.frame;
+      sound = tt;
+      told = λ tells. tt;
+      segment = a.segment;
+      grown = a.grown;
+      within = a.within;
+      counted = tt;
+      few = a.few;
+      front = a.front;
+      rest = λ tells. tt;
+      leads = tt;
+      all = tt;
+      write_frame = a.write_frame;
+      write_faults = a.write_faults;
+      cause = e.cause;
+      left = tt;
+      ended = tt;
+      given = a.given;
+      paid = tt;
+      spends = λ tells d within place is fresh s t h. tt;
+      spent = λ tells d within place is fresh s t h. tt;
+      calls = omega (arith, a.calls);
+      write_calls = a.write_calls;
+      turns = omega (arith, turns, most);
+      words = tt;
+      received = a.received;
+      steps = a.steps;
+      greatest = a.greatest;
+      faults = a.faults;
+      clean = tt;
+      full_faults = e.full_faults;
+      full = e.full;
+    }
+
+-- a part of the open run
+pub returns-in-Ok-look : goal.returns-in-Ok-look
+returns-in-Ok-look g c =
+    let a = c.look.ensures in
+    let e = c.in-Ok-look.ensures in
+    let turns = a.turns in
+    record {
+      same = a.same;
+      content = a.content;
+      frame = a.frame;
+      sound = e.sound;
+      told = e.told;
+      segment = a.segment;
+      grown = a.grown;
+      within = a.within;
+      counted = e.counted;
+      few = a.few;
+      front = a.front;
+      rest = e.rest;
+      leads = λ d. e.leads;
+      all = λ d. absurd (false≢true d);
+      write_frame = a.write_frame;
+      write_faults = a.write_faults;
+      cause = tt;
+      left = λ d. e.left;
+      ended = λ d. absurd (false≢true d);
+      given = a.given;
+      paid = λ d. let z = e.paid in omega (arith, z);
+      spends = λ tells d within place is fresh s t h. e.spends tells d within place is fresh s t h;
+      spent = λ tells d within place is fresh s t h whole. absurd (false≢true whole);
+      calls = a.calls;
+      write_calls = a.write_calls;
+      turns = writer_looked _ _ _ _ c.args.self.now (omega (arith, turns));
+      words = e.words;
+      received = a.received;
+      steps = a.steps;
+      greatest = a.greatest;
+      faults = a.faults;
+      clean = e.clean;
+      full_faults = e.full_faults;
+      full = λ says. absurd (not_full says);
+    }
+
+-- no part of it
+pub returns-in-Err-look : goal.returns-in-Err-look
+returns-in-Err-look g c =
+    let a = c.look.ensures in
+    let e = c.in-Err-look.ensures in
+    let turns = a.turns in
+    record {
+      same = a.same;
+      content = a.content;
+      frame = a.frame;
+      sound = tt;
+      told = λ tells. tt;
+      segment = a.segment;
+      grown = a.grown;
+      within = a.within;
+      counted = tt;
+      few = a.few;
+      front = a.front;
+      rest = λ tells. tt;
+      leads = tt;
+      all = tt;
+      write_frame = a.write_frame;
+      write_faults = a.write_faults;
+      cause = e.cause;
+      left = tt;
+      ended = tt;
+      given = a.given;
+      paid = tt;
+      spends = λ tells d within place is fresh s t h. tt;
+      spent = λ tells d within place is fresh s t h. tt;
+      calls = a.calls;
+      write_calls = a.write_calls;
+      turns = writer_looked _ _ _ _ c.args.self.now (omega (arith, turns));
+      words = tt;
+      received = a.received;
+      steps = a.steps;
+      greatest = a.greatest;
+      faults = a.faults;
+      clean = tt;
+      full_faults = e.full_faults;
+      full = e.full;
+    }
+
+-- nothing is left to look for
+
+pub returns-then-is_done-clause-same : goal.returns-then-is_done-clause-same
+returns-then-is_done-clause-same g c = refl
+
+pub returns-then-is_done-clause-frame : goal.returns-then-is_done-clause-frame
+returns-then-is_done-clause-frame g c = refl
+
+pub returns-then-is_done-clause-sound : goal.returns-then-is_done-clause-sound
+returns-then-is_done-clause-sound g c = always_ok c.end.result _ (λ x. c.requires.sound)
+
+pub returns-then-is_done-clause-segment : goal.returns-then-is_done-clause-segment
+returns-then-is_done-clause-segment g c = (refl, refl)
+
+pub returns-then-is_done-clause-grown : goal.returns-then-is_done-clause-grown
+returns-then-is_done-clause-grown g c = as_many _
+
+pub returns-then-is_done-clause-within : goal.returns-then-is_done-clause-within
+returns-then-is_done-clause-within g c = no_more _ _
+
+pub returns-then-is_done-clause-counted : goal.returns-then-is_done-clause-counted
+returns-then-is_done-clause-counted g c = always_ok c.end.result _ (λ x. refl)
+
+pub returns-then-is_done-clause-few : goal.returns-then-is_done-clause-few
+returns-then-is_done-clause-few g c = no_more_than _ _ _
+
+pub returns-then-is_done-clause-leads : goal.returns-then-is_done-clause-leads
+returns-then-is_done-clause-leads g c = whole_goes_not c.end.result _ _ _ c.end.ensures.whole
+
+pub returns-then-is_done-clause-write_frame : goal.returns-then-is_done-clause-write_frame
+returns-then-is_done-clause-write_frame g c = refl
+
+pub returns-then-is_done-clause-write_faults : goal.returns-then-is_done-clause-write_faults
+returns-then-is_done-clause-write_faults g c = as_many _
+
+pub returns-then-is_done-clause-left : goal.returns-then-is_done-clause-left
+returns-then-is_done-clause-left g c = whole_goes_not c.end.result _ _ _ c.end.ensures.whole
+
+pub returns-then-is_done-clause-given : goal.returns-then-is_done-clause-given
+returns-then-is_done-clause-given g c = as_many _
+
+pub returns-then-is_done-clause-paid : goal.returns-then-is_done-clause-paid
+returns-then-is_done-clause-paid g c = whole_goes_not c.end.result _ _ _ c.end.ensures.whole
+
+pub returns-then-is_done-clause-calls : goal.returns-then-is_done-clause-calls
+returns-then-is_done-clause-calls g c = no_more_than _ _ _
+
+pub returns-then-is_done-clause-write_calls : goal.returns-then-is_done-clause-write_calls
+returns-then-is_done-clause-write_calls g c = no_more _ _
+
+pub returns-then-is_done-clause-words : goal.returns-then-is_done-clause-words
+returns-then-is_done-clause-words g c = always_ok c.end.result _ (λ x. let turns = c.close_step.ensures.turns in omega (arith, turns))
+
+pub returns-then-is_done-clause-received : goal.returns-then-is_done-clause-received
+returns-then-is_done-clause-received g c = no_more _ _
+
+pub returns-then-is_done-clause-steps : goal.returns-then-is_done-clause-steps
+returns-then-is_done-clause-steps g c = c.close_step.ensures.steps
+
+pub returns-then-is_done-clause-greatest : goal.returns-then-is_done-clause-greatest
+returns-then-is_done-clause-greatest g c = omega (arith, c.close_step.ensures.greatest)
+
+pub returns-then-is_done-clause-faults : goal.returns-then-is_done-clause-faults
+returns-then-is_done-clause-faults g c = as_many _
+
+pub returns-then-is_done-clause-clean : goal.returns-then-is_done-clause-clean
+returns-then-is_done-clause-clean g c = always_ok c.end.result _ (λ x. (refl, refl))
+
+pub returns-then-is_done-clause-full_faults : goal.returns-then-is_done-clause-full_faults
+returns-then-is_done-clause-full_faults g c = unfilled_by _ _ (whole_unfilled c.end.result _ c.end.ensures.refused)
+
+pub returns-then-is_done-clause-full : goal.returns-then-is_done-clause-full
+returns-then-is_done-clause-full g c = λ says. absurd (none_says _ (whole_unfilled c.end.result _ c.end.ensures.refused) says)
+
+pub returns-then-is_done-clause-content : goal.returns-then-is_done-clause-content
+returns-then-is_done-clause-content g c tells = refl
+
+pub returns-then-is_done-clause-told : goal.returns-then-is_done-clause-told
+returns-then-is_done-clause-told g c tells = always_ok c.end.result _ (λ x. c.requires.told tells)
+
+pub returns-then-is_done-clause-front : goal.returns-then-is_done-clause-front
+returns-then-is_done-clause-front g c tells = nothing_more _ _
+
+pub returns-then-is_done-clause-rest : goal.returns-then-is_done-clause-rest
+returns-then-is_done-clause-rest g c tells = always_ok c.end.result _ (λ x. nothing_less (g.O.Output.written c.args.output.now) _)
 
 pub returns-then-is_done-clause-turns : goal.returns-then-is_done-clause-turns
 returns-then-is_done-clause-turns g c =
     let z = writer_most (g.R.BlockRuns.one c.args.runs.now) (g.R.BlockRuns.count c.args.runs.now) c.args.self.now in
     omega (arith, c.close_step.ensures.turns, z)
-
-pub returns-in_err-look-in-None-clause-turns : goal.returns-in_err-look-in-None-clause-turns
-returns-in_err-look-in-None-clause-turns g c =
-    let t = c.look.ensures.turns in
-    writer_looked _ _ _ _ c.args.self.now (omega (arith, t))
-
-pub returns-in_ok-look-in-None-clause-turns : goal.returns-in_ok-look-in-None-clause-turns
-returns-in_ok-look-in-None-clause-turns g c =
-    let t = c.look.ensures.turns in
-    writer_looked _ _ _ _ c.args.self.now (omega (arith, t))
-
-pub returns-in_ok-next_raw-in-Some-clause-spends : goal.returns-in_ok-next_raw-in-Some-clause-spends
-returns-in_ok-next_raw-in-Some-clause-spends g c tells d within place is fresh s t h = c.in_ok-next_raw-in-Some.ensures.spends tells d within place is fresh s t h
-
-pub returns-in_ok-copy_bytes-in-Some-clause-spends : goal.returns-in_ok-copy_bytes-in-Some-clause-spends
-returns-in_ok-copy_bytes-in-Some-clause-spends g c tells d within place is fresh s t h = c.in_ok-copy_bytes-in-Some.ensures.spends tells d within place is fresh s t h
-
-pub returns-in_ok-look-in-None-clause-spends : goal.returns-in_ok-look-in-None-clause-spends
-returns-in_ok-look-in-None-clause-spends g c tells d within place is fresh s t h = c.in_ok-look-in-None.ensures.spends tells d within place is fresh s t h
 
 pub returns-then-is_done-clause-spends : goal.returns-then-is_done-clause-spends
 returns-then-is_done-clause-spends g c tells d within place is fresh s t h = always_ok _ _ (λ x. spent_same _ _ _ _ d s t _ c.args.self.now h)
@@ -56,8 +368,12 @@ returns-then-is_done-clause-spent g c tells d within place is fresh s t h =
     let z = spent_whole _ _ _ _ _ _ d s t c.args.self.now (within, place) is fresh c.in-None.is (sym c.is_done.ensures ∙ c.if-is_done.true) c.requires.sound.gathering h in
     always_ok _ (λ x. x ≡ true → t + (g.S.Source.given c.args.source.now - g.S.Source.given c.args.source.now) ≤ 2 * g.R.BlockRuns.charge c.args.runs.now d + g.R.BlockRuns.copied c.args.runs.now d + 32) (λ x e. omega (arith, z))
 
-pub returns-in_ok-next_raw-in-Some-clause-leads : goal.returns-in_ok-next_raw-in-Some-clause-leads
-returns-in_ok-next_raw-in-Some-clause-leads g c e = leads_same _ _ _ _ refl c.in_ok-next_raw-in-Some.ensures.comes
-
 pub returns-then-is_done-clause-all : goal.returns-then-is_done-clause-all
 returns-then-is_done-clause-all g c = end_comes c.end.result _ _ _ c.args.self.now c.requires.sound.gathering c.in-None.is (sym c.is_done.ensures ∙ c.if-is_done.true) c.end.ensures.whole
+
+pub returns-then-is_done-clause-ended : goal.returns-then-is_done-clause-ended
+returns-then-is_done-clause-ended g c = whole_ended c.end.result _ _ _ c.end.ensures.whole refl
+
+pub returns-then-is_done-clause-cause : goal.returns-then-is_done-clause-cause
+returns-then-is_done-clause-cause g c = whole_cause c.end.result _ _ _ _ _ _ c.end.ensures.refused (λ tells.
+    told_whole _ _ _ _ _ c.args.self.now c.requires.sound.gathering (sym (g.met.R.BlockRuns.long c.args.runs.now _ (c.requires.opened tells))) c.in-None.is (sym c.is_done.ensures ∙ c.if-is_done.true) (c.requires.told tells))
