@@ -1,0 +1,4 @@
+pub mod Placer
+pub mod Placed
+pub mod Whole
+pub mod Unfinished

@@ -1,0 +1,24 @@
+//! Writing a raw image as a sparse image in one pass over it, to an output whose written bytes can be
+//! written over.
+//!
+//! A chunk's header stands before its data and says how long it is, and the image's header says how
+//! many chunks there are. So the place of each is kept with zeros, and it is laid there when what it
+//! tells is known: a raw chunk's header when its run has ended, the image's when all else stands, and
+//! its magic number last of all. Whatever is broken off before is no image.
+//!
+//! - `placer`: what is held between two steps, numbers alone;
+//! - `headers`: headers that are laid over the place that was kept;
+//! - `taking`: blocks that are taken, class by class, as they stand in the window;
+//! - `steps`: one step, the next window of the source or the end;
+//! - `image`: a whole image.
+//!
+//! `specs/Placed` says what stands at each step, `specs/Image` what the whole is, `proofs/` why.
+#![tactic(auto)]
+
+mod headers;
+mod image;
+mod placer;
+mod steps;
+mod taking;
+
+pub use image::sparsify_at;
