@@ -1,6 +1,7 @@
 -- What is left to deliver, piece by piece.
-use Rattle.std.proofs.Common.{◌≡◌, ℕ, zero, suc, ◌+◌, ◌-◌, ◌*◌, ◌%◌, ◌≤◌, ◌⊎◌, nat_le, nat_lt, Bool, List, [], ◌∷◌, ◌++◌, length, map, take, drop, replicate, refl, sym, ap, ◌∙◌, arith, inl, inr, length-append, length-drop, take-append-drop}
+use Rattle.std.proofs.Common.{◌≡◌, ℕ, zero, suc, ◌+◌, ◌-◌, ◌*◌, ◌%◌, ◌≤◌, ◌⊎◌, nat_le, nat_lt, Bool, List, [], ◌∷◌, ◌++◌, length, map, take, drop, replicate, refl, sym, ap, ◌∙◌, arith, inl, inr, append-nil, append_assoc, length-append, length-drop, take-append-drop}
 use Rattle.std.specs.List.{AllByRecursion}
+use Rattle.std.proofs.Math.Seq.{take-add}
 use Rattle.std.proofs.lemmas.Bool.{cases_Bool, ltb-true, ltb-false}
 use Rattle.std.proofs.lemmas.List.{length-take-le, length-replicate, take_at, drop_at, drop-map, drop-drop}
 use Rattle.std.proofs.lemmas.List.Concat.{flat_map-append}
@@ -8,9 +9,9 @@ use Rattle.abt_sparse.specs.Block.{Block, Skip, AreBlocks, cells, over}
 use Rattle.abt_sparse.specs.Runs.{weight, framed, frames, greedy, tail_parts, segments, joined}
 use Rattle.abt_sparse.specs.Chunk.{piece}
 use Rattle.abt_sparse.specs.Laws.{flashed_all}
-use Rattle.abt_sparse.proofs.AreAll.{AreBlocks-skips, AreBlocks-parts, AreBlocks-joined}
+use Rattle.abt_sparse.proofs.AreAll.{AreBlocks-append, AreBlocks-skips, AreBlocks-parts, AreBlocks-joined}
 use Rattle.abt_sparse.proofs.Greedy.{joined-greedy}
-use Rattle.abt_sparse.proofs.Lay.{in_turn_from, over-nones, cells-skips}
+use Rattle.abt_sparse.proofs.Lay.{nones, in_turn_from, over-nones, over_behind, over_then_nones, cells-append, cells-framed, cells-skips, length-cells}
 use Rattle.abt_pieces.specs.Contents.{written_in}
 use Rattle.abt_pieces.specs.Cutter.{Made, segments_left}
 use Rattle.abt_pieces.specs.Gather.{frame}
@@ -20,7 +21,7 @@ use Rattle.abt_pieces.specs.declared.stage.Stage.{Stage}
 use Rattle.abt_pieces.specs.declared.stage.Stage.TheVariants.{Between, Done}
 use Rattle.abt_pieces.proofs.Counting.{written-append}
 use Rattle.abt_pieces.proofs.Cutting.{piece_is}
-use Rattle.abt_flash.specs.Delivering.{blocks_in_first, blocks_behind, pieces_behind}
+use Rattle.abt_flash.specs.Delivering.{blocks_in_first, blocks_behind, blocks_up_to, pieces_behind}
 use Rattle.abt_flash.specs.Going.{StandsAt, frames_left, pieces_left}
 
 -- ---- one piece more
@@ -169,3 +170,63 @@ pieces_front limit b l s le = go (greedy (λ part. nat_le (weight b part) limit)
         let here : piece b (framed s g (length (joined gs))) ≡ piece_at b limit l s =
         ap (λ (n : ℕ). piece b (framed s g n)) behind_it ∙ sym (ap (λ (x : List Block). piece b (framed s x (length l - (s + length x)))) seg) in
         (map (piece b) (frames (s + length g) gs), ap (λ (parts : List (List Block)). map (piece b) (frames s parts)) e ∙ ap (λ (x : List ℕ). x ∷ map (piece b) (frames (s + length g) gs)) here)
+
+-- ---- what is laid so far
+
+laid_on : (b : ℕ) (p : List ℕ) (front seg : List Block) (t : ℕ) → b % 4 ≡ 0 → AreBlocks b front → over (over p (cells b front)) (cells b (framed (length front) seg t)) ≡ over p (cells b (front ++ seg))
+laid_on b p front seg t four h =
+    let long : length front * b ≡ length (cells b front) = sym (length-cells b front four h) in
+    ap (over (over p (cells b front))) (cells-framed b (length front) seg t ∙ ap (λ (n : ℕ). nones n ++ (cells b seg ++ nones (t * b))) long)
+    ∙ over_behind p (cells b front) (cells b seg ++ nones (t * b))
+    ∙ ap (over p) (sym (append_assoc (cells b front) (cells b seg) (nones (t * b))))
+    ∙ over_then_nones p (cells b front ++ cells b seg) (t * b)
+    ∙ ap (over p) (sym (cells-append b front seg))
+
+behind_good : (b n : ℕ) (l : List Block) → AreBlocks b l → AreBlocks b (blocks_behind n l)
+behind_good b n l h = AreBlocks-append b (replicate n Skip) (drop n l) (AreBlocks-skips b n) (drop_good b n l h)
+
+up_to_good : (b n end : ℕ) (l : List Block) → AreBlocks b l → AreBlocks b (blocks_up_to n end l)
+up_to_good b n end l h = (AreBlocks-parts b (take end (blocks_behind n l)) (drop end (blocks_behind n l)) (rw (take-append-drop end (blocks_behind n l)) (behind_good b n l h))).0
+
+drop_behind : (n s : ℕ) (l : List Block) → n ≤ s → drop s (blocks_behind n l) ≡ drop s l
+drop_behind n s l le =
+    let sum : s ≡ n + (s - n) = omega (arith, le) in
+    ap (λ (k : ℕ). drop k (blocks_behind n l)) sum
+    ∙ sym (drop-drop (s - n) n (blocks_behind n l))
+    ∙ ap (drop (s - n)) (drop_at (replicate n Skip) (drop n l) n (length-replicate n Skip))
+    ∙ drop-drop (s - n) n l
+    ∙ ap (λ (k : ℕ). drop k l) (sym sum)
+
+long_up_to : (n s : ℕ) (l : List Block) → n ≤ s → s ≤ length l → length (blocks_up_to n s l) ≡ s
+long_up_to n s l order within = length-take-le s (blocks_behind n l) (omega (arith, order, within, length-append (replicate n Skip) (drop n l), length-replicate n Skip, length-drop n l))
+
+-- nothing before the first piece, and one piece more
+pub laid_first : (b : ℕ) (p : List ℕ) (l : List Block) (s : ℕ) → p ≡ over p (cells b (blocks_up_to s s l))
+laid_first b p l s =
+    sym (ap (λ (x : List Block). over p (cells b x)) (take_at (replicate s Skip) (drop s l) s (length-replicate s Skip)) ∙ ap (over p) (cells-skips b s) ∙ over-nones p (s * b))
+
+pub laid_next : (b : ℕ) (p now new : List ℕ) (l : List Block) (first s e : ℕ) → b % 4 ≡ 0 → AreBlocks b l → first ≤ s → s ≤ e → e ≤ length l
+    → now ≡ over p (cells b (blocks_up_to first s l)) → new ≡ over now (cells b (frame l s e)) → new ≡ over p (cells b (blocks_up_to first e l))
+laid_next b p now new l first s e four good from order within before here =
+    let front = blocks_up_to first s l in
+    let long : length front ≡ s = long_up_to first s l from (omega (arith, order, within)) in
+    let parts : blocks_up_to first e l ≡ front ++ between l s e =
+    ap (λ (k : ℕ). take k (blocks_behind first l)) (let z : e ≡ s + (e - s) = omega (arith, order) in z)
+    ∙ take-add s (e - s) (blocks_behind first l)
+    ∙ ap (λ (x : List Block). front ++ take (e - s) x) (drop_behind first s l from) in
+    here ∙ ap (λ (q : List ℕ). over q (cells b (frame l s e))) before
+    ∙ ap (λ (k : ℕ). over (over p (cells b front)) (cells b (framed k (between l s e) (length l - e)))) (sym long)
+    ∙ laid_on b p front (between l s e) (length l - e) four (up_to_good b first s l good)
+    ∙ ap (λ (x : List Block). over p (cells b x)) (sym parts)
+
+-- where the next piece ends
+pub first_more : (limit b : ℕ) (l : List Block) (made s e : ℕ) → Behind limit b l made s Between → FirstPiece b l limit s e → blocks_in_first limit b l (made + 1) ≡ e
+first_more limit b l made s e h piece =
+    let all = segments limit b l in
+    let rest = tail_parts (λ part. nat_le (weight b part) limit) (drop e l) in
+    let parts : take (made + 1) all ≡ take made all ++ between l s e ∷ [] = take-add made 1 all ∙ ap (λ (x : List (List Block)). take made all ++ take 1 x) (h.rest ∙ piece.cut) in
+    let sum = ap (λ (x : List (List Block)). length (joined x)) parts ∙ ap length (joined-both (take made all) (between l s e ∷ [])) ∙ length-append (joined (take made all)) (joined (between l s e ∷ [])) in
+    let one : length (joined (between l s e ∷ [])) ≡ length (between l s e) = ap length (append-nil (between l s e)) in
+    let long = between_long l s e piece.order piece.within in
+    let before = h.blocks in
+    omega (arith, sum, one, long, before, piece.order)

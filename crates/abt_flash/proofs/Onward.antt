@@ -68,6 +68,9 @@ passed_stands n s e st h = record { between = h.between; done = h.done }
 one_more_times : (m k : ℕ) → (m + 1) * k ≡ m * k + k
 one_more_times m k = omega arith
 
+pub charged_more : (g0 g g' c0 c c' made made' one : ℕ) → made' ≡ made + 1 → g' + c ≤ g + c' + 48 + one → g + c0 ≤ g0 + c + made * (48 + one) → g' + c0 ≤ g0 + c' + made' * (48 + one)
+charged_more g0 g g' c0 c c' made made' one e h k = let z : made' * (48 + one) ≡ made * (48 + one) + (48 + one) = ap (λ (m : ℕ). m * (48 + one)) e ∙ one_more_times made (48 + one) in omega (arith, z, h, k)
+
 pub spent_more : (g0 g g' p0 p p' made0 made made' one : ℕ) → made' ≡ made + 1 → g' + p ≤ g + p' + 80 + one → g + p0 + made0 * (80 + one) ≤ g0 + p + made * (80 + one) → g' + p0 + made0 * (80 + one) ≤ g0 + p' + made' * (80 + one)
 spent_more g0 g g' p0 p p' made0 made made' one e h k = let z : made' * (80 + one) ≡ made * (80 + one) + (80 + one) = ap (λ (m : ℕ). m * (80 + one)) e ∙ one_more_times made (80 + one) in omega (arith, z, h, k)
 

@@ -1,5 +1,5 @@
 -- What a call promises where it is refused before its first piece, and over the same image in other words.
-use Rattle.std.proofs.Common.{◌≡◌, ℕ, ◌+◌, ◌-◌, ◌*◌, ◌≤◌, ◌<◌, ◌++◌, Bool, List, length, Result, Ok, Err, refl, sym, ap, subst, ◌∙◌, arith}
+use Rattle.std.proofs.Common.{◌≡◌, ℕ, ◌+◌, ◌-◌, ◌*◌, ◌≤◌, ◌<◌, ◌++◌, Bool, List, [], length, Result, Ok, Err, refl, sym, ap, subst, ◌∙◌, arith}
 use Rattle.std.specs.Prelude.{IsTrue, IfErr, IfOk, OnOk}
 use Rattle.std.specs.List.{concat}
 use Rattle.abt_io.specs.Moment.{MayLeave, moment_of}
@@ -14,7 +14,7 @@ use Rattle.abt_flash.specs.Causes.{opening_fault, planning_fault, run_fault_of}
 use Rattle.abt_flash.specs.Fault.{refused_syncs}
 use Rattle.abt_flash.specs.Devices.{Counts, PartitionState, SpoolState}
 use Rattle.abt_io.specs.declared.meter.Meter.{Meter}
-use Rattle.abt_flash.specs.Delivering.{Begins, Costs, CountsTo, GivesPieces, HasBegun, ImageBlocks, IsLeast, LaysBlocks, MendsBlocks, StaysMendable, begun, blocks_behind, blocks_in_first, finished, pieces_behind, pieces_in, with_cuts}
+use Rattle.abt_flash.specs.Delivering.{AlwaysMendable, Begins, Costs, CountsTo, GivesPieces, HasBegun, ImageBlocks, IsLeast, LaysBlocks, MendsBlocks, OnUnsyncedPiece, StaysMendable, begun, blocks_behind, blocks_in_first, blocks_up_to, finished, pieces_behind, pieces_in, with_cuts}
 use Rattle.abt_flash.specs.Going.{PlanRefused, StopsIn}
 use Rattle.abt_flash.specs.declared.answer.Delivered.{Delivered}
 use Rattle.abt_flash.specs.declared.fault.Cause.{Cause}
@@ -22,7 +22,7 @@ use Rattle.abt_flash.specs.declared.fault.Cause.TheVariants as causes
 use Rattle.abt_flash.specs.declared.fault.FlashFault.{FlashFault}
 use Rattle.abt_flash.specs.declared.fault.FlashFault.TheVariants.{Sparse, Read, Write, TooLarge, SourceChanged, BadBlock, LimitTooSmall, PartitionTooSmall, Sync, Stopped, NoSuchPiece}
 use Rattle.abt_flash.proofs.Spooled.{fits_none}
-use Rattle.abt_flash.proofs.Staying.{stays_none}
+use Rattle.abt_flash.proofs.Staying.{from_fresh, stays_none}
 
 -- ---- refused before the first piece
 
@@ -86,6 +86,19 @@ none_unsynced (PartitionTooSmall n) h = refl
 none_unsynced (Sync d) h = absurd h
 none_unsynced (Stopped n c) h = absurd h
 
+none_unsynced_piece : (e : FlashFault) (P : ℕ → Type 0) → IsEarly e → OnUnsyncedPiece (Err e) P
+none_unsynced_piece (Read d) P h = tt
+none_unsynced_piece SourceChanged P h = tt
+none_unsynced_piece (NoSuchPiece k) P h = tt
+none_unsynced_piece (Sparse f) P h = tt
+none_unsynced_piece (Write d) P h = tt
+none_unsynced_piece TooLarge P h = tt
+none_unsynced_piece (BadBlock n) P h = tt
+none_unsynced_piece (LimitTooSmall n) P h = tt
+none_unsynced_piece (PartitionTooSmall n) P h = tt
+none_unsynced_piece (Sync d) P h = absurd h
+none_unsynced_piece (Stopped n c) P h = absurd h
+
 -- no piece was begun where an image or its cutter was not opened
 pub opening_begins : (source : Bool) (k made : ℕ) (f : PieceFault) → HasBegun source k (Err (opening_fault f)) made 0
 opening_begins source k made (cuts.LimitTooSmall n) = refl
@@ -125,6 +138,7 @@ lays_none source spool partition i limit made e s early = record {
   size = refl;
   unread = (refl, refl);
   laid = λ t u v. tt;
+  laid_up_to = λ t u v. none_unsynced_piece e _ early;
   once = λ t u. tt;
   synced = let z = none_finished e made early in omega (arith, z);
   unsynced = let z = none_unsynced e early in omega (arith, z);
@@ -134,6 +148,9 @@ lays_none source spool partition i limit made e s early = record {
 
 pub mends_none : (i : ImageBlocks) (limit made : ℕ) (e : FlashFault) (s : PartitionState) → MendsBlocks i limit made (Err e) s s
 mends_none i limit made e s = record { stays = stays_none limit i.size i.blocks made s.past s.content; mends = tt }
+
+pub mendable_none : (i : ImageBlocks) (limit : ℕ) (s : PartitionState) → s.past.pending ≡ [] → AlwaysMendable i limit s s
+mendable_none i limit s none = from_fresh i limit s s none (stays_none limit i.size i.blocks 0 s.past s.content)
 
 -- ---- all pieces behind the first ones
 
@@ -209,6 +226,7 @@ lays_same source spool partition i j limit made r s z e h = record {
   size = h.size;
   unread = h.unread;
   laid = λ t u v. let P : ImageBlocks → Type 0 = λ n. OnOk r (z.content ≡ over s.content (cells n.size (blocks_behind (blocks_in_first limit n.size n.blocks made) n.blocks))) in subst P (e t) (h.laid t u v);
+  laid_up_to = λ t u v. let P : ImageBlocks → Type 0 = λ n. OnUnsyncedPiece r (λ k. z.content ≡ over s.content (cells n.size (blocks_up_to (blocks_in_first limit n.size n.blocks made) (blocks_in_first limit n.size n.blocks k) n.blocks))) in subst P (e t) (h.laid_up_to t u v);
   once = λ t u. let P : ImageBlocks → Type 0 = λ n. OnOk r (z.taken ≡ s.taken + n.size * written_in (blocks_behind (blocks_in_first limit n.size n.blocks made) n.blocks)) in subst P (e t) (h.once t u);
   synced = h.synced;
   unsynced = h.unsynced;
@@ -218,6 +236,9 @@ lays_same source spool partition i j limit made r s z e h = record {
 
 pub mends_same : (i j : ImageBlocks) (limit made : ℕ) (r : Result Delivered FlashFault) (s z : PartitionState) → i ≡ j → MendsBlocks i limit made r s z → MendsBlocks j limit made r s z
 mends_same i j limit made r s z e h = let P : ImageBlocks → Type 0 = λ n. MendsBlocks n limit made r s z in subst P e h
+
+pub mendable_same : (i j : ImageBlocks) (limit : ℕ) (s z : PartitionState) → i ≡ j → AlwaysMendable i limit s z → AlwaysMendable j limit s z
+mendable_same i j limit s z e h = let P : ImageBlocks → Type 0 = λ n. AlwaysMendable n limit s z in subst P e h
 
 pub image_same : (b c : ℕ) (l m : List Block) → b ≡ c → l ≡ m → (let i : ImageBlocks = record { size = b; blocks = l } in let j : ImageBlocks = record { size = c; blocks = m } in i ≡ j)
 image_same b c l m e f = ap (λ (n : ℕ). let i : ImageBlocks = record { size = n; blocks = l } in i) e ∙ ap (λ (k : List Block). let i : ImageBlocks = record { size = c; blocks = k } in i) f

@@ -90,3 +90,7 @@ pub from_fresh : (i : ImageBlocks) (limit : ℕ) (old new : PartitionState) → 
 from_fresh i limit old new none h =
     let fresh = fresh_leaves limit i.size i.blocks (moment_of old.past old.content) none in
     record { since = h.since old.content 0 (omega arith) fresh; now = h.now old.content 0 (omega arith) fresh }
+
+-- and of one that began behind no piece
+pub from_first : (i : ImageBlocks) (limit made : ℕ) (old new : PartitionState) → made ≡ 0 → old.past.pending ≡ [] → StaysMendable limit i.size i.blocks made old.past new.past old.content new.content → AlwaysMendable i limit old new
+from_first i limit made old new first none h = from_fresh i limit old new none (rw first at h)

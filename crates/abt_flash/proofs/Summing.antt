@@ -7,9 +7,12 @@ use Rattle.abt_sparse.specs.Runs.{segments, Division}
 use Rattle.abt_sparse.proofs.Weights.{fewest}
 use Rattle.abt_pieces.specs.Contents.{written_in}
 use Rattle.abt_pieces.proofs.Counting.{written-append}
-use Rattle.abt_flash.specs.Delivering.{CountsTo, begun, blocks_behind}
+use Rattle.abt_flash.specs.Delivering.{CountsTo, OnFlashed, OnUnsyncedPiece, begun, blocks_behind}
 use Rattle.abt_flash.specs.declared.answer.Delivered.{Delivered}
+use Rattle.abt_flash.specs.declared.fault.Cause.{Cause}
+use Rattle.abt_flash.specs.declared.fault.Cause.TheVariants as causes
 use Rattle.abt_flash.specs.declared.fault.FlashFault.{FlashFault}
+use Rattle.abt_flash.specs.declared.fault.FlashFault.TheVariants as flashes
 use Rattle.abt_flash.proofs.Left.{skips_written}
 
 -- ---- results
@@ -17,6 +20,30 @@ use Rattle.abt_flash.proofs.Left.{skips_written}
 pub on_ok : {X E : Type 0} {P Q : Type 0} (r : Result X E) → (P → Q) → OnOk r P → OnOk r Q
 on_ok (Ok x) f h = f h
 on_ok (Err e) f h = tt
+
+pub on_unsynced : (r : Result Delivered FlashFault) (P Q : ℕ → Type 0) → ((j : ℕ) → P j → Q j) → OnUnsyncedPiece r P → OnUnsyncedPiece r Q
+on_unsynced (Ok d) P Q go h = tt
+on_unsynced (Err (flashes.Stopped j (causes.Sync d))) P Q go h = go j h
+on_unsynced (Err f) P Q go h = tt
+
+-- and of the cause of a stop: what was flashed whole, where it is the piece j that was not synced
+pub stopped_unsynced : (j : ℕ) (c : Cause) (A : Type 0) (P : ℕ → Type 0) → (A → P j) → OnFlashed (Err c) A → OnUnsyncedPiece (Err (flashes.Stopped j c)) P
+stopped_unsynced j (causes.Sync d) A P go h = go h
+stopped_unsynced j (causes.Read d) A P go h = tt
+stopped_unsynced j (causes.Write d) A P go h = tt
+stopped_unsynced j causes.SourceChanged A P go h = tt
+stopped_unsynced j (causes.SpoolWrite d) A P go h = tt
+stopped_unsynced j (causes.SpoolRead d) A P go h = tt
+stopped_unsynced j causes.SpoolChanged A P go h = tt
+
+pub both_flashed : (c : Cause) (A B : Type 0) → OnFlashed (Err c) A → OnFlashed (Err c) B → OnFlashed (Err c) (A × B)
+both_flashed (causes.Sync d) A B a b = (a, b)
+both_flashed (causes.Read d) A B a b = tt
+both_flashed (causes.Write d) A B a b = tt
+both_flashed causes.SourceChanged A B a b = tt
+both_flashed (causes.SpoolWrite d) A B a b = tt
+both_flashed (causes.SpoolRead d) A B a b = tt
+both_flashed causes.SpoolChanged A B a b = tt
 
 -- no division has fewer pieces
 pub least_of : (limit b : ℕ) (l : List Block) (made : ℕ) (r : Result Delivered FlashFault) → CountsTo r made (length (segments limit b l)) → IfOk r (λ d. (parts : List (List Block)) → Division limit b l parts → made + d.pieces ≤ length parts)

@@ -27,6 +27,10 @@ blocks_in_first limit b l made = length (joined (take made (segments limit b l))
 abbrev pub blocks_behind : ℕ → List Block → List Block
 blocks_behind n l = replicate n Skip ++ drop n l
 
+-- of these only the blocks before block `end`
+abbrev pub blocks_up_to : ℕ → ℕ → List Block → List Block
+blocks_up_to n end l = take end (blocks_behind n l)
+
 -- the pieces behind the first ones
 abbrev pub pieces_behind : ℕ → ℕ → List Block → ℕ → List (List ℕ)
 pieces_behind limit b l made = drop made (pieces limit b l)
@@ -83,6 +87,12 @@ abbrev pub finished : ℕ → Result Delivered FlashFault → ℕ
 finished made (Ok d) = d.pieces
 finished made (Err (Stopped j c)) = j - 1 - made
 finished made (Err f) = 0
+
+-- P of piece j, where all of it was written and its sync was refused
+abbrev pub OnUnsyncedPiece : Result Delivered FlashFault → (ℕ → Type 0) → Type 0
+OnUnsyncedPiece (Ok d) P = Unit {0}
+OnUnsyncedPiece (Err (Stopped j (causes.Sync d))) P = P j
+OnUnsyncedPiece (Err f) P = Unit {0}
 
 -- the answer counts k pieces in all
 abbrev pub CountsTo : Result Delivered FlashFault → ℕ → ℕ → Type 0
@@ -179,6 +189,8 @@ pub record LaysBlocks (source spool partition : Bool) (i : ImageBlocks) (limit m
   pub unread : (new.reads ≡ old.reads) × (new.given ≡ old.given)
   -- the raw and fill blocks behind the first pieces are laid over what it held, each byte of them written once
   pub laid : IsTrue source → IsTrue spool → IsTrue partition → OnOk r (new.content ≡ over old.content (cells i.size (blocks_behind (blocks_in_first limit i.size i.blocks made) i.blocks)))
+  -- so are those of the pieces up to one whose sync was refused, though a crash may leave less of that one
+  pub laid_up_to : IsTrue source → IsTrue spool → IsTrue partition → OnUnsyncedPiece r (λ j. new.content ≡ over old.content (cells i.size (blocks_up_to (blocks_in_first limit i.size i.blocks made) (blocks_in_first limit i.size i.blocks j) i.blocks)))
   pub once : IsTrue source → IsTrue spool → OnOk r (new.taken ≡ old.taken + i.size * written_in (blocks_behind (blocks_in_first limit i.size i.blocks made) i.blocks))
   -- each piece that was finished was synced, and every sync has succeeded but one that the answer names
   pub synced : new.past.synced ≡ old.past.synced + finished made r

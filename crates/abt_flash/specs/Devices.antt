@@ -1,5 +1,5 @@
 -- The devices of a delivery, as contracts know them at one time.
-use Rattle.std.specs.Prelude.{ℕ, ◌+◌, List, length}
+use Rattle.std.specs.Prelude.{◌≡◌, ℕ, ◌+◌, ◌-◌, ◌≤◌, Bool, IsTrue, List, length, drop}
 use Rattle.abt_io.specs.Moment.{Past}
 use Rattle.abt_io.specs.declared.device.Source as sources
 use Rattle.abt_io.specs.declared.device.Input as inputs
@@ -83,3 +83,38 @@ partition_state s p partition = record {
   taken = p.taken partition;
   syncs = p.syncs partition;
 }
+
+-- what is counted of an input and of a partition
+pub record Flow : Type 0 where
+  -- calls of the input, the bytes that it gave, and how often it failed
+  pub reads : ℕ
+  pub given : ℕ
+  pub read_faults : ℕ
+  -- calls of the partition, the bytes that it took, and how often it failed
+  pub puts : ℕ
+  pub syncs : ℕ
+  pub taken : ℕ
+  pub put_faults : ℕ
+
+abbrev pub flow : {A C : Type 0} → inputs.Ghosts A → partitions.Ghosts C → A → C → Flow
+flow i p input partition = record {
+  reads = i.reads input;
+  given = i.given input;
+  read_faults = i.read_faults input;
+  puts = p.puts partition;
+  syncs = p.syncs partition;
+  taken = p.taken partition;
+  put_faults = p.put_faults partition;
+}
+
+-- what only grows
+pub record Grows (old new : Flow) : Type 0 where
+  pub given : old.given ≤ new.given
+  pub taken : old.taken ≤ new.taken
+  pub read_faults : old.read_faults ≤ new.read_faults
+  pub put_faults : old.put_faults ≤ new.put_faults
+
+-- What was read of an input that held x and holds y.
+pub record Reads (tells : Bool) (given given' : ℕ) (x y : List ℕ) : Type 0 where
+  pub present : IsTrue tells → given' - given ≤ length x
+  pub rest : IsTrue tells → y ≡ drop (given' - given) x

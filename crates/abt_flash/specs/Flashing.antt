@@ -1,10 +1,15 @@
 -- What flashing a whole input answers, and what the partition holds then.
-use Rattle.std.specs.Prelude.{◌≡◌, ℕ, ◌+◌, ◌*◌, ◌<◌, ◌≤◌, List, Option, Result, Ok, Err}
+use Rattle.std.specs.Prelude.{◌≡◌, ℕ, ◌+◌, ◌*◌, ◌<◌, ◌≤◌, Bool, IsTrue, List, [], Option, Result, Ok, Err, OnOk, is_ok, max, if◌then◌else◌}
+use Rattle.abt_io.specs.Moment.{EachSince, Keeps, Past, moment_of}
+use Rattle.abt_io.specs.declared.meter.Meter.{Meter}
 use Rattle.abt_sparse.specs.declared.fault.SparseFault.{SparseFault}
 use Rattle.abt_sparse.specs.Chunk.{Header, Chunk, classed}
 use Rattle.abt_sparse.specs.Fails.{Fails, Spells, SpellsHeader}
 use Rattle.abt_sparse.specs.Pieces.{flashed}
 use Rattle.abt_pieces.specs.Contents.{written_in}
+use Rattle.abt_flash.specs.Devices.{Flow}
+use Rattle.abt_flash.specs.Fault.{refused_syncs}
+use Rattle.abt_flash.specs.Laying.{During, writes}
 use Rattle.abt_flash.specs.declared.fault.FlashFault.{FlashFault}
 use Rattle.abt_flash.specs.declared.fault.FlashFault.TheVariants.{Sparse, Sync, PartitionTooSmall}
 use Rattle.abt_flash.specs.declared.stage.Flashed.{Flashed}
@@ -51,3 +56,21 @@ Holds (Err (Sparse f)) p p' x = p' ≡ flashed p x
 Holds (Err (PartitionTooSmall need)) p p' x = p' ≡ p
 Holds (Err (Sync d)) p p' x = p' ≡ flashed p x
 Holds (Err f) p p' x = Unit {0}
+
+-- At every moment from the first to the last no byte was touched but those that the cells write.
+pub record TouchesOnly (cells : List (Option ℕ)) (past past' : Past) (p p' : List ℕ) : Type 0 where
+  pub kept : Keeps (writes cells) (moment_of past p) (moment_of past' p')
+  pub moments : EachSince past.moments past'.moments (During (writes cells) (moment_of past p) (moment_of past' p'))
+
+-- A sync has succeeded where the answer is Ok, and then nothing is pending; every other one that was called was refused, as the answer says.
+pub record Syncs (tells : Bool) (r : Result Flashed FlashFault) (past past' : Past) (syncs syncs' : ℕ) : Type 0 where
+  pub settled : IsTrue tells → OnOk r (past'.pending ≡ [])
+  pub synced : past'.synced ≡ past.synced + (if is_ok r then 1 else 0)
+  pub refused : syncs' + past.synced ≡ syncs + past'.synced + refused_syncs r
+
+-- The calls of both devices, and the turns of loops, are at most 8 for each byte that was moved, and 64. No step receives more than 65,580 bytes.
+pub record FlashCosts (old new : Flow) (m m' : Meter) : Type 0 where
+  pub calls : new.reads + new.puts + new.syncs + 8 * old.given + 8 * old.taken ≤ old.reads + old.puts + old.syncs + 8 * new.given + 8 * new.taken + 64
+  pub turns : m'.turns.number + 8 * old.given + 8 * old.taken ≤ m.turns.number + 8 * new.given + 8 * new.taken + 64
+  pub steps : new.given + 65580 * m.steps.number ≤ old.given + 65580 * m'.steps.number
+  pub greatest : m'.greatest.number ≤ max m.greatest.number 65580

@@ -1,10 +1,15 @@
 -- What a part of an image lays over a partition, and what a call may touch of it.
-use Rattle.std.specs.Prelude.{◌≡◌, ℕ, ◌+◌, ◌*◌, Bool, List, [], ◌∷◌, ◌++◌, take, replicate, Option, Some, None, is_some, slice_index_or, ◌⊎◌, Result, Ok}
+use Rattle.std.specs.Prelude.{◌≡◌, ℕ, ◌+◌, ◌*◌, ◌≤◌, ◌<◌, Bool, List, [], ◌∷◌, ◌++◌, take, replicate, Option, Some, None, is_some, slice_index_or, ◌⊎◌, Result, Ok, Err}
+use Rattle.std.specs.List.{concat}
 use Rattle.abt_io.specs.Moment.{Moment, Keeps}
 use Rattle.abt_chunks.specs.Ahead.{somes, fills, gaps}
 use Rattle.abt_chunks.specs.declared.walk.Part.{Part}
 use Rattle.abt_chunks.specs.declared.walk.Part.TheVariants as parts
+use Rattle.abt_io.specs.declared.device.DeviceFault.{DeviceFault}
 use Rattle.abt_flash.specs.declared.fault.FlashFault.{FlashFault}
+use Rattle.abt_flash.specs.declared.fault.FlashFault.TheVariants as flashes
+use Rattle.abt_flash.specs.declared.laying.Task.{Task}
+use Rattle.abt_flash.specs.declared.laying.Task.TheVariants as tasks
 
 -- cells from a place on
 abbrev pub from_place : ℕ → List (Option ℕ) → List (Option ℕ)
@@ -20,7 +25,78 @@ written_by [] = 0
 written_by (None ∷ cs) = written_by cs
 written_by (Some x ∷ cs) = 1 + written_by cs
 
--- the cells of a part, raw ones from the front of the window, and how many bytes are written of it
+-- ---- what is done for a part
+
+-- its bytes and its words are written, a gap is left as it is, and at the end all is synced
+abbrev pub task_of : Part → Task
+task_of (parts.Raw n) = tasks.Bytes n
+task_of (parts.Words word n) = tasks.Words word n
+task_of (parts.Skip n) = tasks.Nothing
+task_of parts.Nothing = tasks.Nothing
+task_of parts.End = tasks.Sync
+task_of (parts.Fault f) = tasks.Nothing
+
+-- how many bytes a task writes, and which, its own from the front of the window
+abbrev pub put_in : Task → ℕ
+put_in (tasks.Bytes n) = n
+put_in (tasks.Words word n) = 4 * n
+put_in tasks.Sync = 0
+put_in tasks.Nothing = 0
+
+abbrev pub bytes_by : Task → List ℕ → List ℕ
+bytes_by (tasks.Bytes n) window = take n window
+bytes_by (tasks.Words word n) window = concat (replicate n word)
+bytes_by tasks.Sync window = []
+bytes_by tasks.Nothing window = []
+
+-- a task that can be done: at most a window, and some words
+abbrev pub CanDo : Task → Type 0
+CanDo (tasks.Bytes n) = n ≤ 65536
+CanDo (tasks.Words word n) = 0 < n
+CanDo tasks.Sync = Unit {0}
+CanDo tasks.Nothing = Unit {0}
+
+-- the partition is not called
+abbrev pub IsIdle : Task → Type 0
+IsIdle (tasks.Bytes n) = ⊥
+IsIdle (tasks.Words word n) = ⊥
+IsIdle tasks.Sync = ⊥
+IsIdle tasks.Nothing = Unit {0}
+
+-- what is answered to a task that was done, or refused by the partition
+abbrev pub refused_by : Task → DeviceFault → FlashFault
+refused_by (tasks.Bytes n) d = flashes.Write d
+refused_by (tasks.Words word n) d = flashes.Write d
+refused_by tasks.Sync d = flashes.Sync d
+refused_by tasks.Nothing d = flashes.Write d
+
+abbrev pub answered : Task → Result (Unit {0}) DeviceFault → Result (Unit {0}) FlashFault
+answered task (Ok u) = Ok u
+answered task (Err d) = Err (refused_by task d)
+
+-- a sync that succeeded, and then nothing is pending
+abbrev pub syncs_in : {E : Type 0} → Task → Result (Unit {0}) E → ℕ
+syncs_in tasks.Sync (Ok u) = 1
+syncs_in t r = 0
+
+abbrev pub SettlesIn : Task → List (ℕ × ℕ) → Type 0
+SettlesIn tasks.Sync pending = pending ≡ []
+SettlesIn t pending = Unit {0}
+
+-- a sync that was refused
+abbrev pub refused_in : {E : Type 0} → Task → Result (Unit {0}) E → ℕ
+refused_in tasks.Sync (Err e) = 1
+refused_in t r = 0
+
+-- P, save where bytes were not written
+abbrev pub UnlessUndone : {E : Type 0} → Task → Result (Unit {0}) E → Type 0 → Type 0
+UnlessUndone t (Ok u) P = P
+UnlessUndone tasks.Sync (Err e) P = P
+UnlessUndone t (Err e) P = Unit {0}
+
+-- ---- the same of a part
+
+-- its cells, raw ones from the front of the window, and how many bytes are written of it
 abbrev pub cells_by : Part → List ℕ → List (Option ℕ)
 cells_by (parts.Raw n) window = somes (take n window)
 cells_by (parts.Words word n) window = fills n word
@@ -39,12 +115,6 @@ IsStill (parts.Words word n) = ⊥
 IsStill parts.End = ⊥
 IsStill q = Unit {0}
 
--- A moment n of a call that lasted from m to e: what isn't touched is as it was at m, and no sync has succeeded since,
--- or it is the last moment.
-pub record During (touched : ℕ → Bool) (m e n : Moment) : Type 0 where
-  pub kept : Keeps touched m n
-  pub synced : (n.synced ≡ m.synced) ⊎ (n ≡ e)
-
 -- a sync that succeeded, at the end of an image, and nothing is pending
 abbrev pub syncs_by : Part → Result (Unit {0}) FlashFault → ℕ
 syncs_by parts.End (Ok u) = 1
@@ -53,3 +123,11 @@ syncs_by q r = 0
 abbrev pub Settles : Part → List (ℕ × ℕ) → Type 0
 Settles parts.End pending = pending ≡ []
 Settles q pending = Unit {0}
+
+-- ---- what a call may touch
+
+-- A moment n of a call that lasted from m to e: what isn't touched is as it was at m, and no sync has succeeded since,
+-- or it is the last moment.
+pub record During (touched : ℕ → Bool) (m e n : Moment) : Type 0 where
+  pub kept : Keeps touched m n
+  pub synced : (n.synced ≡ m.synced) ⊎ (n ≡ e)

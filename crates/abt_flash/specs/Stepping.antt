@@ -1,5 +1,5 @@
 -- One step of a flasher: what it lays, and where it stands behind it.
-use Rattle.std.specs.Prelude.{◌≡◌, ℕ, ◌+◌, ◌*◌, ◌<◌, ◌≤◌, Bool, true, false, List, [], ◌++◌, length, Option, Some, Result, Ok, Err, IsTrue, is_err, OnOk, nat_lt, ◌&&◌, ◌||◌, if◌then◌else◌}
+use Rattle.std.specs.Prelude.{◌≡◌, ℕ, ◌+◌, ◌-◌, ◌*◌, ◌<◌, ◌≤◌, Bool, true, false, List, [], ◌++◌, length, Option, Some, Result, Ok, Err, IsTrue, is_err, OnOk, nat_lt, ◌&&◌, ◌||◌, if◌then◌else◌}
 use Rattle.abt_io.specs.Moment.{Past, Keeps, EachSince, moment_of}
 use Rattle.abt_sparse.specs.Block.{over}
 use Rattle.abt_sparse.specs.View.{view}
@@ -13,7 +13,9 @@ use Rattle.abt_chunks.specs.declared.walk.Walk.{Walk}
 use Rattle.abt_chunks.specs.Ahead.{before}
 use Rattle.abt_chunks.specs.Expanding.{IsGoing}
 use Rattle.abt_chunks.specs.Walking.{ahead, at_end, head_in, owed, place_of, upcoming}
-use Rattle.abt_flash.specs.Fault.{fault_of_sparse}
+use Rattle.abt_io.specs.declared.meter.Meter.{Meter}
+use Rattle.abt_flash.specs.Devices.{Flow}
+use Rattle.abt_flash.specs.Fault.{fault_of_sparse, refused_syncs}
 use Rattle.abt_flash.specs.Laying.{During, from_place, writes, written_by}
 use Rattle.abt_flash.specs.declared.fault.FlashFault.{FlashFault}
 use Rattle.abt_flash.specs.declared.fault.FlashFault.TheVariants.{Sparse, Read, Write, Sync, PartitionTooSmall}
@@ -139,3 +141,23 @@ Heads (Ok answers.Done) s s' x y = (upcoming s x).head ≡ Some (view s'.header)
 Heads (Err (Sparse f)) s s' x y = (upcoming s x).head ≡ head_in s.phase (at_end s) s
 Heads (Err (Sync d)) s s' x y = (upcoming s x).head ≡ Some (view s'.header)
 Heads (Err f) s s' x y = Unit {0}
+
+-- Where the flasher goes on: no chunk has been begun only where none had been and the partition was not called, the header stays, and the first chunk is begun behind the header.
+pub record GoesOn (r : Result Progress FlashFault) (stage : Stage) (s s' : Walk) (untouched : Type 0) : Type 0 where
+  pub fresh : Goes stage s.phase → OnMore r (IsFresh s' → IsFresh s × untouched)
+  pub header : OnMore r (s.phase ≡ phases.Body → s'.header ≡ s.header)
+  pub begins : OnMore r (0 < s'.index → passed s ≡ true)
+
+-- A sync that was called has succeeded, save where the answer says that it was refused, and then nothing is pending.
+pub record StepSyncs (tells : Bool) (stage : Stage) (s : Walk) (r : Result Progress FlashFault) (past past' : Past) (syncs syncs' : ℕ) : Type 0 where
+  pub settled : Goes stage s.phase → IsTrue tells → OnDone r (past'.pending ≡ [])
+  pub synced : past'.synced ≡ past.synced + (if is_done stage r then 1 else 0)
+  pub refused : Goes stage s.phase → syncs' + past.synced ≡ syncs + past'.synced + refused_syncs r
+
+-- The calls of the devices, and the turns of loops, in the bytes that were moved. A step that moves none is followed by one that does.
+pub record StepCosts (r : Result Progress FlashFault) (s s' : Walk) (old new : Flow) (m m' : Meter) : Type 0 where
+  pub reads : new.reads ≤ old.reads + (new.given - old.given) + 1
+  pub puts : new.puts + new.syncs + 2 * old.taken ≤ old.puts + old.syncs + 2 * new.taken + 1
+  pub turns : m'.turns.number + 2 * old.taken ≤ m.turns.number + (new.given - old.given) + 2 * new.taken + 17
+  pub few : OnMore r (m'.turns.number + 2 * old.taken ≤ m.turns.number + (new.given - old.given) + 2 * new.taken + 2)
+  pub progress : OnMore r (idle s' + 1 ≤ idle s + 2 * (new.given - old.given) + 2 * (new.taken - old.taken))

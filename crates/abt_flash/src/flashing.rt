@@ -1,12 +1,13 @@
 //! Flashing a sparse image as a whole.
 
-ghost use Rattle.std.specs.Prelude.{◌≡◌, ◌<◌, ◌≤◌, ◌+◌, ◌-◌, ◌*◌, [], IsTrue, OnOk, is_ok, length, take, drop, max, if◌then◌else◌};
-ghost use Rattle.abt_io.specs.Moment.{EachSince, Keeps, moment_of};
+ghost use Rattle.std.specs.Prelude.{◌≡◌, ◌-◌, IsTrue, take};
+ghost use Rattle.abt_io.specs.Moment.{Keeps, moment_of};
 ghost use Rattle.abt_sparse.specs.Pieces.{given};
 ghost use Rattle.abt_sparse.specs.Reading.{outcome};
-ghost use Rattle.abt_flash.specs.Fault.{Rises, refused_syncs};
-ghost use Rattle.abt_flash.specs.Laying.{During, writes};
-ghost use Rattle.abt_flash.specs.Flashing.{Flashes, Holds};
+ghost use Rattle.abt_flash.specs.Devices.{Grows, Reads, flow};
+ghost use Rattle.abt_flash.specs.Fault.{Rises};
+ghost use Rattle.abt_flash.specs.Laying.{writes};
+ghost use Rattle.abt_flash.specs.Flashing.{FlashCosts, Flashes, Holds, Syncs, TouchesOnly};
 ghost use Rattle.abt_flash.specs.Stepping.{OnShort};
 
 use crate::fault::FlashFault;
@@ -26,33 +27,36 @@ pub fn flash<I: Input, P: Partition>(
     m: &mut Meter,
 ) -> Result<Flashed, FlashFault>
     // What was read.
-    ensures given { I.given input.old ≤ I.given input.new }
-    ensures present { IsTrue I.tells → I.given input.new - I.given input.old ≤ length (I.remaining input.old) }
-    ensures rest { IsTrue I.tells → I.remaining input.new ≡ drop (I.given input.new - I.given input.old) (I.remaining input.old) }
+    ensures read { Reads I.tells (I.given input.old) (I.given input.new) (I.remaining input.old)
+        (I.remaining input.new) }
     // An image that fits is flashed, and anything else is refused with its own fault.
-    ensures flashes { IsTrue I.tells → Flashes result (P.size partition.old) (P.taken partition.old) (P.taken partition.new) (I.remaining input.old) (I.remaining input.new) }
+    ensures flashes { IsTrue I.tells → Flashes result (P.size partition.old) (P.taken partition.old)
+        (P.taken partition.new) (I.remaining input.old) (I.remaining input.new) }
     // What the partition holds, and that no other byte was touched at any moment.
-    ensures holds { IsTrue I.tells → IsTrue P.tells → Holds result (P.content partition.old) (P.content partition.new) (I.remaining input.old) }
-    ensures kept { IsTrue I.tells → IsTrue P.tells → Keeps (writes (given (outcome (I.remaining input.old)))) (moment_of (P.past partition.old) (P.content partition.old)) (moment_of (P.past partition.new) (P.content partition.new)) }
-    ensures moments { IsTrue I.tells → IsTrue P.tells → EachSince (P.past partition.old).moments (P.past partition.new).moments (During (writes (given (outcome (I.remaining input.old)))) (moment_of (P.past partition.old) (P.content partition.old)) (moment_of (P.past partition.new) (P.content partition.new))) }
+    ensures holds { IsTrue I.tells → IsTrue P.tells →
+        Holds result (P.content partition.old) (P.content partition.new) (I.remaining input.old) }
+    ensures touches { IsTrue I.tells → IsTrue P.tells → TouchesOnly (given (outcome (I.remaining input.old)))
+        (P.past partition.old) (P.past partition.new) (P.content partition.old) (P.content partition.new) }
     // Of the bytes that the image writes none but those that the bytes read so far give.
-    ensures seen { IsTrue I.tells → IsTrue P.tells → Keeps (writes (given (outcome (take (I.given input.new - I.given input.old) (I.remaining input.old))))) (moment_of (P.past partition.old) (P.content partition.old)) (moment_of (P.past partition.new) (P.content partition.new)) }
-    ensures settled { IsTrue P.tells → OnOk result ((P.past partition.new).pending ≡ []) }
-    ensures synced { (P.past partition.new).synced ≡ (P.past partition.old).synced + (if is_ok result then 1 else 0) }
-    ensures refused_syncs { P.syncs partition.new + (P.past partition.old).synced ≡ P.syncs partition.old + (P.past partition.new).synced + refused_syncs result }
+    ensures seen { IsTrue I.tells → IsTrue P.tells →
+        Keeps (writes (given (outcome (take (I.given input.new - I.given input.old) (I.remaining input.old)))))
+        (moment_of (P.past partition.old) (P.content partition.old))
+        (moment_of (P.past partition.new) (P.content partition.new)) }
+    ensures syncs { Syncs P.tells result (P.past partition.old) (P.past partition.new)
+        (P.syncs partition.old) (P.syncs partition.new) }
     // One that is too small is not called.
     ensures untouched { OnShort result (partition.new ≡ partition.old) }
     ensures size { P.size partition.new ≡ P.size partition.old }
-    ensures unread { (P.reads partition.new ≡ P.reads partition.old) × (P.given partition.new ≡ P.given partition.old) × (P.read_faults partition.new ≡ P.read_faults partition.old) }
-    ensures taken { P.taken partition.old ≤ P.taken partition.new }
-    ensures cause { Rises result (I.read_faults input.old) (I.read_faults input.new) (P.put_faults partition.old) (P.put_faults partition.new) }
+    ensures unread { (P.reads partition.new ≡ P.reads partition.old)
+        × (P.given partition.new ≡ P.given partition.old)
+        × (P.read_faults partition.new ≡ P.read_faults partition.old) }
+    ensures cause { Rises result (I.read_faults input.old) (I.read_faults input.new)
+        (P.put_faults partition.old) (P.put_faults partition.new) }
     ensures frame { I.read_frame input.new ≡ I.read_frame input.old }
-    ensures read_faults { I.read_faults input.old ≤ I.read_faults input.new }
-    ensures put_faults { P.put_faults partition.old ≤ P.put_faults partition.new }
-    ensures calls { I.reads input.new + P.puts partition.new + P.syncs partition.new + 8 * I.given input.old + 8 * P.taken partition.old ≤ I.reads input.old + P.puts partition.old + P.syncs partition.old + 8 * I.given input.new + 8 * P.taken partition.new + 64 }
-    ensures turns { m.new.turns.number + 8 * I.given input.old + 8 * P.taken partition.old ≤ m.old.turns.number + 8 * I.given input.new + 8 * P.taken partition.new + 64 }
-    ensures steps { I.given input.new + 65580 * m.old.steps.number ≤ I.given input.old + 65580 * m.new.steps.number }
-    ensures greatest { m.new.greatest.number ≤ max m.old.greatest.number 65580 }
+    ensures grows { Grows (flow I.Input P.Partition.own input.old partition.old)
+        (flow I.Input P.Partition.own input.new partition.new) }
+    ensures costs { FlashCosts (flow I.Input P.Partition.own input.old partition.old)
+        (flow I.Input P.Partition.own input.new partition.new) m.old m.new }
 {
     let mut machine = Flasher::open();
     'steps: loop {

@@ -1,17 +1,79 @@
 //! Writing what a part of an image gives to its place on a partition.
 
-ghost use Rattle.std.specs.Prelude.{◌≡◌, ◌<◌, ◌≤◌, ◌+◌, ◌*◌, ◌^◌, IsTrue, OnOk, OnErr, IfErr, false, replicate};
+ghost use Rattle.std.specs.Prelude.{◌≡◌, ◌<◌, ◌≤◌, ◌+◌, ◌*◌, ◌^◌, IsTrue, OnOk, OnErr, IfErr, false, is_ok, replicate};
 ghost use Rattle.std.specs.List.{concat};
 ghost use Rattle.abt_io.specs.Moment.{EachSince, Keeps, KeepsUnsynced, in_range, moment_of, put_at};
 ghost use Rattle.abt_sparse.specs.Block.{over};
+ghost use Rattle.abt_chunks.specs.Ahead.{somes};
 ghost use Rattle.abt_chunks.specs.Expanding.{IsWritable};
 ghost use Rattle.abt_chunks.specs.Walking.{is_fault};
 ghost use Rattle.abt_flash.specs.Fault.{OnUnsynced, PutCause, UnlessUnwritten, refused_syncs};
-ghost use Rattle.abt_flash.specs.Laying.{During, IsStill, Settles, cells_by, from_place, put_by, syncs_by};
+ghost use Rattle.abt_flash.specs.Laying.{CanDo, During, IsIdle, IsStill, Settles, SettlesIn, UnlessUndone};
+ghost use Rattle.abt_flash.specs.Laying.{answered, bytes_by, cells_by, from_place, put_by, put_in, refused_in};
+ghost use Rattle.abt_flash.specs.Laying.{syncs_by};
+ghost use Rattle.abt_flash.specs.Laying.{syncs_in, task_of};
 
 use crate::fault::FlashFault;
 use abt_chunks::Part;
 use abt_io::{DeviceFault, Meter, Partition, WORDS, Window, lay_word, write_all_at};
+
+/// What a part asks of the partition.
+#[derive(Clone, Copy, Debug, PartialEq, Eq, Drop)]
+pub enum Task {
+    /// So many bytes from the front of the window are written.
+    Bytes(usize),
+    /// A word is written so many times.
+    Words([u8; 4], u64),
+    /// All is synced.
+    Sync,
+    /// Nothing.
+    Nothing,
+}
+
+/// What is done for a part. A gap is left as it is, and so is what comes behind a fault.
+fn task_for(part: Part) -> Task
+    ensures { result ≡ task_of part }
+{
+    match part {
+        Part::Raw(n) => Task::Bytes(n),
+        Part::Words(word, n) => Task::Words(word, n),
+        Part::Skip(_) => Task::Nothing,
+        Part::Nothing => Task::Nothing,
+        Part::End => Task::Sync,
+        Part::Fault(_) => Task::Nothing,
+    }
+}
+
+/// What is answered once the partition has.
+fn answer_to(task: Task, done: Result<(), DeviceFault>) -> Result<(), FlashFault>
+    ensures { result ≡ answered task done }
+{
+    match done {
+        Ok(()) => Ok(()),
+        Err(fault) => match task {
+            Task::Sync => Err(FlashFault::Sync(fault)),
+            Task::Bytes(_) => Err(FlashFault::Write(fault)),
+            Task::Words(_, _) => Err(FlashFault::Write(fault)),
+            Task::Nothing => Err(FlashFault::Write(fault)),
+        },
+    }
+}
+
+/// Where the words stand that come behind so many.
+fn place_behind(at: u64, done: u64) -> u64
+    requires below { at + 4 * done < 2 ^ 64 }
+    ensures { result ≡ at + 4 * done }
+{
+    at + 4 * done
+}
+
+/// How many words have been written behind so many, and then some.
+fn count_behind(done: u64, some: usize) -> u64
+    requires below { done + some < 2 ^ 64 }
+    ensures { result ≡ done + some }
+{
+    done + some as u64
+}
 
 /// Writes a word so many times from a place on: it is laid over the window once, and the window written as often as it
 /// takes.
@@ -27,9 +89,13 @@ fn lay_words<P: Partition>(
     requires fits { at + 4 * n ≤ P.size partition.old }
     requires below { at + 4 * n < 2 ^ 64 }
     ensures size { P.size partition.new ≡ P.size partition.old }
-    ensures written { IsTrue P.tells → OnOk result (P.content partition.new ≡ put_at (P.content partition.old) at (concat (replicate n word))) }
-    ensures kept { IsTrue P.tells → Keeps (in_range at (4 * n)) (moment_of (P.past partition.old) (P.content partition.old)) (moment_of (P.past partition.new) (P.content partition.new)) }
-    ensures moments { IsTrue P.tells → EachSince (P.past partition.old).moments (P.past partition.new).moments (KeepsUnsynced (in_range at (4 * n)) (moment_of (P.past partition.old) (P.content partition.old))) }
+    ensures written { IsTrue P.tells →
+        OnOk result (P.content partition.new ≡ put_at (P.content partition.old) at (concat (replicate n word))) }
+    ensures kept { IsTrue P.tells →
+        Keeps (in_range at (4 * n)) (moment_of (P.past partition.old) (P.content partition.old))
+        (moment_of (P.past partition.new) (P.content partition.new)) }
+    ensures moments { IsTrue P.tells → EachSince (P.past partition.old).moments (P.past partition.new).moments
+        (KeepsUnsynced (in_range at (4 * n)) (moment_of (P.past partition.old) (P.content partition.old))) }
     ensures synced { (P.past partition.new).synced ≡ (P.past partition.old).synced }
     ensures reads { P.reads partition.new ≡ P.reads partition.old }
     ensures given { P.given partition.new ≡ P.given partition.old }
@@ -40,9 +106,12 @@ fn lay_words<P: Partition>(
     ensures cause { OnErr result (P.put_faults partition.old < P.put_faults partition.new) }
     ensures clean { OnOk result (P.put_faults partition.new ≡ P.put_faults partition.old) }
     ensures failed { IfErr result (λ e. e ≡ DeviceFault.Failed) }
-    ensures calls { P.puts partition.new + 2 * P.taken partition.old ≤ P.puts partition.old + 2 * P.taken partition.new + 1 }
-    ensures turns { m.new.turns.number + 2 * P.taken partition.old ≤ m.old.turns.number + 2 * P.taken partition.new + 16 }
-    ensures few { OnOk result (m.new.turns.number + 2 * P.taken partition.old ≤ m.old.turns.number + 2 * P.taken partition.new) }
+    ensures calls { P.puts partition.new + 2 * P.taken partition.old ≤ P.puts partition.old + 2 * P.taken partition.new
+        + 1 }
+    ensures turns { m.new.turns.number + 2 * P.taken partition.old ≤ m.old.turns.number + 2 * P.taken partition.new
+        + 16 }
+    ensures few { OnOk result (m.new.turns.number + 2 * P.taken partition.old
+        ≤ m.old.turns.number + 2 * P.taken partition.new) }
     ensures steps { m.new.steps.number ≡ m.old.steps.number }
     ensures greatest { m.new.greatest.number ≡ m.old.greatest.number }
 {
@@ -53,13 +122,66 @@ fn lay_words<P: Partition>(
     'writes: while done < n {
         m.tick();
         let some = (n - done).min(most as u64) as usize;
-        match write_all_at(partition, at + 4 * done, w.part(0, 4 * some), m) {
+        match write_all_at(partition, place_behind(at, done), w.part(0, 4 * some), m) {
             Ok(()) => {}
             Err(fault) => return Err(fault),
         }
-        done += some as u64;
+        done = count_behind(done, some);
     }
     Ok(())
+}
+
+/// Does a task, which writes from a place on.
+fn carry_out<P: Partition>(
+    task: Task,
+    at: u64,
+    partition: &mut P,
+    w: &mut Window,
+    m: &mut Meter,
+) -> Result<(), DeviceFault>
+    requires can { CanDo task }
+    requires fits { at + put_in task ≤ P.size partition.old }
+    requires below { at + put_in task < 2 ^ 64 }
+    ensures size { P.size partition.new ≡ P.size partition.old }
+    ensures laid { IsTrue P.tells → UnlessUndone task result
+        (P.content partition.new ≡ over (P.content partition.old) (from_place at (somes (bytes_by task w.old.bytes)))) }
+    // No byte outside the range that is written is touched at any moment.
+    ensures kept { IsTrue P.tells → Keeps (in_range at (put_in task))
+        (moment_of (P.past partition.old) (P.content partition.old))
+        (moment_of (P.past partition.new) (P.content partition.new)) }
+    ensures moments { IsTrue P.tells → EachSince (P.past partition.old).moments (P.past partition.new).moments
+        (During (in_range at (put_in task)) (moment_of (P.past partition.old) (P.content partition.old))
+        (moment_of (P.past partition.new) (P.content partition.new))) }
+    ensures settled { IsTrue P.tells → OnOk result (SettlesIn task (P.past partition.new).pending) }
+    ensures synced { (P.past partition.new).synced ≡ (P.past partition.old).synced + syncs_in task result }
+    ensures refused_syncs { P.syncs partition.new + (P.past partition.old).synced
+        ≡ P.syncs partition.old + (P.past partition.new).synced + refused_in task result }
+    ensures reads { P.reads partition.new ≡ P.reads partition.old }
+    ensures given { P.given partition.new ≡ P.given partition.old }
+    ensures read_faults { P.read_faults partition.new ≡ P.read_faults partition.old }
+    ensures all { UnlessUndone task result (P.taken partition.new ≡ P.taken partition.old + put_in task) }
+    ensures taken { P.taken partition.old ≤ P.taken partition.new }
+    // Where nothing is to be done it isn't called.
+    ensures still { IsIdle task → partition.new ≡ partition.old }
+    ensures sound { IsIdle task → IsTrue (is_ok result) }
+    ensures cause { OnErr result (P.put_faults partition.old < P.put_faults partition.new) }
+    ensures clean { OnOk result (P.put_faults partition.new ≡ P.put_faults partition.old) }
+    ensures failed { IfErr result (λ e. e ≡ DeviceFault.Failed) }
+    ensures calls { P.puts partition.new + P.syncs partition.new + 2 * P.taken partition.old
+        ≤ P.puts partition.old + P.syncs partition.old + 2 * P.taken partition.new + 1 }
+    ensures turns { m.new.turns.number + 2 * P.taken partition.old
+        ≤ m.old.turns.number + 2 * P.taken partition.new + 16 }
+    ensures few { OnOk result (m.new.turns.number + 2 * P.taken partition.old
+        ≤ m.old.turns.number + 2 * P.taken partition.new + 1) }
+    ensures steps { m.new.steps.number ≡ m.old.steps.number }
+    ensures greatest { m.new.greatest.number ≡ m.old.greatest.number }
+{
+    match task {
+        Task::Bytes(n) => write_all_at(partition, at, w.part(0, n), m),
+        Task::Words(word, n) => lay_words(word, n, at, partition, w, m),
+        Task::Sync => partition.sync(),
+        Task::Nothing => Ok(()),
+    }
 }
 
 /// Writes what a part gives from a place on; of a gap nothing, which leaves the bytes as they are. At the end of the
@@ -75,10 +197,16 @@ pub(crate) fn lay_part<P: Partition>(
     requires fits { at + put_by part ≤ P.size partition.old }
     requires below { at + put_by part < 2 ^ 64 }
     ensures size { P.size partition.new ≡ P.size partition.old }
-    ensures laid { IsTrue P.tells → UnlessUnwritten result (P.content partition.new ≡ over (P.content partition.old) (from_place at (cells_by part w.old.bytes))) }
+    ensures laid { IsTrue P.tells →
+        UnlessUnwritten result (P.content partition.new
+        ≡ over (P.content partition.old) (from_place at (cells_by part w.old.bytes))) }
     // No byte outside the range that is written is touched at any moment.
-    ensures kept { IsTrue P.tells → Keeps (in_range at (put_by part)) (moment_of (P.past partition.old) (P.content partition.old)) (moment_of (P.past partition.new) (P.content partition.new)) }
-    ensures moments { IsTrue P.tells → EachSince (P.past partition.old).moments (P.past partition.new).moments (During (in_range at (put_by part)) (moment_of (P.past partition.old) (P.content partition.old)) (moment_of (P.past partition.new) (P.content partition.new))) }
+    ensures kept { IsTrue P.tells → Keeps (in_range at (put_by part))
+        (moment_of (P.past partition.old) (P.content partition.old))
+        (moment_of (P.past partition.new) (P.content partition.new)) }
+    ensures moments { IsTrue P.tells → EachSince (P.past partition.old).moments (P.past partition.new).moments
+        (During (in_range at (put_by part)) (moment_of (P.past partition.old) (P.content partition.old))
+        (moment_of (P.past partition.new) (P.content partition.new))) }
     ensures settled { IsTrue P.tells → OnOk result (Settles part (P.past partition.new).pending) }
     ensures synced { (P.past partition.new).synced ≡ (P.past partition.old).synced + syncs_by part result }
     ensures reads { P.reads partition.new ≡ P.reads partition.old }
@@ -87,32 +215,22 @@ pub(crate) fn lay_part<P: Partition>(
     ensures sound { OnErr result (is_fault part ≡ false) }
     // A sync is refused behind the end of the image, and leaves what is written.
     ensures ends { OnUnsynced result (part ≡ Part.End) }
-    ensures refused_syncs { P.syncs partition.new + (P.past partition.old).synced ≡ P.syncs partition.old + (P.past partition.new).synced + refused_syncs result }
+    ensures refused_syncs { P.syncs partition.new + (P.past partition.old).synced
+        ≡ P.syncs partition.old + (P.past partition.new).synced + refused_syncs result }
     ensures all { UnlessUnwritten result (P.taken partition.new ≡ P.taken partition.old + put_by part) }
     ensures taken { P.taken partition.old ≤ P.taken partition.new }
     ensures still { IsStill part → partition.new ≡ partition.old }
     ensures cause { PutCause result (P.put_faults partition.old) (P.put_faults partition.new) }
-    ensures calls { P.puts partition.new + P.syncs partition.new + 2 * P.taken partition.old ≤ P.puts partition.old + P.syncs partition.old + 2 * P.taken partition.new + 1 }
-    ensures turns { m.new.turns.number + 2 * P.taken partition.old ≤ m.old.turns.number + 2 * P.taken partition.new + 16 }
-    ensures few { OnOk result (m.new.turns.number + 2 * P.taken partition.old ≤ m.old.turns.number + 2 * P.taken partition.new + 1) }
+    ensures calls { P.puts partition.new + P.syncs partition.new + 2 * P.taken partition.old
+        ≤ P.puts partition.old + P.syncs partition.old + 2 * P.taken partition.new + 1 }
+    ensures turns { m.new.turns.number + 2 * P.taken partition.old ≤ m.old.turns.number + 2 * P.taken partition.new
+        + 16 }
+    ensures few { OnOk result (m.new.turns.number + 2 * P.taken partition.old
+        ≤ m.old.turns.number + 2 * P.taken partition.new + 1) }
     ensures steps { m.new.steps.number ≡ m.old.steps.number }
     ensures greatest { m.new.greatest.number ≡ m.old.greatest.number }
 {
-    match part {
-        Part::Raw(n) => match write_all_at(partition, at, w.part(0, n), m) {
-            Ok(()) => Ok(()),
-            Err(fault) => Err(FlashFault::Write(fault)),
-        },
-        Part::Words(word, n) => match lay_words(word, n, at, partition, w, m) {
-            Ok(()) => Ok(()),
-            Err(fault) => Err(FlashFault::Write(fault)),
-        },
-        Part::End => match partition.sync() {
-            Ok(()) => Ok(()),
-            Err(fault) => Err(FlashFault::Sync(fault)),
-        },
-        Part::Skip(_) => Ok(()),
-        Part::Nothing => Ok(()),
-        Part::Fault(_) => Ok(()),
-    }
+    let task = task_for(part);
+    let done = carry_out(task, at, partition, w, m);
+    answer_to(task, done)
 }

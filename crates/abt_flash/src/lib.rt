@@ -1,17 +1,17 @@
 //! Flashing sparse images to a partition: one image read forward, or an image cut into pieces that go through a spool.
 //!
-//! What the layers above use are the contracts of [`flash`] and [`deliver`]. `flash` answers Ok exactly where an image
-//! stands at the front of the input, the partition has room for its blocks and no device fails; then the partition holds
-//! what it held, with the image's raw and fill blocks laid over it, each byte of them written once, and is synced. At no
-//! moment another byte is touched. `deliver` leaves the same by way of the spool, which is given exactly the pieces of
-//! the image, each within the limit; whatever a stop leaves on the way, `resume` mends. Nothing is read of the partition,
-//! and no call takes memory.
+//! What the layers above use are the contracts of [`flash`] and [`deliver`]. `flash` answers Ok exactly where an
+//! image stands at the front of the input, the partition has room for its blocks and no device fails; then the
+//! partition holds what it held, with the image's raw and fill blocks laid over it, each byte of them written once,
+//! and is synced. At no moment another byte is touched. `deliver` leaves the same by way of the spool, which is
+//! given exactly the pieces of the image, each within the limit; whatever a stop leaves on the way, `resume` mends.
+//! Nothing is read of the partition, and no call takes memory.
 //!
 //! | file | what is in it |
 //! |---|---|
 //! | `fault.rt` | why all this is refused: `FlashFault`, and `Cause` of a stop |
 //! | `stage.rt` | `Stage`, and what a flash answers |
-//! | `laying.rt` | what is written of a part of an image |
+//! | `laying.rt` | what a part of an image asks of the partition, and how that is done |
 //! | `flasher.rt` | `Flasher`, flashing in steps |
 //! | `flashing.rt` | `flash` |
 //! | `answer.rt` | `Delivered` |
@@ -20,10 +20,11 @@
 //! | `opened.rt` | `deliver_runs`: an opened image |
 //! | `sparse.rt`, `raw.rt` | `deliver`, `resume`, `deliver_raw`, `resume_raw`: sparse images, and raw ones |
 //!
-//! `specs/Flashing.antt` says what a flash answers, `specs/Laying.antt` what a call may touch, and `specs/Stepping.antt`
-//! what a step does. `specs/Delivering.antt` has a record for each promise of a delivery: what it gives the spool, what it
-//! lays on the partition, what every moment of it leaves, and what it costs; `specs/Devices.antt` is what these know of
-//! the devices, and `specs/Sparse.antt` and `specs/Raw.antt` say what image is meant, and why it is refused.
+//! `specs/Flashing.antt` says what a flash answers, `specs/Laying.antt` what a call may touch, and
+//! `specs/Stepping.antt` what a step does. `specs/Delivering.antt` has a record for each promise of a delivery:
+//! what it gives the spool, what it lays on the partition, what every moment of it leaves, and what it costs;
+//! `specs/Devices.antt` is what these know of the devices, and `specs/Sparse.antt` and `specs/Raw.antt` say what
+//! image is meant, and why it is refused.
 #![tactic(auto)]
 
 mod answer;

@@ -2,7 +2,8 @@
 
 ghost use Rattle.std.specs.Prelude.{◌≡◌, ◌<◌, ◌≤◌, ◌+◌, ◌-◌, ◌*◌, ◌^◌, [], IsTrue, IfOk, IfErr, OnOk, length};
 ghost use Rattle.abt_flash.specs.Devices.{counts, partition_state, spool_state};
-ghost use Rattle.abt_flash.specs.Delivering.{AlwaysMendable, Costs, CountsTo, GivesPieces, IsLeast, LaysBlocks, MendsBlocks, NoneFailed, OnEarly, Refused, Room, pieces_in};
+ghost use Rattle.abt_flash.specs.Delivering.{AlwaysMendable, Costs, CountsTo, GivesPieces, IsLeast, LaysBlocks};
+ghost use Rattle.abt_flash.specs.Delivering.{MendsBlocks, NoneFailed, OnEarly, Refused, Room, pieces_in};
 ghost use Rattle.abt_flash.specs.Causes.{opening_fault};
 
 use crate::answer::Delivered;
@@ -41,7 +42,8 @@ pub(crate) fn deliver_behind<R: BlockRuns + Drop, S: Source, L: Spool, P: Partit
     requires opened { IsTrue S.tells → R.opened runs (S.content source.old) }
     // What is answered.
     ensures granted { OnOk result (Room limit (R.size runs) (R.count runs) (P.size partition.old)) }
-    ensures refused { IfErr result (λ e. Refused e limit (R.size runs) (R.count runs) (P.size partition.old) before S.tells L.tells
+    ensures refused { IfErr result (λ e. Refused e limit (R.size runs) (R.count runs) (P.size partition.old) before
+        S.tells L.tells
         (counts S.Source L.Input L.Output L.Spool.own P.Partition.own source.old spool.old partition.old)
         (counts S.Source L.Input L.Output L.Spool.own P.Partition.own source.new spool.new partition.new)) }
     ensures early { OnEarly result ((spool.new ≡ spool.old) × (partition.new ≡ partition.old)) }
@@ -60,22 +62,35 @@ pub(crate) fn deliver_behind<R: BlockRuns + Drop, S: Source, L: Spool, P: Partit
         (spool_state L.Input L.Output L.Spool.own spool.old) (spool_state L.Input L.Output L.Spool.own spool.new) }
     ensures partition { LaysBlocks S.tells L.tells P.tells
         (record { size = R.size runs; blocks = R.list runs (S.content source.old) }) limit before result
-        (partition_state P.Source P.Partition.own partition.old) (partition_state P.Source P.Partition.own partition.new) }
+        (partition_state P.Source P.Partition.own partition.old)
+        (partition_state P.Source P.Partition.own partition.new) }
     // What stays.
     ensures mends { IsTrue S.tells → IsTrue L.tells → IsTrue P.tells → MendsBlocks
         (record { size = R.size runs; blocks = R.list runs (S.content source.old) }) limit before result
-        (partition_state P.Source P.Partition.own partition.old) (partition_state P.Source P.Partition.own partition.new) }
+        (partition_state P.Source P.Partition.own partition.old)
+        (partition_state P.Source P.Partition.own partition.new) }
+    ensures mendable { IsTrue S.tells → IsTrue L.tells → IsTrue P.tells → before ≡ 0 →
+        (P.past partition.old).pending ≡ [] → AlwaysMendable
+        (record { size = R.size runs; blocks = R.list runs (S.content source.old) }) limit
+        (partition_state P.Source P.Partition.own partition.old)
+        (partition_state P.Source P.Partition.own partition.new) }
     ensures content { IsTrue S.tells → S.content source.new ≡ S.content source.old }
     ensures frame { S.read_frame source.new ≡ S.read_frame source.old }
     // What it cost.
-    ensures reads { IsTrue S.tells → IfOk result (λ d. S.given source.new + R.opening runs ≤ S.given source.old + 8 * R.image runs + 128 * (before + d.pieces + 1)) }
-    ensures long { IfOk result (λ d. length (L.written spool.new) ≤ length (L.written spool.old) + R.most_taken runs + 80 * d.pieces) }
+    ensures reads { IsTrue S.tells →
+        IfOk result (λ d. S.given source.new + R.opening runs
+        ≤ S.given source.old + 8 * R.image runs + 128 * (before + d.pieces + 1)) }
+    ensures long { IfOk result (λ d. length (L.written spool.new) ≤ length (L.written spool.old) + R.most_taken runs
+        + 80 * d.pieces) }
     ensures costs { Costs S.tells
-        (record { size = R.size runs; blocks = R.list runs (S.content source.old) }) limit (R.one runs) 400 before result
+        (record { size = R.size runs; blocks = R.list runs (S.content source.old) }) limit (R.one runs) 400 before
+        result
         (counts S.Source L.Input L.Output L.Spool.own P.Partition.own source.old spool.old partition.old)
         (counts S.Source L.Input L.Output L.Spool.own P.Partition.own source.new spool.new partition.new) m.old m.new }
     // What only grows.
-    ensures grown { S.given source.old ≤ S.given source.new × L.given spool.old ≤ L.given spool.new × length (L.written spool.old) ≤ length (L.written spool.new) × P.taken partition.old ≤ P.taken partition.new }
+    ensures grown { S.given source.old ≤ S.given source.new × L.given spool.old
+        ≤ L.given spool.new × length (L.written spool.old) ≤ length (L.written spool.new) × P.taken partition.old
+        ≤ P.taken partition.new }
     ensures faults { S.read_faults source.old ≤ S.read_faults source.new }
 {
     let mut cutter = match Cutter::open(runs, limit) {
@@ -108,7 +123,8 @@ pub fn deliver_runs<R: BlockRuns + Drop, S: Source, L: Spool, P: Partition>(
     requires opened { IsTrue S.tells → R.opened runs (S.content source.old) }
     // What is answered.
     ensures granted { OnOk result (Room limit (R.size runs) (R.count runs) (P.size partition.old)) }
-    ensures refused { IfErr result (λ e. Refused e limit (R.size runs) (R.count runs) (P.size partition.old) 0 S.tells L.tells
+    ensures refused { IfErr result (λ e. Refused e limit (R.size runs) (R.count runs) (P.size partition.old) 0 S.tells
+        L.tells
         (counts S.Source L.Input L.Output L.Spool.own P.Partition.own source.old spool.old partition.old)
         (counts S.Source L.Input L.Output L.Spool.own P.Partition.own source.new spool.new partition.new)) }
     ensures early { OnEarly result ((spool.new ≡ spool.old) × (partition.new ≡ partition.old)) }
@@ -127,18 +143,24 @@ pub fn deliver_runs<R: BlockRuns + Drop, S: Source, L: Spool, P: Partition>(
         (spool_state L.Input L.Output L.Spool.own spool.old) (spool_state L.Input L.Output L.Spool.own spool.new) }
     ensures partition { LaysBlocks S.tells L.tells P.tells
         (record { size = R.size runs; blocks = R.list runs (S.content source.old) }) limit 0 result
-        (partition_state P.Source P.Partition.own partition.old) (partition_state P.Source P.Partition.own partition.new) }
+        (partition_state P.Source P.Partition.own partition.old)
+        (partition_state P.Source P.Partition.own partition.new) }
     // What stays.
-    ensures mendable { IsTrue S.tells → IsTrue L.tells → IsTrue P.tells → (P.past partition.old).pending ≡ [] → AlwaysMendable
+    ensures mendable { IsTrue S.tells → IsTrue L.tells → IsTrue P.tells → (P.past partition.old).pending
+        ≡ [] → AlwaysMendable
         (record { size = R.size runs; blocks = R.list runs (S.content source.old) }) limit
-        (partition_state P.Source P.Partition.own partition.old) (partition_state P.Source P.Partition.own partition.new) }
+        (partition_state P.Source P.Partition.own partition.old)
+        (partition_state P.Source P.Partition.own partition.new) }
     ensures content { IsTrue S.tells → S.content source.new ≡ S.content source.old }
     ensures frame { S.read_frame source.new ≡ S.read_frame source.old }
     // What it cost.
-    ensures reads { IsTrue S.tells → IfOk result (λ d. S.given source.new + R.opening runs ≤ S.given source.old + 8 * R.image runs + 128 * (d.pieces + 1)) }
-    ensures long { IfOk result (λ d. length (L.written spool.new) ≤ length (L.written spool.old) + R.most_taken runs + 80 * d.pieces) }
+    ensures reads { IsTrue S.tells →
+        IfOk result (λ d. S.given source.new + R.opening runs
+        ≤ S.given source.old + 8 * R.image runs + 128 * (d.pieces + 1)) }
+    ensures long { IfOk result (λ d. length (L.written spool.new) ≤ length (L.written spool.old) + R.most_taken runs
+        + 80 * d.pieces) }
     ensures costs { Costs S.tells
-        (record { size = R.size runs; blocks = R.list runs (S.content source.old) }) limit (R.one runs) 512 0 result
+        (record { size = R.size runs; blocks = R.list runs (S.content source.old) }) limit (R.one runs) 400 0 result
         (counts S.Source L.Input L.Output L.Spool.own P.Partition.own source.old spool.old partition.old)
         (counts S.Source L.Input L.Output L.Spool.own P.Partition.own source.new spool.new partition.new) m.old m.new }
 {

@@ -1,6 +1,7 @@
 //! One piece, from the source through the spool to the partition.
 
-ghost use Rattle.std.specs.Prelude.{◌≡◌, ◌<◌, ◌≤◌, ◌+◌, ◌-◌, ◌*◌, ◌++◌, [], ◌∷◌, IsTrue, IfErr, OnOk, is_ok, length, max, if◌then◌else◌};
+ghost use Rattle.std.specs.Prelude.{◌≡◌, ◌<◌, ◌≤◌, ◌+◌, ◌-◌, ◌*◌, ◌++◌, [], ◌∷◌, IsTrue, IfErr, OnErr, OnOk, is_ok};
+ghost use Rattle.std.specs.Prelude.{length, max, if◌then◌else◌};
 ghost use Rattle.abt_io.specs.Moment.{Keeps, EachSince, moment_of};
 ghost use Rattle.abt_sparse.specs.Block.{cells, over};
 ghost use Rattle.abt_pieces.specs.Contents.{written_in};
@@ -18,9 +19,34 @@ ghost use Rattle.abt_flash.specs.Causes.{cutting_cause, flashing_cause};
 
 use crate::fault::{Cause, FlashFault};
 use crate::flashing::flash;
-use abt_io::{Meter, Partition, Source, Spool, Window};
+use abt_io::{DeviceFault, Meter, Partition, Source, Spool, Window};
 use abt_pieces::{Cutter, PieceFault};
 use abt_runs::BlockRuns;
+
+/// Empties the spool for the next piece.
+fn clear<L: Spool>(spool: &mut L) -> Result<(), Cause>
+    ensures written { L.written spool.new ≡ L.written spool.old }
+    ensures cut { OnOk result (L.cuts spool.new ≡ length (L.written spool.old) ∷ L.cuts spool.old) }
+    ensures gone { OnOk result (L.gone spool.new ≡ length (L.written spool.old)) }
+    ensures kept { OnErr result (L.cuts spool.new ≡ L.cuts spool.old) }
+    ensures size { L.size spool.new ≡ L.size spool.old }
+    ensures given { L.given spool.new ≡ L.given spool.old }
+    ensures reads { L.reads spool.new ≡ L.reads spool.old }
+    ensures writes { L.writes spool.new ≡ L.writes spool.old }
+    ensures calls { L.clears spool.new ≡ L.clears spool.old + 1 }
+    ensures read_faults { L.read_faults spool.new ≡ L.read_faults spool.old }
+    ensures write_faults { L.write_faults spool.new ≡ L.write_faults spool.old }
+    ensures clear_faults { L.clear_faults spool.old ≤ L.clear_faults spool.new }
+    // It goes on only where the spool was cleared.
+    ensures clean { OnOk result (L.clear_faults spool.new ≡ L.clear_faults spool.old) }
+    ensures cause { OnErr result (L.clear_faults spool.old < L.clear_faults spool.new) }
+    ensures names { IfErr result (λ e. e ≡ Cause.SpoolWrite DeviceFault.Failed) }
+{
+    match spool.clear() {
+        Ok(()) => Ok(()),
+        Err(fault) => Err(Cause::SpoolWrite(fault)),
+    }
+}
 
 /// Why a piece is not finished, where it was not written.
 fn not_written(fault: PieceFault) -> Cause
@@ -66,54 +92,104 @@ pub(crate) fn deliver_piece<R: BlockRuns + Drop, S: Source, L: Spool, P: Partiti
 ) -> Result<(), Cause>
     requires between { cutter.old.stage ≡ Stage.Between }
     requires opened { IsTrue S.tells → R.opened cutter.old.runs (S.content source.old) }
-    requires told { IsTrue S.tells → ToldCutter (R.place cutter.old.runs (S.content source.old)) (R.together cutter.old.runs (S.content source.old)) (R.size cutter.old.runs) (R.list cutter.old.runs (S.content source.old)) cutter.old.limit cutter.old.made cutter.old.start cutter.old.stage }
+    requires told { IsTrue S.tells → ToldCutter (R.place cutter.old.runs (S.content source.old))
+        (R.together cutter.old.runs (S.content source.old)) (R.size cutter.old.runs)
+        (R.list cutter.old.runs (S.content source.old)) cutter.old.limit cutter.old.made cutter.old.start
+        cutter.old.stage }
     requires capacity { cutter.old.limit ≤ L.size spool.old }
     requires room { R.count cutter.old.runs * R.size cutter.old.runs ≤ P.size partition.old }
     // The cutter goes behind the piece.
     ensures runs { cutter.new.runs ≡ cutter.old.runs }
     ensures limit { cutter.new.limit ≡ cutter.old.limit }
-    ensures told { IsTrue S.tells → ToldCutter (R.place cutter.old.runs (S.content source.old)) (R.together cutter.old.runs (S.content source.old)) (R.size cutter.old.runs) (R.list cutter.old.runs (S.content source.old)) cutter.new.limit cutter.new.made cutter.new.start cutter.new.stage }
+    ensures told { IsTrue S.tells → ToldCutter (R.place cutter.old.runs (S.content source.old))
+        (R.together cutter.old.runs (S.content source.old)) (R.size cutter.old.runs)
+        (R.list cutter.old.runs (S.content source.old)) cutter.new.limit cutter.new.made cutter.new.start
+        cutter.new.stage }
     ensures made { OnOk result (cutter.new.made ≡ cutter.old.made + 1) }
     ensures stands { OnOk result (StandsAt (R.count cutter.old.runs) cutter.new.start.block cutter.new.stage) }
-    ensures moves { OnOk result (cutter.new.start.block < R.count cutter.old.runs → cutter.old.start.block < cutter.new.start.block) }
-    ensures greatest_end { IsTrue S.tells → OnFlashed result (FirstPiece (R.size cutter.old.runs) (R.list cutter.old.runs (S.content source.old)) cutter.old.limit cutter.old.start.block cutter.new.start.block) }
+    ensures moves { OnOk result (cutter.new.start.block < R.count cutter.old.runs → cutter.old.start.block
+        < cutter.new.start.block) }
+    ensures greatest_end { IsTrue S.tells →
+        OnFlashed result (FirstPiece (R.size cutter.old.runs) (R.list cutter.old.runs (S.content source.old))
+        cutter.old.limit cutter.old.start.block cutter.new.start.block) }
     // The source.
     ensures content { IsTrue S.tells → S.content source.new ≡ S.content source.old }
     ensures frame { S.read_frame source.new ≡ S.read_frame source.old }
     // The spool is given that piece behind a clear, or a beginning of it.
     ensures capacity { L.size spool.new ≡ L.size spool.old }
-    ensures fits { PiecesFit cutter.old.limit (L.cuts spool.old) (L.cuts spool.new) (length (L.written spool.old)) (length (L.written spool.new)) }
+    ensures fits { PiecesFit cutter.old.limit (L.cuts spool.old) (L.cuts spool.new) (length (L.written spool.old))
+        (length (L.written spool.new)) }
     ensures cut { OnOk result (L.cuts spool.new ≡ length (L.written spool.old) ∷ L.cuts spool.old) }
-    ensures written { IsTrue S.tells → OnOk result (L.written spool.new ≡ L.written spool.old ++ piece_at (R.size cutter.old.runs) cutter.old.limit (R.list cutter.old.runs (S.content source.old)) cutter.old.start.block) }
-    ensures begins { IsTrue S.tells → Begins (L.written spool.new) (L.written spool.old ++ piece_at (R.size cutter.old.runs) cutter.old.limit (R.list cutter.old.runs (S.content source.old)) cutter.old.start.block) }
+    ensures written { IsTrue S.tells →
+        OnOk result (L.written spool.new ≡ L.written spool.old ++ piece_at (R.size cutter.old.runs) cutter.old.limit
+        (R.list cutter.old.runs (S.content source.old)) cutter.old.start.block) }
+    ensures begins { IsTrue S.tells →
+        Begins (L.written spool.new) (L.written spool.old ++ piece_at (R.size cutter.old.runs) cutter.old.limit
+        (R.list cutter.old.runs (S.content source.old)) cutter.old.start.block) }
     // The partition gets its blocks, and nothing else is touched.
     ensures size { P.size partition.new ≡ P.size partition.old }
     ensures unread { (P.reads partition.new ≡ P.reads partition.old) × (P.given partition.new ≡ P.given partition.old) }
-    ensures laid { IsTrue S.tells → IsTrue L.tells → IsTrue P.tells → OnFlashed result (P.content partition.new ≡ over (P.content partition.old) (cells (R.size cutter.old.runs) (frame (R.list cutter.old.runs (S.content source.old)) cutter.old.start.block cutter.new.start.block))) }
-    ensures kept { IsTrue S.tells → IsTrue L.tells → IsTrue P.tells → Keeps (writes (cells (R.size cutter.old.runs) (blocks_at cutter.old.limit (R.size cutter.old.runs) (R.list cutter.old.runs (S.content source.old)) cutter.old.start.block))) (moment_of (P.past partition.old) (P.content partition.old)) (moment_of (P.past partition.new) (P.content partition.new)) }
-    ensures moments { IsTrue S.tells → IsTrue L.tells → IsTrue P.tells → EachSince (P.past partition.old).moments (P.past partition.new).moments (During (writes (cells (R.size cutter.old.runs) (blocks_at cutter.old.limit (R.size cutter.old.runs) (R.list cutter.old.runs (S.content source.old)) cutter.old.start.block))) (moment_of (P.past partition.old) (P.content partition.old)) (moment_of (P.past partition.new) (P.content partition.new))) }
+    ensures laid { IsTrue S.tells → IsTrue L.tells → IsTrue P.tells →
+        OnFlashed result (P.content partition.new
+        ≡ over (P.content partition.old)
+        (cells (R.size cutter.old.runs)
+        (frame (R.list cutter.old.runs (S.content source.old)) cutter.old.start.block cutter.new.start.block))) }
+    ensures kept { IsTrue S.tells → IsTrue L.tells → IsTrue P.tells →
+        Keeps (writes (cells (R.size cutter.old.runs)
+        (blocks_at cutter.old.limit (R.size cutter.old.runs) (R.list cutter.old.runs (S.content source.old))
+        cutter.old.start.block))) (moment_of (P.past partition.old) (P.content partition.old))
+        (moment_of (P.past partition.new) (P.content partition.new)) }
+    ensures moments { IsTrue S.tells → IsTrue L.tells → IsTrue P.tells → EachSince (P.past partition.old).moments
+        (P.past partition.new).moments (During
+        (writes (cells (R.size cutter.old.runs)
+        (blocks_at cutter.old.limit (R.size cutter.old.runs) (R.list cutter.old.runs (S.content source.old))
+        cutter.old.start.block))) (moment_of (P.past partition.old) (P.content partition.old))
+        (moment_of (P.past partition.new) (P.content partition.new))) }
     ensures settled { IsTrue P.tells → OnOk result ((P.past partition.new).pending ≡ []) }
     ensures synced { (P.past partition.new).synced ≡ (P.past partition.old).synced + (if is_ok result then 1 else 0) }
-    ensures unsynced { P.syncs partition.new + (P.past partition.old).synced ≡ P.syncs partition.old + (P.past partition.new).synced + unsynced_by result }
-    ensures blocks { IsTrue S.tells → IsTrue L.tells → OnOk result (P.taken partition.new ≡ P.taken partition.old + R.size cutter.old.runs * written_in (frame (R.list cutter.old.runs (S.content source.old)) cutter.old.start.block cutter.new.start.block)) }
+    ensures unsynced { P.syncs partition.new + (P.past partition.old).synced
+        ≡ P.syncs partition.old + (P.past partition.new).synced + unsynced_by result }
+    ensures blocks { IsTrue S.tells → IsTrue L.tells →
+        OnOk result (P.taken partition.new ≡ P.taken partition.old + R.size cutter.old.runs * written_in
+        (frame (R.list cutter.old.runs (S.content source.old)) cutter.old.start.block cutter.new.start.block)) }
     // Bytes, which only grow.
     ensures given { S.given source.old ≤ S.given source.new }
     ensures spool_given { L.given spool.old ≤ L.given spool.new }
     ensures grown { length (L.written spool.old) ≤ length (L.written spool.new) }
     ensures taken { P.taken partition.old ≤ P.taken partition.new }
-    ensures takes { OnOk result (length (L.written spool.new) + R.taken cutter.old.runs cutter.old.start ≤ length (L.written spool.old) + R.taken cutter.old.runs cutter.new.start + 80) }
-    ensures back { IsTrue S.tells → IsTrue L.tells → OnOk result (L.given spool.new + length (L.written spool.old) ≡ L.given spool.old + length (L.written spool.new)) }
-    ensures spent { IsTrue S.tells → OnOk result (S.given source.new + all_passes (R.charge cutter.old.runs) (R.copied cutter.old.runs) cutter.old.start ≤ S.given source.old + all_passes (R.charge cutter.old.runs) (R.copied cutter.old.runs) cutter.new.start + 80 + R.one cutter.old.runs) }
-    ensures spent_end { IsTrue S.tells → OnOk result (R.count cutter.old.runs ≤ cutter.new.start.block → S.given source.new + all_passes (R.charge cutter.old.runs) (R.copied cutter.old.runs) cutter.old.start ≤ S.given source.old + all_passes (R.charge cutter.old.runs) (R.copied cutter.old.runs) cutter.new.start + 48) }
+    ensures takes { OnOk result (length (L.written spool.new) + R.taken cutter.old.runs cutter.old.start
+        ≤ length (L.written spool.old) + R.taken cutter.old.runs cutter.new.start + 80) }
+    ensures back { IsTrue S.tells → IsTrue L.tells → OnOk result (L.given spool.new + length (L.written spool.old)
+        ≡ L.given spool.old + length (L.written spool.new)) }
+    ensures spent { IsTrue S.tells →
+        OnOk result (S.given source.new + all_passes (R.charge cutter.old.runs) (R.copied cutter.old.runs)
+        cutter.old.start ≤ S.given source.old + all_passes (R.charge cutter.old.runs) (R.copied cutter.old.runs)
+        cutter.new.start + 80 + R.one cutter.old.runs) }
+    ensures spent_end { IsTrue S.tells →
+        OnOk result (R.count cutter.old.runs ≤ cutter.new.start.block →
+        S.given source.new + all_passes (R.charge cutter.old.runs) (R.copied cutter.old.runs) cutter.old.start
+        ≤ S.given source.old + all_passes (R.charge cutter.old.runs) (R.copied cutter.old.runs) cutter.new.start + 48) }
     // Work.
-    ensures calls { calls_in (S.reads source.new) (L.reads spool.new) (L.writes spool.new) (L.clears spool.new) (P.puts partition.new) (P.syncs partition.new) + 8 * bytes_in (S.given source.old) (L.given spool.old) (length (L.written spool.old)) (P.taken partition.old) ≤ calls_in (S.reads source.old) (L.reads spool.old) (L.writes spool.old) (L.clears spool.old) (P.puts partition.old) (P.syncs partition.old) + 8 * bytes_in (S.given source.new) (L.given spool.new) (length (L.written spool.new)) (P.taken partition.new) + 257 }
-    ensures turns { m.new.turns.number + 8 * bytes_in (S.given source.old) (L.given spool.old) (length (L.written spool.old)) (P.taken partition.old) ≤ m.old.turns.number + 8 * bytes_in (S.given source.new) (L.given spool.new) (length (L.written spool.new)) (P.taken partition.new) + 256 + 3 * R.one cutter.old.runs }
-    ensures words { OnOk result (m.new.turns.number + 8 * bytes_in (S.given source.old) (L.given spool.old) (length (L.written spool.old)) (P.taken partition.old) ≤ m.old.turns.number + 8 * bytes_in (S.given source.new) (L.given spool.new) (length (L.written spool.new)) (P.taken partition.new) + 256 + piece_words (R.one cutter.old.runs) (R.count cutter.old.runs) cutter.new.start.block) }
-    ensures steps { S.given source.new + L.given spool.new + 65580 * m.old.steps.number ≤ S.given source.old + L.given spool.old + 65580 * m.new.steps.number }
+    ensures calls { calls_in (S.reads source.new) (L.reads spool.new) (L.writes spool.new) (L.clears spool.new)
+        (P.puts partition.new) (P.syncs partition.new) + 8 * bytes_in (S.given source.old) (L.given spool.old)
+        (length (L.written spool.old)) (P.taken partition.old)
+        ≤ calls_in (S.reads source.old) (L.reads spool.old) (L.writes spool.old) (L.clears spool.old)
+        (P.puts partition.old) (P.syncs partition.old) + 8 * bytes_in (S.given source.new) (L.given spool.new)
+        (length (L.written spool.new)) (P.taken partition.new) + 257 }
+    ensures turns { m.new.turns.number + 8 * bytes_in (S.given source.old) (L.given spool.old)
+        (length (L.written spool.old)) (P.taken partition.old) ≤ m.old.turns.number + 8 * bytes_in (S.given source.new)
+        (L.given spool.new) (length (L.written spool.new)) (P.taken partition.new) + 256 + 3 * R.one cutter.old.runs }
+    ensures words { OnOk result (m.new.turns.number + 8 * bytes_in (S.given source.old) (L.given spool.old)
+        (length (L.written spool.old)) (P.taken partition.old) ≤ m.old.turns.number + 8 * bytes_in (S.given source.new)
+        (L.given spool.new) (length (L.written spool.new)) (P.taken partition.new) + 256 + piece_words
+        (R.one cutter.old.runs) (R.count cutter.old.runs) cutter.new.start.block) }
+    ensures steps { S.given source.new + L.given spool.new + 65580 * m.old.steps.number
+        ≤ S.given source.old + L.given spool.old + 65580 * m.new.steps.number }
     ensures greatest { m.new.greatest.number ≤ max m.old.greatest.number 65580 }
     // Who failed.
     ensures read_faults { S.read_faults source.old ≤ S.read_faults source.new }
-    ensures write_faults { L.write_faults spool.old + L.clear_faults spool.old ≤ L.write_faults spool.new + L.clear_faults spool.new }
+    ensures write_faults { L.write_faults spool.old + L.clear_faults spool.old
+        ≤ L.write_faults spool.new + L.clear_faults spool.new }
     ensures spool_faults { L.read_faults spool.old ≤ L.read_faults spool.new }
     ensures put_faults { P.put_faults partition.old ≤ P.put_faults partition.new }
     ensures cause { IfErr result (λ e. StopsFor e S.tells L.tells
@@ -125,13 +201,13 @@ pub(crate) fn deliver_piece<R: BlockRuns + Drop, S: Source, L: Spool, P: Partiti
 {
     let _limit = cutter.limit;
     let _count = cutter.runs.blocks();
-    match spool.clear() {
+    match clear(spool) {
         Ok(()) => {}
-        Err(fault) => return Err(Cause::SpoolWrite(fault)),
+        Err(cause) => return Err(cause),
     }
     match cutter.next_piece(source, spool, w, m) {
         Ok(Some(_)) => {}
-        Ok(None) => return Ok(()),
+        Ok(None) => unreachable!(),
         Err(fault) => return Err(not_written(fault)),
     }
     match flash(spool, partition, w, m) {

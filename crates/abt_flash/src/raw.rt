@@ -3,7 +3,8 @@
 ghost use Rattle.std.specs.Prelude.{◌≡◌, ◌<◌, ◌≤◌, ◌+◌, ◌-◌, ◌*◌, ◌^◌, [], IsTrue, IfOk, IfErr, OnOk, length};
 ghost use Rattle.abt_sparse.specs.Block.{classify};
 ghost use Rattle.abt_flash.specs.Devices.{counts, partition_state, spool_state};
-ghost use Rattle.abt_flash.specs.Delivering.{AlwaysMendable, Costs, CountsTo, GivesPieces, IsLeast, LaysBlocks, MendsBlocks, NoneFailed, OnEarly, Room, pieces_in};
+ghost use Rattle.abt_flash.specs.Delivering.{AlwaysMendable, Costs, CountsTo, GivesPieces, IsLeast, LaysBlocks};
+ghost use Rattle.abt_flash.specs.Delivering.{MendsBlocks, NoneFailed, OnEarly, Room, pieces_in};
 ghost use Rattle.abt_flash.specs.Raw.{RawRefused, raw_image};
 
 use crate::answer::Delivered;
@@ -26,8 +27,10 @@ pub(crate) fn raw_behind<S: Source, L: Spool, P: Partition>(
 ) -> Result<Delivered, FlashFault>
     requires capacity { limit ≤ L.size spool.old }
     // What is answered.
-    ensures granted { IsTrue S.tells → OnOk result (Room limit b (length (classify b (S.content source.old))) (P.size partition.old)) }
-    ensures refused { IfErr result (λ e. RawRefused e b (S.content source.old) (S.size source.old) limit (P.size partition.old) before S.tells L.tells
+    ensures granted { IsTrue S.tells →
+        OnOk result (Room limit b (length (classify b (S.content source.old))) (P.size partition.old)) }
+    ensures refused { IfErr result (λ e. RawRefused e b (S.content source.old) (S.size source.old) limit
+        (P.size partition.old) before S.tells L.tells
         (counts S.Source L.Input L.Output L.Spool.own P.Partition.own source.old spool.old partition.old)
         (counts S.Source L.Input L.Output L.Spool.own P.Partition.own source.new spool.new partition.new)) }
     ensures early { OnEarly result ((spool.new ≡ spool.old) × (partition.new ≡ partition.old)) }
@@ -43,15 +46,24 @@ pub(crate) fn raw_behind<S: Source, L: Spool, P: Partition>(
     ensures spool { GivesPieces S.tells L.tells (raw_image b (S.content source.old)) limit before result
         (spool_state L.Input L.Output L.Spool.own spool.old) (spool_state L.Input L.Output L.Spool.own spool.new) }
     ensures partition { LaysBlocks S.tells L.tells P.tells (raw_image b (S.content source.old)) limit before result
-        (partition_state P.Source P.Partition.own partition.old) (partition_state P.Source P.Partition.own partition.new) }
+        (partition_state P.Source P.Partition.own partition.old)
+        (partition_state P.Source P.Partition.own partition.new) }
     // What stays.
     ensures mends { IsTrue S.tells → IsTrue L.tells → IsTrue P.tells → MendsBlocks
         (raw_image b (S.content source.old)) limit before result
-        (partition_state P.Source P.Partition.own partition.old) (partition_state P.Source P.Partition.own partition.new) }
+        (partition_state P.Source P.Partition.own partition.old)
+        (partition_state P.Source P.Partition.own partition.new) }
+    ensures mendable { IsTrue S.tells → IsTrue L.tells → IsTrue P.tells → before ≡ 0 →
+        (P.past partition.old).pending ≡ [] → AlwaysMendable
+        (raw_image b (S.content source.old)) limit
+        (partition_state P.Source P.Partition.own partition.old)
+        (partition_state P.Source P.Partition.own partition.new) }
     ensures content { IsTrue S.tells → S.content source.new ≡ S.content source.old }
     ensures frame { S.read_frame source.new ≡ S.read_frame source.old }
     // What it cost.
-    ensures reads { IsTrue S.tells → IfOk result (λ d. S.given source.new ≤ S.given source.old + 8 * length (S.content source.old) + 128 * (before + d.pieces + 1)) }
+    ensures reads { IsTrue S.tells →
+        IfOk result (λ d. S.given source.new ≤ S.given source.old + 8 * length (S.content source.old)
+        + 128 * (before + d.pieces + 1)) }
     ensures long { IsTrue S.tells → IfOk result (λ d. length (L.written spool.new)
         ≤ length (L.written spool.old) + length (classify b (S.content source.old)) * (b + 16) + 80 * d.pieces) }
     ensures costs { Costs S.tells (raw_image b (S.content source.old)) limit b 512 before result
@@ -77,8 +89,10 @@ pub fn deliver_raw<S: Source, L: Spool, P: Partition>(
 ) -> Result<Delivered, FlashFault>
     requires capacity { limit ≤ L.size spool.old }
     // What is answered.
-    ensures granted { IsTrue S.tells → OnOk result (Room limit b (length (classify b (S.content source.old))) (P.size partition.old)) }
-    ensures refused { IfErr result (λ e. RawRefused e b (S.content source.old) (S.size source.old) limit (P.size partition.old) 0 S.tells L.tells
+    ensures granted { IsTrue S.tells →
+        OnOk result (Room limit b (length (classify b (S.content source.old))) (P.size partition.old)) }
+    ensures refused { IfErr result (λ e. RawRefused e b (S.content source.old) (S.size source.old) limit
+        (P.size partition.old) 0 S.tells L.tells
         (counts S.Source L.Input L.Output L.Spool.own P.Partition.own source.old spool.old partition.old)
         (counts S.Source L.Input L.Output L.Spool.own P.Partition.own source.new spool.new partition.new)) }
     ensures early { OnEarly result ((spool.new ≡ spool.old) × (partition.new ≡ partition.old)) }
@@ -93,15 +107,20 @@ pub fn deliver_raw<S: Source, L: Spool, P: Partition>(
     ensures spool { GivesPieces S.tells L.tells (raw_image b (S.content source.old)) limit 0 result
         (spool_state L.Input L.Output L.Spool.own spool.old) (spool_state L.Input L.Output L.Spool.own spool.new) }
     ensures partition { LaysBlocks S.tells L.tells P.tells (raw_image b (S.content source.old)) limit 0 result
-        (partition_state P.Source P.Partition.own partition.old) (partition_state P.Source P.Partition.own partition.new) }
+        (partition_state P.Source P.Partition.own partition.old)
+        (partition_state P.Source P.Partition.own partition.new) }
     // What stays.
-    ensures mendable { IsTrue S.tells → IsTrue L.tells → IsTrue P.tells → (P.past partition.old).pending ≡ [] → AlwaysMendable
+    ensures mendable { IsTrue S.tells → IsTrue L.tells → IsTrue P.tells → (P.past partition.old).pending
+        ≡ [] → AlwaysMendable
         (raw_image b (S.content source.old)) limit
-        (partition_state P.Source P.Partition.own partition.old) (partition_state P.Source P.Partition.own partition.new) }
+        (partition_state P.Source P.Partition.own partition.old)
+        (partition_state P.Source P.Partition.own partition.new) }
     ensures content { IsTrue S.tells → S.content source.new ≡ S.content source.old }
     ensures frame { S.read_frame source.new ≡ S.read_frame source.old }
     // What it cost.
-    ensures reads { IsTrue S.tells → IfOk result (λ d. S.given source.new ≤ S.given source.old + 8 * length (S.content source.old) + 128 * (d.pieces + 1)) }
+    ensures reads { IsTrue S.tells →
+        IfOk result (λ d. S.given source.new ≤ S.given source.old + 8 * length (S.content source.old)
+        + 128 * (d.pieces + 1)) }
     ensures long { IsTrue S.tells → IfOk result (λ d. length (L.written spool.new)
         ≤ length (L.written spool.old) + length (classify b (S.content source.old)) * (b + 16) + 80 * d.pieces) }
     ensures costs { Costs S.tells (raw_image b (S.content source.old)) limit b 512 0 result
@@ -125,8 +144,10 @@ pub fn resume_raw<S: Source, L: Spool, P: Partition>(
     requires some { 1 ≤ from_piece }
     requires capacity { limit ≤ L.size spool.old }
     // What is answered.
-    ensures granted { IsTrue S.tells → OnOk result (Room limit b (length (classify b (S.content source.old))) (P.size partition.old)) }
-    ensures refused { IfErr result (λ e. RawRefused e b (S.content source.old) (S.size source.old) limit (P.size partition.old) (from_piece - 1) S.tells L.tells
+    ensures granted { IsTrue S.tells →
+        OnOk result (Room limit b (length (classify b (S.content source.old))) (P.size partition.old)) }
+    ensures refused { IfErr result (λ e. RawRefused e b (S.content source.old) (S.size source.old) limit
+        (P.size partition.old) (from_piece - 1) S.tells L.tells
         (counts S.Source L.Input L.Output L.Spool.own P.Partition.own source.old spool.old partition.old)
         (counts S.Source L.Input L.Output L.Spool.own P.Partition.own source.new spool.new partition.new)) }
     ensures early { OnEarly result ((spool.new ≡ spool.old) × (partition.new ≡ partition.old)) }
@@ -144,15 +165,19 @@ pub fn resume_raw<S: Source, L: Spool, P: Partition>(
         (spool_state L.Input L.Output L.Spool.own spool.old) (spool_state L.Input L.Output L.Spool.own spool.new) }
     ensures partition { LaysBlocks S.tells L.tells P.tells
         (raw_image b (S.content source.old)) limit (from_piece - 1) result
-        (partition_state P.Source P.Partition.own partition.old) (partition_state P.Source P.Partition.own partition.new) }
+        (partition_state P.Source P.Partition.own partition.old)
+        (partition_state P.Source P.Partition.own partition.new) }
     // What stays.
     ensures mends { IsTrue S.tells → IsTrue L.tells → IsTrue P.tells → MendsBlocks
         (raw_image b (S.content source.old)) limit (from_piece - 1) result
-        (partition_state P.Source P.Partition.own partition.old) (partition_state P.Source P.Partition.own partition.new) }
+        (partition_state P.Source P.Partition.own partition.old)
+        (partition_state P.Source P.Partition.own partition.new) }
     ensures content { IsTrue S.tells → S.content source.new ≡ S.content source.old }
     ensures frame { S.read_frame source.new ≡ S.read_frame source.old }
     // What it cost.
-    ensures reads { IsTrue S.tells → IfOk result (λ d. S.given source.new ≤ S.given source.old + 8 * length (S.content source.old) + 128 * ((from_piece - 1) + d.pieces + 1)) }
+    ensures reads { IsTrue S.tells →
+        IfOk result (λ d. S.given source.new ≤ S.given source.old + 8 * length (S.content source.old)
+        + 128 * ((from_piece - 1) + d.pieces + 1)) }
     ensures long { IsTrue S.tells → IfOk result (λ d. length (L.written spool.new)
         ≤ length (L.written spool.old) + length (classify b (S.content source.old)) * (b + 16) + 80 * d.pieces) }
     ensures costs { Costs S.tells (raw_image b (S.content source.old)) limit b 512 (from_piece - 1) result

@@ -2,7 +2,8 @@
 
 ghost use Rattle.std.specs.Prelude.{◌≡◌, ◌<◌, ◌≤◌, ◌+◌, ◌-◌, ◌*◌, ◌^◌, [], IsTrue, IfOk, IfErr, OnOk, length};
 ghost use Rattle.abt_flash.specs.Devices.{counts, partition_state, spool_state};
-ghost use Rattle.abt_flash.specs.Delivering.{AlwaysMendable, Costs, CountsTo, GivesPieces, IsLeast, LaysBlocks, MendsBlocks, NoneFailed, OnEarly, pieces_in};
+ghost use Rattle.abt_flash.specs.Delivering.{AlwaysMendable, Costs, CountsTo, GivesPieces, IsLeast, LaysBlocks};
+ghost use Rattle.abt_flash.specs.Delivering.{MendsBlocks, NoneFailed, OnEarly, pieces_in};
 ghost use Rattle.abt_flash.specs.Sparse.{Fits, SparseRefused, image_length, sparse_image};
 ghost use Rattle.abt_flash.specs.Causes.{run_fault_of};
 
@@ -38,7 +39,8 @@ pub(crate) fn sparse_behind<S: Source, L: Spool, P: Partition>(
     requires capacity { limit ≤ L.size spool.old }
     // What is answered.
     ensures granted { IsTrue S.tells → OnOk result (Fits (S.content source.old) limit (P.size partition.old)) }
-    ensures refused { IfErr result (λ e. SparseRefused e (S.content source.old) limit (P.size partition.old) before S.tells L.tells
+    ensures refused { IfErr result (λ e. SparseRefused e (S.content source.old) limit (P.size partition.old) before
+        S.tells L.tells
         (counts S.Source L.Input L.Output L.Spool.own P.Partition.own source.old spool.old partition.old)
         (counts S.Source L.Input L.Output L.Spool.own P.Partition.own source.new spool.new partition.new)) }
     ensures early { OnEarly result ((spool.new ≡ spool.old) × (partition.new ≡ partition.old)) }
@@ -54,16 +56,27 @@ pub(crate) fn sparse_behind<S: Source, L: Spool, P: Partition>(
     ensures spool { GivesPieces S.tells L.tells (sparse_image (S.content source.old)) limit before result
         (spool_state L.Input L.Output L.Spool.own spool.old) (spool_state L.Input L.Output L.Spool.own spool.new) }
     ensures partition { LaysBlocks S.tells L.tells P.tells (sparse_image (S.content source.old)) limit before result
-        (partition_state P.Source P.Partition.own partition.old) (partition_state P.Source P.Partition.own partition.new) }
+        (partition_state P.Source P.Partition.own partition.old)
+        (partition_state P.Source P.Partition.own partition.new) }
     // What stays.
     ensures mends { IsTrue S.tells → IsTrue L.tells → IsTrue P.tells → MendsBlocks
         (sparse_image (S.content source.old)) limit before result
-        (partition_state P.Source P.Partition.own partition.old) (partition_state P.Source P.Partition.own partition.new) }
+        (partition_state P.Source P.Partition.own partition.old)
+        (partition_state P.Source P.Partition.own partition.new) }
+    ensures mendable { IsTrue S.tells → IsTrue L.tells → IsTrue P.tells → before ≡ 0 →
+        (P.past partition.old).pending ≡ [] → AlwaysMendable
+        (sparse_image (S.content source.old)) limit
+        (partition_state P.Source P.Partition.own partition.old)
+        (partition_state P.Source P.Partition.own partition.new) }
     ensures content { IsTrue S.tells → S.content source.new ≡ S.content source.old }
     ensures frame { S.read_frame source.new ≡ S.read_frame source.old }
     // What it cost.
-    ensures reads { IsTrue S.tells → IfOk result (λ d. S.given source.new ≤ S.given source.old + 8 * image_length (S.content source.old) + 128 * (before + d.pieces + 1)) }
-    ensures long { IsTrue S.tells → IfOk result (λ d. length (L.written spool.new) ≤ length (L.written spool.old) + image_length (S.content source.old) + 80 * d.pieces) }
+    ensures reads { IsTrue S.tells →
+        IfOk result (λ d. S.given source.new ≤ S.given source.old + 8 * image_length (S.content source.old)
+        + 128 * (before + d.pieces + 1)) }
+    ensures long { IsTrue S.tells →
+        IfOk result (λ d. length (L.written spool.new)
+        ≤ length (L.written spool.old) + image_length (S.content source.old) + 80 * d.pieces) }
     ensures costs { Costs S.tells (sparse_image (S.content source.old)) limit 0 512 before result
         (counts S.Source L.Input L.Output L.Spool.own P.Partition.own source.old spool.old partition.old)
         (counts S.Source L.Input L.Output L.Spool.own P.Partition.own source.new spool.new partition.new) m.old m.new }
@@ -74,8 +87,8 @@ pub(crate) fn sparse_behind<S: Source, L: Spool, P: Partition>(
     }
 }
 
-/// Cuts the sparse image at the front of a source into pieces within a download limit, and flashes one after the other to a
-/// partition: each is written to the spool behind a clear, flashed from there, and synced.
+/// Cuts the sparse image at the front of a source into pieces within a download limit, and flashes one after the other
+/// to a partition: each is written to the spool behind a clear, flashed from there, and synced.
 pub fn deliver<S: Source, L: Spool, P: Partition>(
     source: &mut S,
     limit: u32,
@@ -87,7 +100,8 @@ pub fn deliver<S: Source, L: Spool, P: Partition>(
     requires capacity { limit ≤ L.size spool.old }
     // What is answered.
     ensures granted { IsTrue S.tells → OnOk result (Fits (S.content source.old) limit (P.size partition.old)) }
-    ensures refused { IfErr result (λ e. SparseRefused e (S.content source.old) limit (P.size partition.old) 0 S.tells L.tells
+    ensures refused { IfErr result (λ e. SparseRefused e (S.content source.old) limit (P.size partition.old) 0 S.tells
+        L.tells
         (counts S.Source L.Input L.Output L.Spool.own P.Partition.own source.old spool.old partition.old)
         (counts S.Source L.Input L.Output L.Spool.own P.Partition.own source.new spool.new partition.new)) }
     ensures early { OnEarly result ((spool.new ≡ spool.old) × (partition.new ≡ partition.old)) }
@@ -102,16 +116,23 @@ pub fn deliver<S: Source, L: Spool, P: Partition>(
     ensures spool { GivesPieces S.tells L.tells (sparse_image (S.content source.old)) limit 0 result
         (spool_state L.Input L.Output L.Spool.own spool.old) (spool_state L.Input L.Output L.Spool.own spool.new) }
     ensures partition { LaysBlocks S.tells L.tells P.tells (sparse_image (S.content source.old)) limit 0 result
-        (partition_state P.Source P.Partition.own partition.old) (partition_state P.Source P.Partition.own partition.new) }
+        (partition_state P.Source P.Partition.own partition.old)
+        (partition_state P.Source P.Partition.own partition.new) }
     // What stays.
-    ensures mendable { IsTrue S.tells → IsTrue L.tells → IsTrue P.tells → (P.past partition.old).pending ≡ [] → AlwaysMendable
+    ensures mendable { IsTrue S.tells → IsTrue L.tells → IsTrue P.tells → (P.past partition.old).pending
+        ≡ [] → AlwaysMendable
         (sparse_image (S.content source.old)) limit
-        (partition_state P.Source P.Partition.own partition.old) (partition_state P.Source P.Partition.own partition.new) }
+        (partition_state P.Source P.Partition.own partition.old)
+        (partition_state P.Source P.Partition.own partition.new) }
     ensures content { IsTrue S.tells → S.content source.new ≡ S.content source.old }
     ensures frame { S.read_frame source.new ≡ S.read_frame source.old }
     // What it cost.
-    ensures reads { IsTrue S.tells → IfOk result (λ d. S.given source.new ≤ S.given source.old + 8 * image_length (S.content source.old) + 128 * (d.pieces + 1)) }
-    ensures long { IsTrue S.tells → IfOk result (λ d. length (L.written spool.new) ≤ length (L.written spool.old) + image_length (S.content source.old) + 80 * d.pieces) }
+    ensures reads { IsTrue S.tells →
+        IfOk result (λ d. S.given source.new ≤ S.given source.old + 8 * image_length (S.content source.old)
+        + 128 * (d.pieces + 1)) }
+    ensures long { IsTrue S.tells →
+        IfOk result (λ d. length (L.written spool.new)
+        ≤ length (L.written spool.old) + image_length (S.content source.old) + 80 * d.pieces) }
     ensures costs { Costs S.tells (sparse_image (S.content source.old)) limit 0 512 0 result
         (counts S.Source L.Input L.Output L.Spool.own P.Partition.own source.old spool.old partition.old)
         (counts S.Source L.Input L.Output L.Spool.own P.Partition.own source.new spool.new partition.new) m.old m.new }
@@ -133,7 +154,8 @@ pub fn resume<S: Source, L: Spool, P: Partition>(
     requires capacity { limit ≤ L.size spool.old }
     // What is answered.
     ensures granted { IsTrue S.tells → OnOk result (Fits (S.content source.old) limit (P.size partition.old)) }
-    ensures refused { IfErr result (λ e. SparseRefused e (S.content source.old) limit (P.size partition.old) (from_piece - 1) S.tells L.tells
+    ensures refused { IfErr result (λ e. SparseRefused e (S.content source.old) limit (P.size partition.old)
+        (from_piece - 1) S.tells L.tells
         (counts S.Source L.Input L.Output L.Spool.own P.Partition.own source.old spool.old partition.old)
         (counts S.Source L.Input L.Output L.Spool.own P.Partition.own source.new spool.new partition.new)) }
     ensures early { OnEarly result ((spool.new ≡ spool.old) × (partition.new ≡ partition.old)) }
@@ -151,16 +173,22 @@ pub fn resume<S: Source, L: Spool, P: Partition>(
         (spool_state L.Input L.Output L.Spool.own spool.old) (spool_state L.Input L.Output L.Spool.own spool.new) }
     ensures partition { LaysBlocks S.tells L.tells P.tells
         (sparse_image (S.content source.old)) limit (from_piece - 1) result
-        (partition_state P.Source P.Partition.own partition.old) (partition_state P.Source P.Partition.own partition.new) }
+        (partition_state P.Source P.Partition.own partition.old)
+        (partition_state P.Source P.Partition.own partition.new) }
     // What stays.
     ensures mends { IsTrue S.tells → IsTrue L.tells → IsTrue P.tells → MendsBlocks
         (sparse_image (S.content source.old)) limit (from_piece - 1) result
-        (partition_state P.Source P.Partition.own partition.old) (partition_state P.Source P.Partition.own partition.new) }
+        (partition_state P.Source P.Partition.own partition.old)
+        (partition_state P.Source P.Partition.own partition.new) }
     ensures content { IsTrue S.tells → S.content source.new ≡ S.content source.old }
     ensures frame { S.read_frame source.new ≡ S.read_frame source.old }
     // What it cost.
-    ensures reads { IsTrue S.tells → IfOk result (λ d. S.given source.new ≤ S.given source.old + 8 * image_length (S.content source.old) + 128 * ((from_piece - 1) + d.pieces + 1)) }
-    ensures long { IsTrue S.tells → IfOk result (λ d. length (L.written spool.new) ≤ length (L.written spool.old) + image_length (S.content source.old) + 80 * d.pieces) }
+    ensures reads { IsTrue S.tells →
+        IfOk result (λ d. S.given source.new ≤ S.given source.old + 8 * image_length (S.content source.old)
+        + 128 * ((from_piece - 1) + d.pieces + 1)) }
+    ensures long { IsTrue S.tells →
+        IfOk result (λ d. length (L.written spool.new)
+        ≤ length (L.written spool.old) + image_length (S.content source.old) + 80 * d.pieces) }
     ensures costs { Costs S.tells (sparse_image (S.content source.old)) limit 0 512 (from_piece - 1) result
         (counts S.Source L.Input L.Output L.Spool.own P.Partition.own source.old spool.old partition.old)
         (counts S.Source L.Input L.Output L.Spool.own P.Partition.own source.new spool.new partition.new) m.old m.new }

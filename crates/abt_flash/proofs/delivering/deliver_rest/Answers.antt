@@ -1,16 +1,17 @@
 use Rattle.std.proofs.Common.{◌≡◌, ℕ, ◌+◌, ◌-◌, ◌*◌, ◌≤◌, ◌<◌, ◌^◌, ◌++◌, List, length, Err, refl, sym, ap, ◌∙◌, arith, inl, inr, length-append, append-nil}
 use Rattle.std.specs.List.{concat}
-use Rattle.abt_sparse.specs.Block.{Block, IsBlockSize}
+use Rattle.abt_sparse.specs.Block.{Block, IsBlockSize, cells, over}
 use Rattle.abt_sparse.specs.Laws.{flashed_all}
+use Rattle.abt_pieces.specs.Gather.{frame}
 use Rattle.abt_pieces.specs.Outline.{piece_at}
 use Rattle.abt_pieces.specs.Plan.{FirstPiece}
 use Rattle.abt_pieces.specs.Cutter.{has_more}
 use Rattle.abt_pieces.specs.SpentStage.{all_passes}
 use Rattle.abt_pieces.specs.declared.stage.Stage.{Stage}
 use Rattle.abt_pieces.specs.declared.stage.Stage.TheVariants.{Between, Done}
-use Rattle.abt_flash.specs.Delivering.{with_cuts}
+use Rattle.abt_flash.specs.Delivering.{blocks_in_first, blocks_up_to, with_cuts}
 use Rattle.abt_flash.specs.Going.{StandsAt, Unbroken, frames_left, pieces_left, words_so_far}
-use Rattle.abt_flash.proofs.Left.{behind, frames_more, pieces_more, written_more, pieces_behind_are, laid_left, stands_left, one_left, pieces_front}
+use Rattle.abt_flash.proofs.Left.{behind, first_more, laid_first, laid_next, frames_more, pieces_more, written_more, pieces_behind_are, laid_left, stands_left, one_left, pieces_front}
 use Rattle.abt_flash.proofs.Onward.{unbroken_first, unbroken_more, still_between, now_done, few_more, words_more, spent_more, spent_last, spent_whole}
 use Rattle.abt_flash.proofs.Spooled.{fits_none, fits_then, written_then, begins_then, cuts_then}
 use Rattle.abt_flash.specs.Delivering.{unsynced_by}
@@ -20,6 +21,7 @@ use Rattle.abt_flash.specs.declared.fault.Cause.{Cause}
 use Rattle.abt_flash.specs.declared.fault.Cause.TheVariants as causes
 use Rattle.abt_flash.specs.declared.fault.FlashFault.TheVariants.{Stopped}
 use Rattle.abt_flash.proofs.Refusing.{stops_since}
+use Rattle.abt_flash.proofs.Summing.{both_flashed, stopped_unsynced}
 use Rattle.abt_flash.proofs.Staying.{staying_first, staying_more, staying_stop, staying_now, staying_last}
 use Rattle.abt_flash.proofs.delivering.deliver_rest.Goals as goal
 
@@ -48,6 +50,7 @@ pieces-init g c =
       written = λ tells. ap (λ (st : Stage). g.L.Output.written c.args.spool.now ++ concat (pieces_left most b all s st)) is;
       cuts = λ tells. ap (λ (st : Stage). with_cuts (g.L.Spool.cuts c.args.spool.now) (length (g.L.Output.written c.args.spool.now)) (pieces_left most b all s st)) is;
       laid = λ tells spool partition. ap (λ (st : Stage). flashed_all b (g.P.Source.content c.args.partition.now) (frames_left most b all s st)) is;
+      so_far = λ tells spool partition. (omega arith, laid_first b (g.P.Source.content c.args.partition.now) all s);
       stays = λ tells spool partition p done le h.
           let long = g.met.R.BlockRuns.long c.args.cutter.now.runs _ (c.requires.opened tells) in
           let within = g.met.R.BlockRuns.bounded c.args.cutter.now.runs _ c.args.cutter.now.sound.within in
@@ -131,6 +134,12 @@ pieces-preserved g c =
           ap (λ (p : List ℕ). flashed_all b p (frames_left most b all next st)) (rw (i.runs, i.kept tells) at (o.laid tells spool partition))
           ∙ sym (ap (λ (fs : List (List Block)). flashed_all b (g.P.Source.content c.pieces.partition) fs) more)
           ∙ i.laid tells spool partition;
+      so_far = λ tells spool partition.
+          let h : FirstPiece b all most s next = rw (i.runs, i.kept tells, i.limit) at (o.greatest_end tells) in
+          let good = g.met.R.BlockRuns.are_blocks c.args.cutter.now.runs _ (c.requires.opened tells) in
+          let before = i.so_far tells spool partition in
+          let from = before.0 in
+          (omega (arith, from, h.order), laid_next b (g.P.Source.content c.args.partition.now) (g.P.Source.content c.pieces.partition) (g.P.Source.content c.deliver_piece.new.partition) all c.args.cutter.now.start.block s next (g.met.R.BlockRuns.sized c.args.cutter.now.runs).1 good from h.order h.within before.1 (rw (i.runs, i.kept tells) at (o.laid tells spool partition)));
       stays = λ tells spool partition p done le entry.
           let h : FirstPiece b all most s next = rw (i.runs, i.kept tells, i.limit) at (o.greatest_end tells) in
           let long = g.met.R.BlockRuns.long c.args.cutter.now.runs _ (c.requires.opened tells) in
@@ -266,8 +275,9 @@ returns-then-not-more-clause-spent g c tells =
     let copies = g.met.R.BlockRuns.copied_fits c.args.cutter.now.runs c.pieces.cutter.start inside in
     let same = i.same_made in
     let order = i.order in
-    let d = c.pieces.cutter.made - c.args.cutter.now.made in
-    spent_whole (g.S.Source.given c.args.source.now) (g.S.Source.given c.pieces.source) (passes c.args.cutter.now.start) 0 (passes c.pieces.cutter.start) c.args.cutter.now.made c.pieces.cutter.made d one (g.R.BlockRuns.pass c.args.cutter.now.runs) (g.R.BlockRuns.image c.args.cutter.now.runs) (omega (arith, order)) (omega (arith, most, copies)) (i.spent_end tells is)
+    let d = c.delivered.result.pieces in
+    let all = c.delivered.ensures in
+    spent_whole (g.S.Source.given c.args.source.now) (g.S.Source.given c.pieces.source) (passes c.args.cutter.now.start) 0 (passes c.pieces.cutter.start) c.args.cutter.now.made c.pieces.cutter.made d one (g.R.BlockRuns.pass c.args.cutter.now.runs) (g.R.BlockRuns.image c.args.cutter.now.runs) (omega (arith, order, same, all)) (omega (arith, most, copies)) (i.spent_end tells is)
 
 -- ---- where a piece was stopped
 
@@ -284,14 +294,40 @@ pub returns-in-Err-clause-unsynced : goal.returns-in-Err-clause-unsynced
 returns-in-Err-clause-unsynced g c =
     let i = c.pieces.invariant in
     let one = c.in-Err.ensures.unsynced in
-    let same = refused_stop (c.pieces.cutter.made + 1) c.in-Err.cause in
+    let same = refused_stop c.next_number-piece.result c.in-Err.cause in
     omega (arith, one, same, i.unsynced)
+
+pub returns-in-Err-clause-laid_up_to : goal.returns-in-Err-clause-laid_up_to
+returns-in-Err-clause-laid_up_to g c tells spool partition =
+    let i = c.pieces.invariant in
+    let e = c.in-Err.ensures in
+    let b = g.R.BlockRuns.size c.args.cutter.now.runs in
+    let all = g.R.BlockRuns.list c.args.cutter.now.runs (g.S.Source.content c.args.source.now) in
+    let most = c.args.cutter.now.limit in
+    let s = c.pieces.cutter.start.block in
+    let next = c.deliver_piece.new.cutter.start.block in
+    let is : c.pieces.cutter.stage ≡ Between = still_between _ _ _ _ i.unbroken (sym c.more.ensures ∙ c.if-not-more.false) in
+    let long = g.met.R.BlockRuns.long c.args.cutter.now.runs _ (c.requires.opened tells) in
+    let good = g.met.R.BlockRuns.are_blocks c.args.cutter.now.runs _ (c.requires.opened tells) in
+    let within : s ≤ g.R.BlockRuns.count c.args.cutter.now.runs = rw i.runs at (g.met.R.BlockRuns.bounded c.pieces.cutter.runs _ c.pieces.cutter.sound.within) in
+    let here = behind most b all c.pieces.cutter.made s Between (rw (i.limit, is) at (i.told tells).cuts) (inl refl) (omega (arith, long, within)) in
+    let before = i.so_far tells spool partition in
+    let ends = rw (i.runs, i.kept tells, i.limit) at (e.greatest_end tells) in
+    let laid = rw (i.runs, i.kept tells) at (e.laid tells spool partition) in
+    let old = g.P.Source.content c.args.partition.now in
+    let new = g.P.Source.content c.deliver_piece.new.partition in
+    let first = c.args.cutter.now.start.block in
+    let P = λ (j : ℕ). new ≡ over old (cells b (blocks_up_to first (blocks_in_first most b all j) all)) in
+    stopped_unsynced c.next_number-piece.result c.in-Err.cause (FirstPiece b all most s next × (new ≡ over (g.P.Source.content c.pieces.partition) (cells b (frame all s next)))) P
+    (λ both. rw (c.next_number-piece.ensures, first_more most b all c.pieces.cutter.made s next here both.0) (laid_next b old (g.P.Source.content c.pieces.partition) new all first s next (g.met.R.BlockRuns.sized c.args.cutter.now.runs).1 good before.0 both.0.order both.0.within before.1 both.1))
+    (both_flashed c.in-Err.cause _ _ ends laid)
 
 pub returns-in-Err-clause-stops : goal.returns-in-Err-clause-stops
 returns-in-Err-clause-stops g c =
     let i = c.pieces.invariant in
     let order = i.order in
-    (omega (arith, order), stops_since c.in-Err.cause _ _ _ _ _ (record { read = omega (arith, i.read_faults); write = omega (arith, i.write_faults); spool = omega (arith, i.spool_faults); put = omega (arith, i.put_faults) }) c.in-Err.ensures.cause)
+    let next = c.next_number-piece.ensures in
+    (omega (arith, order, next), stops_since c.in-Err.cause _ _ _ _ _ (record { read = omega (arith, i.read_faults); write = omega (arith, i.write_faults); spool = omega (arith, i.spool_faults); put = omega (arith, i.put_faults) }) c.in-Err.ensures.cause)
 
 pub returns-in-Err-clause-counted : goal.returns-in-Err-clause-counted
 returns-in-Err-clause-counted g c tells =
@@ -299,7 +335,8 @@ returns-in-Err-clause-counted g c tells =
     let b = g.R.BlockRuns.size c.args.cutter.now.runs in
     let all = g.R.BlockRuns.list c.args.cutter.now.runs (g.S.Source.content c.args.source.now) in
     let is : c.pieces.cutter.stage ≡ Between = still_between _ _ _ _ i.unbroken (sym c.more.ensures ∙ c.if-not-more.false) in
-    one_left c.args.cutter.now.limit b all c.pieces.cutter.made c.pieces.cutter.start.block (rw (i.limit, is) at (i.told tells).cuts)
+    let left = one_left c.args.cutter.now.limit b all c.pieces.cutter.made c.pieces.cutter.start.block (rw (i.limit, is) at (i.told tells).cuts) in
+    rw c.next_number-piece.ensures left
 
 pub returns-in-Err-clause-fits : goal.returns-in-Err-clause-fits
 returns-in-Err-clause-fits g c = fits_then _ _ _ _ _ _ _ c.pieces.invariant.fits (rw c.pieces.invariant.limit at c.deliver_piece.ensures.fits)

@@ -2,12 +2,13 @@ use Rattle.std.proofs.Common.{◌≡◌, ℕ, List, [], ◌≤◌, ◌<◌, ◌+
 use Rattle.std.specs.Prelude.{IsTrue}
 use Rattle.std.specs.List.{concat}
 use Rattle.abt_io.specs.Moment.{moment_of}
+use Rattle.abt_sparse.specs.Block.{over, cells as laid_cells}
 use Rattle.abt_sparse.specs.Laws.{flashed_all}
 use Rattle.abt_pieces.specs.Contents.{written_in}
 use Rattle.abt_pieces.specs.Cutter.{ToldCutter}
 use Rattle.abt_pieces.specs.SpentStage.{all_passes}
 use Rattle.abt_pieces.specs.declared.stage.Stage.TheVariants.{Between, Done}
-use Rattle.abt_flash.specs.Delivering.{LeavesMendable, PiecesFit, with_cuts}
+use Rattle.abt_flash.specs.Delivering.{LeavesMendable, PiecesFit, blocks_up_to, with_cuts}
 use Rattle.abt_flash.specs.Going.{Staying, Unbroken, bytes_in, calls_in, frames_left, pieces_left, words_so_far}
 use Rattle.abt_flash.proofs.delivering.deliver_rest.Given as goal
 
@@ -44,6 +45,7 @@ invariant-pieces g l =
       written : IsTrue g.S.Source.tells → bytes l.spool ++ concat (pieces_left most b all l.cutter.start.block l.cutter.stage) ≡ bytes l.fn.spool ++ concat (pieces_left most b all l.fn.cutter.start.block Between);
       cuts : IsTrue g.S.Source.tells → with_cuts (clears l.spool) (length (bytes l.spool)) (pieces_left most b all l.cutter.start.block l.cutter.stage) ≡ with_cuts (clears l.fn.spool) (length (bytes l.fn.spool)) (pieces_left most b all l.fn.cutter.start.block Between);
       laid : IsTrue g.S.Source.tells → IsTrue g.L.Input.tells → IsTrue g.P.Source.tells → flashed_all b (cells l.partition) (frames_left most b all l.cutter.start.block l.cutter.stage) ≡ flashed_all b (cells l.fn.partition) (frames_left most b all l.fn.cutter.start.block Between);
+      so_far : IsTrue g.S.Source.tells → IsTrue g.L.Input.tells → IsTrue g.P.Source.tells → (l.fn.cutter.start.block ≤ l.cutter.start.block) × (cells l.partition ≡ over (cells l.fn.partition) (laid_cells b (blocks_up_to l.fn.cutter.start.block l.cutter.start.block all)));
       stays : IsTrue g.S.Source.tells → IsTrue g.L.Input.tells → IsTrue g.P.Source.tells → (p : List ℕ) (done : ℕ) → l.fn.cutter.made ≤ done → LeavesMendable most b all p done (moment_of (past l.fn.partition) (cells l.fn.partition)) → Staying most b all p l.fn.cutter.made (past l.fn.partition).synced l.cutter.start.block (past l.fn.partition).moments (past l.partition) (cells l.partition);
       settled : IsTrue g.P.Source.tells → l.fn.cutter.made < l.cutter.made → (past l.partition).pending ≡ [];
       synced : (past l.partition).synced + l.fn.cutter.made ≡ (past l.fn.partition).synced + l.cutter.made;

@@ -1,9 +1,79 @@
-use Rattle.std.proofs.Common.{◌≡◌, refl, sym, ◌∙◌, arith}
+use Rattle.std.proofs.Common.{◌≡◌, ◌<◌, ◌≤◌, ◌+◌, refl, sym, ap, ◌∙◌, arith}
+use Rattle.abt_pieces.specs.Cutter.{has_more}
 use Rattle.abt_pieces.specs.declared.stage.Stage.TheVariants.{Between}
+use Rattle.abt_flash.specs.Going.{StandsAt, words_so_far}
 use Rattle.abt_flash.proofs.Left.{one_left}
-use Rattle.abt_flash.proofs.Onward.{still_between, words_most, words_one}
+use Rattle.abt_flash.proofs.Onward.{charged_more, few_more, passed_stands, still_between, unbroken_more, words_more, words_most, words_one}
 use Rattle.abt_flash.proofs.Records.{plan_begins}
 use Rattle.abt_flash.proofs.delivering.plan_pieces.Goals as goal
+
+pub pieces-preserved : goal.pieces-preserved
+pieces-preserved g c =
+    let i = c.pieces.invariant in
+    let e = c.skip_piece.ensures in
+    let o = c.in-Ok-Some.ensures in
+    let n = g.R.BlockRuns.count c.args.cutter.now.runs in
+    let one = g.R.BlockRuns.one c.args.cutter.now.runs in
+    let charge = g.R.BlockRuns.charge c.args.cutter.now.runs in
+    let given = g.S.Source.given in
+    let s = c.pieces.cutter.start.block in
+    let next = c.skip_piece.new.self.start.block in
+    let st = c.skip_piece.new.self.stage in
+    let is : c.pieces.cutter.stage ≡ Between = still_between _ _ _ _ i.unbroken (sym c.more.ensures ∙ c.if-not-more.false) in
+    let p = rw c.in-Ok-Some.field-0-is at o.piece in
+    let made : c.skip_piece.new.self.made ≡ c.pieces.cutter.made + 1 = p.3 in
+    let passed = rw (i.runs, p.0, p.1) at (rw c.in-Ok-Some.field-0-is at o.passed) in
+    let at : StandsAt n next st = passed_stands n s next st passed in
+    let left : c.pieces.cutter.made ≤ s = c.pieces.cutter.sound.left (ap has_more is) in
+    let inside = i.unbroken.between is in
+    let less : c.pieces.cutter.made < c.args.before = rw c.if-are_planned.false at c.are_planned.ensures in
+    let words = words_more one n s next st passed.moves at in
+    record {
+      runs = e.runs ∙ i.runs;
+      limit = e.limit ∙ i.limit;
+      told = λ tells. rw (i.runs, i.kept tells) at (e.told tells);
+      kept = λ tells. e.content tells ∙ i.kept tells;
+      frame = e.frame ∙ i.frame;
+      unbroken = rw made (unbroken_more n c.pieces.cutter.made next st at);
+      few = rw made (few_more n c.pieces.cutter.made s left inside);
+      planned = omega (arith, made, less);
+      given = omega (arith, i.given, e.given);
+      charged =
+          let more = rw i.runs at (rw c.in-Ok-Some.field-0-is at o.charged) in
+          charged_more (given c.args.source.now) (given c.pieces.source) (given c.skip_piece.new.source) (charge c.args.cutter.now.start) (charge c.pieces.cutter.start) (charge c.skip_piece.new.self.start) c.pieces.cutter.made c.skip_piece.new.self.made one made more i.charged;
+      calls = omega (arith, e.calls, e.given, i.calls, made);
+      turns =
+          let more = rw (i.runs, p.1) at (rw c.in-Ok-Some.field-0-is at o.words) in
+          let before = rw is at i.turns in
+          omega (arith, more, words, before, e.given, c.tick.ensures.turns, made);
+      steps = omega (arith, e.steps, e.given, i.steps, c.tick.ensures.steps);
+      greatest = omega (arith, e.received, i.greatest, c.tick.ensures.greatest);
+      faults = o.clean ∙ i.faults;
+    }
+
+-- ---- where all have been planned
+
+pub returns-then-are_planned-clause-planned : goal.returns-then-are_planned-clause-planned
+returns-then-are_planned-clause-planned g c =
+    let i = c.pieces.invariant in
+    let all : c.args.before ≤ c.pieces.cutter.made = rw c.if-are_planned.true at c.are_planned.ensures in
+    (still_between _ _ _ _ i.unbroken (sym c.more.ensures ∙ c.if-not-more.false), omega (arith, all, i.planned))
+
+pub returns-then-are_planned-clause-charged : goal.returns-then-are_planned-clause-charged
+returns-then-are_planned-clause-charged g c =
+    let i = c.pieces.invariant in
+    let all : c.args.before ≤ c.pieces.cutter.made = rw c.if-are_planned.true at c.are_planned.ensures in
+    let same : c.pieces.cutter.made ≡ c.args.before = omega (arith, all, i.planned) in
+    let charged = rw same at i.charged in
+    omega (arith, charged)
+
+pub returns-then-are_planned-clause-costs : goal.returns-then-are_planned-clause-costs
+returns-then-are_planned-clause-costs g c =
+    let i = c.pieces.invariant in
+    let all : c.args.before ≤ c.pieces.cutter.made = rw c.if-are_planned.true at c.are_planned.ensures in
+    let same : c.pieces.cutter.made ≡ c.args.before = omega (arith, all, i.planned) in
+    let words = words_most (g.R.BlockRuns.one c.args.cutter.now.runs) (g.R.BlockRuns.count c.args.cutter.now.runs) c.pieces.cutter.start.block c.pieces.cutter.stage i.unbroken.stands in
+    record { begun = c.args.before; counted = refl; calls = omega (arith, i.calls, same); turns = omega (arith, i.turns, words, same, c.tick.ensures.turns) }
 
 pub returns-then-not-more-clause-costs : goal.returns-then-not-more-clause-costs
 returns-then-not-more-clause-costs g c =

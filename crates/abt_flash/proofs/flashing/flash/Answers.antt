@@ -47,25 +47,25 @@ steps-preserved g c =
     let e = c.step.ensures in
     let m = c.in-Ok-More.ensures in
     let more : c.step.result ≡ Ok More = c.in-Ok-More.is ∙ ap (λ (p : Progress). let r : Result Progress FlashFault = Ok p in r) c.in-Ok-More.field-0-is in
-    let few : c.step.new.m.turns.number + 2 * g.P.Partition.taken c.steps.partition ≤ c.tick.new.self.turns.number + (g.I.Input.given c.step.new.input - g.I.Input.given c.steps.input) + 2 * g.P.Partition.taken c.step.new.partition + 2 = rw more at c.step.ensures.few in
-    let progress : idle c.step.new.self.walk + 1 ≤ idle c.steps.machine.walk + 2 * (g.I.Input.given c.step.new.input - g.I.Input.given c.steps.input) + 2 * (g.P.Partition.taken c.step.new.partition - g.P.Partition.taken c.steps.partition) = rw more at c.step.ensures.progress in
+    let few : c.step.new.m.turns.number + 2 * g.P.Partition.taken c.steps.partition ≤ c.tick.new.self.turns.number + (g.I.Input.given c.step.new.input - g.I.Input.given c.steps.input) + 2 * g.P.Partition.taken c.step.new.partition + 2 = rw more at c.step.ensures.costs.few in
+    let progress : idle c.step.new.self.walk + 1 ≤ idle c.steps.machine.walk + 2 * (g.I.Input.given c.step.new.input - g.I.Input.given c.steps.input) + 2 * (g.P.Partition.taken c.step.new.partition - g.P.Partition.taken c.steps.partition) = rw more at c.step.ensures.costs.progress in
     let stage = rw more at c.step.ensures.stage in
     let body = rw c.in-Ok-More.field-0-is at (m.leaves i.goes) in
-    let quiet : (g.P.Partition.past c.step.new.partition).synced ≡ (g.P.Partition.past c.steps.partition).synced = let q = rw (more, not_done c.steps.machine.stage) at c.step.ensures.synced in omega (arith, q) in
+    let quiet : (g.P.Partition.past c.step.new.partition).synced ≡ (g.P.Partition.past c.steps.partition).synced = let q = rw (more, not_done c.steps.machine.stage) at c.step.ensures.syncs.synced in omega (arith, q) in
     let clean : (g.I.Input.read_faults c.step.new.input ≡ g.I.Input.read_faults c.steps.input) × (g.P.Partition.put_faults c.step.new.partition ≡ g.P.Partition.put_faults c.steps.partition) = rw more at (e.cause i.goes) in
     let going = going_phase c.steps.machine.stage c.steps.machine.walk.phase i.goes in
-    let fresh = rw c.in-Ok-More.field-0-is at (m.fresh i.goes) in
-    let begins = rw c.in-Ok-More.field-0-is at m.begins in
+    let fresh = rw c.in-Ok-More.field-0-is at (m.goes_on.fresh i.goes) in
+    let begins = rw c.in-Ok-More.field-0-is at m.goes_on.begins in
     let measures = rw (c.in-Ok-More.field-0-is, i.size) at (m.measures i.goes) in
     let k = g.I.Input.given c.steps.input - g.I.Input.given c.args.input.now in
     let n = g.I.Input.given c.step.new.input - g.I.Input.given c.steps.input in
     let j = g.I.Input.given c.step.new.input - g.I.Input.given c.args.input.now in
     let rem = g.I.Input.remaining c.args.input.now in
-    let rest = λ (tells : IsTrue g.I.Input.tells). rest_more rem (g.I.Input.remaining c.steps.input) (g.I.Input.remaining c.step.new.input) k n j (i.rest tells) (e.rest tells) (let q : j ≡ k + n = omega arith in q) in
+    let rest = λ (tells : IsTrue g.I.Input.tells). rest_more rem (g.I.Input.remaining c.steps.input) (g.I.Input.remaining c.step.new.input) k n j (i.rest tells) (e.read.rest tells) (let q : j ≡ k + n = omega arith in q) in
     record {
       read = omega arith;
       present = λ tells.
-          let here : g.I.Input.given c.step.new.input - g.I.Input.given c.steps.input ≤ length (g.I.Input.remaining c.steps.input) = e.present tells in
+          let here : g.I.Input.given c.step.new.input - g.I.Input.given c.steps.input ≤ length (g.I.Input.remaining c.steps.input) = e.read.present tells in
           let long : length (g.I.Input.remaining c.steps.input) ≡ length rem - k = ap length (i.rest tells) ∙ length-drop k rem in
           let before : k ≤ length rem = i.present tells in
           omega arith;
@@ -75,7 +75,7 @@ steps-preserved g c =
           _ _ _ _ _ _ _ _ _ _ _ (i.rest tells) (let q : j ≡ k + n = omega arith in q) i.synced (i.told tells) (rw c.in-Ok-More.field-0-is at (m.told tells)) (m.laid i.goes) (rest tells) (rw c.in-Ok-More.field-0-is at (m.heads tells i.goes))
           begins measures going quiet;
       fresh = λ f. let q = fresh f in q.1 ∙ i.fresh q.0;
-      measured = λ b some. need_stays c.steps.machine.walk c.step.new.self.walk _ going (begins some) (rw c.in-Ok-More.field-0-is at m.header) (measures (begins some));
+      measured = λ b some. need_stays c.steps.machine.walk c.step.new.self.walk _ going (begins some) (rw c.in-Ok-More.field-0-is at m.goes_on.header) (measures (begins some));
       synced = quiet ∙ i.synced;
       size = e.size ∙ i.size;
       unread = (e.unread.0 ∙ i.unread.0, e.unread.1 ∙ i.unread.1, e.unread.2 ∙ i.unread.2);
@@ -83,15 +83,15 @@ steps-preserved g c =
       frame = e.frame ∙ i.frame;
       read_faults = clean.0 ∙ i.read_faults;
       put_faults = clean.1 ∙ i.put_faults;
-      syncs = let q = rw more at (e.refused_syncs i.goes) in omega (arith, q, quiet, i.syncs);
+      syncs = let q = rw more at (e.syncs.refused i.goes) in omega (arith, q, quiet, i.syncs);
       calls = omega arith;
       turns = omega arith;
       steps = omega arith;
       greatest = omega arith;
     }
 
-pub returns-in-Ok-Done-clause-kept : goal.returns-in-Ok-Done-clause-kept
-returns-in-Ok-Done-clause-kept g c tells =
+pub returns-in-Ok-Done-clause-touches : goal.returns-in-Ok-Done-clause-touches
+returns-in-Ok-Done-clause-touches g c tells partition =
     let i = c.steps.invariant in
     let e = c.step.ensures in
     let k = g.I.Input.given c.steps.input - g.I.Input.given c.args.input.now in
@@ -99,22 +99,10 @@ returns-in-Ok-Done-clause-kept g c tells =
     let j = g.I.Input.given c.step.new.input - g.I.Input.given c.args.input.now in
     let rem = g.I.Input.remaining c.args.input.now in
     let same : j ≡ k + n = omega arith in
-    let rest = rest_more rem (g.I.Input.remaining c.steps.input) (g.I.Input.remaining c.step.new.input) k n j (i.rest tells) (e.rest tells) same in
-    ends_kept _ _ _ _ _ _ _ _ _ _ _ _ _ (ends g.P.Source.tells c.steps.machine.stage c.steps.machine.walk c.step.new.self.walk rem (g.I.Input.remaining c.steps.input) (g.I.Input.remaining c.step.new.input) k n j (g.P.Source.size c.args.partition.now)
-    _ _ _ _ _ _ _ _ _ _ c.step.result (i.rest tells) same i.synced (i.told tells) (e.told tells) c.step.new.self.laid rest (e.laid i.goes))
-
-pub returns-in-Ok-Done-clause-moments : goal.returns-in-Ok-Done-clause-moments
-returns-in-Ok-Done-clause-moments g c tells =
-    let i = c.steps.invariant in
-    let e = c.step.ensures in
-    let k = g.I.Input.given c.steps.input - g.I.Input.given c.args.input.now in
-    let n = g.I.Input.given c.step.new.input - g.I.Input.given c.steps.input in
-    let j = g.I.Input.given c.step.new.input - g.I.Input.given c.args.input.now in
-    let rem = g.I.Input.remaining c.args.input.now in
-    let same : j ≡ k + n = omega arith in
-    let rest = rest_more rem (g.I.Input.remaining c.steps.input) (g.I.Input.remaining c.step.new.input) k n j (i.rest tells) (e.rest tells) same in
-    ends_moments _ _ _ _ _ _ _ _ _ _ _ _ _ (ends g.P.Source.tells c.steps.machine.stage c.steps.machine.walk c.step.new.self.walk rem (g.I.Input.remaining c.steps.input) (g.I.Input.remaining c.step.new.input) k n j (g.P.Source.size c.args.partition.now)
-    _ _ _ _ _ _ _ _ _ _ c.step.result (i.rest tells) same i.synced (i.told tells) (e.told tells) c.step.new.self.laid rest (e.laid i.goes))
+    let rest = rest_more rem (g.I.Input.remaining c.steps.input) (g.I.Input.remaining c.step.new.input) k n j (i.rest tells) (e.read.rest tells) same in
+    let ended = (ends g.P.Source.tells c.steps.machine.stage c.steps.machine.walk c.step.new.self.walk rem (g.I.Input.remaining c.steps.input) (g.I.Input.remaining c.step.new.input) k n j (g.P.Source.size c.args.partition.now)
+    _ _ _ _ _ _ _ _ _ _ c.step.result (i.rest tells) same i.synced (i.told tells) (e.told tells) c.step.new.self.laid rest (e.laid i.goes)) in
+    record { kept = ends_kept _ _ _ _ _ _ _ _ _ _ _ _ _ ended partition; moments = ends_moments _ _ _ _ _ _ _ _ _ _ _ _ _ ended partition }
 
 pub returns-in-Ok-Done-clause-seen : goal.returns-in-Ok-Done-clause-seen
 returns-in-Ok-Done-clause-seen g c tells =
@@ -125,12 +113,12 @@ returns-in-Ok-Done-clause-seen g c tells =
     let j = g.I.Input.given c.step.new.input - g.I.Input.given c.args.input.now in
     let rem = g.I.Input.remaining c.args.input.now in
     let same : j ≡ k + n = omega arith in
-    let rest = rest_more rem (g.I.Input.remaining c.steps.input) (g.I.Input.remaining c.step.new.input) k n j (i.rest tells) (e.rest tells) same in
+    let rest = rest_more rem (g.I.Input.remaining c.steps.input) (g.I.Input.remaining c.step.new.input) k n j (i.rest tells) (e.read.rest tells) same in
     ends_seen _ _ _ _ _ _ _ _ _ _ _ _ _ (ends g.P.Source.tells c.steps.machine.stage c.steps.machine.walk c.step.new.self.walk rem (g.I.Input.remaining c.steps.input) (g.I.Input.remaining c.step.new.input) k n j (g.P.Source.size c.args.partition.now)
     _ _ _ _ _ _ _ _ _ _ c.step.result (i.rest tells) same i.synced (i.told tells) (e.told tells) c.step.new.self.laid rest (e.laid i.goes))
 
-pub returns-in-Err-clause-kept : goal.returns-in-Err-clause-kept
-returns-in-Err-clause-kept g c tells =
+pub returns-in-Err-clause-touches : goal.returns-in-Err-clause-touches
+returns-in-Err-clause-touches g c tells partition =
     let i = c.steps.invariant in
     let e = c.step.ensures in
     let k = g.I.Input.given c.steps.input - g.I.Input.given c.args.input.now in
@@ -138,22 +126,10 @@ returns-in-Err-clause-kept g c tells =
     let j = g.I.Input.given c.step.new.input - g.I.Input.given c.args.input.now in
     let rem = g.I.Input.remaining c.args.input.now in
     let same : j ≡ k + n = omega arith in
-    let rest = rest_more rem (g.I.Input.remaining c.steps.input) (g.I.Input.remaining c.step.new.input) k n j (i.rest tells) (e.rest tells) same in
-    ends_kept _ _ _ _ _ _ _ _ _ _ _ _ _ (ends g.P.Source.tells c.steps.machine.stage c.steps.machine.walk c.step.new.self.walk rem (g.I.Input.remaining c.steps.input) (g.I.Input.remaining c.step.new.input) k n j (g.P.Source.size c.args.partition.now)
-    _ _ _ _ _ _ _ _ _ _ c.step.result (i.rest tells) same i.synced (i.told tells) (e.told tells) c.step.new.self.laid rest (e.laid i.goes))
-
-pub returns-in-Err-clause-moments : goal.returns-in-Err-clause-moments
-returns-in-Err-clause-moments g c tells =
-    let i = c.steps.invariant in
-    let e = c.step.ensures in
-    let k = g.I.Input.given c.steps.input - g.I.Input.given c.args.input.now in
-    let n = g.I.Input.given c.step.new.input - g.I.Input.given c.steps.input in
-    let j = g.I.Input.given c.step.new.input - g.I.Input.given c.args.input.now in
-    let rem = g.I.Input.remaining c.args.input.now in
-    let same : j ≡ k + n = omega arith in
-    let rest = rest_more rem (g.I.Input.remaining c.steps.input) (g.I.Input.remaining c.step.new.input) k n j (i.rest tells) (e.rest tells) same in
-    ends_moments _ _ _ _ _ _ _ _ _ _ _ _ _ (ends g.P.Source.tells c.steps.machine.stage c.steps.machine.walk c.step.new.self.walk rem (g.I.Input.remaining c.steps.input) (g.I.Input.remaining c.step.new.input) k n j (g.P.Source.size c.args.partition.now)
-    _ _ _ _ _ _ _ _ _ _ c.step.result (i.rest tells) same i.synced (i.told tells) (e.told tells) c.step.new.self.laid rest (e.laid i.goes))
+    let rest = rest_more rem (g.I.Input.remaining c.steps.input) (g.I.Input.remaining c.step.new.input) k n j (i.rest tells) (e.read.rest tells) same in
+    let ended = (ends g.P.Source.tells c.steps.machine.stage c.steps.machine.walk c.step.new.self.walk rem (g.I.Input.remaining c.steps.input) (g.I.Input.remaining c.step.new.input) k n j (g.P.Source.size c.args.partition.now)
+    _ _ _ _ _ _ _ _ _ _ c.step.result (i.rest tells) same i.synced (i.told tells) (e.told tells) c.step.new.self.laid rest (e.laid i.goes)) in
+    record { kept = ends_kept _ _ _ _ _ _ _ _ _ _ _ _ _ ended partition; moments = ends_moments _ _ _ _ _ _ _ _ _ _ _ _ _ ended partition }
 
 pub returns-in-Err-clause-seen : goal.returns-in-Err-clause-seen
 returns-in-Err-clause-seen g c tells =
@@ -164,7 +140,7 @@ returns-in-Err-clause-seen g c tells =
     let j = g.I.Input.given c.step.new.input - g.I.Input.given c.args.input.now in
     let rem = g.I.Input.remaining c.args.input.now in
     let same : j ≡ k + n = omega arith in
-    let rest = rest_more rem (g.I.Input.remaining c.steps.input) (g.I.Input.remaining c.step.new.input) k n j (i.rest tells) (e.rest tells) same in
+    let rest = rest_more rem (g.I.Input.remaining c.steps.input) (g.I.Input.remaining c.step.new.input) k n j (i.rest tells) (e.read.rest tells) same in
     ends_seen _ _ _ _ _ _ _ _ _ _ _ _ _ (ends g.P.Source.tells c.steps.machine.stage c.steps.machine.walk c.step.new.self.walk rem (g.I.Input.remaining c.steps.input) (g.I.Input.remaining c.step.new.input) k n j (g.P.Source.size c.args.partition.now)
     _ _ _ _ _ _ _ _ _ _ c.step.result (i.rest tells) same i.synced (i.told tells) (e.told tells) c.step.new.self.laid rest (e.laid i.goes))
 
@@ -177,7 +153,7 @@ returns-in-Ok-Done-clause-flashes g c tells =
     let j = g.I.Input.given c.step.new.input - g.I.Input.given c.args.input.now in
     let rem = g.I.Input.remaining c.args.input.now in
     let same : j ≡ k + n = omega arith in
-    let rest = rest_more rem (g.I.Input.remaining c.steps.input) (g.I.Input.remaining c.step.new.input) k n j (i.rest tells) (e.rest tells) same in
+    let rest = rest_more rem (g.I.Input.remaining c.steps.input) (g.I.Input.remaining c.step.new.input) k n j (i.rest tells) (e.read.rest tells) same in
     let ended = rw c.in-Ok-Done.field-0-is at (c.in-Ok-Done.ensures.leaves i.goes) in
     let measures = rw (c.in-Ok-Done.field-0-is, i.size) at (c.in-Ok-Done.ensures.measures i.goes) in
     let going = going_phase c.steps.machine.stage c.steps.machine.walk.phase i.goes in
@@ -194,7 +170,7 @@ returns-in-Ok-Done-clause-holds g c tells t =
     let j = g.I.Input.given c.step.new.input - g.I.Input.given c.args.input.now in
     let rem = g.I.Input.remaining c.args.input.now in
     let same : j ≡ k + n = omega arith in
-    let rest = rest_more rem (g.I.Input.remaining c.steps.input) (g.I.Input.remaining c.step.new.input) k n j (i.rest tells) (e.rest tells) same in
+    let rest = rest_more rem (g.I.Input.remaining c.steps.input) (g.I.Input.remaining c.step.new.input) k n j (i.rest tells) (e.read.rest tells) same in
     let ended = rw c.in-Ok-Done.field-0-is at (c.in-Ok-Done.ensures.leaves i.goes) in
     done_holds _ c.steps.machine.walk _ _ _ _ _ _ _ _ _ _ _ (ends g.P.Source.tells c.steps.machine.stage c.steps.machine.walk c.step.new.self.walk rem (g.I.Input.remaining c.steps.input) (g.I.Input.remaining c.step.new.input) k n j (g.P.Source.size c.args.partition.now)
     _ _ _ _ _ _ _ _ _ _ (Ok Done) (i.rest tells) same i.synced (i.told tells) (rw c.in-Ok-Done.field-0-is at (c.in-Ok-Done.ensures.told tells)) c.step.new.self.laid rest (c.in-Ok-Done.ensures.laid i.goes)) ended t
@@ -208,7 +184,7 @@ returns-in-Err-clause-flashes g c tells =
     let j = g.I.Input.given c.step.new.input - g.I.Input.given c.args.input.now in
     let rem = g.I.Input.remaining c.args.input.now in
     let same : j ≡ k + n = omega arith in
-    let rest = rest_more rem (g.I.Input.remaining c.steps.input) (g.I.Input.remaining c.step.new.input) k n j (i.rest tells) (e.rest tells) same in
+    let rest = rest_more rem (g.I.Input.remaining c.steps.input) (g.I.Input.remaining c.step.new.input) k n j (i.rest tells) (e.read.rest tells) same in
     let m = c.in-Err.ensures in
     let going = going_phase c.steps.machine.stage c.steps.machine.walk.phase i.goes in
     fault_flashes _ _ _ _ _ _ _ _ _ _ _ _ _ _ _ _ _ _ _ _ (g.met.I.Input.are_bytes c.args.input.now tells) going (i.rest tells) (i.told tells) c.in-Err.fault (ends g.P.Source.tells c.steps.machine.stage c.steps.machine.walk c.step.new.self.walk rem (g.I.Input.remaining c.steps.input) (g.I.Input.remaining c.step.new.input) k n j (g.P.Source.size c.args.partition.now)
@@ -224,7 +200,7 @@ returns-in-Err-clause-holds g c tells t =
     let j = g.I.Input.given c.step.new.input - g.I.Input.given c.args.input.now in
     let rem = g.I.Input.remaining c.args.input.now in
     let same : j ≡ k + n = omega arith in
-    let rest = rest_more rem (g.I.Input.remaining c.steps.input) (g.I.Input.remaining c.step.new.input) k n j (i.rest tells) (e.rest tells) same in
+    let rest = rest_more rem (g.I.Input.remaining c.steps.input) (g.I.Input.remaining c.step.new.input) k n j (i.rest tells) (e.read.rest tells) same in
     let m = c.in-Err.ensures in
     let going = going_phase c.steps.machine.stage c.steps.machine.walk.phase i.goes in
     fault_holds _ _ _ _ _ _ _ _ _ _ _ _ _ _ _ _ _ _ _ _ (g.met.I.Input.are_bytes c.args.input.now tells) going (i.rest tells) (i.told tells) c.in-Err.fault (ends g.P.Source.tells c.steps.machine.stage c.steps.machine.walk c.step.new.self.walk rem (g.I.Input.remaining c.steps.input) (g.I.Input.remaining c.step.new.input) k n j (g.P.Source.size c.args.partition.now)

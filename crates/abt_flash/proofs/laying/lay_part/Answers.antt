@@ -1,85 +1,55 @@
-use Rattle.std.proofs.Common.{◌≡◌, ◌-◌, ◌*◌, ℕ, List, length, take, arith, ap, sym, ◌∙◌, replicate}
-use Rattle.std.specs.List.{concat}
-use Rattle.abt_sparse.specs.Block.{over}
-use Rattle.abt_io.proofs.Words.{length_words}
-use Rattle.abt_chunks.specs.declared.walk.Part.{Part}
-use Rattle.abt_chunks.specs.Ahead.{somes}
-use Rattle.abt_flash.specs.Laying.{cells_by, from_place, put_by}
-use Rattle.abt_flash.proofs.Cells.{gap_over, nothing_over, put_over}
-use Rattle.abt_flash.proofs.Moments.{during_put, during_sync, same_content}
+use Rattle.std.proofs.Common.{◌≡◌, ◌∙◌, arith}
+use Rattle.abt_flash.proofs.Tasks.{can_do, cause_answered, ends_answered, idle_still, laid_same, ok_answered, put_same, refused_answered, settles_part, sound_answered, syncs_answered, unless_answered}
 use Rattle.abt_flash.proofs.laying.lay_part.Goals as goal
 
-pub returns-in-Ok-clause-laid : goal.returns-in-Ok-clause-laid
-returns-in-Ok-clause-laid g c tells =
-    let n = c.in-Raw.n in
-    let w = c.args.w.now.bytes in
-    let p = g.P.Source.content c.args.partition.now in
-    let sized = g.met.P.Source.sized c.args.partition.now tells in
-    let fits = rw c.in-Raw.is at c.requires.fits in
-    let none : n - 0 ≡ n = omega arith in
-    let part : c.part.result.now ≡ take n w = c.part.ensures.value ∙ ap (λ (k : ℕ). take k w) none in
-    let long : length c.part.result.now ≡ n = c.part.ensures.long ∙ none in
-    c.in-Ok.ensures.written tells ∙ put_over c.args.at p c.part.result.now (omega (arith, sized, fits, long))
-    ∙ ap (λ (x : List ℕ). over p (from_place c.args.at (somes x))) part
-    ∙ ap (λ (q : Part). over p (from_place c.args.at (cells_by q w))) (sym c.in-Raw.is)
+pub carry_out-done-requires-clause-can : goal.carry_out-done-requires-clause-can
+carry_out-done-requires-clause-can g c = rw c.task_for-task.ensures (can_do c.args.part c.requires.writable)
 
-pub returns-in-Ok-clause-moments : goal.returns-in-Ok-clause-moments
-returns-in-Ok-clause-moments g c tells =
-    let long : length c.part.result.now ≡ c.in-Raw.n = c.part.ensures.long ∙ (let z : c.in-Raw.n - 0 ≡ c.in-Raw.n = omega arith in z) in
-    during_put c.args.at _ _ _ _ _ _ (long ∙ ap put_by (sym c.in-Raw.is)) (c.in-Ok.ensures.moments tells)
+pub carry_out-done-requires-clause-fits : goal.carry_out-done-requires-clause-fits
+carry_out-done-requires-clause-fits g c = rw (c.task_for-task.ensures, put_same c.args.part) c.requires.fits
 
-pub returns-in-Err-clause-moments : goal.returns-in-Err-clause-moments
-returns-in-Err-clause-moments g c tells =
-    let long : length c.part.result.now ≡ c.in-Raw.n = c.part.ensures.long ∙ (let z : c.in-Raw.n - 0 ≡ c.in-Raw.n = omega arith in z) in
-    during_put c.args.at _ _ _ _ _ _ (long ∙ ap put_by (sym c.in-Raw.is)) (c.in-Err.ensures.moments tells)
+pub carry_out-done-requires-clause-below : goal.carry_out-done-requires-clause-below
+carry_out-done-requires-clause-below g c = rw (c.task_for-task.ensures, put_same c.args.part) c.requires.below
 
-pub returns-in-Ok-lay_words-clause-laid : goal.returns-in-Ok-lay_words-clause-laid
-returns-in-Ok-lay_words-clause-laid g c tells =
-    let n = c.in-Words.n in
-    let word = c.in-Words.word in
-    let p = g.P.Source.content c.args.partition.now in
-    let sized = g.met.P.Source.sized c.args.partition.now tells in
-    let fits = rw c.in-Words.is at c.requires.fits in
-    let four : length word ≡ 4 = omega arith in
-    let long : length (concat (replicate n word)) ≡ 4 * n = length_words n word four in
-    c.in-Ok-lay_words.ensures.written tells ∙ put_over c.args.at p (concat (replicate n word)) (omega (arith, sized, fits, long))
-    ∙ ap (λ (q : Part). over p (from_place c.args.at (cells_by q c.args.w.now.bytes))) (sym c.in-Words.is)
+pub returns-clause-laid : goal.returns-clause-laid
+returns-clause-laid g c tells = rw (c.answer_to.ensures, c.task_for-task.ensures)
+    (unless_answered _ c.carry_out-done.result _ _ (λ e. e ∙ laid_same c.args.part c.args.w.now.bytes (g.P.Source.content c.args.partition.now) c.args.at) (rw c.task_for-task.ensures at (c.carry_out-done.ensures.laid tells)))
 
-pub returns-in-Ok-lay_words-clause-moments : goal.returns-in-Ok-lay_words-clause-moments
-returns-in-Ok-lay_words-clause-moments g c tells = during_put c.args.at _ _ _ _ _ _ (ap put_by (sym c.in-Words.is)) (c.in-Ok-lay_words.ensures.moments tells)
+pub returns-clause-kept : goal.returns-clause-kept
+returns-clause-kept g c tells = rw (c.task_for-task.ensures, put_same c.args.part) at (c.carry_out-done.ensures.kept tells)
 
-pub returns-in-Err-lay_words-clause-moments : goal.returns-in-Err-lay_words-clause-moments
-returns-in-Err-lay_words-clause-moments g c tells = during_put c.args.at _ _ _ _ _ _ (ap put_by (sym c.in-Words.is)) (c.in-Err-lay_words.ensures.moments tells)
+pub returns-clause-moments : goal.returns-clause-moments
+returns-clause-moments g c tells = rw (c.task_for-task.ensures, put_same c.args.part) at (c.carry_out-done.ensures.moments tells)
 
-pub returns-in-Ok-sync-clause-laid : goal.returns-in-Ok-sync-clause-laid
-returns-in-Ok-sync-clause-laid g c tells =
-    let p = g.P.Source.content c.args.partition.now in
-    same_content _ _ (c.in-Ok-sync.ensures.kept tells) ∙ sym (nothing_over p c.args.at)
-    ∙ ap (λ (q : Part). over p (from_place c.args.at (cells_by q c.args.w.now.bytes))) (sym c.in-End.is)
+pub returns-clause-settled : goal.returns-clause-settled
+returns-clause-settled g c tells = rw c.answer_to.ensures (ok_answered _ c.carry_out-done.result _ _ (settles_part c.args.part _) (rw c.task_for-task.ensures at (c.carry_out-done.ensures.settled tells)))
 
-pub returns-in-Err-sync-clause-laid : goal.returns-in-Err-sync-clause-laid
-returns-in-Err-sync-clause-laid g c tells =
-    let p = g.P.Source.content c.args.partition.now in
-    same_content _ _ (c.in-Err-sync.ensures.kept tells) ∙ sym (nothing_over p c.args.at)
-    ∙ ap (λ (q : Part). over p (from_place c.args.at (cells_by q c.args.w.now.bytes))) (sym c.in-End.is)
+pub returns-clause-synced : goal.returns-clause-synced
+returns-clause-synced g c =
+    let same = syncs_answered c.args.part c.carry_out-done.result in
+    let synced = rw c.task_for-task.ensures at c.carry_out-done.ensures.synced in
+    rw (c.answer_to.ensures, c.task_for-task.ensures) (omega (arith, same, synced))
 
-pub returns-in-Ok-sync-clause-moments : goal.returns-in-Ok-sync-clause-moments
-returns-in-Ok-sync-clause-moments g c tells = during_sync _ _ _ _ _ (c.in-Ok-sync.ensures.kept tells) (c.in-Ok-sync.ensures.moments tells)
+pub returns-clause-sound : goal.returns-clause-sound
+returns-clause-sound g c = rw (c.answer_to.ensures, c.task_for-task.ensures) (sound_answered c.args.part c.carry_out-done.result (rw c.task_for-task.ensures at c.carry_out-done.ensures.sound))
 
-pub returns-in-Err-sync-clause-moments : goal.returns-in-Err-sync-clause-moments
-returns-in-Err-sync-clause-moments g c tells = during_sync _ _ _ _ _ (c.in-Err-sync.ensures.kept tells) (c.in-Err-sync.ensures.moments tells)
+pub returns-clause-ends : goal.returns-clause-ends
+returns-clause-ends g c = rw (c.answer_to.ensures, c.task_for-task.ensures) (ends_answered c.args.part c.carry_out-done.result)
 
-pub returns-in-Skip-clause-laid : goal.returns-in-Skip-clause-laid
-returns-in-Skip-clause-laid g c tells =
-    let p = g.P.Source.content c.args.partition.now in
-    sym (gap_over p c.args.at c.in-Skip.field-0) ∙ ap (λ (q : Part). over p (from_place c.args.at (cells_by q c.args.w.now.bytes))) (sym c.in-Skip.is)
+pub returns-clause-refused_syncs : goal.returns-clause-refused_syncs
+returns-clause-refused_syncs g c =
+    let same = refused_answered c.task_for-task.result c.carry_out-done.result in
+    let synced = c.carry_out-done.ensures.refused_syncs in
+    rw c.answer_to.ensures (omega (arith, same, synced))
 
-pub returns-in-Nothing-clause-laid : goal.returns-in-Nothing-clause-laid
-returns-in-Nothing-clause-laid g c tells =
-    let p = g.P.Source.content c.args.partition.now in
-    sym (nothing_over p c.args.at) ∙ ap (λ (q : Part). over p (from_place c.args.at (cells_by q c.args.w.now.bytes))) (sym c.in-Nothing.is)
+pub returns-clause-all : goal.returns-clause-all
+returns-clause-all g c = rw (c.answer_to.ensures, c.task_for-task.ensures) (unless_answered _ c.carry_out-done.result _ _ (λ e. e) (rw (c.task_for-task.ensures, put_same c.args.part) at c.carry_out-done.ensures.all))
 
-pub returns-in-Fault-clause-laid : goal.returns-in-Fault-clause-laid
-returns-in-Fault-clause-laid g c tells =
-    let p = g.P.Source.content c.args.partition.now in
-    sym (nothing_over p c.args.at) ∙ ap (λ (q : Part). over p (from_place c.args.at (cells_by q c.args.w.now.bytes))) (sym c.in-Fault.is)
+pub returns-clause-still : goal.returns-clause-still
+returns-clause-still g c h = c.carry_out-done.ensures.still (rw c.task_for-task.ensures (idle_still c.args.part h))
+
+pub returns-clause-cause : goal.returns-clause-cause
+returns-clause-cause g c = rw c.answer_to.ensures (cause_answered _ c.carry_out-done.result _ _ c.carry_out-done.ensures.cause c.carry_out-done.ensures.clean c.carry_out-done.ensures.failed)
+
+pub returns-clause-few : goal.returns-clause-few
+returns-clause-few g c = rw c.answer_to.ensures (ok_answered _ c.carry_out-done.result _ _ (λ e. e) c.carry_out-done.ensures.few)

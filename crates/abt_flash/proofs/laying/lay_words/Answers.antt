@@ -17,14 +17,19 @@ writes-preserved g c =
     let least : some ≡ min (c.args.n - c.writes.done) most = c.min-some.ensures in
     let part : c.part.result.now ≡ concat (replicate some c.args.word) = c.part.ensures.value ∙ some_of_window c.lay_word.new.w.bytes c.args.word most some i.word (omega arith) c.lay_word.ensures.laid in
     let long : length c.part.result.now ≡ 4 * some - 0 = c.part.ensures.long in
+    let place = c.place_behind.ensures in
+    let behind = c.count_behind-done.ensures in
+    let kept = λ (tells : IsTrue g.P.Source.tells). rw place at (e.kept tells) in
+    let moments = λ (tells : IsTrue g.P.Source.tells). rw place at (e.moments tells) in
+    let written = λ (tells : IsTrue g.P.Source.tells). rw place at (e.written tells) in
     let all : g.P.Partition.taken c.write_all_at.new.partition ≡ g.P.Partition.taken c.writes.partition + length c.part.result.now = e.all in
-    let more = λ (tells : IsTrue g.P.Source.tells). unsynced_then (in_range c.args.at (4 * c.args.n)) _ _ _ _ _ _ _ (λ k. within_part c.args.at (4 * c.writes.done) _ (4 * c.args.n) k (omega arith)) (i.kept tells) i.synced (e.kept tells) (i.moments tells) (e.moments tells) in
+    let more = λ (tells : IsTrue g.P.Source.tells). unsynced_then (in_range c.args.at (4 * c.args.n)) _ _ _ _ _ _ _ (λ k. within_part c.args.at (4 * c.writes.done) _ (4 * c.args.n) k (omega arith)) (i.kept tells) i.synced (kept tells) (i.moments tells) (moments tells) in
     record {
       within = omega arith;
       word = i.word;
       size = e.size ∙ i.size;
       taken = omega arith;
-      written = λ tells. words_more _ _ _ c.part.result.now c.args.word c.args.at c.writes.done some i.word (omega (arith, g.met.P.Source.sized c.args.partition.now tells)) (i.written tells) part (e.written tells);
+      written = λ tells. rw behind (words_more _ _ _ c.part.result.now c.args.word c.args.at c.writes.done some i.word (omega (arith, g.met.P.Source.sized c.args.partition.now tells)) (i.written tells) part (written tells));
       kept = λ tells. (more tells).0;
       moments = λ tells. (more tells).1;
       synced = e.synced ∙ i.synced;
@@ -48,4 +53,6 @@ returns-in-Err-clause-moments g c tells =
     let test : c.writes.done < c.args.n = c.writes-test.true in
     let least : some ≡ min (c.args.n - c.writes.done) c.min-most.result = c.min-some.ensures in
     let long : length c.part.result.now ≡ 4 * some - 0 = c.part.ensures.long in
-    (unsynced_then (in_range c.args.at (4 * c.args.n)) _ _ _ _ _ _ _ (λ k. within_part c.args.at (4 * c.writes.done) _ (4 * c.args.n) k (omega arith)) (i.kept tells) i.synced (e.kept tells) (i.moments tells) (e.moments tells)).1
+    let kept = rw c.place_behind.ensures at (e.kept tells) in
+    let moments = rw c.place_behind.ensures at (e.moments tells) in
+    (unsynced_then (in_range c.args.at (4 * c.args.n)) _ _ _ _ _ _ _ (λ k. within_part c.args.at (4 * c.writes.done) _ (4 * c.args.n) k (omega arith)) (i.kept tells) i.synced kept (i.moments tells) moments).1

@@ -8,12 +8,12 @@ use Rattle.abt_sparse.proofs.Totals.{length-pieces}
 use Rattle.abt_pieces.specs.Contents.{written_in}
 use Rattle.abt_pieces.specs.SpentStage.{all_passes}
 use Rattle.abt_pieces.specs.declared.stage.Stage.TheVariants.{Between}
-use Rattle.abt_flash.specs.Delivering.{begun, blocks_behind, blocks_in_first, pieces_in}
+use Rattle.abt_flash.specs.Delivering.{begun, blocks_behind, blocks_in_first, blocks_up_to, pieces_in}
 use Rattle.abt_flash.proofs.Left.{Behind, behind}
 use Rattle.abt_flash.proofs.Mended.{leaves_same}
-use Rattle.abt_flash.proofs.Records.{begins_same, gives_none, lays_none, mends_none, opening_begins, opening_early, plan_early, rest_begins, rest_more}
-use Rattle.abt_flash.proofs.Staying.{blocks_grow}
-use Rattle.abt_flash.proofs.Summing.{on_ok, least_of, behind_written, reads_of}
+use Rattle.abt_flash.proofs.Records.{begins_same, gives_none, lays_none, mendable_none, mends_none, opening_begins, opening_early, plan_early, rest_begins, rest_more}
+use Rattle.abt_flash.proofs.Staying.{blocks_grow, from_first}
+use Rattle.abt_flash.proofs.Summing.{on_ok, on_unsynced, least_of, behind_written, reads_of}
 use Rattle.abt_flash.proofs.opened.deliver_behind.Goals as goal
 
 -- ---- where no cutter was opened
@@ -26,6 +26,9 @@ returns-in-Err-clause-partition g c = lays_none _ _ _ _ _ _ _ _ (rw c.not_opened
 
 pub returns-in-Err-clause-mends : goal.returns-in-Err-clause-mends
 returns-in-Err-clause-mends g c tells spool partition = mends_none _ _ _ _ _
+
+pub returns-in-Err-clause-mendable : goal.returns-in-Err-clause-mendable
+returns-in-Err-clause-mendable g c tells spool partition first none = mendable_none _ _ _ none
 
 pub returns-in-Err-clause-costs : goal.returns-in-Err-clause-costs
 returns-in-Err-clause-costs g c = record {
@@ -48,6 +51,9 @@ returns-then-length-need-clause-partition g c = lays_none _ _ _ _ _ _ _ _ tt
 pub returns-then-length-need-clause-mends : goal.returns-then-length-need-clause-mends
 returns-then-length-need-clause-mends g c tells spool partition = mends_none _ _ _ _ _
 
+pub returns-then-length-need-clause-mendable : goal.returns-then-length-need-clause-mendable
+returns-then-length-need-clause-mendable g c tells spool partition first none = mendable_none _ _ _ none
+
 pub returns-then-length-need-clause-costs : goal.returns-then-length-need-clause-costs
 returns-then-length-need-clause-costs g c = record { begun = 0; counted = refl; calls = omega arith; turns = omega arith; steps = omega arith; greatest = omega arith }
 
@@ -66,6 +72,9 @@ pub returns-in-Err-plan_pieces-clause-counted : goal.returns-in-Err-plan_pieces-
 returns-in-Err-plan_pieces-clause-counted g c tells =
     let o = c.in-Ok.ensures in
     rw (length-pieces c.args.limit (g.R.BlockRuns.size c.args.runs) (g.R.BlockRuns.list c.args.runs (g.S.Source.content c.args.source.now))) (rw (o.runs, o.limit) at (c.in-Err-plan_pieces.ensures.counted tells))
+
+pub returns-in-Err-plan_pieces-clause-mendable : goal.returns-in-Err-plan_pieces-clause-mendable
+returns-in-Err-plan_pieces-clause-mendable g c tells spool partition first none = mendable_none _ _ _ none
 
 pub returns-in-Err-plan_pieces-clause-costs : goal.returns-in-Err-plan_pieces-clause-costs
 returns-in-Err-plan_pieces-clause-costs g c =
@@ -131,6 +140,9 @@ returns-clause-partition g c =
       laid = λ tells spool partition.
           let laid = rw (p.runs, o.runs, p.content tells) at (r.laid tells spool partition) in
           on_ok c.deliver_rest.result (λ e. e ∙ ap (λ (n : ℕ). over (g.P.Source.content c.args.partition.now) (cells b (blocks_behind n all))) (sym (here tells).blocks)) laid;
+      laid_up_to = λ tells spool partition.
+          let laid = rw (p.runs, o.runs, p.content tells, p.limit, o.limit) at (r.laid_up_to tells spool partition) in
+          on_unsynced c.deliver_rest.result _ _ (λ j e. e ∙ ap (λ (n : ℕ). over (g.P.Source.content c.args.partition.now) (cells b (blocks_up_to n (blocks_in_first c.args.limit b all j) all))) (sym (here tells).blocks)) laid;
       once = λ tells spool.
           let wrote = rw (p.runs, o.runs, p.content tells) at (r.blocks tells spool) in
           let same : written_in (drop c.plan_pieces.new.cutter.start.block all) ≡ written_in (blocks_behind (blocks_in_first c.args.limit b all c.args.before) all) = sym (behind_written c.plan_pieces.new.cutter.start.block all) ∙ ap (λ (n : ℕ). written_in (blocks_behind n all)) (sym (here tells).blocks) in
@@ -163,6 +175,9 @@ returns-clause-mends g c tells spool partition =
       stays = rw (p.runs, o.runs, p.content tells, p.limit, o.limit, p.planned.1) at (r.stays tells spool partition);
       mends = on_ok c.deliver_rest.result (λ e q done le m. e ∙ mended b all q (g.P.Source.content c.args.partition.now) (blocks_in_first c.args.limit b all done) c.plan_pieces.new.cutter.start.block size good m (rw (← here.blocks) (blocks_grow c.args.limit b all c.args.before done le))) laid;
     }
+
+pub returns-clause-mendable : goal.returns-clause-mendable
+returns-clause-mendable g c tells spool partition first none = from_first _ _ _ _ _ first none (returns-clause-mends g c tells spool partition).stays
 
 pub returns-clause-reads : goal.returns-clause-reads
 returns-clause-reads g c tells =

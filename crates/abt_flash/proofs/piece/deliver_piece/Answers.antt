@@ -60,7 +60,7 @@ reads g c tells =
 -- what the spool gives
 comes : (g : Over) (c : In-Ok-Some g) → IsTrue g.S.Source.tells → IsTrue g.L.Input.tells → g.L.Input.remaining c.next_piece.new.output ≡ piece (g.R.BlockRuns.size c.args.cutter.now.runs) (frame (g.R.BlockRuns.list c.args.cutter.now.runs (g.S.Source.content c.args.source.now)) c.args.cutter.now.start.block c.next_piece.new.self.start.block)
 comes g c tells spool =
-    let same = sym (g.met.L.Spool.writing c.next_piece.new.output) ∙ c.next_piece.ensures.write_frame ∙ g.met.L.Spool.writing c.clear.new.self in
+    let same = sym (g.met.L.Spool.writing c.next_piece.new.output) ∙ c.next_piece.ensures.write_frame ∙ g.met.L.Spool.writing c.clear.new.spool in
     let gone : g.L.Spool.gone c.next_piece.new.output ≡ length (g.L.Output.written c.args.spool.now) = ap (λ (f : WriteFrame). f.gone) same ∙ c.in-Ok.ensures.gone in
     g.met.L.Spool.held c.next_piece.new.output spool ∙ behind_clear _ _ _ _ (bytes g c tells) gone
 
@@ -76,31 +76,48 @@ after_written g c = ap (λ (f : ReadFrame). f.written) (sym (g.met.L.Spool.readi
 after_cuts : (g : Over) (c : After-flash g) → g.L.Spool.cuts c.flash.new.input ≡ length (g.L.Output.written c.args.spool.now) ∷ g.L.Spool.cuts c.args.spool.now
 after_cuts g c =
     ap (λ (f : ReadFrame). f.cuts) (sym (g.met.L.Spool.reading c.flash.new.input) ∙ c.flash.ensures.frame ∙ g.met.L.Spool.reading c.next_piece.new.output)
-    ∙ ap (λ (f : WriteFrame). f.cuts) (sym (g.met.L.Spool.writing c.next_piece.new.output) ∙ c.next_piece.ensures.write_frame ∙ g.met.L.Spool.writing c.clear.new.self)
+    ∙ ap (λ (f : WriteFrame). f.cuts) (sym (g.met.L.Spool.writing c.next_piece.new.output) ∙ c.next_piece.ensures.write_frame ∙ g.met.L.Spool.writing c.clear.new.spool)
     ∙ c.in-Ok.ensures.cut
 
 -- ---- the same of every source
 
-image : (g : Over) (c : In-Ok-Some g) → Appended (IsImage (g.R.BlockRuns.size c.args.cutter.now.runs) (g.R.BlockRuns.count c.args.cutter.now.runs)) (g.L.Output.written c.clear.new.self) (g.L.Output.written c.next_piece.new.output)
+image : (g : Over) (c : In-Ok-Some g) → Appended (IsImage (g.R.BlockRuns.size c.args.cutter.now.runs) (g.R.BlockRuns.count c.args.cutter.now.runs)) (g.L.Output.written c.clear.new.spool) (g.L.Output.written c.next_piece.new.output)
 image g c = rw c.in-Ok-Some.field-0-is at c.in-Ok-Some.ensures.image
 
 gives : (g : Over) (c : In-Ok-Some g) → IsTrue g.L.Input.tells → g.L.Input.remaining c.next_piece.new.output ≡ (image g c).wrote
 gives g c spool =
-    let same = sym (g.met.L.Spool.writing c.next_piece.new.output) ∙ c.next_piece.ensures.write_frame ∙ g.met.L.Spool.writing c.clear.new.self in
-    let gone : g.L.Spool.gone c.next_piece.new.output ≡ length (g.L.Output.written c.clear.new.self) = ap (λ (f : WriteFrame). f.gone) same ∙ c.in-Ok.ensures.gone ∙ ap length (sym c.clear.ensures.written) in
+    let same = sym (g.met.L.Spool.writing c.next_piece.new.output) ∙ c.next_piece.ensures.write_frame ∙ g.met.L.Spool.writing c.clear.new.spool in
+    let gone : g.L.Spool.gone c.next_piece.new.output ≡ length (g.L.Output.written c.clear.new.spool) = ap (λ (f : WriteFrame). f.gone) same ∙ c.in-Ok.ensures.gone ∙ ap length (sym c.clear.ensures.written) in
     g.met.L.Spool.held c.next_piece.new.output spool ∙ behind_clear _ _ _ _ (image g c).behind gone
 
-cut_cause : (g : Over) (c : In-Err-next_piece g) → CutCause c.in-Err-next_piece.fault g.S.Source.tells (g.S.Source.read_faults c.args.source.now) (g.S.Source.read_faults c.next_piece.new.source) (g.L.Output.write_faults c.clear.new.self) (g.L.Output.write_faults c.next_piece.new.output)
+cut_cause : (g : Over) (c : In-Err-next_piece g) → CutCause c.in-Err-next_piece.fault g.S.Source.tells (g.S.Source.read_faults c.args.source.now) (g.S.Source.read_faults c.next_piece.new.source) (g.L.Output.write_faults c.clear.new.spool) (g.L.Output.write_faults c.next_piece.new.output)
 cut_cause g c = elim c.in-Err-next_piece.ensures.cause [
   | inl is ↦ absurd (let z = sym c.requires.between ∙ is in cc)
   | inr h ↦ h
 ]
 
+-- ---- where the spool was not cleared
+
+pub returns-in-Err-clause-greatest_end : goal.returns-in-Err-clause-greatest_end
+returns-in-Err-clause-greatest_end g c tells = rw c.in-Err.ensures.names tt
+
+pub returns-in-Err-clause-laid : goal.returns-in-Err-clause-laid
+returns-in-Err-clause-laid g c tells spool partition = rw c.in-Err.ensures.names tt
+
+pub returns-in-Err-clause-unsynced : goal.returns-in-Err-clause-unsynced
+returns-in-Err-clause-unsynced g c = rw c.in-Err.ensures.names (omega arith)
+
+pub returns-in-Err-clause-cause : goal.returns-in-Err-clause-cause
+returns-in-Err-clause-cause g c =
+    let wrote = c.clear.ensures.write_faults in
+    let more = c.in-Err.ensures.cause in
+    rw c.in-Err.ensures.names (omega (arith, wrote, more), refl)
+
 -- ---- where the piece was not written
 
 pub returns-in-Err-next_piece-clause-fits : goal.returns-in-Err-next_piece-clause-fits
 returns-in-Err-next_piece-clause-fits g c =
-    let cuts = ap (λ (f : WriteFrame). f.cuts) (sym (g.met.L.Spool.writing c.next_piece.new.output) ∙ c.next_piece.ensures.write_frame ∙ g.met.L.Spool.writing c.clear.new.self) ∙ c.in-Ok.ensures.cut in
+    let cuts = ap (λ (f : WriteFrame). f.cuts) (sym (g.met.L.Spool.writing c.next_piece.new.output) ∙ c.next_piece.ensures.write_frame ∙ g.met.L.Spool.writing c.clear.new.spool) ∙ c.in-Ok.ensures.cut in
     let same = ap length c.clear.ensures.written in
     fits_one _ _ _ _ _ cuts (omega (arith, same, c.next_piece.ensures.grown)) (omega (arith, same, c.next_piece.ensures.within))
 
@@ -146,10 +163,10 @@ returns-in-Ok-flash-clause-laid g c tells spool partition =
     ∙ ap (over (g.P.Source.content c.args.partition.now)) (given_reads _ _ _ _ (reads g s tells))
 
 pub returns-in-Ok-flash-clause-kept : goal.returns-in-Ok-flash-clause-kept
-returns-in-Ok-flash-clause-kept g c tells spool partition = rw (touches g ((goal.at.returns-in-Ok-flash-clause-kept g c).In-Ok-Some) tells spool) at (c.flash.ensures.kept spool partition)
+returns-in-Ok-flash-clause-kept g c tells spool partition = rw (touches g ((goal.at.returns-in-Ok-flash-clause-kept g c).In-Ok-Some) tells spool) at ((c.flash.ensures.touches spool partition).kept)
 
 pub returns-in-Ok-flash-clause-moments : goal.returns-in-Ok-flash-clause-moments
-returns-in-Ok-flash-clause-moments g c tells spool partition = rw (touches g ((goal.at.returns-in-Ok-flash-clause-moments g c).In-Ok-Some) tells spool) at (c.flash.ensures.moments spool partition)
+returns-in-Ok-flash-clause-moments g c tells spool partition = rw (touches g ((goal.at.returns-in-Ok-flash-clause-moments g c).In-Ok-Some) tells spool) at ((c.flash.ensures.touches spool partition).moments)
 
 pub returns-in-Ok-flash-clause-blocks : goal.returns-in-Ok-flash-clause-blocks
 returns-in-Ok-flash-clause-blocks g c tells spool =
@@ -161,13 +178,13 @@ returns-in-Ok-flash-clause-back g c tells spool =
     let k = (goal.at.returns-in-Ok-flash-clause-back g c).After-flash in
     let s = (goal.at.returns-in-Ok-flash-clause-back g c).In-Ok-Some in
     let none = (all_flashed _ _ _ _ _ _ _ _ _ (reads g s tells) (rw (comes g s tells spool) at (c.in-Ok-flash.ensures.flashes spool))).none in
-    let read = all_read _ _ _ (c.flash.ensures.present spool) (c.flash.ensures.rest spool) none in
+    let read = all_read _ _ _ (c.flash.ensures.read.present spool) (c.flash.ensures.read.rest spool) none in
     let long = ap length (comes g s tells spool) in
     let wrote = ap length (bytes g s tells) in
     let sum = length-append (g.L.Output.written c.args.spool.now) (piece (g.R.BlockRuns.size c.args.cutter.now.runs) (frame (g.R.BlockRuns.list c.args.cutter.now.runs (g.S.Source.content c.args.source.now)) c.args.cutter.now.start.block c.next_piece.new.self.start.block)) in
     let same = ap length (after_written g k) in
-    let gives : g.L.Input.given c.next_piece.new.output ≡ g.L.Input.given c.clear.new.self = ap (λ (f : WriteFrame). f.given) (sym (g.met.L.Spool.writing c.next_piece.new.output) ∙ c.next_piece.ensures.write_frame ∙ g.met.L.Spool.writing c.clear.new.self) in
-    omega (arith, read, long, wrote, sum, same, gives, c.clear.ensures.given, c.flash.ensures.given)
+    let gives : g.L.Input.given c.next_piece.new.output ≡ g.L.Input.given c.clear.new.spool = ap (λ (f : WriteFrame). f.given) (sym (g.met.L.Spool.writing c.next_piece.new.output) ∙ c.next_piece.ensures.write_frame ∙ g.met.L.Spool.writing c.clear.new.spool) in
+    omega (arith, read, long, wrote, sum, same, gives, c.clear.ensures.given, c.flash.ensures.grows.given)
 
 -- ---- where flashing it failed
 
@@ -184,15 +201,15 @@ returns-in-Err-flash-clause-begins g c tells =
     rw (← after_written g k) at (rw (c.requires.between, c.clear.ensures.written) at (begins_front _ _ _ _ (c.next_piece.ensures.front tells)))
 
 pub returns-in-Err-flash-clause-kept : goal.returns-in-Err-flash-clause-kept
-returns-in-Err-flash-clause-kept g c tells spool partition = rw (touches g ((goal.at.returns-in-Err-flash-clause-kept g c).In-Ok-Some) tells spool) at (c.flash.ensures.kept spool partition)
+returns-in-Err-flash-clause-kept g c tells spool partition = rw (touches g ((goal.at.returns-in-Err-flash-clause-kept g c).In-Ok-Some) tells spool) at ((c.flash.ensures.touches spool partition).kept)
 
 pub returns-in-Err-flash-clause-moments : goal.returns-in-Err-flash-clause-moments
-returns-in-Err-flash-clause-moments g c tells spool partition = rw (touches g ((goal.at.returns-in-Err-flash-clause-moments g c).In-Ok-Some) tells spool) at (c.flash.ensures.moments spool partition)
+returns-in-Err-flash-clause-moments g c tells spool partition = rw (touches g ((goal.at.returns-in-Err-flash-clause-moments g c).In-Ok-Some) tells spool) at ((c.flash.ensures.touches spool partition).moments)
 
 pub returns-in-Err-flash-clause-unsynced : goal.returns-in-Err-flash-clause-unsynced
 returns-in-Err-flash-clause-unsynced g c =
     let same = unsynced_stops c.in-Err-flash.fault _ _ _ _ c.in-Err-flash.ensures.cause in
-    let sum = c.in-Err-flash.ensures.refused_syncs in
+    let sum = c.in-Err-flash.ensures.syncs.refused in
     rw (c.not_flashed.ensures) (omega (arith, same, sum))
 
 pub returns-in-Err-flash-clause-greatest_end : goal.returns-in-Err-flash-clause-greatest_end
@@ -206,7 +223,7 @@ returns-in-Err-flash-clause-laid g c tells spool partition =
 pub returns-in-Err-flash-clause-cause : goal.returns-in-Err-flash-clause-cause
 returns-in-Err-flash-clause-cause g c =
     let s = (goal.at.returns-in-Err-flash-clause-cause g c).In-Ok-Some in
-    let same : g.L.Input.read_faults c.next_piece.new.output ≡ g.L.Input.read_faults c.clear.new.self = ap (λ (f : WriteFrame). f.read_faults) (sym (g.met.L.Spool.writing c.next_piece.new.output) ∙ c.next_piece.ensures.write_frame ∙ g.met.L.Spool.writing c.clear.new.self) in
+    let same : g.L.Input.read_faults c.next_piece.new.output ≡ g.L.Input.read_faults c.clear.new.spool = ap (λ (f : WriteFrame). f.read_faults) (sym (g.met.L.Spool.writing c.next_piece.new.output) ∙ c.next_piece.ensures.write_frame ∙ g.met.L.Spool.writing c.clear.new.spool) in
     rw (c.not_flashed.ensures) (flash_stops _ _ _ _ _ _ (omega (arith, same, c.clear.ensures.read_faults)) c.in-Err-flash.ensures.cause
     (λ spool. only_devices _ _ _ _ _ _ _ _ _ (image_reads _ _ _ (image g s).is) c.requires.room (rw (gives g s spool) at (c.in-Err-flash.ensures.flashes spool))))
 
@@ -216,7 +233,7 @@ pub returns-in-Ok-flash-clause-clean : goal.returns-in-Ok-flash-clause-clean
 returns-in-Ok-flash-clause-clean g c =
     let o = c.in-Ok-Some.ensures.clean in
     let f = c.in-Ok-flash.ensures.cause in
-    let writing = sym (g.met.L.Spool.writing c.next_piece.new.output) ∙ c.next_piece.ensures.write_frame ∙ g.met.L.Spool.writing c.clear.new.self in
+    let writing = sym (g.met.L.Spool.writing c.next_piece.new.output) ∙ c.next_piece.ensures.write_frame ∙ g.met.L.Spool.writing c.clear.new.spool in
     let reading = sym (g.met.L.Spool.reading c.flash.new.input) ∙ c.flash.ensures.frame ∙ g.met.L.Spool.reading c.next_piece.new.output in
     let wrote = ap (λ (q : ReadFrame). q.write_faults) reading ∙ o.1 ∙ c.clear.ensures.write_faults in
     let cleared = ap (λ (q : ReadFrame). q.clear_faults) reading ∙ ap (λ (q : WriteFrame). q.clear_faults) writing ∙ c.in-Ok.ensures.clean in
@@ -229,15 +246,217 @@ returns-in-Ok-flash-clause-clean g c =
 
 pub returns-in-Err-next_piece-clause-cause : goal.returns-in-Err-next_piece-clause-cause
 returns-in-Err-next_piece-clause-cause g c =
-    let writing = sym (g.met.L.Spool.writing c.next_piece.new.output) ∙ c.next_piece.ensures.write_frame ∙ g.met.L.Spool.writing c.clear.new.self in
+    let writing = sym (g.met.L.Spool.writing c.next_piece.new.output) ∙ c.next_piece.ensures.write_frame ∙ g.met.L.Spool.writing c.clear.new.spool in
     let cleared = ap (λ (q : WriteFrame). q.clear_faults) writing in
     let cuts = ap (λ (q : WriteFrame). q.cuts) writing ∙ c.in-Ok.ensures.cut in
     let room = ap (λ (q : WriteFrame). q.capacity) writing ∙ c.clear.ensures.size in
     let long = ap length c.clear.ensures.written in
-    rw (c.not_written.ensures) (cut_stops c.in-Err-next_piece.fault _ _ _ _ _ _ (cut_cause g ((goal.at.returns-in-Err-next_piece-clause-cause g c).In-Err-next_piece)) (λ more. omega (arith, more, cleared, c.clear.ensures.write_faults, c.clear.ensures.faults))
+    rw (c.not_written.ensures) (cut_stops c.in-Err-next_piece.fault _ _ _ _ _ _ (cut_cause g ((goal.at.returns-in-Err-next_piece-clause-cause g c).In-Err-next_piece)) (λ more. omega (arith, more, cleared, c.clear.ensures.write_faults, c.clear.ensures.clear_faults))
     (λ is.
     let begun : has_failed c.args.cutter.now.stage ≡ false = rw c.requires.between refl in
     let h = c.in-Err-next_piece.ensures.full begun (rw is refl) in
     let filled = g.met.L.Spool.filled c.next_piece.new.output h.0 in
     let last : last_cut (g.L.Spool.cuts c.next_piece.new.output) ≡ length (g.L.Output.written c.args.spool.now) = ap last_cut cuts in
     omega (arith, filled, last, h.1, room, long, c.requires.capacity)))
+
+-- ---- the spool's numbers, by what a write and what a read leave
+
+pub returns-in-Err-next_piece-clause-capacity : goal.returns-in-Err-next_piece-clause-capacity
+returns-in-Err-next_piece-clause-capacity g c =
+    let writing = sym (g.met.L.Spool.writing c.next_piece.new.output) ∙ c.next_piece.ensures.write_frame ∙ g.met.L.Spool.writing c.clear.new.spool in
+    ap (λ (f : WriteFrame). f.capacity) writing ∙ c.clear.ensures.size
+
+pub returns-in-Err-next_piece-clause-spool_given : goal.returns-in-Err-next_piece-clause-spool_given
+returns-in-Err-next_piece-clause-spool_given g c =
+    let writing = sym (g.met.L.Spool.writing c.next_piece.new.output) ∙ c.next_piece.ensures.write_frame ∙ g.met.L.Spool.writing c.clear.new.spool in
+    let gives = ap (λ (f : WriteFrame). f.given) writing in
+    omega (arith, gives, c.clear.ensures.given)
+
+pub returns-in-Err-next_piece-clause-grown : goal.returns-in-Err-next_piece-clause-grown
+returns-in-Err-next_piece-clause-grown g c =
+    let long = ap length c.clear.ensures.written in
+    omega (arith, long, c.next_piece.ensures.grown)
+
+pub returns-in-Err-next_piece-clause-calls : goal.returns-in-Err-next_piece-clause-calls
+returns-in-Err-next_piece-clause-calls g c =
+    let writing = sym (g.met.L.Spool.writing c.next_piece.new.output) ∙ c.next_piece.ensures.write_frame ∙ g.met.L.Spool.writing c.clear.new.spool in
+    let gives = ap (λ (f : WriteFrame). f.given) writing in
+    let reads = ap (λ (f : WriteFrame). f.reads) writing in
+    let clears = ap (λ (f : WriteFrame). f.clears) writing in
+    let long = ap length c.clear.ensures.written in
+    omega (arith, gives, reads, clears, long, c.next_piece.ensures.calls, c.next_piece.ensures.given, c.next_piece.ensures.grown, c.clear.ensures.given, c.clear.ensures.reads, c.clear.ensures.writes, c.clear.ensures.calls)
+
+pub returns-in-Err-next_piece-clause-turns : goal.returns-in-Err-next_piece-clause-turns
+returns-in-Err-next_piece-clause-turns g c =
+    let writing = sym (g.met.L.Spool.writing c.next_piece.new.output) ∙ c.next_piece.ensures.write_frame ∙ g.met.L.Spool.writing c.clear.new.spool in
+    let gives = ap (λ (f : WriteFrame). f.given) writing in
+    let long = ap length c.clear.ensures.written in
+    omega (arith, gives, long, c.next_piece.ensures.turns, c.next_piece.ensures.given, c.next_piece.ensures.grown, c.clear.ensures.given)
+
+pub returns-in-Err-next_piece-clause-steps : goal.returns-in-Err-next_piece-clause-steps
+returns-in-Err-next_piece-clause-steps g c =
+    let writing = sym (g.met.L.Spool.writing c.next_piece.new.output) ∙ c.next_piece.ensures.write_frame ∙ g.met.L.Spool.writing c.clear.new.spool in
+    let gives = ap (λ (f : WriteFrame). f.given) writing in
+    omega (arith, gives, c.next_piece.ensures.steps, c.next_piece.ensures.given, c.clear.ensures.given)
+
+pub returns-in-Err-next_piece-clause-write_faults : goal.returns-in-Err-next_piece-clause-write_faults
+returns-in-Err-next_piece-clause-write_faults g c =
+    let writing = sym (g.met.L.Spool.writing c.next_piece.new.output) ∙ c.next_piece.ensures.write_frame ∙ g.met.L.Spool.writing c.clear.new.spool in
+    let cleared = ap (λ (f : WriteFrame). f.clear_faults) writing in
+    omega (arith, cleared, c.next_piece.ensures.write_faults, c.clear.ensures.write_faults, c.clear.ensures.clear_faults)
+
+pub returns-in-Err-next_piece-clause-spool_faults : goal.returns-in-Err-next_piece-clause-spool_faults
+returns-in-Err-next_piece-clause-spool_faults g c =
+    let writing = sym (g.met.L.Spool.writing c.next_piece.new.output) ∙ c.next_piece.ensures.write_frame ∙ g.met.L.Spool.writing c.clear.new.spool in
+    let failed = ap (λ (f : WriteFrame). f.read_faults) writing in
+    omega (arith, failed, c.clear.ensures.read_faults)
+
+pub returns-in-Ok-flash-clause-capacity : goal.returns-in-Ok-flash-clause-capacity
+returns-in-Ok-flash-clause-capacity g c =
+    let writing = sym (g.met.L.Spool.writing c.next_piece.new.output) ∙ c.next_piece.ensures.write_frame ∙ g.met.L.Spool.writing c.clear.new.spool in
+    let reading = sym (g.met.L.Spool.reading c.flash.new.input) ∙ c.flash.ensures.frame ∙ g.met.L.Spool.reading c.next_piece.new.output in
+    ap (λ (f : ReadFrame). f.capacity) reading ∙ ap (λ (f : WriteFrame). f.capacity) writing ∙ c.clear.ensures.size
+
+pub returns-in-Ok-flash-clause-spool_given : goal.returns-in-Ok-flash-clause-spool_given
+returns-in-Ok-flash-clause-spool_given g c =
+    let writing = sym (g.met.L.Spool.writing c.next_piece.new.output) ∙ c.next_piece.ensures.write_frame ∙ g.met.L.Spool.writing c.clear.new.spool in
+    let gives = ap (λ (f : WriteFrame). f.given) writing in
+    omega (arith, gives, c.clear.ensures.given, c.flash.ensures.grows.given)
+
+pub returns-in-Ok-flash-clause-grown : goal.returns-in-Ok-flash-clause-grown
+returns-in-Ok-flash-clause-grown g c =
+    let writing = sym (g.met.L.Spool.writing c.next_piece.new.output) ∙ c.next_piece.ensures.write_frame ∙ g.met.L.Spool.writing c.clear.new.spool in
+    let reading = sym (g.met.L.Spool.reading c.flash.new.input) ∙ c.flash.ensures.frame ∙ g.met.L.Spool.reading c.next_piece.new.output in
+    let same = ap (λ (f : ReadFrame). length f.written) reading in
+    let long = ap length c.clear.ensures.written in
+    omega (arith, same, long, c.next_piece.ensures.grown)
+
+pub returns-in-Ok-flash-clause-calls : goal.returns-in-Ok-flash-clause-calls
+returns-in-Ok-flash-clause-calls g c =
+    let writing = sym (g.met.L.Spool.writing c.next_piece.new.output) ∙ c.next_piece.ensures.write_frame ∙ g.met.L.Spool.writing c.clear.new.spool in
+    let reading = sym (g.met.L.Spool.reading c.flash.new.input) ∙ c.flash.ensures.frame ∙ g.met.L.Spool.reading c.next_piece.new.output in
+    let gives = ap (λ (f : WriteFrame). f.given) writing in
+    let reads = ap (λ (f : WriteFrame). f.reads) writing in
+    let clears = ap (λ (f : WriteFrame). f.clears) writing in
+    let wrote = ap (λ (f : ReadFrame). f.writes) reading in
+    let cleared = ap (λ (f : ReadFrame). f.clears) reading in
+    let same = ap (λ (f : ReadFrame). length f.written) reading in
+    let long = ap length c.clear.ensures.written in
+    omega (arith, gives, reads, clears, wrote, cleared, same, long, c.next_piece.ensures.calls, c.next_piece.ensures.given, c.next_piece.ensures.grown, c.clear.ensures.given, c.clear.ensures.reads, c.clear.ensures.writes, c.clear.ensures.calls, c.flash.ensures.costs.calls, c.flash.ensures.grows.given, c.flash.ensures.grows.taken)
+
+pub returns-in-Ok-flash-clause-turns : goal.returns-in-Ok-flash-clause-turns
+returns-in-Ok-flash-clause-turns g c =
+    let writing = sym (g.met.L.Spool.writing c.next_piece.new.output) ∙ c.next_piece.ensures.write_frame ∙ g.met.L.Spool.writing c.clear.new.spool in
+    let reading = sym (g.met.L.Spool.reading c.flash.new.input) ∙ c.flash.ensures.frame ∙ g.met.L.Spool.reading c.next_piece.new.output in
+    let gives = ap (λ (f : WriteFrame). f.given) writing in
+    let same = ap (λ (f : ReadFrame). length f.written) reading in
+    let long = ap length c.clear.ensures.written in
+    omega (arith, gives, same, long, c.next_piece.ensures.turns, c.next_piece.ensures.given, c.next_piece.ensures.grown, c.clear.ensures.given, c.flash.ensures.costs.turns, c.flash.ensures.grows.given, c.flash.ensures.grows.taken)
+
+pub returns-in-Ok-flash-clause-steps : goal.returns-in-Ok-flash-clause-steps
+returns-in-Ok-flash-clause-steps g c =
+    let writing = sym (g.met.L.Spool.writing c.next_piece.new.output) ∙ c.next_piece.ensures.write_frame ∙ g.met.L.Spool.writing c.clear.new.spool in
+    let gives = ap (λ (f : WriteFrame). f.given) writing in
+    omega (arith, gives, c.next_piece.ensures.steps, c.next_piece.ensures.given, c.clear.ensures.given, c.flash.ensures.costs.steps, c.flash.ensures.grows.given)
+
+pub returns-in-Ok-flash-clause-greatest : goal.returns-in-Ok-flash-clause-greatest
+returns-in-Ok-flash-clause-greatest g c =
+    omega (arith, c.next_piece.ensures.received, c.flash.ensures.costs.greatest)
+
+pub returns-in-Ok-flash-clause-write_faults : goal.returns-in-Ok-flash-clause-write_faults
+returns-in-Ok-flash-clause-write_faults g c =
+    let writing = sym (g.met.L.Spool.writing c.next_piece.new.output) ∙ c.next_piece.ensures.write_frame ∙ g.met.L.Spool.writing c.clear.new.spool in
+    let reading = sym (g.met.L.Spool.reading c.flash.new.input) ∙ c.flash.ensures.frame ∙ g.met.L.Spool.reading c.next_piece.new.output in
+    let cleared = ap (λ (f : WriteFrame). f.clear_faults) writing in
+    let wrote = ap (λ (f : ReadFrame). f.write_faults) reading in
+    let clears = ap (λ (f : ReadFrame). f.clear_faults) reading in
+    omega (arith, cleared, wrote, clears, c.next_piece.ensures.write_faults, c.clear.ensures.write_faults, c.clear.ensures.clear_faults)
+
+pub returns-in-Ok-flash-clause-spool_faults : goal.returns-in-Ok-flash-clause-spool_faults
+returns-in-Ok-flash-clause-spool_faults g c =
+    let writing = sym (g.met.L.Spool.writing c.next_piece.new.output) ∙ c.next_piece.ensures.write_frame ∙ g.met.L.Spool.writing c.clear.new.spool in
+    let failed = ap (λ (f : WriteFrame). f.read_faults) writing in
+    omega (arith, failed, c.clear.ensures.read_faults, c.flash.ensures.grows.read_faults)
+
+pub returns-in-Err-flash-clause-capacity : goal.returns-in-Err-flash-clause-capacity
+returns-in-Err-flash-clause-capacity g c =
+    let writing = sym (g.met.L.Spool.writing c.next_piece.new.output) ∙ c.next_piece.ensures.write_frame ∙ g.met.L.Spool.writing c.clear.new.spool in
+    let reading = sym (g.met.L.Spool.reading c.flash.new.input) ∙ c.flash.ensures.frame ∙ g.met.L.Spool.reading c.next_piece.new.output in
+    ap (λ (f : ReadFrame). f.capacity) reading ∙ ap (λ (f : WriteFrame). f.capacity) writing ∙ c.clear.ensures.size
+
+pub returns-in-Err-flash-clause-spool_given : goal.returns-in-Err-flash-clause-spool_given
+returns-in-Err-flash-clause-spool_given g c =
+    let writing = sym (g.met.L.Spool.writing c.next_piece.new.output) ∙ c.next_piece.ensures.write_frame ∙ g.met.L.Spool.writing c.clear.new.spool in
+    let gives = ap (λ (f : WriteFrame). f.given) writing in
+    omega (arith, gives, c.clear.ensures.given, c.flash.ensures.grows.given)
+
+pub returns-in-Err-flash-clause-grown : goal.returns-in-Err-flash-clause-grown
+returns-in-Err-flash-clause-grown g c =
+    let writing = sym (g.met.L.Spool.writing c.next_piece.new.output) ∙ c.next_piece.ensures.write_frame ∙ g.met.L.Spool.writing c.clear.new.spool in
+    let reading = sym (g.met.L.Spool.reading c.flash.new.input) ∙ c.flash.ensures.frame ∙ g.met.L.Spool.reading c.next_piece.new.output in
+    let same = ap (λ (f : ReadFrame). length f.written) reading in
+    let long = ap length c.clear.ensures.written in
+    omega (arith, same, long, c.next_piece.ensures.grown)
+
+pub returns-in-Err-flash-clause-calls : goal.returns-in-Err-flash-clause-calls
+returns-in-Err-flash-clause-calls g c =
+    let writing = sym (g.met.L.Spool.writing c.next_piece.new.output) ∙ c.next_piece.ensures.write_frame ∙ g.met.L.Spool.writing c.clear.new.spool in
+    let reading = sym (g.met.L.Spool.reading c.flash.new.input) ∙ c.flash.ensures.frame ∙ g.met.L.Spool.reading c.next_piece.new.output in
+    let gives = ap (λ (f : WriteFrame). f.given) writing in
+    let reads = ap (λ (f : WriteFrame). f.reads) writing in
+    let clears = ap (λ (f : WriteFrame). f.clears) writing in
+    let wrote = ap (λ (f : ReadFrame). f.writes) reading in
+    let cleared = ap (λ (f : ReadFrame). f.clears) reading in
+    let same = ap (λ (f : ReadFrame). length f.written) reading in
+    let long = ap length c.clear.ensures.written in
+    omega (arith, gives, reads, clears, wrote, cleared, same, long, c.next_piece.ensures.calls, c.next_piece.ensures.given, c.next_piece.ensures.grown, c.clear.ensures.given, c.clear.ensures.reads, c.clear.ensures.writes, c.clear.ensures.calls, c.flash.ensures.costs.calls, c.flash.ensures.grows.given, c.flash.ensures.grows.taken)
+
+pub returns-in-Err-flash-clause-turns : goal.returns-in-Err-flash-clause-turns
+returns-in-Err-flash-clause-turns g c =
+    let writing = sym (g.met.L.Spool.writing c.next_piece.new.output) ∙ c.next_piece.ensures.write_frame ∙ g.met.L.Spool.writing c.clear.new.spool in
+    let reading = sym (g.met.L.Spool.reading c.flash.new.input) ∙ c.flash.ensures.frame ∙ g.met.L.Spool.reading c.next_piece.new.output in
+    let gives = ap (λ (f : WriteFrame). f.given) writing in
+    let same = ap (λ (f : ReadFrame). length f.written) reading in
+    let long = ap length c.clear.ensures.written in
+    omega (arith, gives, same, long, c.next_piece.ensures.turns, c.next_piece.ensures.given, c.next_piece.ensures.grown, c.clear.ensures.given, c.flash.ensures.costs.turns, c.flash.ensures.grows.given, c.flash.ensures.grows.taken)
+
+pub returns-in-Err-flash-clause-steps : goal.returns-in-Err-flash-clause-steps
+returns-in-Err-flash-clause-steps g c =
+    let writing = sym (g.met.L.Spool.writing c.next_piece.new.output) ∙ c.next_piece.ensures.write_frame ∙ g.met.L.Spool.writing c.clear.new.spool in
+    let gives = ap (λ (f : WriteFrame). f.given) writing in
+    omega (arith, gives, c.next_piece.ensures.steps, c.next_piece.ensures.given, c.clear.ensures.given, c.flash.ensures.costs.steps, c.flash.ensures.grows.given)
+
+pub returns-in-Err-flash-clause-greatest : goal.returns-in-Err-flash-clause-greatest
+returns-in-Err-flash-clause-greatest g c =
+    omega (arith, c.next_piece.ensures.received, c.flash.ensures.costs.greatest)
+
+pub returns-in-Err-flash-clause-write_faults : goal.returns-in-Err-flash-clause-write_faults
+returns-in-Err-flash-clause-write_faults g c =
+    let writing = sym (g.met.L.Spool.writing c.next_piece.new.output) ∙ c.next_piece.ensures.write_frame ∙ g.met.L.Spool.writing c.clear.new.spool in
+    let reading = sym (g.met.L.Spool.reading c.flash.new.input) ∙ c.flash.ensures.frame ∙ g.met.L.Spool.reading c.next_piece.new.output in
+    let cleared = ap (λ (f : WriteFrame). f.clear_faults) writing in
+    let wrote = ap (λ (f : ReadFrame). f.write_faults) reading in
+    let clears = ap (λ (f : ReadFrame). f.clear_faults) reading in
+    omega (arith, cleared, wrote, clears, c.next_piece.ensures.write_faults, c.clear.ensures.write_faults, c.clear.ensures.clear_faults)
+
+pub returns-in-Err-flash-clause-spool_faults : goal.returns-in-Err-flash-clause-spool_faults
+returns-in-Err-flash-clause-spool_faults g c =
+    let writing = sym (g.met.L.Spool.writing c.next_piece.new.output) ∙ c.next_piece.ensures.write_frame ∙ g.met.L.Spool.writing c.clear.new.spool in
+    let failed = ap (λ (f : WriteFrame). f.read_faults) writing in
+    omega (arith, failed, c.clear.ensures.read_faults, c.flash.ensures.grows.read_faults)
+
+pub returns-in-Ok-flash-clause-cut : goal.returns-in-Ok-flash-clause-cut
+returns-in-Ok-flash-clause-cut g c =
+    after_cuts g ((goal.at.returns-in-Ok-flash-clause-cut g c).After-flash)
+
+pub returns-in-Ok-flash-clause-words : goal.returns-in-Ok-flash-clause-words
+returns-in-Ok-flash-clause-words g c =
+    let writing = sym (g.met.L.Spool.writing c.next_piece.new.output) ∙ c.next_piece.ensures.write_frame ∙ g.met.L.Spool.writing c.clear.new.spool in
+    let reading = sym (g.met.L.Spool.reading c.flash.new.input) ∙ c.flash.ensures.frame ∙ g.met.L.Spool.reading c.next_piece.new.output in
+    let gives = ap (λ (f : WriteFrame). f.given) writing in
+    let same = ap (λ (f : ReadFrame). length f.written) reading in
+    let long = ap length c.clear.ensures.written in
+    let words = rw c.in-Ok-Some.field-0-is at c.in-Ok-Some.ensures.words in
+    let ends = (rw c.in-Ok-Some.field-0-is at c.in-Ok-Some.ensures.piece).1 in
+    let few = rw ends at words in
+    omega (arith, gives, same, long, few, c.next_piece.ensures.given, c.next_piece.ensures.grown, c.clear.ensures.given, c.flash.ensures.costs.turns, c.flash.ensures.grows.given, c.flash.ensures.grows.taken)

@@ -4,7 +4,7 @@ use Rattle.abt_sparse.specs.Block.{classify}
 use Rattle.abt_runs.specs.RawLaws.{raw_long}
 use Rattle.abt_flash.specs.Delivering.{ImageBlocks, pieces_in}
 use Rattle.abt_flash.specs.Raw.{raw_image}
-use Rattle.abt_flash.proofs.Records.{costs_more, counts_same, gives_none, gives_same, lays_none, lays_same, least_same, mends_none, mends_same, run_begins, run_early}
+use Rattle.abt_flash.proofs.Records.{costs_more, counts_same, gives_none, gives_same, lays_none, lays_same, least_same, mendable_none, mendable_same, mends_none, mends_same, run_begins, run_early}
 use Rattle.abt_flash.proofs.Refusing.{raw_refused}
 use Rattle.abt_flash.proofs.raw.raw_behind.Goals as goal
 use Rattle.abt_flash.proofs.raw.raw_behind.Goals.{In-Ok}
@@ -50,7 +50,13 @@ pub returns-in-Ok-clause-costs : goal.returns-in-Ok-clause-costs
 returns-in-Ok-clause-costs g c =
     costs_more _ _ _ _ _ _ _ _ _ _ (rw (c.in-Ok.ensures.size.0) at c.deliver_behind.ensures.costs)
 
+pub returns-in-Ok-clause-mendable : goal.returns-in-Ok-clause-mendable
+returns-in-Ok-clause-mendable g c tells spool partition first none = mendable_same _ _ _ _ _ (same g ((goal.at.returns-in-Ok-clause-mendable g c).In-Ok)) (c.deliver_behind.ensures.mendable tells spool partition first none)
+
 -- ---- where it was not opened
+
+pub returns-in-Err-clause-mendable : goal.returns-in-Err-clause-mendable
+returns-in-Err-clause-mendable g c tells spool partition first none = mendable_none _ _ _ none
 
 pub returns-in-Err-clause-spool : goal.returns-in-Err-clause-spool
 returns-in-Err-clause-spool g c = gives_none _ _ _ _ _ _ _

@@ -6,7 +6,7 @@ use Rattle.abt_runs.specs.Sparse.{blocks_in}
 use Rattle.abt_runs.specs.SparseLaws.{sparse_long}
 use Rattle.abt_flash.specs.Delivering.{ImageBlocks, pieces_in}
 use Rattle.abt_flash.specs.Sparse.{size_in, sparse_image}
-use Rattle.abt_flash.proofs.Records.{begins_same, counts_same, gives_none, gives_same, image_same, lays_none, lays_same, least_same, mends_none, mends_same, run_begins, run_early}
+use Rattle.abt_flash.proofs.Records.{begins_same, counts_same, gives_none, gives_same, image_same, lays_none, lays_same, least_same, mendable_none, mendable_same, mends_none, mends_same, run_begins, run_early}
 use Rattle.abt_flash.proofs.Summing.{on_ok}
 use Rattle.abt_flash.proofs.Refusing.{Opens, sparse_refused, fits_sparse}
 use Rattle.abt_flash.proofs.sparse.sparse_behind.Goals as goal
@@ -62,7 +62,13 @@ returns-in-Ok-clause-costs g c =
       greatest = omega (arith, greatest, e.greatest);
     }
 
+pub returns-in-Ok-clause-mendable : goal.returns-in-Ok-clause-mendable
+returns-in-Ok-clause-mendable g c tells spool partition first none = mendable_same _ _ _ _ _ (same g ((goal.at.returns-in-Ok-clause-mendable g c).In-Ok) tells) (c.deliver_behind.ensures.mendable tells spool partition first none)
+
 -- ---- where it was not opened
+
+pub returns-in-Err-clause-mendable : goal.returns-in-Err-clause-mendable
+returns-in-Err-clause-mendable g c tells spool partition first none = mendable_none _ _ _ none
 
 pub returns-in-Err-clause-spool : goal.returns-in-Err-clause-spool
 returns-in-Err-clause-spool g c = gives_none _ _ _ _ _ _ _

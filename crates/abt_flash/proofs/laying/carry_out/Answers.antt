@@ -1,0 +1,63 @@
+use Rattle.std.proofs.Common.{◌≡◌, ◌-◌, ◌*◌, ℕ, List, length, take, arith, ap, refl, sym, ◌∙◌, replicate}
+use Rattle.std.specs.List.{concat}
+use Rattle.abt_sparse.specs.Block.{over}
+use Rattle.abt_io.proofs.Words.{length_words}
+use Rattle.abt_chunks.specs.Ahead.{somes}
+use Rattle.abt_flash.specs.Laying.{from_place}
+use Rattle.abt_flash.proofs.Cells.{nothing_over, put_over}
+use Rattle.abt_flash.proofs.Moments.{during_put, during_sync, same_content}
+use Rattle.abt_flash.proofs.Tasks.{on_put, on_sync, on_words}
+use Rattle.abt_flash.proofs.laying.carry_out.Goals as goal
+
+pub returns-in-Bytes-clause-laid : goal.returns-in-Bytes-clause-laid
+returns-in-Bytes-clause-laid g c tells =
+    let n = c.in-Bytes.n in
+    let w = c.args.w.now.bytes in
+    let p = g.P.Source.content c.args.partition.now in
+    let sized = g.met.P.Source.sized c.args.partition.now tells in
+    let fits = rw c.in-Bytes.is at c.requires.fits in
+    let none : n - 0 ≡ n = omega arith in
+    let part : c.part.result.now ≡ take n w = c.part.ensures.value ∙ ap (λ (k : ℕ). take k w) none in
+    let long : length c.part.result.now ≡ n = c.part.ensures.long ∙ none in
+    rw c.in-Bytes.is (on_put n c.write_all_at.result _ _ (λ e. e ∙ put_over c.args.at p c.part.result.now (omega (arith, sized, fits, long)) ∙ ap (λ (x : List ℕ). over p (from_place c.args.at (somes x))) part) (c.write_all_at.ensures.written tells))
+
+pub returns-in-Bytes-clause-moments : goal.returns-in-Bytes-clause-moments
+returns-in-Bytes-clause-moments g c tells =
+    let long : length c.part.result.now ≡ c.in-Bytes.n = c.part.ensures.long ∙ (let z : c.in-Bytes.n - 0 ≡ c.in-Bytes.n = omega arith in z) in
+    rw c.in-Bytes.is (during_put c.args.at _ _ _ _ _ _ long (c.write_all_at.ensures.moments tells))
+
+pub returns-in-Bytes-clause-all : goal.returns-in-Bytes-clause-all
+returns-in-Bytes-clause-all g c =
+    let long : length c.part.result.now ≡ c.in-Bytes.n = c.part.ensures.long ∙ (let z : c.in-Bytes.n - 0 ≡ c.in-Bytes.n = omega arith in z) in
+    rw c.in-Bytes.is (on_put c.in-Bytes.n c.write_all_at.result _ _ (λ e. omega (arith, e, long)) c.write_all_at.ensures.all)
+
+pub returns-in-Words-clause-laid : goal.returns-in-Words-clause-laid
+returns-in-Words-clause-laid g c tells =
+    let n = c.in-Words.n in
+    let word = c.in-Words.word in
+    let p = g.P.Source.content c.args.partition.now in
+    let sized = g.met.P.Source.sized c.args.partition.now tells in
+    let fits = rw c.in-Words.is at c.requires.fits in
+    let four : length word ≡ 4 = omega arith in
+    let long : length (concat (replicate n word)) ≡ 4 * n = length_words n word four in
+    rw c.in-Words.is (on_words word n c.lay_words.result _ _ (λ e. e ∙ put_over c.args.at p (concat (replicate n word)) (omega (arith, sized, fits, long))) (c.lay_words.ensures.written tells))
+
+pub returns-in-Words-clause-moments : goal.returns-in-Words-clause-moments
+returns-in-Words-clause-moments g c tells = rw c.in-Words.is (during_put c.args.at _ _ _ _ _ _ refl (c.lay_words.ensures.moments tells))
+
+pub returns-in-Words-clause-all : goal.returns-in-Words-clause-all
+returns-in-Words-clause-all g c = rw c.in-Words.is (on_words c.in-Words.word c.in-Words.n c.lay_words.result _ _ (λ e. e) c.lay_words.ensures.all)
+
+pub returns-in-Sync-clause-laid : goal.returns-in-Sync-clause-laid
+returns-in-Sync-clause-laid g c tells =
+    let p = g.P.Source.content c.args.partition.now in
+    rw c.in-Sync.is (on_sync c.sync.result _ (same_content _ _ (c.sync.ensures.kept tells) ∙ sym (nothing_over p c.args.at)))
+
+pub returns-in-Sync-clause-moments : goal.returns-in-Sync-clause-moments
+returns-in-Sync-clause-moments g c tells = rw c.in-Sync.is (during_sync _ _ _ _ _ (c.sync.ensures.kept tells) (c.sync.ensures.moments tells))
+
+pub returns-in-Sync-clause-all : goal.returns-in-Sync-clause-all
+returns-in-Sync-clause-all g c = rw c.in-Sync.is (on_sync c.sync.result _ (omega (arith, c.sync.ensures.taken)))
+
+pub returns-in-Nothing-clause-laid : goal.returns-in-Nothing-clause-laid
+returns-in-Nothing-clause-laid g c tells = rw c.in-Nothing.is (sym (nothing_over (g.P.Source.content c.args.partition.now) c.args.at))
