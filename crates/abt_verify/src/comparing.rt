@@ -1,0 +1,134 @@
+//! A part of an image against what stands at its place on a partition.
+
+ghost use Rattle.std.specs.Prelude.{◌≡◌, ◌≤◌, ◌<◌, ◌+◌, ◌*◌, ◌^◌, IsTrue, IsNone, IfNone, take};
+ghost use Rattle.abt_chunks.specs.Ahead.{somes};
+ghost use Rattle.abt_verify.specs.Comparing.{FitsHalf, IsStill, PartDiffers, cells_by, said_of};
+ghost use Rattle.abt_verify.specs.Fault.{PartCause};
+ghost use Rattle.abt_verify.specs.Standing.{Stands, from_place};
+
+use crate::alike::alike;
+use crate::fault::VerifyFault;
+use abt_chunks::Part;
+use abt_io::{Meter, Source, Window, gather_at, lay_word};
+
+/// How many bytes of the window are the image's, from its front, and how many behind them the partition's.
+pub(crate) const HALF: usize = 32_768;
+
+/// How many words of four bytes that are.
+pub(crate) const HALF_WORDS: u64 = 8_192;
+
+/// What comparing a part answers.
+#[derive(Clone, Copy, Debug, PartialEq, Eq, Drop)]
+pub(crate) struct Compared {
+    /// How many bytes were read of the partition.
+    pub received: u32,
+    /// Why the part does not stand there, if it doesn't.
+    pub fault: Option<VerifyFault>,
+}
+
+/// Compares the first n bytes of the window with those of the partition from a place on, which are read into its other
+/// half. Where the partition ends before them, the first byte that is missing differs.
+pub(crate) fn compare_at<P: Source>(
+    n: usize,
+    at: u64,
+    partition: &mut P,
+    w: &mut Window,
+    m: &mut Meter,
+) -> Compared
+    requires half { n ≤ 32768 }
+    requires below { at + n < 2 ^ 64 }
+    ensures few_bytes { result.received ≤ n }
+    ensures all { IfNone result.fault (result.received ≡ n) }
+    ensures stands { IsTrue P.tells → IfNone result.fault (Stands (P.content partition.old)
+        (from_place at (somes (take n w.old.bytes)))) }
+    ensures differs { IsTrue P.tells → PartDiffers result.fault (P.content partition.old)
+        (from_place at (somes (take n w.old.bytes))) }
+    ensures cause { PartCause result.fault (P.read_faults partition.old) (P.read_faults partition.new) }
+    ensures given { P.given partition.new ≡ P.given partition.old + result.received }
+    ensures content { IsTrue P.tells → P.content partition.new ≡ P.content partition.old }
+    ensures frame { P.read_frame partition.new ≡ P.read_frame partition.old }
+    ensures faults { P.read_faults partition.old ≤ P.read_faults partition.new }
+    ensures reads { P.reads partition.new ≤ P.reads partition.old + result.received + 1 }
+    ensures turns { m.new.turns.number ≤ m.old.turns.number + 2 * result.received + 2 }
+    ensures few { IfNone result.fault (m.new.turns.number ≤ m.old.turns.number + 2 * result.received + 1) }
+    ensures steps { m.new.steps.number ≡ m.old.steps.number }
+    ensures greatest { m.new.greatest.number ≡ m.old.greatest.number }
+{
+    w.is_whole();
+    let got = gather_at(partition, at, w.part_mut(HALF, HALF + n), m);
+    let received = got.count as u32;
+    match got.fault {
+        Some(fault) => {
+            return Compared {
+                received,
+                fault: Some(VerifyFault::PartitionRead(fault)),
+            };
+        }
+        None => {}
+    }
+    let same = alike(w.part(0, n), w.part(HALF, HALF + got.count), m);
+    if same < n {
+        return Compared {
+            received,
+            fault: Some(VerifyFault::Differs {
+                at: at + same as u64,
+            }),
+        };
+    }
+    Compared {
+        received,
+        fault: None,
+    }
+}
+
+/// Compares what a part gives with what stands from a place on; of a gap nothing. Raw bytes stand in the front of the
+/// window, and a word is laid there.
+pub(crate) fn compare_part<P: Source>(
+    part: Part,
+    at: u64,
+    partition: &mut P,
+    w: &mut Window,
+    m: &mut Meter,
+) -> Compared
+    requires half { FitsHalf part }
+    requires below { at + said_of part < 2 ^ 64 }
+    ensures few_bytes { result.received ≤ said_of part }
+    ensures all { IfNone result.fault (result.received ≡ said_of part) }
+    ensures stands { IsTrue P.tells → IfNone result.fault (Stands (P.content partition.old)
+        (from_place at (cells_by part w.old.bytes))) }
+    ensures differs { IsTrue P.tells → PartDiffers result.fault (P.content partition.old)
+        (from_place at (cells_by part w.old.bytes)) }
+    ensures still { IsStill part → (result.fault ≡ None) × (partition.new ≡ partition.old) }
+    ensures cause { PartCause result.fault (P.read_faults partition.old) (P.read_faults partition.new) }
+    ensures given { P.given partition.new ≡ P.given partition.old + result.received }
+    ensures content { IsTrue P.tells → P.content partition.new ≡ P.content partition.old }
+    ensures frame { P.read_frame partition.new ≡ P.read_frame partition.old }
+    ensures faults { P.read_faults partition.old ≤ P.read_faults partition.new }
+    ensures reads { P.reads partition.new ≤ P.reads partition.old + result.received + 1 }
+    ensures turns { m.new.turns.number ≤ m.old.turns.number + 2 * result.received + 17 }
+    ensures few { IfNone result.fault (m.new.turns.number ≤ m.old.turns.number + 3 * result.received) }
+    ensures steps { m.new.steps.number ≡ m.old.steps.number }
+    ensures greatest { m.new.greatest.number ≡ m.old.greatest.number }
+{
+    match part {
+        Part::Raw(n) => compare_at(n, at, partition, w, m),
+        Part::Words(word, n) => {
+            lay_word(w, word, n as usize, m);
+            compare_at(4 * n as usize, at, partition, w, m)
+        }
+        Part::Skip(_) => nothing(),
+        Part::Nothing => nothing(),
+        Part::End => nothing(),
+        Part::Fault(_) => nothing(),
+    }
+}
+
+/// Nothing is compared.
+fn nothing() -> Compared
+    ensures { result ≡ record { received = 0; fault = None } }
+{
+    Compared {
+        received: 0,
+        fault: None,
+    }
+}

@@ -1,0 +1,167 @@
+//! Verifying a sparse image in steps.
+
+ghost use Rattle.std.specs.Prelude.{◌≡◌, ◌<◌, ◌≤◌, ◌+◌, ◌-◌, ◌*◌, ◌/◌, ◌^◌, IsTrue, OnOk, length, take, drop, max, min};
+ghost use Rattle.abt_chunks.specs.Walking.{todo, upto_of};
+ghost use Rattle.abt_verify.specs.Fault.{Rises};
+ghost use Rattle.abt_verify.specs.Stepping.{Compares, Goes, IsOver, Leaves, OnMore, answer_of, idle, stage_of};
+
+use crate::comparing::{HALF, HALF_WORDS, compare_part};
+use crate::fault::{VerifyFault, sparse_fault};
+use crate::stage::Stage;
+use abt_chunks::{Part, Phase, Progress, Walk};
+use abt_io::{Input, Meter, Source, Window};
+
+/// Compares the raw and fill blocks of a sparse image with what stands at their places on a partition, and passes over
+/// the blocks that do not matter. It holds no bytes: each step compares what it read.
+#[derive(Drop)]
+pub struct Verifier {
+    pub walk: Walk,
+    pub stage: Stage,
+    /// How many bytes were compared, of which no image has more than fit here.
+    pub compared: u64,
+}
+
+/// How many blocks so many bytes are, and at most so many.
+fn blocks_in(bytes: u64, block_size: u32, most: u32) -> u64
+    requires { 0 < block_size }
+    ensures { result ≡ min (bytes / block_size) most }
+{
+    (bytes / u64::from(block_size)).min(u64::from(most))
+}
+
+/// The blocks of all chunks so far end below 2^64, which contracts alone need to be told.
+#[inline(always)]
+fn is_in_range(walk: &Walk)
+    ensures { upto_of walk.now < 2 ^ 64 }
+{
+    let _blocks = walk.have;
+    let _size = walk.header.blk_sz;
+}
+
+/// What a step answers once its part stands.
+fn answer(part: Part) -> Result<Progress, VerifyFault>
+    ensures { result ≡ answer_of part }
+{
+    match part {
+        Part::End => Ok(Progress::Done),
+        Part::Fault(fault) => Err(sparse_fault(fault)),
+        Part::Raw(_) => Ok(Progress::More),
+        Part::Words(_, _) => Ok(Progress::More),
+        Part::Skip(_) => Ok(Progress::More),
+        Part::Nothing => Ok(Progress::More),
+    }
+}
+
+/// Where that leaves a verifier.
+pub(crate) fn stage_behind(answer: Result<Progress, VerifyFault>) -> Stage
+    ensures { result ≡ stage_of answer }
+{
+    match answer {
+        Ok(Progress::More) => Stage::Going,
+        Ok(Progress::Done) => Stage::Done,
+        Err(fault) => Stage::Failed(fault),
+    }
+}
+
+impl Verifier {
+    /// A verifier that has read nothing.
+    pub fn open() -> Verifier
+        ensures walk { result.walk.phase ≡ Phase.Header }
+        ensures stage { result.stage ≡ Stage.Going }
+        ensures compared { result.compared ≡ 0 }
+    {
+        Verifier {
+            walk: Walk::new(),
+            stage: Stage::Going,
+            compared: 0,
+        }
+    }
+
+    /// How many blocks were compared, once the image has ended.
+    pub(crate) fn blocks(&self) -> u64
+        ensures { result ≡ min (self.now.compared / self.now.walk.header.blk_sz) self.now.walk.header.total_blks }
+    {
+        let header = self.walk.header;
+        blocks_in(self.compared, header.blk_sz, header.total_blks)
+    }
+
+    /// One step: at most half a window is read of the input, and what it gives is compared with as many bytes of the
+    /// partition. Of a gap nothing is read. An error is a fault of the image (1 to 10) or of a device (11 reading the
+    /// input, 37 the partition), or the first byte that differs (35), as all behind the partition's end do. After an error
+    /// or Done every step answers that again and calls no device.
+    pub fn step<I: Input, P: Source>(
+        &mut self,
+        input: &mut I,
+        partition: &mut P,
+        w: &mut Window,
+        m: &mut Meter,
+    ) -> Result<Progress, VerifyFault>
+        ensures asked { I.given input.old ≤ I.given input.new × I.given input.new ≤ I.given input.old + 32768 }
+        ensures asked_there { P.given partition.old ≤ P.given partition.new ×
+            P.given partition.new ≤ P.given partition.old + 32768 }
+        ensures present { IsTrue I.tells → I.given input.new - I.given input.old ≤ length (I.remaining input.old) }
+        ensures rest { IsTrue I.tells → I.remaining input.new
+            ≡ drop (I.given input.new - I.given input.old) (I.remaining input.old) }
+        // What it compares, and whether that stands.
+        ensures told { IsTrue I.tells → Goes self.old.stage self.old.walk.phase →
+            Compares P.tells result self.old.walk self.new.walk
+            (take (I.given input.new - I.given input.old) (I.remaining input.old)) (I.remaining input.new)
+            (P.content partition.old) (P.given partition.old) (P.given partition.new) }
+        ensures compared { Goes self.old.stage self.old.walk.phase →
+            OnOk result (self.new.compared ≡ min (self.old.compared + (P.given partition.new - P.given partition.old))
+            (2 ^ 64 - 1)) }
+        ensures stage { self.new.stage ≡ stage_of result }
+        ensures leaves { Goes self.old.stage self.old.walk.phase → Leaves result self.new.walk.phase }
+        ensures again { IsOver self.old.stage → (self.new ≡ self.old) × (input.new ≡ input.old) ×
+            (partition.new ≡ partition.old) }
+        ensures cause { Goes self.old.stage self.old.walk.phase →
+            Rises result (I.read_faults input.old) (I.read_faults input.new) (P.read_faults partition.old)
+            (P.read_faults partition.new) }
+        // The partition stays as it is.
+        ensures content { IsTrue P.tells → P.content partition.new ≡ P.content partition.old }
+        ensures unwritten { P.read_frame partition.new ≡ P.read_frame partition.old }
+        ensures frame { I.read_frame input.new ≡ I.read_frame input.old }
+        ensures read_faults { I.read_faults input.old ≤ I.read_faults input.new }
+        ensures partition_faults { P.read_faults partition.old ≤ P.read_faults partition.new }
+        ensures fewer { OnMore result (todo self.new.walk < todo self.old.walk) }
+        ensures progress { OnMore result (idle self.new.walk + 1
+            ≤ idle self.old.walk + 2 * (I.given input.new - I.given input.old)
+            + 2 * (P.given partition.new - P.given partition.old)) }
+        ensures reads { I.reads input.new ≤ I.reads input.old + (I.given input.new - I.given input.old) + 1 }
+        ensures partition_reads { P.reads partition.new ≤ P.reads partition.old
+            + (P.given partition.new - P.given partition.old) + 1 }
+        ensures turns { m.new.turns.number ≤ m.old.turns.number + (I.given input.new - I.given input.old)
+            + 2 * (P.given partition.new - P.given partition.old) + 18 }
+        ensures few { OnMore result (m.new.turns.number ≤ m.old.turns.number + (I.given input.new - I.given input.old)
+            + 3 * (P.given partition.new - P.given partition.old) + 1) }
+        ensures steps { m.new.steps.number ≡ m.old.steps.number + 1 }
+        ensures greatest { m.new.greatest.number ≡ max m.old.greatest.number
+            ((I.given input.new - I.given input.old) + (P.given partition.new - P.given partition.old)) }
+    {
+        match self.stage {
+            Stage::Done => {
+                m.close_step(0);
+                Ok(Progress::Done)
+            }
+            Stage::Failed(fault) => {
+                m.close_step(0);
+                Err(fault)
+            }
+            Stage::Going => {
+                is_in_range(&self.walk);
+                let at = self.walk.place();
+                let all = self.walk.words.max(1);
+                let taken = self.walk.part_within(HALF_WORDS, all, HALF, input, w, m);
+                let done = compare_part(taken.part, at, partition, w, m);
+                m.close_step(taken.received + done.received);
+                self.compared = self.compared.saturating_add(u64::from(done.received));
+                let answer = match done.fault {
+                    Some(fault) => Err(fault),
+                    None => answer(taken.part),
+                };
+                self.stage = stage_behind(answer);
+                answer
+            }
+        }
+    }
+}
