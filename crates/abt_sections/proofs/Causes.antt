@@ -1,10 +1,13 @@
 -- A cause that is handed on: counts of faults never fall.
-use Rattle.std.proofs.Common.{◌≡◌, ℕ, ◌≤◌, ◌<◌, ◌+◌, List, length, get_or, set, arith, sym, subst, Option, None, Result, Ok, Err}
-use Rattle.std.specs.Prelude.{OnOk}
+use Rattle.std.proofs.Common.{◌≡◌, ℕ, ◌≤◌, ◌<◌, ◌+◌, List, length, get_or, set, arith, refl, sym, subst, Option, None, Result, Ok, Err}
+use Rattle.std.specs.Prelude.{OnOk, OnErr, IfErr}
 use Rattle.std.proofs.lemmas.List.Sums.{sum_by-set}
 use Rattle.abt_sections.specs.declared.fault.SectionFault.{SectionFault}
 use Rattle.abt_sections.specs.declared.fault.SectionFault.TheVariants.{Read, Write, SourceChanged, Header, Entry, Name, CommandLine, SectionTruncated, SectionTooLarge}
-use Rattle.abt_sections.specs.Cause.{MoveCause, ReadCause, OpenCause, PackCause, total}
+use Rattle.abt_io.specs.Cause.{CopyCause, full_in_copy}
+use Rattle.abt_io.specs.declared.copying.CopyFault.{CopyFault}
+use Rattle.abt_io.specs.declared.copying.CopyFault.TheVariants as copies
+use Rattle.abt_sections.specs.Cause.{MoveCause, ReadCause, OpenCause, PackCause, copy_fault, full_in_fault, total}
 use Rattle.abt_sections.specs.Header.{Header as OfHeader}
 use Rattle.abt_sections.specs.Open.{EntryRefusedAs}
 
@@ -32,6 +35,17 @@ read_moves Name r r' w w' C h x = absurd x
 read_moves CommandLine r r' w w' C h x = absurd x
 read_moves (SectionTruncated s) r r' w w' C h x = absurd x
 read_moves (SectionTooLarge s) r r' w w' C h x = absurd x
+
+-- of a copy
+pub copy_moves : (e : CopyFault) (r r' w w' : ℕ) (C D : Type 0) → (C → D) → CopyCause e C r r' w w' → MoveCause (copy_fault e) r r' w w' D
+copy_moves (copies.Read f) r r' w w' C D h x = x
+copy_moves (copies.Write f) r r' w w' C D h x = x
+copy_moves copies.Changed r r' w w' C D h x = h x
+
+pub copy_full : (e : CopyFault) → full_in_fault (copy_fault e) ≡ full_in_copy e
+copy_full (copies.Read f) = refl
+copy_full (copies.Write f) = refl
+copy_full copies.Changed = refl
 
 -- one of several that were lent in turn, at index i
 pub part_move : {S : Type 0} (f : S → ℕ) (ps : List S) (i t w0 w w' w1 : ℕ) (d s' : S) (e : SectionFault) (C D : Type 0) → i < length ps → t ≤ total f ps → w0 ≤ w → w' ≤ w1 → (C → D) → MoveCause e (f (get_or ps i d)) (f s') w w' C → MoveCause e t (total f (set ps i s')) w0 w1 D
@@ -92,3 +106,15 @@ pack_moves o e r r' w w' C none x = subst (λ (p : Option SectionFault). PackCau
 pub on_ok : {X E : Type 0} {P : Type 0} (r : Result X E) → P → OnOk r P
 on_ok (Ok x) p = p
 on_ok (Err e) p = tt
+
+pub on_ok_then : {X E : Type 0} {P Q : Type 0} (r : Result X E) → (P → Q) → OnOk r P → OnOk r Q
+on_ok_then (Ok x) h p = h p
+on_ok_then (Err e) h p = tt
+
+pub on_err : {X E : Type 0} {P : Type 0} (r : Result X E) → P → OnErr r P
+on_err (Ok x) p = tt
+on_err (Err e) p = p
+
+pub if_err_then : {X E : Type 0} {P Q : E → Type 0} (r : Result X E) → ((e : E) → P e → Q e) → IfErr r P → IfErr r Q
+if_err_then (Ok x) h p = tt
+if_err_then (Err e) h p = h e p

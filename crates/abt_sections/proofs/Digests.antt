@@ -1,13 +1,17 @@
 -- What a hasher holds: parts one after another, each with its size.
-use Rattle.std.proofs.Common.{◌≡◌, ℕ, zero, suc, ◌+◌, ◌≤◌, ◌<◌, List, [], ◌∷◌, ◌++◌, length, take, drop, map, replicate, get_or, refl, sym, ap, subst, ◌∙◌, append_assoc, append-nil, arith, length-drop, drop-drop}
+use Rattle.std.proofs.Common.{◌≡◌, ℕ, zero, suc, ◌+◌, ◌≤◌, ◌<◌, List, [], ◌∷◌, ◌++◌, length, take, drop, map, replicate, get_or, refl, sym, ap, subst, ◌∙◌, append_assoc, append-nil, arith, length-drop, drop-drop, Bool, true, false, cond, nat_lt}
 use Rattle.std.proofs.lemmas.List.{length-map, length-take-le, take_all}
+use Rattle.std.proofs.lemmas.Bool.{false≢true}
 use Rattle.byteorder.specs.Endian.{little_bytes}
 use Rattle.sha1.specs.declared.Sha1.{Sha1}
 use Rattle.sha1.specs.Sha1.{Holds, sha1}
 use Rattle.abt_io.proofs.Parts.{take_plus}
 use Rattle.abt_headers.specs.declared.sections.Place.{Place}
+use Rattle.std.specs.Prelude.{IsTrue}
+use Rattle.abt_sections.specs.BootCanon.{id_for}
 use Rattle.abt_sections.specs.Id.{sized_parts, id_of}
 use Rattle.abt_sections.specs.Layout.{part_of, parts_of}
+use Rattle.abt_sections.proofs.Growing.{written_next}
 use Rattle.abt_sections.proofs.Parts.{next_part}
 
 -- one ask more
@@ -20,6 +24,10 @@ hashed_next h s s' t from at n same held =
     ∙ ap (λ (l : List ℕ). t ++ (take at x ++ take n l)) (sym (drop-drop at from s))
     ∙ ap (λ (l : List ℕ). t ++ l) (take_plus at n x) in
     subst (λ (l : List ℕ). Holds h l) e held
+
+-- one ask more of a whole source
+pub hashed_front : (h : Sha1) (s s' t : List ℕ) (at n : ℕ) → s' ≡ s → Holds h ((t ++ take at s) ++ take n (drop at s')) → Holds h (t ++ take (at + n) s)
+hashed_front h s s' t at n same held = subst (λ (l : List ℕ). Holds h l) (written_next t (t ++ take at s) ((t ++ take at s) ++ take n (drop at s')) s s' at n same refl refl) held
 
 sized-append : (xs : List (List ℕ)) (b : List ℕ) → sized_parts (xs ++ (b ∷ [])) ≡ (sized_parts xs ++ b) ++ little_bytes 4 (length b)
 sized-append [] b = append-nil (b ++ little_bytes 4 (length b))
@@ -65,3 +73,9 @@ hash_stored h x x' ps i p same lt is there held =
     ∙ ap (λ (l : List ℕ). (sized_parts (take i (parts_of x ps)) ++ l) ++ little_bytes 4 p.size) (sym all) in
     hash_next h (take i (parts_of x ps) ++ (b ∷ [])) (take (i + 1) (parts_of x ps)) next
     (hash_more h (take i (parts_of x ps)) b p.size (sym long) (subst (λ (l : List ℕ). Holds h l) e held))
+
+-- the id of the versions that have one, of what was hashed; else zeros
+pub wanted_id : (version : ℕ) (id : Bool) (h : Sha1) (d : List ℕ) (parts : List (List ℕ)) → id ≡ nat_lt version 3 → (IsTrue id → Holds h (sized_parts parts)) → (IsTrue id → (t : List ℕ) → Holds h t → d ≡ sha1 t ++ replicate 12 0) → ((IsTrue id → ⊥) → d ≡ replicate 32 0) → d ≡ id_for version parts
+unfolding id_of
+wanted_id version true h d parts is held wanted unwanted = wanted refl (sized_parts parts) (held refl) ∙ ap (λ (t : Bool). cond t (sha1 (sized_parts parts) ++ replicate 12 0) (replicate 32 0)) is
+wanted_id version false h d parts is held wanted unwanted = unwanted false≢true ∙ ap (λ (t : Bool). cond t (sha1 (sized_parts parts) ++ replicate 12 0) (replicate 32 0)) is

@@ -1,8 +1,8 @@
 -- Parts that are laid one after another, and how many bytes they take.
-use Rattle.std.proofs.Common.{◌≡◌, ℕ, ◌+◌, ◌-◌, ◌*◌, ◌≤◌, List, [], ◌∷◌, ◌++◌, take, drop, refl, sym, ap, ◌∙◌, append_assoc, append-nil, arith, take-append-drop}
+use Rattle.std.proofs.Common.{◌≡◌, ℕ, ◌+◌, ◌-◌, ◌*◌, ◌≤◌, List, [], ◌∷◌, ◌++◌, ◌<◌, length, get_or, sum, take, drop, refl, sym, ap, ◌∙◌, append_assoc, append-nil, arith, take-append-drop}
 use Rattle.std.specs.List.{concat}
 use Rattle.std.proofs.lemmas.List.Folds.{concat-append}
-use Rattle.std.proofs.lemmas.List.Sums.{sum_by-append}
+use Rattle.std.proofs.lemmas.List.Sums.{sum_by-append, sum_by_more}
 use Rattle.abt_headers.specs.Page.{pages}
 use Rattle.abt_io.proofs.Parts.{take_plus}
 use Rattle.abt_sections.specs.Layout.{padded, laid, laid_size}
@@ -31,6 +31,16 @@ laid_less page sizes j n h =
     let k : n ≡ j + (n - j) = omega arith in
     let f : ℕ → ℕ = λ m. pages m page * page in
     omega (arith, ap (λ (m : ℕ). laid_size page (take m sizes)) k, ap (laid_size page) (take_plus j (n - j) sizes), sum_by-append f (take j sizes) (take (n - j) (drop j sizes)))
+
+-- the same of their sizes alone
+pub sum_next : (sizes : List ℕ) (i : ℕ) → i < length sizes → sum (take (i + 1) sizes) ≡ sum (take i sizes) + get_or sizes i 0
+sum_next sizes i h = sum_by_more (λ (n : ℕ). n) sizes i 0 h
+
+pub sum_less : (sizes : List ℕ) (j n : ℕ) → j ≤ n → sum (take j sizes) ≤ sum (take n sizes)
+sum_less sizes j n h =
+    let k : n ≡ j + (n - j) = omega arith in
+    let f : ℕ → ℕ = λ m. m in
+    omega (arith, ap (λ (m : ℕ). sum (take m sizes)) k, ap sum (take_plus j (n - j) sizes), sum_by-append f (take j sizes) (take (n - j) (drop j sizes)))
 
 -- ---- parts end to end
 

@@ -14,8 +14,10 @@ pub mod Fronts
 pub mod Growing
 pub mod Laying
 pub mod Layouts
+pub mod Magic
 pub mod Padding
 pub mod Parts
+pub mod Placing
 pub mod Sizing
 pub mod Starting
 pub mod Tables
@@ -23,5 +25,6 @@ pub mod TextFields
 pub mod VendorCanonical
 pub mod VendorCanons
 pub mod VendorTables
+pub mod Verdicts
 pub mod Wholes
 pub mod Zeros

@@ -1,7 +1,9 @@
 -- The sizes of parts.
-use Rattle.std.proofs.Common.{◌≡◌, ℕ, suc, ◌+◌, ◌-◌, ◌≤◌, ◌<◌, Bool, true, false, cond, List, [], ◌∷◌, ◌++◌, length, take, drop, map, replicate, get_or, set, refl, sym, ap, ◌∙◌, append_assoc, arith, length-append, Some, None, nat_lt, ◌==◌}
+use Rattle.std.proofs.Common.{◌≡◌, ℕ, suc, ◌+◌, ◌-◌, ◌≤◌, ◌<◌, Bool, true, false, cond, List, [], ◌∷◌, ◌++◌, length, take, drop, map, replicate, get_or, set, refl, sym, ap, ◌∙◌, append_assoc, arith, length-append, Some, None, nat_lt, ◌==◌, sum}
 use Rattle.std.proofs.lemmas.Bool.{le-ltb, lt-ltb}
-use Rattle.std.proofs.lemmas.List.{length-map, length-take-le, take_more, drop_more, drop_all, set_at, get_or_default}
+use Rattle.std.proofs.lemmas.List.{length-map, length-take-le, take_more, drop_more, drop_all, set_at, get_or_default, take_at}
+use Rattle.std.proofs.lemmas.List.Sums.{sum-map}
+use Rattle.abt_sections.specs.Cause.{total}
 use Rattle.abt_headers.specs.declared.sections.Section.{Section}
 use Rattle.abt_sections.specs.declared.fault.SectionFault.TheVariants.{SectionTooLarge}
 use Rattle.abt_headers.specs.declared.sections.Section.TheVariants.{Kernel, Ramdisk, Second, RecoveryDtbo, Dtb, Signature}
@@ -69,3 +71,10 @@ few_of false false false false = omega arith
 
 pub few : (version : ℕ) → length (boot_names version) ≤ 5
 few version = few_of (version == 0) (version == 1) (version == 2) (version == 3)
+
+-- what parts have in all
+pub sum_of_sizes : {S : Type 0} (f : S → ℕ) (ps : List S) (sizes : List ℕ) (n : ℕ) → sizes ≡ filled 5 (map f ps) → n ≡ length ps → sum (take n sizes) ≡ total f ps
+sum_of_sizes f ps sizes n is long =
+    ap (λ (l : List ℕ). sum (take n l)) is
+    ∙ ap sum (take_at (map f ps) (replicate (5 - length (map f ps)) 0) n (omega (arith, long, length-map ps f)))
+    ∙ sum-map f ps

@@ -1,13 +1,14 @@
 -- Sections that are there, and what stands in them.
 use Rattle.std.proofs.Common.{◌≡◌, ℕ, zero, suc, ◌+◌, ◌*◌, ◌≤◌, ◌<◌, Bool, true, false, cond, List, [], ◌∷◌, length, get_or, refl, sym, ap, ◌∙◌, arith, Option, Some, None, nat_lt, ◌&&◌, ◌-◌, take, drop, drop-drop}
-use Rattle.std.proofs.lemmas.List.{take-take, drop-take}
+use Rattle.std.proofs.lemmas.List.{take-take, drop-take, get_or_default}
 use Rattle.std.proofs.lemmas.Bool.{ltb-false, lt-ltb}
 use Rattle.abt_headers.specs.declared.sections.Place.{Place}
 use Rattle.abt_headers.specs.declared.sections.Section.{Section}
 use Rattle.abt_headers.specs.declared.sections.Section.TheVariants.{VendorRamdisk, Table}
 use Rattle.abt_headers.specs.declared.vendor.VendorFront.{VendorFront}
+use Rattle.abt_headers.specs.declared.entry.RamdiskEntry.{RamdiskEntry}
 use Rattle.abt_headers.specs.Vendor.{Tail}
-use Rattle.abt_sections.specs.Header.{Header, OfBoot, OfVendor, places_of, fragment_count, table_at, ramdisk_at, ramdisk_size, HasWholeTable}
+use Rattle.abt_sections.specs.Header.{Header, OfBoot, OfVendor, places_of, fragment_count, table_at, ramdisk_at, ramdisk_size, HasWholeTable, entry_of, fragment_of}
 use Rattle.abt_sections.specs.Open.{beyond, ends_beyond}
 
 here : (b : Bool) (s : Section) (o : Option Section) → cond b (Some s) o ≡ None → (b ≡ false) × (o ≡ None)
@@ -69,3 +70,14 @@ part_within x at r o n h =
     let e : r ≡ o + (r - o) = omega arith in
     let k : n ≤ r - o = omega arith in
     sym (ap (λ (m : ℕ). take n (drop o (take m (drop at x)))) e ∙ ap (take n) (drop-take o (r - o) (drop at x)) ∙ take-take n (r - o) (drop o (drop at x)) k ∙ ap (take n) (drop-drop o at x))
+
+-- the section at a place of the list is one
+pub same_place : (ps : List Place) (i : ℕ) (p q : Place) → i < length ps → p ≡ get_or ps i p → q ≡ get_or ps i q → p ≡ q
+same_place ps i p q lt a b = a ∙ get_or_default ps i p q lt ∙ sym b
+
+-- the fragment that an entry says
+pub fragment_is : (x x' : List ℕ) (h : Header) (i at : ℕ) (e : RamdiskEntry) → x' ≡ x → at ≡ ramdisk_at h + e.ramdisk_offset → e ≡ entry_of x h i → take e.ramdisk_size (drop at x') ≡ fragment_of x h i
+fragment_is x x' h i at e same place is =
+    ap (λ (l : List ℕ). take e.ramdisk_size (drop at l)) same
+    ∙ ap (λ (k : ℕ). take e.ramdisk_size (drop k x)) place
+    ∙ ap (λ (q : RamdiskEntry). take q.ramdisk_size (drop (ramdisk_at h + q.ramdisk_offset) x)) is

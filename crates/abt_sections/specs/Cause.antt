@@ -1,8 +1,16 @@
 -- Why a call was refused: each fault with what must have happened.
 use Rattle.std.specs.Prelude.{◌≡◌, ℕ, ◌<◌, List, sum_by, Option, Some, None, Result, Ok, Err}
 use Rattle.abt_io.specs.Count.{full_in}
+use Rattle.abt_io.specs.declared.copying.CopyFault.{CopyFault}
+use Rattle.abt_io.specs.declared.copying.CopyFault.TheVariants as copies
 use Rattle.abt_sections.specs.declared.fault.SectionFault.{SectionFault}
 use Rattle.abt_sections.specs.declared.fault.SectionFault.TheVariants.{Read, Write, SourceChanged, Header, Entry, SectionTruncated}
+
+-- the fault of a copy, handed on
+abbrev pub copy_fault : CopyFault → SectionFault
+copy_fault (copies.Read f) = Read f
+copy_fault (copies.Write f) = Write f
+copy_fault copies.Changed = SourceChanged
 
 -- of moving bytes: a device's count of faults rose, or the source isn't what it was
 abbrev pub MoveCause : SectionFault → ℕ → ℕ → ℕ → ℕ → Type 0 → Type 0

@@ -4,3 +4,7 @@ use Rattle.std.specs.Prelude.{◌≡◌, ℕ, ◌-◌, List, ◌++◌, length, t
 -- now is old, and behind it a beginning of x
 abbrev pub Begins : List ℕ → List ℕ → List ℕ → Type 0
 Begins old now x = now ≡ old ++ take (length now - length old) x
+
+-- now is old, and maybe more behind it
+abbrev pub Grows : List ℕ → List ℕ → Type 0
+Grows old now = take (length old) now ≡ old

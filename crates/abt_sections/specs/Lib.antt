@@ -1,4 +1,5 @@
 pub mod BootCanon
+pub mod Broken
 pub mod Canonical
 pub mod Cause
 pub mod Check

@@ -19,7 +19,8 @@ use abt_io::Meter;
 /// The page of the image, or what the fields are refused for.
 #[tactic(auto, unfolding(crate::specs::Refusal::boot_refusal))]
 pub(crate) fn check_boot_spec(spec: &BootSpec, m: &mut Meter) -> Result<PageSize, SectionFault>
-    ensures refusal { MatchResult result (λ _. boot_refusal (boot_fields spec.now) ≡ None) (λ f. boot_refusal (boot_fields spec.now) ≡ Some f) }
+    ensures refusal { MatchResult result (λ _. boot_refusal (boot_fields spec.now) ≡ None)
+        (λ f. boot_refusal (boot_fields spec.now) ≡ Some f) }
     ensures version { OnOk result (spec.now.version ≤ 4) }
     ensures page { IfOk result (λ p. p ≡ canon.boot_page_for (boot_fields spec.now)) }
     ensures name { OnOk result (spec.now.version < 3 → length spec.now.name.now ≤ 15) }

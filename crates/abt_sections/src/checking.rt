@@ -1,6 +1,6 @@
 //! Whether an image is what the packer would have written.
 
-ghost use Rattle.std.specs.Prelude.{◌≡◌, ◌<◌, ◌≤◌, ◌+◌, ◌-◌, ◌^◌, ◌++◌, ◌↔◌, IsTrue, IfOk, IfErr, OnOk, Err, None, length, take, drop, slice_range};
+ghost use Rattle.std.specs.Prelude.{◌≡◌, ◌<◌, ◌≤◌, ◌+◌, ◌-◌, ◌^◌, ◌++◌, ◌↔◌, ◌&&◌, IsTrue, IfOk, IfErr, OnOk, Err, None, length, take, drop, slice_range};
 ghost use Rattle.abt_headers.specs.Places.{EachLow};
 ghost use Rattle.abt_sections.specs.Cause.{ReadCause, full_handed};
 ghost use Rattle.abt_sections.specs.Canonical.{StartsAsPacked};
@@ -13,7 +13,7 @@ use crate::boot_header::dtbo_offset;
 use crate::fault::SectionFault;
 use crate::fragment_table::fragments_fill;
 use crate::hashing::stored_id;
-use crate::image::{Image, ImageHeader};
+use crate::image::{Image, ImageHeader, is_as_long};
 use crate::reading::{next_ask, read_front};
 use crate::texts::no_zero;
 use crate::writing::padding;
@@ -60,7 +60,8 @@ fn zeros_there<S: Source>(
     ensures frame { S.read_frame source.new ≡ S.read_frame source.old }
     ensures value { IsTrue S.tells → IfOk result (λ b. b ≡ check_spec.zeros_there (S.content source.old) at n) }
     ensures faults { S.read_faults source.old ≤ S.read_faults source.new }
-    ensures cause { IfErr result (λ e. ReadCause e (S.read_faults source.old) (S.read_faults source.new) (IsTrue S.tells → ⊥)) }
+    ensures cause { IfErr result (λ e. ReadCause e (S.read_faults source.old) (S.read_faults source.new)
+        (IsTrue S.tells → ⊥)) }
     ensures clean { OnOk result (S.read_faults source.new ≡ S.read_faults source.old) }
     ensures failed { full_handed result ≡ 0 }
 {
@@ -102,9 +103,11 @@ fn places_padded<S: Source>(
     ensures content { IsTrue S.tells → S.content source.new ≡ S.content source.old }
     ensures size { IsTrue S.tells → S.size source.new ≡ S.size source.old }
     ensures frame { S.read_frame source.new ≡ S.read_frame source.old }
-    ensures value { IsTrue S.tells → IfOk result (λ b. b ≡ check_spec.padded_places (S.content source.old) page sections.now) }
+    ensures value { IsTrue S.tells → IfOk result (λ b. b ≡ check_spec.padded_places
+        (S.content source.old) page sections.now) }
     ensures faults { S.read_faults source.old ≤ S.read_faults source.new }
-    ensures cause { IfErr result (λ e. ReadCause e (S.read_faults source.old) (S.read_faults source.new) (IsTrue S.tells → ⊥)) }
+    ensures cause { IfErr result (λ e. ReadCause e (S.read_faults source.old) (S.read_faults source.new)
+        (IsTrue S.tells → ⊥)) }
     ensures clean { OnOk result (S.read_faults source.new ≡ S.read_faults source.old) }
     ensures failed { full_handed result ≡ 0 }
 {
@@ -130,9 +133,11 @@ fn padding_holds<S: Source>(
     ensures content { IsTrue S.tells → S.content source.new ≡ S.content source.old }
     ensures size { IsTrue S.tells → S.size source.new ≡ S.size source.old }
     ensures frame { S.read_frame source.new ≡ S.read_frame source.old }
-    ensures value { IsTrue S.tells → IfOk result (λ b. b ≡ check_spec.padding_holds (S.content source.old) (view_of header.now)) }
+    ensures value { IsTrue S.tells → IfOk result (λ b. b ≡ check_spec.padding_holds (S.content source.old)
+        (view_of header.now)) }
     ensures faults { S.read_faults source.old ≤ S.read_faults source.new }
-    ensures cause { IfErr result (λ e. ReadCause e (S.read_faults source.old) (S.read_faults source.new) (IsTrue S.tells → ⊥)) }
+    ensures cause { IfErr result (λ e. ReadCause e (S.read_faults source.old) (S.read_faults source.new)
+        (IsTrue S.tells → ⊥)) }
     ensures clean { OnOk result (S.read_faults source.new ≡ S.read_faults source.old) }
     ensures failed { full_handed result ≡ 0 }
 {
@@ -157,9 +162,11 @@ fn id_holds<S: Source>(
     ensures content { IsTrue S.tells → S.content source.new ≡ S.content source.old }
     ensures size { IsTrue S.tells → S.size source.new ≡ S.size source.old }
     ensures frame { S.read_frame source.new ≡ S.read_frame source.old }
-    ensures value { IsTrue S.tells → IfOk result (λ b. IsTrue b ↔ check_spec.IdHolds (S.content source.old) (view_of header.now)) }
+    ensures value { IsTrue S.tells → IfOk result (λ b. IsTrue b ↔ check_spec.IdHolds (S.content source.old)
+        (view_of header.now)) }
     ensures faults { S.read_faults source.old ≤ S.read_faults source.new }
-    ensures cause { IfErr result (λ e. ReadCause e (S.read_faults source.old) (S.read_faults source.new) (IsTrue S.tells → beyond (places_of (view_of header.now)) (length (S.content source.old)) ≡ None → ⊥)) }
+    ensures cause { IfErr result (λ e. ReadCause e (S.read_faults source.old) (S.read_faults source.new)
+        (IsTrue S.tells → beyond (places_of (view_of header.now)) (length (S.content source.old)) ≡ None → ⊥)) }
     ensures clean { OnOk result (S.read_faults source.new ≡ S.read_faults source.old) }
     ensures failed { full_handed result ≡ 0 }
 {
@@ -272,6 +279,21 @@ fn texts_hold(header: &ImageHeader, m: &mut Meter) -> bool
     }
 }
 
+/// What is told of an image by the rules that hold of it.
+fn verdict_of(padding: bool, id: bool, offset: bool, texts: bool, fill: bool) -> Verdict
+    ensures padding { result.padding ≡ padding }
+    ensures id { result.id ≡ id }
+    ensures offset { result.offset ≡ offset }
+    ensures canonical { result.canonical ≡ padding && id && offset && texts && fill }
+{
+    Verdict {
+        padding,
+        id,
+        offset,
+        canonical: padding && id && offset && texts && fill,
+    }
+}
+
 /// Compares an image with what the packer writes, rule by rule.
 fn compare<S: Source>(
     image: &Image,
@@ -282,17 +304,22 @@ fn compare<S: Source>(
     ensures content { IsTrue S.tells → S.content source.new ≡ S.content source.old }
     ensures size { IsTrue S.tells → S.size source.new ≡ S.size source.old }
     ensures frame { S.read_frame source.new ≡ S.read_frame source.old }
-    ensures padding { IsTrue S.tells → IfOk result (λ v. v.padding ≡ check_spec.padding_holds (S.content source.old) (view_of image.now.header)) }
-    ensures id { IsTrue S.tells → IfOk result (λ v. IsTrue v.id ↔ check_spec.IdHolds (S.content source.old) (view_of image.now.header)) }
+    ensures padding { IsTrue S.tells → IfOk result (λ v. v.padding ≡ check_spec.padding_holds (S.content source.old)
+        (view_of image.now.header)) }
+    ensures id { IsTrue S.tells → IfOk result (λ v. IsTrue v.id ↔ check_spec.IdHolds (S.content source.old)
+        (view_of image.now.header)) }
     ensures offset { IfOk result (λ v. v.offset ≡ check_spec.offset_holds (view_of image.now.header)) }
-    ensures canonical { IsTrue S.tells → IfOk result (λ v. IsTrue v.canonical ↔ check_spec.IsCanonical (S.content source.old) (view_of image.now.header)) }
-    ensures changed { (S.size source.old ≡ image.now.length → ⊥) → (result ≡ Err SectionFault.SourceChanged) × (source.new ≡ source.old) }
+    ensures canonical { IsTrue S.tells → IfOk result (λ v. IsTrue v.canonical ↔
+        check_spec.IsCanonical (S.content source.old) (view_of image.now.header)) }
+    ensures changed { (S.size source.old ≡ image.now.length → ⊥) → (result ≡ Err SectionFault.SourceChanged) ×
+        (source.new ≡ source.old) }
     ensures faults { S.read_faults source.old ≤ S.read_faults source.new }
-    ensures cause { IfErr result (λ e. ReadCause e (S.read_faults source.old) (S.read_faults source.new) (IsTrue S.tells → IsOpened (S.content source.old) image.now → ⊥)) }
+    ensures cause { IfErr result (λ e. ReadCause e (S.read_faults source.old) (S.read_faults source.new)
+        (IsTrue S.tells → IsOpened (S.content source.old) image.now → ⊥)) }
     ensures clean { OnOk result (S.read_faults source.new ≡ S.read_faults source.old) }
     ensures failed { full_handed result ≡ 0 }
 {
-    if source.length() != image.length {
+    if !is_as_long(image, source) {
         return Err(SectionFault::SourceChanged);
     }
     let header = &image.header;
@@ -308,13 +335,13 @@ fn compare<S: Source>(
         Ok(value) => value,
         Err(fault) => return Err(fault),
     };
-    let offset = offset_holds(header);
-    Ok(Verdict {
+    Ok(verdict_of(
         padding,
         id,
-        offset,
-        canonical: padding && id && offset && texts_hold(header, m) && fill,
-    })
+        offset_holds(header),
+        texts_hold(header, m),
+        fill,
+    ))
 }
 
 /// Checks an image against what the packer writes.
@@ -333,14 +360,20 @@ pub fn check<S: Source>(
     ensures content { IsTrue S.tells → S.content source.new ≡ S.content source.old }
     ensures size { IsTrue S.tells → S.size source.new ≡ S.size source.old }
     ensures frame { S.read_frame source.new ≡ S.read_frame source.old }
-    ensures padding { IsTrue S.tells → IfOk result (λ v. v.padding ≡ check_spec.padding_holds (S.content source.old) (view_of image.now.header)) }
-    ensures id { IsTrue S.tells → IfOk result (λ v. IsTrue v.id ↔ check_spec.IdHolds (S.content source.old) (view_of image.now.header)) }
+    ensures padding { IsTrue S.tells → IfOk result (λ v. v.padding ≡ check_spec.padding_holds (S.content source.old)
+        (view_of image.now.header)) }
+    ensures id { IsTrue S.tells → IfOk result (λ v. IsTrue v.id ↔ check_spec.IdHolds (S.content source.old)
+        (view_of image.now.header)) }
     ensures offset { IfOk result (λ v. v.offset ≡ check_spec.offset_holds (view_of image.now.header)) }
-    ensures canonical { IsTrue S.tells → IfOk result (λ v. IsTrue v.canonical ↔ check_spec.IsCanonical (S.content source.old) (view_of image.now.header)) }
-    ensures packed { IsTrue S.tells → IsOpened (S.content source.old) image.now → IfOk result (λ v. IsTrue v.canonical ↔ StartsAsPacked (S.content source.old)) }
-    ensures changed { (S.size source.old ≡ image.now.length → ⊥) → (result ≡ Err SectionFault.SourceChanged) × (source.new ≡ source.old) }
+    ensures canonical { IsTrue S.tells → IfOk result (λ v. IsTrue v.canonical ↔
+        check_spec.IsCanonical (S.content source.old) (view_of image.now.header)) }
+    ensures packed { IsTrue S.tells → IsOpened (S.content source.old) image.now →
+        IfOk result (λ v. IsTrue v.canonical ↔ StartsAsPacked (S.content source.old)) }
+    ensures changed { (S.size source.old ≡ image.now.length → ⊥) → (result ≡ Err SectionFault.SourceChanged) ×
+        (source.new ≡ source.old) }
     ensures faults { S.read_faults source.old ≤ S.read_faults source.new }
-    ensures cause { IfErr result (λ e. ReadCause e (S.read_faults source.old) (S.read_faults source.new) (IsTrue S.tells → IsOpened (S.content source.old) image.now → ⊥)) }
+    ensures cause { IfErr result (λ e. ReadCause e (S.read_faults source.old) (S.read_faults source.new)
+        (IsTrue S.tells → IsOpened (S.content source.old) image.now → ⊥)) }
     ensures clean { OnOk result (S.read_faults source.new ≡ S.read_faults source.old) }
     ensures failed { full_handed result ≡ 0 }
 {

@@ -9,7 +9,7 @@ ghost use Rattle.abt_sections.specs.Open.{IsOpened, EntryRefusedAs, beyond};
 ghost use Rattle.abt_sections.specs.Check.{FragmentsFill, HasTable};
 
 use crate::fault::SectionFault;
-use crate::image::{Image, ImageHeader};
+use crate::image::{Image, ImageHeader, is_as_long};
 use crate::reading::read_front;
 use abt_headers::{RamdiskEntry, VendorHeader, pages};
 use abt_io::{Meter, Source, Window};
@@ -73,6 +73,14 @@ pub(crate) fn entry_count(header: &ImageHeader) -> u32
     }
 }
 
+/// Where entry `i` of a table stands.
+fn place_of_entry(table: &Table, i: u32) -> u64
+    requires { table.now.at < 2 ^ 62 }
+    ensures { result ≡ table.now.at + 108 * i }
+{
+    table.at + 108 * i as u64
+}
+
 /// One step: reads entry `i` of a table.
 fn read_entry<S: Source>(
     table: &Table,
@@ -85,19 +93,19 @@ fn read_entry<S: Source>(
     ensures content { IsTrue S.tells → S.content source.new ≡ S.content source.old }
     ensures size { IsTrue S.tells → S.size source.new ≡ S.size source.old }
     ensures frame { S.read_frame source.new ≡ S.read_frame source.old }
-    ensures entry { IsTrue S.tells → IfOk result (λ e. e ≡ entry_at (take 108 (drop (table.now.at + 108 * i) (S.content source.old)))) }
+    ensures entry { IsTrue S.tells → IfOk result (λ e. e ≡ entry_at (take 108
+        (drop (table.now.at + 108 * i) (S.content source.old)))) }
     ensures faults { S.read_faults source.old ≤ S.read_faults source.new }
-    ensures cause { IfErr result (λ e. ReadCause e (S.read_faults source.old) (S.read_faults source.new) (IsTrue S.tells → table.now.at + 108 * i + 108 ≤ length (S.content source.old) → ⊥)) }
+    ensures cause { IfErr result (λ e. ReadCause e (S.read_faults source.old) (S.read_faults source.new)
+        (IsTrue S.tells → table.now.at + 108 * i + 108 ≤ length (S.content source.old) → ⊥)) }
     ensures clean { OnOk result (S.read_faults source.new ≡ S.read_faults source.old) }
     ensures failed { full_handed result ≡ 0 }
 {
-    match read_front(source, table.at + 108 * i as u64, 108, w, m) {
+    match read_front(source, place_of_entry(table, i), 108, w, m) {
         Ok(()) => {}
         Err(fault) => return Err(fault),
     }
-    let mut record = [0u8; 108];
-    record.copy_from_slice(w.part(0, 108));
-    let entry = RamdiskEntry::decode(&record);
+    let entry = entry_in(w, 0);
     m.close_step(108);
     Ok(entry)
 }
@@ -140,10 +148,12 @@ fn hold_entry<S: Source>(
     ensures content { IsTrue S.tells → S.content source.new ≡ S.content source.old }
     ensures size { IsTrue S.tells → S.size source.new ≡ S.size source.old }
     ensures frame { S.read_frame source.new ≡ S.read_frame source.old }
-    ensures stand { IsTrue S.tells → IfOk result (λ h. EntriesStand w.new.bytes (S.content source.old) table.now.at h.first h.end) }
+    ensures stand { IsTrue S.tells → IfOk result (λ h. EntriesStand w.new.bytes
+        (S.content source.old) table.now.at h.first h.end) }
     ensures held { IfOk result (λ h. HoldsEntry h.first h.end i table.now.count) }
     ensures faults { S.read_faults source.old ≤ S.read_faults source.new }
-    ensures cause { IfErr result (λ e. ReadCause e (S.read_faults source.old) (S.read_faults source.new) (IsTrue S.tells → table.now.at + 108 * table.now.count ≤ length (S.content source.old) → ⊥)) }
+    ensures cause { IfErr result (λ e. ReadCause e (S.read_faults source.old) (S.read_faults source.new)
+        (IsTrue S.tells → table.now.at + 108 * table.now.count ≤ length (S.content source.old) → ⊥)) }
     ensures clean { OnOk result (S.read_faults source.new ≡ S.read_faults source.old) }
     ensures failed { full_handed result ≡ 0 }
 {
@@ -152,7 +162,7 @@ fn hold_entry<S: Source>(
     }
     end_held(held, m);
     let n = (table.count - i).min(WINDOW_ENTRIES);
-    match read_front(source, table.at + 108 * i as u64, 108 * n as usize, w, m) {
+    match read_front(source, place_of_entry(table, i), 108 * n as usize, w, m) {
         Ok(()) => {}
         Err(fault) => return Err(fault),
     }
@@ -188,15 +198,19 @@ fn next_entry<S: Source>(
     requires to { i ≤ held.old.end }
     requires few { held.old.end ≤ held.old.first + 606 }
     requires last { held.old.end ≤ table.now.count }
-    requires stand { IsTrue S.tells → EntriesStand w.old.bytes (S.content source.old) table.now.at held.old.first held.old.end }
+    requires stand { IsTrue S.tells → EntriesStand w.old.bytes (S.content source.old) table.now.at held.old.first
+        held.old.end }
     ensures content { IsTrue S.tells → S.content source.new ≡ S.content source.old }
     ensures size { IsTrue S.tells → S.size source.new ≡ S.size source.old }
     ensures frame { S.read_frame source.new ≡ S.read_frame source.old }
-    ensures entry { IsTrue S.tells → IfOk result (λ e. e ≡ entry_at (take 108 (drop (table.now.at + 108 * i) (S.content source.old)))) }
-    ensures stand { IsTrue S.tells → OnOk result (EntriesStand w.new.bytes (S.content source.old) table.now.at held.new.first held.new.end) }
+    ensures entry { IsTrue S.tells → IfOk result (λ e. e ≡ entry_at (take 108
+        (drop (table.now.at + 108 * i) (S.content source.old)))) }
+    ensures stand { IsTrue S.tells → OnOk result (EntriesStand w.new.bytes
+        (S.content source.old) table.now.at held.new.first held.new.end) }
     ensures held { OnOk result (HoldsEntry held.new.first held.new.end i table.now.count) }
     ensures faults { S.read_faults source.old ≤ S.read_faults source.new }
-    ensures cause { IfErr result (λ e. ReadCause e (S.read_faults source.old) (S.read_faults source.new) (IsTrue S.tells → table.now.at + 108 * table.now.count ≤ length (S.content source.old) → ⊥)) }
+    ensures cause { IfErr result (λ e. ReadCause e (S.read_faults source.old) (S.read_faults source.new)
+        (IsTrue S.tells → table.now.at + 108 * table.now.count ≤ length (S.content source.old) → ⊥)) }
     ensures clean { OnOk result (S.read_faults source.new ≡ S.read_faults source.old) }
     ensures failed { full_handed result ≡ 0 }
 {
@@ -224,9 +238,14 @@ pub(crate) fn check_entries<S: Source>(
     ensures content { IsTrue S.tells → S.content source.new ≡ S.content source.old }
     ensures size { IsTrue S.tells → S.size source.new ≡ S.size source.old }
     ensures frame { S.read_frame source.new ≡ S.read_frame source.old }
-    ensures found { IsTrue S.tells → beyond (header_spec.places_of (header_spec.view_of header.now)) (length (S.content source.old)) ≡ None → MatchResult result (λ _. header_spec.EachWithin (S.content source.old) (header_spec.view_of header.now)) (λ f. EntryRefusedAs (S.content source.old) (header_spec.view_of header.now) f) }
+    ensures found { IsTrue S.tells → beyond (header_spec.places_of (header_spec.view_of header.now))
+        (length (S.content source.old)) ≡ None → MatchResult result (λ _. header_spec.EachWithin (S.content source.old)
+        (header_spec.view_of header.now)) (λ f. EntryRefusedAs (S.content source.old)
+        (header_spec.view_of header.now) f) }
     ensures faults { S.read_faults source.old ≤ S.read_faults source.new }
-    ensures cause { IfErr result (λ e. OpenCause e (S.read_faults source.old) (S.read_faults source.new) (IsTrue S.tells → beyond (header_spec.places_of (header_spec.view_of header.now)) (length (S.content source.old)) ≡ None → ⊥)) }
+    ensures cause { IfErr result (λ e. OpenCause e (S.read_faults source.old) (S.read_faults source.new)
+        (IsTrue S.tells → beyond (header_spec.places_of (header_spec.view_of header.now))
+        (length (S.content source.old)) ≡ None → ⊥)) }
     ensures clean { OnOk result (S.read_faults source.new ≡ S.read_faults source.old) }
     ensures failed { full_handed result ≡ 0 }
 {
@@ -270,15 +289,18 @@ pub fn fragment<S: Source>(
     ensures content { IsTrue S.tells → S.content source.new ≡ S.content source.old }
     ensures size { IsTrue S.tells → S.size source.new ≡ S.size source.old }
     ensures frame { S.read_frame source.new ≡ S.read_frame source.old }
-    ensures entry { IsTrue S.tells → IfOk result (λ e. e ≡ header_spec.entry_of (S.content source.old) (header_spec.view_of image.now.header) i) }
+    ensures entry { IsTrue S.tells → IfOk result (λ e. e ≡ header_spec.entry_of (S.content source.old)
+        (header_spec.view_of image.now.header) i) }
     ensures within { IfOk result (λ e. header_spec.IsWithin (header_spec.view_of image.now.header) e) }
-    ensures changed { (S.size source.old ≡ image.now.length → ⊥) → (result ≡ Err SectionFault.SourceChanged) × (source.new ≡ source.old) }
+    ensures changed { (S.size source.old ≡ image.now.length → ⊥) → (result ≡ Err SectionFault.SourceChanged) ×
+        (source.new ≡ source.old) }
     ensures faults { S.read_faults source.old ≤ S.read_faults source.new }
-    ensures cause { IfErr result (λ e. ReadCause e (S.read_faults source.old) (S.read_faults source.new) (IsTrue S.tells → IsOpened (S.content source.old) image.now → ⊥)) }
+    ensures cause { IfErr result (λ e. ReadCause e (S.read_faults source.old) (S.read_faults source.new)
+        (IsTrue S.tells → IsOpened (S.content source.old) image.now → ⊥)) }
     ensures clean { OnOk result (S.read_faults source.new ≡ S.read_faults source.old) }
     ensures failed { full_handed result ≡ 0 }
 {
-    if source.length() != image.length {
+    if !is_as_long(image, source) {
         return Err(SectionFault::SourceChanged);
     }
     let table = table_of(&image.header);
@@ -302,9 +324,12 @@ pub(crate) fn fragments_fill<S: Source>(
     ensures content { IsTrue S.tells → S.content source.new ≡ S.content source.old }
     ensures size { IsTrue S.tells → S.size source.new ≡ S.size source.old }
     ensures frame { S.read_frame source.new ≡ S.read_frame source.old }
-    ensures value { IsTrue S.tells → IfOk result (λ b. IsTrue b ↔ FragmentsFill (S.content source.old) (header_spec.view_of header.now)) }
+    ensures value { IsTrue S.tells → IfOk result (λ b. IsTrue b ↔ FragmentsFill (S.content source.old)
+        (header_spec.view_of header.now)) }
     ensures faults { S.read_faults source.old ≤ S.read_faults source.new }
-    ensures cause { IfErr result (λ e. ReadCause e (S.read_faults source.old) (S.read_faults source.new) (IsTrue S.tells → beyond (header_spec.places_of (header_spec.view_of header.now)) (length (S.content source.old)) ≡ None → ⊥)) }
+    ensures cause { IfErr result (λ e. ReadCause e (S.read_faults source.old) (S.read_faults source.new)
+        (IsTrue S.tells → beyond (header_spec.places_of (header_spec.view_of header.now))
+        (length (S.content source.old)) ≡ None → ⊥)) }
     ensures clean { OnOk result (S.read_faults source.new ≡ S.read_faults source.old) }
     ensures failed { full_handed result ≡ 0 }
 {
@@ -332,7 +357,8 @@ pub(crate) fn fragments_fill<S: Source>(
 
 /// The version has a table of ramdisk fragments.
 fn has_table(header: &ImageHeader) -> bool
-    ensures { MatchBool result (HasTable (header_spec.view_of header.now)) (HasTable (header_spec.view_of header.now) → ⊥) }
+    ensures { MatchBool result (HasTable (header_spec.view_of header.now))
+        (HasTable (header_spec.view_of header.now) → ⊥) }
 {
     match header {
         ImageHeader::Vendor(VendorHeader::V4(..)) => true,

@@ -1,6 +1,7 @@
 //! The id of an image: the SHA-1 of its parts and their sizes, as `mkbootimg` computes it.
 
 ghost use Rattle.std.specs.Prelude.{◌≡◌, ◌<◌, ◌≤◌, ◌+◌, ◌-◌, ◌^◌, ◌++◌, ◌∷◌, [], ℕ, List, IsTrue, IfOk, IfErr, OnOk, Err, None, length, map, take, drop, replicate};
+ghost use Rattle.byteorder.specs.Endian.{little_bytes};
 ghost use Rattle.sha1.specs.Sha1.{Holds, sha1};
 ghost use Rattle.abt_headers.specs.Places.{EachLow};
 ghost use Rattle.abt_sections.specs.Cause.{ReadCause, PackCause, total, full_handed};
@@ -31,9 +32,11 @@ fn hash_range<S: Source>(
     ensures size { IsTrue S.tells → S.size source.new ≡ S.size source.old }
     ensures frame { S.read_frame source.new ≡ S.read_frame source.old }
     ensures present { IsTrue S.tells → OnOk result (0 < n → from + n ≤ length (S.content source.old)) }
-    ensures hashed { IsTrue S.tells → OnOk result ((t : List ℕ) → Holds hasher.old t → Holds hasher.new (t ++ take n (drop from (S.content source.old)))) }
+    ensures hashed { IsTrue S.tells → OnOk result ((t : List ℕ) → Holds hasher.old t →
+        Holds hasher.new (t ++ take n (drop from (S.content source.old)))) }
     ensures faults { S.read_faults source.old ≤ S.read_faults source.new }
-    ensures cause { IfErr result (λ e. ReadCause e (S.read_faults source.old) (S.read_faults source.new) (IsTrue S.tells → (0 < n → from + n ≤ length (S.content source.old)) → ⊥)) }
+    ensures cause { IfErr result (λ e. ReadCause e (S.read_faults source.old) (S.read_faults source.new)
+        (IsTrue S.tells → (0 < n → from + n ≤ length (S.content source.old)) → ⊥)) }
     ensures clean { OnOk result (S.read_faults source.new ≡ S.read_faults source.old) }
     ensures failed { full_handed result ≡ 0 }
 {
@@ -53,12 +56,19 @@ fn hash_range<S: Source>(
 }
 
 /// A digest as the header's field holds it: behind it twelve zeros.
-fn id_field(digest: &[u8; 20]) -> [u8; 32]
+pub(crate) fn id_field(digest: &[u8; 20]) -> [u8; 32]
     ensures { result ≡ digest.now ++ replicate 12 0 }
 {
     let mut id = [0; 32];
     id[..20].copy_from_slice(digest);
     id
+}
+
+/// Hashes the size of a part, as it stands behind the part.
+pub(crate) fn hash_size(size: u32, hasher: &mut Sha1)
+    ensures { (t : List ℕ) → Holds hasher.old t → Holds hasher.new (t ++ little_bytes 4 size) }
+{
+    hasher.update(&size.to_le_bytes());
 }
 
 /// Hashes one part, and behind it its size.
@@ -72,9 +82,11 @@ fn hash_part<S: Source>(
     ensures content { IsTrue S.tells → S.content part.new ≡ S.content part.old }
     ensures size { IsTrue S.tells → S.size part.new ≡ S.size part.old }
     ensures frame { S.read_frame part.new ≡ S.read_frame part.old }
-    ensures hashed { IsTrue S.tells → OnOk result ((parts : List (List ℕ)) → Holds hasher.old (sized_parts parts) → Holds hasher.new (sized_parts (parts ++ (S.content part.old ∷ [])))) }
+    ensures hashed { IsTrue S.tells → OnOk result ((parts : List (List ℕ)) → Holds hasher.old (sized_parts parts) →
+        Holds hasher.new (sized_parts (parts ++ (S.content part.old ∷ [])))) }
     ensures faults { S.read_faults part.old ≤ S.read_faults part.new }
-    ensures cause { IfErr result (λ e. ReadCause e (S.read_faults part.old) (S.read_faults part.new) (IsTrue S.tells → S.size part.old ≡ size → ⊥)) }
+    ensures cause { IfErr result (λ e. ReadCause e (S.read_faults part.old) (S.read_faults part.new)
+        (IsTrue S.tells → S.size part.old ≡ size → ⊥)) }
     ensures clean { OnOk result (S.read_faults part.new ≡ S.read_faults part.old) }
     ensures failed { full_handed result ≡ 0 }
 {
@@ -85,7 +97,7 @@ fn hash_part<S: Source>(
         Ok(()) => {}
         Err(fault) => return Err(fault),
     }
-    hasher.update(&size.to_le_bytes());
+    hash_size(size, hasher);
     Ok(())
 }
 
@@ -102,7 +114,8 @@ pub(crate) fn hash_parts<S: Source>(
     ensures frame { map S.read_frame parts.new ≡ map S.read_frame parts.old }
     ensures id { IsTrue S.tells → IfOk result (λ d. d ≡ id_of (map S.content parts.old)) }
     ensures faults { total S.read_faults parts.old ≤ total S.read_faults parts.new }
-    ensures cause { IfErr result (λ e. ReadCause e (total S.read_faults parts.old) (total S.read_faults parts.new) (IsTrue S.tells → sizes.now ≡ filled 5 (map S.size parts.old) → ⊥)) }
+    ensures cause { IfErr result (λ e. ReadCause e (total S.read_faults parts.old) (total S.read_faults parts.new)
+        (IsTrue S.tells → sizes.now ≡ filled 5 (map S.size parts.old) → ⊥)) }
     ensures clean { OnOk result (total S.read_faults parts.new ≡ total S.read_faults parts.old) }
     ensures failed { full_handed result ≡ 0 }
 {
@@ -133,10 +146,12 @@ pub fn image_id<S: Source>(
     requires count { length parts.old ≡ length (boot_names version) }
     ensures content { IsTrue S.tells → map S.content parts.new ≡ map S.content parts.old }
     ensures frame { map S.read_frame parts.new ≡ map S.read_frame parts.old }
-    ensures refused { IfRefused (size_refusal (boot_names version) (map S.size parts.old)) (λ f. (result ≡ Err f) × (parts.new ≡ parts.old)) }
+    ensures refused { IfRefused (size_refusal (boot_names version) (map S.size parts.old))
+        (λ f. (result ≡ Err f) × (parts.new ≡ parts.old)) }
     ensures id { IsTrue S.tells → IfOk result (λ d. d ≡ id_of (map S.content parts.old)) }
     ensures faults { total S.read_faults parts.old ≤ total S.read_faults parts.new }
-    ensures cause { IfErr result (λ e. PackCause (size_refusal (boot_names version) (map S.size parts.old)) e (total S.read_faults parts.old) (total S.read_faults parts.new) 0 0 (IsTrue S.tells → ⊥)) }
+    ensures cause { IfErr result (λ e. PackCause (size_refusal (boot_names version) (map S.size parts.old)) e
+        (total S.read_faults parts.old) (total S.read_faults parts.new) 0 0 (IsTrue S.tells → ⊥)) }
     ensures clean { OnOk result (total S.read_faults parts.new ≡ total S.read_faults parts.old) }
     ensures failed { full_handed result ≡ 0 }
 {
@@ -157,7 +172,8 @@ pub(crate) fn stored_id<S: Source>(
     ensures frame { S.read_frame source.new ≡ S.read_frame source.old }
     ensures id { IsTrue S.tells → IfOk result (λ d. d ≡ id_of (parts_of (S.content source.old) sections.now)) }
     ensures faults { S.read_faults source.old ≤ S.read_faults source.new }
-    ensures cause { IfErr result (λ e. ReadCause e (S.read_faults source.old) (S.read_faults source.new) (IsTrue S.tells → beyond sections.now (length (S.content source.old)) ≡ None → ⊥)) }
+    ensures cause { IfErr result (λ e. ReadCause e (S.read_faults source.old) (S.read_faults source.new)
+        (IsTrue S.tells → beyond sections.now (length (S.content source.old)) ≡ None → ⊥)) }
     ensures clean { OnOk result (S.read_faults source.new ≡ S.read_faults source.old) }
     ensures failed { full_handed result ≡ 0 }
 {
@@ -169,7 +185,7 @@ pub(crate) fn stored_id<S: Source>(
             Ok(()) => {}
             Err(fault) => return Err(fault),
         }
-        hasher.update(&place.size.to_le_bytes());
+        hash_size(place.size, &mut hasher);
     }
     let digest = hasher.finalize();
     Ok(id_field(&digest))

@@ -1,10 +1,11 @@
 //! An image that was opened: its header, and where its sections stand.
 
-ghost use Rattle.std.specs.Prelude.{◌≡◌, ◌<◌, ◌≤◌, ◌+◌, ◌^◌, length, slice_index_or};
+ghost use Rattle.std.specs.Prelude.{◌≡◌, ◌<◌, ◌≤◌, ◌+◌, ◌^◌, MatchBool, length, slice_index_or};
 ghost use Rattle.abt_headers.specs.Places.{EachLow};
 ghost use Rattle.abt_sections.specs.Header.{view_of, size_of, page_of, places_of};
 
 use abt_headers::{BootHeader, Place, Sections, VendorHeader};
+use abt_io::Source;
 
 /// The header of either kind of image.
 #[derive(Clone, Copy, Debug, PartialEq, Eq)]
@@ -58,6 +59,13 @@ pub struct Image {
     pub header: ImageHeader,
     /// How many bytes the source had.
     pub length: u64,
+}
+
+/// The source is as long as it was when the image was opened.
+pub(crate) fn is_as_long<S: Source>(image: &Image, source: &S) -> bool
+    ensures { MatchBool result (S.size source.now ≡ image.now.length) (S.size source.now ≡ image.now.length → ⊥) }
+{
+    source.length() == image.length
 }
 
 /// How many sections stand behind the header: two to five.

@@ -4,7 +4,8 @@
 //! An image is a header record and sections behind it, each from a page boundary on. What this crate gives the layer
 //! above: `pack_boot` and `pack_vendor` write the one canonical image of the fields and parts (`specs/BootCanon`,
 //! `specs/VendorCanon`), `open` accepts exactly the images of `specs/Open`, and `unpack` writes a section's bytes.
-//! After any refusal the output holds a beginning of what would have been written.
+//! After any refusal the output holds a beginning of what would have been written. `pack_boot_once` reads each part once,
+//! where what was written can be written over.
 //!
 //! No call takes memory: all bytes pass through the lent `Window`, in asks of up to its size, and an `Image` is a header
 //! and a length.
@@ -14,7 +15,8 @@
 //! - `texts`, `sizes`: names and command lines; the sizes of parts, tested before anything is written.
 //! - `boot_header`, `vendor_header`: the header that fields and sizes give.
 //! - `reading`, `hashing`: one ask from a source; the id.
-//! - `writing`, `packing`, `vendor_packing`: parts with their padding; whole images.
+//! - `writing`, `packing`, `vendor_packing`: parts with their padding; whole images. `moving`, `packing_once`: the same in
+//!   one pass.
 //! - `image`, `opening`, `fragment_table`: an opened image, its sections and its ramdisk fragments.
 //! - `laws`: laws about these definitions, for the layers above; `inputs`: that what isn't refused is what they ask for.
 //! - `unpacking`, `checking`: taking parts out; comparing an image with what the packer writes.
@@ -28,8 +30,10 @@ mod hashing;
 mod image;
 mod inputs;
 mod laws;
+mod moving;
 mod opening;
 mod packing;
+mod packing_once;
 mod reading;
 mod sizes;
 mod spec;
@@ -45,9 +49,12 @@ pub use fragment_table::{fragment, fragments};
 pub use hashing::image_id;
 pub use image::{Image, ImageHeader, section, sections};
 pub use inputs::{boot_input, vendor_input};
-pub use laws::{canonical_is_packed, image_is_whole, packed_holds_parts, packed_is_image};
+pub use laws::{
+    canonical_is_packed, image_is_whole, no_magic_is_no_image, packed_holds_parts, packed_is_image,
+};
 pub use opening::open;
 pub use packing::pack_boot;
+pub use packing_once::pack_boot_once;
 pub use spec::{BootSpec, FragmentSpec, Packed, VendorSpec};
 pub use unpacking::{unpack, unpack_fragment};
 pub use vendor_packing::pack_vendor;

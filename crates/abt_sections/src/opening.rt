@@ -1,6 +1,6 @@
 //! Opening an image: its header, its sections against the source's length, and its table of ramdisk fragments.
 
-ghost use Rattle.std.specs.Prelude.{◌≡◌, ◌<◌, ◌≤◌, ◌+◌, ◌*◌, ◌^◌, IsTrue, IfOk, IfErr, OnOk, MatchResult, Ok, Err, length, take, drop};
+ghost use Rattle.std.specs.Prelude.{◌≡◌, ◌<◌, ◌≤◌, ◌+◌, ◌*◌, ◌^◌, IsTrue, IfOk, IfErr, OnOk, MatchResult, Ok, Err, length, take, drop, min};
 ghost use Rattle.abt_sections.specs.Cause.{OpenCause, full_handed};
 ghost use Rattle.abt_sections.specs.Header as header_spec;
 ghost use Rattle.abt_sections.specs.Open.{beyond, ends_beyond, OpensAs, RefusedAs};
@@ -28,7 +28,8 @@ fn is_vendor(bytes: &[u8]) -> bool
 
 /// The header whose record stands at the front, or the first fault.
 fn decode_header(bytes: &[u8]) -> Result<ImageHeader, HeaderFault>
-    ensures { MatchResult result (λ h. header_spec.header_at bytes.now ≡ Ok (header_spec.view_of h)) (λ f. header_spec.header_at bytes.now ≡ Err f) }
+    ensures { MatchResult result (λ h. header_spec.header_at bytes.now ≡ Ok (header_spec.view_of h))
+        (λ f. header_spec.header_at bytes.now ≡ Err f) }
 {
     if is_vendor(bytes) {
         match VendorHeader::decode(bytes) {
@@ -70,6 +71,13 @@ fn first_beyond(sections: &Sections, length: u64, m: &mut Meter) -> Option<Secti
     None
 }
 
+/// How many bytes at the front of so many decide the header.
+fn front_of(bytes: u64) -> usize
+    ensures { result ≡ min bytes 2128 }
+{
+    bytes.min(RECORD) as usize
+}
+
 /// Reads the header of an image that has so many bytes.
 fn read_header<S: Source>(
     source: &mut S,
@@ -81,14 +89,17 @@ fn read_header<S: Source>(
     ensures size { IsTrue S.tells → S.size source.new ≡ S.size source.old }
     ensures frame { S.read_frame source.new ≡ S.read_frame source.old }
     ensures faults { S.read_faults source.old ≤ S.read_faults source.new }
-    ensures found { IsTrue S.tells → bytes ≡ length (S.content source.old) → MatchResult result (λ h. header_spec.header_at (S.content source.old) ≡ Ok (header_spec.view_of h)) (λ f. RefusedAs (S.content source.old) f) }
-    ensures cause { IfErr result (λ e. OpenCause e (S.read_faults source.old) (S.read_faults source.new) (IsTrue S.tells → bytes ≡ length (S.content source.old) → ⊥)) }
+    ensures found { IsTrue S.tells → bytes ≡ length (S.content source.old) →
+        MatchResult result (λ h. header_spec.header_at (S.content source.old) ≡ Ok (header_spec.view_of h))
+        (λ f. RefusedAs (S.content source.old) f) }
+    ensures cause { IfErr result (λ e. OpenCause e (S.read_faults source.old) (S.read_faults source.new)
+        (IsTrue S.tells → bytes ≡ length (S.content source.old) → ⊥)) }
     ensures clean { OnOk result (S.read_faults source.new ≡ S.read_faults source.old) }
     ensures failed { full_handed result ≡ 0 }
 {
     front_decides();
     vendor_front_decides();
-    let n = bytes.min(RECORD) as usize;
+    let n = front_of(bytes);
     match read_front(source, 0, n, w, m) {
         Ok(()) => {}
         Err(fault) => return Err(fault),
@@ -116,7 +127,8 @@ pub fn open<S: Source>(source: &mut S, w: &mut Window, m: &mut Meter) -> Result<
     ensures opens { IsTrue S.tells → OpensAs (S.content source.old) result }
     ensures length { IfOk result (λ image. image.length ≡ S.size source.old) }
     ensures faults { S.read_faults source.old ≤ S.read_faults source.new }
-    ensures cause { IfErr result (λ e. OpenCause e (S.read_faults source.old) (S.read_faults source.new) (IsTrue S.tells → ⊥)) }
+    ensures cause { IfErr result (λ e. OpenCause e (S.read_faults source.old) (S.read_faults source.new)
+        (IsTrue S.tells → ⊥)) }
     ensures clean { OnOk result (S.read_faults source.new ≡ S.read_faults source.old) }
     ensures failed { full_handed result ≡ 0 }
 {

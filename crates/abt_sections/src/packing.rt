@@ -33,7 +33,8 @@ fn id_for<S: Source>(
     ensures frame { map S.read_frame parts.new ≡ map S.read_frame parts.old }
     ensures id { IsTrue S.tells → IfOk result (λ d. d ≡ canon.id_for version (map S.content parts.old)) }
     ensures faults { total S.read_faults parts.old ≤ total S.read_faults parts.new }
-    ensures cause { IfErr result (λ e. ReadCause e (total S.read_faults parts.old) (total S.read_faults parts.new) (IsTrue S.tells → sizes.now ≡ filled 5 (map S.size parts.old) → ⊥)) }
+    ensures cause { IfErr result (λ e. ReadCause e (total S.read_faults parts.old) (total S.read_faults parts.new)
+        (IsTrue S.tells → sizes.now ≡ filled 5 (map S.size parts.old) → ⊥)) }
     ensures clean { OnOk result (total S.read_faults parts.new ≡ total S.read_faults parts.old) }
     ensures failed { full_handed result ≡ 0 }
 {
@@ -51,11 +52,15 @@ fn write_header<O: Output>(
     w: &mut Window,
     m: &mut Meter,
 ) -> Result<(), SectionFault>
-    ensures written { OnOk result (O.written output.new ≡ O.written output.old ++ layout.padded (boot_page header.now) (boot_record header.now)) }
-    ensures front { Begins (O.written output.old) (O.written output.new) (layout.padded (boot_page header.now) (boot_record header.now)) }
+    ensures written { OnOk result (O.written output.new ≡ O.written output.old
+        ++ layout.padded (boot_page header.now) (boot_record header.now)) }
+    ensures front { Begins (O.written output.old) (O.written output.new)
+        (layout.padded (boot_page header.now) (boot_record header.now)) }
     ensures least { length (O.written output.old) ≤ length (O.written output.new) }
-    ensures most { length (O.written output.new) ≤ length (O.written output.old) + of_page.pages (boot_size header.now) (boot_page header.now) * boot_page header.now }
-    ensures all { OnOk result (length (O.written output.new) ≡ length (O.written output.old) + of_page.pages (boot_size header.now) (boot_page header.now) * boot_page header.now) }
+    ensures most { length (O.written output.new) ≤ length (O.written output.old) + of_page.pages (boot_size header.now)
+        (boot_page header.now) * boot_page header.now }
+    ensures all { OnOk result (length (O.written output.new) ≡ length (O.written output.old) + of_page.pages
+        (boot_size header.now) (boot_page header.now) * boot_page header.now) }
     ensures write_frame { O.write_frame output.new ≡ O.write_frame output.old }
     ensures write_faults { O.write_faults output.old ≤ O.write_faults output.new }
     ensures cause { IfErr result (λ e. MoveCause e 0 0 (O.write_faults output.old) (O.write_faults output.new) ⊥) }
@@ -79,17 +84,24 @@ fn write_image<S: Source, O: Output>(
     requires { length parts.old ≤ 5 }
     ensures content { IsTrue S.tells → map S.content parts.new ≡ map S.content parts.old }
     ensures frame { map S.read_frame parts.new ≡ map S.read_frame parts.old }
-    ensures written { IsTrue S.tells → OnOk result (O.written output.new ≡ O.written output.old ++ canon.boot_image header.now (map S.content parts.old)) }
-    ensures front { IsTrue S.tells → Begins (O.written output.old) (O.written output.new) (canon.boot_image header.now (map S.content parts.old)) }
+    ensures written { IsTrue S.tells → OnOk result (O.written output.new ≡ O.written output.old
+        ++ canon.boot_image header.now (map S.content parts.old)) }
+    ensures front { IsTrue S.tells → Begins (O.written output.old) (O.written output.new)
+        (canon.boot_image header.now (map S.content parts.old)) }
     ensures least { length (O.written output.old) ≤ length (O.written output.new) }
-    ensures most { length (O.written output.new) ≤ length (O.written output.old) + canon.image_size (boot_page header.now) (boot_size header.now) (take (length parts.old) sizes.now) }
-    ensures all { OnOk result (length (O.written output.new) ≡ length (O.written output.old) + canon.image_size (boot_page header.now) (boot_size header.now) (take (length parts.old) sizes.now)) }
+    ensures most { length (O.written output.new) ≤ length (O.written output.old) + canon.image_size
+        (boot_page header.now) (boot_size header.now) (take (length parts.old) sizes.now) }
+    ensures all { OnOk result (length (O.written output.new) ≡ length (O.written output.old) + canon.image_size
+        (boot_page header.now) (boot_size header.now) (take (length parts.old) sizes.now)) }
     ensures lasting { OnOk result (map S.size parts.new ≡ take (length parts.old) sizes.now) }
     ensures write_frame { O.write_frame output.new ≡ O.write_frame output.old }
     ensures read_faults { total S.read_faults parts.old ≤ total S.read_faults parts.new }
     ensures write_faults { O.write_faults output.old ≤ O.write_faults output.new }
-    ensures cause { IfErr result (λ e. MoveCause e (total S.read_faults parts.old) (total S.read_faults parts.new) (O.write_faults output.old) (O.write_faults output.new) (IsTrue S.tells → sizes.now ≡ filled 5 (map S.size parts.old) → ⊥)) }
-    ensures clean { OnOk result ((total S.read_faults parts.new ≡ total S.read_faults parts.old) × (O.write_faults output.new ≡ O.write_faults output.old)) }
+    ensures cause { IfErr result (λ e. MoveCause e (total S.read_faults parts.old) (total S.read_faults parts.new)
+        (O.write_faults output.old) (O.write_faults output.new) (IsTrue S.tells →
+        sizes.now ≡ filled 5 (map S.size parts.old) → ⊥)) }
+    ensures clean { OnOk result ((total S.read_faults parts.new ≡ total S.read_faults parts.old) ×
+        (O.write_faults output.new ≡ O.write_faults output.old)) }
     ensures full_faults { O.full_faults output.new ≡ O.full_faults output.old + full_handed result }
 {
     match write_header(header, output, w, m) {
@@ -120,17 +132,25 @@ pub fn pack_boot<S: Source, O: Output>(
     ensures content { IsTrue S.tells → map S.content parts.new ≡ map S.content parts.old }
     ensures frame { map S.read_frame parts.new ≡ map S.read_frame parts.old }
     ensures write_frame { O.write_frame output.new ≡ O.write_frame output.old }
-    ensures refused { IfRefused (pack_boot_refusal (boot_fields spec.now) (map S.size parts.old)) (λ f. (result ≡ Err f) × (output.new ≡ output.old)) }
-    ensures written { IsTrue S.tells → OnOk result (O.written output.new ≡ O.written output.old ++ canon.boot_canon (boot_fields spec.now) (map S.content parts.old)) }
-    ensures front { IsTrue S.tells → Begins (O.written output.old) (O.written output.new) (canon.boot_canon (boot_fields spec.now) (map S.content parts.old)) }
+    ensures refused { IfRefused (pack_boot_refusal (boot_fields spec.now) (map S.size parts.old))
+        (λ f. (result ≡ Err f) × (output.new ≡ output.old)) }
+    ensures written { IsTrue S.tells → OnOk result (O.written output.new ≡ O.written output.old
+        ++ canon.boot_canon (boot_fields spec.now) (map S.content parts.old)) }
+    ensures front { IsTrue S.tells → Begins (O.written output.old) (O.written output.new)
+        (canon.boot_canon (boot_fields spec.now) (map S.content parts.old)) }
     ensures least { length (O.written output.old) ≤ length (O.written output.new) }
-    ensures most { length (O.written output.new) ≤ length (O.written output.old) + canon.boot_image_size (boot_fields spec.now) (map S.size parts.old) }
-    ensures packed { IfOk result (λ p. (p.bytes ≡ canon.boot_image_size (boot_fields spec.now) (map S.size parts.old)) × (length (O.written output.new) ≡ length (O.written output.old) + p.bytes)) }
+    ensures most { length (O.written output.new) ≤ length (O.written output.old) + canon.boot_image_size
+        (boot_fields spec.now) (map S.size parts.old) }
+    ensures packed { IfOk result (λ p. (p.bytes ≡ canon.boot_image_size (boot_fields spec.now)
+        (map S.size parts.old)) × (length (O.written output.new) ≡ length (O.written output.old) + p.bytes)) }
     ensures lasting { OnOk result (map S.size parts.new ≡ map S.size parts.old) }
     ensures read_faults { total S.read_faults parts.old ≤ total S.read_faults parts.new }
     ensures write_faults { O.write_faults output.old ≤ O.write_faults output.new }
-    ensures cause { IfErr result (λ e. PackCause (pack_boot_refusal (boot_fields spec.now) (map S.size parts.old)) e (total S.read_faults parts.old) (total S.read_faults parts.new) (O.write_faults output.old) (O.write_faults output.new) (IsTrue S.tells → ⊥)) }
-    ensures clean { OnOk result ((total S.read_faults parts.new ≡ total S.read_faults parts.old) × (O.write_faults output.new ≡ O.write_faults output.old)) }
+    ensures cause { IfErr result (λ e. PackCause (pack_boot_refusal (boot_fields spec.now) (map S.size parts.old)) e
+        (total S.read_faults parts.old) (total S.read_faults parts.new) (O.write_faults output.old)
+        (O.write_faults output.new) (IsTrue S.tells → ⊥)) }
+    ensures clean { OnOk result ((total S.read_faults parts.new ≡ total S.read_faults parts.old) ×
+        (O.write_faults output.new ≡ O.write_faults output.old)) }
     ensures full_faults { O.full_faults output.new ≡ O.full_faults output.old + full_handed result }
 {
     let page = check_boot_spec(spec, m)?;

@@ -35,7 +35,9 @@ pub(crate) fn boot_sizes<S: Source>(
     m: &mut Meter,
 ) -> Result<[u32; 5], SectionFault>
     requires { length parts.now ≡ length (boot_names version) }
-    ensures value { MatchResult result (λ z. (size_refusal (boot_names version) (map S.size parts.now) ≡ None) × (z ≡ filled 5 (map S.size parts.now))) (λ f. size_refusal (boot_names version) (map S.size parts.now) ≡ Some f) }
+    ensures value { MatchResult result (λ z. (size_refusal (boot_names version) (map S.size parts.now) ≡ None) ×
+        (z ≡ filled 5 (map S.size parts.now))) (λ f. size_refusal (boot_names version) (map S.size parts.now)
+        ≡ Some f) }
     ensures failed { full_handed result ≡ 0 }
 {
     let mut sizes = [0; 5];
@@ -70,7 +72,8 @@ fn ramdisks_size<S: Source>(ramdisks: &[S], m: &mut Meter) -> Option<u32>
 
 /// A size that fits a header, or the refusal of this section.
 fn fitting(section: Section, n: u64) -> Result<u32, SectionFault>
-    ensures { MatchResult result (λ k. (k ≡ n) × (n ≤ 4294967295)) (λ f. (f ≡ SectionFault.SectionTooLarge section) × (4294967295 < n)) }
+    ensures { MatchResult result (λ k. (k ≡ n) × (n ≤ 4294967295)) (λ f. (f ≡ SectionFault.SectionTooLarge section) ×
+        (4294967295 < n)) }
 {
     if n > u32::MAX as u64 {
         return Err(SectionFault::SectionTooLarge { section });
@@ -88,7 +91,9 @@ pub(crate) fn vendor_sizes<S: Source>(
     m: &mut Meter,
 ) -> Result<[u32; 4], SectionFault>
     requires { count < 2 ^ 57 }
-    ensures value { let z = vendor_sizes_for (total S.size ramdisks.now) (S.size dtb.now) count (S.size bootconfig.now) in MatchResult result (λ r. (size_refusal vendor_names z ≡ None) × (r ≡ z)) (λ f. size_refusal vendor_names z ≡ Some f) }
+    ensures value { let z = vendor_sizes_for (total S.size ramdisks.now) (S.size dtb.now) count
+        (S.size bootconfig.now) in MatchResult result (λ r. (size_refusal vendor_names z ≡ None) × (r ≡ z))
+        (λ f. size_refusal vendor_names z ≡ Some f) }
     ensures failed { full_handed result ≡ 0 }
 {
     let ramdisk = match ramdisks_size(ramdisks, m) {

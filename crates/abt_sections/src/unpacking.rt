@@ -1,6 +1,6 @@
 //! Taking sections and ramdisk fragments out of an image.
 
-ghost use Rattle.std.specs.Prelude.{◌≡◌, ◌<◌, ◌≤◌, ◌+◌, ◌-◌, ◌^◌, ◌++◌, IsTrue, IfErr, OnOk, Err, length, slice_index_or};
+ghost use Rattle.std.specs.Prelude.{◌≡◌, ◌<◌, ◌≤◌, ◌+◌, ◌-◌, ◌^◌, ◌++◌, IsTrue, IfErr, OnOk, Err, length, take, drop, slice_index_or};
 ghost use Rattle.abt_headers.specs.declared.sections.Place.{Place};
 ghost use Rattle.abt_sections.specs.Cause.{MoveCause, full_handed};
 ghost use Rattle.abt_sections.specs.Grown.{Begins};
@@ -10,8 +10,49 @@ ghost use Rattle.abt_sections.specs.Open.{IsOpened};
 
 use crate::fault::SectionFault;
 use crate::fragment_table::{fragment, table_of};
-use crate::image::{Image, section};
-use abt_io::{CopyFault, Meter, Output, Source, Window, copy_range};
+use crate::image::{Image, ImageHeader, is_as_long, section};
+use crate::writing::of_copy;
+use abt_headers::RamdiskEntry;
+use abt_io::{Meter, Output, Source, Window, copy_range};
+
+/// Copies the bytes of a part from a place on, where it has some.
+fn copy_part<S: Source, O: Output>(
+    source: &mut S,
+    at: u64,
+    size: u32,
+    output: &mut O,
+    w: &mut Window,
+    m: &mut Meter,
+) -> Result<(), SectionFault>
+    requires { at < 2 ^ 63 }
+    ensures content { IsTrue S.tells → S.content source.new ≡ S.content source.old }
+    ensures size { IsTrue S.tells → S.size source.new ≡ S.size source.old }
+    ensures frame { S.read_frame source.new ≡ S.read_frame source.old }
+    ensures write_frame { O.write_frame output.new ≡ O.write_frame output.old }
+    ensures written { IsTrue S.tells → OnOk result (O.written output.new ≡ O.written output.old
+        ++ take size (drop at (S.content source.old))) }
+    ensures front { IsTrue S.tells → Begins (O.written output.old) (O.written output.new)
+        (take size (drop at (S.content source.old))) }
+    ensures least { length (O.written output.old) ≤ length (O.written output.new) }
+    ensures most { length (O.written output.new) ≤ length (O.written output.old) + size }
+    ensures all { OnOk result (length (O.written output.new) ≡ length (O.written output.old) + size) }
+    ensures read_faults { S.read_faults source.old ≤ S.read_faults source.new }
+    ensures write_faults { O.write_faults output.old ≤ O.write_faults output.new }
+    ensures cause { IfErr result (λ e. MoveCause e (S.read_faults source.old) (S.read_faults source.new)
+        (O.write_faults output.old) (O.write_faults output.new) (IsTrue S.tells →
+        (0 < size → at + size ≤ length (S.content source.old)) → ⊥)) }
+    ensures clean { OnOk result ((S.read_faults source.new ≡ S.read_faults source.old) ×
+        (O.write_faults output.new ≡ O.write_faults output.old)) }
+    ensures full_faults { O.full_faults output.new ≡ O.full_faults output.old + full_handed result }
+{
+    if size == 0 {
+        return Ok(());
+    }
+    match copy_range(source, at, size as u64, output, w, m) {
+        Ok(()) => Ok(()),
+        Err(fault) => Err(of_copy(fault)),
+    }
+}
 
 /// Writes section `i` of an image.
 ///
@@ -31,31 +72,40 @@ pub fn unpack<S: Source, O: Output>(
     ensures size { IsTrue S.tells → S.size source.new ≡ S.size source.old }
     ensures frame { S.read_frame source.new ≡ S.read_frame source.old }
     ensures write_frame { O.write_frame output.new ≡ O.write_frame output.old }
-    ensures written { (p : Place) → p ≡ slice_index_or (header_spec.places_of (header_spec.view_of image.now.header)) i p → IsTrue S.tells → OnOk result (O.written output.new ≡ O.written output.old ++ part_of (S.content source.old) p) }
-    ensures front { (p : Place) → p ≡ slice_index_or (header_spec.places_of (header_spec.view_of image.now.header)) i p → IsTrue S.tells → Begins (O.written output.old) (O.written output.new) (part_of (S.content source.old) p) }
+    ensures written { (p : Place) → p ≡ slice_index_or (header_spec.places_of (header_spec.view_of image.now.header)) i
+        p → IsTrue S.tells → OnOk result (O.written output.new ≡ O.written output.old
+        ++ part_of (S.content source.old) p) }
+    ensures front { (p : Place) → p ≡ slice_index_or (header_spec.places_of (header_spec.view_of image.now.header)) i
+        p → IsTrue S.tells → Begins (O.written output.old) (O.written output.new) (part_of (S.content source.old) p) }
     ensures least { length (O.written output.old) ≤ length (O.written output.new) }
-    ensures most { (p : Place) → p ≡ slice_index_or (header_spec.places_of (header_spec.view_of image.now.header)) i p → length (O.written output.new) ≤ length (O.written output.old) + p.size }
-    ensures all { (p : Place) → p ≡ slice_index_or (header_spec.places_of (header_spec.view_of image.now.header)) i p → OnOk result (length (O.written output.new) ≡ length (O.written output.old) + p.size) }
-    ensures changed { (S.size source.old ≡ image.now.length → ⊥) → (result ≡ Err SectionFault.SourceChanged) × (source.new ≡ source.old) × (output.new ≡ output.old) }
+    ensures most { (p : Place) → p ≡ slice_index_or (header_spec.places_of (header_spec.view_of image.now.header)) i
+        p → length (O.written output.new) ≤ length (O.written output.old) + p.size }
+    ensures all { (p : Place) → p ≡ slice_index_or (header_spec.places_of (header_spec.view_of image.now.header)) i p →
+        OnOk result (length (O.written output.new) ≡ length (O.written output.old) + p.size) }
+    ensures changed { (S.size source.old ≡ image.now.length → ⊥) → (result ≡ Err SectionFault.SourceChanged) ×
+        (source.new ≡ source.old) × (output.new ≡ output.old) }
     ensures read_faults { S.read_faults source.old ≤ S.read_faults source.new }
     ensures write_faults { O.write_faults output.old ≤ O.write_faults output.new }
-    ensures cause { IfErr result (λ e. MoveCause e (S.read_faults source.old) (S.read_faults source.new) (O.write_faults output.old) (O.write_faults output.new) (IsTrue S.tells → IsOpened (S.content source.old) image.now → ⊥)) }
-    ensures clean { OnOk result ((S.read_faults source.new ≡ S.read_faults source.old) × (O.write_faults output.new ≡ O.write_faults output.old)) }
+    ensures cause { IfErr result (λ e. MoveCause e (S.read_faults source.old) (S.read_faults source.new)
+        (O.write_faults output.old) (O.write_faults output.new) (IsTrue S.tells →
+        IsOpened (S.content source.old) image.now → ⊥)) }
+    ensures clean { OnOk result ((S.read_faults source.new ≡ S.read_faults source.old) ×
+        (O.write_faults output.new ≡ O.write_faults output.old)) }
     ensures full_faults { O.full_faults output.new ≡ O.full_faults output.old + full_handed result }
 {
     let place = section(image, i);
-    if source.length() != image.length {
+    if !is_as_long(image, source) {
         return Err(SectionFault::SourceChanged);
     }
-    if place.size == 0 {
-        return Ok(());
-    }
-    match copy_range(source, place.at, place.size as u64, output, w, m) {
-        Ok(()) => Ok(()),
-        Err(CopyFault::Read(fault)) => Err(SectionFault::Read(fault)),
-        Err(CopyFault::Write(fault)) => Err(SectionFault::Write(fault)),
-        Err(CopyFault::Changed) => Err(SectionFault::SourceChanged),
-    }
+    copy_part(source, place.at, place.size, output, w, m)
+}
+
+/// Where the fragment of an entry stands in the image.
+fn fragment_at(header: &ImageHeader, entry: &RamdiskEntry) -> u64
+    ensures value { result ≡ header_spec.ramdisk_at (header_spec.view_of header.now) + entry.now.ramdisk_offset }
+    ensures near { result < 2 ^ 63 }
+{
+    table_of(header).ramdisk_at + entry.ramdisk_offset as u64
 }
 
 /// Writes ramdisk fragment `i` of a vendor boot image.
@@ -75,32 +125,37 @@ pub fn unpack_fragment<S: Source, O: Output>(
     ensures size { IsTrue S.tells → S.size source.new ≡ S.size source.old }
     ensures frame { S.read_frame source.new ≡ S.read_frame source.old }
     ensures write_frame { O.write_frame output.new ≡ O.write_frame output.old }
-    ensures written { IsTrue S.tells → OnOk result (O.written output.new ≡ O.written output.old ++ header_spec.fragment_of (S.content source.old) (header_spec.view_of image.now.header) i) }
-    ensures front { IsTrue S.tells → Begins (O.written output.old) (O.written output.new) (header_spec.fragment_of (S.content source.old) (header_spec.view_of image.now.header) i) }
+    ensures written { IsTrue S.tells → OnOk result (O.written output.new ≡ O.written output.old
+        ++ header_spec.fragment_of (S.content source.old) (header_spec.view_of image.now.header) i) }
+    ensures front { IsTrue S.tells → Begins (O.written output.old) (O.written output.new)
+        (header_spec.fragment_of (S.content source.old) (header_spec.view_of image.now.header) i) }
     ensures least { length (O.written output.old) ≤ length (O.written output.new) }
-    ensures most { length (O.written output.new) ≤ length (O.written output.old) + header_spec.ramdisk_size (header_spec.view_of image.now.header) }
-    ensures within { IsTrue S.tells → OnOk result (header_spec.IsWithin (header_spec.view_of image.now.header) (header_spec.entry_of (S.content source.old) (header_spec.view_of image.now.header) i)) }
-    ensures part { IsTrue S.tells → OnOk result (header_spec.fragment_of (S.content source.old) (header_spec.view_of image.now.header) i ≡ header_spec.ramdisk_part (S.content source.old) (header_spec.view_of image.now.header) (header_spec.entry_of (S.content source.old) (header_spec.view_of image.now.header) i)) }
-    ensures all { IsTrue S.tells → OnOk result (length (O.written output.new) ≡ length (O.written output.old) + (header_spec.entry_of (S.content source.old) (header_spec.view_of image.now.header) i).ramdisk_size) }
-    ensures changed { (S.size source.old ≡ image.now.length → ⊥) → (result ≡ Err SectionFault.SourceChanged) × (source.new ≡ source.old) × (output.new ≡ output.old) }
+    ensures most { length (O.written output.new) ≤ length (O.written output.old) + header_spec.ramdisk_size
+        (header_spec.view_of image.now.header) }
+    ensures within { IsTrue S.tells → OnOk result (header_spec.IsWithin (header_spec.view_of image.now.header)
+        (header_spec.entry_of (S.content source.old) (header_spec.view_of image.now.header) i)) }
+    ensures part { IsTrue S.tells → OnOk result (header_spec.fragment_of (S.content source.old)
+        (header_spec.view_of image.now.header) i ≡ header_spec.ramdisk_part (S.content source.old)
+        (header_spec.view_of image.now.header) (header_spec.entry_of (S.content source.old)
+        (header_spec.view_of image.now.header) i)) }
+    ensures all { IsTrue S.tells → OnOk result (length (O.written output.new)
+        ≡ length (O.written output.old) + (header_spec.entry_of (S.content source.old)
+        (header_spec.view_of image.now.header) i).ramdisk_size) }
+    ensures changed { (S.size source.old ≡ image.now.length → ⊥) → (result ≡ Err SectionFault.SourceChanged) ×
+        (source.new ≡ source.old) × (output.new ≡ output.old) }
     ensures read_faults { S.read_faults source.old ≤ S.read_faults source.new }
     ensures write_faults { O.write_faults output.old ≤ O.write_faults output.new }
-    ensures cause { IfErr result (λ e. MoveCause e (S.read_faults source.old) (S.read_faults source.new) (O.write_faults output.old) (O.write_faults output.new) (IsTrue S.tells → IsOpened (S.content source.old) image.now → ⊥)) }
-    ensures clean { OnOk result ((S.read_faults source.new ≡ S.read_faults source.old) × (O.write_faults output.new ≡ O.write_faults output.old)) }
+    ensures cause { IfErr result (λ e. MoveCause e (S.read_faults source.old) (S.read_faults source.new)
+        (O.write_faults output.old) (O.write_faults output.new) (IsTrue S.tells →
+        IsOpened (S.content source.old) image.now → ⊥)) }
+    ensures clean { OnOk result ((S.read_faults source.new ≡ S.read_faults source.old) ×
+        (O.write_faults output.new ≡ O.write_faults output.old)) }
     ensures full_faults { O.full_faults output.new ≡ O.full_faults output.old + full_handed result }
 {
     let entry = match fragment(image, i, source, w, m) {
         Ok(entry) => entry,
         Err(fault) => return Err(fault),
     };
-    if entry.ramdisk_size == 0 {
-        return Ok(());
-    }
-    let at = table_of(&image.header).ramdisk_at + entry.ramdisk_offset as u64;
-    match copy_range(source, at, entry.ramdisk_size as u64, output, w, m) {
-        Ok(()) => Ok(()),
-        Err(CopyFault::Read(fault)) => Err(SectionFault::Read(fault)),
-        Err(CopyFault::Write(fault)) => Err(SectionFault::Write(fault)),
-        Err(CopyFault::Changed) => Err(SectionFault::SourceChanged),
-    }
+    let at = fragment_at(&image.header, &entry);
+    copy_part(source, at, entry.ramdisk_size, output, w, m)
 }

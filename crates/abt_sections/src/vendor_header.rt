@@ -16,7 +16,8 @@ use abt_io::Meter;
 /// The page of the image, or what the fields are refused for.
 #[tactic(auto, unfolding(crate::specs::Refusal::vendor_refusal))]
 pub(crate) fn check_vendor_spec(spec: &VendorSpec, m: &mut Meter) -> Result<PageSize, SectionFault>
-    ensures refusal { MatchResult result (λ _. vendor_refusal (vendor_fields spec.now) ≡ None) (λ f. vendor_refusal (vendor_fields spec.now) ≡ Some f) }
+    ensures refusal { MatchResult result (λ _. vendor_refusal (vendor_fields spec.now) ≡ None)
+        (λ f. vendor_refusal (vendor_fields spec.now) ≡ Some f) }
     ensures low { OnOk result (3 ≤ spec.now.version) }
     ensures high { OnOk result (spec.now.version ≤ 4) }
     ensures page { IfOk result (λ p. p ≡ canon.vendor_page_for (vendor_fields spec.now)) }

@@ -5,7 +5,7 @@
 
 ghost use Rattle.std.specs.Prelude.{◌≡◌, ◌<◌, ◌≤◌, ◌+◌, ◌-◌, ◌*◌, ◌^◌, ◌++◌, IsTrue, IfErr, OnOk, length, map, take};
 ghost use Rattle.abt_headers.specs.Page as of_page;
-ghost use Rattle.abt_sections.specs.Cause.{MoveCause, total, full_handed};
+ghost use Rattle.abt_sections.specs.Cause.{MoveCause, copy_fault, total, full_handed};
 ghost use Rattle.abt_sections.specs.Fields.{filled};
 ghost use Rattle.abt_sections.specs.Grown.{Begins};
 ghost use Rattle.abt_sections.specs.Layout as layout;
@@ -13,6 +13,17 @@ ghost use Rattle.abt_sections.specs.Layout as layout;
 use crate::fault::SectionFault;
 use abt_headers::pages;
 use abt_io::{CopyFault, Meter, Output, Source, Window, copy_range, write_out, write_zeros};
+
+/// The fault of a copy, as packing and unpacking hand it on.
+pub(crate) fn of_copy(fault: CopyFault) -> SectionFault
+    ensures { result ≡ copy_fault fault }
+{
+    match fault {
+        CopyFault::Read(fault) => SectionFault::Read(fault),
+        CopyFault::Write(fault) => SectionFault::Write(fault),
+        CopyFault::Changed => SectionFault::SourceChanged,
+    }
+}
 
 /// How many bytes of the last page `n` bytes leave free.
 pub(crate) fn padding(n: u64, page: u32) -> u64
@@ -38,7 +49,8 @@ pub(crate) fn write_padding<O: Output>(
     ensures front { Begins (O.written output.old) (O.written output.new) (layout.zeros_behind n page) }
     ensures least { length (O.written output.old) ≤ length (O.written output.new) }
     ensures most { n + length (O.written output.new) ≤ length (O.written output.old) + of_page.pages n page * page }
-    ensures all { OnOk result (n + length (O.written output.new) ≡ length (O.written output.old) + of_page.pages n page * page) }
+    ensures all { OnOk result (n + length (O.written output.new) ≡ length
+        (O.written output.old) + of_page.pages n page * page) }
     ensures write_frame { O.write_frame output.new ≡ O.write_frame output.old }
     ensures write_faults { O.write_faults output.old ≤ O.write_faults output.new }
     ensures cause { IfErr result (λ e. MoveCause e 0 0 (O.write_faults output.old) (O.write_faults output.new) ⊥) }
@@ -64,8 +76,10 @@ pub(crate) fn write_record<O: Output>(
     ensures written { OnOk result (O.written output.new ≡ O.written output.old ++ layout.padded page bytes.now) }
     ensures front { Begins (O.written output.old) (O.written output.new) (layout.padded page bytes.now) }
     ensures least { length (O.written output.old) ≤ length (O.written output.new) }
-    ensures most { length (O.written output.new) ≤ length (O.written output.old) + of_page.pages (length bytes.now) page * page }
-    ensures all { OnOk result (length (O.written output.new) ≡ length (O.written output.old) + of_page.pages (length bytes.now) page * page) }
+    ensures most { length (O.written output.new) ≤ length (O.written output.old) + of_page.pages
+        (length bytes.now) page * page }
+    ensures all { OnOk result (length (O.written output.new) ≡ length (O.written output.old) + of_page.pages
+        (length bytes.now) page * page) }
     ensures write_frame { O.write_frame output.new ≡ O.write_frame output.old }
     ensures write_faults { O.write_faults output.old ≤ O.write_faults output.new }
     ensures cause { IfErr result (λ e. MoveCause e 0 0 (O.write_faults output.old) (O.write_faults output.new) ⊥) }
@@ -102,8 +116,10 @@ pub(crate) fn write_bytes<S: Source, O: Output>(
     ensures write_frame { O.write_frame output.new ≡ O.write_frame output.old }
     ensures read_faults { S.read_faults part.old ≤ S.read_faults part.new }
     ensures write_faults { O.write_faults output.old ≤ O.write_faults output.new }
-    ensures cause { IfErr result (λ e. MoveCause e (S.read_faults part.old) (S.read_faults part.new) (O.write_faults output.old) (O.write_faults output.new) (IsTrue S.tells → S.size part.old ≡ size → ⊥)) }
-    ensures clean { OnOk result ((S.read_faults part.new ≡ S.read_faults part.old) × (O.write_faults output.new ≡ O.write_faults output.old)) }
+    ensures cause { IfErr result (λ e. MoveCause e (S.read_faults part.old) (S.read_faults part.new)
+        (O.write_faults output.old) (O.write_faults output.new) (IsTrue S.tells → S.size part.old ≡ size → ⊥)) }
+    ensures clean { OnOk result ((S.read_faults part.new ≡ S.read_faults part.old) ×
+        (O.write_faults output.new ≡ O.write_faults output.old)) }
     ensures full_faults { O.full_faults output.new ≡ O.full_faults output.old + full_handed result }
 {
     if part.length() != size {
@@ -111,9 +127,7 @@ pub(crate) fn write_bytes<S: Source, O: Output>(
     }
     match copy_range(part, 0, size, output, w, m) {
         Ok(()) => {}
-        Err(CopyFault::Read(fault)) => return Err(SectionFault::Read(fault)),
-        Err(CopyFault::Write(fault)) => return Err(SectionFault::Write(fault)),
-        Err(CopyFault::Changed) => return Err(SectionFault::SourceChanged),
+        Err(fault) => return Err(of_copy(fault)),
     }
     let last = part.length();
     if last != size {
@@ -135,18 +149,23 @@ pub(crate) fn write_part<S: Source, O: Output>(
     ensures content { IsTrue S.tells → S.content part.new ≡ S.content part.old }
     ensures size { IsTrue S.tells → S.size part.new ≡ S.size part.old }
     ensures frame { S.read_frame part.new ≡ S.read_frame part.old }
-    ensures written { IsTrue S.tells → OnOk result (O.written output.new ≡ O.written output.old ++ layout.padded page (S.content part.old)) }
-    ensures front { IsTrue S.tells → Begins (O.written output.old) (O.written output.new) (layout.padded page (S.content part.old)) }
+    ensures written { IsTrue S.tells → OnOk result (O.written output.new ≡ O.written output.old
+        ++ layout.padded page (S.content part.old)) }
+    ensures front { IsTrue S.tells → Begins (O.written output.old) (O.written output.new)
+        (layout.padded page (S.content part.old)) }
     ensures grown { take (length (O.written output.old)) (O.written output.new) ≡ O.written output.old }
     ensures least { length (O.written output.old) ≤ length (O.written output.new) }
     ensures most { length (O.written output.new) ≤ length (O.written output.old) + of_page.pages size page * page }
-    ensures all { OnOk result (length (O.written output.new) ≡ length (O.written output.old) + of_page.pages size page * page) }
+    ensures all { OnOk result (length (O.written output.new) ≡ length (O.written output.old) + of_page.pages size
+        page * page) }
     ensures lasting { OnOk result ((S.size part.old ≡ size) × (S.size part.new ≡ size)) }
     ensures write_frame { O.write_frame output.new ≡ O.write_frame output.old }
     ensures read_faults { S.read_faults part.old ≤ S.read_faults part.new }
     ensures write_faults { O.write_faults output.old ≤ O.write_faults output.new }
-    ensures cause { IfErr result (λ e. MoveCause e (S.read_faults part.old) (S.read_faults part.new) (O.write_faults output.old) (O.write_faults output.new) (IsTrue S.tells → S.size part.old ≡ size → ⊥)) }
-    ensures clean { OnOk result ((S.read_faults part.new ≡ S.read_faults part.old) × (O.write_faults output.new ≡ O.write_faults output.old)) }
+    ensures cause { IfErr result (λ e. MoveCause e (S.read_faults part.old) (S.read_faults part.new)
+        (O.write_faults output.old) (O.write_faults output.new) (IsTrue S.tells → S.size part.old ≡ size → ⊥)) }
+    ensures clean { OnOk result ((S.read_faults part.new ≡ S.read_faults part.old) ×
+        (O.write_faults output.new ≡ O.write_faults output.old)) }
     ensures full_faults { O.full_faults output.new ≡ O.full_faults output.old + full_handed result }
 {
     let _free = padding(size as u64, page);
@@ -171,17 +190,24 @@ pub(crate) fn write_parts<S: Source, O: Output>(
     ensures content { IsTrue S.tells → map S.content parts.new ≡ map S.content parts.old }
     ensures size { IsTrue S.tells → map S.size parts.new ≡ map S.size parts.old }
     ensures frame { map S.read_frame parts.new ≡ map S.read_frame parts.old }
-    ensures written { IsTrue S.tells → OnOk result (O.written output.new ≡ O.written output.old ++ layout.laid page (map S.content parts.old)) }
-    ensures front { IsTrue S.tells → Begins (O.written output.old) (O.written output.new) (layout.laid page (map S.content parts.old)) }
+    ensures written { IsTrue S.tells → OnOk result (O.written output.new ≡ O.written output.old
+        ++ layout.laid page (map S.content parts.old)) }
+    ensures front { IsTrue S.tells → Begins (O.written output.old) (O.written output.new)
+        (layout.laid page (map S.content parts.old)) }
     ensures least { length (O.written output.old) ≤ length (O.written output.new) }
-    ensures most { length (O.written output.new) ≤ length (O.written output.old) + layout.laid_size page (take (length parts.old) sizes.now) }
-    ensures all { OnOk result (length (O.written output.new) ≡ length (O.written output.old) + layout.laid_size page (take (length parts.old) sizes.now)) }
+    ensures most { length (O.written output.new) ≤ length (O.written output.old) + layout.laid_size page
+        (take (length parts.old) sizes.now) }
+    ensures all { OnOk result (length (O.written output.new) ≡ length (O.written output.old) + layout.laid_size page
+        (take (length parts.old) sizes.now)) }
     ensures lasting { OnOk result (map S.size parts.new ≡ take (length parts.old) sizes.now) }
     ensures write_frame { O.write_frame output.new ≡ O.write_frame output.old }
     ensures read_faults { total S.read_faults parts.old ≤ total S.read_faults parts.new }
     ensures write_faults { O.write_faults output.old ≤ O.write_faults output.new }
-    ensures cause { IfErr result (λ e. MoveCause e (total S.read_faults parts.old) (total S.read_faults parts.new) (O.write_faults output.old) (O.write_faults output.new) (IsTrue S.tells → sizes.now ≡ filled 5 (map S.size parts.old) → ⊥)) }
-    ensures clean { OnOk result ((total S.read_faults parts.new ≡ total S.read_faults parts.old) × (O.write_faults output.new ≡ O.write_faults output.old)) }
+    ensures cause { IfErr result (λ e. MoveCause e (total S.read_faults parts.old) (total S.read_faults parts.new)
+        (O.write_faults output.old) (O.write_faults output.new) (IsTrue S.tells →
+        sizes.now ≡ filled 5 (map S.size parts.old) → ⊥)) }
+    ensures clean { OnOk result ((total S.read_faults parts.new ≡ total S.read_faults parts.old) ×
+        (O.write_faults output.new ≡ O.write_faults output.old)) }
     ensures full_faults { O.full_faults output.new ≡ O.full_faults output.old + full_handed result }
 {
     for i in 0..parts.len() {

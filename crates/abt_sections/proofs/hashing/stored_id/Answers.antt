@@ -17,8 +17,8 @@ loop-i-preserved g c =
       frame = e.frame ∙ i.frame;
       faults = e.clean ∙ i.faults;
       hashed = λ tells.
-          hash_stored c.update.new.self _ _ c.args.sections.now c.loop-i.i c.place-place.result (i.content tells) (omega arith) c.place-place.ensures (e.present tells)
-          (rw c.to_le_bytes.ensures at (c.update.ensures _ (e.hashed tells _ (i.hashed tells))));
+          hash_stored c.hash_size.new.hasher _ _ c.args.sections.now c.loop-i.i c.place-place.result (i.content tells) (omega arith) c.place-place.ensures (e.present tells)
+          (c.hash_size.ensures _ (e.hashed tells _ (i.hashed tells)));
     }
 
 pub returns-clause-id : goal.returns-clause-id

@@ -1,0 +1,16 @@
+use Rattle.std.proofs.Common.{◌≤◌, ◌+◌, ◌<◌, ℕ, arith, length, ap, sym, ◌∙◌}
+use Rattle.std.specs.Prelude.{IsTrue}
+use Rattle.abt_sections.proofs.Causes.{copy_moves, copy_full}
+use Rattle.abt_sections.proofs.unpacking.copy_part.Goals as goal
+
+pub returns-in-Err-clause-cause : goal.returns-in-Err-clause-cause
+returns-in-Err-clause-cause g c =
+    let s = g.S.Source in
+    let x = s.content c.args.source.now in
+    rw c.of_copy.ensures (copy_moves c.in-Err.fault _ _ _ _
+    (IsTrue s.tells → length x < c.args.at + c.args.size) (IsTrue s.tells → (0 < c.args.size → c.args.at + c.args.size ≤ length x) → ⊥)
+    (λ short tells there. absurd (omega (arith, short tells, there (omega arith)))) c.in-Err.ensures.cause)
+
+pub returns-in-Err-clause-full_faults : goal.returns-in-Err-clause-full_faults
+returns-in-Err-clause-full_faults g c =
+    rw c.of_copy.ensures (c.in-Err.ensures.full_faults ∙ ap (λ (n : ℕ). g.O.Output.full_faults c.args.output.now + n) (sym (copy_full c.in-Err.fault)))

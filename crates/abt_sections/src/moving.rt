@@ -1,0 +1,218 @@
+//! Moving parts to an output: each byte is read once, hashed where an id is wanted, and written in the same step.
+//!
+//! What stands where a call here fails is said no closer than that the bytes before are kept (`grown`): its caller has
+//! zeros where the header will stand.
+
+ghost use Rattle.std.specs.Prelude.{◌≡◌, ◌<◌, ◌≤◌, ◌+◌, ◌*◌, ◌^◌, ◌++◌, ◌∷◌, [], ℕ, List, IsTrue, IfErr, OnOk, length, map, take, drop, sum};
+ghost use Rattle.sha1.specs.Sha1.{Holds};
+ghost use Rattle.abt_headers.specs.Page as of_page;
+ghost use Rattle.abt_sections.specs.Cause.{MoveCause, total, full_handed};
+ghost use Rattle.abt_sections.specs.Fields.{filled};
+ghost use Rattle.abt_sections.specs.Grown.{Grows};
+ghost use Rattle.abt_sections.specs.Id.{sized_parts};
+ghost use Rattle.abt_sections.specs.Layout as layout;
+
+use crate::fault::SectionFault;
+use crate::reading::{next_ask, read_front};
+use crate::writing::{padding, write_padding};
+use abt_io::{Meter, Output, Source, Window, write_out};
+use sha1::Sha1;
+
+/// Hashes bytes where an id is wanted.
+fn hash_wanted(id: bool, bytes: &[u8], hasher: &mut Sha1)
+    ensures { IsTrue id → (t : List ℕ) → Holds hasher.old t → Holds hasher.new (t ++ bytes.now) }
+{
+    if id {
+        hasher.update(bytes);
+    }
+}
+
+/// One step: reads the `ask` bytes from a place on, hashes them where an id is wanted, and writes them.
+fn move_step<S: Source, O: Output>(
+    source: &mut S,
+    at: u64,
+    ask: usize,
+    id: bool,
+    hasher: &mut Sha1,
+    output: &mut O,
+    w: &mut Window,
+    m: &mut Meter,
+) -> Result<(), SectionFault>
+    requires room { ask ≤ 65536 }
+    requires below { at + ask < 2 ^ 64 }
+    ensures content { IsTrue S.tells → S.content source.new ≡ S.content source.old }
+    ensures size { IsTrue S.tells → S.size source.new ≡ S.size source.old }
+    ensures frame { S.read_frame source.new ≡ S.read_frame source.old }
+    ensures once { S.given source.new ≤ S.given source.old + ask }
+    ensures present { IsTrue S.tells → OnOk result (0 < ask → at + ask ≤ length (S.content source.old)) }
+    ensures written { IsTrue S.tells → OnOk result (O.written output.new ≡ O.written output.old
+        ++ take ask (drop at (S.content source.old))) }
+    ensures hashed { IsTrue id → IsTrue S.tells → OnOk result ((t : List ℕ) → Holds hasher.old t →
+        Holds hasher.new (t ++ take ask (drop at (S.content source.old)))) }
+    ensures grown { Grows (O.written output.old) (O.written output.new) }
+    ensures most { length (O.written output.new) ≤ length (O.written output.old) + ask }
+    ensures all { OnOk result (length (O.written output.new) ≡ length (O.written output.old) + ask) }
+    ensures write_frame { O.write_frame output.new ≡ O.write_frame output.old }
+    ensures read_faults { S.read_faults source.old ≤ S.read_faults source.new }
+    ensures write_faults { O.write_faults output.old ≤ O.write_faults output.new }
+    ensures cause { IfErr result (λ e. MoveCause e (S.read_faults source.old) (S.read_faults source.new)
+        (O.write_faults output.old) (O.write_faults output.new) (IsTrue S.tells →
+        (0 < ask → at + ask ≤ length (S.content source.old)) → ⊥)) }
+    ensures clean { OnOk result ((S.read_faults source.new ≡ S.read_faults source.old) ×
+        (O.write_faults output.new ≡ O.write_faults output.old)) }
+    ensures full_faults { O.full_faults output.new ≡ O.full_faults output.old + full_handed result }
+{
+    match read_front(source, at, ask, w, m) {
+        Ok(()) => {}
+        Err(fault) => return Err(fault),
+    }
+    hash_wanted(id, w.part(0, ask), hasher);
+    let done = write_out(output, w.part(0, ask), m);
+    m.close_step(ask as u32);
+    match done {
+        Ok(()) => Ok(()),
+        Err(fault) => Err(SectionFault::Write(fault)),
+    }
+}
+
+/// Moves the `n` bytes at the front of a source, in steps of at most a window.
+fn move_bytes<S: Source, O: Output>(
+    part: &mut S,
+    n: u64,
+    id: bool,
+    hasher: &mut Sha1,
+    output: &mut O,
+    w: &mut Window,
+    m: &mut Meter,
+) -> Result<(), SectionFault>
+    ensures content { IsTrue S.tells → S.content part.new ≡ S.content part.old }
+    ensures size { IsTrue S.tells → S.size part.new ≡ S.size part.old }
+    ensures frame { S.read_frame part.new ≡ S.read_frame part.old }
+    ensures once { S.given part.new ≤ S.given part.old + n }
+    ensures written { IsTrue S.tells → OnOk result (O.written output.new ≡ O.written output.old
+        ++ take n (S.content part.old)) }
+    ensures hashed { IsTrue id → IsTrue S.tells → OnOk result ((t : List ℕ) → Holds hasher.old t →
+        Holds hasher.new (t ++ take n (S.content part.old))) }
+    ensures grown { Grows (O.written output.old) (O.written output.new) }
+    ensures most { length (O.written output.new) ≤ length (O.written output.old) + n }
+    ensures all { OnOk result (length (O.written output.new) ≡ length (O.written output.old) + n) }
+    ensures write_frame { O.write_frame output.new ≡ O.write_frame output.old }
+    ensures read_faults { S.read_faults part.old ≤ S.read_faults part.new }
+    ensures write_faults { O.write_faults output.old ≤ O.write_faults output.new }
+    ensures cause { IfErr result (λ e. MoveCause e (S.read_faults part.old) (S.read_faults part.new)
+        (O.write_faults output.old) (O.write_faults output.new) (IsTrue S.tells → n ≤ length (S.content part.old) →
+        ⊥)) }
+    ensures clean { OnOk result ((S.read_faults part.new ≡ S.read_faults part.old) ×
+        (O.write_faults output.new ≡ O.write_faults output.old)) }
+    ensures full_faults { O.full_faults output.new ≡ O.full_faults output.old + full_handed result }
+{
+    let mut at = 0;
+    while at < n {
+        m.tick();
+        let ask = next_ask(n - at);
+        match move_step(part, at, ask, id, hasher, output, w, m) {
+            Ok(()) => {}
+            Err(fault) => return Err(fault),
+        }
+        at += ask as u64;
+    }
+    Ok(())
+}
+
+/// Moves a part that must have this size, and must still have it then; hashes its size, and writes zeros up to a page
+/// boundary.
+fn move_part<S: Source, O: Output>(
+    part: &mut S,
+    size: u32,
+    page: u32,
+    id: bool,
+    hasher: &mut Sha1,
+    output: &mut O,
+    w: &mut Window,
+    m: &mut Meter,
+) -> Result<(), SectionFault>
+    requires { 0 < page }
+    ensures content { IsTrue S.tells → S.content part.new ≡ S.content part.old }
+    ensures size { IsTrue S.tells → S.size part.new ≡ S.size part.old }
+    ensures frame { S.read_frame part.new ≡ S.read_frame part.old }
+    ensures once { S.given part.new ≤ S.given part.old + size }
+    ensures written { IsTrue S.tells → OnOk result (O.written output.new ≡ O.written output.old
+        ++ layout.padded page (S.content part.old)) }
+    ensures hashed { IsTrue id → IsTrue S.tells → OnOk result ((parts : List (List ℕ)) →
+        Holds hasher.old (sized_parts parts) → Holds hasher.new (sized_parts (parts ++ (S.content part.old ∷ [])))) }
+    ensures grown { Grows (O.written output.old) (O.written output.new) }
+    ensures most { length (O.written output.new) ≤ length (O.written output.old) + of_page.pages size page * page }
+    ensures all { OnOk result (length (O.written output.new) ≡ length (O.written output.old) + of_page.pages size
+        page * page) }
+    ensures lasting { OnOk result ((S.size part.old ≡ size) × (S.size part.new ≡ size)) }
+    ensures write_frame { O.write_frame output.new ≡ O.write_frame output.old }
+    ensures read_faults { S.read_faults part.old ≤ S.read_faults part.new }
+    ensures write_faults { O.write_faults output.old ≤ O.write_faults output.new }
+    ensures cause { IfErr result (λ e. MoveCause e (S.read_faults part.old) (S.read_faults part.new)
+        (O.write_faults output.old) (O.write_faults output.new) (IsTrue S.tells → S.size part.old ≡ size → ⊥)) }
+    ensures clean { OnOk result ((S.read_faults part.new ≡ S.read_faults part.old) ×
+        (O.write_faults output.new ≡ O.write_faults output.old)) }
+    ensures full_faults { O.full_faults output.new ≡ O.full_faults output.old + full_handed result }
+{
+    let _free = padding(size as u64, page);
+    if part.length() != size as u64 {
+        return Err(SectionFault::SourceChanged);
+    }
+    match move_bytes(part, size as u64, id, hasher, output, w, m) {
+        Ok(()) => {}
+        Err(fault) => return Err(fault),
+    }
+    let last = part.length();
+    if last != size as u64 {
+        return Err(SectionFault::SourceChanged);
+    }
+    hash_wanted(id, &size.to_le_bytes(), hasher);
+    write_padding(size as u64, page, output, w, m)
+}
+
+/// Moves parts that must have these sizes, each with its size and with zeros up to a page boundary.
+pub(crate) fn move_parts<S: Source, O: Output>(
+    parts: &mut [S],
+    sizes: &[u32; 5],
+    page: u32,
+    id: bool,
+    hasher: &mut Sha1,
+    output: &mut O,
+    w: &mut Window,
+    m: &mut Meter,
+) -> Result<(), SectionFault>
+    requires some { 0 < page }
+    requires few { length parts.old ≤ 5 }
+    ensures content { IsTrue S.tells → map S.content parts.new ≡ map S.content parts.old }
+    ensures frame { map S.read_frame parts.new ≡ map S.read_frame parts.old }
+    ensures once { total S.given parts.new ≤ total S.given parts.old + sum (take (length parts.old) sizes.now) }
+    ensures written { IsTrue S.tells → OnOk result (O.written output.new ≡ O.written output.old
+        ++ layout.laid page (map S.content parts.old)) }
+    ensures hashed { IsTrue id → IsTrue S.tells → OnOk result (Holds hasher.old [] →
+        Holds hasher.new (sized_parts (map S.content parts.old))) }
+    ensures grown { Grows (O.written output.old) (O.written output.new) }
+    ensures most { length (O.written output.new) ≤ length (O.written output.old) + layout.laid_size page
+        (take (length parts.old) sizes.now) }
+    ensures all { OnOk result (length (O.written output.new) ≡ length (O.written output.old) + layout.laid_size page
+        (take (length parts.old) sizes.now)) }
+    ensures lasting { OnOk result (map S.size parts.new ≡ take (length parts.old) sizes.now) }
+    ensures write_frame { O.write_frame output.new ≡ O.write_frame output.old }
+    ensures read_faults { total S.read_faults parts.old ≤ total S.read_faults parts.new }
+    ensures write_faults { O.write_faults output.old ≤ O.write_faults output.new }
+    ensures cause { IfErr result (λ e. MoveCause e (total S.read_faults parts.old) (total S.read_faults parts.new)
+        (O.write_faults output.old) (O.write_faults output.new) (IsTrue S.tells →
+        sizes.now ≡ filled 5 (map S.size parts.old) → ⊥)) }
+    ensures clean { OnOk result ((total S.read_faults parts.new ≡ total S.read_faults parts.old) ×
+        (O.write_faults output.new ≡ O.write_faults output.old)) }
+    ensures full_faults { O.full_faults output.new ≡ O.full_faults output.old + full_handed result }
+{
+    for i in 0..parts.len() {
+        m.tick();
+        let part = &mut parts[i];
+        match move_part(part, sizes[i], page, id, hasher, output, w, m) {
+            Ok(()) => {}
+            Err(fault) => return Err(fault),
+        }
+    }
+    Ok(())
+}
