@@ -1,8 +1,14 @@
+pub mod Boards
 pub mod Calls
 pub mod Counting
 pub mod Demonstrated
+pub mod Escapes
 pub mod Fragments
+pub mod NumberWords
 pub mod OsWords
 pub mod Listed
 pub mod Printing
+pub mod TextsOver
 pub mod Turns
+pub mod WordLists
+pub mod WordsSay

@@ -16,16 +16,15 @@ module _ {O : Type 0} (written : O → List ℕ) where
   then_printed s t u a b (Ok x) p q = both_printed s t u a b p q
   then_printed s t u a b (Err e) p q = tt
 
-  -- the whole text of an image, of which the last line may fail
-  pub whole_printed : {A E : Type 0} (s k p f t u : Text O) (x : List ℕ) (h : Header) (v : Verdict) (r : Result A E)
+  -- the whole text of an image
+  pub whole_printed : (s k p f t u : Text O) (x : List ℕ) (h : Header) (v : Verdict)
       → Prints written s k (line (kind_text h)) → Prints written k p (flat_map section_line (places_of h))
       → Prints written p f (fragment_lines x h (fragment_count h)) → Prints written f t (header_lines h)
-      → IsVerdict x h v → OnOk r (Prints written t u (line (check_text v)))
-      → OnOk r (Checked x h (Prints written s u))
+      → IsVerdict x h v → Prints written t u (line (check_text v))
+      → Checked x h (Prints written s u)
   unfolding info_text
-  whole_printed s k p f t u x h v (Ok y) kind sections fragments header verdict last = record {
+  whole_printed s k p f t u x h v kind sections fragments header verdict last = record {
     verdict = v;
     checked = verdict;
     holds = both_printed s k u _ _ kind (both_printed k p u _ _ sections (both_printed p f u _ _ fragments (both_printed f t u _ _ header last)));
   }
-  whole_printed s k p f t u x h v (Err e) kind sections fragments header verdict last = tt

@@ -1,10 +1,16 @@
+pub mod Board
 pub mod Demo
 pub mod Fault
 pub mod Fragment
 pub mod Info
 pub mod Listed
 pub mod Listing
+pub mod Loading
+pub mod NumberWord
 pub mod OsWord
 pub mod Pack
 pub mod Printed
+pub mod Said
 pub mod Shown
+pub mod Unescaped
+pub mod Words

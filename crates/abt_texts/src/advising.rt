@@ -23,6 +23,7 @@ pub fn side_of(fault: &CommandFault) -> Side {
     match fault {
         CommandFault::CannotOpen(_) => Side::Opening,
         CommandFault::SameFile(_) => Side::Opening,
+        CommandFault::NotText(_) => Side::Opening,
         CommandFault::Flash(FlashFault::Stopped { cause, .. }) => side_of_cause(cause),
         _ => match fault.number() {
             Some(number) => side_of_number(number),
@@ -45,7 +46,7 @@ fn side_of_cause(cause: &Cause) -> Side {
 
 fn side_of_number(number: u32) -> Side {
     match number {
-        12 | 17 | 18 => Side::Output,
+        12 | 17 | 18 | 35 | 37 => Side::Output,
         15 | 16 | 26 | 27 | 28 | 31 => Side::Words,
         _ => Side::Input,
     }
@@ -66,8 +67,14 @@ pub fn advice(fault: &CommandFault) -> &'static str {
         CommandFault::SameFile(_) => "it is read, so it is not written; name another file",
         CommandFault::OptionNotCarried(_) => "leave the option out, or choose another --version",
         CommandFault::BadFragment(_) => {
-            "write TYPE:NAME:FILE, with --vendor --version 4; TYPE is none, platform, recovery or dlkm"
+            "write TYPE:NAME:FILE, with --vendor --version 4; TYPE is none, platform, recovery, dlkm or a number"
         }
+        CommandFault::BadNumber(_) => "write it as 4096, 0x1000, 4K, 1M or 1G",
+        CommandFault::BadBoardId(_) => {
+            "write I:K=N, with a fragment I of vendor 4, counted from 0, K from 0 to 15, and N in 32 bits"
+        }
+        CommandFault::NotText(_) => "a file of words is text in UTF-8, with one word a line",
+        CommandFault::CheckFailed => "the lines behind the check say why",
         CommandFault::Memory => "there is too little memory",
         _ => match fault.number() {
             Some(number) => advice_of_number(number),
@@ -91,6 +98,9 @@ fn advice_of_number(number: u32) -> &'static str {
         18 => "it was written, but could not be synced",
         19 => "it failed",
         31 => "--from names a piece behind the last",
+        35 => "that byte is not the image's, or is missing; flash it again",
+        36 => "it has another block size or number of blocks than the first image",
+        37 => "it cannot be read",
         _ => advice_of_boot(number),
     }
 }

@@ -1,6 +1,6 @@
 //! The text of `info`: what the header of a boot image says, and whether the image is what the packer writes.
 
-ghost use Rattle.std.specs.Prelude.{◌≡◌, ◌≤◌, IsTrue, IfErr, IfSome, OnOk, flat_map};
+ghost use Rattle.std.specs.Prelude.{◌≡◌, ◌≤◌, IsTrue, IfErr, IfOk, IfSome, OnOk, flat_map};
 ghost use Rattle.std.specs.Fmt.{with_newline};
 ghost use Rattle.abt_sections.specs.Open.{IsOpened};
 ghost use Rattle.abt_sections.specs.Header.{fragment_count, places_of, view_of};
@@ -14,9 +14,17 @@ use crate::info_lines::{
 use crate::text_output::Text;
 use abt_io::{Meter, Output, Source, Window};
 use abt_sections::{
-    Image, ImageHeader, SectionFault, check, fragment, fragments, open, section, sections,
+    Image, ImageHeader, SectionFault, Verdict, check, fragment, fragments, open, section, sections,
 };
 use std::fmt;
+
+/// What was printed of an image.
+#[derive(Clone, Copy, Debug)]
+pub struct InfoReport {
+    pub image: Image,
+    /// What checking it found.
+    pub verdict: Verdict,
+}
 
 /// Prints what the header of the image at the front of a source says, a line for each field, and what checking finds.
 ///
@@ -27,8 +35,9 @@ pub fn report_info<S: Source, O: Output>(
     out: &mut O,
     w: &mut Window,
     m: &mut Meter,
-) -> Result<(), SectionFault>
+) -> Result<InfoReport, SectionFault>
     ensures content { IsTrue S.tells → OnOk result (S.content source.new ≡ S.content source.old) }
+    ensures reported { IsTrue S.tells → IfOk result (λ r. IsOpened (S.content source.old) r.image × spec.IsVerdict (S.content source.old) (view_of r.image.header) r.verdict) }
     ensures printed { IsTrue S.tells → OnOk result (spec.Reports (S.content source.old) (O.written out.old) (O.written out.new)) }
     ensures refused { IsTrue S.tells → IfErr result (λ f. spec.InfoCause f (S.content source.old) (S.read_faults source.old) (S.read_faults source.new) (O.written out.new ≡ O.written out.old)) }
 {
@@ -38,9 +47,10 @@ pub fn report_info<S: Source, O: Output>(
     };
     let mut text = Text::new(out);
     let told = image_lines(&image, source, &mut text, w, m);
-    match text.finish() {
-        Ok(()) => told,
-        Err(fault) => Err(SectionFault::Write(fault)),
+    match (text.finish(), told) {
+        (Ok(()), Ok(verdict)) => Ok(InfoReport { image, verdict }),
+        (Ok(()), Err(fault)) => Err(fault),
+        (Err(fault), _) => Err(SectionFault::Write(fault)),
     }
 }
 
@@ -50,8 +60,9 @@ fn image_lines<S: Source, O: Output>(
     text: &mut Text<'_, O>,
     w: &mut Window,
     m: &mut Meter,
-) -> Result<(), SectionFault>
+) -> Result<Verdict, SectionFault>
     ensures content { IsTrue S.tells → OnOk result (S.content source.new ≡ S.content source.old) }
+    ensures verdict { IsTrue S.tells → IfOk result (spec.IsVerdict (S.content source.old) (view_of image.now.header)) }
     ensures lines { IsTrue S.tells → OnOk result (spec.Checked (S.content source.old) (view_of image.now.header) (Prints O.written text.old text.new)) }
     ensures refused { IsTrue S.tells → IsOpened (S.content source.old) image.now → IfErr result (λ f. spec.PrintCause f (S.read_faults source.old) (S.read_faults source.new)) }
 {
@@ -66,7 +77,10 @@ fn image_lines<S: Source, O: Output>(
         Ok(verdict) => verdict,
         Err(fault) => return Err(fault),
     };
-    print(text, CheckLine(verdict))
+    match print(text, CheckLine(verdict)) {
+        Ok(()) => Ok(verdict),
+        Err(fault) => Err(fault),
+    }
 }
 
 fn section_lines<O: Output>(

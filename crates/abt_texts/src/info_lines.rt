@@ -178,7 +178,7 @@ impl fmt::Display for Quoted<'_> {
 }
 
 // The bytes up to the first zero byte.
-fn front_text(field: &[u8]) -> &[u8]
+pub fn front_text(field: &[u8]) -> &[u8]
     ensures { result.now ≡ info.text_of field.now }
 {
     for i in 0..field.len() {
@@ -191,7 +191,7 @@ fn front_text(field: &[u8]) -> &[u8]
 
 /// The bytes of a text, each as it is or escaped.
 #[derive(Clone, Copy, Drop)]
-struct EscapedText<'a>(&'a [u8]);
+pub struct EscapedText<'a>(pub &'a [u8]);
 
 impl fmt::Display for EscapedText<'_> {
     ghost output = { λ text. Some (flat_map info.escaped text.0.now) };
@@ -206,7 +206,7 @@ impl fmt::Display for EscapedText<'_> {
 
 /// A byte of a text, as it is or as `\x` and two digits.
 #[derive(Clone, Copy, Drop)]
-struct Escaped(u8);
+pub struct Escaped(pub u8);
 
 impl fmt::Display for Escaped {
     ghost output = { λ byte. Some (info.escaped byte.0) };

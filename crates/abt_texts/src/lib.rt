@@ -11,12 +11,18 @@
 //! | `info.rt`, `info_lines.rt`, `fields.rt` | what a boot image's header says, the text of its lines, and the fields that a header has |
 //! | `pack_options.rt` | the options of `pack`, and which image carries which |
 //! | `os_word.rt`, `fragment_word.rt` | the words of `--os` and FRAGMENT |
+//! | `numbers.rt`, `loading.rt` | numbers as words, and where parts are loaded |
+//! | `os_word.rt`, `fragment_word.rt`, `board_word.rt` | the words of `--os`, FRAGMENT and `--board-id` |
+//! | `packing_words.rt`, `word_lines.rt`, `words_laws.rt` | the words that pack an image again, the text of each, and that they say what the header has |
+//! | `unescaping.rt` | texts with escaped bytes |
 //! | `fault.rt`, `exit_status.rt` | why a command is refused, the line that says so, and the exit status |
 //! | `advising.rt`, `shown_path.rt` | which file a fault is about and what can be done, and a path as it is shown |
+//! | `progress_line.rt` | how far a command is |
 //! | `text_output.rt`, `held.rt` | text into an output, and the buffer that it waits in |
 #![tactic(auto)]
 
 mod advising;
+mod board_word;
 mod demonstration;
 mod exit_status;
 mod fault;
@@ -27,20 +33,36 @@ mod info;
 mod info_lines;
 mod lines;
 mod listing;
+mod loading;
+mod numbers;
 mod os_word;
 mod pack_options;
+mod packing_words;
+mod progress_line;
 mod shown;
 mod shown_path;
 mod text_output;
+mod unescaping;
+mod word_lines;
+mod words_laws;
 
 pub use advising::{Side, advice, is_of_a_device, side_of};
+pub use board_word::BoardWord;
 pub use demonstration::{IMAGE, demo};
 pub use exit_status::{DONE, REFUSED, USAGE, status};
 pub use fault::{CommandFault, fault_text, write_fault};
+pub use fields::{Address, TextField, address_of, os_version_of, text_field_of};
 pub use fragment_word::FragmentWord;
-pub use info::report_info;
+pub use info::{InfoReport, report_info};
+pub use info_lines::front_text;
 pub use listing::report_list;
+pub use loading::{AddressWords, BASE, base_of, load_address};
+pub use numbers::number_word;
 pub use os_word::os_from_word;
 pub use pack_options::{ImageKind, OPTIONS, PackOption, Value};
+pub use packing_words::write_words;
+pub use progress_line::ProgressLine;
 pub use shown_path::ShownPath;
 pub use text_output::{Text, print_line};
+pub use unescaping::unescaped;
+pub use words_laws::{header_is_held, words_say_the_header};

@@ -42,7 +42,7 @@ fn parts_of(word: &str) -> Option<OsParts>
 }
 
 // The number that these digits write. `parse` alone would take a sign before them.
-fn number(digits: &str) -> Option<u32>
+pub(crate) fn number(digits: &str) -> Option<u32>
     ensures value { IfSome result (λ n. IsNumberWord digits.now n) }
     ensures accepts { (n : ℕ) → IsNumberWord digits.now n → n < 2 ^ 32 → result ≡ Some n }
 {

@@ -73,7 +73,7 @@ impl PackOption {
 
 /// Every option, in the order in which one that isn't carried is named, and files are opened.
 #[rattlefmt::skip]
-pub const OPTIONS: [PackOption; 15] = [
+pub const OPTIONS: [PackOption; 22] = [
     PackOption { name: "kernel", value: Value::File, boot: &[0, 1, 2, 3, 4], vendor: &[], help: "The kernel (boot)" },
     PackOption { name: "ramdisk", value: Value::File, boot: &[0, 1, 2, 3, 4], vendor: &[3], help: "The ramdisk (boot, vendor 3)" },
     PackOption { name: "second", value: Value::File, boot: &[0, 1, 2], vendor: &[], help: "The second stage (boot 0 to 2)" },
@@ -86,7 +86,14 @@ pub const OPTIONS: [PackOption; 15] = [
     PackOption { name: "tags-addr", value: Value::Address, boot: &[0, 1, 2], vendor: &[3, 4], help: "Where the kernel's tags are loaded (boot 0 to 2, vendor)" },
     PackOption { name: "second-addr", value: Value::Address, boot: &[0, 1, 2], vendor: &[], help: "Where the second stage is loaded (boot 0 to 2)" },
     PackOption { name: "dtb-addr", value: Value::LongAddress, boot: &[2], vendor: &[3, 4], help: "Where the device tree blob is loaded, in 64 bits (boot 2, vendor)" },
+    PackOption { name: "base", value: Value::Address, boot: &[0, 1, 2], vendor: &[3, 4], help: "What the offsets count from: addresses that aren't given are sums (boot 0 to 2, vendor)" },
+    PackOption { name: "kernel-offset", value: Value::Address, boot: &[0, 1, 2], vendor: &[3, 4], help: "Of the kernel from the base; 0x8000" },
+    PackOption { name: "ramdisk-offset", value: Value::Address, boot: &[0, 1, 2], vendor: &[3, 4], help: "Of the ramdisk from the base; 0x1000000" },
+    PackOption { name: "second-offset", value: Value::Address, boot: &[0, 1, 2], vendor: &[], help: "Of the second stage from the base; 0xf00000" },
+    PackOption { name: "tags-offset", value: Value::Address, boot: &[0, 1, 2], vendor: &[3, 4], help: "Of the kernel's tags from the base; 0x100" },
+    PackOption { name: "dtb-offset", value: Value::LongAddress, boot: &[2], vendor: &[3, 4], help: "Of the device tree blob from the base; 0x1f00000" },
     PackOption { name: "os", value: Value::Os, boot: &[0, 1, 2, 3, 4], vendor: &[], help: "The OS version and its patch level (boot)" },
+    PackOption { name: "os-number", value: Value::Address, boot: &[0, 1, 2, 3, 4], vendor: &[], help: "The same as the number that the header has (boot)" },
     PackOption { name: "name", value: Value::Text, boot: &[0, 1, 2], vendor: &[3, 4], help: "The product's name, at most 15 bytes (boot 0 to 2, vendor)" },
     PackOption { name: "cmdline", value: Value::CommandLine, boot: &[0, 1, 2, 3, 4], vendor: &[3, 4], help: "The kernel's command line, at most 1535 bytes (vendor: 2047)" },
 ];

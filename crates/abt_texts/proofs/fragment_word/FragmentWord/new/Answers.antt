@@ -1,7 +1,18 @@
-use Rattle.std.proofs.Common.{◌≤◌, ℕ, List, ◌∷◌, ◌++◌, Some, None, length, rules, arith, ap, ◌∙◌, refl}
+use Rattle.std.proofs.Common.{◌≡◌, ◌≤◌, ℕ, List, ◌∷◌, ◌++◌, Some, None, length, rules, arith, ap, ◌∙◌, refl}
 use Rattle.std.proofs.lemmas.Str.Pattern.{split_parts}
+use Rattle.abt_texts.specs.Fragment.{type_number}
 use Rattle.abt_texts.proofs.Fragments.{first_cut, second_cut, same_spec}
+use Rattle.abt_texts.proofs.OsWords.{none_is}
 use Rattle.abt_texts.proofs.fragment_word.FragmentWord.new.Goals as goal
+
+pub returns-in_err-kind-clause-accepts : goal.returns-in_err-kind-clause-accepts
+returns-in_err-kind-clause-accepts c = λ spec path p. absurd (first_cut c.args.word.now spec path p None c.in_err-kind.ensures.cases)
+
+pub returns-in_err-fragment_kind-clause-accepts : goal.returns-in_err-fragment_kind-clause-accepts
+returns-in_err-fragment_kind-clause-accepts c = λ spec path p.
+    let first = first_cut c.args.word.now spec path p (Some (c.in_ok-kind.kind, c.in_ok-kind.rest)) c.in_ok-kind.ensures.cases in
+    let known : type_number c.in_ok-kind.kind.now ≡ Some spec.kind = ap type_number first.0 ∙ p.number in
+    absurd (none_is spec.kind (c.in_err-fragment_kind.ensures ∙ known))
 
 pub returns-in_err-name-clause-accepts : goal.returns-in_err-name-clause-accepts
 returns-in_err-name-clause-accepts c = λ spec path p.

@@ -1,0 +1,153 @@
+-- Escaped bytes stand for themselves.
+use Rattle.std.proofs.Common.{◌≡◌, ◌≢◌, ◌<◌, ◌≤◌, ℕ, zero, suc, ◌+◌, ◌-◌, ◌*◌, ◌/◌, ◌%◌, ◌==◌, ◌&&◌, nat_le, not, Bool, true, false, cond, inl, inr, List, [], ◌∷◌, ◌++◌, Option, Some, None, codes, slice_index, slice_index_or, length, take, drop, flat_map, refl, sym, ap, ◌∙◌, rules, arith}
+use Rattle.std.proofs.Math.Seq.{drop-cons}
+use Rattle.std.proofs.lemmas.Bool.{cases_Bool, true≢false, eqb-true}
+use Rattle.std.proofs.lemmas.List.{drop-drop, length-drop, take_all}
+use Rattle.std.proofs.lemmas.List.Concat.{flat_map-cons}
+use Rattle.hex.specs.Hex.{encode_with, lower_digits, hex_digit_value}
+use Rattle.hex.proofs.HexLemmas.{IsDigits-lower_digits}
+use Rattle.abt_io.specs.Bytes.{AreBytes}
+use Rattle.abt_texts.specs.Info.{escaped, is_plain}
+use Rattle.abt_texts.specs.Unescaped.{byte_of, escape_in, escaped_byte, unescaped}
+use Rattle.abt_texts.specs.Words.{escaped_in_name}
+
+-- what comes of four letters and more
+abbrev chosen : Option ℕ → ℕ → List ℕ → List ℕ → List ℕ
+chosen (Some byte) a past next = byte ∷ unescaped past
+chosen None a past next = a ∷ unescaped next
+
+chosen_is : (o : Option ℕ) (a : ℕ) (past next : List ℕ) → (elim o [ Some byte ↦ byte ∷ unescaped past | None ↦ a ∷ unescaped next ]) ≡ chosen o a past next
+chosen_is (Some byte) a past next = refl
+chosen_is None a past next = refl
+
+answered : (a b c d : ℕ) (x : List ℕ) (o : Option ℕ) → escaped_byte a b c d ≡ o → unescaped (a ∷ b ∷ c ∷ d ∷ x) ≡ chosen o a x (b ∷ c ∷ d ∷ x)
+answered a b c d x o e = chosen_is (escaped_byte a b c d) a x (b ∷ c ∷ d ∷ x) ∙ ap (λ (p : Option ℕ). chosen p a x (b ∷ c ∷ d ∷ x)) e
+
+-- a letter that begins no escape
+pub plain_step : (b : ℕ) (x : List ℕ) → (b == 92) ≡ false → unescaped (b ∷ x) ≡ b ∷ unescaped x
+plain_step b [] e = refl
+plain_step b (c ∷ []) e = refl
+plain_step b (c ∷ d ∷ []) e = refl
+plain_step b (c ∷ d ∷ f ∷ x) e = answered b c d f x None (ap (λ (t : Bool). cond (t && (c == 120)) (byte_of d f) None) e)
+
+-- and four that are one
+pub escape_step : (c d v : ℕ) (x : List ℕ) → byte_of c d ≡ Some v → unescaped (92 ∷ 120 ∷ c ∷ d ∷ x) ≡ v ∷ unescaped x
+escape_step c d v x e = answered 92 120 c d x (Some v) e
+
+last_not : (a b c d : Bool) → (a && b && c && not d) ≡ true → d ≡ false
+last_not a b c false e = refl
+last_not true true true true e = absurd (true≢false (sym e))
+last_not true true false true e = absurd (true≢false (sym e))
+last_not true false c true e = absurd (true≢false (sym e))
+last_not false b c true e = absurd (true≢false (sym e))
+
+-- the digits of a byte
+digits_of_byte : (b : ℕ) → b < 256 → byte_of (slice_index lower_digits (b / 16)) (slice_index lower_digits (b % 16)) ≡ Some b
+digits_of_byte b small =
+    let high : hex_digit_value (slice_index lower_digits (b / 16)) ≡ Some (b / 16) = IsDigits-lower_digits (b / 16) (omega (arith, small)) in
+    let low : hex_digit_value (slice_index lower_digits (b % 16)) ≡ Some (b % 16) = IsDigits-lower_digits (b % 16) (omega arith) in
+    let whole : 16 * (b / 16) + b % 16 ≡ b = omega arith in
+    rw (high, low) (ap Some whole)
+
+pub one_back : (b : ℕ) (x : List ℕ) → b < 256 → unescaped (escaped b ++ x) ≡ b ∷ unescaped x
+unfolding encode_with
+one_back b x small = elim (cases_Bool (is_plain b)) [
+  | inl e ↦
+      let plain : (b == 92) ≡ false = last_not (nat_le 0x20 b) (nat_le b 0x7e) (not (b == 0x22)) (b == 0x5c) e in
+      rw e (plain_step b x plain)
+  | inr e ↦ rw e (escape_step (slice_index lower_digits (b / 16)) (slice_index lower_digits (b % 16)) b x (digits_of_byte b small))
+]
+
+tail_bytes : (b : ℕ) (x : List ℕ) → AreBytes (b ∷ x) → AreBytes x
+tail_bytes b x h = λ i. h (suc i)
+
+-- a text that was escaped is itself
+pub escaped_back : (x : List ℕ) → AreBytes x → unescaped (flat_map escaped x) ≡ x
+escaped_back [] h = refl
+escaped_back (b ∷ x) h = ap unescaped (flat_map-cons escaped b x) ∙ one_back b (flat_map escaped x) (h 0) ∙ ap (λ (y : List ℕ). b ∷ y) (escaped_back x (tail_bytes b x h))
+
+-- ---- in a name
+
+pub one_back_in_name : (b : ℕ) (x : List ℕ) → b < 256 → unescaped (escaped_in_name b ++ x) ≡ b ∷ unescaped x
+one_back_in_name b x small = elim (cases_Bool (b == 58)) [
+  | inl e ↦ let same : b ≡ 58 = search (rules, e) in rw same (escape_step 51 97 58 x refl)
+  | inr e ↦ rw e (one_back b x small)
+]
+
+pub name_back : (x : List ℕ) → AreBytes x → unescaped (flat_map escaped_in_name x) ≡ x
+name_back [] h = refl
+name_back (b ∷ x) h = ap unescaped (flat_map-cons escaped_in_name b x) ∙ one_back_in_name b (flat_map escaped_in_name x) (h 0) ∙ ap (λ (y : List ℕ). b ∷ y) (name_back x (tail_bytes b x h))
+
+-- ---- a text from a place on
+
+-- a text of four letters and more
+at_four : (y : List ℕ) → 4 ≤ length y → escape_in y ≡ escaped_byte (slice_index y 0) (slice_index y 1) (slice_index y 2) (slice_index y 3)
+at_four [] h = absurd (let q : 4 ≤ 0 = h in omega arith)
+at_four (a ∷ []) h = absurd (let q : 4 ≤ 1 = h in omega arith)
+at_four (a ∷ b ∷ []) h = absurd (let q : 4 ≤ 2 = h in omega arith)
+at_four (a ∷ b ∷ c ∷ []) h = absurd (let q : 4 ≤ 3 = h in omega arith)
+at_four (a ∷ b ∷ c ∷ d ∷ x) h = refl
+
+few : (y : List ℕ) → length y < 4 → escape_in y ≡ None
+few [] h = refl
+few (a ∷ []) h = refl
+few (a ∷ b ∷ []) h = refl
+few (a ∷ b ∷ c ∷ []) h = refl
+few (a ∷ b ∷ c ∷ d ∷ x) h = absurd (let q : suc (suc (suc (suc (length x)))) < 4 = h in omega arith)
+
+is_not : (a b : ℕ) → a ≢ b → (a == b) ≡ false
+is_not a b h = elim (cases_Bool (a == b)) [
+  | inl e ↦ absurd (h (eqb-true a b e))
+  | inr e ↦ e
+]
+
+-- what escape_in answers
+pub answers_few : (y : List ℕ) → length y < 4 → None ≡ escape_in y
+answers_few y h = sym (few y h)
+
+pub answers_other : (y : List ℕ) → 4 ≤ length y → slice_index y 0 ≢ 92 → None ≡ escape_in y
+answers_other y h n = sym (at_four y h ∙ ap (λ (t : Bool). cond (t && (slice_index y 1 == 120)) (byte_of (slice_index y 2) (slice_index y 3)) None) (is_not (slice_index y 0) 92 n))
+
+both_needed : (s t : Bool) (o : Option ℕ) → t ≡ false → cond (s && t) o None ≡ None
+both_needed true t o e = rw e refl
+both_needed false t o e = refl
+
+pub answers_second : (y : List ℕ) → 4 ≤ length y → slice_index y 1 ≢ 120 → None ≡ escape_in y
+answers_second y h n = sym (at_four y h ∙ both_needed (slice_index y 0 == 92) (slice_index y 1 == 120) (byte_of (slice_index y 2) (slice_index y 3)) (is_not (slice_index y 1) 120 n))
+
+pub answers_digits : (y : List ℕ) (o : Option ℕ) → 4 ≤ length y → slice_index y 0 ≡ 92 → slice_index y 1 ≡ 120 → o ≡ byte_of (slice_index y 2) (slice_index y 3) → o ≡ escape_in y
+answers_digits y o h a b e =
+    let all : escaped_byte (slice_index y 0) (slice_index y 1) (slice_index y 2) (slice_index y 3) ≡ byte_of (slice_index y 2) (slice_index y 3) =
+    ap (λ (k : ℕ). escaped_byte k (slice_index y 1) (slice_index y 2) (slice_index y 3)) a ∙ ap (λ (k : ℕ). escaped_byte 92 k (slice_index y 2) (slice_index y 3)) b in
+    e ∙ sym (at_four y h ∙ all)
+
+none_some : (byte : ℕ) → None ≡ Some byte → ⊥
+none_some byte e = search (rules, e)
+
+-- an escape at the front
+front_escape : (y : List ℕ) (byte : ℕ) → escape_in y ≡ Some byte → unescaped y ≡ byte ∷ unescaped (drop 4 y)
+front_escape [] byte e = absurd (none_some byte e)
+front_escape (a ∷ []) byte e = absurd (none_some byte e)
+front_escape (a ∷ b ∷ []) byte e = absurd (none_some byte e)
+front_escape (a ∷ b ∷ c ∷ []) byte e = absurd (none_some byte e)
+front_escape (a ∷ b ∷ c ∷ d ∷ x) byte e = answered a b c d x (Some byte) e
+
+-- and another letter
+front_letter : (a : ℕ) (y : List ℕ) → escape_in (a ∷ y) ≡ None → unescaped (a ∷ y) ≡ a ∷ unescaped y
+front_letter a [] e = refl
+front_letter a (b ∷ []) e = refl
+front_letter a (b ∷ c ∷ []) e = refl
+front_letter a (b ∷ c ∷ d ∷ x) e = answered a b c d x None e
+
+-- a slice to the end
+pub to_end : (x : List ℕ) (at : ℕ) → take (length x - at) (drop at x) ≡ drop at x
+to_end x at = let long : length (drop at x) ≡ length x - at = length-drop at x in take_all (length x - at) (drop at x) (omega (arith, long))
+
+pub next_escape : (x : List ℕ) (at byte : ℕ) → escape_in (drop at x) ≡ Some byte → unescaped (drop at x) ≡ byte ∷ unescaped (drop (at + 4) x)
+next_escape x at byte e = front_escape (drop at x) byte e ∙ ap (λ (l : List ℕ). byte ∷ unescaped l) (drop-drop 4 at x)
+
+pub next_letter : (x : List ℕ) (at : ℕ) → at < length x → escape_in (drop at x) ≡ None → unescaped (drop at x) ≡ slice_index_or x at 0 ∷ unescaped (drop (at + 1) x)
+next_letter x at h e =
+    let cut : drop at x ≡ slice_index_or x at 0 ∷ drop (suc at) x = drop-cons x at 0 h in
+    let one : suc at ≡ at + 1 = omega arith in
+    ap unescaped cut ∙ front_letter (slice_index_or x at 0) (drop (suc at) x) (ap escape_in (sym cut) ∙ e) ∙ ap (λ (k : ℕ). slice_index_or x at 0 ∷ unescaped (drop k x)) one

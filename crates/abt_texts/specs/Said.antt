@@ -1,0 +1,156 @@
+-- What the words of `pack` say of an image.
+use Rattle.std.specs.Prelude.{◌≡◌, ◌<◌, ◌^◌, ℕ, ◌==◌, ◌⊎◌, Bool, true, false, List, [], ◌∷◌, ◌++◌, Option, Some, None, codes}
+use Rattle.abt_headers.specs.declared.boot.BootFront.{BootFront}
+use Rattle.abt_headers.specs.declared.boot.ShortFront.{ShortFront}
+use Rattle.abt_headers.specs.declared.boot.BootHeader.{BootHeader}
+use Rattle.abt_headers.specs.declared.boot.BootHeader.TheVariants.{V0, V1, V2, V3, V4}
+use Rattle.abt_headers.specs.declared.os.OsParts.{OsParts}
+use Rattle.abt_headers.specs.Os.{IsOsVersion, os_raw}
+use Rattle.abt_headers.specs.Page.{page_bytes}
+use Rattle.abt_headers.specs.Vendor.{Vendor, vendor_page, vendor_version}
+use Rattle.abt_io.specs.Bytes.{AreBytes}
+use Rattle.abt_sections.specs.Fields.{BootFields, VendorFields}
+use Rattle.abt_sections.specs.Header.{Header, OfBoot, OfVendor}
+use Rattle.abt_texts.specs.Info as info
+use Rattle.abt_texts.specs.declared.fields.Address.{Address}
+use Rattle.abt_texts.specs.declared.fields.TextField.{TextField}
+use Rattle.abt_texts.specs.OsWord.{IsNumberWord, IsOsWord}
+use Rattle.abt_texts.specs.Unescaped.{unescaped}
+use Rattle.abt_texts.specs.Words.{option_front, text_of, text_over}
+
+-- ---- the value of an option
+
+-- what stands behind a front
+abbrev pub behind : List ℕ → List ℕ → Option (List ℕ)
+behind [] word = Some word
+behind (a ∷ front) [] = None
+behind (a ∷ front) (b ∷ word) = elim (a == b) [
+  | true ↦ behind front word
+  | false ↦ None
+]
+
+abbrev pub first_of : Option (List ℕ) → Option (List ℕ) → Option (List ℕ)
+first_of (Some value) rest = Some value
+first_of None rest = rest
+
+-- the value in the first word `--NAME=VALUE`
+abbrev pub value_of : List ℕ → List (List ℕ) → Option (List ℕ)
+value_of name [] = None
+value_of name (word ∷ words) = first_of (behind (option_front name) word) (value_of name words)
+
+-- ---- what an option says
+
+-- decimal digits
+abbrev pub SaysNumber : List (List ℕ) → List ℕ → ℕ → Type 0
+SaysNumber words name n = (value : List ℕ) × (value_of name words ≡ Some value) × IsNumberWord value n
+
+-- a number that is 0 where it is not said
+abbrev pub SaysNumberOr0 : List (List ℕ) → List ℕ → ℕ → Type 0
+SaysNumberOr0 words name n = SaysNumber words name n ⊎ ((value_of name words ≡ None) × (n ≡ 0))
+
+-- a text with escaped bytes
+abbrev pub SaysText : List (List ℕ) → List ℕ → List ℕ → Type 0
+SaysText words name text = (value : List ℕ) × (value_of name words ≡ Some value) × (unescaped value ≡ text)
+
+-- a text that is empty where it is not said
+abbrev pub SaysTextOrNone : List (List ℕ) → List ℕ → List ℕ → Type 0
+SaysTextOrNone words name text = SaysText words name text ⊎ ((value_of name words ≡ None) × (text ≡ []))
+
+-- A.B.C-YYYY-MM
+pub record SaysOsWord (words : List (List ℕ)) (n : ℕ) : Type 0 where
+  pub value : List ℕ
+  pub said : value_of (codes "os") words ≡ Some value
+  pub os : OsParts
+  pub word : IsOsWord value os
+  pub version : IsOsVersion os
+  pub number : n ≡ os_raw os
+
+-- the OS version and patch level: the number, or else the word
+abbrev pub SaysOs : List (List ℕ) → ℕ → Type 0
+SaysOs words n = SaysNumber words (codes "os-number") n ⊎ ((value_of (codes "os-number") words ≡ None) × SaysOsWord words n)
+
+-- ---- what words say of an image
+
+pub record SaysBoot (words : List (List ℕ)) (s : BootFields) : Type 0 where
+  pub version : SaysNumber words (codes "version") s.version
+  pub page : SaysNumber words (codes "page") s.page
+  pub kernel_addr : SaysNumberOr0 words (codes "kernel-addr") s.kernel_addr
+  pub ramdisk_addr : SaysNumberOr0 words (codes "ramdisk-addr") s.ramdisk_addr
+  pub second_addr : SaysNumberOr0 words (codes "second-addr") s.second_addr
+  pub tags_addr : SaysNumberOr0 words (codes "tags-addr") s.tags_addr
+  pub dtb_addr : SaysNumberOr0 words (codes "dtb-addr") s.dtb_addr
+  pub os : SaysOs words s.os.number
+  pub name : SaysTextOrNone words (codes "name") s.name
+  pub cmdline : SaysText words (codes "cmdline") s.cmdline
+
+pub record SaysVendor (words : List (List ℕ)) (s : VendorFields) : Type 0 where
+  pub version : SaysNumber words (codes "version") s.version
+  pub page : SaysNumber words (codes "page") s.page
+  pub kernel_addr : SaysNumber words (codes "kernel-addr") s.kernel_addr
+  pub ramdisk_addr : SaysNumber words (codes "ramdisk-addr") s.ramdisk_addr
+  pub tags_addr : SaysNumber words (codes "tags-addr") s.tags_addr
+  pub dtb_addr : SaysNumber words (codes "dtb-addr") s.dtb_addr
+  pub name : SaysText words (codes "name") s.name
+  pub cmdline : SaysText words (codes "cmdline") s.cmdline
+
+-- ---- the fields that a header has
+
+-- of versions 0 to 2; version 2 alone has the address of a dtb
+abbrev pub front_fields : ℕ → ℕ → BootFront → BootFields
+front_fields version dtb_addr f = record {
+  version = version;
+  page = page_bytes f.page_size;
+  kernel_addr = f.kernel_addr;
+  ramdisk_addr = f.ramdisk_addr;
+  second_addr = f.second_addr;
+  tags_addr = f.tags_addr;
+  dtb_addr = dtb_addr;
+  os = f.os_version;
+  name = text_of f.name;
+  cmdline = text_over f.cmdline f.extra_cmdline;
+}
+
+-- of versions 3 and 4
+abbrev pub short_fields : ℕ → ShortFront → BootFields
+short_fields version f = record {
+  version = version;
+  page = 4096;
+  kernel_addr = 0;
+  ramdisk_addr = 0;
+  second_addr = 0;
+  tags_addr = 0;
+  dtb_addr = 0;
+  os = f.os_version;
+  name = [];
+  cmdline = text_of f.cmdline;
+}
+
+abbrev pub boot_fields_of : BootHeader → BootFields
+boot_fields_of (V0 f) = front_fields 0 0 f
+boot_fields_of (V1 f d) = front_fields 1 0 f
+boot_fields_of (V2 f d t) = front_fields 2 t.dtb_addr f
+boot_fields_of (V3 f) = short_fields 3 f
+boot_fields_of (V4 f signature) = short_fields 4 f
+
+abbrev pub vendor_fields_of : Vendor → VendorFields
+vendor_fields_of v = record {
+  version = vendor_version v;
+  page = vendor_page v;
+  kernel_addr = v.front.kernel_addr;
+  ramdisk_addr = v.front.ramdisk_addr;
+  tags_addr = v.front.tags_addr;
+  dtb_addr = v.front.dtb_addr;
+  name = text_of v.front.name;
+  cmdline = text_of v.front.cmdline;
+}
+
+-- these words say the fields of a header
+abbrev pub SaysHeader : List (List ℕ) → Header → Type 0
+SaysHeader words (OfBoot h) = SaysBoot words (boot_fields_of h)
+SaysHeader words (OfVendor v) = SaysVendor words (vendor_fields_of v)
+
+-- the fields hold what fields can: numbers of 64 and 32 bits, and bytes
+pub record IsHeld (h : Header) : Type 0 where
+  pub addresses : (a : Address) (n : ℕ) → info.address_of h a ≡ Some n → n < 2 ^ 64
+  pub os : (n : ℕ) → info.os_number_of h ≡ Some n → n < 2 ^ 32
+  pub texts : (t : TextField) (field : List ℕ) → info.field_of h t ≡ Some field → AreBytes field

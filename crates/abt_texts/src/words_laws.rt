@@ -1,0 +1,55 @@
+//! Laws about the words that pack an image again: what they say is what the header has. No call does anything.
+
+ghost use Rattle.std.specs.Prelude.{◌≡◌, ◌<◌, ◌^◌, ℕ, List, Some};
+ghost use Rattle.abt_io.specs.Bytes.{AreBytes};
+ghost use Rattle.abt_sections.specs.Header.{Header, view_of};
+ghost use Rattle.abt_texts.specs.Info as info;
+ghost use Rattle.abt_texts.specs.Said.{IsHeld, SaysHeader};
+ghost use Rattle.abt_texts.specs.Words.{image_words};
+
+use crate::fields::{Address, TextField, address_of, os_version_of, text_field_of};
+use abt_io::are_bytes;
+use abt_sections::ImageHeader;
+
+/// The words of any header whose fields hold what fields can say each field as it is: numbers, the OS version and its
+/// patch level, and texts as far as their first zero byte.
+pub fn words_say_the_header()
+    ensures { (folder x : List ℕ) (h : Header) → IsHeld h → SaysHeader (image_words folder x h) h }
+{}
+
+/// The fields of a header hold what fields can.
+pub fn header_is_held(header: &ImageHeader)
+    ensures { IsHeld (view_of header.now) }
+{
+    address_fits(header, Address::Kernel);
+    address_fits(header, Address::Ramdisk);
+    address_fits(header, Address::Second);
+    address_fits(header, Address::Tags);
+    address_fits(header, Address::Dtb);
+    os_fits(header);
+    text_is_bytes(header, TextField::Name);
+    text_is_bytes(header, TextField::Cmdline);
+    text_is_bytes(header, TextField::Extra);
+}
+
+fn address_fits(header: &ImageHeader, which: Address)
+    ensures { (n : ℕ) → info.address_of (view_of header.now) which ≡ Some n → n < 2 ^ 64 }
+{
+    let _address = address_of(header, which);
+}
+
+fn os_fits(header: &ImageHeader)
+    ensures { (n : ℕ) → info.os_number_of (view_of header.now) ≡ Some n → n < 2 ^ 32 }
+{
+    if let Some(os) = os_version_of(header) {
+        let _number = os.raw();
+    }
+}
+
+fn text_is_bytes(header: &ImageHeader, which: TextField)
+    ensures { (field : List ℕ) → info.field_of (view_of header.now) which ≡ Some field → AreBytes field }
+{
+    if let Some(field) = text_field_of(header, which) {
+        are_bytes(field);
+    }
+}
