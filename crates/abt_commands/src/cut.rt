@@ -3,8 +3,11 @@
 ghost use Rattle.std.specs.Prelude.{◌≡◌, false};
 ghost use Rattle.abt_pieces.specs.Cutter.{is_begun};
 
-use crate::files::send;
+use crate::files::{ImageOutput, close, send};
+use crate::numbers::{number, number_if};
+use crate::progress::RAW_PASSES;
 use crate::session::{Session, identity_at};
+use crate::watched::Watched;
 use abt_io::{FileSource, Meter, Output, Window};
 use abt_pieces::{Cutter, Piece};
 use abt_runs::{BlockRuns, RawRuns, SparseRuns};
@@ -12,6 +15,7 @@ use abt_texts::{CommandFault, ShownPath, write_fault};
 use std::alloc::Global;
 use std::fs::File;
 use std::rt::Files;
+use std::time::Clock;
 
 /// What to cut, and into which files.
 #[derive(Clone, Copy, Debug, PartialEq, Eq, Drop)]
@@ -19,11 +23,11 @@ pub struct CutOrder<'a> {
     /// The path of the image.
     pub input: &'a str,
     /// How many bytes a piece has at most.
-    pub limit: u32,
+    pub limit: &'a str,
     /// What the paths of the pieces begin with: they are `PREFIX.1`, `PREFIX.2` and so on.
     pub prefix: &'a str,
     /// How many bytes a block of a raw image has; of a sparse image, nothing.
-    pub raw: Option<u32>,
+    pub raw: Option<&'a str>,
 }
 
 /// Writes each piece of an image to a file of its own, and prints what they are.
@@ -31,21 +35,24 @@ pub struct CutOrder<'a> {
 /// A piece's file is opened when its turn comes, and its line is printed when all of it is in the file. Pieces and lines
 /// before a fault stand. Where the image is one of the files that are there for pieces, nothing is written. The next piece
 /// of an older cut is named, since it is no piece of this one.
-pub fn cut_file<R: Files<File = File>, I, O: Output, E: Output>(
+pub fn cut_file<R: Files<File = File> + Clock, I, O: Output, E: Output>(
     session: &mut Session<'_, R, I, O, E>,
     order: CutOrder<'_>,
     w: &mut Window,
     m: &mut Meter,
 ) -> Result<(), CommandFault> {
+    let limit = number(session.alloc, order.limit)?;
+    let raw = number_if(session.alloc, order.raw)?;
     let mut source = session.open_source("IN", order.input)?;
-    let pieces = match order.raw {
+    let pieces = match raw {
         Some(size) => {
+            session.progress.repeat(RAW_PASSES);
             let runs = RawRuns::open(&source, size).map_err(CommandFault::Run)?;
-            cut_runs(session, runs, &mut source, order, w, m)?
+            cut_runs(session, runs, &mut source, order, limit, w, m)?
         }
         None => {
             let runs = SparseRuns::open(&mut source, w, m).map_err(CommandFault::Run)?;
-            cut_runs(session, runs, &mut source, order, w, m)?
+            cut_runs(session, runs, &mut source, order, limit, w, m)?
         }
     };
     session
@@ -55,15 +62,16 @@ pub fn cut_file<R: Files<File = File>, I, O: Output, E: Output>(
 }
 
 // Writes all pieces, and answers how many they are.
-fn cut_runs<R: Files<File = File>, B: BlockRuns + Drop, I, O: Output, E: Output>(
+fn cut_runs<R: Files<File = File> + Clock, B: BlockRuns + Drop, I, O: Output, E: Output>(
     session: &mut Session<'_, R, I, O, E>,
     runs: B,
     source: &mut FileSource,
     order: CutOrder<'_>,
+    limit: u32,
     w: &mut Window,
     m: &mut Meter,
 ) -> Result<u32, CommandFault> {
-    let mut cutter = Cutter::open(runs, order.limit).map_err(CommandFault::Piece)?;
+    let mut cutter = Cutter::open(runs, limit).map_err(CommandFault::Piece)?;
     refuse_input_as_piece(session, order)?;
     let mut pieces = 0;
     for number in 1..=u32::MAX {
@@ -90,7 +98,7 @@ fn cut_runs<R: Files<File = File>, B: BlockRuns + Drop, I, O: Output, E: Output>
 }
 
 // Writes the next piece to the file of this path, which is created or emptied, and holds all of the piece then.
-fn write_piece<R: Files<File = File>, B: BlockRuns + Drop, I, O: Output, E: Output>(
+fn write_piece<R: Files<File = File> + Clock, B: BlockRuns + Drop, I, O: Output, E: Output>(
     session: &mut Session<'_, R, I, O, E>,
     cutter: &mut Cutter<B>,
     source: &mut FileSource,
@@ -102,12 +110,43 @@ fn write_piece<R: Files<File = File>, B: BlockRuns + Drop, I, O: Output, E: Outp
     ensures unbegun { is_begun cutter.new.stage ≡ false }
     ensures runs { cutter.new.runs ≡ cutter.old.runs }
 {
-    let mut output = session.create_buffered("PIECE", path)?;
-    let piece = cutter.next_piece(source, &mut output, w, m);
-    send(&mut output)?;
-    let piece = piece.map_err(CommandFault::Piece)?;
+    let output = session.create_image("PIECE", path)?;
+    let piece = match output {
+        ImageOutput::File(mut image) => {
+            let piece = next_watched(session, cutter, source, &mut image, w, m);
+            close(&mut image, piece, m)?
+        }
+        ImageOutput::Stream(mut stream) => {
+            let piece = next_watched(session, cutter, source, &mut stream, w, m);
+            send(&mut stream)?;
+            piece?
+        }
+    };
     session.is_unfinished = false;
     Ok(piece)
+}
+
+fn next_watched<R: Clock, B: BlockRuns + Drop, I, O: Output, E: Output, T: Output>(
+    session: &mut Session<'_, R, I, O, E>,
+    cutter: &mut Cutter<B>,
+    source: &mut FileSource,
+    output: &mut T,
+    w: &mut Window,
+    m: &mut Meter,
+) -> Result<Option<Piece>, CommandFault>
+    requires unbegun { is_begun cutter.old.stage ≡ false }
+    ensures unbegun { is_begun cutter.new.stage ≡ false }
+    ensures runs { cutter.new.runs ≡ cutter.old.runs }
+{
+    let mut watched = Watched::new(
+        &mut *source,
+        &mut session.progress,
+        session.rt,
+        &mut *session.err,
+    );
+    cutter
+        .next_piece(&mut watched, output, w, m)
+        .map_err(CommandFault::Piece)
 }
 
 fn piece_path(alloc: Global, prefix: &str, number: u32) -> Result<String, CommandFault> {
@@ -118,7 +157,7 @@ fn piece_path(alloc: Global, prefix: &str, number: u32) -> Result<String, Comman
 }
 
 // Refuses the image where it has the name of a piece, or is one of the files that stand there for pieces.
-fn refuse_input_as_piece<R: Files<File = File>, I, O: Output, E: Output>(
+fn refuse_input_as_piece<R: Files<File = File> + Clock, I, O: Output, E: Output>(
     session: &mut Session<'_, R, I, O, E>,
     order: CutOrder<'_>,
 ) -> Result<(), CommandFault> {
@@ -147,7 +186,7 @@ fn is_piece_of(path: &str, prefix: &str) -> bool {
 }
 
 // Says where a piece of an older cut stands behind the last one.
-fn name_left_over<R: Files<File = File>, I, O: Output, E: Output>(
+fn name_left_over<R: Files<File = File> + Clock, I, O: Output, E: Output>(
     session: &mut Session<'_, R, I, O, E>,
     prefix: &str,
     number: u32,

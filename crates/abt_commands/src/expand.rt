@@ -1,29 +1,31 @@
-//! The command `expand`: the raw image that a sparse image stands for.
+//! The command `expand`: the raw image that a sparse image stands for, or several together.
 
 use crate::input::ForwardInput;
+use crate::overlay::overlay;
 use crate::raw_file::RawFile;
 use crate::session::Session;
+use crate::watched::Watched;
 use abt_chunks::{Expanded, expand};
 use abt_io::{FromRead, Meter, Output, ToWrite, Window};
 use abt_texts::{CommandFault, write_fault};
 use std::fs::File;
 use std::io::Read;
 use std::rt::Files;
+use std::time::Clock;
 
-/// Writes the raw image of a sparse one, and prints what it has. `-` is standard input, and standard output.
-pub fn expand_file<R: Files<File = File>, I: Read, O: Output, E: Output>(
+/// Writes the raw image of a sparse one, or of several laid over one another, and prints what it has.
+///
+/// Where there is one, `-` is standard input, and standard output.
+pub fn expand_files<R: Files<File = File> + Clock, I: Read, O: Output, E: Output>(
     session: &mut Session<'_, R, I, O, E>,
-    input: &str,
+    inputs: &[&str],
     output: &str,
     w: &mut Window,
     m: &mut Meter,
 ) -> Result<(), CommandFault> {
-    let file = session.open(input)?;
-    let expanded = if output == "-" {
-        session.write_to_standard_output("OUT")?;
-        expand_out(session, file, w, m)?
-    } else {
-        expand_to(session, file, output, w, m)?
+    let expanded = match inputs {
+        [input] => expand_one(session, input, output, w, m)?,
+        _ => overlay(session, inputs, output, w, m)?,
     };
     session.is_unfinished = false;
     let blocks = expanded.blocks;
@@ -33,7 +35,23 @@ pub fn expand_file<R: Files<File = File>, I: Read, O: Output, E: Output>(
         .map_err(write_fault)
 }
 
-fn expand_out<R: Files<File = File>, I: Read, O: Output, E: Output>(
+fn expand_one<R: Files<File = File> + Clock, I: Read, O: Output, E: Output>(
+    session: &mut Session<'_, R, I, O, E>,
+    input: &str,
+    output: &str,
+    w: &mut Window,
+    m: &mut Meter,
+) -> Result<Expanded, CommandFault> {
+    let file = session.open(input)?;
+    if output == "-" {
+        session.write_to_standard_output("OUT")?;
+        expand_out(session, file, w, m)
+    } else {
+        expand_to(session, file, output, w, m)
+    }
+}
+
+fn expand_out<R: Files<File = File> + Clock, I: Read, O: Output, E: Output>(
     session: &mut Session<'_, R, I, O, E>,
     file: Option<File>,
     w: &mut Window,
@@ -41,10 +59,16 @@ fn expand_out<R: Files<File = File>, I: Read, O: Output, E: Output>(
 ) -> Result<Expanded, CommandFault> {
     let reason = session.reason;
     let mut from = FromRead::new(ForwardInput::new(file, &mut *session.standard_input, reason));
+    let mut from = Watched::new(
+        &mut from,
+        &mut session.progress,
+        session.rt,
+        &mut *session.err,
+    );
     expand(&mut from, &mut *session.out, w, m).map_err(CommandFault::Sparse)
 }
 
-fn expand_to<R: Files<File = File>, I: Read, O: Output, E: Output>(
+fn expand_to<R: Files<File = File> + Clock, I: Read, O: Output, E: Output>(
     session: &mut Session<'_, R, I, O, E>,
     file: Option<File>,
     output: &str,
@@ -54,5 +78,11 @@ fn expand_to<R: Files<File = File>, I: Read, O: Output, E: Output>(
     let reason = session.reason;
     let mut to = ToWrite::new(RawFile::new(session.create("OUT", output)?, reason));
     let mut from = FromRead::new(ForwardInput::new(file, &mut *session.standard_input, reason));
+    let mut from = Watched::new(
+        &mut from,
+        &mut session.progress,
+        session.rt,
+        &mut *session.err,
+    );
     expand(&mut from, &mut to, w, m).map_err(CommandFault::Sparse)
 }

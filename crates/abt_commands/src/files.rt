@@ -4,9 +4,10 @@
 //! emptied.
 
 use crate::identity::Identity;
+use crate::image_file::ImageFile;
 use crate::noting::Noted;
 use crate::session::{Session, identity_at, place_at, shown_path};
-use abt_io::{DeviceFault, FilePartition, FileSource, Output, ToWrite};
+use abt_io::{DeviceFault, FilePartition, FileSource, FrontLast, Meter, Output, Source, ToWrite};
 use abt_texts::{CommandFault, write_fault};
 use std::fs::{File, Metadata, OpenOptions};
 use std::io;
@@ -17,13 +18,27 @@ use std::rt::Files;
 // The number of 'Is a directory'.
 const IS_A_FOLDER: i32 = 21;
 
-/// A file that takes small writes together, as those of chunk headers, until `send`.
+/// A pipe or a device that takes small writes together, as those of chunk headers, until `send`.
 pub type BufferedFile<'a> = ToWrite<BufWriter<Noted<'a, File>>>;
+
+/// Where an image goes that has a magic.
+#[derive(Drop)]
+pub enum ImageOutput<'a> {
+    /// A regular file, in which the magic is laid last: what is broken off has none.
+    File(FrontLast<ImageFile<'a>>),
+    /// A pipe or a device, which is written from its front on.
+    Stream(BufferedFile<'a>),
+}
 
 impl<'a, R: Files<File = File>, I, O: Output, E: Output> Session<'a, R, I, O, E> {
     /// Opens what is read forward: `-` is standard input, which is no file of ours. A folder is refused.
     pub fn open(&mut self, path: &str) -> Result<Option<File>, CommandFault> {
-        self.opening = Some(place_at(self.alloc, "IN", path)?);
+        self.open_as("IN", path)
+    }
+
+    /// The same, where a refusal names it otherwise than as IN.
+    pub fn open_as(&mut self, role: &str, path: &str) -> Result<Option<File>, CommandFault> {
+        self.opening = Some(place_at(self.alloc, role, path)?);
         if path == "-" {
             if let Some(identity) = identity_at(self.rt, "/dev/stdin") {
                 self.take(identity)?;
@@ -34,6 +49,9 @@ impl<'a, R: Files<File = File>, I, O: Output, E: Output> Session<'a, R, I, O, E>
         let file = self.opened(File::open(self.rt, path), path)?;
         let metadata = self.metadata_of(&file, path)?;
         self.take(Identity::new(&metadata))?;
+        if metadata.is_file() {
+            self.progress.expect(metadata.len());
+        }
         self.input = self.opening.take();
         Ok(Some(file))
     }
@@ -46,6 +64,38 @@ impl<'a, R: Files<File = File>, I, O: Output, E: Output> Session<'a, R, I, O, E>
         self.require_length(&metadata, path)?;
         self.take(Identity::new(&metadata))?;
         self.input = self.opening.take();
+        match FileSource::new(file) {
+            Ok(source) => {
+                self.progress.expect(source.length());
+                Ok(source)
+            }
+            Err(_) => Err(self.cannot_open(path)),
+        }
+    }
+
+    /// A source that is open, to be read a second time beside the first.
+    pub fn opened_again(
+        &mut self,
+        source: &FileSource,
+        path: &str,
+    ) -> Result<FileSource, CommandFault> {
+        let Some(file) = &source.file else {
+            return Ok(FileSource::empty());
+        };
+        let file = self.opened(file.try_clone(), path)?;
+        match FileSource::new(file) {
+            Ok(source) => Ok(source),
+            Err(_) => Err(self.cannot_open(path)),
+        }
+    }
+
+    /// Opens a partition that is compared, and only read.
+    pub fn open_compared(&mut self, path: &str) -> Result<FileSource, CommandFault> {
+        self.opening = Some(place_at(self.alloc, "PARTITION", path)?);
+        let file = self.opened(File::open(self.rt, path), path)?;
+        let metadata = self.metadata_of(&file, path)?;
+        self.require_length(&metadata, path)?;
+        self.output = self.opening.take();
         match FileSource::new(file) {
             Ok(source) => Ok(source),
             Err(_) => Err(self.cannot_open(path)),
@@ -77,15 +127,50 @@ impl<'a, R: Files<File = File>, I, O: Output, E: Output> Session<'a, R, I, O, E>
         Ok(file)
     }
 
-    /// The same of a file that takes small writes together.
-    pub fn create_buffered(
+    /// Creates or empties a regular file, and makes it so many zeros, to be written in place. Nothing else will do.
+    pub fn create_zeros(
         &mut self,
         role: &str,
         path: &str,
-    ) -> Result<BufferedFile<'a>, CommandFault> {
-        let file = Noted::new(self.create(role, path)?, self.reason);
-        match BufWriter::new(self.alloc, file) {
-            Ok(writer) => Ok(ToWrite::new(writer)),
+        bytes: u64,
+    ) -> Result<FilePartition, CommandFault> {
+        self.opening = Some(place_at(self.alloc, role, path)?);
+        if path == "-" {
+            self.reason.set(None);
+            return Err(self.cannot_open(path));
+        }
+        let mut how = OpenOptions::new();
+        how.write(true).create(true);
+        let (file, metadata) = self.open_output(&how, role, path)?;
+        if !metadata.is_file() {
+            self.reason.set(None);
+            return Err(self.cannot_open(path));
+        }
+        let file = self.emptied((file, metadata), path)?;
+        self.output = self.opening.take();
+        self.is_unfinished = true;
+        if let Err(error) = file.set_len(bytes) {
+            self.reason.set(error.raw_os_error());
+            return Err(write_fault(DeviceFault::Failed));
+        }
+        FilePartition::new(file).map_err(write_fault)
+    }
+
+    /// Creates or empties the file of an image that has a magic.
+    pub fn create_image(
+        &mut self,
+        role: &str,
+        path: &str,
+    ) -> Result<ImageOutput<'a>, CommandFault> {
+        let file = self.create(role, path)?;
+        if is_regular(&file) {
+            return match ImageFile::new(self.alloc, file, self.reason) {
+                Ok(image) => Ok(ImageOutput::File(FrontLast::new(image))),
+                Err(_) => Err(CommandFault::Memory),
+            };
+        }
+        match BufWriter::new(self.alloc, Noted::new(file, self.reason)) {
+            Ok(writer) => Ok(ImageOutput::Stream(ToWrite::new(writer))),
             Err(_) => Err(CommandFault::Memory),
         }
     }
@@ -223,7 +308,33 @@ impl<'a, R: Files<File = File>, I, O: Output, E: Output> Session<'a, R, I, O, E>
     }
 }
 
-/// Brings to the file what it took together.
+/// Whether it is a regular file, and no pipe or device.
+pub fn is_regular(file: &File) -> bool {
+    match file.metadata() {
+        Ok(metadata) => metadata.is_file(),
+        Err(_) => false,
+    }
+}
+
+/// Brings an image to its end: where it is whole, its magic is laid. What it took together is brought to the file.
+pub fn close<T: Drop>(
+    image: &mut FrontLast<ImageFile<'_>>,
+    written: Result<T, CommandFault>,
+    m: &mut Meter,
+) -> Result<T, CommandFault> {
+    match written {
+        Ok(written) => match image.finish(m) {
+            Ok(()) => Ok(written),
+            Err(fault) => Err(write_fault(fault)),
+        },
+        Err(fault) => {
+            let _ = image.output.send();
+            Err(fault)
+        }
+    }
+}
+
+/// Brings to the pipe or device what it took together.
 pub fn send(output: &mut BufferedFile<'_>) -> Result<(), CommandFault> {
     match output.writer.flush() {
         Ok(()) => Ok(()),

@@ -3,13 +3,17 @@
 ghost use Rattle.std.specs.Prelude.{◌≤◌};
 
 use crate::input::ForwardInput;
+use crate::numbers::{number, number_if};
+use crate::progress::RAW_PASSES;
 use crate::session::Session;
+use crate::watched::Watched;
 use abt_flash::{Flashed, flash, resume, resume_raw};
 use abt_io::{FilePartition, FileSpool, FromRead, Meter, Output, Window};
 use abt_texts::{CommandFault, write_fault};
 use std::fs::File;
 use std::io::Read;
 use std::rt::Files;
+use std::time::Clock;
 
 /// What to flash, and how.
 #[derive(Clone, Copy, Debug, PartialEq, Eq, Drop)]
@@ -26,17 +30,17 @@ pub struct FlashOrder<'a> {
 #[derive(Clone, Copy, Debug, PartialEq, Eq, Drop)]
 pub struct PieceOrder<'a> {
     /// How many bytes a piece has at most.
-    pub limit: u32,
+    pub limit: &'a str,
     /// The path of the file that the pieces go through.
     pub spool: &'a str,
     /// How many bytes a block of a raw image has; of a sparse image, nothing.
-    pub raw: Option<u32>,
+    pub raw: Option<&'a str>,
     /// The first piece that is flashed.
     pub from: u32,
 }
 
 /// Flashes an image to a partition, which must be there, and prints how many pieces or blocks it was.
-pub fn flash_file<R: Files<File = File>, I: Read, O: Output, E: Output>(
+pub fn flash_file<R: Files<File = File> + Clock, I: Read, O: Output, E: Output>(
     session: &mut Session<'_, R, I, O, E>,
     order: FlashOrder<'_>,
     w: &mut Window,
@@ -49,7 +53,7 @@ pub fn flash_file<R: Files<File = File>, I: Read, O: Output, E: Output>(
 }
 
 // The image is read forward, so that it may be a pipe.
-fn flash_forward<R: Files<File = File>, I: Read, O: Output, E: Output>(
+fn flash_forward<R: Files<File = File> + Clock, I: Read, O: Output, E: Output>(
     session: &mut Session<'_, R, I, O, E>,
     order: FlashOrder<'_>,
     w: &mut Window,
@@ -63,7 +67,7 @@ fn flash_forward<R: Files<File = File>, I: Read, O: Output, E: Output>(
         .map_err(write_fault)
 }
 
-fn flash_from<R: Files<File = File>, I: Read, O: Output, E: Output>(
+fn flash_from<R: Files<File = File> + Clock, I: Read, O: Output, E: Output>(
     session: &mut Session<'_, R, I, O, E>,
     file: Option<File>,
     partition: &mut FilePartition,
@@ -72,11 +76,17 @@ fn flash_from<R: Files<File = File>, I: Read, O: Output, E: Output>(
 ) -> Result<Flashed, CommandFault> {
     let reason = session.reason;
     let mut from = FromRead::new(ForwardInput::new(file, &mut *session.standard_input, reason));
+    let mut from = Watched::new(
+        &mut from,
+        &mut session.progress,
+        session.rt,
+        &mut *session.err,
+    );
     flash(&mut from, partition, w, m).map_err(CommandFault::Flash)
 }
 
 // The image is read at any place, so that standard input will do only where it is a file.
-fn flash_pieces<R: Files<File = File>, I: Read, O: Output, E: Output>(
+fn flash_pieces<R: Files<File = File> + Clock, I: Read, O: Output, E: Output>(
     session: &mut Session<'_, R, I, O, E>,
     order: FlashOrder<'_>,
     pieces: PieceOrder<'_>,
@@ -95,9 +105,20 @@ fn flash_pieces<R: Files<File = File>, I: Read, O: Output, E: Output>(
         from,
     } = pieces;
     let from = from.max(1);
+    let limit = number(session.alloc, limit)?;
+    let raw = number_if(session.alloc, raw)?;
     let mut source = session.open_source("IN", input)?;
     let mut partition = session.open_partition(order.partition)?;
     let mut spool = FileSpool::new(session.create_spool(spool)?, limit as u64);
+    if raw.is_some() {
+        session.progress.repeat(RAW_PASSES);
+    }
+    let mut source = Watched::new(
+        &mut source,
+        &mut session.progress,
+        session.rt,
+        &mut *session.err,
+    );
     let delivered = match raw {
         Some(size) => resume_raw(
             &mut source,

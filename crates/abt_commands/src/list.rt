@@ -7,9 +7,10 @@ use abt_texts::{CommandFault, report_list};
 use std::fs::File;
 use std::io::Read;
 use std::rt::Files;
+use std::time::Clock;
 
 /// Prints the header and each chunk of a sparse image. `-` is standard input.
-pub fn list_file<R: Files<File = File>, I: Read, O: Output, E: Output>(
+pub fn list_file<R: Files<File = File> + Clock, I: Read, O: Output, E: Output>(
     session: &mut Session<'_, R, I, O, E>,
     input: &str,
     w: &mut Window,

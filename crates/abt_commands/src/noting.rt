@@ -17,6 +17,11 @@ impl<'a, W> Noted<'a, W> {
     pub fn new(inner: W, reason: &'a Reason) -> Noted<'a, W> {
         Noted { inner, reason }
     }
+
+    /// The reader or writer itself.
+    pub fn inner(&self) -> &W {
+        &self.inner
+    }
 }
 
 /// Keeps why a call failed, and answers what it answered.

@@ -1,60 +1,62 @@
-//! Packing a boot image or a vendor boot image from files.
+//! Packing a boot image or a vendor boot image: the command `pack`, and what `repack` shares with it.
 
 ghost use Rattle.std.specs.Prelude.{◌≡◌, ◌≤◌};
 
-use crate::noting::Noted;
+use crate::files::{ImageOutput, close, send};
+use crate::pack_fields::Fields;
 use crate::pack_parts::Parts;
-use crate::pack_ramdisks::Ramdisks;
-use crate::pack_words::PackWords;
+use crate::pack_ramdisks::{Ramdisks, read_fragments};
+use crate::pack_words::{PackWords, header_fault};
+use crate::part_source::PartSource;
 use crate::session::Session;
-use abt_headers::{HeaderFault, OsVersion};
-use abt_io::{FileSource, Meter, Output, ToWrite, Window};
+use crate::watched::Watched;
+use abt_io::{CopyFault, Meter, Output, Window, copy_range};
 use abt_sections::{BootSpec, Packed, SectionFault, VendorSpec, pack_boot, pack_vendor};
-use abt_texts::{CommandFault, FragmentWord, ImageKind, OPTIONS, os_from_word, write_fault};
-use std::alloc::Global;
+use abt_texts::{CommandFault, ImageKind, OPTIONS, write_fault};
 use std::fs::File;
 use std::rt::Files;
+use std::time::Clock;
+
+/// All that an image is written from.
+#[derive(Drop)]
+pub struct Contents {
+    pub kind: ImageKind,
+    pub fields: Fields,
+    pub parts: Parts,
+    pub ramdisks: Ramdisks,
+    /// What stands behind the image.
+    pub trailing: PartSource,
+}
 
 /// Packs the image that the words ask for, and prints how many bytes it has.
 ///
 /// The words are judged before any file is opened, and the parts are open before OUT is created or emptied.
-pub fn pack_file<R: Files<File = File>, I, O: Output, E: Output>(
+pub fn pack_file<R: Files<File = File> + Clock, I, O: Output, E: Output>(
     session: &mut Session<'_, R, I, O, E>,
     words: &PackWords<'_>,
     w: &mut Window,
     m: &mut Meter,
 ) -> Result<(), CommandFault> {
-    let kind = ImageKind::new(words.is_vendor, words.version).map_err(header_fault)?;
+    let version = words.version().unwrap_or(0);
+    let kind = ImageKind::new(words.has_flag("vendor"), version).map_err(header_fault)?;
     check_options(kind, words)?;
-    let fragments = read_fragments(session.alloc, kind, words.fragments())?;
-    let os = read_os(words.text("os"))?;
-    let parts = Parts::open(session, words)?;
-    let ramdisks = Ramdisks::open(session, fragments.as_slice())?;
-    let file = session.create("OUT", words.output)?;
-    session.input = None;
-    let mut output = ToWrite::new(Noted::new(file, session.reason));
-    let packed = match kind {
-        ImageKind::Boot(version) => {
-            pack_boot_parts(&boot_spec(version, words, os), parts, &mut output, w, m)
-        }
-        ImageKind::Vendor(version) => {
-            let spec = vendor_spec(version, words);
-            pack_vendor_parts(&spec, parts, ramdisks, &mut output, w, m)
-        }
+    let alloc = session.alloc;
+    let fragments = read_fragments(alloc, kind, words)?;
+    let fields = Fields::empty(alloc).given(alloc, words)?;
+    let parts = Parts::open(session, words, None, m)?;
+    let ramdisks = Ramdisks::open(session, words, fragments.as_slice())?;
+    let contents = Contents {
+        kind,
+        fields,
+        parts,
+        ramdisks: ramdisks.with_board_ids(alloc, words)?,
+        trailing: PartSource::empty(),
     };
-    let bytes = packed.map_err(CommandFault::Section)?.bytes;
-    session.is_unfinished = false;
-    session
-        .report(format_args!("bytes {bytes}"))
-        .map_err(write_fault)
+    write_image(session, contents, words.output, w, m)
 }
 
-fn header_fault(fault: HeaderFault) -> CommandFault {
-    CommandFault::Section(SectionFault::Header(fault))
-}
-
-// Refuses the first option of the table that was given and isn't carried.
-fn check_options(kind: ImageKind, words: &PackWords<'_>) -> Result<(), CommandFault> {
+/// Refuses the first option of the table that was given and isn't carried.
+pub fn check_options(kind: ImageKind, words: &PackWords<'_>) -> Result<(), CommandFault> {
     for option in OPTIONS {
         if words.has(option.name) && !option.is_carried_by(kind) {
             return Err(CommandFault::OptionNotCarried(option.name));
@@ -63,70 +65,79 @@ fn check_options(kind: ImageKind, words: &PackWords<'_>) -> Result<(), CommandFa
     Ok(())
 }
 
-// Refuses the first word that is no fragment, and any word where the image has no fragments.
-fn read_fragments<'a>(
-    alloc: Global,
-    kind: ImageKind,
-    words: Option<&[&'a str]>,
-) -> Result<Vec<FragmentWord<'a>>, CommandFault> {
-    let mut fragments = Vec::new(alloc);
-    let Some(words) = words else {
-        return Ok(fragments);
-    };
-    for word in words {
-        match FragmentWord::new(word) {
-            Some(fragment) if kind == ImageKind::Vendor(4) => fragments
-                .push(fragment)
-                .map_err(|_| CommandFault::Memory)?,
-            _ => return Err(bad_fragment(alloc, word)),
+/// Writes an image to a file, which is created or emptied, and prints how many bytes it has.
+pub fn write_image<R: Files<File = File> + Clock, I, O: Output, E: Output>(
+    session: &mut Session<'_, R, I, O, E>,
+    contents: Contents,
+    path: &str,
+    w: &mut Window,
+    m: &mut Meter,
+) -> Result<(), CommandFault> {
+    let output = session.create_image("OUT", path)?;
+    session.input = None;
+    let bytes = match output {
+        ImageOutput::File(mut image) => {
+            let bytes = pack_watched(session, contents, &mut image, w, m);
+            close(&mut image, bytes, m)?
         }
-    }
-    Ok(fragments)
+        ImageOutput::Stream(mut stream) => {
+            let bytes = pack_watched(session, contents, &mut stream, w, m);
+            send(&mut stream)?;
+            bytes?
+        }
+    };
+    session.is_unfinished = false;
+    session
+        .report(format_args!("bytes {bytes}"))
+        .map_err(write_fault)
 }
 
-fn bad_fragment(alloc: Global, word: &str) -> CommandFault {
-    match String::from_str(alloc, word) {
-        Ok(word) => CommandFault::BadFragment(word),
-        Err(_) => CommandFault::Memory,
-    }
+fn pack_watched<R: Clock, I, O: Output, E: Output, T: Output>(
+    session: &mut Session<'_, R, I, O, E>,
+    contents: Contents,
+    output: &mut T,
+    w: &mut Window,
+    m: &mut Meter,
+) -> Result<u64, CommandFault> {
+    let mut watched = Watched::new(
+        &mut *output,
+        &mut session.progress,
+        session.rt,
+        &mut *session.err,
+    );
+    pack_contents(contents, &mut watched, w, m).map_err(CommandFault::Section)
 }
 
-fn read_os(word: Option<&str>) -> Result<OsVersion, CommandFault> {
-    match word {
-        Some(word) => os_from_word(word).map_err(header_fault),
-        None => Ok(OsVersion::from_raw(0)),
-    }
-}
-
-fn boot_spec<'a>(version: u32, words: &PackWords<'a>, os: OsVersion) -> BootSpec<'a>
-    ensures { result.version ≡ version }
-{
-    BootSpec {
-        version,
-        page: words.page,
-        kernel_addr: words.address("kernel-addr"),
-        ramdisk_addr: words.address("ramdisk-addr"),
-        second_addr: words.address("second-addr"),
-        tags_addr: words.address("tags-addr"),
-        dtb_addr: words.long_address("dtb-addr"),
-        os,
-        name: words.text("name").unwrap_or("").as_bytes(),
-        cmdline: words.text("cmdline").unwrap_or("").as_bytes(),
-    }
-}
-
-fn vendor_spec<'a>(version: u32, words: &PackWords<'a>) -> VendorSpec<'a>
-    ensures { result.version ≡ version }
-{
-    VendorSpec {
-        version,
-        page: words.page,
-        kernel_addr: words.address("kernel-addr"),
-        ramdisk_addr: words.address("ramdisk-addr"),
-        tags_addr: words.address("tags-addr"),
-        dtb_addr: words.long_address("dtb-addr"),
-        name: words.text("name").unwrap_or("").as_bytes(),
-        cmdline: words.text("cmdline").unwrap_or("").as_bytes(),
+// Writes the image and what stands behind it, and answers how many bytes these are.
+fn pack_contents<O: Output>(
+    contents: Contents,
+    output: &mut O,
+    w: &mut Window,
+    m: &mut Meter,
+) -> Result<u64, SectionFault> {
+    let Contents {
+        kind,
+        fields,
+        parts,
+        ramdisks,
+        mut trailing,
+    } = contents;
+    let packed = match kind {
+        ImageKind::Boot(version) => {
+            pack_boot_parts(&fields.boot_spec(version), parts, output, w, m)
+        }
+        ImageKind::Vendor(version) => {
+            let spec = fields.vendor_spec(version);
+            pack_vendor_parts(&spec, parts, ramdisks, output, w, m)
+        }
+    };
+    let bytes = packed?.bytes;
+    let behind = trailing.size;
+    match copy_range(&mut trailing, 0, behind, output, w, m) {
+        Ok(()) => Ok(bytes.saturating_add(behind)),
+        Err(CopyFault::Read(fault)) => Err(SectionFault::Read(fault)),
+        Err(CopyFault::Write(fault)) => Err(SectionFault::Write(fault)),
+        Err(CopyFault::Changed) => Err(SectionFault::SourceChanged),
     }
 }
 
@@ -174,7 +185,7 @@ fn pack_vendor_parts<O: Output>(
     let mut dtb = parts.dtb;
     if spec.version == 3 {
         let mut ramdisk = [parts.ramdisk];
-        let mut bootconfig = FileSource::empty();
+        let mut bootconfig = PartSource::empty();
         return pack_vendor(
             spec,
             &[],

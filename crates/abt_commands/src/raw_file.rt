@@ -2,6 +2,7 @@
 
 ghost use Rattle.std.specs.Io.{WritesAtMost};
 
+use crate::files::is_regular;
 use crate::noting::kept_answer;
 use crate::session::Reason;
 use std::fs::File;
@@ -25,11 +26,7 @@ pub struct RawFile<'a> {
 impl<'a> RawFile<'a> {
     /// Begins at the front of this file, which is empty.
     pub fn new(file: File, reason: &'a Reason) -> RawFile<'a> {
-        let is_regular = match file.metadata() {
-            Ok(metadata) => metadata.is_file(),
-            Err(_) => false,
-        };
-        let length = if is_regular { Some(0) } else { None };
+        let length = if is_regular(&file) { Some(0) } else { None };
         RawFile {
             file,
             length,

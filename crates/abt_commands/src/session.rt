@@ -1,6 +1,7 @@
 //! One run of a command: the system that it asks, the standard streams, and what it has opened.
 
 use crate::identity::Identity;
+use crate::progress::Progress;
 use abt_io::{DeviceFault, Output};
 use abt_texts::{CommandFault, ShownPath, print_line};
 use std::alloc::Global;
@@ -49,6 +50,8 @@ pub struct Session<'a, R, I, O, E> {
     pub spool: Option<String>,
     /// Whether the output was begun and isn't whole.
     pub is_unfinished: bool,
+    /// How far the command is.
+    pub progress: Progress,
 }
 
 impl<'a, R: Files, I, O: Output, E: Output> Session<'a, R, I, O, E> {
@@ -76,11 +79,18 @@ impl<'a, R: Files, I, O: Output, E: Output> Session<'a, R, I, O, E> {
             output: None,
             spool: None,
             is_unfinished: false,
+            progress: Progress::hidden(),
         }
+    }
+
+    /// Erases the line that says how far it is.
+    pub fn erase_progress(&mut self) {
+        self.progress.erase(&mut *self.err);
     }
 
     /// Prints a line of the report, to standard output, or to standard error where data goes to standard output.
     pub fn report<D: fmt::Display + Drop>(&mut self, line: D) -> Result<(), DeviceFault> {
+        self.progress.erase(&mut *self.err);
         let told = if self.is_data_on_output {
             print_line(&mut *self.err, line)
         } else {
@@ -94,6 +104,7 @@ impl<'a, R: Files, I, O: Output, E: Output> Session<'a, R, I, O, E> {
 
     /// Prints a line to standard error, which nothing rests on.
     pub fn note<D: fmt::Display + Drop>(&mut self, line: D) {
+        self.progress.erase(&mut *self.err);
         let _ = print_line(&mut *self.err, line);
     }
 }

@@ -2,34 +2,86 @@
 
 use crate::noting::Noted;
 use crate::session::Session;
+use crate::watched::Watched;
 use abt_headers::Section;
 use abt_io::{FileSource, Meter, Output, ToWrite, Window};
 use abt_sections::{Image, fragment, fragments, open, section, sections, unpack, unpack_fragment};
-use abt_texts::{CommandFault, write_fault};
+use abt_texts::{CommandFault, write_fault, write_words};
 use std::alloc::Global;
+use std::fs;
 use std::fs::File;
 use std::rt::Files;
+use std::time::Clock;
 
-/// Writes each section and then each ramdisk fragment of an image to a file of this folder, which must be there.
+/// What to unpack, and where to.
+#[derive(Clone, Copy, Debug, PartialEq, Eq, Drop)]
+pub struct UnpackOrder<'a> {
+    /// The path of the image.
+    pub input: &'a str,
+    /// The path of the folder, which must be there.
+    pub folder: &'a str,
+    /// Whether the words that pack the image again are written too.
+    pub with_words: bool,
+}
+
+/// Writes each section and then each ramdisk fragment of an image to a file of a folder, and the words that pack it again.
 ///
 /// Each file is opened when its turn comes, and its line is printed when it is whole. Where the image is one of the files
 /// that are going to be written, none is.
-pub fn unpack_file<R: Files<File = File>, I, O: Output, E: Output>(
+pub fn unpack_file<R: Files<File = File> + Clock, I, O: Output, E: Output>(
     session: &mut Session<'_, R, I, O, E>,
-    input: &str,
+    order: UnpackOrder<'_>,
+    w: &mut Window,
+    m: &mut Meter,
+) -> Result<(), CommandFault> {
+    let folder = order.folder;
+    let mut source = session.open_source("IN", order.input)?;
+    let image = open(&mut source, w, m).map_err(CommandFault::Section)?;
+    refuse_input_as_part(session, &image, folder)?;
+    if order.with_words {
+        let path = words_path(session.alloc, folder)?;
+        session.refuse_input("PART", path.as_str())?;
+    }
+    unpack_sections(session, &image, &mut source, folder, w, m)?;
+    unpack_fragments(session, &image, &mut source, folder, w, m)?;
+    if order.with_words {
+        unpack_words(session, &image, &mut source, folder, w, m)?;
+    }
+    Ok(())
+}
+
+fn words_path(alloc: Global, folder: &str) -> Result<String, CommandFault> {
+    match format!(in alloc; "{folder}/pack.words") {
+        Ok(path) => Ok(path),
+        Err(_) => Err(CommandFault::Memory),
+    }
+}
+
+// Writes the words that pack the image again.
+fn unpack_words<R: Files<File = File>, I, O: Output, E: Output>(
+    session: &mut Session<'_, R, I, O, E>,
+    image: &Image,
+    source: &mut FileSource,
     folder: &str,
     w: &mut Window,
     m: &mut Meter,
 ) -> Result<(), CommandFault> {
-    let mut source = session.open_source("IN", input)?;
-    let image = open(&mut source, w, m).map_err(CommandFault::Section)?;
-    refuse_input_as_part(session, &image, folder)?;
-    unpack_sections(session, &image, &mut source, folder, w, m)?;
-    unpack_fragments(session, &image, &mut source, folder, w, m)
+    let path = words_path(session.alloc, folder)?;
+    let file = session.create("PART", path.as_str())?;
+    let mut to = ToWrite::new(Noted::new(file, session.reason));
+    write_words(image, folder, source, &mut to, w, m).map_err(CommandFault::Section)?;
+    session.is_unfinished = false;
+    let size = match fs::metadata(session.rt, path.as_str()) {
+        Ok(metadata) => metadata.len(),
+        Err(_) => 0,
+    };
+    session
+        .report(format_args!("pack.words {size}"))
+        .map_err(write_fault)
 }
 
 // Refuses the image where it is a file that is going to be written.
-fn refuse_input_as_part<R: Files<File = File>, I, O: Output, E: Output>(
+fn refuse_input_as_part<R: Files<File = File> + Clock, I, O: Output, E: Output>(
     session: &mut Session<'_, R, I, O, E>,
     image: &Image,
     folder: &str,
@@ -59,7 +111,7 @@ fn fragment_path(alloc: Global, folder: &str, i: u32) -> Result<String, CommandF
     }
 }
 
-fn unpack_sections<R: Files<File = File>, I, O: Output, E: Output>(
+fn unpack_sections<R: Files<File = File> + Clock, I, O: Output, E: Output>(
     session: &mut Session<'_, R, I, O, E>,
     image: &Image,
     source: &mut FileSource,
@@ -75,7 +127,8 @@ fn unpack_sections<R: Files<File = File>, I, O: Output, E: Output>(
         let path = section_path(session.alloc, folder, kind)?;
         let file = session.create("PART", path.as_str())?;
         let mut to = ToWrite::new(Noted::new(file, session.reason));
-        unpack(image, i, source, &mut to, w, m).map_err(CommandFault::Section)?;
+        let mut source = Watched::new(source, &mut session.progress, session.rt, &mut *session.err);
+        unpack(image, i, &mut source, &mut to, w, m).map_err(CommandFault::Section)?;
         session.is_unfinished = false;
         session
             .report(format_args!("{kind} {size}"))
@@ -84,7 +137,7 @@ fn unpack_sections<R: Files<File = File>, I, O: Output, E: Output>(
     Ok(())
 }
 
-fn unpack_fragments<R: Files<File = File>, I, O: Output, E: Output>(
+fn unpack_fragments<R: Files<File = File> + Clock, I, O: Output, E: Output>(
     session: &mut Session<'_, R, I, O, E>,
     image: &Image,
     source: &mut FileSource,
@@ -98,7 +151,13 @@ fn unpack_fragments<R: Files<File = File>, I, O: Output, E: Output>(
         let file = session.create("PART", path.as_str())?;
         let mut to = ToWrite::new(Noted::new(file, session.reason));
         let entry = fragment(image, i, source, w, m).map_err(CommandFault::Section)?;
-        unpack_fragment(image, i, source, &mut to, w, m).map_err(CommandFault::Section)?;
+        let mut watched = Watched::new(
+            source,
+            &mut session.progress,
+            session.rt,
+            &mut *session.err,
+        );
+        unpack_fragment(image, i, &mut watched, &mut to, w, m).map_err(CommandFault::Section)?;
         session.is_unfinished = false;
         let size = entry.ramdisk_size;
         session

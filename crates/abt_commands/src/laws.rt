@@ -1,0 +1,21 @@
+//! The law of the whole way round, which joins what the crates below promise.
+
+ghost use Rattle.abt_commands.specs.WayRound.{BootWay, FoundAgain, FragmentWay, VendorWay};
+
+use abt_sections::packed_holds_parts;
+use abt_sparse::{keeps_raw, one_outcome, reads_back};
+
+/// Parts that are packed, sent to a partition with room for the image, and unpacked from there, come back byte for byte:
+/// of every version of both kinds of boot image, sparse at any block size or raw, within any limit, at once or after a
+/// stop, and whatever the partition held, also behind the image.
+pub fn way_round()
+    ensures boot { BootWay }
+    ensures vendor { VendorWay }
+    ensures fragments { FragmentWay }
+    ensures found { FoundAgain }
+{
+    one_outcome();
+    keeps_raw();
+    reads_back();
+    packed_holds_parts();
+}
