@@ -10,7 +10,12 @@ use abt_sections::{
 use std::process::Abort;
 
 /// A source that gives at most 1,000 bytes a call, whose call `n` fails where it is part `part`.
-fn part(bytes: &[u8], part: usize, failing: usize, n: u64) -> Faulty<Cut<SliceSource<'_>>> {
+pub(crate) fn part(
+    bytes: &[u8],
+    part: usize,
+    failing: usize,
+    n: u64,
+) -> Faulty<Cut<SliceSource<'_>>> {
     Faulty::new(
         Cut::new(SliceSource::new(bytes), 1000),
         if part == failing { n } else { 0 },

@@ -8,6 +8,7 @@
 //! | `opening.rt` | opening and checking an image that stands |
 //! | `images.rt` | whole images: packed, opened, checked and unpacked |
 //! | `failing.rt` | one failing call at each place |
+//! | `once.rt` | packing that reads each part once, and what stands where it fails |
 //! | `changing.rt` | sources that change |
 #![tactic(auto)]
 
@@ -17,6 +18,8 @@ mod changing;
 mod failing;
 #[cfg(test)]
 mod images;
+#[cfg(test)]
+mod once;
 #[cfg(test)]
 mod opening;
 #[cfg(test)]

@@ -1,5 +1,5 @@
 //! Tests of sparse images: their records, reading, classed blocks, cutting and sparsing, over the public calls of
-//! `abt_sparse`, `abt_chunks`, `abt_runs`, `abt_pieces` and `abt_sparsify`.
+//! `abt_sparse`, `abt_chunks`, `abt_runs`, `abt_pieces`, `abt_sparsify` and `abt_placed`.
 //!
 //! The images of `vectors` and the source of `counting` are lent to other crates of tests.
 //!
@@ -13,6 +13,7 @@
 //! | `walks.rt` | an image as classed blocks |
 //! | `raw_pieces.rt`, `sparse_pieces.rt` | cutting raw images, and sparse ones |
 //! | `sparsing.rt` | a raw image written as a sparse one |
+//! | `placing.rt` | the same in one pass, where written bytes can be written over |
 #![tactic(auto)]
 
 pub mod counting;
@@ -22,6 +23,8 @@ mod expanding;
 mod feeding;
 #[cfg(test)]
 mod listing;
+#[cfg(test)]
+mod placing;
 #[cfg(test)]
 mod raw_pieces;
 #[cfg(test)]

@@ -10,10 +10,11 @@ use std::fs::File;
 use std::process::Abort;
 use std::rt::Files;
 use std::test::Fail;
+use std::time::Clock;
 use std::{fs, process};
 
 /// Runs the words, the first of which is the program's name, and expects these texts and this status.
-pub fn expect<R: Files<File = File> + AllocGlobal + Abort, S: AsStr>(
+pub fn expect<R: Files<File = File> + Clock + AllocGlobal + Abort, S: AsStr>(
     rt: &R,
     words: &[S],
     out_text: &str,
@@ -194,10 +195,10 @@ fn wrong_words_are_told_on_standard_error(rt: HostRuntime) {
     );
     expect(
         &rt,
-        &["abootimg", "expand", "a", "b", "c"],
+        &["abootimg", "list", "a", "b"],
         "",
-        "error: unexpected argument 'c' found\n\n\
-         Usage: abootimg expand [OPTIONS] <IN> <OUT>\n\n\
+        "error: unexpected argument 'b' found\n\n\
+         Usage: abootimg list [OPTIONS] <IN>\n\n\
          For more information, try '--help'.\n",
         2,
     );
@@ -215,6 +216,7 @@ fn help_and_version_go_to_standard_output(rt: HostRuntime) {
            <IN>  The sparse image, a file or a pipe, or - for standard input\n\n\
          Options:\n  \
            -v, --verbose  Tells of a refusal in a second line which file it is about, and why\n  \
+           -q, --quiet    Does not show on a terminal how far the work is\n  \
            -h, --help     Print help\n\n\
          Example: abootimg list system.img\n",
         "",
@@ -223,7 +225,10 @@ fn help_and_version_go_to_standard_output(rt: HostRuntime) {
 }
 
 // The first write to standard output fails.
-pub fn expect_write_fault<R: Files<File = File> + AllocGlobal + Abort>(rt: &R, words: &[&str]) {
+pub fn expect_write_fault<R: Files<File = File> + Clock + AllocGlobal + Abort>(
+    rt: &R,
+    words: &[&str],
+) {
     let mut w = Window::new();
     let mut m = Meter::new();
     let mut out_room = [0u8; 1500];

@@ -8,6 +8,7 @@ use std::fs::File;
 use std::process::Abort;
 use std::rt::Files;
 use std::test::Fail;
+use std::time::Clock;
 
 /// What the image leaves of sixteen FF: its raw block, its fill, and what was there.
 const FLASHED: [u8; 16] = [
@@ -30,7 +31,7 @@ fn in_pieces<'a>(
 }
 
 // Flashing is refused so, and the partition holds sixteen FF then.
-fn expect_untouched<R: Files<File = File> + AllocGlobal + Abort>(
+fn expect_untouched<R: Files<File = File> + Clock + AllocGlobal + Abort>(
     rt: &R,
     words: &[&str],
     partition: &str,
@@ -101,7 +102,7 @@ fn flashes_in_pieces_and_from_a_piece_on(rt: HostRuntime) -> Result<(), Fail> {
 }
 
 // A raw image in blocks of this size is refused for this reason, and the partition is not touched.
-fn expect_raw_refused<'a, R: Files<File = File> + AllocGlobal + Abort>(
+fn expect_raw_refused<'a, R: Files<File = File> + Clock + AllocGlobal + Abort>(
     rt: &R,
     size: &'a str,
     input: &'a str,

@@ -10,6 +10,7 @@ use std::fs::File;
 use std::process::Abort;
 use std::rt::Files;
 use std::test::Fail;
+use std::time::Clock;
 
 // A new folder with the files that the tests pack, and OLD, which stands where an image is not to be written.
 fn folder(rt: &HostRuntime, name: &str) -> Result<String, Fail> {
@@ -50,7 +51,7 @@ fn with_folder<R: AllocGlobal>(rt: &R, text: &str, folder: &str) -> Result<Strin
 }
 
 // Runs `abootimg pack` with these words, of which `@` stands for the folder, and expects these texts and this status.
-fn expect_pack<R: Files<File = File> + AllocGlobal + Abort>(
+fn expect_pack<R: Files<File = File> + Clock + AllocGlobal + Abort>(
     rt: &R,
     folder: &str,
     words: &str,
@@ -71,7 +72,7 @@ fn expect_pack<R: Files<File = File> + AllocGlobal + Abort>(
 }
 
 // The image OUT is as long as this, and zero but for these bytes at these places.
-fn expect_image<R: Files<File = File> + AllocGlobal + Abort>(
+fn expect_image<R: Files<File = File> + Clock + AllocGlobal + Abort>(
     rt: &R,
     folder: &str,
     size: usize,
@@ -351,9 +352,8 @@ fn opens_the_files_in_order_and_then_begins(rt: HostRuntime) -> Result<(), Fail>
         expect_pack(&rt, folder, words, "", told.as_str(), 1)?;
     }
     expect_image(&rt, folder, 0, &[])?;
-    let words = "--version 4 --name n --ramdisk-addr 4294967296 @/OUT";
-    let told = "error: invalid value '4294967296' for '--ramdisk-addr <N>': \
-        4294967296 is not in 0..=4294967295\n\nFor more information, try '--help'.\n";
+    let words = "--version 2 --name n --ramdisk-addr 4294967296 @/OUT";
+    let told = "abootimg: bad number 4294967296\n";
     expect_pack(&rt, folder, words, "", told, 2)?;
     fs::remove_dir_all(&rt, folder)?;
     Ok(())
@@ -361,7 +361,7 @@ fn opens_the_files_in_order_and_then_begins(rt: HostRuntime) -> Result<(), Fail>
 
 // This row of the table has this name, and `y` for each image that carries it: boot 0 to 4, and vendor 3 and 4.
 fn expect_row(rt: &impl Abort, row: usize, name: &str, images: &[u8; 7])
-    requires { row < 15 }
+    requires { row < 22 }
 {
     let option = OPTIONS[row];
     assert_eq!(rt; option.name, name);
@@ -394,9 +394,16 @@ fn each_option_has_its_images(rt: HostRuntime) {
     expect_row(&rt, 9, "tags-addr", b"yyy--yy");
     expect_row(&rt, 10, "second-addr", b"yyy----");
     expect_row(&rt, 11, "dtb-addr", b"--y--yy");
-    expect_row(&rt, 12, "os", b"yyyyy--");
-    expect_row(&rt, 13, "name", b"yyy--yy");
-    expect_row(&rt, 14, "cmdline", b"yyyyyyy");
+    expect_row(&rt, 12, "base", b"yyy--yy");
+    expect_row(&rt, 13, "kernel-offset", b"yyy--yy");
+    expect_row(&rt, 14, "ramdisk-offset", b"yyy--yy");
+    expect_row(&rt, 15, "second-offset", b"yyy----");
+    expect_row(&rt, 16, "tags-offset", b"yyy--yy");
+    expect_row(&rt, 17, "dtb-offset", b"--y--yy");
+    expect_row(&rt, 18, "os", b"yyyyy--");
+    expect_row(&rt, 19, "os-number", b"yyyyy--");
+    expect_row(&rt, 20, "name", b"yyy--yy");
+    expect_row(&rt, 21, "cmdline", b"yyyyyyy");
 }
 
 #[test]
@@ -449,6 +456,7 @@ fn a_fragment_word_has_three_parts(rt: HostRuntime) {
     let good = [
         ("none::F", 0, "", "F"),
         ("platform:a:", 1, "a", ""),
+        ("1:a:F", 1, "a", "F"),
         ("recovery:a name:a:b", 2, "a name", "a:b"),
         (
             "dlkm:thirty-one letters are the most:F",
@@ -478,7 +486,7 @@ fn a_fragment_word_has_three_parts(rt: HostRuntime) {
         "platform:a",
         ":a:F",
         "Platform:a:F",
-        "1:a:F",
+        "+1:a:F",
         "dlkm:thirty-two letters are too many!:F",
     ];
     for word in bad {

@@ -9,9 +9,10 @@ use std::os::unix::fs::symlink;
 use std::process::Abort;
 use std::rt::Files;
 use std::test::Fail;
+use std::time::Clock;
 
 // These words are refused since this path is a file that is read, and the file holds its bytes then.
-fn expect_kept<R: Files<File = File> + AllocGlobal + Abort>(
+fn expect_kept<R: Files<File = File> + Clock + AllocGlobal + Abort>(
     rt: &R,
     words: &[&str],
     path: &str,
@@ -25,7 +26,7 @@ fn expect_kept<R: Files<File = File> + AllocGlobal + Abort>(
 }
 
 // No command writes the image over this path, which stands for the image's own file, as `other` does.
-fn expect_not_written_over<'a, R: Files<File = File> + AllocGlobal + Abort>(
+fn expect_not_written_over<'a, R: Files<File = File> + Clock + AllocGlobal + Abort>(
     rt: &R,
     input: &'a str,
     other: &'a str,
@@ -105,7 +106,7 @@ fn the_piece_of_an_older_cut_is_named(rt: HostRuntime) -> Result<(), Fail> {
 }
 
 // The image of these bytes has the name of its own kernel in this folder.
-fn expect_not_unpacked_over<'a, R: Files<File = File> + AllocGlobal + Abort>(
+fn expect_not_unpacked_over<'a, R: Files<File = File> + Clock + AllocGlobal + Abort>(
     rt: &R,
     input: &'a str,
     folder: &'a str,
@@ -116,7 +117,7 @@ fn expect_not_unpacked_over<'a, R: Files<File = File> + AllocGlobal + Abort>(
 }
 
 // The image to be packed has the name of the kernel of these bytes.
-fn expect_not_packed_over<R: Files<File = File> + AllocGlobal + Abort>(
+fn expect_not_packed_over<R: Files<File = File> + Clock + AllocGlobal + Abort>(
     rt: &R,
     kernel: &str,
     bytes: &[u8],
@@ -147,7 +148,7 @@ fn a_part_is_not_packed_or_unpacked_over(rt: HostRuntime) -> Result<(), Fail> {
 }
 
 // These words are refused since this path has no length.
-fn expect_no_length<R: Files<File = File> + AllocGlobal + Abort>(rt: &R, words: &[&str]) {
+fn expect_no_length<R: Files<File = File> + Clock + AllocGlobal + Abort>(rt: &R, words: &[&str]) {
     expect(rt, words, "", "abootimg: cannot open /dev/zero\n", 1);
 }
 

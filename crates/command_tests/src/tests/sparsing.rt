@@ -7,6 +7,7 @@ use std::os::unix::fs::FileExt;
 use std::process::Abort;
 use std::rt::Files;
 use std::test::Fail;
+use std::time::Clock;
 
 /// Fill 41414141 (2), fill 41420000 (1), in blocks of 4 bytes.
 #[rattlefmt::skip]
@@ -41,7 +42,7 @@ const EMPTY: [u8; 28] = [
 ];
 
 // `sparse` in blocks of this size prints this line.
-fn expect_line<R: Files<File = File> + AllocGlobal + Abort>(
+fn expect_line<R: Files<File = File> + Clock + AllocGlobal + Abort>(
     rt: &R,
     input: &str,
     output: &str,
@@ -53,7 +54,7 @@ fn expect_line<R: Files<File = File> + AllocGlobal + Abort>(
 }
 
 // `sparse` in blocks of this size is refused so.
-fn expect_refused<R: Files<File = File> + AllocGlobal + Abort>(
+fn expect_refused<R: Files<File = File> + Clock + AllocGlobal + Abort>(
     rt: &R,
     input: &str,
     output: &str,
@@ -171,8 +172,7 @@ fn wrong_words_of_sparse_are_told(rt: HostRuntime) {
         &rt,
         &["abootimg", "sparse", "a", "b", "--block", "4k"],
         "",
-        "error: invalid value '4k' for '--block <N>': invalid digit found in string\n\n\
-         For more information, try '--help'.\n",
+        "abootimg: bad number 4k\n",
         2,
     );
     expect(
@@ -186,6 +186,7 @@ fn wrong_words_of_sparse_are_told(rt: HostRuntime) {
          Options:\n      \
                --block <N>  Bytes of a block: a multiple of 4, at most 65536 [default: 4096]\n  \
            -v, --verbose    Tells of a refusal in a second line which file it is about, and why\n  \
+           -q, --quiet      Does not show on a terminal how far the work is\n  \
            -h, --help       Print help\n\n\
          Example: abootimg sparse system.raw.img system.img\n",
         "",

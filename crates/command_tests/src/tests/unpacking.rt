@@ -7,9 +7,10 @@ use std::fs::File;
 use std::process::Abort;
 use std::rt::Files;
 use std::test::Fail;
+use std::time::Clock;
 
 // The file of a part holds these bytes.
-fn expect_part<R: Files<File = File> + AllocGlobal + Abort>(
+fn expect_part<R: Files<File = File> + Clock + AllocGlobal + Abort>(
     rt: &R,
     folder: &str,
     part: &str,
