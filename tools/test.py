@@ -5,15 +5,18 @@
 
 `rt ci` proves every crate from nothing, tries the must-fail edits, runs the tests, and leaves the program that it built as
 crates/abootimg/out/abootimg. Each script then runs on that program and ends in a line 'N passed, M failed'. The C library,
-which `rt ci` proves and does not build, is built for the script that tries it, where there are compilers of C and C++. The
-last line of all is the sum of these. The exit status is 0 where nothing failed.
+which `rt ci` proves and does not build, is built for the script that tries it, where there are compilers of C and C++. Behind
+each stands the time that it took, by the clock and of the processors. The last line of all is the sum of what passed and
+failed. The exit status is 0 where nothing failed.
 """
 import argparse
 import os
 import re
+import resource
 import shutil
 import subprocess
 import sys
+import time
 
 sys.dont_write_bytecode = True
 from prove import put_back
@@ -28,12 +31,20 @@ SCRIPTS = (
     ("tools/check_claims.py", False),
     ("tools/check_examples.py", True),
     ("tools/try_program.sh", True),
+    ("tools/try_words.sh", True),
 )
+
+
+def processor_time():
+    """The seconds of processors that the commands run so far have taken."""
+    used = resource.getrusage(resource.RUSAGE_CHILDREN)
+    return used.ru_utime + used.ru_stime
 
 
 def followed(words, name, **how):
     """Runs a command, shows what it says but for its last line of counts, and answers the counts."""
     print(f"== {name}", flush=True)
+    begun, used = time.monotonic(), processor_time()
     try:
         ran = subprocess.Popen(
             words, cwd=HERE, stdin=subprocess.DEVNULL, stdout=subprocess.PIPE, stderr=subprocess.STDOUT, text=True,
@@ -54,7 +65,9 @@ def followed(words, name, **how):
     if (status != 0) != (failed != 0):
         print(f"{name}: its last line and its status {status} do not agree")
         failed = max(failed, 1)
-    print(f"== {name}: {passed} passed, {failed} failed", flush=True)
+    minutes = (time.monotonic() - begun) / 60
+    print(f"== {name}: {passed} passed, {failed} failed; {minutes:.1f} minutes, "
+          f"{(processor_time() - used) / 60:.1f} of processor time", flush=True)
     return passed, failed
 
 

@@ -3,6 +3,8 @@
 # it tries, and ends with a line 'N passed, M failed'; the status is 1 where one failed. It needs bash and coreutils.
 #
 #   tools/try_program.sh            the program is $ABOOTIMG, or build/abootimg
+#
+# What a terminal shows is tried where there is Python 3, and completions where the shells are there.
 set -u
 here=$(cd "$(dirname "$0")/.." && pwd)
 program=$(realpath "${ABOOTIMG:-$here/build/abootimg}")
@@ -198,6 +200,226 @@ else
     echo "LEFT OUT  a small file system: no tmpfs can be mounted here"
 fi
 
+echo "== half an output is never taken for a whole one"
+# until COMMAND..: waits until it succeeds, for ten seconds.
+until_there() {
+    for _ in $(seq 100); do
+        "$@" && return 0
+        sleep 0.1
+    done
+    return 1
+}
+is_longer() { [ "$(stat -c %s "$1" 2>/dev/null || echo 0)" -gt "$2" ]; }
+# no_magic FILE: it has bytes, and begins with zeros.
+no_magic() { [ -s "$1" ] && cmp -s -n 8 "$1" /dev/zero; }
+head -c 3000000 /dev/urandom >long.raw
+# The program stops with the signal SIGXFSZ where a file would get longer than this limit: as a kill in the middle.
+limited() {
+    (
+        ulimit -f 1024
+        trap '' XFSZ
+        exec "$program" "$@"
+    ) >out 2>err </dev/null
+    status=$?
+}
+limited sparse long.raw broken.simg
+try "sparse that is broken off" said 1 "" "abootimg: 12 Write"
+try "  has no magic" no_magic broken.simg
+run list broken.simg
+try "  so it is refused" said 1 "" "abootimg: 1 Magic"
+limited cut long.raw 2M broken --raw 4096
+try "cut that is broken off" said 1 "" "abootimg: 12 Write"
+run list broken.1
+try "  leaves a piece that is refused" said 1 "" "abootimg: 1 Magic"
+limited pack --version 4 --kernel long.raw broken.img
+try "pack that is broken off" said 1 "" "abootimg: 12 Write"
+run info broken.img
+try "  leaves an image that is refused" said 1 "" "abootimg: 20 Magic"
+limited pack --vendor --version 4 --dtb long.raw broken.img
+try "pack --vendor that is broken off" said 1 "" "abootimg: 12 Write"
+run info broken.img
+try "  leaves an image that is refused" said 1 "" "abootimg: 20 Magic"
+"$program" sparse long.raw long.simg >/dev/null
+limited expand -v long.simg broken.raw
+try "expand -v that is broken off names the output" said 1 "" "abootimg: 12 Write
+  OUT broken.raw: File too large; OUT broken.raw is broken off"
+"$program" pack --version 4 --kernel long.raw long.img >/dev/null
+mkdir broken
+limited unpack -v long.img broken
+try "unpack -v that is broken off names the part" said 1 "" "abootimg: 12 Write
+  PART broken/kernel: File too large; PART broken/kernel is broken off"
+mkfifo slow
+"$program" expand slow slow.raw >out 2>err &
+pid=$!
+{
+    head -c 1000000 long.simg
+    until_there is_longer slow.raw 100000
+    kill -9 $pid
+} >slow
+wait $pid 2>/dev/null
+try "expand that is killed leaves what came" cmp -s -n 100000 slow.raw long.raw
+
+echo "== progress"
+# on_terminal WORDS..: runs the program with standard output and error on a terminal, and what it shows is in out.
+on_terminal() {
+    python3 - "$program" "$@" >out 2>err <<'END'
+import os, pty, sys
+child, terminal = pty.fork()
+if child == 0:
+    os.execv(sys.argv[1], sys.argv[1:])
+shown = b""
+while True:
+    try:
+        some = os.read(terminal, 65536)
+    except OSError:
+        break
+    if not some:
+        break
+    shown += some
+_, status = os.waitpid(child, 0)
+sys.stdout.buffer.write(shown)
+sys.exit(os.waitstatus_to_exitcode(status))
+END
+    status=$?
+}
+# slowly FILE: its bytes, of which the last come after more than a second.
+slowly() {
+    head -c 1000000 "$1"
+    sleep 1.3
+    tail -c +1000001 "$1" | head -c 1000000
+    sleep 0.3
+    tail -c +2000001 "$1"
+}
+shows() { grep -q "$1" out; }
+shows_not() { ! grep -q "$1" out; }
+if command -v python3 >/dev/null; then
+    slowly long.simg >slow &
+    on_terminal expand slow shown.raw
+    wait $!
+    try "expand on a terminal shows how far it is" shows 'expand [0-9.]* MiB  [0-9.]* MiB/s'
+    try "  and erases the line at the end" shows $'MiB/s\033\\[K\r\033\\[Kblocks 733 bytes 3002368'
+    try "  and the image is whole" cmp -s -n 3000000 shown.raw long.raw
+    slowly long.simg >slow &
+    on_terminal expand -q slow shown.raw
+    wait $!
+    try "expand -q does not" shows_not MiB
+    slowly long.simg >slow &
+    "$program" expand slow shown.raw >out 2>err
+    wait $!
+    try "nor does it where there is no terminal" test ! -s err -a "$(cat out)" = "blocks 733 bytes 3002368"
+    on_terminal expand long.simg shown.raw
+    try "nor where the work is short" shows_not MiB
+    on_terminal list half
+    try "a refusal on a terminal has its second line" shows 'fetch or copy it again'
+else
+    echo "LEFT OUT  what a terminal shows: there is no python3"
+fi
+
+echo "== numbers"
+run sparse long.raw a.simg --block 4096
+run sparse long.raw b.simg --block 0x1000
+try "--block 0x1000" cmp -s a.simg b.simg
+run sparse long.raw b.simg --block 4K
+try "--block 4K" cmp -s a.simg b.simg
+"$program" cut a.simg 1048576 a >/dev/null
+for limit in 1M 0x100000 1024K; do
+    rm -f b.1
+    run cut a.simg $limit b
+    try "LIMIT $limit" cmp -s a.1 b.1
+done
+for number in 4k 4KB -1 +1 0X10 0x 0xg 4096.0 "" K 4G 0x100000000 4294967296 99999999999999999999; do
+    run sparse long.raw b.simg --block="$number"
+    try "--block=$number" said 2 "" "abootimg: bad number $number"
+done
+run sparse -v long.raw b.simg --block=4k
+try "--block=4k -v" said 2 "" "abootimg: bad number 4k
+  write it as 4096, 0x1000, 4K, 1M or 1G"
+run pack --version 2 --kernel-addr 0x10008000 --dtb-addr 0x123456789abcdef0 --page 2K a.img
+run info a.img
+try "addresses in hexadecimal" test "$(grep -c 'address kernel 268468224\|address dtb 1311768467463790320\|page 2048' out)" = 3
+
+echo "== load addresses from a base"
+# addresses OPTION..: of a boot image of version 2 that is packed with them.
+addresses() {
+    "$program" pack --version 2 "$@" a.img >/dev/null && "$program" info a.img | sed -n 's/^address //p' | tr '\n' ' '
+}
+try "no base" test "$(addresses)" = "kernel 0 ramdisk 0 second 0 tags 0 dtb 0 "
+try "--base 0x10000000" test "$(addresses --base 0x10000000)" = \
+    "kernel $((0x10008000)) ramdisk $((0x11000000)) second $((0x10f00000)) tags $((0x10000100)) dtb $((0x11f00000)) "
+try "  which is mkbootimg's own, where there is an offset" test "$(addresses --kernel-offset 0x80000)" = \
+    "kernel $((0x10080000)) ramdisk $((0x11000000)) second $((0x10f00000)) tags $((0x10000100)) dtb $((0x11f00000)) "
+try "--base and offsets" test "$(addresses --base 1M --kernel-offset 1 --ramdisk-offset 2 --second-offset 3 --tags-offset 4 --dtb-offset 5)" = \
+    "kernel 1048577 ramdisk 1048578 second 1048579 tags 1048580 dtb 1048581 "
+try "an address goes before the base" test "$(addresses --base 1M --tags-addr 7)" = \
+    "kernel $((0x108000)) ramdisk $((0x1100000)) second $((0x1000000)) tags 7 dtb $((0x2000000)) "
+run pack --version 2 --base 0xffffffff a.img
+try "a sum that has no room" said 2 "" "abootimg: bad number 0xffffffff"
+run pack --version 3 --base 0 a.img
+try "--base in version 3" said 2 "" "abootimg: option not carried: --base"
+
+echo "== info --check"
+"$program" pack --version 2 --page 2048 --kernel x.simg --ramdisk x.simg --dtb x.simg good.img >/dev/null
+run info --check good.img
+try "info --check of a good image" test "$status" = 0 -a "$(tail -n 1 out)" = "check canonical yes padding yes id yes offset yes"
+# changed PLACE BYTES: the good image with these bytes at a place.
+changed() {
+    cp good.img bad.img
+    printf "$2" | dd of=bad.img bs=1 seek="$1" conv=notrunc status=none
+}
+# reasons LINES: the last run was refused, with these lines behind the check.
+reasons() {
+    [ "$status" = 1 ] && [ "$(sed '1,/^check /d' out)" = "$1" ] && [ "$(cat err)" = "abootimg: check failed" ]
+}
+changed 1700 x
+run info --check bad.img
+try "a byte of padding" reasons "canonical no: byte 1700
+padding no: byte 1700"
+changed 576 x
+run info --check bad.img
+try "another id" reasons "canonical no: byte 576
+id no: byte 576"
+changed 1644 '\001'
+run info --check bad.img
+try "another header_size" reasons "canonical no: header_size 1537, packed 1660
+offset no: header_size 1537, packed 1660"
+changed 63 x
+run info --check bad.img
+try "a name without an end" reasons "canonical no: name"
+head -c -1 good.img >bad.img
+run info --check bad.img
+try "an image that ends before its padding" reasons "canonical no: byte $(stat -c %s bad.img)
+padding no: byte $(stat -c %s bad.img)"
+run info bad.img
+try "  and without --check it is no refusal" test "$status" = 0 -a "$(tail -n 1 out)" = "check canonical no padding no id yes offset yes"
+{
+    cat good.img
+    head -c 64 /dev/zero
+} >bad.img
+run info --check bad.img
+try "64 bytes behind the image" test "$status" = 0 -a "$(tail -n 1 out)" = "trailing 64 bytes"
+
+echo "== completions"
+for shell in bash zsh fish; do
+    run completions $shell
+    try "completions $shell" test "$status" = 0 -a -s out -a ! -s err
+    if command -v $shell >/dev/null; then
+        cp out words.$shell
+        try "  which $shell reads" $shell -n words.$shell
+    fi
+done
+run completions bash
+cp out words.bash
+# completed WORD..: what bash offers for the last word.
+completed() {
+    bash -c '. ./words.bash; COMP_WORDS=("$@"); COMP_CWORD=$(($# - 1)); _abootimg; echo "${COMPREPLY[@]}"' abootimg "$@"
+}
+try "a command" test "$(completed abootimg exp)" = expand
+try "an option" test "$(completed abootimg pack --recov)" = --recovery-dtbo
+try "a file" test "$(completed abootimg list x.si)" = x.simg
+try "a shell" test "$(completed abootimg completions f)" = fish
+run completions csh
+try "another shell" test $status = 2
+
 echo "== pieces"
 "$program" cut x.simg 68 c >/dev/null
 run cut x.simg 84 c
@@ -215,6 +437,49 @@ run flash x.simg part 68 spool --from 3
 try "flash --from 3 of 2" said 1 "" "abootimg: 31 NoSuchPiece pieces 2"
 run flash x.simg part 68 spool --from 0
 try "flash --from 0" test $status = 2
+
+# ---- verify
+
+run flash x.simg part
+run verify x.simg part
+try "verify x.simg part" said 0 "blocks 2" ""
+image | "$program" verify - part >out 2>err
+try "image | verify - part" holds out 'blocks 2\n'
+cp part copy
+printf 'x' | dd of=copy bs=1 seek=6 conv=notrunc 2>/dev/null
+run verify -v x.simg copy
+try "verify -v of a byte that differs" said 1 "" "abootimg: 35 Differs at 6
+  PARTITION copy: that byte is not the image's, or is missing; flash it again"
+printf 'x' | dd of=copy bs=1 seek=2 conv=notrunc 2>/dev/null
+run verify x.simg copy
+try "verify of two bytes that differ" said 1 "" "abootimg: 35 Differs at 2"
+printf 'ABCD\x04\x03\x02\x01' >eight
+run verify x.simg eight
+try "verify without the block that does not matter" said 0 "blocks 2" ""
+printf 'ABCD\x04\x03\x02' >seven
+run verify x.simg seven
+try "verify of a partition that ends too soon" said 1 "" "abootimg: 35 Differs at 7"
+printf 'ABCDEFGHIJ' >ten
+cp ten eleven
+printf 'K' >>eleven
+run verify ten eleven --raw 4
+try "verify --raw 4" said 0 "blocks 3" ""
+run verify eleven ten --raw 4
+try "verify --raw of a partition that ends too soon" said 1 "" "abootimg: 35 Differs at 10"
+run verify ten eleven --raw 6
+try "verify --raw 6" said 1 "" "abootimg: 15 BadBlock 6"
+run verify ten eleven
+try "verify of a raw image without --raw" said 1 "" "abootimg: 10 Truncated at 10"
+run verify x.simg /dev/null
+try "verify x.simg /dev/null" said 1 "" "abootimg: cannot open /dev/null"
+run verify x.simg none.img
+try "verify x.simg none.img makes no partition" test ! -e none.img
+chmod a-w part
+run verify x.simg part
+try "verify of a partition that can't be written" said 0 "blocks 2" ""
+chmod u+w part
+run verify x.simg x.simg
+try "verify x.simg x.simg" said 1 "" "abootimg: 35 Differs at 0"
 
 echo "$passed passed, $failed failed"
 [ $failed = 0 ]
