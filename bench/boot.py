@@ -1,42 +1,30 @@
 #!/usr/bin/env python3
 """Times `abootimg pack`, `unpack` and `info` against AOSP's mkbootimg and unpack_bootimg, in one run and in turn.
 
-  bench/boot.py [--program build/abootimg] [--folder FOLDER] [--mib 64] [--rounds 7]
+  bench/boot.py [--program crates/abootimg/out/abootimg] [--folder FOLDER] [--mib 64] [--rounds 7]
 
-The kernel and the ramdisk have --mib MiB each. Boot version 0 has an id, the SHA-1 of all parts, so packing reads them twice,
-and `info` computes the id again; version 3 has none. Each round runs each program once, and what a program writes is
-removed before, so that all of them pay for new pages. Printed are the median of each program, the ratios of the medians, and
-each program's peak memory (where GNU time is there). Figures of two runs, or of two machines, are not to be compared:
-ratios of one run are. FOLDER needs fifteen times --mib; on /dev/shm no disk is measured.
+The kernel and the ramdisk have --mib MiB each. Boot version 0 has an id, the SHA-1 of all parts, which packing hashes as it
+writes them, and `info` computes the id again; version 3 has none. Each round runs each program once, and what a program writes
+is removed before, so that all of them pay for new pages. timing.py says what is printed. FOLDER needs fifteen times --mib; on
+/dev/shm no disk is measured.
 """
-import argparse
 import os
 import shutil
-import statistics
 import struct
 import subprocess
 import sys
-import tempfile
 
 sys.dont_write_bytecode = True
-from expand import HERE, peak, same, timed
+from timing import in_turn, parser, peak, print_medians, print_ratio, require, same, work_folder
+
+VERSIONS = ("0", "3")
 
 
 def main():
-    parser = argparse.ArgumentParser(description=__doc__, formatter_class=argparse.RawDescriptionHelpFormatter)
-    parser.add_argument("--program", default=os.path.join(HERE, "build/abootimg"))
-    parser.add_argument("--folder")
-    parser.add_argument("--mib", type=int, default=64)
-    parser.add_argument("--rounds", type=int, default=7)
-    words = parser.parse_args()
-    for tool in ("mkbootimg", "unpack_bootimg"):
-        if not shutil.which(tool):
-            sys.exit(f"{tool} is not there (Debian: apt-get install mkbootimg)")
-    work = tempfile.mkdtemp(dir=words.folder)
-    try:
-        compare(words, work)
-    finally:
-        shutil.rmtree(work)
+    words = parser(__doc__, mib=64, rounds=7).parse_args()
+    require("mkbootimg", "mkbootimg", "unpack_bootimg")
+    with work_folder(words.folder) as at:
+        compare(words, at)
 
 
 def write_part(path, mib, seed):
@@ -47,84 +35,59 @@ def write_part(path, mib, seed):
             part.write(struct.pack("<I", index) + block[4:])
 
 
-def remove(path):
-    if os.path.isdir(path):
-        shutil.rmtree(path)
-    elif os.path.exists(path):
-        os.remove(path)
+def prepared(out):
+    """Removes what a program writes; a folder of parts is made anew."""
+    if out and os.path.isdir(out):
+        shutil.rmtree(out)
+    elif out and os.path.exists(out):
+        os.remove(out)
+    if out and out.endswith("_parts"):
+        os.mkdir(out)
 
 
-def pairs(program, at):
-    """For each job what it is run with, what it writes, and whether that is made before it as an empty folder."""
+def jobs_of(program, at):
+    """For each job of ours and of theirs: its words, and what it writes."""
     mkbootimg, unpack_bootimg = shutil.which("mkbootimg"), shutil.which("unpack_bootimg")
     parts = ["--kernel", at("kernel"), "--ramdisk", at("ramdisk")]
+    no_base = ["--base", "0", "--kernel_offset", "0", "--ramdisk_offset", "0", "--tags_offset", "0"]
     jobs = {}
-    for version in ("0", "3"):
+    for version in VERSIONS:
         jobs[f"pack boot {version}"] = (
-            ([program, "pack", "--version", version, "--page", "2048", *parts, at("ours" + version)], at("ours" + version)),
-            ([mkbootimg, "--header_version", version, "--pagesize", "2048", "--base", "0", "--kernel_offset", "0",
-              "--ramdisk_offset", "0", "--tags_offset", "0", *parts, "--output", at("theirs" + version)],
-             at("theirs" + version)))
-    for version in ("0", "3"):
-        jobs[f"unpack boot {version}"] = (
-            ([program, "unpack", at("image" + version), at("our_parts")], at("our_parts")),
-            ([unpack_bootimg, "--boot_img", at("image" + version), "--out", at("their_parts")], at("their_parts")))
-    for version in ("0", "3"):
-        jobs[f"info boot {version}"] = (
-            ([program, "info", at("image" + version)], None),
-            ([unpack_bootimg, "--boot_img", at("image" + version), "--out", at("their_parts")], at("their_parts")))
+            [program, "pack", "--version", version, "--page", "2048", *parts, at("ours" + version)], at("ours" + version))
+        jobs[f"mkbootimg {version}"] = (
+            [mkbootimg, "--header_version", version, "--pagesize", "2048", *no_base, *parts, "--output", at("theirs" + version)],
+            at("theirs" + version))
+    for version in VERSIONS:
+        image = at("image" + version)
+        jobs[f"unpack boot {version}"] = ([program, "unpack", image, at("our_parts")], at("our_parts"))
+        jobs[f"info boot {version}"] = ([program, "info", image], None)
+        jobs[f"unpack_bootimg {version}"] = ([unpack_bootimg, "--boot_img", image, "--out", at("their_parts")], at("their_parts"))
     return jobs
 
 
-def compare(words, work):
-    def at(name):
-        return os.path.join(work, name)
-
-    def prepared(out):
-        if out:
-            remove(out)
-        if out and out.endswith("_parts"):
-            os.mkdir(out)
-
+def compare(words, at):
     write_part(at("kernel"), words.mib, 7)
     write_part(at("ramdisk"), words.mib, 11)
-    jobs = pairs(words.program, at)
-    for version in ("0", "3"):
-        subprocess.run(jobs[f"pack boot {version}"][1][0], check=True, stdout=subprocess.DEVNULL)
+    jobs = jobs_of(words.program, at)
+    for version in VERSIONS:
+        subprocess.run(jobs[f"mkbootimg {version}"][0], check=True, stdout=subprocess.DEVNULL)
         os.rename(at("theirs" + version), at("image" + version))
-    seconds = {}
     memory = {}
-    # One run of each that isn't counted, and one for its memory.
-    for name, both in jobs.items():
-        for who, (line, out) in zip(("ours", "theirs"), both):
-            prepared(out)
-            subprocess.run(line, check=True, stdout=subprocess.DEVNULL)
-            seconds[name, who] = []
-        if name == "pack boot 0":
-            print("the same boot 0 image as mkbootimg:", "yes" if same(at("ours0"), at("theirs0")) else "NO")
-        if name.startswith("unpack"):
+    # One run of each that isn't counted: for its memory, and for what it writes.
+    for name, (line, out) in jobs.items():
+        prepared(out)
+        memory[name] = peak(line, at("peak"))
+        if name.startswith("unpack boot"):
             whole = all(same(at("our_parts/" + part), at(part)) for part in ("kernel", "ramdisk"))
             print(f"{name} gives the parts:", "yes" if whole else "NO")
-        for who, (line, out) in zip(("ours", "theirs"), both):
-            prepared(out)
-            memory[name, who] = peak(line, work)
-    for _ in range(words.rounds):
-        for name, both in jobs.items():
-            for who, (line, out) in zip(("ours", "theirs"), both):
-                prepared(out)
-                seconds[name, who].append(timed(line))
-    print(f"kernel and ramdisk of {words.mib} MiB each, {words.rounds} rounds, in {work}")
-    for name in jobs:
-        medians = {}
-        for who in ("ours", "theirs"):
-            took = seconds[name, who]
-            wall, processor = (statistics.median(run[part] for run in took) for part in (0, 1))
-            medians[who] = wall, processor
-            least = min(run[0] for run in took)
-            print(f"  {name:14} {who:6} median {wall:7.3f} s, least {least:7.3f} s, processor {processor:7.3f} s,"
-                  f" peak memory {memory[name, who]} KiB")
-        print(f"  {name:14} ours / theirs {medians['ours'][0] / medians['theirs'][0]:.2f},"
-              f" of processor time {medians['ours'][1] / max(medians['theirs'][1], 0.001):.2f}")
+    print("the same boot 0 image as mkbootimg:", "yes" if same(at("ours0"), at("theirs0")) else "NO")
+    took = in_turn({name: line for name, (line, _) in jobs.items()}, words.rounds, lambda name: prepared(jobs[name][1]))
+    print(f"kernel and ramdisk of {words.mib} MiB each, {words.rounds} rounds, in {at('')}")
+    median = print_medians(took, memory)
+    for version in VERSIONS:
+        print_ratio(median, f"pack boot {version}", f"mkbootimg {version}")
+        for name in ("unpack", "info"):
+            print_ratio(median, f"{name} boot {version}", f"unpack_bootimg {version}")
 
 
 if __name__ == "__main__":

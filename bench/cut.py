@@ -11,27 +11,21 @@ The images, each of so many MiB in blocks of 4 KiB:
   turns    a block of data and a block of zeros in turn: chunks of one block
 
 `sparse` is compared with img2simg, which reads the same raw file, and `cut` with simg2simg, which reads the same sparse image.
-Both make pieces of at most 64 MiB. `cut --raw` cuts the raw file, which simg2simg can't: it is compared with simg2simg too.
+Both make pieces of at most 64 MiB. `cut --raw` cuts the raw file, which takes img2simg and then simg2simg.
 
-Each round runs each program once, each into files that are removed first, so that all of them pay for new pages. Printed are
-the median of each program, the ratios of the medians, and each program's peak memory (where GNU time is there). Figures of
-two runs, or of two machines, are not to be compared: ratios of one run are. FOLDER needs six times the image's raw size; on
-/dev/shm no disk is measured.
+Each round runs each program once, each into files that are removed first, so that all of them pay for new pages. timing.py
+says what is printed. FOLDER needs eight times the image's raw size; on /dev/shm no disk is measured.
 """
-import argparse
 import glob
 import os
 import shutil
-import statistics
 import subprocess
 import sys
-import tempfile
 
 sys.dont_write_bytecode = True
-from expand import HERE, peak, same, timed
+from timing import BLOCK, MAKE, in_turn, parser, peak, print_medians, print_ratio, require, same, work_folder
 
-LIMIT = 64 << 20
-BLOCK = 4096
+LIMIT = str(64 << 20)
 
 
 def random_image(path, size):
@@ -57,23 +51,14 @@ MAKERS = {"mix": None, "random": random_image, "zeros": zeros_image, "turns": tu
 
 
 def main():
-    parser = argparse.ArgumentParser(description=__doc__, formatter_class=argparse.RawDescriptionHelpFormatter)
-    parser.add_argument("--program", default=os.path.join(HERE, "crates/abootimg/out/abootimg"))
-    parser.add_argument("--folder")
-    parser.add_argument("--mib", type=int, default=1024)
-    parser.add_argument("--rounds", type=int, default=5)
-    parser.add_argument("--only", choices=MAKERS)
-    words = parser.parse_args()
-    for tool in ("img2simg", "simg2img", "simg2simg"):
-        if not shutil.which(tool):
-            sys.exit(f"{tool} is not there (Debian: android-sdk-libsparse-utils)")
+    how = parser(__doc__)
+    how.add_argument("--only", choices=MAKERS)
+    words = how.parse_args()
+    require("android-sdk-libsparse-utils", "img2simg", "simg2img", "simg2simg")
     for name, make in MAKERS.items():
         if words.only in (None, name):
-            work = tempfile.mkdtemp(dir=words.folder)
-            try:
-                compare(words, name, make, work)
-            finally:
-                shutil.rmtree(work)
+            with work_folder(words.folder) as at:
+                compare(words, name, make, at)
 
 
 def make_images(words, make, raw, image):
@@ -82,8 +67,12 @@ def make_images(words, make, raw, image):
         make(raw, words.mib << 20)
         subprocess.run(["img2simg", raw, image, str(BLOCK)], check=True)
     else:
-        subprocess.run([os.path.join(HERE, "tools/make_sparse.py"), image, "--mib", str(words.mib)], check=True)
+        subprocess.run([MAKE, image, "--mib", str(words.mib)], check=True)
         subprocess.run(["simg2img", image, raw], check=True)
+
+
+def pieces_of(prefix):
+    return sorted(glob.glob(glob.escape(prefix) + "*"), key=lambda path: int(path.rsplit(".", 1)[1]))
 
 
 def remove(pattern):
@@ -91,50 +80,40 @@ def remove(pattern):
         os.remove(path)
 
 
-def check(words, raw, at):
+def check(raw, at):
     """What was written by one run of each: does it stand for the raw image?"""
-    pieces = sorted(glob.glob(glob.escape(at("piece.")) + "*"), key=lambda path: int(path.rsplit(".", 1)[1]))
-    for name, files in (("sparse", [at("ours")]), ("cut", pieces)):
+    for name, files in (("sparse", [at("ours")]), ("cut", pieces_of(at("piece."))), ("cut --raw", pieces_of(at("other.")))):
         remove(at("back"))
         subprocess.run(["simg2img"] + files + [at("back")], check=True)
         print(f"  {name} joined by simg2img is the raw image:", "yes" if same(at("back"), raw) else "NO")
     remove(at("back"))
 
 
-def compare(words, name, make, work):
-    def at(file):
-        return os.path.join(work, file)
-
+def compare(words, name, make, at):
     raw, image = at("raw"), at("image")
     make_images(words, make, raw, image)
     img2simg, simg2simg = shutil.which("img2simg"), shutil.which("simg2simg")
+    both = f"{img2simg} {raw} {at('both')} {BLOCK} && {simg2simg} {at('both')} {at('both_piece')} {LIMIT}"
     # For each program: its words, what it writes, and what it is compared with.
     runs = {
         "sparse": ([words.program, "sparse", raw, at("ours")], at("ours"), "img2simg"),
         "img2simg": ([img2simg, raw, at("theirs"), str(BLOCK)], at("theirs"), None),
-        "cut": ([words.program, "cut", image, str(LIMIT), at("piece")], at("piece."), "simg2simg"),
-        "cut --raw": ([words.program, "cut", raw, str(LIMIT), at("other"), "--raw", str(BLOCK)], at("other."), "simg2simg"),
-        "simg2simg": ([simg2simg, image, at("their_piece"), str(LIMIT)], at("their_piece."), None),
+        "cut": ([words.program, "cut", image, LIMIT, at("piece")], at("piece."), "simg2simg"),
+        "simg2simg": ([simg2simg, image, at("their_piece"), LIMIT], at("their_piece."), None),
+        "cut --raw": (
+            [words.program, "cut", raw, LIMIT, at("other"), "--raw", str(BLOCK)], at("other."), "img2simg, simg2simg"),
+        "img2simg, simg2simg": ([shutil.which("sh"), "-c", both], at("both"), None),
     }
-    memory = {program: peak(line, work) for program, (line, _, _) in runs.items()}
-    print(f"{name}: {words.mib} MiB, {words.rounds} rounds, in {work}")
-    check(words, raw, at)
+    lines = {program: line for program, (line, _, _) in runs.items()}
+    memory = {program: peak(line, at("peak")) for program, line in lines.items()}
+    print(f"{name}: {words.mib} MiB, {words.rounds} rounds, in {at('')}")
+    check(raw, at)
     print(f"  lengths: sparse {os.path.getsize(at('ours'))}, img2simg {os.path.getsize(at('theirs'))}")
-    took = {program: [] for program in runs}
-    for _ in range(words.rounds):
-        for program, (line, out, _) in runs.items():
-            remove(out)
-            took[program].append(timed(line))
-    median = {}
-    for program, rounds in took.items():
-        median[program] = [statistics.median(run[part] for run in rounds) for part in (0, 1)]
-        least = min(run[0] for run in rounds)
-        print(f"  {program:10} median {median[program][0]:7.3f} s, least {least:7.3f} s, processor"
-              f" {median[program][1]:7.3f} s, peak memory {memory[program]} KiB")
+    took = in_turn(lines, words.rounds, lambda program: remove(runs[program][1]))
+    median = print_medians(took, memory)
     for program, (_, _, other) in runs.items():
         if other:
-            print(f"  {program} / {other}: {median[program][0] / median[other][0]:.2f},"
-                  f" of processor time {median[program][1] / max(median[other][1], 0.001):.2f}")
+            print_ratio(median, program, other)
 
 
 if __name__ == "__main__":

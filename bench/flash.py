@@ -12,24 +12,17 @@ partition is a file of as many bytes, full of ones, whose pages are all there. B
   dd              `dd bs=1M conv=fsync,notrunc` of the expanded image to the partition: what writing alone costs
   simg2img, dd    expanding to a file first, and then the dd, which is what these replace
 
-Each round runs each once. Printed are the median of each, the ratios of the medians, and each program's peak memory (where
-GNU time is there). What stands on the partition after each is compared with the image over what was there: `dd` and raw
-flashing write zeros for don't care, the others keep what was there. Figures of two runs, or of two machines, are not to be
-compared: ratios of one run are. FOLDER needs five times the image's raw size; on /dev/shm no disk is measured, and a sync
-costs nothing.
+timing.py says what is printed. What stands on the partition after each is compared with the image over what was there: `dd`
+and raw flashing write zeros for don't care, the others keep what was there. FOLDER needs five times the image's raw size; on
+/dev/shm no disk is measured, and a sync costs nothing.
 """
-import argparse
 import os
 import shutil
-import statistics
 import subprocess
 import sys
-import tempfile
 
 sys.dont_write_bytecode = True
-from expand import HERE, peak, same, timed
-
-BLOCK = 4096
+from timing import BLOCK, LAY, MAKE, in_turn, parser, peak, print_medians, print_ratio, same, timed, work_folder
 
 
 def ones(path, mib):
@@ -41,38 +34,28 @@ def ones(path, mib):
 
 
 def main():
-    parser = argparse.ArgumentParser(description=__doc__, formatter_class=argparse.RawDescriptionHelpFormatter)
-    parser.add_argument("--program", default=os.path.join(HERE, "crates/abootimg/out/abootimg"))
-    parser.add_argument("--folder")
-    parser.add_argument("--mib", type=int, default=1024)
-    parser.add_argument("--rounds", type=int, default=5)
-    parser.add_argument("--limit", type=int, default=128)
-    words = parser.parse_args()
-    work = tempfile.mkdtemp(dir=words.folder)
-    try:
-        compare(words, work)
-    finally:
-        shutil.rmtree(work)
+    how = parser(__doc__)
+    how.add_argument("--limit", type=int, default=128)
+    words = how.parse_args()
+    with work_folder(words.folder) as at:
+        compare(words, at)
 
 
 def expected(words, at):
     """What the partition must hold: the image over ones, and over zeros."""
-    lay = os.path.join(HERE, "tools/lay_sparse.py")
     ones(at("over"), words.mib)
-    subprocess.run([lay, at("image"), at("over")], check=True)
+    subprocess.run([LAY, at("image"), at("over")], check=True)
     with open(at("zeros"), "wb") as out:
         out.truncate(words.mib << 20)
-    subprocess.run([lay, at("image"), at("zeros")], check=True)
+    subprocess.run([LAY, at("image"), at("zeros")], check=True)
 
 
-def compare(words, work):
-    def at(name):
-        return os.path.join(work, name)
-
-    subprocess.run([os.path.join(HERE, "tools/make_sparse.py"), at("image"), "--mib", str(words.mib)], check=True)
+def compare(words, at):
+    subprocess.run([MAKE, at("image"), "--mib", str(words.mib)], check=True)
     expected(words, at)
     limit, program = str(words.limit << 20), words.program
     dd = [shutil.which("dd"), "if=" + at("zeros"), "of=" + at("partition"), "bs=1M", "conv=fsync,notrunc", "status=none"]
+    # For each program: its words, and what the partition holds then.
     runs = {
         "flash": ([program, "flash", at("image"), at("partition")], at("over")),
         "flash in pieces": ([program, "flash", at("image"), at("partition"), limit, at("spool")], at("over")),
@@ -83,32 +66,22 @@ def compare(words, work):
     if shutil.which("simg2img"):
         both = f"rm -f {at('raw')} && simg2img {at('image')} {at('raw')} && {' '.join(dd).replace(at('zeros'), at('raw'))}"
         runs["simg2img, dd"] = ([shutil.which("sh"), "-c", both], at("zeros"))
-    seconds = {name: [] for name in runs}
     memory = {}
     for name, (line, wanted) in runs.items():
         ones(at("partition"), words.mib)
-        memory[name] = peak(line, work)
+        memory[name] = peak(line, at("peak"))
         ones(at("partition"), words.mib)
         timed(line)
         if not same(at("partition"), wanted):
             print(f"  {name}: the partition does NOT hold what it should")
     # No round pays for what another one left to be written.
-    for _ in range(words.rounds):
-        for name, (line, _) in runs.items():
-            os.sync()
-            seconds[name].append(timed(line))
-    print(f"{words.mib} MiB, pieces of {words.limit} MiB, {words.rounds} rounds, in {work}")
-    median = {}
-    for name, took in seconds.items():
-        median[name] = [statistics.median(run[part] for run in took) for part in (0, 1)]
-        least = min(run[0] for run in took)
-        print(f"  {name:15} median {median[name][0]:7.3f} s, least {least:7.3f} s, processor {median[name][1]:7.3f} s,"
-              f" peak memory {memory[name]} KiB")
+    took = in_turn({name: line for name, (line, _) in runs.items()}, words.rounds, lambda name: os.sync())
+    print(f"{words.mib} MiB, pieces of {words.limit} MiB, {words.rounds} rounds, in {at('')}")
+    median = print_medians(took, memory)
     for name in ("flash", "flash in pieces", "flash raw"):
         for other in median:
             if not other.startswith("flash"):
-                print(f"  {name} / {other}: {median[name][0] / median[other][0]:.2f},"
-                      f" of processor time {median[name][1] / max(median[other][1], 0.001):.2f}")
+                print_ratio(median, name, other)
 
 
 if __name__ == "__main__":

@@ -10,65 +10,39 @@ partition holds it over zeros, which is what `cmp` needs. Beside each other stan
   verify raw      `verify RAW PARTITION --raw 4096`, of the expanded image
   cmp             `cmp RAW PARTITION`
 
-Each round runs each once, over files that the system holds in memory. Printed are the median of each, the ratios of the
-medians, and each program's peak memory (where GNU time is there). Figures of two runs, or of two machines, are not to be
-compared: ratios of one run are.
+Each round runs each once, over files that the system holds in memory. timing.py says what is printed.
 """
-import argparse
-import os
 import shutil
-import statistics
 import subprocess
 import sys
-import tempfile
 
 sys.dont_write_bytecode = True
-from expand import HERE, peak, timed
-
-BLOCK = 4096
+from timing import BLOCK, LAY, MAKE, in_turn, parser, peak, print_medians, print_ratio, work_folder
 
 
 def main():
-    parser = argparse.ArgumentParser(description=__doc__, formatter_class=argparse.RawDescriptionHelpFormatter)
-    parser.add_argument("--program", default=os.path.join(HERE, "crates/abootimg/out/abootimg"))
-    parser.add_argument("--folder")
-    parser.add_argument("--mib", type=int, default=1024)
-    parser.add_argument("--rounds", type=int, default=7)
-    words = parser.parse_args()
-    work = tempfile.mkdtemp(dir=words.folder)
-    try:
-        compare(words, work)
-    finally:
-        shutil.rmtree(work)
+    words = parser(__doc__, rounds=7).parse_args()
+    with work_folder(words.folder) as at:
+        compare(words, at)
 
 
-def compare(words, work):
-    def at(name):
-        return os.path.join(work, name)
-
-    subprocess.run([os.path.join(HERE, "tools/make_sparse.py"), at("image"), "--mib", str(words.mib)], check=True)
+def compare(words, at):
+    subprocess.run([MAKE, at("image"), "--mib", str(words.mib)], check=True)
     for name in ("raw", "partition"):
         with open(at(name), "wb") as out:
             out.truncate(words.mib << 20)
-        subprocess.run([os.path.join(HERE, "tools/lay_sparse.py"), at("image"), at(name)], check=True)
-    runs = {
+        subprocess.run([LAY, at("image"), at(name)], check=True)
+    lines = {
         "verify": [words.program, "verify", at("image"), at("partition")],
         "verify raw": [words.program, "verify", at("raw"), at("partition"), "--raw", str(BLOCK)],
         "cmp": [shutil.which("cmp"), at("raw"), at("partition")],
     }
-    memory = {name: peak(line, work) for name, line in runs.items()}
-    seconds = {name: [] for name in runs}
-    for _ in range(words.rounds):
-        for name, line in runs.items():
-            seconds[name].append(timed(line))
-    print(f"{words.mib} MiB, {words.rounds} rounds, in {work}")
-    median = {}
-    for name, took in seconds.items():
-        median[name] = statistics.median(run[0] for run in took)
-        least = min(run[0] for run in took)
-        print(f"  {name:10} median {median[name]:7.3f} s, least {least:7.3f} s, peak memory {memory[name]} KiB")
+    memory = {name: peak(line, at("peak")) for name, line in lines.items()}
+    took = in_turn(lines, words.rounds)
+    print(f"{words.mib} MiB, {words.rounds} rounds, in {at('')}")
+    median = print_medians(took, memory)
     for name in ("verify", "verify raw"):
-        print(f"  {name} / cmp: {median[name] / median['cmp']:.2f}")
+        print_ratio(median, name, "cmp")
 
 
 if __name__ == "__main__":

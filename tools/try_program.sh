@@ -5,41 +5,7 @@
 #   tools/try_program.sh            the program is $ABOOTIMG, or build/abootimg
 #
 # What a terminal shows is tried where there is Python 3, and completions where the shells are there.
-set -u
-here=$(cd "$(dirname "$0")/.." && pwd)
-program=$(realpath "${ABOOTIMG:-$here/build/abootimg}")
-room=$(mktemp -d)
-full=
-trap '[ -z "$full" ] || umount "$full"; rm -rf "$room"' EXIT
-cd "$room"
-passed=0
-failed=0
-
-# try NAME CONDITION..: counts one thing that was tried.
-try() {
-    local name=$1
-    shift
-    if "$@"; then
-        passed=$((passed + 1))
-        echo "ok      $name"
-    else
-        failed=$((failed + 1))
-        echo "FAILED  $name"
-        echo "        out: $(head -c 300 out 2>/dev/null | tr '\0' '.')"
-        echo "        err: $(head -c 300 err 2>/dev/null)"
-    fi
-}
-
-# run WORDS..: runs the program; its streams are in out and err, its status in $status.
-run() {
-    "$program" "$@" >out 2>err </dev/null
-    status=$?
-}
-
-# said STATUS OUT ERR: the last run ended so.
-said() {
-    [ "$status" = "$1" ] && [ "$(cat out)" = "$2" ] && [ "$(cat err)" = "$3" ]
-}
+. "$(dirname "$0")/trying.sh" || exit 1
 
 # holds FILE BYTES: the file holds these bytes, written as printf writes them.
 holds() {
@@ -186,7 +152,7 @@ try "flash -v to a small partition" said 1 "" "abootimg: 17 PartitionTooSmall ne
 try "expand -v to a closed pipe says why" grep -q "Broken pipe\|^$report" err
 mkdir tight
 if mount -t tmpfs -o size=64k tmpfs tight 2>/dev/null; then
-    full=$room/tight
+    mounted=$room/tight
     head -c 200000 /dev/urandom >noise
     truncate -s 200704 noise
     "$program" sparse noise noise.simg >/dev/null
@@ -481,5 +447,4 @@ chmod u+w part
 run verify x.simg x.simg
 try "verify x.simg x.simg" said 1 "" "abootimg: 35 Differs at 0"
 
-echo "$passed passed, $failed failed"
-[ $failed = 0 ]
+tried

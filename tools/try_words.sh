@@ -4,45 +4,7 @@
 # bash, coreutils and Python 3. With AOSP's mkbootimg (Debian: apt-get install mkbootimg) its images are tried too.
 #
 #   tools/try_words.sh            the program is $ABOOTIMG, or build/abootimg
-set -u
-here=$(cd "$(dirname "$0")/.." && pwd)
-program=$(realpath "${ABOOTIMG:-$here/build/abootimg}")
-room=$(mktemp -d)
-trap 'rm -rf "$room"' EXIT
-cd "$room"
-passed=0
-failed=0
-
-# try NAME CONDITION..: counts one thing that was tried.
-try() {
-    local name=$1
-    shift
-    if "$@"; then
-        passed=$((passed + 1))
-        echo "ok      $name"
-    else
-        failed=$((failed + 1))
-        echo "FAILED  $name"
-        echo "        out: $(head -c 300 out 2>/dev/null | tr '\0' '.')"
-        echo "        err: $(head -c 300 err 2>/dev/null)"
-    fi
-}
-
-# run WORDS..: runs the program; its streams are in out and err, its status in $status.
-run() {
-    "$program" "$@" >out 2>err </dev/null
-    status=$?
-}
-
-# said STATUS OUT ERR: the last run ended so.
-said() {
-    [ "$status" = "$1" ] && [ "$(cat out)" = "$2" ] && [ "$(cat err)" = "$3" ]
-}
-
-# wrong ERR: the last run was wrong use, and its first line is this.
-wrong() {
-    [ "$status" = 2 ] && [ ! -s out ] && [ "$(head -n 1 err)" = "$1" ]
-}
+. "$(dirname "$0")/trying.sh" || exit 1
 
 # made FILE OTHER: the last run succeeded, and made the same bytes as these.
 made() {
@@ -386,5 +348,4 @@ try "one image may be a pipe" cmp -s again raw
 run expand whole
 try "expand IN alone" test "$status" = 2
 
-echo "$passed passed, $failed failed"
-[ "$failed" = 0 ]
+tried

@@ -22,10 +22,13 @@ import statistics
 import subprocess
 import sys
 import tempfile
-import time
 
 HERE = os.path.dirname(os.path.abspath(__file__))
 ROOT = os.path.dirname(os.path.dirname(HERE))
+sys.dont_write_bytecode = True
+sys.path.insert(0, os.path.dirname(HERE))
+from timing import in_turn, timed
+
 CRATES = ("abt_io", "abt_sparse", "abt_runs")
 BLOCK = 4096
 MIB = 1 << 20
@@ -84,20 +87,6 @@ def make(path, parts, mib):
             image.write(parts[i % len(parts)](source))
 
 
-def timed(words):
-    """Seconds of one run."""
-    begin = time.perf_counter()
-    child = os.posix_spawn(
-        words[0], words, os.environ,
-        file_actions=[(os.POSIX_SPAWN_OPEN, 1, os.devnull, os.O_WRONLY, 0),
-                      (os.POSIX_SPAWN_OPEN, 2, os.devnull, os.O_WRONLY, 0)])
-    _, status = os.waitpid(child, 0)
-    seconds = time.perf_counter() - begin
-    if status != 0:
-        sys.exit(f"{words} ended with status {status}")
-    return seconds
-
-
 def blocks_of(line):
     """The counts of raw and fill blocks, as a program has printed them."""
     fields = line.split()
@@ -115,11 +104,8 @@ def compare(name, image, ours, in_c, rounds):
     timed(runs["dd"])
     if blocks_of(told["next_part"]) != blocks_of(told["C"]):
         sys.exit(f"{name}: {told['next_part'].strip()}, but in C {told['C'].strip()}")
-    seconds = {key: [] for key in runs}
-    for _ in range(rounds):
-        for key, line in runs.items():
-            seconds[key].append(timed(line))
-    median = {key: statistics.median(took) for key, took in seconds.items()}
+    seconds = in_turn(runs, rounds)
+    median = {key: statistics.median(run[0] for run in took) for key, took in seconds.items()}
     print(f"{name:14} {told['next_part'].strip():38} {median['next_part']:9.3f} s {median['C']:7.3f} s {median['dd']:7.3f} s"
           f" {median['next_part'] / median['C']:7.2f} {median['next_part'] / median['dd']:7.2f}", flush=True)
 
