@@ -55,21 +55,21 @@ fn packing_fails<R: Abort>(
 #[test]
 fn each_read_of_each_part_fails_and_a_beginning_of_the_image_stands(rt: HostRuntime) {
     let mut whole = [1u8; 14336];
-    assert_eq!(rt; pack_five(&mut whole), Ok(Packed { bytes: 14336 }));
+    assert!(rt; pack_five(&mut whole) == Ok(Packed { bytes: 14336 }));
     // Asks of 1,000 bytes, for the id and for the bytes.
     for (failing, asks) in [(0, 3u64), (1, 1), (2, 0), (3, 1), (4, 3)] {
         for (is_id, times) in [(true, 1u64), (false, 2)] {
             let (fault, calls) = packing_fails(&rt, is_id, failing, 0, &whole);
             assert!(rt; fault.is_none());
-            assert_eq!(rt; calls, asks.saturating_mul(times));
+            assert!(rt; calls == asks.saturating_mul(times));
             for n in 1..calls.saturating_add(1) {
                 let (fault, had) = packing_fails(&rt, is_id, failing, n, &whole);
                 assert!(rt; fault == Some(SectionFault::Read(DeviceFault::Failed)));
-                assert_eq!(rt; had, n);
+                assert!(rt; had == n);
             }
             let (fault, had) = packing_fails(&rt, is_id, failing, calls.saturating_add(1), &whole);
             assert!(rt; fault.is_none());
-            assert_eq!(rt; had, calls);
+            assert!(rt; had == calls);
         }
     }
 }
@@ -98,19 +98,19 @@ fn output_fails<R: Abort>(rt: &R, n: u64, whole: &[u8; 14336]) -> (Option<Sectio
 #[test]
 fn each_write_of_an_image_fails_and_a_beginning_stands(rt: HostRuntime) {
     let mut whole = [1u8; 14336];
-    assert_eq!(rt; pack_five(&mut whole), Ok(Packed { bytes: 14336 }));
+    assert!(rt; pack_five(&mut whole) == Ok(Packed { bytes: 14336 }));
     let (fault, calls) = output_fails(&rt, 0, &whole);
     assert!(rt; fault.is_none());
     // The record, four parts, and the padding of each.
-    assert_eq!(rt; calls, 10);
+    assert!(rt; calls == 10);
     for n in 1..calls.saturating_add(1) {
         let (fault, had) = output_fails(&rt, n, &whole);
         assert!(rt; fault == Some(SectionFault::Write(DeviceFault::Failed)));
-        assert_eq!(rt; had, n);
+        assert!(rt; had == n);
     }
     let (fault, had) = output_fails(&rt, calls.saturating_add(1), &whole);
     assert!(rt; fault.is_none());
-    assert_eq!(rt; had, calls);
+    assert!(rt; had == calls);
 }
 
 /// Packs the vendor image of version 4 with two fragments where call `n` of part `failing` fails, or at 4 of the
@@ -173,11 +173,11 @@ fn each_call_of_packing_a_vendor_image_fails_and_a_beginning_stands(rt: HostRunt
                 SectionFault::Read(DeviceFault::Failed)
             };
             assert!(rt; fault == Some(want));
-            assert_eq!(rt; had, n);
+            assert!(rt; had == n);
         }
         let (fault, had) = vendor_fails(&rt, failing, calls.saturating_add(1), &whole);
         assert!(rt; fault.is_none());
-        assert_eq!(rt; had, calls);
+        assert!(rt; had == calls);
     }
 }
 
@@ -211,24 +211,24 @@ fn unpacking_fails<R: Abort>(
 #[test]
 fn each_call_of_unpacking_each_section_fails_and_a_beginning_of_it_stands(rt: HostRuntime) {
     let mut bytes = [1u8; 14336];
-    assert_eq!(rt; pack_five(&mut bytes), Ok(Packed { bytes: 14336 }));
+    assert!(rt; pack_five(&mut bytes) == Ok(Packed { bytes: 14336 }));
     let image = opened(&rt, &bytes, &mut Window::new(), &mut Meter::new());
-    assert_eq!(rt; sections(&image), 5);
+    assert!(rt; sections(&image) == 5);
     // Reads of 1,000 bytes, each written by 700.
     for (i, reads, writes) in [(0, 3u64, 6u64), (1, 1, 1), (2, 0, 0), (3, 1, 1), (4, 3, 5)] {
         let (fault, had_reads, had_writes) = unpacking_fails(&rt, &image, i, &bytes, 0, 0);
         assert!(rt; fault.is_none());
-        assert_eq!(rt; had_reads, reads, "section {i}");
-        assert_eq!(rt; had_writes, writes, "section {i}");
+        assert!(rt; had_reads == reads, "section {i}");
+        assert!(rt; had_writes == writes, "section {i}");
         for n in 1..reads.saturating_add(1) {
             let (fault, had, _) = unpacking_fails(&rt, &image, i, &bytes, n, 0);
             assert!(rt; fault == Some(SectionFault::Read(DeviceFault::Failed)));
-            assert_eq!(rt; had, n);
+            assert!(rt; had == n);
         }
         for n in 1..writes.saturating_add(1) {
             let (fault, _, had) = unpacking_fails(&rt, &image, i, &bytes, 0, n);
             assert!(rt; fault == Some(SectionFault::Write(DeviceFault::Failed)));
-            assert_eq!(rt; had, n);
+            assert!(rt; had == n);
         }
         let (fault, had_reads, had_writes) = unpacking_fails(
             &rt,
@@ -239,7 +239,7 @@ fn each_call_of_unpacking_each_section_fails_and_a_beginning_of_it_stands(rt: Ho
             writes.saturating_add(1),
         );
         assert!(rt; fault.is_none());
-        assert_eq!(rt; (had_reads, had_writes), (reads, writes));
+        assert!(rt; (had_reads, had_writes) == (reads, writes));
     }
 }
 
@@ -281,7 +281,7 @@ fn each_read_of_opening_checking_and_a_fragment_fails(rt: HostRuntime) {
     let mut bytes = [1u8; 20480];
     assert!(rt; pack_four(4096, &mut bytes, &mut Window::new(), &mut Meter::new()).is_ok());
     let image = opened(&rt, &bytes, &mut Window::new(), &mut Meter::new());
-    assert_eq!(rt; fragments(&image), 2);
+    assert!(rt; fragments(&image) == 2);
     for (reading, few) in [
         (Reading::Open, 3),
         (Reading::Check, 5),
@@ -293,11 +293,11 @@ fn each_read_of_opening_checking_and_a_fragment_fails(rt: HostRuntime) {
         for n in 1..calls.saturating_add(1) {
             let (fault, had) = reading_fails(reading, &image, &bytes, n);
             assert!(rt; fault == Some(SectionFault::Read(DeviceFault::Failed)));
-            assert_eq!(rt; had, n);
+            assert!(rt; had == n);
         }
         let (fault, had) = reading_fails(reading, &image, &bytes, calls.saturating_add(1));
         assert!(rt; fault.is_none());
-        assert_eq!(rt; had, calls);
+        assert!(rt; had == calls);
     }
 }
 
@@ -332,16 +332,16 @@ fn each_call_of_unpacking_a_fragment_fails_and_a_beginning_of_it_stands(rt: Host
     let (fault, reads, writes) = fragment_fails(&rt, &image, &bytes, 0, 0);
     assert!(rt; fault.is_none());
     // Its entry of 108 bytes, and its seven bytes; these are written in threes.
-    assert_eq!(rt; (reads, writes), (22 + 2, 3));
+    assert!(rt; (reads, writes) == (22 + 2, 3));
     for n in 1..reads.saturating_add(1) {
         let (fault, had, _) = fragment_fails(&rt, &image, &bytes, n, 0);
         assert!(rt; fault == Some(SectionFault::Read(DeviceFault::Failed)));
-        assert_eq!(rt; had, n);
+        assert!(rt; had == n);
     }
     for n in 1..writes.saturating_add(1) {
         let (fault, _, had) = fragment_fails(&rt, &image, &bytes, 0, n);
         assert!(rt; fault == Some(SectionFault::Write(DeviceFault::Failed)));
-        assert_eq!(rt; had, n);
+        assert!(rt; had == n);
     }
     let (fault, had_reads, had_writes) = fragment_fails(
         &rt,
@@ -351,5 +351,5 @@ fn each_call_of_unpacking_a_fragment_fails_and_a_beginning_of_it_stands(rt: Host
         writes.saturating_add(1),
     );
     assert!(rt; fault.is_none());
-    assert_eq!(rt; (had_reads, had_writes), (reads, writes));
+    assert!(rt; (had_reads, had_writes) == (reads, writes));
 }

@@ -15,17 +15,14 @@ fn one_kernel_byte_is_packed_and_checked(rt: HostRuntime) {
     let mut w = Window::new();
     let mut m = Meter::new();
     let mut room = [1u8; 4096];
-    assert_eq!(rt;
-        pack_k(&mut room, &mut w, &mut m),
-        Ok(Packed { bytes: 4096 })
-    );
+    assert!(rt; pack_k(&mut room, &mut w, &mut m) == Ok(Packed { bytes: 4096 }));
     assert!(rt; room[2048] == 0x4b);
     // The SHA-1 of 4b 01000000 00000000 00000000, as `sha1sum` prints it, and twelve zeros.
     let id = [
         0x1f, 0x5b, 0xc5, 0xcf, 0x07, 0x1f, 0xa7, 0xfb, 0x8e, 0x44, 0xb3, 0x35, 0x90, 0xae, 0xa1,
         0xa0, 0x64, 0x5f, 0xa5, 0x09, 0, 0, 0, 0, 0, 0, 0, 0, 0, 0, 0, 0,
     ];
-    assert_eq!(rt; &room[576..608], id.as_slice());
+    assert!(rt; &room[576..608] == id.as_slice());
     assert!(rt; checked(&rt, &room, &mut w, &mut m) == verdict(true, true, true, true));
     assert!(rt;
         checked(&rt, front(&room, 2049), &mut w, &mut m) == verdict(false, false, true, true)
@@ -46,17 +43,14 @@ fn the_id_of_parts_is_that_of_their_image(rt: HostRuntime) {
     let mut w = Window::new();
     let mut m = Meter::new();
     let mut room = [1u8; 4096];
-    assert_eq!(rt;
-        pack_k(&mut room, &mut w, &mut m),
-        Ok(Packed { bytes: 4096 })
-    );
+    assert!(rt; pack_k(&mut room, &mut w, &mut m) == Ok(Packed { bytes: 4096 }));
     let mut parts = [
         SliceSource::new(b"K"),
         SliceSource::new(&[]),
         SliceSource::new(&[]),
     ];
     let id = image_id(0, &mut parts, &mut w, &mut m).expect(&rt, "hashes");
-    assert_eq!(rt; &room[576..608], id.as_slice());
+    assert!(rt; &room[576..608] == id.as_slice());
 }
 
 #[test]
@@ -78,7 +72,7 @@ fn five_parts_stand_at_page_boundaries(rt: HostRuntime) {
     let image = opened(&rt, &room, &mut w, &mut m);
     assert!(rt; sections(&image) == 5);
     assert_places(&rt, &image, &[2048, 6144, 8192, 8192, 10240]);
-    assert_eq!(rt; &room[1636..1644], [0, 32, 0, 0, 0, 0, 0, 0].as_slice());
+    assert!(rt; &room[1636..1644] == [0, 32, 0, 0, 0, 0, 0, 0].as_slice());
     assert!(rt; checked(&rt, &room, &mut w, &mut m) == verdict(true, true, true, true));
     set_byte(&mut room, 1637, 0);
     assert!(rt; checked(&rt, &room, &mut w, &mut m) == verdict(false, true, true, false));
@@ -109,9 +103,9 @@ fn a_command_line_is_laid_over_two_fields(rt: HostRuntime) {
     let packed = pack_boot(&full, &mut parts, &mut output, &mut w, &mut m);
     assert!(rt; packed.is_ok());
     let written = output.written();
-    assert_eq!(rt; written.len(), 4096);
-    assert_eq!(rt; &written[64..576], front(&line, 512));
-    assert_eq!(rt; &written[608..1631], front(&line, 1023));
+    assert!(rt; written.len() == 4096);
+    assert!(rt; &written[64..576] == front(&line, 512));
+    assert!(rt; &written[608..1631] == front(&line, 1023));
     assert!(rt; written[1631] == 0);
 }
 
@@ -198,13 +192,10 @@ fn a_vendor_image_of_version_4_is_packed_and_its_fragment_unpacked(rt: HostRunti
     let mut w = Window::new();
     let mut m = Meter::new();
     let mut room = [1u8; 20480];
-    assert_eq!(rt;
-        pack_four(4096, &mut room, &mut w, &mut m),
-        Ok(Packed { bytes: 20480 })
-    );
+    assert!(rt; pack_four(4096, &mut room, &mut w, &mut m) == Ok(Packed { bytes: 20480 }));
     let image = opened(&rt, &room, &mut w, &mut m);
     assert_places(&rt, &image, &[4096, 8192, 12288, 16384]);
-    assert_eq!(rt; &room[2112..2116], [216, 0, 0, 0].as_slice());
+    assert!(rt; &room[2112..2116] == [216, 0, 0, 0].as_slice());
     assert!(rt; checked(&rt, &room, &mut w, &mut m) == verdict(true, true, true, true));
     assert!(rt; fragments(&image) == 2);
     let mut source = SliceSource::new(&room);
@@ -218,12 +209,9 @@ fn a_vendor_image_of_version_4_is_packed_and_its_fragment_unpacked(rt: HostRunti
         let done = unpack_fragment(&image, 1, &mut source, &mut output, &mut w, &mut m);
         assert!(rt; done.is_ok());
     }
-    assert_eq!(rt; output.written(), b"second!".as_slice());
+    assert!(rt; output.written() == b"second!".as_slice());
     let mut half = [1u8; 12288];
-    assert_eq!(rt;
-        pack_four(2048, &mut half, &mut w, &mut m),
-        Ok(Packed { bytes: 12288 })
-    );
+    assert!(rt; pack_four(2048, &mut half, &mut w, &mut m) == Ok(Packed { bytes: 12288 }));
     let small = opened(&rt, &half, &mut w, &mut m);
     assert_places(&rt, &small, &[4096, 6144, 8192, 10240]);
 }
@@ -347,7 +335,7 @@ fn each_fault_has_its_text(rt: HostRuntime) -> Result<(), Fail> {
         ),
     ];
     for (fault, text) in faults {
-        assert_eq!(rt; format!(in rt.alloc(); "{fault}")?.as_str(), text);
+        assert!(rt; format!(in rt.alloc(); "{fault}")?.as_str() == text);
     }
     Ok(())
 }

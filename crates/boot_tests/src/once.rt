@@ -98,7 +98,7 @@ fn packing_fails<R: Abort>(
         parts.get(failing).map_or(0, |part| part.seen)
     };
     if packed.is_ok() {
-        assert_eq!(rt; written, 14336);
+        assert!(rt; written == 14336);
         assert!(rt; room == *whole);
     } else if written > 0 {
         assert_no_image(rt, &room, &mut w, &mut m);
@@ -109,16 +109,16 @@ fn packing_fails<R: Abort>(
 #[test]
 fn each_read_of_each_part_fails_and_no_image_stands(rt: HostRuntime) {
     let mut whole = [1u8; 14336];
-    assert_eq!(rt; pack_five(&mut whole), Ok(Packed { bytes: 14336 }));
+    assert!(rt; pack_five(&mut whole) == Ok(Packed { bytes: 14336 }));
     // Asks of 1,000 bytes, once.
     for (failing, asks) in [(0, 3u64), (1, 1), (2, 0), (3, 1), (4, 3)] {
         let (fault, calls) = packing_fails(&rt, failing, 0, &whole);
         assert!(rt; fault.is_none());
-        assert_eq!(rt; calls, asks);
+        assert!(rt; calls == asks);
         for n in 1..calls.saturating_add(1) {
             let (fault, had) = packing_fails(&rt, failing, n, &whole);
             assert!(rt; fault == Some(SectionFault::Read(DeviceFault::Failed)));
-            assert_eq!(rt; had, n);
+            assert!(rt; had == n);
         }
     }
 }
@@ -126,7 +126,7 @@ fn each_read_of_each_part_fails_and_no_image_stands(rt: HostRuntime) {
 #[test]
 fn each_write_fails_and_no_image_stands(rt: HostRuntime) {
     let mut whole = [1u8; 14336];
-    assert_eq!(rt; pack_five(&mut whole), Ok(Packed { bytes: 14336 }));
+    assert!(rt; pack_five(&mut whole) == Ok(Packed { bytes: 14336 }));
     let (fault, calls) = packing_fails(&rt, 5, 0, &whole);
     assert!(rt; fault.is_none());
     // 14,336 bytes behind the zeros' first 700, and the record in two parts.
@@ -134,11 +134,11 @@ fn each_write_fails_and_no_image_stands(rt: HostRuntime) {
     for n in 1..calls.saturating_add(1) {
         let (fault, had) = packing_fails(&rt, 5, n, &whole);
         assert!(rt; fault == Some(SectionFault::Write(DeviceFault::Failed)));
-        assert_eq!(rt; had, n);
+        assert!(rt; had == n);
     }
     let (fault, had) = packing_fails(&rt, 5, calls.saturating_add(1), &whole);
     assert!(rt; fault.is_none());
-    assert_eq!(rt; had, calls);
+    assert!(rt; had == calls);
 }
 
 /// The magic itself comes byte by byte: before its last byte nothing is opened.
@@ -146,7 +146,7 @@ fn each_write_fails_and_no_image_stands(rt: HostRuntime) {
 fn an_image_opens_from_the_last_byte_of_its_magic_on(rt: HostRuntime) {
     let bytes = numbers();
     let mut whole = [1u8; 14336];
-    assert_eq!(rt; pack_five(&mut whole), Ok(Packed { bytes: 14336 }));
+    assert!(rt; pack_five(&mut whole) == Ok(Packed { bytes: 14336 }));
     let mut w = Window::new();
     let mut m = Meter::new();
     let mut calls = 0u64;
@@ -167,7 +167,7 @@ fn an_image_opens_from_the_last_byte_of_its_magic_on(rt: HostRuntime) {
         let mut output = Faulty::new(Cut::new(SliceOutput::new(&mut room), 1), stop);
         let packed = pack_boot_once(&boot(2, 2048), &mut parts, &mut output, &mut w, &mut m);
         calls = if n == 0 { output.seen } else { calls };
-        assert_eq!(rt; packed.is_ok(), n == 0);
+        assert!(rt; packed.is_ok() == (n == 0));
         if n > 0 {
             assert_no_image(&rt, &room, &mut w, &mut m);
         }
@@ -201,7 +201,7 @@ fn packs_shrinking<R: Abort>(rt: &R, calls: u64, whole: &[u8; 14336]) -> Option<
 #[test]
 fn a_part_that_shrinks_has_changed_and_no_image_stands(rt: HostRuntime) {
     let mut whole = [1u8; 14336];
-    assert_eq!(rt; pack_five(&mut whole), Ok(Packed { bytes: 14336 }));
+    assert!(rt; pack_five(&mut whole) == Ok(Packed { bytes: 14336 }));
     assert!(rt; packs_shrinking(&rt, 1, &whole) == Some(SectionFault::SourceChanged));
     assert!(rt; packs_shrinking(&rt, 2, &whole).is_none());
 }
@@ -209,7 +209,7 @@ fn a_part_that_shrinks_has_changed_and_no_image_stands(rt: HostRuntime) {
 #[test]
 fn a_full_output_leaves_no_image(rt: HostRuntime) {
     let mut whole = [1u8; 14336];
-    assert_eq!(rt; pack_five(&mut whole), Ok(Packed { bytes: 14336 }));
+    assert!(rt; pack_five(&mut whole) == Ok(Packed { bytes: 14336 }));
     let mut parts = [
         SliceSource::new(b"K"),
         SliceSource::new(&[]),

@@ -29,26 +29,26 @@ fn text<const N: usize>(rt: &impl Abort, text: &[u8]) -> [u8; N] {
 
 /// The record decodes to this header, and the header encodes to the record.
 fn decodes_to(rt: &impl Abort, record: &[u8], header: &BootHeader) {
-    assert_eq!(rt; BootHeader::decode(record), Ok(*header));
+    assert!(rt; BootHeader::decode(record) == Ok(*header));
     let mut out = [0xee; 1660];
     let size = header.encode(&mut out);
-    assert_eq!(rt; size, record.len());
-    assert_eq!(rt; size, header.size());
+    assert!(rt; size == record.len());
+    assert!(rt; size == header.size());
     for (i, byte) in out.iter().enumerate() {
         let want = record.get(i).copied().unwrap_or(0xee);
-        assert_eq!(rt; *byte, want, "at {i}");
+        assert!(rt; *byte == want, "at {i}");
     }
 }
 
 fn decodes_to_vendor(rt: &impl Abort, record: &[u8], header: &VendorHeader) {
-    assert_eq!(rt; VendorHeader::decode(record), Ok(*header));
+    assert!(rt; VendorHeader::decode(record) == Ok(*header));
     let mut out = [0xee; 2128];
     let size = header.encode(&mut out);
-    assert_eq!(rt; size, record.len());
-    assert_eq!(rt; size, header.size());
+    assert!(rt; size == record.len());
+    assert!(rt; size == header.size());
     for (i, byte) in out.iter().enumerate() {
         let want = record.get(i).copied().unwrap_or(0xee);
-        assert_eq!(rt; *byte, want, "at {i}");
+        assert!(rt; *byte == want, "at {i}");
     }
 }
 
@@ -71,8 +71,8 @@ fn the_boot_0_record_of_mkbootimg_is_read(rt: HostRuntime) -> Result<(), Fail> {
         extra_cmdline: [0; 1024],
     });
     decodes_to(&rt, &record::<1632>(&rt, &vectors::BOOT_0), &header);
-    assert_eq!(rt; header.version(), 0);
-    assert_eq!(rt; header.page_size(), 2048);
+    assert!(rt; header.version() == 0);
+    assert!(rt; header.page_size() == 2048);
     Ok(())
 }
 
@@ -101,8 +101,8 @@ fn the_boot_1_record_of_mkbootimg_is_read(rt: HostRuntime) -> Result<(), Fail> {
     };
     let header = BootHeader::V1(front, dtbo);
     decodes_to(&rt, &record::<1648>(&rt, &vectors::BOOT_1), &header);
-    assert_eq!(rt; header.version(), 1);
-    assert_eq!(rt; header.page_size(), 4096);
+    assert!(rt; header.version() == 1);
+    assert!(rt; header.page_size() == 4096);
     Ok(())
 }
 
@@ -135,8 +135,8 @@ fn the_boot_2_record_of_mkbootimg_is_read(rt: HostRuntime) -> Result<(), Fail> {
     };
     let header = BootHeader::V2(front, dtbo, dtb);
     decodes_to(&rt, &record::<1660>(&rt, &vectors::BOOT_2), &header);
-    assert_eq!(rt; header.version(), 2);
-    assert_eq!(rt; header.page_size(), 16384);
+    assert!(rt; header.version() == 2);
+    assert!(rt; header.page_size() == 16384);
     Ok(())
 }
 
@@ -152,8 +152,8 @@ fn the_boot_3_record_of_mkbootimg_is_read(rt: HostRuntime) -> Result<(), Fail> {
         cmdline: text(&rt, b"init=/init"),
     });
     decodes_to(&rt, &record::<1580>(&rt, &vectors::BOOT_3), &header);
-    assert_eq!(rt; header.version(), 3);
-    assert_eq!(rt; header.page_size(), 4096);
+    assert!(rt; header.version() == 3);
+    assert!(rt; header.page_size() == 4096);
     Ok(())
 }
 
@@ -172,8 +172,8 @@ fn the_vendor_3_record_of_mkbootimg_is_read(rt: HostRuntime) {
         dtb_addr: 0x11f0_0000,
     });
     decodes_to_vendor(&rt, &record::<2112>(&rt, &vectors::VENDOR_3), &header);
-    assert_eq!(rt; header.version(), 3);
-    assert_eq!(rt; header.page_size(), 2048);
+    assert!(rt; header.version() == 3);
+    assert!(rt; header.page_size() == 2048);
 }
 
 /// A boot header of versions 0 to 2 with these sizes.
@@ -231,13 +231,13 @@ fn vendor_front(page_size: PageSize, vendor_ramdisk_size: u32, dtb_size: u32) ->
 
 /// The sections are these, at these places.
 fn stand_at(rt: &impl Abort, sections: &Sections, places: &[(Section, u64, u32)]) {
-    assert_eq!(rt; sections.count(), places.len());
+    assert!(rt; sections.count() == places.len());
     for (i, (kind, at, size)) in places.iter().copied().enumerate() {
         assert!(rt; i < sections.count());
         let place = sections.place(i);
-        assert_eq!(rt; place.kind, kind);
-        assert_eq!(rt; place.at, at, "of {kind}");
-        assert_eq!(rt; place.size, size);
+        assert!(rt; place.kind == kind);
+        assert!(rt; place.at == at, "of {kind}");
+        assert!(rt; place.size == size);
     }
 }
 
@@ -316,8 +316,8 @@ fn sections_of_a_vendor_image_stand_at_page_boundaries(rt: HostRuntime) {
         (Section::Bootconfig, 16384, 2),
     ];
     stand_at(&rt, &four.sections(), &places);
-    assert_eq!(rt; four.version(), 4);
-    assert_eq!(rt; four.page_size(), 4096);
+    assert!(rt; four.version() == 4);
+    assert!(rt; four.page_size() == 4096);
 
     let small_pages = VendorHeader::V4(vendor_front(PageSize::Of2048, 12, 1), tail);
     let places = [
@@ -347,7 +347,7 @@ fn sections_of_a_vendor_image_stand_at_page_boundaries(rt: HostRuntime) {
 /// Of these bytes and this `header_version`, the first `length` are refused for this fault.
 fn refuses(rt: &impl Abort, bytes: &[u8; 1660], length: usize, fault: HeaderFault) {
     assert!(rt; length <= 1660);
-    assert_eq!(rt; BootHeader::decode(&bytes[..length]), Err(fault));
+    assert!(rt; BootHeader::decode(&bytes[..length]) == Err(fault));
 }
 
 #[test]
@@ -379,25 +379,25 @@ fn seven_page_sizes_are_accepted(rt: HostRuntime) {
     for page in [0u32, 1, 1024, 2047, 3000, 4097, 262_144, 0x8000_0800] {
         bytes[36..40].copy_from_slice(&page.to_le_bytes());
         refuses(&rt, &bytes, 1632, HeaderFault::PageSize(page));
-        assert_eq!(rt; PageSize::from_bytes(page), None);
+        assert!(rt; PageSize::from_bytes(page) == None);
     }
     for page in [2048u32, 4096, 8192, 16384, 32768, 65536, 131_072] {
         bytes[36..40].copy_from_slice(&page.to_le_bytes());
         match BootHeader::decode(&bytes) {
-            Ok(header) => assert_eq!(rt; header.page_size(), page),
+            Ok(header) => assert!(rt; header.page_size() == page),
             Err(fault) => assert!(rt; false, "{fault}"),
         }
     }
-    assert_eq!(rt; pages(0, 2048), 0);
-    assert_eq!(rt; pages(2048, 2048), 1);
-    assert_eq!(rt; pages(2049, 2048), 2);
-    assert_eq!(rt; pages(u64::MAX, 2), 0x8000_0000_0000_0000);
+    assert!(rt; pages(0, 2048) == 0);
+    assert!(rt; pages(2048, 2048) == 1);
+    assert!(rt; pages(2049, 2048) == 2);
+    assert!(rt; pages(u64::MAX, 2) == 0x8000_0000_0000_0000);
 }
 
 /// The first `length` of these bytes are refused for this fault.
 fn refuses_vendor(rt: &impl Abort, bytes: &[u8; 2128], length: usize, fault: HeaderFault) {
     assert!(rt; length <= 2128);
-    assert_eq!(rt; VendorHeader::decode(&bytes[..length]), Err(fault));
+    assert!(rt; VendorHeader::decode(&bytes[..length]) == Err(fault));
 }
 
 #[test]
@@ -484,15 +484,15 @@ fn an_entry_of_a_ramdisk_table_is_read_and_written(rt: HostRuntime) {
         name: text(&rt, b"recovery"),
         board_id,
     };
-    assert_eq!(rt; RamdiskEntry::decode(&bytes), entry);
-    assert_eq!(rt; entry.encode(), bytes);
+    assert!(rt; RamdiskEntry::decode(&bytes) == entry);
+    assert!(rt; entry.encode() == bytes);
 }
 
 #[test]
 fn an_os_version_is_its_bits(rt: HostRuntime) -> Result<(), Fail> {
     let os = OsVersion::new(13, 0, 0, 2023, 5)?;
-    assert_eq!(rt; os.raw(), 436_207_989);
-    assert_eq!(rt; os.raw().to_le_bytes(), [0x75, 0x01, 0x00, 0x1a]);
+    assert!(rt; os.raw() == 436_207_989);
+    assert!(rt; os.raw().to_le_bytes() == [0x75, 0x01, 0x00, 0x1a]);
     let parts = OsParts {
         a: 13,
         b: 0,
@@ -500,7 +500,7 @@ fn an_os_version_is_its_bits(rt: HostRuntime) -> Result<(), Fail> {
         year: 2023,
         month: 5,
     };
-    assert_eq!(rt; OsVersion::from_raw(436_207_989).parts(), parts);
+    assert!(rt; OsVersion::from_raw(436_207_989).parts() == parts);
     let all_ones = OsParts {
         a: 127,
         b: 127,
@@ -508,7 +508,7 @@ fn an_os_version_is_its_bits(rt: HostRuntime) -> Result<(), Fail> {
         year: 2127,
         month: 15,
     };
-    assert_eq!(rt; OsVersion::from_raw(u32::MAX).parts(), all_ones);
+    assert!(rt; OsVersion::from_raw(u32::MAX).parts() == all_ones);
     for (a, b, c, year, month) in [
         (128, 0, 0, 2023, 5),
         (1, 128, 0, 2023, 5),
@@ -518,7 +518,7 @@ fn an_os_version_is_its_bits(rt: HostRuntime) -> Result<(), Fail> {
         (1, 0, 0, 2023, 0),
         (1, 0, 0, 2023, 13),
     ] {
-        assert_eq!(rt; OsVersion::new(a, b, c, year, month), Err(HeaderFault::Os));
+        assert!(rt; OsVersion::new(a, b, c, year, month) == Err(HeaderFault::Os));
     }
     Ok(())
 }
@@ -533,9 +533,9 @@ fn each_fault_and_section_has_its_text(rt: HostRuntime) -> Result<(), Fail> {
         (HeaderFault::Short { need: 44 }, 25, "25 Short need 44"),
         (HeaderFault::Os, 28, "28 Os"),
     ] {
-        assert_eq!(rt; fault.number(), number);
+        assert!(rt; fault.number() == number);
         let shown = format!(in rt.alloc(); "{fault}")?;
-        assert_eq!(rt; shown.as_str(), want);
+        assert!(rt; shown.as_str() == want);
     }
     for (section, want) in [
         (Section::Kernel, "[kernel  ]"),
@@ -543,7 +543,7 @@ fn each_fault_and_section_has_its_text(rt: HostRuntime) -> Result<(), Fail> {
         (Section::VendorRamdisk, "[vendor_ramdisk]"),
     ] {
         let shown = format!(in rt.alloc(); "[{section:<8}]")?;
-        assert_eq!(rt; shown.as_str(), want);
+        assert!(rt; shown.as_str() == want);
     }
     Ok(())
 }

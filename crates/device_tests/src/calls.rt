@@ -7,10 +7,10 @@ use std::mem::size_of;
 
 #[test]
 fn counts_take_no_bytes(rt: HostRuntime) {
-    assert_eq!(rt; size_of::<Tally>(), 0);
-    assert_eq!(rt; size_of::<Log>(), 0);
-    assert_eq!(rt; size_of::<History>(), 0);
-    assert_eq!(rt; size_of::<Meter>(), 0);
+    assert!(rt; size_of::<Tally>() == 0);
+    assert!(rt; size_of::<Log>() == 0);
+    assert!(rt; size_of::<History>() == 0);
+    assert!(rt; size_of::<Meter>() == 0);
 }
 
 /// The fault of call `k`, where call `n` is the one that fails.

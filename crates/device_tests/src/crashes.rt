@@ -39,22 +39,20 @@ fn a_crash_leaves_what_was_synced_and_any_bytes_in_what_was_not(rt: HostRuntime)
             {
                 let partition = CrashPartition::new(&mut now, &mut stable, &mut touched);
                 let mut partition = Faulty::new(partition, n);
-                assert_eq!(rt; two_writes(&mut partition).is_ok(), n == 5);
+                assert!(rt; two_writes(&mut partition).is_ok() == (n == 5));
                 partition.inner().crash(pick);
                 // Nothing is touched now.
                 partition.inner().crash(Pick::Byte(b'!'));
             }
-            assert_eq!(rt;
-                now.as_slice(),
-                left(n, pick).as_slice(),
+            assert!(rt;
+                now.as_slice() == left(n, pick).as_slice(),
                 "call {n}, {pick:?}"
             );
-            assert_eq!(rt;
-                stable.as_slice(),
-                left(n, pick).as_slice(),
+            assert!(rt;
+                stable.as_slice() == left(n, pick).as_slice(),
                 "call {n}, {pick:?}"
             );
-            assert_eq!(rt; touched, [0u8; 5]);
+            assert!(rt; touched == [0u8; 5]);
         }
     }
 }
@@ -70,8 +68,8 @@ fn a_write_that_fails_may_mar_its_whole_range(rt: HostRuntime) {
             2,
             b'?',
         );
-        assert_eq!(rt; two_writes(&mut partition).is_err(), true);
+        assert!(rt; two_writes(&mut partition).is_err() == true);
         partition.partition.crash(Pick::New);
     }
-    assert_eq!(rt; now.as_slice(), b".??.".as_slice());
+    assert!(rt; now.as_slice() == b".??.".as_slice());
 }

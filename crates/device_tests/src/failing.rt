@@ -10,17 +10,17 @@ fn each_call_of_a_spool_fails_alone(rt: HostRuntime) {
         let mut out = *b"....";
         {
             let mut spool = Faulty::new(SliceSpool::new(&mut room), n);
-            assert_eq!(rt;
-                spool_calls(&mut spool, b"ab", &mut out),
-                (fault_at(n, 1), fault_at(n, 2), fault_at(n, 3)),
+            assert!(rt;
+                spool_calls(&mut spool, b"ab", &mut out)
+                    == (fault_at(n, 1), fault_at(n, 2), fault_at(n, 3)),
                 "call {n}"
             );
-            assert_eq!(rt; capacity_of(&spool), 4);
+            assert!(rt; capacity_of(&spool) == 4);
         }
         let written = if n == 2 { *b"...." } else { *b"ab.." };
         let read = if n == 2 || n == 3 { *b"...." } else { *b"ab.." };
-        assert_eq!(rt; room, written, "call {n}");
-        assert_eq!(rt; out, read, "call {n}");
+        assert!(rt; room == written, "call {n}");
+        assert!(rt; out == read, "call {n}");
     }
 }
 
@@ -31,17 +31,17 @@ fn each_call_of_a_partition_fails_alone(rt: HostRuntime) {
         let mut out = *b"..";
         {
             let mut partition = Faulty::new(SlicePartition::new(&mut room), n);
-            assert_eq!(rt;
-                partition_calls(&mut partition, 1, b"ab", &mut out),
-                (fault_at(n, 1), fault_at(n, 2), fault_at(n, 3)),
+            assert!(rt;
+                partition_calls(&mut partition, 1, b"ab", &mut out)
+                    == (fault_at(n, 1), fault_at(n, 2), fault_at(n, 3)),
                 "call {n}"
             );
-            assert_eq!(rt; length_of(&partition), 4);
+            assert!(rt; length_of(&partition) == 4);
         }
         let written = if n == 1 { *b"...." } else { *b".ab." };
         let read = if n == 1 || n == 3 { *b".." } else { *b"ab" };
-        assert_eq!(rt; room, written, "call {n}");
-        assert_eq!(rt; out, read, "call {n}");
+        assert!(rt; room == written, "call {n}");
+        assert!(rt; out == read, "call {n}");
     }
 }
 
@@ -59,10 +59,9 @@ fn each_read_of_a_source_fails_and_what_came_before_stands(rt: HostRuntime) {
         } else {
             Some(CopyFault::Read(DeviceFault::Failed))
         };
-        assert_eq!(rt; copied.err(), fault, "call {n}");
-        assert_eq!(rt;
-            output.written().len() as u64,
-            (2 * (n - 1)).min(4),
+        assert!(rt; copied.err() == fault, "call {n}");
+        assert!(rt;
+            output.written().len() as u64 == (2 * (n - 1)).min(4),
             "call {n}"
         );
     }
@@ -76,15 +75,14 @@ fn each_read_of_an_input_fails_and_what_came_before_stands(rt: HostRuntime) {
         let input = Forward::new(SliceSource::new(b"abcd"));
         let mut input = Faulty::new(Cut::new(input, 2), n);
         let found = gather(&mut input, &mut out, &mut m);
-        assert_eq!(rt; found.count as u64, (2 * (n - 1)).min(4), "call {n}");
-        assert_eq!(rt;
-            found.fault,
-            if n == 3 { None } else { fault_at(n, n) },
+        assert!(rt; found.count as u64 == (2 * (n - 1)).min(4), "call {n}");
+        assert!(rt;
+            found.fault == (if n == 3 { None } else { fault_at(n, n) }),
             "call {n}"
         );
         // A failed read consumes nothing.
-        assert_eq!(rt; input.device.device.position(), found.count as u64);
-        assert_eq!(rt; input.seen, n.min(2));
+        assert!(rt; input.device.device.position() == found.count as u64);
+        assert!(rt; input.seen == n.min(2));
     }
 }
 
@@ -95,17 +93,15 @@ fn each_write_of_an_output_fails_and_what_was_taken_before_stands(rt: HostRuntim
         let mut m = Meter::new();
         let mut output = Faulty::new(Cut::new(SliceOutput::new(&mut room), 2), n);
         let answer = write_out(&mut output, b"abcd", &mut m);
-        assert_eq!(rt;
-            answer.err(),
-            if n == 3 { None } else { fault_at(n, n) },
+        assert!(rt;
+            answer.err() == (if n == 3 { None } else { fault_at(n, n) }),
             "call {n}"
         );
-        assert_eq!(rt;
-            output.device.device.written().len() as u64,
-            (2 * (n - 1)).min(4),
+        assert!(rt;
+            output.device.device.written().len() as u64 == (2 * (n - 1)).min(4),
             "call {n}"
         );
-        assert_eq!(rt; output.seen, n.min(2));
+        assert!(rt; output.seen == n.min(2));
     }
 }
 
@@ -115,29 +111,20 @@ fn the_first_write_over_the_byte_is_marred_and_no_other(rt: HostRuntime) {
     let mut m = Meter::new();
     {
         let mut partition = Marred::new(SlicePartition::new(&mut room), 3, 0xee);
-        assert_eq!(rt; write_all_at(&mut partition, 0, b"ab", &mut m), Ok(()));
-        assert_eq!(rt;
-            write_all_at(&mut partition, 2, b"cd", &mut m),
-            Err(DeviceFault::Failed)
-        );
-        assert_eq!(rt; write_all_at(&mut partition, 4, b"ef", &mut m), Ok(()));
-        assert_eq!(rt; partition.sync(), Ok(()));
+        assert!(rt; write_all_at(&mut partition, 0, b"ab", &mut m) == Ok(()));
+        assert!(rt; write_all_at(&mut partition, 2, b"cd", &mut m) == Err(DeviceFault::Failed));
+        assert!(rt; write_all_at(&mut partition, 4, b"ef", &mut m) == Ok(()));
+        assert!(rt; partition.sync() == Ok(()));
     }
-    assert_eq!(rt; room.as_slice(), b"ab\xee\xeeef".as_slice());
+    assert!(rt; room.as_slice() == b"ab\xee\xeeef".as_slice());
     {
         let mut partition = Marred::new(SlicePartition::new(&mut room), 3, 0xee);
-        assert_eq!(rt;
-            write_all_at(&mut partition, 2, b"cd", &mut m),
-            Err(DeviceFault::Failed)
-        );
+        assert!(rt; write_all_at(&mut partition, 2, b"cd", &mut m) == Err(DeviceFault::Failed));
         let mut out = [0u8; 2];
-        assert_eq!(rt;
-            partition_calls(&mut partition, 2, b"cd", &mut out),
-            (None, None, None)
-        );
-        assert_eq!(rt; length_of(&partition), 6);
+        assert!(rt; partition_calls(&mut partition, 2, b"cd", &mut out) == (None, None, None));
+        assert!(rt; length_of(&partition) == 6);
     }
-    assert_eq!(rt; room.as_slice(), b"abcdef".as_slice());
+    assert!(rt; room.as_slice() == b"abcdef".as_slice());
 }
 
 #[test]
@@ -147,12 +134,9 @@ fn a_marred_range_is_filled_as_far_as_the_partition_takes(rt: HostRuntime) {
     {
         let partition = Cut::new(SlicePartition::new(&mut room), 1);
         let mut partition = Marred::new(partition, 3, b'?');
-        assert_eq!(rt;
-            write_all_at(&mut partition, 2, b"cd", &mut m),
-            Err(DeviceFault::Failed)
-        );
+        assert!(rt; write_all_at(&mut partition, 2, b"cd", &mut m) == Err(DeviceFault::Failed));
         // A second write over the byte passes.
-        assert_eq!(rt; write_all_at(&mut partition, 3, b"d", &mut m), Ok(()));
+        assert!(rt; write_all_at(&mut partition, 3, b"d", &mut m) == Ok(()));
     }
-    assert_eq!(rt; room, *b"..?d..");
+    assert!(rt; room == *b"..?d..");
 }

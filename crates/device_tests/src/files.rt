@@ -21,13 +21,13 @@ fn a_file_is_read_at_any_place(rt: HostRuntime) -> Result<(), Fail> {
     let mut source = FileSource::new(File::open(&rt, "source.tmp")?)
         .ok()
         .ok_or("no length")?;
-    assert_eq!(rt; length_of(&source), 6);
-    assert_eq!(rt; gather_at(&mut source, 2, &mut out, &mut m).count, 4);
-    assert_eq!(rt; out.as_slice(), b"cdef".as_slice());
-    assert_eq!(rt; gather_at(&mut source, 5, &mut out, &mut m).count, 1);
+    assert!(rt; length_of(&source) == 6);
+    assert!(rt; gather_at(&mut source, 2, &mut out, &mut m).count == 4);
+    assert!(rt; out.as_slice() == b"cdef".as_slice());
+    assert!(rt; gather_at(&mut source, 5, &mut out, &mut m).count == 1);
     let mut nothing = FileSource::empty();
-    assert_eq!(rt; length_of(&nothing), 0);
-    assert_eq!(rt; gather_at(&mut nothing, 0, &mut out, &mut m).count, 0);
+    assert!(rt; length_of(&nothing) == 0);
+    assert!(rt; gather_at(&mut nothing, 0, &mut out, &mut m).count == 0);
     fs::remove_file(&rt, "source.tmp")?;
     Ok(())
 }
@@ -41,17 +41,14 @@ fn a_file_is_written_at_a_place_and_read_back(rt: HostRuntime) -> Result<(), Fai
     let mut out = [0u8; 2];
     {
         let mut partition = FilePartition::new(file).ok().ok_or("no length")?;
-        assert_eq!(rt; length_of(&partition), 6);
+        assert!(rt; length_of(&partition) == 6);
         if partition.size == 6 {
-            assert_eq!(rt;
-                partition_calls(&mut partition, 3, b"ab", &mut out),
-                (None, None, None)
-            );
+            assert!(rt; partition_calls(&mut partition, 3, b"ab", &mut out) == (None, None, None));
         }
     }
-    assert_eq!(rt; out.as_slice(), b"ab".as_slice());
+    assert!(rt; out.as_slice() == b"ab".as_slice());
     let held = fs::read_to_string(&rt, "partition.tmp")?;
-    assert_eq!(rt; held.as_str(), "...ab.");
+    assert!(rt; held.as_str() == "...ab.");
     fs::remove_file(&rt, "partition.tmp")?;
     Ok(())
 }
@@ -62,22 +59,16 @@ fn a_spool_file_holds_its_capacity_and_is_emptied(rt: HostRuntime) -> Result<(),
     let mut m = Meter::new();
     {
         let mut spool = FileSpool::new(fresh(&rt, "spool.tmp")?, 4);
-        assert_eq!(rt; capacity_of(&spool), 4);
-        assert_eq!(rt;
-            spool_calls(&mut spool, b"abcdef", &mut out),
-            (None, None, None)
-        );
-        assert_eq!(rt; out.as_slice(), b"abcd\0\0".as_slice());
-        assert_eq!(rt; write_out(&mut spool, b"e", &mut m), Err(DeviceFault::Full));
-        assert_eq!(rt; gather(&mut spool, &mut out, &mut m).count, 0);
-        assert_eq!(rt;
-            spool_calls(&mut spool, b"xyz", &mut out),
-            (None, None, None)
-        );
-        assert_eq!(rt; out.as_slice(), b"xyzd\0\0".as_slice());
+        assert!(rt; capacity_of(&spool) == 4);
+        assert!(rt; spool_calls(&mut spool, b"abcdef", &mut out) == (None, None, None));
+        assert!(rt; out.as_slice() == b"abcd\0\0".as_slice());
+        assert!(rt; write_out(&mut spool, b"e", &mut m) == Err(DeviceFault::Full));
+        assert!(rt; gather(&mut spool, &mut out, &mut m).count == 0);
+        assert!(rt; spool_calls(&mut spool, b"xyz", &mut out) == (None, None, None));
+        assert!(rt; out.as_slice() == b"xyzd\0\0".as_slice());
     }
     let held = fs::read_to_string(&rt, "spool.tmp")?;
-    assert_eq!(rt; held.as_str(), "xyz");
+    assert!(rt; held.as_str() == "xyz");
     fs::remove_file(&rt, "spool.tmp")?;
     Ok(())
 }
@@ -91,11 +82,11 @@ fn a_file_is_read_forward_and_written_into_another(rt: HostRuntime) -> Result<()
         let mut input = FromRead::new(File::open(&rt, "from.tmp")?);
         let mut output = ToWrite::new(fresh(&rt, "to.tmp")?);
         let found = gather(&mut input, &mut held, &mut m);
-        assert_eq!(rt; (found.count, found.fault), (6, None));
-        assert_eq!(rt; write_out(&mut output, &held[..6], &mut m), Ok(()));
+        assert!(rt; (found.count, found.fault) == (6, None));
+        assert!(rt; write_out(&mut output, &held[..6], &mut m) == Ok(()));
     }
     let held = fs::read_to_string(&rt, "to.tmp")?;
-    assert_eq!(rt; held.as_str(), "abcdef");
+    assert!(rt; held.as_str() == "abcdef");
     fs::remove_file(&rt, "from.tmp")?;
     fs::remove_file(&rt, "to.tmp")?;
     Ok(())
@@ -108,8 +99,8 @@ fn a_sync_that_the_system_refuses_fails(rt: HostRuntime) -> Result<(), Fail> {
     options.read(true).write(true);
     let file = options.open(&rt, "/dev/null")?;
     let mut partition = FilePartition::new(file).ok().ok_or("no length")?;
-    assert_eq!(rt; length_of(&partition), 0);
-    assert_eq!(rt; partition.sync(), Err(DeviceFault::Failed));
+    assert!(rt; length_of(&partition) == 0);
+    assert!(rt; partition.sync() == Err(DeviceFault::Failed));
     Ok(())
 }
 
@@ -123,16 +114,10 @@ fn a_file_opened_for_reading_takes_nothing(rt: HostRuntime) -> Result<(), Fail> 
         .ok()
         .ok_or("no length")?;
     if partition.size == 4 {
-        assert_eq!(rt;
-            partition_calls(&mut partition, 0, b"ab", &mut out).0,
-            failed
-        );
+        assert!(rt; partition_calls(&mut partition, 0, b"ab", &mut out).0 == failed);
     }
     let mut spool = FileSpool::new(File::open(&rt, "refused.tmp")?, 4);
-    assert_eq!(rt;
-        spool_calls(&mut spool, b"ab", &mut out),
-        (failed, failed, None)
-    );
+    assert!(rt; spool_calls(&mut spool, b"ab", &mut out) == (failed, failed, None));
     fs::remove_file(&rt, "refused.tmp")?;
     Ok(())
 }

@@ -27,8 +27,8 @@ fn written_over<O: Overwrite>(output: &mut O, at: u64, bytes: &[u8]) -> (Option<
 fn bytes_are_written_over_within_what_was_written(rt: HostRuntime) {
     let mut room = [0u8; 8];
     let mut output = Cut::new(SliceOutput::new(&mut room), 2);
-    assert_eq!(rt; written_over(&mut output, 1, b"XYZ"), (None, 6));
-    assert_eq!(rt; output.device.written(), b"aXYZef".as_slice());
+    assert!(rt; written_over(&mut output, 1, b"XYZ") == (None, 6));
+    assert!(rt; output.device.written() == b"aXYZef".as_slice());
 }
 
 #[test]
@@ -36,17 +36,17 @@ fn bytes_behind_those_that_were_written_over_go_to_the_end(rt: HostRuntime) {
     let mut room = [0u8; 8];
     let mut m = Meter::new();
     let mut output = SliceOutput::new(&mut room);
-    assert_eq!(rt; written_over(&mut output, 2, b"XY"), (None, 6));
-    assert_eq!(rt; write_out(&mut output, b"gh", &mut m), Ok(()));
-    assert_eq!(rt; output.written(), b"abXYefgh".as_slice());
+    assert!(rt; written_over(&mut output, 2, b"XY") == (None, 6));
+    assert!(rt; write_out(&mut output, b"gh", &mut m) == Ok(()));
+    assert!(rt; output.written() == b"abXYefgh".as_slice());
 }
 
 #[test]
 fn a_full_output_is_written_over_up_to_its_end(rt: HostRuntime) {
     let mut room = [0u8; 6];
     let mut output = SliceOutput::new(&mut room);
-    assert_eq!(rt; written_over(&mut output, 2, b"WXYZ"), (None, 6));
-    assert_eq!(rt; output.written(), b"abWXYZ".as_slice());
+    assert!(rt; written_over(&mut output, 2, b"WXYZ") == (None, 6));
+    assert!(rt; output.written() == b"abWXYZ".as_slice());
 }
 
 /// Three writes of two bytes, and two over them.
@@ -63,9 +63,9 @@ fn each_call_fails_and_what_was_written_before_stands(rt: HostRuntime) {
             } else {
                 Some(DeviceFault::Failed)
             };
-            assert_eq!(rt; fault, failed, "call {n}");
-            assert_eq!(rt; end, (2 * (n - 1)).min(6), "call {n}");
-            assert_eq!(rt; output.seen, n.min(5));
+            assert!(rt; fault == failed, "call {n}");
+            assert!(rt; end == (2 * (n - 1)).min(6), "call {n}");
+            assert!(rt; output.seen == n.min(5));
         }
         let want = match n {
             1 => b"......",
@@ -75,7 +75,7 @@ fn each_call_fails_and_what_was_written_before_stands(rt: HostRuntime) {
             5 => b"aWXdef",
             _ => b"aWXYZf",
         };
-        assert_eq!(rt; room.as_slice(), want.as_slice(), "call {n}");
+        assert!(rt; room.as_slice() == want.as_slice(), "call {n}");
     }
 }
 
@@ -85,17 +85,17 @@ fn a_file_is_written_over(rt: HostRuntime) -> Result<(), Fail> {
     options.read(true).write(true).create(true).truncate(true);
     {
         let mut output = FileOutput::new(options.open(&rt, "over.tmp")?);
-        assert_eq!(rt; written_over(&mut output, 0, b"XY"), (None, 6));
-        assert_eq!(rt; write_out(&mut output, b"gh", &mut Meter::new()), Ok(()));
-        assert_eq!(rt; output.position(), 8);
+        assert!(rt; written_over(&mut output, 0, b"XY") == (None, 6));
+        assert!(rt; write_out(&mut output, b"gh", &mut Meter::new()) == Ok(()));
+        assert!(rt; output.position() == 8);
     }
     let held = fs::read_to_string(&rt, "over.tmp")?;
-    assert_eq!(rt; held.as_str(), "XYcdefgh");
+    assert!(rt; held.as_str() == "XYcdefgh");
     let mut reading = OpenOptions::new();
     reading.read(true);
     let mut output = FileOutput::new(reading.open(&rt, "over.tmp")?);
     let failed = Some(DeviceFault::Failed);
-    assert_eq!(rt; written_over(&mut output, 0, b"XY"), (failed, 0));
+    assert!(rt; written_over(&mut output, 0, b"XY") == (failed, 0));
     fs::remove_file(&rt, "over.tmp")?;
     Ok(())
 }

@@ -60,13 +60,13 @@ fn interrupted_calls_are_made_again(rt: HostRuntime) {
     let mut m = Meter::new();
     let bytes = b"abcd".as_slice();
     let mut input = FromRead::new(Halting::new(bytes, io::ErrorKind::Interrupted, 4));
-    assert_eq!(rt; gather(&mut input, &mut out, &mut m).count, 4);
-    assert_eq!(rt; out.as_slice(), bytes);
+    assert!(rt; gather(&mut input, &mut out, &mut m).count == 4);
+    assert!(rt; out.as_slice() == bytes);
     {
         let writer = Halting::new(room.as_mut_slice(), io::ErrorKind::Interrupted, 3);
-        assert_eq!(rt; write_out(&mut ToWrite::new(writer), bytes, &mut m), Ok(()));
+        assert!(rt; write_out(&mut ToWrite::new(writer), bytes, &mut m) == Ok(()));
     }
-    assert_eq!(rt; room.as_slice(), bytes);
+    assert!(rt; room.as_slice() == bytes);
 }
 
 #[test]
@@ -76,20 +76,14 @@ fn a_failing_reader_or_writer_is_answered_once(rt: HostRuntime) {
     let mut m = Meter::new();
     let failed = DeviceFault::Failed;
     let mut input = FromRead::new(Halting::new(b"abcd".as_slice(), io::ErrorKind::BrokenPipe, 4));
-    assert_eq!(rt; gather(&mut input, &mut out, &mut m).fault, Some(failed));
-    assert_eq!(rt; gather(&mut input, &mut out, &mut m).count, 4);
+    assert!(rt; gather(&mut input, &mut out, &mut m).fault == Some(failed));
+    assert!(rt; gather(&mut input, &mut out, &mut m).count == 4);
     {
         let writer = Halting::new(room.as_mut_slice(), io::ErrorKind::BrokenPipe, 4);
-        assert_eq!(rt;
-            write_out(&mut ToWrite::new(writer), b"a", &mut m),
-            Err(failed)
-        );
+        assert!(rt; write_out(&mut ToWrite::new(writer), b"a", &mut m) == Err(failed));
     }
     // A writer that takes nothing.
     let writer = Halting::new(room.as_mut_slice(), io::ErrorKind::Interrupted, 0);
-    assert_eq!(rt;
-        write_out(&mut ToWrite::new(writer), b"a", &mut m),
-        Err(failed)
-    );
-    assert_eq!(rt; room, [0u8; 4]);
+    assert!(rt; write_out(&mut ToWrite::new(writer), b"a", &mut m) == Err(failed));
+    assert!(rt; room == [0u8; 4]);
 }

@@ -71,33 +71,32 @@ fn unpacked_fragment(cells: &[u8], i: u32, room: &mut [u8]) -> Option<usize> {
 #[test]
 fn one_kernel_byte_goes_the_whole_way_round(rt: HostRuntime) {
     let mut image = [1u8; 4096];
-    assert_eq!(rt;
-        pack_k(&mut image, &mut Window::new(), &mut Meter::new()),
-        Ok(Packed { bytes: 4096 })
+    assert!(rt;
+        pack_k(&mut image, &mut Window::new(), &mut Meter::new()) == Ok(Packed { bytes: 4096 })
     );
     let mut cells = [255u8; 5000];
     let (_, refused) = delivered(&image, 4096, 4159, &mut cells);
-    assert_eq!(rt; refused, Err(FlashFault::LimitTooSmall { least: 4160 }));
-    assert_eq!(rt; cells, [255u8; 5000]);
+    assert!(rt; refused == Err(FlashFault::LimitTooSmall { least: 4160 }));
+    assert!(rt; cells == [255u8; 5000]);
     let (written, answer) = delivered(&image, 4096, 4160, &mut cells);
     let one = Written {
         blocks: 1,
         chunks: 1,
         bytes: 4136,
     };
-    assert_eq!(rt; written, Some(one));
-    assert_eq!(rt; answer, Ok(Delivered { pieces: 1 }));
+    assert!(rt; written == Some(one));
+    assert!(rt; answer == Ok(Delivered { pieces: 1 }));
     assert!(rt; cells.starts_with(&image));
     assert!(rt; cells.ends_with(&[255u8; 904]));
     let mut room = *b"....";
-    assert_eq!(rt; unpacked(&cells, 0, &mut room), Some(1));
-    assert_eq!(rt; room, *b"K...");
+    assert!(rt; unpacked(&cells, 0, &mut room) == Some(1));
+    assert!(rt; room == *b"K...");
 }
 
 #[test]
 fn five_parts_go_the_whole_way_round_in_many_pieces(rt: HostRuntime) {
     let mut image = [1u8; 14336];
-    assert_eq!(rt; pack_five(&mut image), Ok(Packed { bytes: 14336 }));
+    assert!(rt; pack_five(&mut image) == Ok(Packed { bytes: 14336 }));
     let bytes = numbers();
     for b in [512, 2048] {
         let mut cells = [255u8; 14400];
@@ -106,7 +105,7 @@ fn five_parts_go_the_whole_way_round_in_many_pieces(rt: HostRuntime) {
         assert!(rt; cells.starts_with(&image));
         for (i, size) in FIVE.iter().enumerate() {
             let mut room = [1u8; 3000];
-            assert_eq!(rt; unpacked(&cells, i, &mut room), Some(*size));
+            assert!(rt; unpacked(&cells, i, &mut room) == Some(*size));
             assert!(rt; room.starts_with(front(&bytes, *size)));
         }
     }
@@ -121,8 +120,8 @@ fn two_fragments_go_the_whole_way_round_in_many_pieces(rt: HostRuntime) {
     assert!(rt; answer.is_ok_and(|done| done.pieces > 3));
     assert!(rt; cells == image);
     let mut room = *b".......";
-    assert_eq!(rt; unpacked_fragment(&cells, 0, &mut room), Some(5));
-    assert_eq!(rt; room, *b"first..");
-    assert_eq!(rt; unpacked_fragment(&cells, 1, &mut room), Some(7));
-    assert_eq!(rt; room, *b"second!");
+    assert!(rt; unpacked_fragment(&cells, 0, &mut room) == Some(5));
+    assert!(rt; room == *b"first..");
+    assert!(rt; unpacked_fragment(&cells, 1, &mut room) == Some(7));
+    assert!(rt; room == *b"second!");
 }

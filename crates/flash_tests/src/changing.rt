@@ -40,28 +40,28 @@ fn shrinking<R: Abort>(rt: &R, calls: u64, from: u32) -> bool {
     let mut cells = *b"................";
     match delivered(&THREE_KINDS, &THREE_KINDS[..40], calls, from, &mut cells) {
         Ok(done) => {
-            assert_eq!(rt; done.pieces, if from == 2 { 1 } else { 2 });
+            assert!(rt; done.pieces == (if from == 2 { 1 } else { 2 }));
             let want = if from == 2 {
                 b"....\x04\x03\x02\x01........"
             } else {
                 b"ABCD\x04\x03\x02\x01........"
             };
-            assert_eq!(rt; cells, *want);
+            assert!(rt; cells == *want);
             return true;
         }
         Err(FlashFault::Stopped { piece, cause }) => {
-            assert_eq!(rt; cause, Cause::SourceChanged);
+            assert!(rt; cause == Cause::SourceChanged);
             let want = if piece == 2 && from < 2 {
                 b"ABCD............"
             } else {
                 b"................"
             };
-            assert_eq!(rt; cells, *want);
+            assert!(rt; cells == *want);
         }
         Err(fault) => {
             // Within the opening the shorter image may also be refused for what it is.
             assert!(rt; fault == FlashFault::SourceChanged || fault.number() <= 10);
-            assert_eq!(rt; cells, *b"................");
+            assert!(rt; cells == *b"................");
         }
     }
     false
@@ -92,7 +92,7 @@ fn a_source_that_grows_makes_no_piece_too_long_and_writes_within_the_image(rt: H
         let mut cells = *b"................";
         match delivered(&NO_GAP, &other, calls, 0, &mut cells) {
             Ok(done) => {
-                assert_eq!(rt; done.pieces, 3);
+                assert!(rt; done.pieces == 3);
                 assert!(rt; cells.ends_with(b"...."));
                 if cells == *b"ABCD\x04\x03\x02\x01WXYZ...." {
                     whole = calls;
@@ -101,7 +101,7 @@ fn a_source_that_grows_makes_no_piece_too_long_and_writes_within_the_image(rt: H
             }
             Err(FlashFault::Stopped { piece: _, cause }) => {
                 // A spool of 68 bytes is never full.
-                assert_eq!(rt; cause, Cause::SourceChanged);
+                assert!(rt; cause == Cause::SourceChanged);
                 assert!(rt; cells.ends_with(b"...."));
             }
             Err(fault) => {
@@ -110,7 +110,7 @@ fn a_source_that_grows_makes_no_piece_too_long_and_writes_within_the_image(rt: H
                         || fault.number() <= 10
                         || fault.number() == 17
                 );
-                assert_eq!(rt; cells, *b"................");
+                assert!(rt; cells == *b"................");
             }
         }
     }

@@ -76,15 +76,15 @@ fn an_image_is_delivered_in_the_pieces_of_its_limit(rt: HostRuntime) {
     for (limit, pieces) in [(68, 3), (83, 3), (84, 2), (100, 1)] {
         let mut cells = [255u8; 16];
         let answer = delivered(&NO_GAP, limit.min(100), 0, &mut room, &mut cells);
-        assert_eq!(rt; answer, Ok(Delivered { pieces }), "limit {limit}");
-        assert_eq!(rt; cells, OVER_NO_GAP, "limit {limit}");
+        assert!(rt; answer == Ok(Delivered { pieces }), "limit {limit}");
+        assert!(rt; cells == OVER_NO_GAP, "limit {limit}");
     }
     // One piece would have 72 bytes, but weighs more.
     for (limit, pieces) in [(68, 2), (72, 2), (83, 2), (84, 1)] {
         let mut cells = [255u8; 16];
         let answer = delivered(&THREE_KINDS, limit.min(100), 0, &mut room, &mut cells);
-        assert_eq!(rt; answer, Ok(Delivered { pieces }), "limit {limit}");
-        assert_eq!(rt; cells, OVER_THREE_KINDS, "limit {limit}");
+        assert!(rt; answer == Ok(Delivered { pieces }), "limit {limit}");
+        assert!(rt; cells == OVER_THREE_KINDS, "limit {limit}");
     }
 }
 
@@ -95,7 +95,7 @@ fn the_spool_is_left_with_the_last_piece(rt: HostRuntime) {
     assert!(rt; delivered(&NO_GAP, 68, 0, &mut room, &mut cells).is_ok());
     assert!(rt; room.starts_with(&THIRD_OF_THREE));
     assert!(rt; delivered(&THREE_KINDS, 68, 0, &mut room, &mut cells).is_ok());
-    assert_eq!(rt; room, SECOND_OF_THREE);
+    assert!(rt; room == SECOND_OF_THREE);
     assert!(rt; delivered(&LONG_HEADERS, 68, 0, &mut room, &mut cells).is_ok());
     assert!(rt; room.starts_with(&SHORT_HEADERS));
 }
@@ -105,13 +105,13 @@ fn an_image_without_a_written_block_leaves_the_partition_as_it_was(rt: HostRunti
     let mut room = [0u8; 68];
     let mut cells = [255u8; 20];
     let one = Ok(Delivered { pieces: 1 });
-    assert_eq!(rt; delivered(&EMPTY, 68, 0, &mut room, &mut cells), one);
+    assert!(rt; delivered(&EMPTY, 68, 0, &mut room, &mut cells) == one);
     assert!(rt; room.starts_with(&EMPTY));
-    assert_eq!(rt; delivered(&GAPS, 68, 0, &mut room, &mut cells), one);
+    assert!(rt; delivered(&GAPS, 68, 0, &mut room, &mut cells) == one);
     assert!(rt; room.starts_with(&ONE_GAP));
-    assert_eq!(rt; delivered(&LONG_HEADERS, 68, 0, &mut room, &mut cells), one);
-    assert_eq!(rt; delivered(&EMPTY, 68, 0, &mut room, &mut []), one);
-    assert_eq!(rt; cells, [255u8; 20]);
+    assert!(rt; delivered(&LONG_HEADERS, 68, 0, &mut room, &mut cells) == one);
+    assert!(rt; delivered(&EMPTY, 68, 0, &mut room, &mut []) == one);
+    assert!(rt; cells == [255u8; 20]);
 }
 
 #[test]
@@ -123,7 +123,7 @@ fn chunks_of_no_blocks_are_delivered_in_one_piece(rt: HostRuntime) {
     }
     let mut room = [0u8; 68];
     let answer = delivered(&image, 68, 0, &mut room, &mut []);
-    assert_eq!(rt; answer, Ok(Delivered { pieces: 1 }));
+    assert!(rt; answer == Ok(Delivered { pieces: 1 }));
     assert!(rt; room.starts_with(&EMPTY));
 }
 
@@ -132,13 +132,13 @@ fn a_piece_that_is_not_there_is_refused_and_nothing_written(rt: HostRuntime) {
     let mut room = [7u8; 68];
     let mut cells = [255u8; 16];
     for from in [4, 5, u32::MAX] {
-        assert_eq!(rt;
-            delivered(&NO_GAP, 68, from, &mut room, &mut cells),
-            Err(FlashFault::NoSuchPiece { pieces: 3 })
+        assert!(rt;
+            delivered(&NO_GAP, 68, from, &mut room, &mut cells)
+                == Err(FlashFault::NoSuchPiece { pieces: 3 })
         );
     }
-    assert_eq!(rt; cells, [255u8; 16]);
-    assert_eq!(rt; room, [7u8; 68]);
+    assert!(rt; cells == [255u8; 16]);
+    assert!(rt; room == [7u8; 68]);
 }
 
 #[test]
@@ -146,14 +146,14 @@ fn pieces_before_the_first_that_is_wanted_are_not_written(rt: HostRuntime) {
     let mut room = [0u8; 68];
     let mut cells = [255u8; 16];
     let answer = delivered(&NO_GAP, 68, 3, &mut room, &mut cells);
-    assert_eq!(rt; answer, Ok(Delivered { pieces: 1 }));
-    assert_eq!(rt; cells, laid(&OVER_NO_GAP, 8, 12));
+    assert!(rt; answer == Ok(Delivered { pieces: 1 }));
+    assert!(rt; cells == laid(&OVER_NO_GAP, 8, 12));
     let answer = delivered(&NO_GAP, 68, 2, &mut room, &mut cells);
-    assert_eq!(rt; answer, Ok(Delivered { pieces: 2 }));
-    assert_eq!(rt; cells, laid(&OVER_NO_GAP, 4, 12));
+    assert!(rt; answer == Ok(Delivered { pieces: 2 }));
+    assert!(rt; cells == laid(&OVER_NO_GAP, 4, 12));
     let answer = delivered(&NO_GAP, 68, 1, &mut room, &mut cells);
-    assert_eq!(rt; answer, Ok(Delivered { pieces: 3 }));
-    assert_eq!(rt; cells, OVER_NO_GAP);
+    assert!(rt; answer == Ok(Delivered { pieces: 3 }));
+    assert!(rt; cells == OVER_NO_GAP);
 }
 
 #[test]
@@ -161,43 +161,43 @@ fn the_limit_is_tested_before_the_partition_and_both_before_the_piece(rt: HostRu
     let mut room = [7u8; 68];
     let mut cells = [255u8; 11];
     for from in [0, 4] {
-        assert_eq!(rt;
-            delivered(&THREE_KINDS, 67, from, &mut room, &mut cells),
-            Err(FlashFault::LimitTooSmall { least: 68 })
+        assert!(rt;
+            delivered(&THREE_KINDS, 67, from, &mut room, &mut cells)
+                == Err(FlashFault::LimitTooSmall { least: 68 })
         );
-        assert_eq!(rt;
-            delivered(&THREE_KINDS, 68, from, &mut room, &mut cells),
-            Err(FlashFault::PartitionTooSmall { need: 12 })
+        assert!(rt;
+            delivered(&THREE_KINDS, 68, from, &mut room, &mut cells)
+                == Err(FlashFault::PartitionTooSmall { need: 12 })
         );
     }
-    assert_eq!(rt; cells, [255u8; 11]);
-    assert_eq!(rt; room, [7u8; 68]);
+    assert!(rt; cells == [255u8; 11]);
+    assert!(rt; room == [7u8; 68]);
 }
 
 #[test]
 fn numbers_above_32_bits_are_refused_as_they_are(rt: HostRuntime) {
     let mut room = [7u8; 68];
     let mut cells = [255u8; 16];
-    assert_eq!(rt;
-        delivered(&MOST_BLOCKS, 68, 0, &mut room, &mut cells),
-        Err(FlashFault::PartitionTooSmall {
-            need: 17_179_869_180
-        })
+    assert!(rt;
+        delivered(&MOST_BLOCKS, 68, 0, &mut room, &mut cells)
+            == Err(FlashFault::PartitionTooSmall {
+                need: 17_179_869_180
+            })
     );
     for limit in [0, 68] {
-        assert_eq!(rt;
-            delivered(&LARGEST_BLOCK, limit.min(68), 0, &mut room, &mut cells),
-            Err(FlashFault::LimitTooSmall {
-                least: 4_294_967_356
-            })
+        assert!(rt;
+            delivered(&LARGEST_BLOCK, limit.min(68), 0, &mut room, &mut cells)
+                == Err(FlashFault::LimitTooSmall {
+                    least: 4_294_967_356
+                })
         );
     }
-    assert_eq!(rt;
-        delivered(&LONG_HEADERS, 68, 0, &mut room, &mut cells[..3]),
-        Err(FlashFault::PartitionTooSmall { need: 4 })
+    assert!(rt;
+        delivered(&LONG_HEADERS, 68, 0, &mut room, &mut cells[..3])
+            == Err(FlashFault::PartitionTooSmall { need: 4 })
     );
-    assert_eq!(rt; cells, [255u8; 16]);
-    assert_eq!(rt; room, [7u8; 68]);
+    assert!(rt; cells == [255u8; 16]);
+    assert!(rt; room == [7u8; 68]);
 }
 
 #[test]
@@ -206,17 +206,17 @@ fn each_beginning_is_truncated_and_nothing_written(rt: HostRuntime) {
     let mut cells = [255u8; 16];
     for length in 0..88 {
         for from in [0, 2] {
-            assert_eq!(rt;
-                delivered(&WITH_CHECKSUM[..length], 68, from, &mut room, &mut cells),
-                Err(FlashFault::Sparse(SparseFault::Truncated { at: length as u64 }))
+            assert!(rt;
+                delivered(&WITH_CHECKSUM[..length], 68, from, &mut room, &mut cells)
+                    == Err(FlashFault::Sparse(SparseFault::Truncated { at: length as u64 }))
             );
         }
     }
-    assert_eq!(rt; cells, [255u8; 16]);
-    assert_eq!(rt; room, [7u8; 68]);
+    assert!(rt; cells == [255u8; 16]);
+    assert!(rt; room == [7u8; 68]);
     let answer = delivered(&WITH_CHECKSUM, 68, 0, &mut room, &mut cells);
-    assert_eq!(rt; answer, Ok(Delivered { pieces: 2 }));
-    assert_eq!(rt; cells, OVER_THREE_KINDS);
+    assert!(rt; answer == Ok(Delivered { pieces: 2 }));
+    assert!(rt; cells == OVER_THREE_KINDS);
 }
 
 #[test]
@@ -230,7 +230,7 @@ fn an_opened_image_is_delivered(rt: HostRuntime) {
         let mut spool = SliceSpool::new(&mut room);
         let mut partition = SlicePartition::new(&mut cells);
         match SparseRuns::open(&mut source, &mut w, &mut m) {
-            Ok(runs) => assert_eq!(rt;
+            Ok(runs) => assert!(rt;
                 deliver_runs(
                     runs,
                     &mut source,
@@ -239,13 +239,12 @@ fn an_opened_image_is_delivered(rt: HostRuntime) {
                     &mut partition,
                     &mut w,
                     &mut m
-                ),
-                Ok(Delivered { pieces: 3 })
+                ) == Ok(Delivered { pieces: 3 })
             ),
             Err(_) => assert!(rt; false),
         }
     }
-    assert_eq!(rt; cells, OVER_NO_GAP);
+    assert!(rt; cells == OVER_NO_GAP);
 }
 
 /// The first write over byte 4 fails and leaves EE in its range.
@@ -259,23 +258,23 @@ fn a_stop_in_the_second_piece_is_mended_from_there_or_before(rt: HostRuntime) {
         let mut partition = Marred::new(SlicePartition::new(&mut cells), 4, 0xEE);
         let mut w = Window::new();
         let mut m = Meter::new();
-        assert_eq!(rt;
-            deliver(&mut source, 68, &mut spool, &mut partition, &mut w, &mut m),
-            Err(FlashFault::Stopped {
-                piece: 2,
-                cause: Cause::Write(DeviceFault::Failed)
-            })
+        assert!(rt;
+            deliver(&mut source, 68, &mut spool, &mut partition, &mut w, &mut m)
+                == Err(FlashFault::Stopped {
+                    piece: 2,
+                    cause: Cause::Write(DeviceFault::Failed)
+                })
         );
     }
     let marred = [
         65, 66, 67, 68, 0xEE, 0xEE, 0xEE, 0xEE, 255, 255, 255, 255, 255, 255, 255, 255,
     ];
-    assert_eq!(rt; cells, marred);
+    assert!(rt; cells == marred);
     for (from, pieces) in [(2, 2), (1, 3)] {
         let mut mended = cells;
         let answer = delivered(&NO_GAP, 68, from, &mut room, &mut mended);
-        assert_eq!(rt; answer, Ok(Delivered { pieces }));
-        assert_eq!(rt; mended, OVER_NO_GAP);
+        assert!(rt; answer == Ok(Delivered { pieces }));
+        assert!(rt; mended == OVER_NO_GAP);
     }
 }
 
@@ -312,12 +311,12 @@ fn a_thousand_chunks_are_delivered_in_112_pieces(rt: HostRuntime) {
         let mut partition = SlicePartition::new(&mut cells);
         let mut w = Window::new();
         let mut m = Meter::new();
-        assert_eq!(rt;
-            deliver(&mut source, 100, &mut spool, &mut partition, &mut w, &mut m),
-            Ok(Delivered { pieces: 112 })
+        assert!(rt;
+            deliver(&mut source, 100, &mut spool, &mut partition, &mut w, &mut m)
+                == Ok(Delivered { pieces: 112 })
         );
         // One of 88 bytes, 110 of 100, one of 56, and each is read back once.
-        assert_eq!(rt; (spool.taken, spool.handed), (11_144, 11_144));
+        assert!(rt; (spool.taken, spool.handed) == (11_144, 11_144));
     }
     // Eight times the image, and 128 bytes for each piece and once more.
     assert!(rt; source.handed <= 142_688);

@@ -159,13 +159,13 @@ const JOBS: [Job; 7] = [
 fn undisturbed<R: Abort>(rt: &R, job: Job) -> Calls {
     let mut cells = *b"........................";
     let (answer, calls) = delivered(job, NONE, &mut cells);
-    assert_eq!(rt;
-        answer,
-        Ok(Delivered {
-            pieces: wanted(job)
-        })
+    assert!(rt;
+        answer
+            == Ok(Delivered {
+                pieces: wanted(job)
+            })
     );
-    assert_eq!(rt; cells, before(job, 4));
+    assert!(rt; cells == before(job, 4));
     calls
 }
 
@@ -179,16 +179,16 @@ fn each_read_of_the_source_fails_and_whole_pieces_stand(rt: HostRuntime) {
             let mut cells = *b"........................";
             let failing = Failing { source: n, ..NONE };
             let (answer, had) = delivered(job, failing, &mut cells);
-            assert_eq!(rt; had.source, n);
+            assert!(rt; had.source == n);
             match answer {
                 Err(FlashFault::Stopped { piece, cause }) => {
-                    assert_eq!(rt; cause, Cause::Read(DeviceFault::Failed));
-                    assert_eq!(rt; cells, before(job, piece));
+                    assert!(rt; cause == Cause::Read(DeviceFault::Failed));
+                    assert!(rt; cells == before(job, piece));
                 }
                 _ => {
-                    assert_eq!(rt; answer, Err(FlashFault::Read(DeviceFault::Failed)));
-                    assert_eq!(rt; cells, before(job, 1));
-                    assert_eq!(rt; (had.spool, had.partition), (0, 0));
+                    assert!(rt; answer == Err(FlashFault::Read(DeviceFault::Failed)));
+                    assert!(rt; cells == before(job, 1));
+                    assert!(rt; (had.spool, had.partition) == (0, 0));
                 }
             }
         }
@@ -199,7 +199,7 @@ fn each_read_of_the_source_fails_and_whole_pieces_stand(rt: HostRuntime) {
         };
         let (answer, had) = delivered(job, failing, &mut cells);
         assert!(rt; answer.is_ok());
-        assert_eq!(rt; had, calls);
+        assert!(rt; had == calls);
     }
 }
 
@@ -212,7 +212,7 @@ fn each_call_of_the_spool_fails_and_whole_pieces_stand(rt: HostRuntime) {
             let mut cells = *b"........................";
             let failing = Failing { spool: n, ..NONE };
             let (answer, had) = delivered(job, failing, &mut cells);
-            assert_eq!(rt; had.spool, n);
+            assert!(rt; had.spool == n);
             match answer {
                 Err(
                     FlashFault::Stopped {
@@ -220,8 +220,8 @@ fn each_call_of_the_spool_fails_and_whole_pieces_stand(rt: HostRuntime) {
                         cause: Cause::SpoolWrite(fault),
                     },
                 ) => {
-                    assert_eq!(rt; fault, DeviceFault::Failed);
-                    assert_eq!(rt; cells, before(job, piece));
+                    assert!(rt; fault == DeviceFault::Failed);
+                    assert!(rt; cells == before(job, piece));
                 }
                 Err(
                     FlashFault::Stopped {
@@ -229,7 +229,7 @@ fn each_call_of_the_spool_fails_and_whole_pieces_stand(rt: HostRuntime) {
                         cause: Cause::SpoolRead(fault),
                     },
                 ) => {
-                    assert_eq!(rt; fault, DeviceFault::Failed);
+                    assert!(rt; fault == DeviceFault::Failed);
                     // Of the piece itself some of the blocks that were read may stand.
                     assert!(rt;
                         between(
@@ -249,7 +249,7 @@ fn each_call_of_the_spool_fails_and_whole_pieces_stand(rt: HostRuntime) {
         };
         let (answer, had) = delivered(job, failing, &mut cells);
         assert!(rt; answer.is_ok());
-        assert_eq!(rt; had, calls);
+        assert!(rt; had == calls);
     }
 }
 
@@ -276,7 +276,7 @@ fn each_call_of_the_partition_fails_and_whole_pieces_stand(rt: HostRuntime) {
                 ..NONE
             };
             let (answer, had) = delivered(job, failing, &mut cells);
-            assert_eq!(rt; had.partition, n);
+            assert!(rt; had.partition == n);
             match answer {
                 Err(
                     FlashFault::Stopped {
@@ -284,7 +284,7 @@ fn each_call_of_the_partition_fails_and_whole_pieces_stand(rt: HostRuntime) {
                         cause: Cause::Write(fault),
                     },
                 ) => {
-                    assert_eq!(rt; fault, DeviceFault::Failed);
+                    assert!(rt; fault == DeviceFault::Failed);
                     assert!(rt;
                         between(
                             &cells,
@@ -300,16 +300,16 @@ fn each_call_of_the_partition_fails_and_whole_pieces_stand(rt: HostRuntime) {
                         cause: Cause::Sync(fault),
                     },
                 ) => {
-                    assert_eq!(rt; fault, DeviceFault::Failed);
+                    assert!(rt; fault == DeviceFault::Failed);
                     // All of the piece was written.
-                    assert_eq!(rt; cells, before(job, piece.saturating_add(1)));
+                    assert!(rt; cells == before(job, piece.saturating_add(1)));
                     syncs = syncs.saturating_add(1);
                 }
                 _ => assert!(rt; false),
             }
         }
         // Each piece was synced once.
-        assert_eq!(rt; syncs, wanted(job));
+        assert!(rt; syncs == wanted(job));
         let mut cells = *b"........................";
         let failing = Failing {
             partition: calls.partition.saturating_add(1),
@@ -317,7 +317,7 @@ fn each_call_of_the_partition_fails_and_whole_pieces_stand(rt: HostRuntime) {
         };
         let (answer, had) = delivered(job, failing, &mut cells);
         assert!(rt; answer.is_ok());
-        assert_eq!(rt; had, calls);
+        assert!(rt; had == calls);
     }
 }
 
@@ -332,14 +332,14 @@ fn resuming_from_a_piece_that_is_not_there_answers_what_fails_before(rt: HostRun
         let mut cells = *b"........................";
         let pieces = if is_raw { 2 } else { 3 };
         let (answer, calls) = delivered(job, NONE, &mut cells);
-        assert_eq!(rt; answer, Err(FlashFault::NoSuchPiece { pieces }));
-        assert_eq!(rt; (calls.spool, calls.partition), (0, 0));
+        assert!(rt; answer == Err(FlashFault::NoSuchPiece { pieces }));
+        assert!(rt; (calls.spool, calls.partition) == (0, 0));
         for n in 1..calls.source.saturating_add(1) {
             let failing = Failing { source: n, ..NONE };
             let (answer, had) = delivered(job, failing, &mut cells);
-            assert_eq!(rt; answer, Err(FlashFault::Read(DeviceFault::Failed)));
-            assert_eq!(rt; (had.source, had.spool, had.partition), (n, 0, 0));
+            assert!(rt; answer == Err(FlashFault::Read(DeviceFault::Failed)));
+            assert!(rt; (had.source, had.spool, had.partition) == (n, 0, 0));
         }
-        assert_eq!(rt; cells, *b"........................");
+        assert!(rt; cells == *b"........................");
     }
 }

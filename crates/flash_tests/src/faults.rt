@@ -45,8 +45,8 @@ fn each_fault_has_its_number_and_text(rt: HostRuntime) -> Result<(), Fail> {
         ),
     ];
     for (fault, number, text) in rows {
-        assert_eq!(rt; fault.number(), number);
-        assert_eq!(rt; format!(in rt.alloc(); "{fault}")?.as_str(), text);
+        assert!(rt; fault.number() == number);
+        assert!(rt; format!(in rt.alloc(); "{fault}")?.as_str() == text);
     }
     Ok(())
 }
@@ -64,8 +64,8 @@ fn each_cause_has_its_number_and_text(rt: HostRuntime) -> Result<(), Fail> {
         (Cause::SpoolChanged, 34, "34"),
     ];
     for (cause, number, text) in rows {
-        assert_eq!(rt; cause.number(), number);
-        assert_eq!(rt; format!(in rt.alloc(); "{cause}")?.as_str(), text);
+        assert!(rt; cause.number() == number);
+        assert!(rt; format!(in rt.alloc(); "{cause}")?.as_str() == text);
     }
     Ok(())
 }

@@ -45,7 +45,7 @@ fn raw_and_fill_are_written_and_the_rest_is_left(rt: HostRuntime) {
     for most in [1, 13, 1000] {
         let most = most.max(1);
         let mut room = [255u8; 16];
-        assert_eq!(rt; flashed(&THREE_KINDS, most, &mut room), DONE_A);
+        assert!(rt; flashed(&THREE_KINDS, most, &mut room) == DONE_A);
         assert!(rt; holds(&room, 8));
     }
 }
@@ -53,7 +53,7 @@ fn raw_and_fill_are_written_and_the_rest_is_left(rt: HostRuntime) {
 #[test]
 fn an_image_of_no_blocks_writes_nothing(rt: HostRuntime) {
     let mut room = [255u8; 16];
-    assert_eq!(rt; flashed(&EMPTY, 13, &mut room), Ok(Flashed { blocks: 0 }));
+    assert!(rt; flashed(&EMPTY, 13, &mut room) == Ok(Flashed { blocks: 0 }));
     assert!(rt; holds(&room, 0));
 }
 
@@ -67,60 +67,55 @@ fn bytes_behind_the_last_chunk_are_left_unread(rt: HostRuntime) {
         let mut partition = SlicePartition::new(&mut room);
         let mut w = Window::new();
         let mut m = Meter::new();
-        assert_eq!(rt; flash(&mut input, &mut partition, &mut w, &mut m), DONE_A);
+        assert!(rt; flash(&mut input, &mut partition, &mut w, &mut m) == DONE_A);
     }
-    assert_eq!(rt; input.position(), 88);
+    assert!(rt; input.position() == 88);
     assert!(rt; holds(&room, 8));
 }
 
 #[test]
 fn a_partition_that_is_too_small_is_left_as_it_was(rt: HostRuntime) {
     let mut room = [255u8; 11];
-    assert_eq!(rt;
-        flashed(&THREE_KINDS, 13, &mut room),
-        Err(FlashFault::PartitionTooSmall { need: 12 })
+    assert!(rt;
+        flashed(&THREE_KINDS, 13, &mut room) == Err(FlashFault::PartitionTooSmall { need: 12 })
     );
-    assert_eq!(rt; room, [255u8; 11]);
+    assert!(rt; room == [255u8; 11]);
     let mut room = [255u8; 3];
-    assert_eq!(rt;
-        flashed(&LONG_HEADERS, 13, &mut room),
-        Err(FlashFault::PartitionTooSmall { need: 4 })
+    assert!(rt;
+        flashed(&LONG_HEADERS, 13, &mut room) == Err(FlashFault::PartitionTooSmall { need: 4 })
     );
-    assert_eq!(rt; room, [255u8; 3]);
+    assert!(rt; room == [255u8; 3]);
     let mut room = [255u8; 4];
-    assert_eq!(rt;
-        flashed(&LONG_HEADERS, 13, &mut room),
-        Ok(Flashed { blocks: 0 })
-    );
-    assert_eq!(rt; room, [255u8; 4]);
+    assert!(rt; flashed(&LONG_HEADERS, 13, &mut room) == Ok(Flashed { blocks: 0 }));
+    assert!(rt; room == [255u8; 4]);
 }
 
 #[test]
 fn a_small_partition_is_refused_behind_the_header(rt: HostRuntime) {
     let mut room = [255u8; 11];
-    assert_eq!(rt;
-        flashed(&THREE_KINDS[..28], 13, &mut room),
-        Err(FlashFault::PartitionTooSmall { need: 12 })
+    assert!(rt;
+        flashed(&THREE_KINDS[..28], 13, &mut room)
+            == Err(FlashFault::PartitionTooSmall { need: 12 })
     );
-    assert_eq!(rt;
-        flashed(&THREE_KINDS[..27], 13, &mut room),
-        Err(FlashFault::Sparse(SparseFault::Truncated { at: 27 }))
+    assert!(rt;
+        flashed(&THREE_KINDS[..27], 13, &mut room)
+            == Err(FlashFault::Sparse(SparseFault::Truncated { at: 27 }))
     );
-    assert_eq!(rt; room, [255u8; 11]);
+    assert!(rt; room == [255u8; 11]);
 }
 
 #[test]
 fn a_small_partition_is_refused_behind_the_longer_header(rt: HostRuntime) {
     let mut room = [255u8; 3];
-    assert_eq!(rt;
-        flashed(&LONG_HEADERS[..32], 13, &mut room),
-        Err(FlashFault::PartitionTooSmall { need: 4 })
+    assert!(rt;
+        flashed(&LONG_HEADERS[..32], 13, &mut room)
+            == Err(FlashFault::PartitionTooSmall { need: 4 })
     );
-    assert_eq!(rt;
-        flashed(&LONG_HEADERS[..31], 13, &mut room),
-        Err(FlashFault::Sparse(SparseFault::Truncated { at: 31 }))
+    assert!(rt;
+        flashed(&LONG_HEADERS[..31], 13, &mut room)
+            == Err(FlashFault::Sparse(SparseFault::Truncated { at: 31 }))
     );
-    assert_eq!(rt; room, [255u8; 3]);
+    assert!(rt; room == [255u8; 3]);
 }
 
 #[test]
@@ -131,11 +126,11 @@ fn the_most_blocks_need_more_than_any_partition(rt: HostRuntime) {
     image[20] = 1;
     image[28..40].copy_from_slice(&[0xC3, 0xCA, 0, 0, 255, 255, 255, 255, 12, 0, 0, 0]);
     let mut room = [255u8; 16];
-    assert_eq!(rt;
-        flashed(&image, 13, &mut room),
-        Err(FlashFault::PartitionTooSmall {
-            need: 17_179_869_180
-        })
+    assert!(rt;
+        flashed(&image, 13, &mut room)
+            == Err(FlashFault::PartitionTooSmall {
+                need: 17_179_869_180
+            })
     );
     assert!(rt; holds(&room, 0));
 }
@@ -153,9 +148,9 @@ fn each_beginning_is_truncated_and_what_it_gives_stands(rt: HostRuntime) {
             8
         };
         let mut room = [255u8; 16];
-        assert_eq!(rt;
-            flashed(&WITH_CHECKSUM[..m], 13, &mut room),
-            Err(FlashFault::Sparse(SparseFault::Truncated { at: m as u64 }))
+        assert!(rt;
+            flashed(&WITH_CHECKSUM[..m], 13, &mut room)
+                == Err(FlashFault::Sparse(SparseFault::Truncated { at: m as u64 }))
         );
         assert!(rt; holds(&room, came));
     }
@@ -164,9 +159,9 @@ fn each_beginning_is_truncated_and_what_it_gives_stands(rt: HostRuntime) {
 #[test]
 fn blocks_before_a_bad_chunk_stand(rt: HostRuntime) {
     let mut room = [255u8; 16];
-    assert_eq!(rt;
-        flashed(&TOO_MANY, 13, &mut room),
-        Err(FlashFault::Sparse(SparseFault::TooManyBlocks { chunk: 1 }))
+    assert!(rt;
+        flashed(&TOO_MANY, 13, &mut room)
+            == Err(FlashFault::Sparse(SparseFault::TooManyBlocks { chunk: 1 }))
     );
     assert!(rt; holds(&room, 4));
 }
@@ -181,17 +176,14 @@ fn a_fill_longer_than_a_window_is_written(rt: HostRuntime) {
     image[28..40].copy_from_slice(&[0xC3, 0xCA, 0, 0, 2, 0, 0, 0, 12, 0, 0, 0]);
     image[40..56].copy_from_slice(&[0xC2, 0xCA, 0, 0, 0x40, 0x9C, 0, 0, 16, 0, 0, 0, 5, 6, 7, 8]);
     let mut room = [9u8; 160_009];
-    assert_eq!(rt;
-        flashed(&image, 65_536, &mut room),
-        Ok(Flashed { blocks: 40_000 })
-    );
+    assert!(rt; flashed(&image, 65_536, &mut room) == Ok(Flashed { blocks: 40_000 }));
     for i in 0..8 {
-        assert_eq!(rt; room[i], 9);
+        assert!(rt; room[i] == 9);
     }
     for i in 0..160_000 {
-        assert_eq!(rt; room[8 + i] as usize, 5 + i % 4);
+        assert!(rt; room[8 + i] as usize == 5 + i % 4);
     }
-    assert_eq!(rt; room[160_008], 9);
+    assert!(rt; room[160_008] == 9);
 }
 
 /// Flashes image `THREE_KINDS` where call `n` of the input fails, at 0 none: the answer, and how many calls there were.
@@ -208,19 +200,19 @@ fn read_fails(n: u64, room: &mut [u8; 16]) -> (Result<Flashed, FlashFault>, u64)
 fn each_read_fails_and_whole_chunks_stand(rt: HostRuntime) {
     let mut room = [255u8; 16];
     let (answer, calls) = read_fails(0, &mut room);
-    assert_eq!(rt; answer, DONE_A);
+    assert!(rt; answer == DONE_A);
     // 28 bytes, three times twelve and twice four, at most five in a call.
-    assert_eq!(rt; calls, 6 + 3 * 3 + 2);
+    assert!(rt; calls == 6 + 3 * 3 + 2);
     for n in 1..calls.saturating_add(2) {
         let mut room = [255u8; 16];
         let (answer, had) = read_fails(n, &mut room);
         if n > calls {
-            assert_eq!(rt; answer, DONE_A);
+            assert!(rt; answer == DONE_A);
             assert!(rt; holds(&room, 8));
         } else {
-            assert_eq!(rt; answer, Err(FlashFault::Read(DeviceFault::Failed)));
+            assert!(rt; answer == Err(FlashFault::Read(DeviceFault::Failed)));
             assert!(rt; holds(&room, 0) || holds(&room, 4) || holds(&room, 8));
-            assert_eq!(rt; had, n);
+            assert!(rt; had == n);
         }
     }
 }
@@ -245,20 +237,20 @@ fn each_call_of_the_partition_fails_and_no_other_byte_is_touched(rt: HostRuntime
     for pick in [Pick::Old, Pick::New, Pick::Byte(0x5a)] {
         let mut room = [255u8; 16];
         let (answer, calls) = stopped(0, pick, &mut room);
-        assert_eq!(rt; answer, DONE_A);
+        assert!(rt; answer == DONE_A);
         assert!(rt; holds(&room, 8));
         // Two blocks, each in a write of three bytes and one of one, and a sync.
-        assert_eq!(rt; calls, 5);
+        assert!(rt; calls == 5);
         for n in 1..7 {
             let mut room = [255u8; 16];
             let (answer, _) = stopped(n, pick, &mut room);
             if n == 6 {
-                assert_eq!(rt; answer, DONE_A);
+                assert!(rt; answer == DONE_A);
                 assert!(rt; holds(&room, 8));
             } else if n == 5 {
-                assert_eq!(rt; answer, Err(FlashFault::Sync(DeviceFault::Failed)));
+                assert!(rt; answer == Err(FlashFault::Sync(DeviceFault::Failed)));
             } else {
-                assert_eq!(rt; answer, Err(FlashFault::Write(DeviceFault::Failed)));
+                assert!(rt; answer == Err(FlashFault::Write(DeviceFault::Failed)));
             }
             assert!(rt; room.ends_with(&[255u8; 8]));
         }
@@ -281,12 +273,9 @@ fn a_machine_that_is_done_answers_done_again(rt: HostRuntime) {
                 break;
             }
         }
-        assert_eq!(rt; last, Ok(Progress::Done));
-        assert_eq!(rt; input.position(), 72);
-        assert_eq!(rt;
-            machine.step(&mut input, &mut partition, &mut w, &mut m),
-            Ok(Progress::Done)
-        );
+        assert!(rt; last == Ok(Progress::Done));
+        assert!(rt; input.position() == 72);
+        assert!(rt; machine.step(&mut input, &mut partition, &mut w, &mut m) == Ok(Progress::Done));
     }
     assert!(rt; holds(&room, 8));
 }
@@ -299,16 +288,13 @@ fn a_machine_that_refused_refuses_again_and_reads_no_more(rt: HostRuntime) {
     let mut w = Window::new();
     let mut m = Meter::new();
     let mut machine = Flasher::open();
-    assert_eq!(rt;
-        machine.step(&mut input, &mut partition, &mut w, &mut m),
-        Ok(Progress::More)
-    );
+    assert!(rt; machine.step(&mut input, &mut partition, &mut w, &mut m) == Ok(Progress::More));
     for _ in 0..2 {
-        assert_eq!(rt;
-            machine.step(&mut input, &mut partition, &mut w, &mut m),
-            Err(FlashFault::PartitionTooSmall { need: 12 })
+        assert!(rt;
+            machine.step(&mut input, &mut partition, &mut w, &mut m)
+                == Err(FlashFault::PartitionTooSmall { need: 12 })
         );
-        assert_eq!(rt; input.position(), 28);
+        assert!(rt; input.position() == 28);
     }
 }
 
@@ -320,7 +306,7 @@ fn a_reader_is_flashed(rt: HostRuntime) {
         let mut partition = SlicePartition::new(&mut room);
         let mut w = Window::new();
         let mut m = Meter::new();
-        assert_eq!(rt; flash(&mut input, &mut partition, &mut w, &mut m), DONE_A);
+        assert!(rt; flash(&mut input, &mut partition, &mut w, &mut m) == DONE_A);
     }
     assert!(rt; holds(&room, 8));
 }

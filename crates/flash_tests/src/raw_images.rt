@@ -43,7 +43,7 @@ fn a_raw_image_is_delivered_in_two_pieces(rt: HostRuntime) {
         let mut partition = SlicePartition::new(&mut cells);
         let mut w = Window::new();
         let mut m = Meter::new();
-        assert_eq!(rt;
+        assert!(rt;
             deliver_raw(
                 &mut source,
                 8,
@@ -52,10 +52,9 @@ fn a_raw_image_is_delivered_in_two_pieces(rt: HostRuntime) {
                 &mut partition,
                 &mut w,
                 &mut m
-            ),
-            Ok(Delivered { pieces: 2 })
+            ) == Ok(Delivered { pieces: 2 })
         );
-        assert_eq!(rt; spool.taken, 136);
+        assert!(rt; spool.taken == 136);
     }
     assert!(rt; cells.starts_with(&OVER_MIXED));
     assert!(rt; cells.ends_with(&[255; 2]));
@@ -72,11 +71,11 @@ fn its_sparse_image_is_delivered_in_the_same_pieces(rt: HostRuntime) {
         let mut partition = SlicePartition::new(&mut cells);
         let mut w = Window::new();
         let mut m = Meter::new();
-        assert_eq!(rt;
-            deliver(&mut source, 88, &mut spool, &mut partition, &mut w, &mut m),
-            Ok(Delivered { pieces: 2 })
+        assert!(rt;
+            deliver(&mut source, 88, &mut spool, &mut partition, &mut w, &mut m)
+                == Ok(Delivered { pieces: 2 })
         );
-        assert_eq!(rt; spool.taken, 136);
+        assert!(rt; spool.taken == 136);
     }
     assert!(rt; cells.starts_with(&OVER_MIXED));
     assert!(rt; cells.ends_with(&[255; 2]));
@@ -89,12 +88,12 @@ fn a_raw_image_is_resumed_from_each_piece(rt: HostRuntime) {
     let mut room = [0u8; 88];
     let mut cells = [255u8; 24];
     let answer = delivered(&mut source, 8, 2, &mut room, &mut cells);
-    assert_eq!(rt; answer, Ok(Delivered { pieces: 1 }));
+    assert!(rt; answer == Ok(Delivered { pieces: 1 }));
     assert!(rt; cells.starts_with(&[255; 16]));
     assert!(rt; cells.ends_with(&OVER_MIXED[16..]));
     let answer = delivered(&mut source, 8, 1, &mut room, &mut cells);
-    assert_eq!(rt; answer, Ok(Delivered { pieces: 2 }));
-    assert_eq!(rt; cells, OVER_MIXED);
+    assert!(rt; answer == Ok(Delivered { pieces: 2 }));
+    assert!(rt; cells == OVER_MIXED);
 }
 
 #[test]
@@ -102,7 +101,7 @@ fn a_raw_image_of_no_bytes_is_one_piece(rt: HostRuntime) {
     let mut source = SliceSource::new(&[]);
     let mut room = [0u8; 88];
     let answer = delivered(&mut source, 8, 0, &mut room, &mut []);
-    assert_eq!(rt; answer, Ok(Delivered { pieces: 1 }));
+    assert!(rt; answer == Ok(Delivered { pieces: 1 }));
 }
 
 #[test]
@@ -115,17 +114,17 @@ fn a_raw_image_is_refused_in_order(rt: HostRuntime) {
     for from in [0, 3] {
         for b in [0, 6, 65_540] {
             let answer = delivered(&mut long, b, from, &mut room, &mut cells);
-            assert_eq!(rt; answer, Err(FlashFault::BadBlock(b)));
+            assert!(rt; answer == Err(FlashFault::BadBlock(b)));
         }
         let answer = delivered(&mut long, 4, from, &mut room, &mut cells);
-        assert_eq!(rt; answer, Err(FlashFault::TooLarge));
+        assert!(rt; answer == Err(FlashFault::TooLarge));
         let answer = delivered(&mut source, 28, from, &mut room, &mut cells);
-        assert_eq!(rt; answer, Err(FlashFault::LimitTooSmall { least: 92 }));
+        assert!(rt; answer == Err(FlashFault::LimitTooSmall { least: 92 }));
         let answer = delivered(&mut source, 8, from, &mut room, &mut cells);
-        assert_eq!(rt; answer, Err(FlashFault::PartitionTooSmall { need: 24 }));
+        assert!(rt; answer == Err(FlashFault::PartitionTooSmall { need: 24 }));
     }
-    assert_eq!(rt; cells, [255u8; 23]);
-    assert_eq!(rt; room, [7u8; 88]);
+    assert!(rt; cells == [255u8; 23]);
+    assert!(rt; room == [7u8; 88]);
 }
 
 #[test]
@@ -135,10 +134,10 @@ fn a_raw_piece_that_is_not_there_is_refused(rt: HostRuntime) {
     let mut cells = [255u8; 24];
     for from in [3, 4, u32::MAX] {
         let answer = delivered(&mut source, 8, from, &mut room, &mut cells);
-        assert_eq!(rt; answer, Err(FlashFault::NoSuchPiece { pieces: 2 }));
+        assert!(rt; answer == Err(FlashFault::NoSuchPiece { pieces: 2 }));
     }
-    assert_eq!(rt; cells, [255u8; 24]);
-    assert_eq!(rt; room, [7u8; 88]);
+    assert!(rt; cells == [255u8; 24]);
+    assert!(rt; room == [7u8; 88]);
 }
 
 #[test]
@@ -152,12 +151,12 @@ fn a_raw_image_that_is_shorter_than_it_says_has_changed(rt: HostRuntime) {
         cause: Cause::SourceChanged,
     };
     // Whether the third block goes on is asked in planning the first piece.
-    assert_eq!(rt; answer, Err(stopped));
-    assert_eq!(rt; cells, [255u8; 32]);
+    assert!(rt; answer == Err(stopped));
+    assert!(rt; cells == [255u8; 32]);
     // In planning alone it is answered as it is.
     let answer = delivered(&mut source, 8, 2, &mut room, &mut cells);
-    assert_eq!(rt; answer, Err(FlashFault::SourceChanged));
-    assert_eq!(rt; cells, [255u8; 32]);
+    assert!(rt; answer == Err(FlashFault::SourceChanged));
+    assert!(rt; cells == [255u8; 32]);
 }
 
 /// Delivers where the source shrinks to ten bytes after so many calls, and answers whether all came.
@@ -168,23 +167,23 @@ fn shrinking<R: Abort>(rt: &R, calls: u64, from: u32) -> bool {
     let answer = delivered(&mut source, 8, from, &mut room, &mut cells);
     match answer {
         Ok(done) => {
-            assert_eq!(rt; done.pieces, if from == 2 { 1 } else { 2 });
+            assert!(rt; done.pieces == (if from == 2 { 1 } else { 2 }));
             if from < 2 {
                 assert!(rt; cells == OVER_MIXED);
             }
             return true;
         }
         Err(FlashFault::Stopped { piece, cause }) => {
-            assert_eq!(rt; cause, Cause::SourceChanged);
+            assert!(rt; cause == Cause::SourceChanged);
             let whole = if piece == 2 && from < 2 { 16 } else { 0 };
             for i in 0..24 {
                 let want = if i < whole { OVER_MIXED[i] } else { 255 };
-                assert_eq!(rt; cells[i], want);
+                assert!(rt; cells[i] == want);
             }
         }
         Err(fault) => {
             assert!(rt; fault == FlashFault::SourceChanged && from == 2);
-            assert_eq!(rt; cells, [255u8; 24]);
+            assert!(rt; cells == [255u8; 24]);
         }
     }
     false

@@ -44,13 +44,13 @@ fn is_mended<R: Abort>(rt: &R, piece: u32, now: &[u8; 16]) {
         if from <= piece {
             let mut mended = *now;
             let answer = stopped(from, 0, Pick::Old, &mut mended);
-            assert_eq!(rt;
-                answer,
-                Ok(Delivered {
-                    pieces: 4u32.saturating_sub(from)
-                })
+            assert!(rt;
+                answer
+                    == Ok(Delivered {
+                        pieces: 4u32.saturating_sub(from)
+                    })
             );
-            assert_eq!(rt; mended, OVER_NO_GAP);
+            assert!(rt; mended == OVER_NO_GAP);
         }
     }
 }
@@ -80,11 +80,11 @@ fn a_stop_at_each_call_is_mended_from_each_piece_up_to_it(rt: HostRuntime) {
                     is_mended(&rt, piece, &now);
                     stops = n;
                 }
-                None => assert_eq!(rt; now, OVER_NO_GAP),
+                None => assert!(rt; now == OVER_NO_GAP),
             }
         }
         // Three pieces, each written once and synced once.
-        assert_eq!(rt; stops, 6);
+        assert!(rt; stops == 6);
     }
 }
 
@@ -101,7 +101,7 @@ fn second_stops<R: Abort>(rt: &R, from: u32, pick: Pick, now: &[u8; 16]) -> u64 
                 is_mended(rt, piece, &again);
                 stops = n;
             }
-            None => assert_eq!(rt; again, OVER_NO_GAP),
+            None => assert!(rt; again == OVER_NO_GAP),
         }
     }
     stops
@@ -118,7 +118,7 @@ fn a_second_stop_within_a_resume_is_mended_too(rt: HostRuntime) {
                 if from <= stopped_in {
                     for other in PICKS {
                         let calls = 2 * (4u32.saturating_sub(from)) as u64;
-                        assert_eq!(rt; second_stops(&rt, from, other, &now), calls);
+                        assert!(rt; second_stops(&rt, from, other, &now) == calls);
                     }
                 }
             }
@@ -170,13 +170,13 @@ fn is_raw_mended<R: Abort>(rt: &R, piece: u32, now: &[u8; 32]) {
         if from <= piece {
             let mut mended = *now;
             let answer = raw_stopped(from, 0, Pick::Old, &mut mended);
-            assert_eq!(rt;
-                answer,
-                Ok(Delivered {
-                    pieces: 3u32.saturating_sub(from)
-                })
+            assert!(rt;
+                answer
+                    == Ok(Delivered {
+                        pieces: 3u32.saturating_sub(from)
+                    })
             );
-            assert_eq!(rt; mended, OVER_RAW);
+            assert!(rt; mended == OVER_RAW);
         }
     }
 }
@@ -193,7 +193,7 @@ fn raw_stops<R: Abort>(rt: &R, from: u32, pick: Pick, before: &[u8; 32]) -> u64 
                 is_raw_mended(rt, piece, &now);
                 stops = n;
             }
-            None => assert_eq!(rt; now, OVER_RAW),
+            None => assert!(rt; now == OVER_RAW),
         }
     }
     stops
@@ -203,10 +203,7 @@ fn raw_stops<R: Abort>(rt: &R, from: u32, pick: Pick, before: &[u8; 32]) -> u64 
 fn a_stop_in_a_raw_image_is_mended_from_each_piece_up_to_it(rt: HostRuntime) {
     for pick in PICKS {
         // Three runs written, and two syncs.
-        assert_eq!(rt;
-            raw_stops(&rt, 0, pick, b"................................"),
-            5
-        );
+        assert!(rt; raw_stops(&rt, 0, pick, b"................................") == 5);
     }
 }
 
@@ -217,9 +214,9 @@ fn a_second_stop_in_a_raw_image_is_mended_too(rt: HostRuntime) {
             let mut now = *b"................................";
             let answer = raw_stopped(0, n, pick, &mut now);
             let piece = piece_of(&rt, answer).unwrap_or(0);
-            assert_eq!(rt; raw_stops(&rt, 1, pick, &now), 5);
+            assert!(rt; raw_stops(&rt, 1, pick, &now) == 5);
             if piece == 2 {
-                assert_eq!(rt; raw_stops(&rt, 2, pick, &now), 2);
+                assert!(rt; raw_stops(&rt, 2, pick, &now) == 2);
             }
         }
     }

@@ -77,40 +77,34 @@ fn each_chunk_is_listed_with_its_blocks_and_word(rt: HostRuntime) {
     let want = [RAW, FILL, SKIP, CHECKSUM];
     let mut input = Cut::new(Forward::new(SliceSource::new(&WITH_CHECKSUM)), 5);
     let (count, header, end) = listed(&mut input, &want);
-    assert_eq!(rt; count, 4);
-    assert_eq!(rt; end, Ok(true));
+    assert!(rt; count == 4);
+    assert!(rt; end == Ok(true));
     let header = header.expect(&rt, "header");
-    assert_eq!(rt;
-        (header.minor, header.file_hdr_sz, header.chunk_hdr_sz),
-        (0, 28, 12)
-    );
-    assert_eq!(rt;
-        (header.blk_sz, header.total_blks, header.total_chunks),
-        (4, 3, 4)
-    );
-    assert_eq!(rt; header.image_checksum, 0);
+    assert!(rt; (header.minor, header.file_hdr_sz, header.chunk_hdr_sz) == (0, 28, 12));
+    assert!(rt; (header.blk_sz, header.total_blks, header.total_chunks) == (4, 3, 4));
+    assert!(rt; header.image_checksum == 0);
     let mut image = WITH_CHECKSUM;
     image[76] = 7;
     let mut input = FromRead::new(image.as_slice());
     let (count, _header, end) = listed(&mut input, &want);
-    assert_eq!(rt; count, 4);
-    assert_eq!(rt; end, Ok(true));
+    assert!(rt; count == 4);
+    assert!(rt; end == Ok(true));
 }
 
 #[test]
 fn no_chunk_is_listed_before_its_data_came(rt: HostRuntime) {
     let mut input = Forward::new(SliceSource::new(&THREE_KINDS[..47]));
     let (count, header, end) = listed(&mut input, &[RAW]);
-    assert_eq!(rt; count, 1);
+    assert!(rt; count == 1);
     assert!(rt; header.is_ok());
-    assert_eq!(rt; end, Err(SparseFault::Truncated { at: 47 }));
-    assert_eq!(rt; input.position(), 47);
+    assert!(rt; end == Err(SparseFault::Truncated { at: 47 }));
+    assert!(rt; input.position() == 47);
     let mut input = Forward::new(SliceSource::new(&THREE_KINDS[..42]));
     let (count, header, end) = listed(&mut input, &[]);
-    assert_eq!(rt; count, 0);
+    assert!(rt; count == 0);
     assert!(rt; header.is_ok());
-    assert_eq!(rt; end, Err(SparseFault::Truncated { at: 42 }));
-    assert_eq!(rt; input.position(), 42);
+    assert!(rt; end == Err(SparseFault::Truncated { at: 42 }));
+    assert!(rt; input.position() == 42);
 }
 
 #[test]
@@ -123,13 +117,13 @@ fn longer_headers_are_passed_over(rt: HostRuntime) {
     };
     let mut input = Forward::new(SliceSource::new(&LONG_HEADERS));
     let (count, header, end) = listed(&mut input, &[skip]);
-    assert_eq!(rt; count, 1);
-    assert_eq!(rt; end, Ok(true));
+    assert!(rt; count == 1);
+    assert!(rt; end == Ok(true));
     let header = header.expect(&rt, "header");
-    assert_eq!(rt; (header.file_hdr_sz, header.chunk_hdr_sz), (32, 16));
+    assert!(rt; (header.file_hdr_sz, header.chunk_hdr_sz) == (32, 16));
     let mut input = Forward::new(SliceSource::new(&LONG_HEADERS[..31]));
     let (_count, header, _end) = listed(&mut input, &[]);
-    assert_eq!(rt; header, Err(SparseFault::Truncated { at: 31 }));
+    assert!(rt; header == Err(SparseFault::Truncated { at: 31 }));
 }
 
 #[test]
@@ -148,8 +142,8 @@ fn blocks_past_the_total_are_refused(rt: HostRuntime) {
     };
     let mut input = Forward::new(SliceSource::new(&image));
     let (count, _header, end) = listed(&mut input, &[skip]);
-    assert_eq!(rt; count, 1);
-    assert_eq!(rt; end, Err(SparseFault::TooManyBlocks { chunk: 1 }));
+    assert!(rt; count == 1);
+    assert!(rt; end == Err(SparseFault::TooManyBlocks { chunk: 1 }));
 }
 
 #[test]
@@ -169,8 +163,8 @@ fn chunks_of_no_blocks_are_listed(rt: HostRuntime) {
     };
     let mut input = Forward::new(SliceSource::new(&image));
     let (count, _header, end) = listed(&mut input, &[first, second]);
-    assert_eq!(rt; count, 2);
-    assert_eq!(rt; end, Ok(true));
+    assert!(rt; count == 2);
+    assert!(rt; end == Ok(true));
 }
 
 #[test]
@@ -179,19 +173,19 @@ fn each_read_fails_and_the_chunks_before_are_listed(rt: HostRuntime) {
     let input = Cut::new(Forward::new(SliceSource::new(&WITH_CHECKSUM)), 5);
     let mut input = Faulty::new(input, 0);
     let (count, _header, end) = listed(&mut input, &want);
-    assert_eq!(rt; (count, end), (4, Ok(true)));
+    assert!(rt; (count, end) == (4, Ok(true)));
     // 28 bytes, four times twelve and three times four, at most five in a call.
     let reads = input.seen;
-    assert_eq!(rt; reads, 6 + 4 * 3 + 3);
+    assert!(rt; reads == 6 + 4 * 3 + 3);
     for n in 1..reads.saturating_add(2) {
         let input = Cut::new(Forward::new(SliceSource::new(&WITH_CHECKSUM)), 5);
         let mut input = Faulty::new(input, n);
         let (count, _header, end) = listed(&mut input, &want);
         if n > reads {
-            assert_eq!(rt; (count, end), (4, Ok(true)));
+            assert!(rt; (count, end) == (4, Ok(true)));
         } else {
-            assert_eq!(rt; end, Err(SparseFault::Read(DeviceFault::Failed)));
-            assert_eq!(rt; input.seen, n);
+            assert!(rt; end == Err(SparseFault::Read(DeviceFault::Failed)));
+            assert!(rt; input.seen == n);
             // A chunk is listed when its data came: behind calls 10, 14, 17 and 21.
             let whole = match n {
                 0..=10 => 0,
@@ -199,7 +193,7 @@ fn each_read_fails_and_the_chunks_before_are_listed(rt: HostRuntime) {
                 15..=17 => 2,
                 _ => 3,
             };
-            assert_eq!(rt; count, whole, "call {n}");
+            assert!(rt; count == whole, "call {n}");
         }
     }
 }

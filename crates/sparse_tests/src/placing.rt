@@ -44,16 +44,16 @@ fn published_images_are_written(rt: HostRuntime) {
         chunks: 2,
         bytes: 60,
     };
-    assert_eq!(rt; placed(&WORDS, 4, 1, &mut room), Ok(written));
-    assert_eq!(rt; room.as_slice(), WORDS_IMAGE.as_slice());
+    assert!(rt; placed(&WORDS, 4, 1, &mut room) == Ok(written));
+    assert!(rt; room.as_slice() == WORDS_IMAGE.as_slice());
     let mut room = [0u8; 72];
     let written = Written {
         blocks: 3,
         chunks: 2,
         bytes: 72,
     };
-    assert_eq!(rt; placed(&MIXED, 8, 100, &mut room), Ok(written));
-    assert_eq!(rt; room.as_slice(), MIXED_IMAGE.as_slice());
+    assert!(rt; placed(&MIXED, 8, 100, &mut room) == Ok(written));
+    assert!(rt; room.as_slice() == MIXED_IMAGE.as_slice());
 }
 
 #[test]
@@ -64,8 +64,8 @@ fn a_raw_run_is_written_in_chunks(rt: HostRuntime) {
         chunks: 3,
         bytes: 104,
     };
-    assert_eq!(rt; placed(&LETTERS, 8, 2, &mut room), Ok(written));
-    assert_eq!(rt; room.as_slice(), LETTERS_IMAGE.as_slice());
+    assert!(rt; placed(&LETTERS, 8, 2, &mut room) == Ok(written));
+    assert!(rt; room.as_slice() == LETTERS_IMAGE.as_slice());
 }
 
 #[test]
@@ -76,8 +76,8 @@ fn no_bytes_are_a_header(rt: HostRuntime) {
         chunks: 0,
         bytes: 28,
     };
-    assert_eq!(rt; placed(b"", 4, 1, &mut room), Ok(written));
-    assert_eq!(rt; room.as_slice(), EMPTY.as_slice());
+    assert!(rt; placed(b"", 4, 1, &mut room) == Ok(written));
+    assert!(rt; room.as_slice() == EMPTY.as_slice());
 }
 
 /// Both calls answer the same and write the same bytes; the one pass reads each byte once.
@@ -107,9 +107,9 @@ fn same_as_two_passes<R: Abort>(
         &mut m,
     );
     assert!(rt; answer.is_ok());
-    assert_eq!(rt; answer, wanted);
+    assert!(rt; answer == wanted);
     assert!(rt; first.written() == second.written());
-    assert_eq!(rt; source.handed, bytes.len() as u64);
+    assert!(rt; source.handed == bytes.len() as u64);
 }
 
 /// All images of up to nine bytes, each of them one of two, with blocks of four and of eight bytes.
@@ -216,7 +216,7 @@ fn failing<R: Abort>(
     let written = output.device.device.written();
     assert!(rt; written.starts_with(&BEFORE));
     if answer.is_ok() {
-        assert_eq!(rt; &written[3.min(written.len())..], LETTERS_IMAGE.as_slice());
+        assert!(rt; &written[3.min(written.len())..] == LETTERS_IMAGE.as_slice());
     } else {
         no_image(rt, &written[3.min(written.len())..], &mut w);
     }
@@ -230,12 +230,12 @@ fn each_read_fails_and_no_image_stands(rt: HostRuntime) {
     assert!(rt; reads > 2);
     for n in 1..reads.saturating_add(1) {
         let (answer, had, _) = failing(&rt, 7, n, 0);
-        assert_eq!(rt; answer, Err(PieceFault::Read(DeviceFault::Failed)));
-        assert_eq!(rt; had, n);
+        assert!(rt; answer == Err(PieceFault::Read(DeviceFault::Failed)));
+        assert!(rt; had == n);
     }
     let (answer, had, _) = failing(&rt, 7, reads.saturating_add(1), 0);
     assert!(rt; answer.is_ok());
-    assert_eq!(rt; had, reads);
+    assert!(rt; had == reads);
 }
 
 /// With one byte a call this stops behind each byte that is written or written over.
@@ -248,12 +248,12 @@ fn each_write_fails_and_no_image_stands(rt: HostRuntime) {
         assert!(rt; writes > 9);
         for n in 1..writes.saturating_add(1) {
             let (answer, _, had) = failing(&rt, most, 0, n);
-            assert_eq!(rt; answer, Err(PieceFault::Write(DeviceFault::Failed)));
-            assert_eq!(rt; had, n);
+            assert!(rt; answer == Err(PieceFault::Write(DeviceFault::Failed)));
+            assert!(rt; had == n);
         }
         let (answer, _, had) = failing(&rt, most, 0, writes.saturating_add(1));
         assert!(rt; answer.is_ok());
-        assert_eq!(rt; had, writes);
+        assert!(rt; had == writes);
     }
 }
 
@@ -266,7 +266,7 @@ fn an_output_with_too_little_room_is_full_and_holds_no_image(rt: HostRuntime) {
         let mut output = SliceOutput::new(&mut room[..n]);
         let mut source = SliceSource::new(&LETTERS);
         let answer = sparsify_at(&mut source, 8, 2, &mut output, &mut w, &mut m);
-        assert_eq!(rt; answer, Err(PieceFault::Write(DeviceFault::Full)));
+        assert!(rt; answer == Err(PieceFault::Write(DeviceFault::Full)));
         no_image(&rt, output.written(), &mut w);
     }
 }
@@ -280,13 +280,13 @@ fn bad_sizes_are_refused_before_a_write(rt: HostRuntime) -> Result<(), Fail> {
     let mut source = SliceSource::new(&WORDS);
     for size in [0, 6, 65_540] {
         let answer = sparsify_at(&mut source, size, 1, &mut output, &mut w, &mut m);
-        assert_eq!(rt; answer, Err(PieceFault::BadBlock(size)));
+        assert!(rt; answer == Err(PieceFault::BadBlock(size)));
     }
     let mut source = Long::new(SliceSource::new(&WORDS), 17_179_869_181);
     let answer = sparsify_at(&mut source, 4, 1, &mut output, &mut w, &mut m);
-    assert_eq!(rt; answer, Err(PieceFault::TooLarge));
+    assert!(rt; answer == Err(PieceFault::TooLarge));
     let answer = sparsify_at(&mut source, 6, 1, &mut output, &mut w, &mut m);
-    assert_eq!(rt; answer, Err(PieceFault::BadBlock(6)));
+    assert!(rt; answer == Err(PieceFault::BadBlock(6)));
     assert!(rt; output.written().is_empty());
     Ok(())
 }
@@ -300,9 +300,9 @@ fn shrinking<R: Abort>(rt: &R, calls: u64) -> bool {
     let mut m = Meter::new();
     let answer = sparsify_at(&mut source, 8, 2, &mut output, &mut w, &mut m);
     match answer {
-        Ok(written) => assert_eq!(rt; written.bytes, 104),
+        Ok(written) => assert!(rt; written.bytes == 104),
         Err(fault) => {
-            assert_eq!(rt; fault, PieceFault::SourceChanged);
+            assert!(rt; fault == PieceFault::SourceChanged);
             no_image(rt, output.written(), &mut w);
         }
     }
@@ -329,6 +329,6 @@ fn a_source_that_is_shorter_than_it_says_has_changed(rt: HostRuntime) {
     let mut output = SliceOutput::new(&mut room);
     let mut source = Long::new(SliceSource::new(&WORDS), 12);
     let answer = sparsify_at(&mut source, 4, 1, &mut output, &mut w, &mut m);
-    assert_eq!(rt; answer, Err(PieceFault::SourceChanged));
+    assert!(rt; answer == Err(PieceFault::SourceChanged));
     no_image(&rt, output.written(), &mut w);
 }

@@ -21,34 +21,31 @@ fn a_raw_image_in_two_pieces(rt: HostRuntime) -> Result<(), Fail> {
     let mut room = [0; 100];
     let mut output = SliceOutput::new(&mut room);
     let first = cutter.next_piece(&mut source, &mut output, &mut w, &mut m)?;
-    assert_eq!(rt;
-        first,
-        Some(Piece {
-            first: 0,
-            past: 2,
-            written: 2,
-            bytes: 76
-        })
+    assert!(rt;
+        first
+            == Some(Piece {
+                first: 0,
+                past: 2,
+                written: 2,
+                bytes: 76
+            })
     );
-    assert_eq!(rt; output.written(), MIXED_FIRST.as_slice());
+    assert!(rt; output.written() == MIXED_FIRST.as_slice());
     let mut room = [0; 100];
     let mut output = SliceOutput::new(&mut room);
     let second = cutter.next_piece(&mut source, &mut output, &mut w, &mut m)?;
-    assert_eq!(rt;
-        second,
-        Some(Piece {
-            first: 2,
-            past: 3,
-            written: 1,
-            bytes: 60
-        })
+    assert!(rt;
+        second
+            == Some(Piece {
+                first: 2,
+                past: 3,
+                written: 1,
+                bytes: 60
+            })
     );
-    assert_eq!(rt; output.written(), MIXED_SECOND.as_slice());
+    assert!(rt; output.written() == MIXED_SECOND.as_slice());
     assert!(rt; !cutter.more());
-    assert_eq!(rt;
-        cutter.next_piece(&mut source, &mut output, &mut w, &mut m)?,
-        None
-    );
+    assert!(rt; cutter.next_piece(&mut source, &mut output, &mut w, &mut m)? == None);
     Ok(())
 }
 
@@ -87,35 +84,32 @@ fn step_by_step_the_pieces_are_the_same(rt: HostRuntime) -> Result<(), Fail> {
     let mut room = [0; 100];
     let mut output = SliceOutput::new(&mut room);
     let first = stepped(&mut cutter, &mut source, &mut output, &mut w, &mut m)?;
-    assert_eq!(rt;
-        first,
-        Some(Piece {
-            first: 0,
-            past: 2,
-            written: 2,
-            bytes: 76
-        })
+    assert!(rt;
+        first
+            == Some(Piece {
+                first: 0,
+                past: 2,
+                written: 2,
+                bytes: 76
+            })
     );
-    assert_eq!(rt; output.written(), MIXED_FIRST.as_slice());
+    assert!(rt; output.written() == MIXED_FIRST.as_slice());
     let mut room = [0; 100];
     let mut output = SliceOutput::new(&mut room);
     let second = stepped(&mut cutter, &mut source, &mut output, &mut w, &mut m)?;
-    assert_eq!(rt;
-        second,
-        Some(Piece {
-            first: 2,
-            past: 3,
-            written: 1,
-            bytes: 60
-        })
+    assert!(rt;
+        second
+            == Some(Piece {
+                first: 2,
+                past: 3,
+                written: 1,
+                bytes: 60
+            })
     );
-    assert_eq!(rt; output.written(), MIXED_SECOND.as_slice());
+    assert!(rt; output.written() == MIXED_SECOND.as_slice());
     let calls = source.seen;
-    assert_eq!(rt;
-        stepped(&mut cutter, &mut source, &mut output, &mut w, &mut m)?,
-        None
-    );
-    assert_eq!(rt; source.seen, calls);
+    assert!(rt; stepped(&mut cutter, &mut source, &mut output, &mut w, &mut m)? == None);
+    assert!(rt; source.seen == calls);
     assert!(rt; !cutter.more());
     Ok(())
 }
@@ -140,8 +134,8 @@ fn a_step_writes_little_more_than_it_received(rt: HostRuntime) -> Result<(), Fai
             output.written().len() as u64 <= before.saturating_add(received).saturating_add(80)
         );
         if let PieceProgress::Piece(piece) = progress {
-            assert_eq!(rt; piece.bytes, 440);
-            assert_eq!(rt; output.written().len(), 440);
+            assert!(rt; piece.bytes == 440);
+            assert!(rt; output.written().len() == 440);
             return Ok(());
         }
         assert!(rt; cutter.more());
@@ -158,17 +152,11 @@ fn a_step_behind_a_fault_calls_no_device(rt: HostRuntime) -> Result<(), Fail> {
     let mut room = [0; 100];
     let mut output = Faulty::new(SliceOutput::new(&mut room), 0);
     let fault = Err(PieceFault::Read(DeviceFault::Failed));
-    assert_eq!(rt;
-        cutter.step(&mut source, &mut output, &mut w, &mut m),
-        fault
-    );
-    assert_eq!(rt; source.seen, 1);
-    assert_eq!(rt;
-        cutter.step(&mut source, &mut output, &mut w, &mut m),
-        fault
-    );
-    assert_eq!(rt; source.seen, 1);
-    assert_eq!(rt; output.seen, 0);
+    assert!(rt; cutter.step(&mut source, &mut output, &mut w, &mut m) == fault);
+    assert!(rt; source.seen == 1);
+    assert!(rt; cutter.step(&mut source, &mut output, &mut w, &mut m) == fault);
+    assert!(rt; source.seen == 1);
+    assert!(rt; output.seen == 0);
     assert!(rt; cutter.more());
     Ok(())
 }
@@ -180,20 +168,20 @@ fn a_piece_is_passed_over(rt: HostRuntime) -> Result<(), Fail> {
     let mut m = Meter::new();
     let mut cutter = Cutter::open(RawRuns::open(&source, 8)?, 88)?;
     let first = cutter.skip_piece(&mut source, &mut w, &mut m)?;
-    assert_eq!(rt;
-        first,
-        Some(Piece {
-            first: 0,
-            past: 2,
-            written: 2,
-            bytes: 76
-        })
+    assert!(rt;
+        first
+            == Some(Piece {
+                first: 0,
+                past: 2,
+                written: 2,
+                bytes: 76
+            })
     );
     let mut room = [0; 100];
     let mut output = SliceOutput::new(&mut room);
     cutter.next_piece(&mut source, &mut output, &mut w, &mut m)?;
-    assert_eq!(rt; output.written(), MIXED_SECOND.as_slice());
-    assert_eq!(rt; cutter.skip_piece(&mut source, &mut w, &mut m)?, None);
+    assert!(rt; output.written() == MIXED_SECOND.as_slice());
+    assert!(rt; cutter.skip_piece(&mut source, &mut w, &mut m)? == None);
     Ok(())
 }
 
@@ -206,16 +194,16 @@ fn an_image_of_no_blocks_is_one_piece(rt: HostRuntime) -> Result<(), Fail> {
     let mut room = [0; 40];
     let mut output = SliceOutput::new(&mut room);
     let piece = cutter.next_piece(&mut source, &mut output, &mut w, &mut m)?;
-    assert_eq!(rt;
-        piece,
-        Some(Piece {
-            first: 0,
-            past: 0,
-            written: 0,
-            bytes: 28
-        })
+    assert!(rt;
+        piece
+            == Some(Piece {
+                first: 0,
+                past: 0,
+                written: 0,
+                bytes: 28
+            })
     );
-    assert_eq!(rt; output.written().len(), 28);
+    assert!(rt; output.written().len() == 28);
     assert!(rt; !cutter.more());
     Ok(())
 }
@@ -223,12 +211,12 @@ fn an_image_of_no_blocks_is_one_piece(rt: HostRuntime) -> Result<(), Fail> {
 #[test]
 fn a_limit_below_the_least_is_refused(rt: HostRuntime) -> Result<(), Fail> {
     let source = SliceSource::new(&MIXED);
-    assert_eq!(rt; least_limit(8), 72);
+    assert!(rt; least_limit(8) == 72);
     match Cutter::open(RawRuns::open(&source, 8)?, 71) {
         Ok(_) => assert!(rt; false),
         Err(fault) => {
-            assert_eq!(rt; fault, PieceFault::LimitTooSmall { least: 72 });
-            assert_eq!(rt; fault.number(), 16);
+            assert!(rt; fault == PieceFault::LimitTooSmall { least: 72 });
+            assert!(rt; fault.number() == 16);
         }
     }
     Ok(())
@@ -251,12 +239,12 @@ fn failing<R: Abort>(
     let calls = (source.seen, output.seen);
     if answer.is_err() {
         let again = cutter.next_piece(&mut source, &mut output, &mut w, &mut m);
-        assert_eq!(rt; again, answer);
-        assert_eq!(rt; (source.seen, output.seen), calls);
+        assert!(rt; again == answer);
+        assert!(rt; (source.seen, output.seen) == calls);
     }
     let written = output.device.written();
     assert!(rt; MIXED_FIRST.starts_with(written));
-    assert_eq!(rt; answer.is_ok(), written.len() == 76);
+    assert!(rt; answer.is_ok() == (written.len() == 76));
     Ok((answer, calls.0, calls.1))
 }
 
@@ -267,12 +255,12 @@ fn a_failing_source_is_answered_again(rt: HostRuntime) -> Result<(), Fail> {
     assert!(rt; reads > 4);
     for n in 1..reads.saturating_add(1) {
         let (answer, had, _) = failing(&rt, n, 0)?;
-        assert_eq!(rt; answer, Err(PieceFault::Read(DeviceFault::Failed)));
-        assert_eq!(rt; had, n);
+        assert!(rt; answer == Err(PieceFault::Read(DeviceFault::Failed)));
+        assert!(rt; had == n);
     }
     let (answer, had, _) = failing(&rt, reads.saturating_add(1), 0)?;
     assert!(rt; answer.is_ok());
-    assert_eq!(rt; had, reads);
+    assert!(rt; had == reads);
     Ok(())
 }
 
@@ -283,11 +271,11 @@ fn a_failing_output_is_answered_again(rt: HostRuntime) -> Result<(), Fail> {
     assert!(rt; writes > 2);
     for n in 1..writes.saturating_add(1) {
         let (answer, _, had) = failing(&rt, 0, n)?;
-        assert_eq!(rt; answer, Err(PieceFault::Write(DeviceFault::Failed)));
-        assert_eq!(rt; had, n);
+        assert!(rt; answer == Err(PieceFault::Write(DeviceFault::Failed)));
+        assert!(rt; had == n);
     }
     let (answer, _, had) = failing(&rt, 0, writes.saturating_add(1))?;
     assert!(rt; answer.is_ok());
-    assert_eq!(rt; had, writes);
+    assert!(rt; had == writes);
     Ok(())
 }

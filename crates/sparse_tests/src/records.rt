@@ -32,21 +32,17 @@ fn header_with(place: usize, byte: u8, other_place: usize, other: u8) -> [u8; 28
 #[test]
 fn a_header_and_its_bytes(rt: HostRuntime) -> Result<(), Fail> {
     let header = SparseHeader::decode(&HEADER)?;
-    assert_eq!(rt;
-        (header.minor, header.file_hdr_sz, header.chunk_hdr_sz),
-        (0, 28, 12)
-    );
-    assert_eq!(rt;
+    assert!(rt; (header.minor, header.file_hdr_sz, header.chunk_hdr_sz) == (0, 28, 12));
+    assert!(rt;
         (
             header.blk_sz,
             header.total_blks,
             header.total_chunks,
             header.image_checksum
-        ),
-        (4, 3, 3, 0)
+        ) == (4, 3, 3, 0)
     );
-    assert_eq!(rt; header.encode(), HEADER);
-    assert_eq!(rt; header_of(HEADER.as_slice())?, header);
+    assert!(rt; header.encode() == HEADER);
+    assert!(rt; header_of(HEADER.as_slice())? == header);
     Ok(())
 }
 
@@ -57,48 +53,27 @@ fn each_field_has_its_place(rt: HostRuntime) -> Result<(), Fail> {
         0x78, 0x56, 0x34, 0x12,
     ];
     let header = SparseHeader::decode(&bytes)?;
-    assert_eq!(rt;
-        (header.minor, header.file_hdr_sz, header.chunk_hdr_sz),
-        (0x0107, 0x0220, 0x0310)
+    assert!(rt;
+        (header.minor, header.file_hdr_sz, header.chunk_hdr_sz) == (0x0107, 0x0220, 0x0310)
     );
-    assert_eq!(rt;
-        (header.blk_sz, header.total_blks),
-        (0x0706_0504, 0x0b0a_0908)
-    );
-    assert_eq!(rt;
-        (header.total_chunks, header.image_checksum),
-        (0x0f0e_0d0c, 0x1234_5678)
-    );
-    assert_eq!(rt; header.encode(), bytes);
+    assert!(rt; (header.blk_sz, header.total_blks) == (0x0706_0504, 0x0b0a_0908));
+    assert!(rt; (header.total_chunks, header.image_checksum) == (0x0f0e_0d0c, 0x1234_5678));
+    assert!(rt; header.encode() == bytes);
     Ok(())
 }
 
 #[test]
 fn the_first_check_that_fails_is_answered(rt: HostRuntime) {
-    assert_eq!(rt;
-        SparseHeader::decode(&header_with(0, 0x3b, 4, 2)),
-        Err(SparseFault::Magic)
+    assert!(rt; SparseHeader::decode(&header_with(0, 0x3b, 4, 2)) == Err(SparseFault::Magic));
+    assert!(rt; SparseHeader::decode(&header_with(4, 2, 8, 27)) == Err(SparseFault::Major(2)));
+    assert!(rt;
+        SparseHeader::decode(&header_with(8, 27, 10, 11)) == Err(SparseFault::FileHeaderSize(27))
     );
-    assert_eq!(rt;
-        SparseHeader::decode(&header_with(4, 2, 8, 27)),
-        Err(SparseFault::Major(2))
+    assert!(rt;
+        SparseHeader::decode(&header_with(10, 11, 12, 6)) == Err(SparseFault::ChunkHeaderSize(11))
     );
-    assert_eq!(rt;
-        SparseHeader::decode(&header_with(8, 27, 10, 11)),
-        Err(SparseFault::FileHeaderSize(27))
-    );
-    assert_eq!(rt;
-        SparseHeader::decode(&header_with(10, 11, 12, 6)),
-        Err(SparseFault::ChunkHeaderSize(11))
-    );
-    assert_eq!(rt;
-        SparseHeader::decode(&header_with(12, 6, 6, 9)),
-        Err(SparseFault::BlockSize(6))
-    );
-    assert_eq!(rt;
-        SparseHeader::decode(&header_with(12, 0, 6, 9)),
-        Err(SparseFault::BlockSize(0))
-    );
+    assert!(rt; SparseHeader::decode(&header_with(12, 6, 6, 9)) == Err(SparseFault::BlockSize(6)));
+    assert!(rt; SparseHeader::decode(&header_with(12, 0, 6, 9)) == Err(SparseFault::BlockSize(0)));
 }
 
 #[test]
@@ -109,24 +84,24 @@ fn a_chunk_header_and_its_bytes(rt: HostRuntime) {
         total: 65_552,
     };
     let bytes = [0xc1, 0xca, 0, 0, 0x01, 0x40, 0, 0, 0x10, 0, 1, 0];
-    assert_eq!(rt; header.encode(), bytes);
-    assert_eq!(rt; ChunkHeader::decode(&bytes), Ok(header));
+    assert!(rt; header.encode() == bytes);
+    assert!(rt; ChunkHeader::decode(&bytes) == Ok(header));
     let reserved = [0xc1, 0xca, 0x34, 0x12, 0x01, 0x40, 0, 0, 0x10, 0, 1, 0];
-    assert_eq!(rt; ChunkHeader::decode(&reserved), Ok(header));
+    assert!(rt; ChunkHeader::decode(&reserved) == Ok(header));
     let unknown = [0xc5, 0xca, 0, 0, 0x01, 0x40, 0, 0, 0x10, 0, 1, 0];
-    assert_eq!(rt; ChunkHeader::decode(&unknown), Err(0xCAC5));
+    assert!(rt; ChunkHeader::decode(&unknown) == Err(0xCAC5));
 }
 
 #[test]
 fn each_kind_has_its_number(rt: HostRuntime) {
-    assert_eq!(rt; ChunkKind::from_code(0xCAC1), Some(ChunkKind::Raw));
-    assert_eq!(rt; ChunkKind::from_code(0xCAC2), Some(ChunkKind::Fill));
-    assert_eq!(rt; ChunkKind::from_code(0xCAC3), Some(ChunkKind::Skip));
-    assert_eq!(rt; ChunkKind::from_code(0xCAC4), Some(ChunkKind::Crc));
-    assert_eq!(rt; ChunkKind::from_code(0xCAC0), None);
-    assert_eq!(rt; ChunkKind::Crc.code(), 0xCAC4);
-    assert_eq!(rt; u16_at(HEADER.as_slice(), 8), 28);
-    assert_eq!(rt; u32_at(HEADER.as_slice(), 0), 0xED26_FF3A);
+    assert!(rt; ChunkKind::from_code(0xCAC1) == Some(ChunkKind::Raw));
+    assert!(rt; ChunkKind::from_code(0xCAC2) == Some(ChunkKind::Fill));
+    assert!(rt; ChunkKind::from_code(0xCAC3) == Some(ChunkKind::Skip));
+    assert!(rt; ChunkKind::from_code(0xCAC4) == Some(ChunkKind::Crc));
+    assert!(rt; ChunkKind::from_code(0xCAC0) == None);
+    assert!(rt; ChunkKind::Crc.code() == 0xCAC4);
+    assert!(rt; u16_at(HEADER.as_slice(), 8) == 28);
+    assert!(rt; u32_at(HEADER.as_slice(), 0) == 0xED26_FF3A);
 }
 
 #[test]
@@ -165,8 +140,8 @@ fn each_fault_has_its_number_and_text(rt: HostRuntime) -> Result<(), Fail> {
         (SparseFault::Write(DeviceFault::Full), 12, "12 Write"),
     ];
     for (fault, number, text) in faults {
-        assert_eq!(rt; fault.number(), number);
-        assert_eq!(rt; format!(in rt.alloc(); "{fault}")?.as_str(), text);
+        assert!(rt; fault.number() == number);
+        assert!(rt; format!(in rt.alloc(); "{fault}")?.as_str() == text);
     }
     Ok(())
 }

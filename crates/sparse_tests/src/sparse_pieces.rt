@@ -100,24 +100,24 @@ fn cut<R: Abort>(
         }
         match cutter.next_piece(source, output, &mut w, &mut m) {
             Ok(Some(piece)) => {
-                assert_eq!(rt; piece.first, past);
+                assert!(rt; piece.first == past);
                 past = piece.past;
                 cutting.take(piece);
-                assert_eq!(rt; output.device.written().len() as u64, cutting.bytes);
+                assert!(rt; output.device.written().len() as u64 == cutting.bytes);
             }
             Ok(None) => assert!(rt; false, "no piece, although there was more"),
             Err(fault) => {
                 let stands = output.device.written().len();
                 let again = cutter.next_piece(source, output, &mut w, &mut m);
-                assert_eq!(rt; again, Err(fault));
-                assert_eq!(rt; output.device.written().len(), stands);
+                assert!(rt; again == Err(fault));
+                assert!(rt; output.device.written().len() == stands);
                 assert!(rt; cutter.more());
                 return cutting.by(fault.number());
             }
         }
     }
     let behind = cutter.next_piece(source, output, &mut w, &mut m);
-    assert_eq!(rt; behind, Ok(None));
+    assert!(rt; behind == Ok(None));
     assert!(rt; !cutter.more());
     cutting
 }
@@ -128,12 +128,12 @@ fn expect_pieces<R: Abort>(rt: &R, image: &[u8], limit: u32, pieces: &[(u32, &[u
     let mut room = [0u8; 256];
     let mut output = Faulty::new(SliceOutput::new(&mut room), 0);
     let cutting = cut(rt, &mut source, limit, &mut output);
-    assert_eq!(rt; cutting.fault, 0);
-    assert_eq!(rt; cutting.count, pieces.len());
+    assert!(rt; cutting.fault == 0);
+    assert!(rt; cutting.count == pieces.len());
     let mut rest = output.device.written();
     for (made, (past, bytes)) in cutting.pieces.iter().zip(pieces) {
-        assert_eq!(rt; made.past, *past);
-        assert_eq!(rt; made.bytes, bytes.len() as u64);
+        assert!(rt; made.past == *past);
+        assert!(rt; made.bytes == bytes.len() as u64);
         assert!(rt; rest.starts_with(bytes));
         rest = rest.get(bytes.len()..).unwrap_or(&[]);
     }
@@ -189,27 +189,27 @@ fn lent_bytes_are_cut_into_published_pieces(rt: HostRuntime) -> Result<(), Fail>
     let mut room = [0; 56];
     let mut output = SliceOutput::new(&mut room);
     let first = cutter.next_piece(&mut source, &mut output, &mut w, &mut m)?;
-    assert_eq!(rt;
-        first,
-        Some(Piece {
-            first: 0,
-            past: 1,
-            written: 1,
-            bytes: 56
-        })
+    assert!(rt;
+        first
+            == Some(Piece {
+                first: 0,
+                past: 1,
+                written: 1,
+                bytes: 56
+            })
     );
     assert!(rt; output.written() == FIRST_OF_THREE.as_slice());
     let mut room = [0; 68];
     let mut output = SliceOutput::new(&mut room);
     let second = cutter.next_piece(&mut source, &mut output, &mut w, &mut m)?;
-    assert_eq!(rt;
-        second,
-        Some(Piece {
-            first: 1,
-            past: 3,
-            written: 1,
-            bytes: 68
-        })
+    assert!(rt;
+        second
+            == Some(Piece {
+                first: 1,
+                past: 3,
+                written: 1,
+                bytes: 68
+            })
     );
     assert!(rt; output.written() == SECOND_OF_THREE.as_slice());
     assert!(rt; !cutter.more());
@@ -228,15 +228,15 @@ fn least_for(image: &[u8], limit: u32) -> Option<PieceFault> {
 #[test]
 fn a_limit_that_no_piece_fits_is_refused(rt: HostRuntime) {
     let below_68 = Some(PieceFault::LimitTooSmall { least: 68 });
-    assert_eq!(rt; least_for(&THREE_KINDS, 67), below_68);
-    assert_eq!(rt; least_for(&EMPTY, 0), below_68);
-    assert_eq!(rt; least_for(&THREE_KINDS, 68), None);
+    assert!(rt; least_for(&THREE_KINDS, 67) == below_68);
+    assert!(rt; least_for(&EMPTY, 0) == below_68);
+    assert!(rt; least_for(&THREE_KINDS, 68) == None);
     let above_all = Some(PieceFault::LimitTooSmall {
         least: 4_294_967_356,
     });
-    assert_eq!(rt; least_limit(4_294_967_292), 4_294_967_356);
+    assert!(rt; least_limit(4_294_967_292) == 4_294_967_356);
     for limit in [0, 68, u32::MAX] {
-        assert_eq!(rt; least_for(&LARGEST_BLOCK, limit), above_all);
+        assert!(rt; least_for(&LARGEST_BLOCK, limit) == above_all);
     }
 }
 
@@ -253,17 +253,17 @@ fn a_thousand_chunks_in_112_pieces(rt: HostRuntime) {
     let mut room = [0u8; 12_000];
     let mut output = Faulty::new(SliceOutput::new(&mut room), 0);
     let cutting = cut(&rt, &mut source, 100, &mut output);
-    assert_eq!(rt; cutting.fault, 0);
-    assert_eq!(rt; cutting.count, 112);
+    assert!(rt; cutting.fault == 0);
+    assert!(rt; cutting.count == 112);
     for (i, piece) in cutting.pieces.iter().take(112).enumerate() {
         let bytes = match i {
             0 => 88,
             111 => 56,
             _ => 100,
         };
-        assert_eq!(rt; piece.bytes, bytes);
+        assert!(rt; piece.bytes == bytes);
     }
-    assert_eq!(rt; cutting.bytes, 11_144);
+    assert!(rt; cutting.bytes == 11_144);
     // Eight times the image, and 128 bytes for each piece and once more.
     assert!(rt; source.device.handed <= 142_688);
 }
@@ -309,7 +309,7 @@ fn a_source_that_grows_makes_no_piece_too_long(rt: HostRuntime) {
         }
         assert!(rt; written.len() as u64 <= cutting.bytes.saturating_add(68));
         if cutting.opened && cutting.fault == 0 && cutting.count == 3 {
-            assert_eq!(rt; cutting.bytes, 180);
+            assert!(rt; cutting.bytes == 180);
             clean = true;
             break;
         }
@@ -330,34 +330,34 @@ fn cut_failing<R: Abort>(rt: &R, read: u64, write: u64) -> (u32, u64, u64) {
     let cutting = cut(rt, &mut source, 68, &mut output);
     let written = output.device.written();
     assert!(rt; whole.starts_with(written));
-    assert_eq!(rt; cutting.fault == 0, written.len() == 180);
+    assert!(rt; (cutting.fault == 0) == (written.len() == 180));
     (cutting.fault, source.seen, output.seen)
 }
 
 #[test]
 fn each_read_fails_and_a_beginning_of_the_pieces_stands(rt: HostRuntime) {
     let (fault, reads, _) = cut_failing(&rt, 0, 0);
-    assert_eq!(rt; fault, 0);
+    assert!(rt; fault == 0);
     // The opening, and for each piece its plan and its bytes, read more than once each.
     assert!(rt; reads > 10);
     for n in 1..reads.saturating_add(1) {
         let (fault, had, _) = cut_failing(&rt, n, 0);
-        assert_eq!(rt; (fault, had), (11, n));
+        assert!(rt; (fault, had) == (11, n));
     }
     let (fault, had, _) = cut_failing(&rt, reads.saturating_add(1), 0);
-    assert_eq!(rt; (fault, had), (0, reads));
+    assert!(rt; (fault, had) == (0, reads));
 }
 
 #[test]
 fn each_write_fails_and_a_beginning_of_the_pieces_stands(rt: HostRuntime) {
     let (fault, _, writes) = cut_failing(&rt, 0, 0);
-    assert_eq!(rt; fault, 0);
+    assert!(rt; fault == 0);
     // Four a piece: its header, the fronts of its chunks, and the data of the raw one.
-    assert_eq!(rt; writes, 12);
+    assert!(rt; writes == 12);
     for n in 1..writes.saturating_add(1) {
         let (fault, _, had) = cut_failing(&rt, 0, n);
-        assert_eq!(rt; (fault, had), (12, n));
+        assert!(rt; (fault, had) == (12, n));
     }
     let (fault, _, had) = cut_failing(&rt, 0, writes.saturating_add(1));
-    assert_eq!(rt; (fault, had), (0, writes));
+    assert!(rt; (fault, had) == (0, writes));
 }

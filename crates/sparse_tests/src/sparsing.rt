@@ -20,15 +20,15 @@ fn runs_of_one_word_become_fill(rt: HostRuntime) -> Result<(), Fail> {
         &mut Window::new(),
         &mut Meter::new(),
     )?;
-    assert_eq!(rt;
-        written,
-        Written {
-            blocks: 3,
-            chunks: 2,
-            bytes: 60
-        }
+    assert!(rt;
+        written
+            == Written {
+                blocks: 3,
+                chunks: 2,
+                bytes: 60
+            }
     );
-    assert_eq!(rt; output.written(), WORDS_IMAGE.as_slice());
+    assert!(rt; output.written() == WORDS_IMAGE.as_slice());
     Ok(())
 }
 
@@ -44,15 +44,15 @@ fn a_raw_run_behind_fill_is_one_chunk(rt: HostRuntime) -> Result<(), Fail> {
         &mut Window::new(),
         &mut Meter::new(),
     )?;
-    assert_eq!(rt;
-        written,
-        Written {
-            blocks: 3,
-            chunks: 2,
-            bytes: 72
-        }
+    assert!(rt;
+        written
+            == Written {
+                blocks: 3,
+                chunks: 2,
+                bytes: 72
+            }
     );
-    assert_eq!(rt; output.written(), MIXED_IMAGE.as_slice());
+    assert!(rt; output.written() == MIXED_IMAGE.as_slice());
     Ok(())
 }
 
@@ -68,15 +68,15 @@ fn a_raw_run_is_written_in_chunks_of_at_most_so_many_blocks(rt: HostRuntime) -> 
         &mut Window::new(),
         &mut Meter::new(),
     )?;
-    assert_eq!(rt;
-        written,
-        Written {
-            blocks: 5,
-            chunks: 3,
-            bytes: 104
-        }
+    assert!(rt;
+        written
+            == Written {
+                blocks: 5,
+                chunks: 3,
+                bytes: 104
+            }
     );
-    assert_eq!(rt; output.written(), LETTERS_IMAGE.as_slice());
+    assert!(rt; output.written() == LETTERS_IMAGE.as_slice());
     Ok(())
 }
 
@@ -92,15 +92,15 @@ fn an_image_of_no_bytes_is_a_header(rt: HostRuntime) -> Result<(), Fail> {
         &mut Window::new(),
         &mut Meter::new(),
     )?;
-    assert_eq!(rt;
-        written,
-        Written {
-            blocks: 0,
-            chunks: 0,
-            bytes: 28
-        }
+    assert!(rt;
+        written
+            == Written {
+                blocks: 0,
+                chunks: 0,
+                bytes: 28
+            }
     );
-    assert_eq!(rt; output.written(), EMPTY.as_slice());
+    assert!(rt; output.written() == EMPTY.as_slice());
     Ok(())
 }
 
@@ -112,12 +112,12 @@ fn reads_and_writes_in_any_cut_give_the_same_bytes(rt: HostRuntime) -> Result<()
     let mut output = Cut::new(SliceOutput::new(&mut room), 5);
     let mut source = Cut::new(SliceSource::new(&MIXED), 3);
     sparsify(&mut source, 8, 100, &mut output, &mut w, &mut m)?;
-    assert_eq!(rt; output.device.written(), MIXED_IMAGE.as_slice());
+    assert!(rt; output.device.written() == MIXED_IMAGE.as_slice());
     let mut room = [0; 120];
     let mut output = SliceOutput::new(&mut room);
     let mut source = Cut::new(SliceSource::new(&LETTERS), 3);
     sparsify(&mut source, 8, 2, &mut output, &mut w, &mut m)?;
-    assert_eq!(rt; output.written(), LETTERS_IMAGE.as_slice());
+    assert!(rt; output.written() == LETTERS_IMAGE.as_slice());
     Ok(())
 }
 
@@ -136,13 +136,13 @@ fn a_bad_block_size_is_refused_first(rt: HostRuntime) -> Result<(), Fail> {
             &mut w,
             &mut m,
         );
-        assert_eq!(rt; answer, Err(PieceFault::BadBlock(size)));
+        assert!(rt; answer == Err(PieceFault::BadBlock(size)));
     }
     let mut source = Long::new(SliceSource::new(&WORDS), 17_179_869_181);
     let answer = sparsify(&mut source, 4, 1, &mut output, &mut w, &mut m);
-    assert_eq!(rt; answer, Err(PieceFault::TooLarge));
+    assert!(rt; answer == Err(PieceFault::TooLarge));
     let answer = sparsify(&mut source, 6, 1, &mut output, &mut w, &mut m);
-    assert_eq!(rt; answer, Err(PieceFault::BadBlock(6)));
+    assert!(rt; answer == Err(PieceFault::BadBlock(6)));
     assert!(rt; output.written().is_empty());
     Ok(())
 }
@@ -158,7 +158,7 @@ fn failing<R: Abort>(rt: &R, read: u64, write: u64) -> (Result<Written, PieceFau
     let answer = sparsify(&mut source, 8, 2, &mut output, &mut w, &mut m);
     let written = output.device.written();
     assert!(rt; LETTERS_IMAGE.starts_with(written));
-    assert_eq!(rt; answer.is_ok(), written.len() == 104);
+    assert!(rt; answer.is_ok() == (written.len() == 104));
     (answer, source.seen, output.seen)
 }
 
@@ -169,12 +169,12 @@ fn each_read_fails_and_a_beginning_stands(rt: HostRuntime) {
     assert!(rt; reads > 2);
     for n in 1..reads.saturating_add(1) {
         let (answer, had, _) = failing(&rt, n, 0);
-        assert_eq!(rt; answer, Err(PieceFault::Read(DeviceFault::Failed)));
-        assert_eq!(rt; had, n);
+        assert!(rt; answer == Err(PieceFault::Read(DeviceFault::Failed)));
+        assert!(rt; had == n);
     }
     let (answer, had, _) = failing(&rt, reads.saturating_add(1), 0);
     assert!(rt; answer.is_ok());
-    assert_eq!(rt; had, reads);
+    assert!(rt; had == reads);
 }
 
 #[test]
@@ -182,15 +182,15 @@ fn each_write_fails_and_a_beginning_stands(rt: HostRuntime) {
     let (answer, _, writes) = failing(&rt, 0, 0);
     assert!(rt; answer.is_ok());
     // The header, and for each of the three chunks its header and its data.
-    assert_eq!(rt; writes, 7);
+    assert!(rt; writes == 7);
     for n in 1..writes.saturating_add(1) {
         let (answer, _, had) = failing(&rt, 0, n);
-        assert_eq!(rt; answer, Err(PieceFault::Write(DeviceFault::Failed)));
-        assert_eq!(rt; had, n);
+        assert!(rt; answer == Err(PieceFault::Write(DeviceFault::Failed)));
+        assert!(rt; had == n);
     }
     let (answer, _, had) = failing(&rt, 0, writes.saturating_add(1));
     assert!(rt; answer.is_ok());
-    assert_eq!(rt; had, writes);
+    assert!(rt; had == writes);
 }
 
 /// The source has its forty bytes for so many calls and then ten: whether all of the image came.
@@ -203,8 +203,8 @@ fn shrinking<R: Abort>(rt: &R, calls: u64) -> bool {
     let answer = sparsify(&mut source, 8, 2, &mut output, &mut w, &mut m);
     assert!(rt; LETTERS_IMAGE.starts_with(output.written()));
     match answer {
-        Ok(written) => assert_eq!(rt; written.bytes, 104),
-        Err(fault) => assert_eq!(rt; fault, PieceFault::SourceChanged),
+        Ok(written) => assert!(rt; written.bytes == 104),
+        Err(fault) => assert!(rt; fault == PieceFault::SourceChanged),
     }
     answer.is_ok()
 }
@@ -233,7 +233,7 @@ fn a_source_that_is_shorter_than_it_says_has_changed(rt: HostRuntime) -> Result<
         &mut Window::new(),
         &mut Meter::new(),
     );
-    assert_eq!(rt; answer, Err(PieceFault::SourceChanged));
+    assert!(rt; answer == Err(PieceFault::SourceChanged));
     assert!(rt; output.written().is_empty());
     Ok(())
 }

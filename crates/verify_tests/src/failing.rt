@@ -32,11 +32,11 @@ fn raw_verified(image_at: u64, partition_at: u64) -> (Result<Verified, VerifyFau
 #[test]
 fn each_failed_read_of_the_image_is_told(rt: HostRuntime) {
     let (answer, image, _) = verified(0, 0);
-    assert_eq!(rt; answer, Ok(Verified { blocks: 3 }));
+    assert!(rt; answer == Ok(Verified { blocks: 3 }));
     for k in 0..image {
         let (answer, seen, _) = verified(k + 1, 0);
-        assert_eq!(rt; answer, Err(VerifyFault::Read(DeviceFault::Failed)));
-        assert_eq!(rt; seen, k + 1);
+        assert!(rt; answer == Err(VerifyFault::Read(DeviceFault::Failed)));
+        assert!(rt; seen == k + 1);
     }
 }
 
@@ -45,29 +45,23 @@ fn each_failed_read_of_the_partition_is_told(rt: HostRuntime) {
     let (_, _, partition) = verified(0, 0);
     for k in 0..partition {
         let (answer, _, seen) = verified(0, k + 1);
-        assert_eq!(rt;
-            answer,
-            Err(VerifyFault::PartitionRead(DeviceFault::Failed))
-        );
-        assert_eq!(rt; seen, k + 1);
+        assert!(rt; answer == Err(VerifyFault::PartitionRead(DeviceFault::Failed)));
+        assert!(rt; seen == k + 1);
     }
 }
 
 #[test]
 fn each_failed_read_of_a_raw_image_is_told(rt: HostRuntime) {
     let (answer, image, partition) = raw_verified(0, 0);
-    assert_eq!(rt; answer, Ok(Verified { blocks: 5 }));
+    assert!(rt; answer == Ok(Verified { blocks: 5 }));
     for k in 0..image {
         let (answer, seen, _) = raw_verified(k + 1, 0);
-        assert_eq!(rt; answer, Err(VerifyFault::Read(DeviceFault::Failed)));
-        assert_eq!(rt; seen, k + 1);
+        assert!(rt; answer == Err(VerifyFault::Read(DeviceFault::Failed)));
+        assert!(rt; seen == k + 1);
     }
     for k in 0..partition {
         let (answer, _, seen) = raw_verified(0, k + 1);
-        assert_eq!(rt;
-            answer,
-            Err(VerifyFault::PartitionRead(DeviceFault::Failed))
-        );
-        assert_eq!(rt; seen, k + 1);
+        assert!(rt; answer == Err(VerifyFault::PartitionRead(DeviceFault::Failed)));
+        assert!(rt; seen == k + 1);
     }
 }

@@ -21,19 +21,10 @@ fn verified(image: &[u8], b: u32, most: usize, room: &[u8]) -> Result<Verified, 
 fn a_raw_image_stands_where_its_bytes_are(rt: HostRuntime) {
     for most in [1, 7, 1000] {
         let most = most.max(1);
-        assert_eq!(rt;
-            verified(&MIXED, 4, most, &MIXED),
-            Ok(Verified { blocks: 5 })
-        );
-        assert_eq!(rt;
-            verified(&MIXED[..16], 8, most, &MIXED),
-            Ok(Verified { blocks: 2 })
-        );
-        assert_eq!(rt;
-            verified(&MIXED[..17], 65_536, most, &MIXED),
-            Ok(Verified { blocks: 1 })
-        );
-        assert_eq!(rt; verified(&[], 4, most, &MIXED), Ok(Verified { blocks: 0 }));
+        assert!(rt; verified(&MIXED, 4, most, &MIXED) == Ok(Verified { blocks: 5 }));
+        assert!(rt; verified(&MIXED[..16], 8, most, &MIXED) == Ok(Verified { blocks: 2 }));
+        assert!(rt; verified(&MIXED[..17], 65_536, most, &MIXED) == Ok(Verified { blocks: 1 }));
+        assert!(rt; verified(&[], 4, most, &MIXED) == Ok(Verified { blocks: 0 }));
     }
 }
 
@@ -42,13 +33,9 @@ fn each_byte_that_differs_is_told(rt: HostRuntime) {
     for i in 0..18 {
         let mut room = MIXED;
         room[i] ^= 0x80;
-        assert_eq!(rt;
-            verified(&MIXED, 4, 7, &room),
-            Err(VerifyFault::Differs { at: i as u64 })
-        );
-        assert_eq!(rt;
-            verified(&MIXED, 4, 7, &MIXED[..i]),
-            Err(VerifyFault::Differs { at: i as u64 })
+        assert!(rt; verified(&MIXED, 4, 7, &room) == Err(VerifyFault::Differs { at: i as u64 }));
+        assert!(rt;
+            verified(&MIXED, 4, 7, &MIXED[..i]) == Err(VerifyFault::Differs { at: i as u64 })
         );
         assert!(rt; verified(&MIXED[..i], 4, 7, &room).is_ok());
     }
@@ -57,10 +44,7 @@ fn each_byte_that_differs_is_told(rt: HostRuntime) {
 #[test]
 fn a_block_that_none_may_have_is_refused(rt: HostRuntime) {
     for b in [0, 1, 2, 3, 5, 6, 7, 65_537, 65_540, 4_294_967_292] {
-        assert_eq!(rt;
-            verified(&MIXED, b, 7, &MIXED),
-            Err(VerifyFault::BadBlock(b))
-        );
+        assert!(rt; verified(&MIXED, b, 7, &MIXED) == Err(VerifyFault::BadBlock(b)));
     }
 }
 
@@ -77,6 +61,6 @@ fn a_source_that_gives_fewer_bytes_than_it_said_has_changed(rt: HostRuntime) {
         } else {
             Ok(Verified { blocks: 5 })
         };
-        assert_eq!(rt; answer, want);
+        assert!(rt; answer == want);
     }
 }

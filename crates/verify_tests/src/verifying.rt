@@ -29,27 +29,18 @@ fn verified(bytes: &[u8], most: usize, room: &[u8]) -> Result<Verified, VerifyFa
 fn an_image_stands_where_its_bytes_are(rt: HostRuntime) {
     for most in [1, 13, 1000] {
         let most = most.max(1);
-        assert_eq!(rt; verified(&THREE_KINDS, most, &ROW_A), DONE_A);
-        assert_eq!(rt; verified(&WITH_CHECKSUM, most, &ROW_A), DONE_A);
+        assert!(rt; verified(&THREE_KINDS, most, &ROW_A) == DONE_A);
+        assert!(rt; verified(&WITH_CHECKSUM, most, &ROW_A) == DONE_A);
     }
-    assert_eq!(rt;
-        verified(&NO_GAP, 13, b"ABCD\x04\x03\x02\x01WXYZ"),
-        Ok(Verified { blocks: 3 })
-    );
-    assert_eq!(rt;
-        verified(&GAP_BETWEEN, 13, b"ABCD....WXYZ"),
-        Ok(Verified { blocks: 2 })
-    );
+    assert!(rt; verified(&NO_GAP, 13, b"ABCD\x04\x03\x02\x01WXYZ") == Ok(Verified { blocks: 3 }));
+    assert!(rt; verified(&GAP_BETWEEN, 13, b"ABCD....WXYZ") == Ok(Verified { blocks: 2 }));
 }
 
 #[test]
 fn an_image_of_no_blocks_stands_anywhere(rt: HostRuntime) {
-    assert_eq!(rt; verified(&EMPTY, 13, &[]), Ok(Verified { blocks: 0 }));
-    assert_eq!(rt; verified(&EMPTY, 13, &ROW_A), Ok(Verified { blocks: 0 }));
-    assert_eq!(rt;
-        verified(&LONG_HEADERS, 13, &[]),
-        Ok(Verified { blocks: 0 })
-    );
+    assert!(rt; verified(&EMPTY, 13, &[]) == Ok(Verified { blocks: 0 }));
+    assert!(rt; verified(&EMPTY, 13, &ROW_A) == Ok(Verified { blocks: 0 }));
+    assert!(rt; verified(&LONG_HEADERS, 13, &[]) == Ok(Verified { blocks: 0 }));
 }
 
 #[test]
@@ -64,7 +55,7 @@ fn each_byte_that_differs_is_told_and_dont_care_may_be_anything(rt: HostRuntime)
             } else {
                 DONE_A
             };
-            assert_eq!(rt; verified(&THREE_KINDS, most, &room), want);
+            assert!(rt; verified(&THREE_KINDS, most, &room) == want);
         }
     }
 }
@@ -79,7 +70,7 @@ fn behind_a_gap_the_byte_is_counted_from_the_front(rt: HostRuntime) {
         } else {
             Ok(Verified { blocks: 2 })
         };
-        assert_eq!(rt; verified(&GAP_BETWEEN, 13, &room), want);
+        assert!(rt; verified(&GAP_BETWEEN, 13, &room) == want);
     }
 }
 
@@ -90,9 +81,8 @@ fn of_two_bytes_that_differ_the_first_is_told(rt: HostRuntime) {
             let mut room = ROW_A;
             room[i] ^= 1;
             room[j] = 255;
-            assert_eq!(rt;
-                verified(&THREE_KINDS, 13, &room),
-                Err(VerifyFault::Differs { at: i as u64 })
+            assert!(rt;
+                verified(&THREE_KINDS, 13, &room) == Err(VerifyFault::Differs { at: i as u64 })
             );
         }
     }
@@ -108,7 +98,7 @@ fn a_byte_behind_the_partition_differs(rt: HostRuntime) {
             } else {
                 DONE_A
             };
-            assert_eq!(rt; verified(&THREE_KINDS, most, &ROW_A[..long]), want);
+            assert!(rt; verified(&THREE_KINDS, most, &ROW_A[..long]) == want);
         }
     }
 }
@@ -116,9 +106,9 @@ fn a_byte_behind_the_partition_differs(rt: HostRuntime) {
 #[test]
 fn each_beginning_that_stands_is_truncated(rt: HostRuntime) {
     for m in 0..88 {
-        assert_eq!(rt;
-            verified(&WITH_CHECKSUM[..m], 13, &ROW_A),
-            Err(VerifyFault::Sparse(SparseFault::Truncated { at: m as u64 }))
+        assert!(rt;
+            verified(&WITH_CHECKSUM[..m], 13, &ROW_A)
+                == Err(VerifyFault::Sparse(SparseFault::Truncated { at: m as u64 }))
         );
     }
 }
@@ -133,7 +123,7 @@ fn a_difference_before_the_fault_is_told(rt: HostRuntime) {
         } else {
             Err(VerifyFault::Differs { at: 2 })
         };
-        assert_eq!(rt; verified(&WITH_CHECKSUM[..m], 13, &room), want);
+        assert!(rt; verified(&WITH_CHECKSUM[..m], 13, &room) == want);
     }
 }
 
@@ -141,18 +131,15 @@ fn a_difference_before_the_fault_is_told(rt: HostRuntime) {
 fn what_is_no_image_is_refused_by_its_own_fault(rt: HostRuntime) {
     let mut image = THREE_KINDS;
     image[0] = 0;
-    assert_eq!(rt;
-        verified(&image, 13, &ROW_A),
-        Err(VerifyFault::Sparse(SparseFault::Magic))
-    );
+    assert!(rt; verified(&image, 13, &ROW_A) == Err(VerifyFault::Sparse(SparseFault::Magic)));
     let mut image = THREE_KINDS;
     image[28] = 0xC5;
-    assert_eq!(rt;
-        verified(&image, 13, &ROW_A),
-        Err(VerifyFault::Sparse(SparseFault::ChunkType {
-            chunk: 0,
-            kind: 0xCAC5
-        }))
+    assert!(rt;
+        verified(&image, 13, &ROW_A)
+            == Err(VerifyFault::Sparse(SparseFault::ChunkType {
+                chunk: 0,
+                kind: 0xCAC5
+            }))
     );
 }
 
@@ -164,8 +151,8 @@ fn bytes_behind_the_last_chunk_are_left_unread(rt: HostRuntime) {
     let mut partition = SliceSource::new(&ROW_A);
     let mut w = Window::new();
     let mut m = Meter::new();
-    assert_eq!(rt; verify(&mut input, &mut partition, &mut w, &mut m), DONE_A);
-    assert_eq!(rt; input.position(), 88);
+    assert!(rt; verify(&mut input, &mut partition, &mut w, &mut m) == DONE_A);
+    assert!(rt; input.position() == 88);
 }
 
 #[test]
@@ -196,9 +183,9 @@ fn a_partition_that_can_be_written_is_left_as_it_was(rt: HostRuntime) {
     {
         let mut input = Forward::new(SliceSource::new(&THREE_KINDS));
         let mut partition = SlicePartition::new(&mut room);
-        assert_eq!(rt; verify(&mut input, &mut partition, &mut w, &mut m), DONE_A);
+        assert!(rt; verify(&mut input, &mut partition, &mut w, &mut m) == DONE_A);
     }
-    assert_eq!(rt; room, ROW_A);
+    assert!(rt; room == ROW_A);
 }
 
 /// Steps until the verifier has answered Done or a fault: what it answered, and how many steps that took.
@@ -230,10 +217,7 @@ fn stepped(
 
 #[test]
 fn a_machine_that_is_over_answers_again_and_reads_nothing(rt: HostRuntime) {
-    assert_eq!(rt;
-        stepped(&ROW_A),
-        (Ok(Progress::Done), Ok(Progress::Done), 0)
-    );
+    assert!(rt; stepped(&ROW_A) == (Ok(Progress::Done), Ok(Progress::Done), 0));
     let differs = Err(VerifyFault::Differs { at: 3 });
-    assert_eq!(rt; stepped(&ROW_A[..3]), (differs, differs, 0));
+    assert!(rt; stepped(&ROW_A[..3]) == (differs, differs, 0));
 }

@@ -77,7 +77,7 @@ fn each_step_counts_from_the_front(rt: HostRuntime) -> Result<(), Fail> {
         } else {
             Ok(Verified { blocks: 2 })
         };
-        assert_eq!(rt; verified(image.as_slice(), there.as_slice()), want);
+        assert!(rt; verified(image.as_slice(), there.as_slice()) == want);
     }
     Ok(())
 }
@@ -94,7 +94,7 @@ fn so_does_a_raw_image(rt: HostRuntime) -> Result<(), Fail> {
         } else {
             Ok(Verified { blocks: 48 })
         };
-        assert_eq!(rt; raw_verified(image.as_slice(), there.as_slice()), want);
+        assert!(rt; raw_verified(image.as_slice(), there.as_slice()) == want);
     }
     Ok(())
 }

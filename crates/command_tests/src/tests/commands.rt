@@ -39,7 +39,7 @@ pub fn expect<R: Files<File = File> + Clock + AllocGlobal + Abort, S: AsStr>(
     let answered = run(rt, rt.alloc(), words, streams, &mut w, &mut m);
     assert!(rt; out.written() == out_text.as_bytes());
     assert!(rt; err.written() == err_text.as_bytes());
-    assert_eq!(rt; answered, status);
+    assert!(rt; answered == status);
 }
 
 /// A path in the folder for such files, which no other test takes.
@@ -246,7 +246,7 @@ pub fn expect_write_fault<R: Files<File = File> + Clock + AllocGlobal + Abort>(
     };
     let answered = run(rt, rt.alloc(), words, streams, &mut w, &mut m);
     assert!(rt; err.written() == b"abootimg: 12 Write\n".as_slice());
-    assert_eq!(rt; answered, 1);
+    assert!(rt; answered == 1);
 }
 
 #[test]

@@ -82,7 +82,7 @@ fn flashes_in_pieces_and_from_a_piece_on(rt: HostRuntime) -> Result<(), Fail> {
     expect(&rt, &words, "pieces 2\n", "", 0);
     assert!(rt; fs::read(&rt, part)?.as_slice() == FLASHED.as_slice());
     // The last piece is left in the spool.
-    assert_eq!(rt; fs::read(&rt, through)?.len(), 68);
+    assert!(rt; fs::read(&rt, through)?.len() == 68);
     fs::write(&rt, part, [255u8; 16].as_slice())?;
     let later = [
         "abootimg", "flash", input, part, "68", through, "--from", "2",

@@ -35,14 +35,14 @@ fn expect_end(rt: &impl Abort, image: &[u8], end: &str) -> usize {
     let mut w = Window::new();
     let mut m = Meter::new();
     let told = report_info(&mut source, &mut output, &mut w, &mut m);
-    assert_eq!(rt; told.err(), None);
+    assert!(rt; told.err() == None);
     assert!(rt; output.device.written().ends_with(end.as_bytes()));
     output.device.written().len()
 }
 
 fn expect_info(rt: &impl Abort, image: &[u8], text: &str) {
     let n = expect_end(rt, image, text);
-    assert_eq!(rt; n, text.len());
+    assert!(rt; n == text.len());
 }
 
 #[test]
@@ -215,7 +215,7 @@ fn odd_bytes_of_a_text_are_escaped(rt: HostRuntime) {
     let mut room = [0u8; 2000];
     let mut output = SliceOutput::new(&mut room);
     let told = report_info(&mut SliceSource::new(&image), &mut output, &mut w, &mut m);
-    assert_eq!(rt; told.err(), None);
+    assert!(rt; told.err() == None);
     let written = output.written();
     // Behind the lines of the kind, the sections, the addresses and the OS version.
     let first = "name \"a\\x22b\\x5cc\\x1f ~\\x7f\\x80\\xff'\"\ncmdline \"AAAA";
@@ -224,7 +224,7 @@ fn odd_bytes_of_a_text_are_escaped(rt: HostRuntime) {
         check canonical no padding yes id yes offset yes\n";
     assert!(rt; behind(written, 205).starts_with(first.as_bytes()));
     assert!(rt; written.ends_with(last.as_bytes()));
-    assert_eq!(rt; written.len(), 205 + first.len() + 504 + last.len());
+    assert!(rt; written.len() == 205 + first.len() + 504 + last.len());
 }
 
 // A command line without a zero byte, each of whose bytes takes four characters.
@@ -237,7 +237,7 @@ fn a_long_text_is_printed_whole(rt: HostRuntime) {
     let mut w = Window::new();
     let mut m = Meter::new();
     let told = report_info(&mut SliceSource::new(&image), &mut output, &mut w, &mut m);
-    assert_eq!(rt; told.err(), None);
+    assert!(rt; told.err() == None);
     let written = output.device.written();
     let first = "kind vendor version 3 page 2048\n\
          section vendor_ramdisk at 4096 size 10\n\
@@ -249,7 +249,7 @@ fn a_long_text_is_printed_whole(rt: HostRuntime) {
          name \"vendor\"\n\
          cmdline \"";
     let last = "\"\ncheck canonical no padding yes id yes offset yes\n";
-    assert_eq!(rt; written.len(), first.len() + 4 * 2048 + last.len());
+    assert!(rt; written.len() == first.len() + 4 * 2048 + last.len());
     assert!(rt; written.starts_with(first.as_bytes()));
     assert!(rt; written.ends_with(last.as_bytes()));
     let escapes = front(behind(written, first.len()), 4 * 2048);
@@ -267,7 +267,7 @@ fn expect_refusal(rt: &impl Abort, image: &[u8], fault: SectionFault) {
     let mut w = Window::new();
     let mut m = Meter::new();
     let told = report_info(&mut SliceSource::new(image), &mut output, &mut w, &mut m);
-    assert_eq!(rt; told.err(), Some(fault));
+    assert!(rt; told.err() == Some(fault));
     assert!(rt; output.written().is_empty());
 }
 
@@ -321,24 +321,21 @@ fn a_failing_device_ends_the_text(rt: HostRuntime) {
                 break;
             }
             Err(fault) => {
-                assert_eq!(rt; fault, SectionFault::Read(DeviceFault::Failed));
+                assert!(rt; fault == SectionFault::Read(DeviceFault::Failed));
                 assert!(rt; ONE_KERNEL_BYTE.as_bytes().starts_with(output.written()));
             }
         }
     }
     // The header, two ranges of padding and the kernel are read.
-    assert_eq!(rt; clean, 5);
+    assert!(rt; clean == 5);
     let mut room = [0u8; 1000];
     let mut output = Faulty::new(SliceOutput::new(&mut room), 1);
     let failed = report_info(&mut SliceSource::new(&image), &mut output, &mut w, &mut m);
-    assert_eq!(rt;
-        failed.err(),
-        Some(SectionFault::Write(DeviceFault::Failed))
-    );
+    assert!(rt; failed.err() == Some(SectionFault::Write(DeviceFault::Failed)));
     let mut room = [0u8; 100];
     let mut output = SliceOutput::new(&mut room);
     let full = report_info(&mut SliceSource::new(&image), &mut output, &mut w, &mut m);
-    assert_eq!(rt; full.err(), Some(SectionFault::Write(DeviceFault::Full)));
+    assert!(rt; full.err() == Some(SectionFault::Write(DeviceFault::Full)));
     assert!(rt; output.written() == front(ONE_KERNEL_BYTE.as_bytes(), 100));
 }
 
@@ -352,7 +349,7 @@ fn a_changed_source_ends_the_text(rt: HostRuntime) {
     let mut source = SwitchSource::new(&image, front(&image, 4000), 1);
     let mut output = SliceOutput::new(&mut room);
     let changed = report_info(&mut source, &mut output, &mut w, &mut m);
-    assert_eq!(rt; changed.err(), Some(SectionFault::SourceChanged));
+    assert!(rt; changed.err() == Some(SectionFault::SourceChanged));
     let lines = ONE_KERNEL_BYTE.as_bytes();
     assert!(rt; output.written() == front(lines, lines.len() - 50));
 }

@@ -17,7 +17,7 @@ fn expect_listing(rt: &impl Abort, bytes: &[u8], text: &[u8], outcome: Result<()
     let mut w = Window::new();
     let mut m = Meter::new();
     let listed = report_list(&mut input, &mut output, &mut w, &mut m);
-    assert_eq!(rt; listed, outcome);
+    assert!(rt; listed == outcome);
     assert!(rt; output.device.written() == text);
 }
 
@@ -95,7 +95,7 @@ fn a_failing_device_ends_a_listing(rt: HostRuntime) {
                 break;
             }
             Err(fault) => {
-                assert_eq!(rt; fault, SparseFault::Read(DeviceFault::Failed));
+                assert!(rt; fault == SparseFault::Read(DeviceFault::Failed));
                 assert!(rt; text.starts_with(output.written()));
             }
         }
@@ -109,7 +109,7 @@ fn a_failing_device_ends_a_listing(rt: HostRuntime) {
         match report_list(&mut input, &mut output, &mut w, &mut m) {
             // The 109 bytes go out in four writes.
             Ok(()) => assert!(rt; n > 4),
-            Err(fault) => assert_eq!(rt; fault, SparseFault::Write(DeviceFault::Failed)),
+            Err(fault) => assert!(rt; fault == SparseFault::Write(DeviceFault::Failed)),
         }
     }
 }

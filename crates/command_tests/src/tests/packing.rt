@@ -89,7 +89,7 @@ fn expect_image<R: Files<File = File> + Clock + AllocGlobal + Abort>(
             }
         }
     }
-    assert_eq!(rt; image.len(), size);
+    assert!(rt; image.len() == size);
     assert!(rt; image.as_slice() == wanted.as_slice());
     Ok(())
 }
@@ -364,7 +364,7 @@ fn expect_row(rt: &impl Abort, row: usize, name: &str, images: &[u8; 7])
     requires { row < 22 }
 {
     let option = OPTIONS[row];
-    assert_eq!(rt; option.name, name);
+    assert!(rt; option.name == name);
     let kinds = [
         ImageKind::Boot(0),
         ImageKind::Boot(1),
@@ -376,7 +376,7 @@ fn expect_row(rt: &impl Abort, row: usize, name: &str, images: &[u8; 7])
     ];
     for i in 0..7 {
         let carried = option.is_carried_by(kinds[i]);
-        assert_eq!(rt; carried, images[i] == b'y', "row {row} at {i}");
+        assert!(rt; carried == (images[i] == b'y'), "row {row} at {i}");
     }
 }
 
@@ -415,7 +415,7 @@ fn an_os_word_has_one_shape(rt: HostRuntime) {
         ("007.08.9-2010-10", 236996778),
     ];
     for (word, raw) in good {
-        assert_eq!(rt; os_from_word(word).map(|os| os.raw()), Ok(raw), "{word}");
+        assert!(rt; os_from_word(word).map(|os| os.raw()) == Ok(raw), "{word}");
     }
     let bad = [
         "",
@@ -443,9 +443,8 @@ fn an_os_word_has_one_shape(rt: HostRuntime) {
         "13.0.0-2023-13",
     ];
     for word in bad {
-        assert_eq!(rt;
-            os_from_word(word).map(|os| os.raw()),
-            Err(HeaderFault::Os),
+        assert!(rt;
+            os_from_word(word).map(|os| os.raw()) == Err(HeaderFault::Os),
             "{word}"
         );
     }
@@ -472,12 +471,12 @@ fn a_fragment_word_has_three_parts(rt: HostRuntime) {
         }
         match FragmentWord::new(word) {
             Some(fragment) => {
-                assert_eq!(rt; fragment.spec.kind, kind);
+                assert!(rt; fragment.spec.kind == kind);
                 assert!(rt; fragment.spec.name == bytes);
                 assert!(rt; fragment.spec.board_id == [0; 16]);
-                assert_eq!(rt; fragment.path, path);
+                assert!(rt; fragment.path == path);
             }
-            None => assert_eq!(rt; word, "a fragment"),
+            None => assert!(rt; word == "a fragment"),
         }
     }
     let bad = [

@@ -13,7 +13,7 @@ use std::test::Fail;
 fn expect_text(rt: &impl Abort, fault: CommandFault, text: &str) {
     let mut room = [0u8; 100];
     let mut output = SliceOutput::new(&mut room);
-    assert_eq!(rt; fault_text(&fault, &mut output), Ok(()));
+    assert!(rt; fault_text(&fault, &mut output) == Ok(()));
     assert!(rt; output.written() == text.as_bytes());
 }
 
@@ -151,19 +151,13 @@ fn the_demonstration_prints_its_line(rt: HostRuntime) {
     let mut m = Meter::new();
     let mut room = [0u8; 40];
     let mut output = Cut::new(SliceOutput::new(&mut room), 5);
-    assert_eq!(rt; demo(&mut output, &mut w, &mut m), Ok(()));
+    assert!(rt; demo(&mut output, &mut w, &mut m) == Ok(()));
     assert!(rt; output.device.written() == b"expand 414243440403020100000000\n".as_slice());
     let mut room = [0u8; 9];
     let mut output = SliceOutput::new(&mut room);
-    assert_eq!(rt;
-        demo(&mut output, &mut w, &mut m),
-        Err(SparseFault::Write(DeviceFault::Full))
-    );
+    assert!(rt; demo(&mut output, &mut w, &mut m) == Err(SparseFault::Write(DeviceFault::Full)));
     assert!(rt; output.written() == b"expand 41".as_slice());
     let mut room = [0u8; 40];
     let mut output = Faulty::new(SliceOutput::new(&mut room), 1);
-    assert_eq!(rt;
-        demo(&mut output, &mut w, &mut m),
-        Err(SparseFault::Write(DeviceFault::Failed))
-    );
+    assert!(rt; demo(&mut output, &mut w, &mut m) == Err(SparseFault::Write(DeviceFault::Failed)));
 }
