@@ -8,6 +8,10 @@ crates/abootimg/out/abootimg. Each script then runs on that program and ends in 
 which `rt ci` proves and does not build, is built for the script that tries it, where there are compilers of C and C++. Behind
 each stands the time that it took, by the clock and of the processors. The last line of all is the sum of what passed and
 failed. The exit status is 0 where nothing failed.
+
+`rt ci` reckons what memory each check may take from nothing, and leaves processors idle where the sum might not fit. Most of
+what it runs are checks over kept work, which take a third of that. So it is told here how many to run at once (RT_JOBS): one a
+processor, and one for each 4 GiB of free memory at most.
 """
 import argparse
 import os
@@ -19,12 +23,13 @@ import sys
 import time
 
 sys.dont_write_bytecode = True
-from prove import put_back
+from prove import free_memory, put_back
 
 HERE = os.path.dirname(os.path.dirname(os.path.abspath(__file__)))
 BUILT = os.path.join(HERE, "crates", "abootimg", "out", "abootimg")
 LAST = re.compile(r"(?:[\w ]+: )?(\d+) passed, (\d+) failed")
 LIBRARY = os.path.join(HERE, "build", "libabootimg.a")
+MEMORY = 4096  # what one check is reckoned to take, in MiB
 
 # Each script, and whether it runs the program.
 SCRIPTS = (
@@ -39,6 +44,12 @@ def processor_time():
     """The seconds of processors that the commands run so far have taken."""
     used = resource.getrusage(resource.RUSAGE_CHILDREN)
     return used.ru_utime + used.ru_stime
+
+
+def lanes():
+    """How many checks to run side by side."""
+    processors, free = len(os.sched_getaffinity(0)), free_memory()
+    return max(1, min(processors, free // MEMORY) if free else processors)
 
 
 def followed(words, name, **how):
@@ -101,7 +112,7 @@ def main():
     if not words.program:
         # What a killed build left: rt ci refuses sources that no crate of crates.txt has.
         put_back()
-        counts.append(followed([words.rt, "ci"], "rt ci"))
+        counts.append(followed([words.rt, "ci"], "rt ci", env={"RT_JOBS": str(lanes()), **os.environ}))
     program = os.path.abspath(words.program or BUILT)
     for script, needs_program in SCRIPTS:
         if not os.path.exists(os.path.join(HERE, script)):
