@@ -4,16 +4,16 @@ use abt_io::{Meter, SliceSource, Window};
 use abt_sections::{Image, Verdict, check, open, section, sections};
 use std::process::Abort;
 
-pub fn opened(rt: &impl Abort, bytes: &[u8], w: &mut Window, m: &mut Meter) -> Image {
+pub(super) fn opened(rt: &impl Abort, bytes: &[u8], w: &mut Window, m: &mut Meter) -> Image {
     open(&mut SliceSource::new(bytes), w, m).expect(rt, "opens")
 }
 
-pub fn checked(rt: &impl Abort, bytes: &[u8], w: &mut Window, m: &mut Meter) -> Verdict {
+pub(super) fn checked(rt: &impl Abort, bytes: &[u8], w: &mut Window, m: &mut Meter) -> Verdict {
     let image = opened(rt, bytes, w, m);
     check(&image, &mut SliceSource::new(bytes), w, m).expect(rt, "checks")
 }
 
-pub fn assert_places(rt: &impl Abort, image: &Image, want: &[u64]) {
+pub(super) fn assert_places(rt: &impl Abort, image: &Image, want: &[u64]) {
     for (i, at) in want.iter().enumerate() {
         if i < sections(image) {
             assert!(rt; section(image, i).at == *at);
