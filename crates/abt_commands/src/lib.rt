@@ -16,7 +16,6 @@
 //! | `completions.rt` | the command `completions`, from the table of `words.rt` |
 //! | `reasons.rt` | why a check answers no |
 //! | `pack.rt`, `repack.rt`, `pack_fields.rt`, `pack_addresses.rt`, `pack_parts.rt`, `pack_ramdisks.rt`, `part_source.rt` | the commands `pack` and `repack`, and the fields and parts that an image is packed from |
-//! | `laws.rt` | the law of the whole way round, from parts to a partition and back |
 #![tactic(auto)]
 
 mod completions;
@@ -28,7 +27,6 @@ mod identity;
 mod image_file;
 mod info;
 mod input;
-mod laws;
 mod list;
 mod noting;
 mod numbers;
@@ -54,7 +52,7 @@ mod watched;
 mod word_files;
 mod words;
 
-pub use laws::way_round;
+pub use abt_laws::way_round;
 pub use noting::Noted;
 pub use running::run;
 pub use session::{Reason, Streams};

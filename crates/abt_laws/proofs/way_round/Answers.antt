@@ -3,8 +3,8 @@ use Rattle.abt_sections.specs.BootCanon.{boot_canon}
 use Rattle.abt_sections.specs.Header.{OfVendor}
 use Rattle.abt_sections.specs.Unpacked.{HoldsBoot, HoldsFragment, HoldsVendor}
 use Rattle.abt_sections.specs.VendorCanon.{vendor_canon, vendor_header_of}
-use Rattle.abt_commands.proofs.WayRound.{carried, found_again}
-use Rattle.abt_commands.proofs.laws.way_round.Goals as goal
+use Rattle.abt_laws.proofs.WayRound.{carried, found_again}
+use Rattle.abt_laws.proofs.way_round.Goals as goal
 
 pub returns-clause-boot : goal.returns-clause-boot
 returns-clause-boot c s parts p q input way =

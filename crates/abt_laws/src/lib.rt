@@ -1,6 +1,15 @@
 //! The law of the whole way round, which joins what the crates below promise.
+//!
+//! No line of it runs. Each step of the way is what the contract of a public call says, and `way_round` says what follows
+//! from them together: parts that are packed, sent to a partition and unpacked from there come back byte for byte.
+//!
+//! | file | has |
+//! |---|---|
+//! | `specs/WayRound.antt` | the steps of the way, and the law |
+//! | `proofs/WayRound.antt` | that what arrives has the bytes that were sent at its front |
+#![tactic(auto)]
 
-ghost use Rattle.abt_commands.specs.WayRound.{BootWay, FoundAgain, FragmentWay, VendorWay};
+ghost use Rattle.abt_laws.specs.WayRound.{BootWay, FoundAgain, FragmentWay, VendorWay};
 
 use abt_sections::packed_holds_parts;
 use abt_sparse::{keeps_raw, one_outcome, reads_back};

@@ -13,7 +13,7 @@ use Rattle.abt_sections.specs.Header.{Header, places_of}
 use Rattle.abt_sections.specs.Layout.{parts_of}
 use Rattle.abt_sections.specs.Open.{HasImage}
 use Rattle.abt_sections.specs.Unpacked.{Holds}
-use Rattle.abt_commands.specs.WayRound.{Sparsed, SentAs, sparse, raw, Arrives, at_once, going_on, Carried}
+use Rattle.abt_laws.specs.WayRound.{Sparsed, SentAs, sparse, raw, Arrives, at_once, going_on, Carried}
 
 -- what an arrival leaves
 laid : (i : ImageBlocks) (limit : ℕ) (p q : List ℕ) → Arrives i limit p q → q ≡ over p (cells i.size i.blocks)
