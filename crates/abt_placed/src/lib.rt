@@ -12,7 +12,7 @@
 //! - `steps`: one step, the next window of the source or the end;
 //! - `image`: a whole image.
 //!
-//! `specs/Placed` says what stands at each step, `specs/Image` what the whole is, `proofs/` why.
+//! `specs/Placed` says what stands at each step, `specs/Whole` what the whole is, `proofs/` why.
 #![tactic(auto)]
 
 mod headers;
