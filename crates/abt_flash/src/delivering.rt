@@ -1,7 +1,7 @@
 //! Planning the pieces that are passed over, and delivering all others.
 
 ghost use Rattle.std.specs.Prelude.{◌≡◌, ◌<◌, ◌≤◌, ◌+◌, ◌-◌, ◌*◌, ◌^◌, ◌++◌, [], IsTrue, MatchBool, IfOk, IfErr, OnOk};
-ghost use Rattle.std.specs.Prelude.{OnErr, length, drop, max, Err};
+ghost use Rattle.std.specs.Prelude.{OnErr, length, drop, max, Ok, Err};
 ghost use Rattle.std.specs.List.{concat};
 ghost use Rattle.abt_io.specs.Moment.{EachSince, moment_of};
 ghost use Rattle.abt_sparse.specs.Block.{cells, over};
@@ -47,14 +47,14 @@ fn are_planned(made: u64, before: u32) -> bool
 }
 
 /// What is answered once all pieces behind the first ones are delivered.
-fn delivered(before: u64, made: u64) -> Delivered
+fn delivered(before: u64, made: u64) -> Result<Delivered, FlashFault>
     requires order { before ≤ made }
     requires few { made < 2 ^ 32 }
-    ensures { before + result.pieces ≡ made }
+    ensures { result ≡ Ok (record { pieces = made - before }) }
 {
-    Delivered {
+    Ok(Delivered {
         pieces: (made - before) as u32,
-    }
+    })
 }
 
 /// The number of the piece that comes next, counted from 1.
@@ -63,6 +63,14 @@ fn next_number(made: u64) -> u32
     ensures { result ≡ made + 1 }
 {
     made as u32 + 1
+}
+
+/// How many pieces stand before this one, counted from 1.
+pub(crate) fn pieces_before(piece: u32) -> u32
+    requires some { 1 ≤ piece }
+    ensures { result ≡ piece - 1 }
+{
+    piece - 1
 }
 
 /// Plans so many pieces from the first on and passes over them. It refuses with `NoSuchPiece` where none is left behind
@@ -243,7 +251,7 @@ pub(crate) fn deliver_rest<R: BlockRuns + Drop, S: Source, L: Spool, P: Partitio
     'pieces: loop {
         m.tick();
         if !cutter.more() {
-            return Ok(delivered(before, cutter.made));
+            return delivered(before, cutter.made);
         }
         let piece = next_number(cutter.made);
         match deliver_piece(cutter, source, spool, partition, w, m) {

@@ -14,7 +14,7 @@ use crate::fault::{FlashFault, sparse_fault};
 use crate::laying::lay_part;
 use crate::stage::Stage;
 use abt_chunks::{Part, Phase, Progress, Walk};
-use abt_io::{Input, Meter, Partition, Window};
+use abt_io::{Input, Meter, Partition, WINDOW, Window};
 
 /// Writes the raw and fill blocks of a sparse image to their places on a partition, and leaves the blocks that do not
 /// matter as they are. It holds no bytes of the image: each step writes what it read.
@@ -54,6 +54,13 @@ fn bytes_put(part: Part) -> u64
         Part::End => 0,
         Part::Fault(_) => 0,
     }
+}
+
+/// How many bytes a step reads at most: what the window holds.
+fn most_asked() -> usize
+    ensures { result ≡ 65536 }
+{
+    WINDOW
 }
 
 /// What a step answers once its part has been laid.
@@ -212,7 +219,7 @@ impl Flasher {
         }
         let at = self.walk.place();
         let all = self.walk.words.max(1);
-        let taken = self.walk.part(all, all, input, w, m);
+        let taken = self.walk.part_within(all, all, most_asked(), input, w, m);
         let done = lay_part(taken.part, at, partition, w, m);
         m.close_step(taken.received);
         match done {

@@ -1,6 +1,7 @@
 //! Delivering an opened image, whole or from one of its pieces on.
 
-ghost use Rattle.std.specs.Prelude.{◌≡◌, ◌<◌, ◌≤◌, ◌+◌, ◌-◌, ◌*◌, ◌^◌, [], IsTrue, IfOk, IfErr, OnOk, length};
+ghost use Rattle.std.specs.Prelude.{◌≡◌, ◌<◌, ◌≤◌, ◌+◌, ◌-◌, ◌*◌, ◌^◌, [], IsTrue, IfOk, IfErr, MatchBool, OnOk};
+ghost use Rattle.std.specs.Prelude.{length};
 ghost use Rattle.abt_flash.specs.Devices.{counts, partition_state, spool_state};
 ghost use Rattle.abt_flash.specs.Delivering.{AlwaysMendable, Costs, CountsTo, GivesPieces, IsLeast, LaysBlocks};
 ghost use Rattle.abt_flash.specs.Delivering.{MendsBlocks, NoneFailed, OnEarly, Refused, Room, pieces_in};
@@ -25,6 +26,13 @@ fn not_opened(fault: PieceFault) -> FlashFault
         PieceFault::TooLarge => FlashFault::TooLarge,
         PieceFault::BadBlock(size) => FlashFault::BadBlock(size),
     }
+}
+
+/// Whether a partition of this size is too small for what its image needs.
+fn is_too_small(size: u64, need: u64) -> bool
+    ensures { MatchBool result (size < need) (need ≤ size) }
+{
+    size < need
 }
 
 /// Delivers all pieces of an opened image but so many of the first, which are only planned.
@@ -98,7 +106,7 @@ pub(crate) fn deliver_behind<R: BlockRuns + Drop, S: Source, L: Spool, P: Partit
         Err(fault) => return Err(not_opened(fault)),
     };
     let need = cutter.runs.blocks() as u64 * cutter.runs.block_size() as u64;
-    if partition.length() < need {
+    if is_too_small(partition.length(), need) {
         return Err(FlashFault::PartitionTooSmall { need });
     }
     match plan_pieces(&mut cutter, source, before, w, m) {

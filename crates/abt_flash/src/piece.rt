@@ -1,6 +1,6 @@
 //! One piece, from the source through the spool to the partition.
 
-ghost use Rattle.std.specs.Prelude.{◌≡◌, ◌<◌, ◌≤◌, ◌+◌, ◌-◌, ◌*◌, ◌++◌, [], ◌∷◌, IsTrue, IfErr, OnErr, OnOk, is_ok};
+ghost use Rattle.std.specs.Prelude.{◌≡◌, ◌<◌, ◌≤◌, ◌+◌, ◌-◌, ◌*◌, ◌++◌, [], ◌∷◌, IsTrue, Err, IfErr, OnErr, OnOk, is_ok};
 ghost use Rattle.std.specs.Prelude.{length, max, if◌then◌else◌};
 ghost use Rattle.abt_io.specs.Moment.{Keeps, EachSince, moment_of};
 ghost use Rattle.abt_sparse.specs.Block.{cells, over};
@@ -62,14 +62,14 @@ fn not_written(fault: PieceFault) -> Cause
     }
 }
 
-/// Why a piece is not finished, where it was not flashed.
-fn not_flashed(fault: FlashFault) -> Cause
-    ensures { result ≡ flashing_cause fault }
+/// What is answered to a piece that was not flashed: it is not finished, and why.
+fn not_flashed(fault: FlashFault) -> Result<(), Cause>
+    ensures { result ≡ Err (flashing_cause fault) }
 {
     match fault {
-        FlashFault::Read(fault) => Cause::SpoolRead(fault),
-        FlashFault::Write(fault) => Cause::Write(fault),
-        FlashFault::Sync(fault) => Cause::Sync(fault),
+        FlashFault::Read(fault) => Err(Cause::SpoolRead(fault)),
+        FlashFault::Write(fault) => Err(Cause::Write(fault)),
+        FlashFault::Sync(fault) => Err(Cause::Sync(fault)),
         FlashFault::Sparse(_)
         | FlashFault::PartitionTooSmall { .. }
         | FlashFault::TooLarge
@@ -77,7 +77,7 @@ fn not_flashed(fault: FlashFault) -> Cause
         | FlashFault::BadBlock(_)
         | FlashFault::LimitTooSmall { .. }
         | FlashFault::Stopped { .. }
-        | FlashFault::NoSuchPiece { .. } => Cause::SpoolChanged,
+        | FlashFault::NoSuchPiece { .. } => Err(Cause::SpoolChanged),
     }
 }
 
@@ -212,6 +212,6 @@ pub(crate) fn deliver_piece<R: BlockRuns + Drop, S: Source, L: Spool, P: Partiti
     }
     match flash(spool, partition, w, m) {
         Ok(_) => Ok(()),
-        Err(fault) => Err(not_flashed(fault)),
+        Err(fault) => not_flashed(fault),
     }
 }

@@ -8,6 +8,7 @@ ghost use Rattle.abt_flash.specs.Delivering.{MendsBlocks, NoneFailed, OnEarly, R
 ghost use Rattle.abt_flash.specs.Raw.{RawRefused, raw_image};
 
 use crate::answer::Delivered;
+use crate::delivering::pieces_before;
 use crate::fault::FlashFault;
 use crate::opened::deliver_behind;
 use crate::sparse::not_read;
@@ -184,5 +185,14 @@ pub fn resume_raw<S: Source, L: Spool, P: Partition>(
         (counts S.Source L.Input L.Output L.Spool.own P.Partition.own source.old spool.old partition.old)
         (counts S.Source L.Input L.Output L.Spool.own P.Partition.own source.new spool.new partition.new) m.old m.new }
 {
-    raw_behind(source, b, limit, from_piece - 1, spool, partition, w, m)
+    raw_behind(
+        source,
+        b,
+        limit,
+        pieces_before(from_piece),
+        spool,
+        partition,
+        w,
+        m,
+    )
 }

@@ -8,6 +8,7 @@ ghost use Rattle.abt_flash.specs.Sparse.{Fits, SparseRefused, image_length, spar
 ghost use Rattle.abt_flash.specs.Causes.{run_fault_of};
 
 use crate::answer::Delivered;
+use crate::delivering::pieces_before;
 use crate::fault::FlashFault;
 use crate::opened::deliver_behind;
 use abt_io::{Meter, Partition, Source, Spool, Window};
@@ -193,5 +194,13 @@ pub fn resume<S: Source, L: Spool, P: Partition>(
         (counts S.Source L.Input L.Output L.Spool.own P.Partition.own source.old spool.old partition.old)
         (counts S.Source L.Input L.Output L.Spool.own P.Partition.own source.new spool.new partition.new) m.old m.new }
 {
-    sparse_behind(source, limit, from_piece - 1, spool, partition, w, m)
+    sparse_behind(
+        source,
+        limit,
+        pieces_before(from_piece),
+        spool,
+        partition,
+        w,
+        m,
+    )
 }

@@ -200,10 +200,11 @@ returns-then-not-more-clause-written g c tells =
     let within = g.met.R.BlockRuns.bounded c.args.cutter.now.runs _ c.args.cutter.now.sound.within in
     let here = behind most b all c.args.cutter.now.made c.args.cutter.now.start.block Between (rw c.requires.between at (c.requires.told tells).cuts) (inl refl) (omega (arith, long, within)) in
     let all_of = pieces_behind_are most b all c.args.cutter.now.made c.args.cutter.now.start.block Between here in
+    rw c.delivered.ensures (
     sym (append-nil (g.L.Output.written c.pieces.spool))
     ∙ sym (ap (λ (st : Stage). g.L.Output.written c.pieces.spool ++ concat (pieces_left most b all c.pieces.cutter.start.block st)) is)
     ∙ i.written tells
-    ∙ ap (λ (xs : List (List ℕ)). g.L.Output.written c.args.spool.now ++ concat xs) (sym all_of)
+    ∙ ap (λ (xs : List (List ℕ)). g.L.Output.written c.args.spool.now ++ concat xs) (sym all_of))
 
 pub returns-then-not-more-clause-cuts : goal.returns-then-not-more-clause-cuts
 returns-then-not-more-clause-cuts g c tells =
@@ -216,9 +217,10 @@ returns-then-not-more-clause-cuts g c tells =
     let within = g.met.R.BlockRuns.bounded c.args.cutter.now.runs _ c.args.cutter.now.sound.within in
     let here = behind most b all c.args.cutter.now.made c.args.cutter.now.start.block Between (rw c.requires.between at (c.requires.told tells).cuts) (inl refl) (omega (arith, long, within)) in
     let all_of = pieces_behind_are most b all c.args.cutter.now.made c.args.cutter.now.start.block Between here in
+    rw c.delivered.ensures (
     sym (ap (λ (st : Stage). with_cuts (g.L.Spool.cuts c.pieces.spool) (length (g.L.Output.written c.pieces.spool)) (pieces_left most b all c.pieces.cutter.start.block st)) is)
     ∙ i.cuts tells
-    ∙ ap (λ (xs : List (List ℕ)). with_cuts (g.L.Spool.cuts c.args.spool.now) (length (g.L.Output.written c.args.spool.now)) xs) (sym all_of)
+    ∙ ap (λ (xs : List (List ℕ)). with_cuts (g.L.Spool.cuts c.args.spool.now) (length (g.L.Output.written c.args.spool.now)) xs) (sym all_of))
 
 pub returns-then-not-more-clause-begins : goal.returns-then-not-more-clause-begins
 returns-then-not-more-clause-begins g c tells =
@@ -244,9 +246,10 @@ returns-then-not-more-clause-laid g c tells spool partition =
     let is : c.pieces.cutter.stage ≡ Done = now_done _ _ _ _ i.unbroken (sym c.more.ensures ∙ c.if-not-more.true) in
     let good = g.met.R.BlockRuns.are_blocks c.args.cutter.now.runs _ (c.requires.opened tells) in
     let sized = g.met.R.BlockRuns.sized c.args.cutter.now.runs in
+    rw c.delivered.ensures (
     sym (ap (λ (st : Stage). flashed_all b (g.P.Source.content c.pieces.partition) (frames_left most b all c.pieces.cutter.start.block st)) is)
     ∙ i.laid tells spool partition
-    ∙ laid_left most b (g.P.Source.content c.args.partition.now) all c.args.cutter.now.start.block Between sized.1 good (inl refl)
+    ∙ laid_left most b (g.P.Source.content c.args.partition.now) all c.args.cutter.now.start.block Between sized.1 good (inl refl))
 
 pub returns-then-not-more-clause-stays : goal.returns-then-not-more-clause-stays
 returns-then-not-more-clause-stays g c tells spool partition =
@@ -275,9 +278,7 @@ returns-then-not-more-clause-spent g c tells =
     let copies = g.met.R.BlockRuns.copied_fits c.args.cutter.now.runs c.pieces.cutter.start inside in
     let same = i.same_made in
     let order = i.order in
-    let d = c.delivered.result.pieces in
-    let all = c.delivered.ensures in
-    spent_whole (g.S.Source.given c.args.source.now) (g.S.Source.given c.pieces.source) (passes c.args.cutter.now.start) 0 (passes c.pieces.cutter.start) c.args.cutter.now.made c.pieces.cutter.made d one (g.R.BlockRuns.pass c.args.cutter.now.runs) (g.R.BlockRuns.image c.args.cutter.now.runs) (omega (arith, order, same, all)) (omega (arith, most, copies)) (i.spent_end tells is)
+    rw c.delivered.ensures (spent_whole (g.S.Source.given c.args.source.now) (g.S.Source.given c.pieces.source) (passes c.args.cutter.now.start) 0 (passes c.pieces.cutter.start) c.args.cutter.now.made c.pieces.cutter.made _ one (g.R.BlockRuns.pass c.args.cutter.now.runs) (g.R.BlockRuns.image c.args.cutter.now.runs) (omega (arith, order, same)) (omega (arith, most, copies)) (i.spent_end tells is))
 
 -- ---- where a piece was stopped
 

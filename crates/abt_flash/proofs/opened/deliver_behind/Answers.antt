@@ -42,20 +42,20 @@ returns-in-Err-clause-costs g c = record {
 
 -- ---- where the partition is too small
 
-pub returns-then-length-need-clause-spool : goal.returns-then-length-need-clause-spool
-returns-then-length-need-clause-spool g c = gives_none _ _ _ _ _ _ _
+pub returns-then-is_too_small-clause-spool : goal.returns-then-is_too_small-clause-spool
+returns-then-is_too_small-clause-spool g c = gives_none _ _ _ _ _ _ _
 
-pub returns-then-length-need-clause-partition : goal.returns-then-length-need-clause-partition
-returns-then-length-need-clause-partition g c = lays_none _ _ _ _ _ _ _ _ tt
+pub returns-then-is_too_small-clause-partition : goal.returns-then-is_too_small-clause-partition
+returns-then-is_too_small-clause-partition g c = lays_none _ _ _ _ _ _ _ _ tt
 
-pub returns-then-length-need-clause-mends : goal.returns-then-length-need-clause-mends
-returns-then-length-need-clause-mends g c tells spool partition = mends_none _ _ _ _ _
+pub returns-then-is_too_small-clause-mends : goal.returns-then-is_too_small-clause-mends
+returns-then-is_too_small-clause-mends g c tells spool partition = mends_none _ _ _ _ _
 
-pub returns-then-length-need-clause-mendable : goal.returns-then-length-need-clause-mendable
-returns-then-length-need-clause-mendable g c tells spool partition first none = mendable_none _ _ _ none
+pub returns-then-is_too_small-clause-mendable : goal.returns-then-is_too_small-clause-mendable
+returns-then-is_too_small-clause-mendable g c tells spool partition first none = mendable_none _ _ _ none
 
-pub returns-then-length-need-clause-costs : goal.returns-then-length-need-clause-costs
-returns-then-length-need-clause-costs g c = record { begun = 0; counted = refl; calls = omega arith; turns = omega arith; steps = omega arith; greatest = omega arith }
+pub returns-then-is_too_small-clause-costs : goal.returns-then-is_too_small-clause-costs
+returns-then-is_too_small-clause-costs g c = record { begun = 0; counted = refl; calls = omega arith; turns = omega arith; steps = omega arith; greatest = omega arith }
 
 -- ---- where planning was refused
 

@@ -213,7 +213,7 @@ returns-in-Err-flash-clause-unsynced g c =
     rw (c.not_flashed.ensures) (omega (arith, same, sum))
 
 pub returns-in-Err-flash-clause-greatest_end : goal.returns-in-Err-flash-clause-greatest_end
-returns-in-Err-flash-clause-greatest_end g c tells = on_flashed _ _ (segment g ((goal.at.returns-in-Err-flash-clause-greatest_end g c).In-Ok-Some) tells)
+returns-in-Err-flash-clause-greatest_end g c tells = rw (c.not_flashed.ensures) (on_flashed _ _ (segment g ((goal.at.returns-in-Err-flash-clause-greatest_end g c).In-Ok-Some) tells))
 
 pub returns-in-Err-flash-clause-laid : goal.returns-in-Err-flash-clause-laid
 returns-in-Err-flash-clause-laid g c tells spool partition =

@@ -13,7 +13,7 @@ lay_part-done-requires-clause-fits g c =
     let size = g.P.Source.size c.args.partition.now in
     let short : is_short_of s size ≡ false = ap (λ (k : ℕ). is_short_of s k) (sym c.length.ensures.size) ∙ sym c.is_short.ensures ∙ c.if-is_short.false in
     let small : need_of s < 2 ^ 64 = omega (arith, c.need-need.ensures) in
-    rw c.place-at.ensures (room_for s c.part-taken.result.part size short c.part-taken.ensures.inside small).0
+    rw c.place-at.ensures (room_for s c.part_within-taken.result.part size short c.part_within-taken.ensures.inside small).0
 
 not_short : (s : Walk) (size : ℕ) → is_short_of s size ≡ false → passed s ≡ true → need_of s ≤ size
 not_short s size short q = ltb-false _ _ (ap (λ (b : Bool). b && nat_lt size (need_of s)) (sym q) ∙ short)
@@ -26,55 +26,55 @@ returns-then-is_short-clause-told g c tells = nothing_laid _ _ _ _ _ _ _ _ _ _ (
 
 pub returns-in-Ok-clause-told : goal.returns-in-Ok-clause-told
 returns-in-Ok-clause-told g c tells =
-    let p = c.part-taken.ensures in
+    let p = c.part_within-taken.ensures in
     let e = c.in-Ok.ensures in
-    let r = c.part-taken.result.received in
+    let r = c.part_within-taken.result.received in
     let rem = g.I.Input.remaining c.args.input.now in
-    let win = c.part-taken.new.w.bytes in
-    let k : g.I.Input.given c.part-taken.new.input - g.I.Input.given c.args.input.now ≡ r = omega arith in
+    let win = c.part_within-taken.new.w.bytes in
+    let k : g.I.Input.given c.part_within-taken.new.input - g.I.Input.given c.args.input.now ≡ r = omega arith in
     let long : r ≤ length win = omega (arith, ap length (p.window tells), length-take r win, length-take r rem, p.present tells) in
-    rw (k, c.answer-answer.ensures) (laid_part g.P.Source.tells c.args.self.now.stage c.args.self.now.walk c.part-taken.new.self (take r rem) (g.I.Input.remaining c.part-taken.new.input) win
+    rw (k, c.answer-answer.ensures) (laid_part g.P.Source.tells c.args.self.now.stage c.args.self.now.walk c.part_within-taken.new.self (take r rem) (g.I.Input.remaining c.part_within-taken.new.input) win
     (g.P.Partition.past c.args.partition.now) (g.P.Partition.past c.lay_part-done.new.partition) (g.P.Source.content c.args.partition.now) (g.P.Source.content c.lay_part-done.new.partition)
     (g.P.Partition.taken c.args.partition.now) (g.P.Partition.taken c.lay_part-done.new.partition) r c.max-all.result (p.window tells) long
-    c.part-taken.result.part p.moved p.within p.leaves (p.says tells) p.place e.all
+    c.part_within-taken.result.part p.moved p.within p.leaves (p.says tells) p.place e.all
     (λ t. rw c.place-at.ensures at (e.laid t)) (λ t. rw c.place-at.ensures at (e.kept t)) (λ t. rw c.place-at.ensures at (e.moments t)))
 
 pub returns-in-Err-clause-told : goal.returns-in-Err-clause-told
 returns-in-Err-clause-told g c tells =
-    let p = c.part-taken.ensures in
+    let p = c.part_within-taken.ensures in
     let e = c.in-Err.ensures in
-    let r = c.part-taken.result.received in
+    let r = c.part_within-taken.result.received in
     let rem = g.I.Input.remaining c.args.input.now in
-    let win = c.part-taken.new.w.bytes in
-    let k : g.I.Input.given c.part-taken.new.input - g.I.Input.given c.args.input.now ≡ r = omega arith in
+    let win = c.part_within-taken.new.w.bytes in
+    let k : g.I.Input.given c.part_within-taken.new.input - g.I.Input.given c.args.input.now ≡ r = omega arith in
     let long : r ≤ length win = omega (arith, ap length (p.window tells), length-take r win, length-take r rem, p.present tells) in
-    rw k (refused_laid g.P.Source.tells c.args.self.now.stage c.args.self.now.walk c.part-taken.new.self (take r rem) (g.I.Input.remaining c.part-taken.new.input) win
+    rw k (refused_laid g.P.Source.tells c.args.self.now.stage c.args.self.now.walk c.part_within-taken.new.self (take r rem) (g.I.Input.remaining c.part_within-taken.new.input) win
     (g.P.Partition.past c.args.partition.now) (g.P.Partition.past c.lay_part-done.new.partition) (g.P.Source.content c.args.partition.now) (g.P.Source.content c.lay_part-done.new.partition)
     (g.P.Partition.taken c.args.partition.now) (g.P.Partition.taken c.lay_part-done.new.partition) r c.max-all.result (p.window tells) long
-    c.part-taken.result.part c.in-Err.fault _ _ p.moved p.within p.leaves (p.says tells) e.cause e.ends e.all (λ t. rw c.place-at.ensures at (e.laid t))
+    c.part_within-taken.result.part c.in-Err.fault _ _ p.moved p.within p.leaves (p.says tells) e.cause e.ends e.all (λ t. rw c.place-at.ensures at (e.laid t))
     (λ t. rw c.place-at.ensures at (e.kept t)) (λ t. rw c.place-at.ensures at (e.moments t)))
 
 pub returns-in-Ok-clause-cause : goal.returns-in-Ok-clause-cause
 returns-in-Ok-clause-cause g c goes =
-    let p = c.part-taken.ensures in
+    let p = c.part_within-taken.ensures in
     let going = going_phase c.args.self.now.stage c.args.self.now.walk.phase goes in
-    rw c.answer-answer.ensures (answer_cause c.part-taken.result.part _ _ _ _ _ going p.cause p.clean (p.failed going) c.in-Ok.ensures.cause)
+    rw c.answer-answer.ensures (answer_cause c.part_within-taken.result.part _ _ _ _ _ going p.cause p.clean (p.failed going) c.in-Ok.ensures.cause)
 
 pub returns-in-Err-clause-cause : goal.returns-in-Err-clause-cause
-returns-in-Err-clause-cause g c goes = refused_cause c.part-taken.result.part c.in-Err.fault _ _ _ _ c.in-Err.ensures.cause c.in-Err.ensures.sound c.part-taken.ensures.clean
+returns-in-Err-clause-cause g c goes = refused_cause c.part_within-taken.result.part c.in-Err.fault _ _ _ _ c.in-Err.ensures.cause c.in-Err.ensures.sound c.part_within-taken.ensures.clean
 
 pub returns-in-Err-clause-leaves : goal.returns-in-Err-clause-leaves
-returns-in-Err-clause-leaves g c goes = refused_leaves c.part-taken.result.part c.in-Err.fault _ _ _ c.in-Err.ensures.cause c.in-Err.ensures.ends c.part-taken.ensures.leaves
+returns-in-Err-clause-leaves g c goes = refused_leaves c.part_within-taken.result.part c.in-Err.fault _ _ _ c.in-Err.ensures.cause c.in-Err.ensures.ends c.part_within-taken.ensures.leaves
 
 pub returns-in-Err-clause-heads : goal.returns-in-Err-clause-heads
 returns-in-Err-clause-heads g c tells goes =
-    let p = c.part-taken.ensures in
+    let p = c.part_within-taken.ensures in
     let e = c.in-Err.ensures in
-    let r = c.part-taken.result.received in
+    let r = c.part_within-taken.result.received in
     let rem = g.I.Input.remaining c.args.input.now in
-    let rest = g.I.Input.remaining c.part-taken.new.input in
+    let rest = g.I.Input.remaining c.part_within-taken.new.input in
     let joined : take r rem ++ rest ≡ rem = ap (λ (l : List ℕ). take r rem ++ l) (p.rest tells) ∙ take-append-drop r rem in
-    refused_heads c.part-taken.result.part c.in-Err.fault c.args.self.now.walk c.part-taken.new.self rem rest _ _ e.cause e.ends (heads c.part-taken.result.part c.args.self.now.walk c.part-taken.new.self (take r rem) rest rem joined p.leaves (p.lists tells rest (λ z. refl)))
+    refused_heads c.part_within-taken.result.part c.in-Err.fault c.args.self.now.walk c.part_within-taken.new.self rem rest _ _ e.cause e.ends (heads c.part_within-taken.result.part c.args.self.now.walk c.part_within-taken.new.self (take r rem) rest rem joined p.leaves (p.lists tells rest (λ z. refl)))
 
 pub returns-in-Err-clause-measures : goal.returns-in-Err-clause-measures
 returns-in-Err-clause-measures g c goes =
@@ -82,18 +82,18 @@ returns-in-Err-clause-measures g c goes =
     let e = c.in-Err.ensures in
     let size = g.P.Source.size c.args.partition.now in
     let short : is_short_of s size ≡ false = ap (λ (k : ℕ). is_short_of s k) (sym c.length.ensures.size) ∙ sym c.is_short.ensures ∙ c.if-is_short.false in
-    refused_measures c.part-taken.result.part c.in-Err.fault s size _ _ e.cause e.ends (going_phase c.args.self.now.stage s.phase goes) c.part-taken.ensures.closes (λ q. not_short s size short q)
+    refused_measures c.part_within-taken.result.part c.in-Err.fault s size _ _ e.cause e.ends (going_phase c.args.self.now.stage s.phase goes) c.part_within-taken.ensures.closes (λ q. not_short s size short q)
 
 pub returns-in-Ok-clause-heads : goal.returns-in-Ok-clause-heads
 returns-in-Ok-clause-heads g c tells goes =
-    let p = c.part-taken.ensures in
-    let r = c.part-taken.result.received in
+    let p = c.part_within-taken.ensures in
+    let r = c.part_within-taken.result.received in
     let rem = g.I.Input.remaining c.args.input.now in
-    let rest = g.I.Input.remaining c.part-taken.new.input in
+    let rest = g.I.Input.remaining c.part_within-taken.new.input in
     let joined : take r rem ++ rest ≡ rem = ap (λ (l : List ℕ). take r rem ++ l) (p.rest tells) ∙ take-append-drop r rem in
-    rw c.answer-answer.ensures (heads c.part-taken.result.part c.args.self.now.walk c.part-taken.new.self (take r rem) rest rem joined p.leaves (p.lists tells rest (λ z. refl)))
+    rw c.answer-answer.ensures (heads c.part_within-taken.result.part c.args.self.now.walk c.part_within-taken.new.self (take r rem) rest rem joined p.leaves (p.lists tells rest (λ z. refl)))
 
 pub returns-in-Ok-clause-fresh : goal.returns-in-Ok-clause-fresh
 returns-in-Ok-clause-fresh g c goes =
-    let p = c.part-taken.ensures in
-    rw c.answer-answer.ensures (fresh_goes c.part-taken.result.part c.args.self.now.walk c.part-taken.new.self c.part-taken.result.received c.max-all.result _ (going_phase c.args.self.now.stage c.args.self.now.walk.phase goes) p.numbers p.leaves p.moved p.within p.inside c.in-Ok.ensures.still)
+    let p = c.part_within-taken.ensures in
+    rw c.answer-answer.ensures (fresh_goes c.part_within-taken.result.part c.args.self.now.walk c.part_within-taken.new.self c.part_within-taken.result.received c.max-all.result _ (going_phase c.args.self.now.stage c.args.self.now.walk.phase goes) p.numbers p.leaves p.moved p.within p.inside c.in-Ok.ensures.still)
