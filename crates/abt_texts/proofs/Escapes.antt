@@ -58,7 +58,7 @@ one_back b x small = elim (cases_Bool (is_plain b)) [
   | inr e ↦ rw e (escape_step (slice_index lower_digits (b / 16)) (slice_index lower_digits (b % 16)) b x (digits_of_byte b small))
 ]
 
-tail_bytes : (b : ℕ) (x : List ℕ) → AreBytes (b ∷ x) → AreBytes x
+pub tail_bytes : (b : ℕ) (x : List ℕ) → AreBytes (b ∷ x) → AreBytes x
 tail_bytes b x h = λ i. h (suc i)
 
 -- a text that was escaped is itself

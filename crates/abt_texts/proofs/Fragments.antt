@@ -16,11 +16,11 @@ use Rattle.abt_texts.specs.Fragment.{IsFragment, IsOfParts, number_of, type_numb
 own : IsNumeralModel (λ (ds : List ℕ). all_ascii_digits ds ≡ true) (digits_value 10)
 own = numerals_by_value _ (search rules)
 
-abbrev lacks : ℕ → List ℕ → Bool
+abbrev pub lacks : ℕ → List ℕ → Bool
 lacks c [] = true
 lacks c (b ∷ x) = not (b == c) && lacks c x
 
-lacks-at : (c : ℕ) (x : List ℕ) → lacks c x ≡ true → (i : ℕ) → i < length x → slice_index x i ≢ c
+pub lacks-at : (c : ℕ) (x : List ℕ) → lacks c x ≡ true → (i : ℕ) → i < length x → slice_index x i ≢ c
 lacks-at c [] h i l = absurd (let q : i < 0 = l in omega arith)
 lacks-at c (b ∷ x) h zero l = λ e. true≢false (sym (and_parts (not (b == c)) (lacks c x) h).0 ∙ ap not (eq-eqb b c e))
 lacks-at c (b ∷ x) h (suc i) l = lacks-at c x (and_parts (not (b == c)) (lacks c x) h).1 i (omega arith)

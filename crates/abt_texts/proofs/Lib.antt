@@ -3,10 +3,15 @@ pub mod Calls
 pub mod Counting
 pub mod Demonstrated
 pub mod Escapes
+pub mod FilesSay
 pub mod Fragments
+pub mod FragmentsSay
 pub mod NumberWords
 pub mod OsWords
+pub mod ImagesSay
 pub mod Listed
+pub mod PackedAgain
+pub mod PackedFields
 pub mod Printing
 pub mod TextsOver
 pub mod Turns

@@ -3,6 +3,7 @@ pub mod Demo
 pub mod Fault
 pub mod Fragment
 pub mod Info
+pub mod LeftOut
 pub mod Listed
 pub mod Listing
 pub mod Loading
@@ -13,4 +14,5 @@ pub mod Printed
 pub mod Said
 pub mod Shown
 pub mod Unescaped
+pub mod WayBack
 pub mod Words

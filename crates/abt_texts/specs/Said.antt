@@ -1,22 +1,29 @@
 -- What the words of `pack` say of an image.
-use Rattle.std.specs.Prelude.{◌≡◌, ◌<◌, ◌^◌, ℕ, ◌==◌, ◌⊎◌, Bool, true, false, List, [], ◌∷◌, ◌++◌, Option, Some, None, codes}
+use Rattle.std.specs.Prelude.{◌≡◌, ◌<◌, ◌^◌, ℕ, suc, ◌==◌, ◌&&◌, ◌||◌, ◌⊎◌, if◌then◌else◌, Bool, true, false, List, [], ◌∷◌, ◌++◌, Option, Some, None, codes, decimal, length, map, replicate, slice_index, slice_index_or}
 use Rattle.abt_headers.specs.declared.boot.BootFront.{BootFront}
 use Rattle.abt_headers.specs.declared.boot.ShortFront.{ShortFront}
 use Rattle.abt_headers.specs.declared.boot.BootHeader.{BootHeader}
 use Rattle.abt_headers.specs.declared.boot.BootHeader.TheVariants.{V0, V1, V2, V3, V4}
 use Rattle.abt_headers.specs.declared.os.OsParts.{OsParts}
+use Rattle.abt_headers.specs.declared.sections.Place.{Place}
+use Rattle.abt_headers.specs.declared.sections.Section.{Section}
 use Rattle.abt_headers.specs.Os.{IsOsVersion, os_raw}
 use Rattle.abt_headers.specs.Page.{page_bytes}
+use Rattle.abt_headers.specs.Places.{section_name}
 use Rattle.abt_headers.specs.Vendor.{Vendor, vendor_page, vendor_version}
 use Rattle.abt_io.specs.Bytes.{AreBytes}
+use Rattle.abt_sections.specs.declared.spec.FragmentSpec.{FragmentSpec}
 use Rattle.abt_sections.specs.Fields.{BootFields, VendorFields}
 use Rattle.abt_sections.specs.Header.{Header, OfBoot, OfVendor}
 use Rattle.abt_texts.specs.Info as info
+use Rattle.abt_texts.specs.Board.{BoardFits, IsBoardWord}
+use Rattle.abt_texts.specs.Fragment.{IsEscapedFragment}
+use Rattle.abt_texts.specs.declared.board_word.BoardWord.{BoardWord}
 use Rattle.abt_texts.specs.declared.fields.Address.{Address}
 use Rattle.abt_texts.specs.declared.fields.TextField.{TextField}
 use Rattle.abt_texts.specs.OsWord.{IsNumberWord, IsOsWord}
 use Rattle.abt_texts.specs.Unescaped.{unescaped}
-use Rattle.abt_texts.specs.Words.{option_front, text_of, text_over}
+use Rattle.abt_texts.specs.Words.{flag_word, option_front, section_option, text_of, text_over}
 
 -- ---- the value of an option
 
@@ -29,6 +36,10 @@ behind (a ∷ front) (b ∷ word) = elim (a == b) [
   | false ↦ None
 ]
 
+abbrev pub with_value : Option (List ℕ) → List (List ℕ) → List (List ℕ)
+with_value (Some value) values = value ∷ values
+with_value None values = values
+
 abbrev pub first_of : Option (List ℕ) → Option (List ℕ) → Option (List ℕ)
 first_of (Some value) rest = Some value
 first_of None rest = rest
@@ -37,6 +48,24 @@ first_of None rest = rest
 abbrev pub value_of : List ℕ → List (List ℕ) → Option (List ℕ)
 value_of name [] = None
 value_of name (word ∷ words) = first_of (behind (option_front name) word) (value_of name words)
+
+-- the values in all words `--NAME=VALUE`, in order
+abbrev pub values_of : List ℕ → List (List ℕ) → List (List ℕ)
+values_of name [] = []
+values_of name (word ∷ words) = with_value (behind (option_front name) word) (values_of name words)
+
+-- ---- what a word without a value says
+
+-- nothing stands behind a front
+abbrev pub is_whole : Option (List ℕ) → Bool
+is_whole None = false
+is_whole (Some []) = true
+is_whole (Some (a ∷ rest)) = false
+
+-- the word `--NAME` is one of these
+abbrev pub is_said : List ℕ → List (List ℕ) → Bool
+is_said name [] = false
+is_said name (word ∷ words) = is_whole (behind (flag_word name) word) || is_said name words
 
 -- ---- what an option says
 
@@ -92,6 +121,61 @@ pub record SaysVendor (words : List (List ℕ)) (s : VendorFields) : Type 0 wher
   pub dtb_addr : SaysNumber words (codes "dtb-addr") s.dtb_addr
   pub name : SaysText words (codes "name") s.name
   pub cmdline : SaysText words (codes "cmdline") s.cmdline
+
+-- ---- what words say of the parts: each is a file of a folder
+
+-- an option, where there is one, says that this section is the file of its name
+abbrev pub SaysFile : List (List ℕ) → List ℕ → Option (List ℕ) → Section → Type 0
+SaysFile words folder None section = Unit {0}
+SaysFile words folder (Some name) section = SaysText words name (folder ++ (codes "/" ++ section_name section))
+
+abbrev pub SaysFiles : List (List ℕ) → List ℕ → Bool → List Place → Type 0
+SaysFiles words folder table [] = Unit {0}
+SaysFiles words folder table (p ∷ ps) =
+    SaysFile words folder (section_option table p.kind) p.kind × SaysFiles words folder table ps
+
+-- ---- what words say of ramdisk fragments
+
+-- what is said of a fragment by its own word
+abbrev pub without_board : FragmentSpec → FragmentSpec
+without_board f = record { kind = f.kind; name = f.name; board_id = replicate 16 0 }
+
+-- a value TYPE:NAME:FILE says this of fragment i, whose file is `fragment.I` of the folder
+pub record SaysFragment (folder value : List ℕ) (i : ℕ) (f : FragmentSpec) : Type 0 where
+  pub path : List ℕ
+  pub word : IsEscapedFragment value (without_board f) path
+  pub file : unescaped path ≡ folder ++ (codes "/fragment." ++ decimal i)
+
+-- each value says a fragment, the first of them fragment i
+abbrev pub SaysEach : List ℕ → List (List ℕ) → ℕ → List FragmentSpec → Type 0
+SaysEach folder [] i [] = Unit {0}
+SaysEach folder [] i (f ∷ fs) = ⊥
+SaysEach folder (value ∷ values) i [] = ⊥
+SaysEach folder (value ∷ values) i (f ∷ fs) = SaysFragment folder value i f × SaysEach folder values (suc i) fs
+
+-- each value is a word I:K=N, of one of so many fragments
+abbrev pub AreBoards : ℕ → List (List ℕ) → List BoardWord → Type 0
+AreBoards count [] [] = Unit {0}
+AreBoards count [] (b ∷ bs) = ⊥
+AreBoards count (value ∷ values) [] = ⊥
+AreBoards count (value ∷ values) (b ∷ bs) =
+    IsBoardWord value b × BoardFits b × (b.fragment < count) × AreBoards count values bs
+
+-- what number k of the board id of fragment i is after these words, where it was n before
+abbrev pub number_after : ℕ → List BoardWord → ℕ → ℕ → ℕ
+number_after n [] i k = n
+number_after n (b ∷ bs) i k = number_after (if (b.fragment == i) && (b.place == k) then b.number else n) bs i k
+
+-- the numbers of the board id of fragment i
+abbrev pub board_id_of : List FragmentSpec → ℕ → List ℕ
+board_id_of fs i = slice_index_or (map (λ f. f.board_id) fs) i []
+
+-- the words say these fragments, in order: a number of a board id that no word sets is 0
+pub record SaysFragments (words : List (List ℕ)) (folder : List ℕ) (fs : List FragmentSpec) : Type 0 where
+  pub each : SaysEach folder (values_of (codes "fragment") words) 0 fs
+  pub boards : List BoardWord
+  pub are_boards : AreBoards (length fs) (values_of (codes "board-id") words) boards
+  pub board_ids : (i k : ℕ) → slice_index (board_id_of fs i) k ≡ number_after 0 boards i k
 
 -- ---- the fields that a header has
 

@@ -1,20 +1,23 @@
-//! The texts of the program and the words that are no words of a command line's parser: what is printed of an image, the
-//! line of each fault, the exit status, and the small languages of `pack`'s words.
+//! The texts of the program, and the words that are no words of a command line's parser: what is printed of an image,
+//! the line of each fault, the exit status, and the small languages of `pack`'s words.
 //!
 //! What the layers above rely on: `report_list` and `report_info` print exactly the text that the image has, `demo` its
-//! line, a line goes out whole or the fault is told, and a word is read where it has its shape and refused where it hasn't.
+//! line, a line goes out whole or the fault is told, a word is read where it has its shape and refused where it hasn't,
+//! and what `write_words` writes of an image that packing writes packs that image again.
 //!
 //! | file | has |
 //! |---|---|
 //! | `demonstration.rt`, `shown.rt` | the built-in image, and the output that keeps what it gives |
 //! | `listing.rt`, `lines.rt` | a listing, and the text of its lines |
-//! | `info.rt`, `info_lines.rt`, `fields.rt` | what a boot image's header says, the text of its lines, and the fields that a header has |
+//! | `info.rt`, `info_lines.rt` | what a boot image's header says, and the text of its lines |
+//! | `fields.rt` | the fields that a header has, whichever kind and version it is of |
 //! | `pack_options.rt` | the options of `pack`, and which image carries which |
-//! | `os_word.rt`, `fragment_word.rt` | the words of `--os` and FRAGMENT |
 //! | `numbers.rt`, `loading.rt` | numbers as words, and where parts are loaded |
 //! | `os_word.rt`, `fragment_word.rt`, `board_word.rt` | the words of `--os`, FRAGMENT and `--board-id` |
-//! | `packing_words.rt`, `word_lines.rt`, `words_laws.rt` | the words that pack an image again, the text of each, and that they say what the header has |
 //! | `unescaping.rt` | texts with escaped bytes |
+//! | `packing_words.rt`, `word_lines.rt` | the words that pack an image again, and the text of each |
+//! | `words_laws.rt` | laws: these words say what the image has, and packing makes it again |
+//! | `left_out.rt` | what packing an image again leaves out of it |
 //! | `fault.rt`, `exit_status.rt` | why a command is refused, the line that says so, and the exit status |
 //! | `advising.rt`, `shown_path.rt` | which file a fault is about and what can be done, and a path as it is shown |
 //! | `progress_line.rt` | how far a command is |
@@ -31,6 +34,7 @@ mod fragment_word;
 mod held;
 mod info;
 mod info_lines;
+mod left_out;
 mod lines;
 mod listing;
 mod loading;
@@ -55,6 +59,7 @@ pub use fields::{Address, TextField, address_of, os_version_of, text_field_of};
 pub use fragment_word::FragmentWord;
 pub use info::{InfoReport, report_info};
 pub use info_lines::front_text;
+pub use left_out::LeftOut;
 pub use listing::report_list;
 pub use loading::{AddressWords, BASE, base_of, load_address};
 pub use numbers::number_word;
@@ -65,4 +70,6 @@ pub use progress_line::ProgressLine;
 pub use shown_path::ShownPath;
 pub use text_output::{Text, print_line};
 pub use unescaping::unescaped;
-pub use words_laws::{header_is_held, words_say_the_header};
+pub use words_laws::{
+    canonical_packs_again, header_is_held, words_pack_again, words_say_the_header,
+};

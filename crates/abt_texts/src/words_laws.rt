@@ -1,15 +1,19 @@
-//! Laws about the words that pack an image again: what they say is what the header has. No call does anything.
+//! Laws about the words that pack an image again: what they say is what the image has, and packing what they say makes
+//! the image again. No call does anything.
 
 ghost use Rattle.std.specs.Prelude.{◌≡◌, ◌<◌, ◌^◌, ℕ, List, Some};
 ghost use Rattle.abt_io.specs.Bytes.{AreBytes};
+ghost use Rattle.abt_sections.specs.Check.{IsCanonical};
 ghost use Rattle.abt_sections.specs.Header.{Header, view_of};
+ghost use Rattle.abt_sections.specs.Open.{HasImage, IsOpened};
 ghost use Rattle.abt_texts.specs.Info as info;
 ghost use Rattle.abt_texts.specs.Said.{IsHeld, SaysHeader};
+ghost use Rattle.abt_texts.specs.WayBack.{PacksAgain, SaysImage};
 ghost use Rattle.abt_texts.specs.Words.{image_words};
 
 use crate::fields::{Address, TextField, address_of, os_version_of, text_field_of};
 use abt_io::are_bytes;
-use abt_sections::ImageHeader;
+use abt_sections::{Image, ImageHeader, canonical_is_packed, packed_holds_parts};
 
 /// The words of any header whose fields hold what fields can say each field as it is: numbers, the OS version and its
 /// patch level, and texts as far as their first zero byte.
@@ -30,6 +34,28 @@ pub fn header_is_held(header: &ImageHeader)
     text_is_bytes(header, TextField::Name);
     text_is_bytes(header, TextField::Cmdline);
     text_is_bytes(header, TextField::Extra);
+}
+
+/// A canonical image is packed again: packing takes the fields of its header with the parts that unpacking writes, and
+/// the image that it packs of them is the one that stands there, byte for byte.
+pub fn canonical_packs_again()
+    ensures { (x : List ℕ) (h : Header) → AreBytes x → HasImage x h → IsCanonical x h → PacksAgain x h }
+{
+    canonical_is_packed();
+    packed_holds_parts();
+}
+
+/// The words of an opened canonical image say what packs it again, so packing what they say makes the image again.
+pub fn words_pack_again(image: &Image)
+    ensures says { (folder x : List ℕ) → AreBytes folder → AreBytes x → IsOpened x image.now →
+        IsCanonical x (view_of image.now.header) →
+        SaysImage (image_words folder x (view_of image.now.header)) folder x (view_of image.now.header) }
+    ensures packs { (x : List ℕ) → AreBytes x → IsOpened x image.now → IsCanonical x (view_of image.now.header) →
+        PacksAgain x (view_of image.now.header) }
+{
+    words_say_the_header();
+    header_is_held(&image.header);
+    canonical_packs_again();
 }
 
 fn address_fits(header: &ImageHeader, which: Address)
