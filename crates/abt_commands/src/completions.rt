@@ -19,7 +19,7 @@ pub enum Shell {
 
 impl Shell {
     /// The shell of this name.
-    pub fn new(name: &str) -> Option<Shell> {
+    pub(crate) fn new(name: &str) -> Option<Shell> {
         match name {
             "bash" => Some(Shell::Bash),
             "zsh" => Some(Shell::Zsh),
@@ -30,7 +30,7 @@ impl Shell {
 }
 
 /// Prints the completions.
-pub fn print_completions<R: Files, I, O: Output, E: Output>(
+pub(crate) fn print_completions<R: Files, I, O: Output, E: Output>(
     session: &mut Session<'_, R, I, O, E>,
     shell: Shell,
 ) -> Result<(), CommandFault> {

@@ -3,7 +3,7 @@
 ghost use Rattle.std.specs.Prelude.{◌≡◌, false};
 ghost use Rattle.abt_pieces.specs.Cutter.{is_begun};
 
-use crate::files::{ImageOutput, close, send};
+use crate::files::{ImageOutput, close, sent};
 use crate::numbers::{number, number_if};
 use crate::progress::RAW_PASSES;
 use crate::session::{Session, identity_at};
@@ -35,7 +35,7 @@ pub struct CutOrder<'a> {
 /// A piece's file is opened when its turn comes, and its line is printed when all of it is in the file. Pieces and lines
 /// before a fault stand. Where the image is one of the files that are there for pieces, nothing is written. The next piece
 /// of an older cut is named, since it is no piece of this one.
-pub fn cut_file<R: Files<File = File> + Clock, I, O: Output, E: Output>(
+pub(crate) fn cut_file<R: Files<File = File> + Clock, I, O: Output, E: Output>(
     session: &mut Session<'_, R, I, O, E>,
     order: CutOrder<'_>,
     w: &mut Window,
@@ -118,8 +118,7 @@ fn write_piece<R: Files<File = File> + Clock, B: BlockRuns + Drop, I, O: Output,
         }
         ImageOutput::Stream(mut stream) => {
             let piece = next_watched(session, cutter, source, &mut stream, w, m);
-            send(&mut stream)?;
-            piece?
+            sent(&mut stream, piece, session.reason)?
         }
     };
     session.is_unfinished = false;

@@ -1,12 +1,12 @@
 //! The command `expand`: the raw image that a sparse image stands for, or several together.
 
+use crate::files::sent;
 use crate::input::ForwardInput;
 use crate::overlay::overlay;
-use crate::raw_file::RawFile;
 use crate::session::Session;
 use crate::watched::Watched;
 use abt_chunks::{Expanded, expand};
-use abt_io::{FromRead, Meter, Output, ToWrite, Window};
+use abt_io::{Meter, Output, Window};
 use abt_texts::{CommandFault, write_fault};
 use std::fs::File;
 use std::io::Read;
@@ -16,7 +16,7 @@ use std::time::Clock;
 /// Writes the raw image of a sparse one, or of several laid over one another, and prints what it has.
 ///
 /// Where there is one, `-` is standard input, and standard output.
-pub fn expand_files<R: Files<File = File> + Clock, I: Read, O: Output, E: Output>(
+pub(crate) fn expand_files<R: Files<File = File> + Clock, I: Read, O: Output, E: Output>(
     session: &mut Session<'_, R, I, O, E>,
     inputs: &[&str],
     output: &str,
@@ -57,8 +57,8 @@ fn expand_out<R: Files<File = File> + Clock, I: Read, O: Output, E: Output>(
     w: &mut Window,
     m: &mut Meter,
 ) -> Result<Expanded, CommandFault> {
-    let reason = session.reason;
-    let mut from = FromRead::new(ForwardInput::new(file, &mut *session.standard_input, reason));
+    let standard = &mut *session.standard_input;
+    let mut from = ForwardInput::buffered(session.alloc, file, standard, session.reason)?;
     let mut from = Watched::new(
         &mut from,
         &mut session.progress,
@@ -75,14 +75,15 @@ fn expand_to<R: Files<File = File> + Clock, I: Read, O: Output, E: Output>(
     w: &mut Window,
     m: &mut Meter,
 ) -> Result<Expanded, CommandFault> {
-    let reason = session.reason;
-    let mut to = ToWrite::new(RawFile::new(session.create("OUT", output)?, reason));
-    let mut from = FromRead::new(ForwardInput::new(file, &mut *session.standard_input, reason));
+    let mut to = session.create_raw("OUT", output)?;
+    let standard = &mut *session.standard_input;
+    let mut from = ForwardInput::buffered(session.alloc, file, standard, session.reason)?;
     let mut from = Watched::new(
         &mut from,
         &mut session.progress,
         session.rt,
         &mut *session.err,
     );
-    expand(&mut from, &mut to, w, m).map_err(CommandFault::Sparse)
+    let expanded = expand(&mut from, &mut to, w, m).map_err(CommandFault::Sparse);
+    sent(&mut to, expanded, session.reason)
 }

@@ -6,7 +6,8 @@
 use crate::identity::Identity;
 use crate::image_file::ImageFile;
 use crate::noting::Noted;
-use crate::session::{Session, identity_at, place_at, shown_path};
+use crate::raw_file::RawFile;
+use crate::session::{Reason, Session, identity_at, place_at, shown_path};
 use abt_io::{DeviceFault, FilePartition, FileSource, FrontLast, Meter, Output, Source, ToWrite};
 use abt_texts::{CommandFault, write_fault};
 use std::fs::{File, Metadata, OpenOptions};
@@ -18,8 +19,14 @@ use std::rt::Files;
 // The number of 'Is a directory'.
 const IS_A_FOLDER: i32 = 21;
 
-/// A pipe or a device that takes small writes together, as those of chunk headers, until `send`.
+// How many bytes of a raw image are taken together at most: a page, since no hole is smaller.
+const PAGE: usize = 4096;
+
+/// A pipe or a device that takes small writes together, as those of chunk headers, until `sent`.
 pub type BufferedFile<'a> = ToWrite<BufWriter<Noted<'a, File>>>;
+
+/// The file of a raw image that takes small writes together, as those of small blocks, until `sent`.
+pub type BufferedRaw<'a> = ToWrite<BufWriter<RawFile<'a>>>;
 
 /// Where an image goes that has a magic.
 #[derive(Drop)]
@@ -32,12 +39,12 @@ pub enum ImageOutput<'a> {
 
 impl<'a, R: Files<File = File>, I, O: Output, E: Output> Session<'a, R, I, O, E> {
     /// Opens what is read forward: `-` is standard input, which is no file of ours. A folder is refused.
-    pub fn open(&mut self, path: &str) -> Result<Option<File>, CommandFault> {
+    pub(crate) fn open(&mut self, path: &str) -> Result<Option<File>, CommandFault> {
         self.open_as("IN", path)
     }
 
     /// The same, where a refusal names it otherwise than as IN.
-    pub fn open_as(&mut self, role: &str, path: &str) -> Result<Option<File>, CommandFault> {
+    pub(crate) fn open_as(&mut self, role: &str, path: &str) -> Result<Option<File>, CommandFault> {
         self.opening = Some(place_at(self.alloc, role, path)?);
         if path == "-" {
             if let Some(identity) = identity_at(self.rt, "/dev/stdin") {
@@ -57,7 +64,11 @@ impl<'a, R: Files<File = File>, I, O: Output, E: Output> Session<'a, R, I, O, E>
     }
 
     /// Opens what is read at any place. What is neither a file nor a block device has no length, and is refused.
-    pub fn open_source(&mut self, role: &str, path: &str) -> Result<FileSource, CommandFault> {
+    pub(crate) fn open_source(
+        &mut self,
+        role: &str,
+        path: &str,
+    ) -> Result<FileSource, CommandFault> {
         self.opening = Some(place_at(self.alloc, role, path)?);
         let file = self.opened(File::open(self.rt, path), path)?;
         let metadata = self.metadata_of(&file, path)?;
@@ -74,7 +85,7 @@ impl<'a, R: Files<File = File>, I, O: Output, E: Output> Session<'a, R, I, O, E>
     }
 
     /// A source that is open, to be read a second time beside the first.
-    pub fn opened_again(
+    pub(crate) fn opened_again(
         &mut self,
         source: &FileSource,
         path: &str,
@@ -90,7 +101,7 @@ impl<'a, R: Files<File = File>, I, O: Output, E: Output> Session<'a, R, I, O, E>
     }
 
     /// Opens a partition that is compared, and only read.
-    pub fn open_compared(&mut self, path: &str) -> Result<FileSource, CommandFault> {
+    pub(crate) fn open_compared(&mut self, path: &str) -> Result<FileSource, CommandFault> {
         self.opening = Some(place_at(self.alloc, "PARTITION", path)?);
         let file = self.opened(File::open(self.rt, path), path)?;
         let metadata = self.metadata_of(&file, path)?;
@@ -103,7 +114,7 @@ impl<'a, R: Files<File = File>, I, O: Output, E: Output> Session<'a, R, I, O, E>
     }
 
     /// Opens what is written in place, which must be there.
-    pub fn open_partition(&mut self, path: &str) -> Result<FilePartition, CommandFault> {
+    pub(crate) fn open_partition(&mut self, path: &str) -> Result<FilePartition, CommandFault> {
         let mut how = OpenOptions::new();
         how.write(true);
         let (file, metadata) = self.open_output(&how, "PARTITION", path)?;
@@ -117,7 +128,7 @@ impl<'a, R: Files<File = File>, I, O: Output, E: Output> Session<'a, R, I, O, E>
     }
 
     /// Creates a file, or empties it where it was there.
-    pub fn create(&mut self, role: &str, path: &str) -> Result<File, CommandFault> {
+    pub(crate) fn create(&mut self, role: &str, path: &str) -> Result<File, CommandFault> {
         let mut how = OpenOptions::new();
         how.write(true).create(true);
         let file = self.open_output(&how, role, path)?;
@@ -128,7 +139,7 @@ impl<'a, R: Files<File = File>, I, O: Output, E: Output> Session<'a, R, I, O, E>
     }
 
     /// Creates or empties a regular file, and makes it so many zeros, to be written in place. Nothing else will do.
-    pub fn create_zeros(
+    pub(crate) fn create_zeros(
         &mut self,
         role: &str,
         path: &str,
@@ -157,7 +168,7 @@ impl<'a, R: Files<File = File>, I, O: Output, E: Output> Session<'a, R, I, O, E>
     }
 
     /// Creates or empties the file of an image that has a magic.
-    pub fn create_image(
+    pub(crate) fn create_image(
         &mut self,
         role: &str,
         path: &str,
@@ -175,8 +186,21 @@ impl<'a, R: Files<File = File>, I, O: Output, E: Output> Session<'a, R, I, O, E>
         }
     }
 
+    /// Creates or empties the file of a raw image.
+    pub(crate) fn create_raw(
+        &mut self,
+        role: &str,
+        path: &str,
+    ) -> Result<BufferedRaw<'a>, CommandFault> {
+        let file = self.create(role, path)?;
+        match BufWriter::with_capacity(self.alloc, PAGE, RawFile::new(file, self.reason)) {
+            Ok(writer) => Ok(ToWrite::new(writer)),
+            Err(_) => Err(CommandFault::Memory),
+        }
+    }
+
     /// Creates or empties the file that pieces go through, which is read again.
-    pub fn create_spool(&mut self, path: &str) -> Result<File, CommandFault> {
+    pub(crate) fn create_spool(&mut self, path: &str) -> Result<File, CommandFault> {
         let mut how = OpenOptions::new();
         how.read(true).write(true).create(true);
         let (file, metadata) = self.open_output(&how, "SPOOL", path)?;
@@ -189,7 +213,7 @@ impl<'a, R: Files<File = File>, I, O: Output, E: Output> Session<'a, R, I, O, E>
     }
 
     /// Data goes to standard output, which must not be a file that is read.
-    pub fn write_to_standard_output(&mut self, role: &str) -> Result<(), CommandFault> {
+    pub(crate) fn write_to_standard_output(&mut self, role: &str) -> Result<(), CommandFault> {
         self.opening = Some(place_at(self.alloc, role, "-")?);
         if let Some(identity) = self.standard_output {
             self.refuse_taken(identity, "-")?;
@@ -201,7 +225,7 @@ impl<'a, R: Files<File = File>, I, O: Output, E: Output> Session<'a, R, I, O, E>
     }
 
     /// Refuses a path that is going to be written where it is a file that is read.
-    pub fn refuse_input(&mut self, role: &str, path: &str) -> Result<(), CommandFault> {
+    pub(crate) fn refuse_input(&mut self, role: &str, path: &str) -> Result<(), CommandFault> {
         self.opening = Some(place_at(self.alloc, role, path)?);
         match identity_at(self.rt, path) {
             Some(identity) => self.refuse_taken(identity, path),
@@ -309,7 +333,7 @@ impl<'a, R: Files<File = File>, I, O: Output, E: Output> Session<'a, R, I, O, E>
 }
 
 /// Whether it is a regular file, and no pipe or device.
-pub fn is_regular(file: &File) -> bool {
+pub(crate) fn is_regular(file: &File) -> bool {
     match file.metadata() {
         Ok(metadata) => metadata.is_file(),
         Err(_) => false,
@@ -317,7 +341,7 @@ pub fn is_regular(file: &File) -> bool {
 }
 
 /// Brings an image to its end: where it is whole, its magic is laid. What it took together is brought to the file.
-pub fn close<T: Drop>(
+pub(crate) fn close<T: Drop>(
     image: &mut FrontLast<ImageFile<'_>>,
     written: Result<T, CommandFault>,
     m: &mut Meter,
@@ -327,17 +351,26 @@ pub fn close<T: Drop>(
             Ok(()) => Ok(written),
             Err(fault) => Err(write_fault(fault)),
         },
-        Err(fault) => {
-            let _ = image.output.send();
-            Err(fault)
-        }
+        Err(fault) => image.output.sent(Err(fault)),
     }
 }
 
-/// Brings to the pipe or device what it took together.
-pub fn send(output: &mut BufferedFile<'_>) -> Result<(), CommandFault> {
-    match output.writer.flush() {
-        Ok(()) => Ok(()),
-        Err(_) => Err(write_fault(DeviceFault::Failed)),
+/// Brings to a file what it took together, however the work before ended. The first fault is told.
+pub(crate) fn sent<W: Write + Drop, T: Drop>(
+    output: &mut ToWrite<BufWriter<W>>,
+    written: Result<T, CommandFault>,
+    reason: &Reason,
+) -> Result<T, CommandFault> {
+    match written {
+        Ok(written) => match output.writer.flush() {
+            Ok(()) => Ok(written),
+            Err(_) => Err(write_fault(DeviceFault::Failed)),
+        },
+        Err(fault) => {
+            let why = reason.get();
+            let _ = output.writer.flush();
+            reason.set(why);
+            Err(fault)
+        }
     }
 }

@@ -8,7 +8,7 @@ use crate::progress::RAW_PASSES;
 use crate::session::Session;
 use crate::watched::Watched;
 use abt_flash::{Flashed, flash, resume, resume_raw};
-use abt_io::{FilePartition, FileSpool, FromRead, Meter, Output, Window};
+use abt_io::{FilePartition, FileSpool, Meter, Output, Window};
 use abt_texts::{CommandFault, write_fault};
 use std::fs::File;
 use std::io::Read;
@@ -40,7 +40,7 @@ pub struct PieceOrder<'a> {
 }
 
 /// Flashes an image to a partition, which must be there, and prints how many pieces or blocks it was.
-pub fn flash_file<R: Files<File = File> + Clock, I: Read, O: Output, E: Output>(
+pub(crate) fn flash_file<R: Files<File = File> + Clock, I: Read, O: Output, E: Output>(
     session: &mut Session<'_, R, I, O, E>,
     order: FlashOrder<'_>,
     w: &mut Window,
@@ -74,8 +74,8 @@ fn flash_from<R: Files<File = File> + Clock, I: Read, O: Output, E: Output>(
     w: &mut Window,
     m: &mut Meter,
 ) -> Result<Flashed, CommandFault> {
-    let reason = session.reason;
-    let mut from = FromRead::new(ForwardInput::new(file, &mut *session.standard_input, reason));
+    let standard = &mut *session.standard_input;
+    let mut from = ForwardInput::buffered(session.alloc, file, standard, session.reason)?;
     let mut from = Watched::new(
         &mut from,
         &mut session.progress,

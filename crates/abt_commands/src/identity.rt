@@ -14,7 +14,7 @@ pub struct Identity {
 }
 
 impl Identity {
-    pub fn new(metadata: &Metadata) -> Identity {
+    pub(crate) fn new(metadata: &Metadata) -> Identity {
         if metadata.file_type().is_block_device() {
             return Identity {
                 device: None,

@@ -7,6 +7,7 @@ ghost use Rattle.abt_io.specs.Count.{count_of};
 use crate::noting::Noted;
 use crate::session::Reason;
 use abt_io::{DeviceFault, Output, Overwrite, ToWrite};
+use abt_texts::{CommandFault, write_fault};
 use std::alloc::{AllocError, Global};
 use std::fs::File;
 use std::io::{BufWriter, ErrorKind, Write};
@@ -23,7 +24,11 @@ pub struct ImageFile<'a> {
 
 impl<'a> ImageFile<'a> {
     /// Begins at the front of this file, which is empty.
-    pub fn new(alloc: Global, file: File, reason: &'a Reason) -> Result<ImageFile<'a>, AllocError>
+    pub(crate) fn new(
+        alloc: Global,
+        file: File,
+        reason: &'a Reason,
+    ) -> Result<ImageFile<'a>, AllocError>
         ensures { IfOk result (λ image. image.to.log.state.bytes ≡ []) }
     {
         match BufWriter::new(alloc, Noted::new(file, reason)) {
@@ -36,8 +41,8 @@ impl<'a> ImageFile<'a> {
         }
     }
 
-    /// Brings to the file what it took together.
-    pub fn send(&mut self) -> Result<(), DeviceFault>
+    // Brings to the file what it took together.
+    fn send(&mut self) -> Result<(), DeviceFault>
         ensures log { self.new.to.log ≡ self.old.to.log }
         ensures calls { self.new.to.calls ≡ self.old.to.calls }
         ensures faults { self.new.to.faults ≡ self.old.to.faults }
@@ -46,6 +51,29 @@ impl<'a> ImageFile<'a> {
         match self.to.writer.flush() {
             Ok(()) => Ok(()),
             Err(_) => Err(DeviceFault::Failed),
+        }
+    }
+
+    /// Brings to the file what it took together, however the work before ended. The first fault is told.
+    pub(crate) fn sent<T: Drop>(
+        &mut self,
+        written: Result<T, CommandFault>,
+    ) -> Result<T, CommandFault>
+        ensures log { self.new.to.log ≡ self.old.to.log }
+        ensures calls { self.new.to.calls ≡ self.old.to.calls }
+        ensures faults { self.new.to.faults ≡ self.old.to.faults }
+    {
+        let why = self.reason.get();
+        let sent = self.send();
+        match written {
+            Ok(written) => match sent {
+                Ok(()) => Ok(written),
+                Err(fault) => Err(write_fault(fault)),
+            },
+            Err(fault) => {
+                self.reason.set(why);
+                Err(fault)
+            }
         }
     }
 

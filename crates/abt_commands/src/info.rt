@@ -18,7 +18,7 @@ pub struct InfoOrder<'a> {
 }
 
 /// Prints what the header of an image file says.
-pub fn info_file<R: Files<File = File>, I, O: Output, E: Output>(
+pub(crate) fn info_file<R: Files<File = File>, I, O: Output, E: Output>(
     session: &mut Session<'_, R, I, O, E>,
     order: InfoOrder<'_>,
     w: &mut Window,

@@ -2,9 +2,16 @@
 
 use crate::noting::kept_answer;
 use crate::session::Reason;
+use abt_io::FromRead;
+use abt_texts::CommandFault;
+use std::alloc::Global;
 use std::fs::File;
 use std::io;
-use std::io::Read;
+use std::io::{BufReader, Read};
+
+/// What is read forward through a buffer, so that headers of chunks, which are small, come many at a time. A read that
+/// asks for as much as the buffer holds, as those of raw data do, goes around it once it is empty.
+pub type BufferedInput<'a, I> = FromRead<BufReader<ForwardInput<'a, I>>>;
 
 /// A file, or standard input where there is none.
 #[derive(Drop)]
@@ -15,11 +22,31 @@ pub struct ForwardInput<'a, I> {
 }
 
 impl<'a, I> ForwardInput<'a, I> {
-    pub fn new(file: Option<File>, standard: &'a mut I, reason: &'a Reason) -> ForwardInput<'a, I> {
+    /// Begins to read, at byte 0.
+    pub(crate) fn new(
+        file: Option<File>,
+        standard: &'a mut I,
+        reason: &'a Reason,
+    ) -> ForwardInput<'a, I> {
         ForwardInput {
             file,
             standard,
             reason,
+        }
+    }
+}
+
+impl<'a, I: Read> ForwardInput<'a, I> {
+    /// The same, through a buffer.
+    pub(crate) fn buffered(
+        alloc: Global,
+        file: Option<File>,
+        standard: &'a mut I,
+        reason: &'a Reason,
+    ) -> Result<BufferedInput<'a, I>, CommandFault> {
+        match BufReader::new(alloc, ForwardInput::new(file, standard, reason)) {
+            Ok(reader) => Ok(FromRead::new(reader)),
+            Err(_) => Err(CommandFault::Memory),
         }
     }
 }

@@ -19,13 +19,13 @@ impl<'a, W> Noted<'a, W> {
     }
 
     /// The reader or writer itself.
-    pub fn inner(&self) -> &W {
+    pub(crate) fn inner(&self) -> &W {
         &self.inner
     }
 }
 
 /// Keeps why a call failed, and answers what it answered.
-pub fn kept_answer(answer: io::Result<usize>, reason: &Reason) -> io::Result<usize>
+pub(crate) fn kept_answer(answer: io::Result<usize>, reason: &Reason) -> io::Result<usize>
     ensures { result ≡ answer }
 {
     if let Err(error) = &answer {

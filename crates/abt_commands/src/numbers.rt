@@ -4,7 +4,7 @@ use abt_texts::{CommandFault, number_word};
 use std::alloc::Global;
 
 /// The number that a word writes, in 64 bits.
-pub fn long_number(alloc: Global, word: &str) -> Result<u64, CommandFault> {
+pub(crate) fn long_number(alloc: Global, word: &str) -> Result<u64, CommandFault> {
     match number_word(word) {
         Some(number) => Ok(number),
         None => Err(bad_number(alloc, word)),
@@ -12,7 +12,7 @@ pub fn long_number(alloc: Global, word: &str) -> Result<u64, CommandFault> {
 }
 
 /// The number that a word writes, in 32 bits.
-pub fn number(alloc: Global, word: &str) -> Result<u32, CommandFault> {
+pub(crate) fn number(alloc: Global, word: &str) -> Result<u32, CommandFault> {
     match u32::try_from(long_number(alloc, word)?) {
         Ok(number) => Ok(number),
         Err(_) => Err(bad_number(alloc, word)),
@@ -20,7 +20,7 @@ pub fn number(alloc: Global, word: &str) -> Result<u32, CommandFault> {
 }
 
 /// Refuses a word that is no number, or one that has no room.
-pub fn bad_number(alloc: Global, word: &str) -> CommandFault {
+pub(crate) fn bad_number(alloc: Global, word: &str) -> CommandFault {
     match String::from_str(alloc, word) {
         Ok(word) => CommandFault::BadNumber(word),
         Err(_) => CommandFault::Memory,
@@ -28,7 +28,7 @@ pub fn bad_number(alloc: Global, word: &str) -> CommandFault {
 }
 
 /// The same of a word that may be there.
-pub fn number_if(alloc: Global, word: Option<&str>) -> Result<Option<u32>, CommandFault> {
+pub(crate) fn number_if(alloc: Global, word: Option<&str>) -> Result<Option<u32>, CommandFault> {
     match word {
         Some(word) => Ok(Some(number(alloc, word)?)),
         None => Ok(None),

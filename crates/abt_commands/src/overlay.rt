@@ -21,7 +21,7 @@ struct Shape {
 /// Lays images over one another in their order: a file of zeros, to which each is flashed in turn.
 ///
 /// All are read, and their shapes compared, before OUT is created or emptied.
-pub fn overlay<R: Files<File = File> + Clock, I, O: Output, E: Output>(
+pub(crate) fn overlay<R: Files<File = File> + Clock, I, O: Output, E: Output>(
     session: &mut Session<'_, R, I, O, E>,
     inputs: &[&str],
     output: &str,

@@ -1,8 +1,10 @@
 //! Packing a boot image or a vendor boot image: the command `pack`, and what `repack` shares with it.
 
-ghost use Rattle.std.specs.Prelude.{◌≡◌, ◌≤◌};
+ghost use Rattle.std.specs.Prelude.{◌≡◌, ◌≤◌, length};
+ghost use Rattle.abt_sections.specs.Refusal.{boot_names};
 
-use crate::files::{ImageOutput, close, send};
+use crate::files::{ImageOutput, close, sent};
+use crate::image_file::ImageFile;
 use crate::pack_fields::Fields;
 use crate::pack_parts::Parts;
 use crate::pack_ramdisks::{Ramdisks, read_fragments};
@@ -10,8 +12,8 @@ use crate::pack_words::{PackWords, header_fault};
 use crate::part_source::PartSource;
 use crate::session::Session;
 use crate::watched::Watched;
-use abt_io::{CopyFault, Meter, Output, Window, copy_range};
-use abt_sections::{BootSpec, Packed, SectionFault, VendorSpec, pack_boot, pack_vendor};
+use abt_io::{CopyFault, FrontLast, Meter, Output, Overwrite, Window, copy_range};
+use abt_sections::{Packed, SectionFault, VendorSpec, pack_boot, pack_boot_once, pack_vendor};
 use abt_texts::{CommandFault, ImageKind, OPTIONS, write_fault};
 use std::fs::File;
 use std::rt::Files;
@@ -31,7 +33,7 @@ pub struct Contents {
 /// Packs the image that the words ask for, and prints how many bytes it has.
 ///
 /// The words are judged before any file is opened, and the parts are open before OUT is created or emptied.
-pub fn pack_file<R: Files<File = File> + Clock, I, O: Output, E: Output>(
+pub(crate) fn pack_file<R: Files<File = File> + Clock, I, O: Output, E: Output>(
     session: &mut Session<'_, R, I, O, E>,
     words: &PackWords<'_>,
     w: &mut Window,
@@ -56,7 +58,7 @@ pub fn pack_file<R: Files<File = File> + Clock, I, O: Output, E: Output>(
 }
 
 /// Refuses the first option of the table that was given and isn't carried.
-pub fn check_options(kind: ImageKind, words: &PackWords<'_>) -> Result<(), CommandFault> {
+pub(crate) fn check_options(kind: ImageKind, words: &PackWords<'_>) -> Result<(), CommandFault> {
     for option in OPTIONS {
         if words.has(option.name) && !option.is_carried_by(kind) {
             return Err(CommandFault::OptionNotCarried(option.name));
@@ -66,7 +68,7 @@ pub fn check_options(kind: ImageKind, words: &PackWords<'_>) -> Result<(), Comma
 }
 
 /// Writes an image to a file, which is created or emptied, and prints how many bytes it has.
-pub fn write_image<R: Files<File = File> + Clock, I, O: Output, E: Output>(
+pub(crate) fn write_image<R: Files<File = File> + Clock, I, O: Output, E: Output>(
     session: &mut Session<'_, R, I, O, E>,
     contents: Contents,
     path: &str,
@@ -76,20 +78,66 @@ pub fn write_image<R: Files<File = File> + Clock, I, O: Output, E: Output>(
     let output = session.create_image("OUT", path)?;
     session.input = None;
     let bytes = match output {
-        ImageOutput::File(mut image) => {
-            let bytes = pack_watched(session, contents, &mut image, w, m);
-            close(&mut image, bytes, m)?
-        }
+        ImageOutput::File(image) => pack_to_file(session, contents, image, w, m)?,
         ImageOutput::Stream(mut stream) => {
             let bytes = pack_watched(session, contents, &mut stream, w, m);
-            send(&mut stream)?;
-            bytes?
+            sent(&mut stream, bytes, session.reason)?
         }
     };
     session.is_unfinished = false;
     session
         .report(format_args!("bytes {bytes}"))
         .map_err(write_fault)
+}
+
+// A boot image with nothing behind it is packed in one pass over its parts. In all others the magic is kept back.
+fn pack_to_file<R: Clock, I, O: Output, E: Output>(
+    session: &mut Session<'_, R, I, O, E>,
+    contents: Contents,
+    mut image: FrontLast<ImageFile<'_>>,
+    w: &mut Window,
+    m: &mut Meter,
+) -> Result<u64, CommandFault> {
+    match contents.kind {
+        ImageKind::Boot(version) if contents.trailing.size == 0 => {
+            let mut file = image.output;
+            let bytes = pack_once_watched(session, version, contents, &mut file, w, m);
+            file.sent(bytes)
+        }
+        _ => {
+            let bytes = pack_watched(session, contents, &mut image, w, m);
+            close(&mut image, bytes, m)
+        }
+    }
+}
+
+fn pack_once_watched<R: Clock, I, O: Output, E: Output, T: Overwrite>(
+    session: &mut Session<'_, R, I, O, E>,
+    version: u32,
+    contents: Contents,
+    output: &mut T,
+    w: &mut Window,
+    m: &mut Meter,
+) -> Result<u64, CommandFault> {
+    let Contents {
+        kind: _,
+        fields,
+        parts,
+        ramdisks: _,
+        trailing: _,
+    } = contents;
+    let mut watched = Watched::new(
+        &mut *output,
+        &mut session.progress,
+        session.rt,
+        &mut *session.err,
+    );
+    let (mut sections, count) = boot_sections(version, parts);
+    let spec = fields.boot_spec(version);
+    match pack_boot_once(&spec, &mut sections[..count], &mut watched, w, m) {
+        Ok(packed) => Ok(packed.bytes),
+        Err(fault) => Err(CommandFault::Section(fault)),
+    }
 }
 
 fn pack_watched<R: Clock, I, O: Output, E: Output, T: Output>(
@@ -124,7 +172,9 @@ fn pack_contents<O: Output>(
     } = contents;
     let packed = match kind {
         ImageKind::Boot(version) => {
-            pack_boot_parts(&fields.boot_spec(version), parts, output, w, m)
+            let (mut sections, count) = boot_sections(version, parts);
+            let spec = fields.boot_spec(version);
+            pack_boot(&spec, &mut sections[..count], output, w, m)
         }
         ImageKind::Vendor(version) => {
             let spec = fields.vendor_spec(version);
@@ -141,14 +191,11 @@ fn pack_contents<O: Output>(
     }
 }
 
-// Packs the parts that a boot image of this version has, in the order of its sections.
-fn pack_boot_parts<O: Output>(
-    spec: &BootSpec<'_>,
-    parts: Parts,
-    output: &mut O,
-    w: &mut Window,
-    m: &mut Meter,
-) -> Result<Packed, SectionFault> {
+// The parts of a boot image of this version, in the order of its sections, and how many it has.
+fn boot_sections(version: u32, parts: Parts) -> ([PartSource; 5], usize)
+    ensures few { result.1 ≤ 5 }
+    ensures all { version ≤ 4 → result.1 ≡ length (boot_names version) }
+{
     let Parts {
         kernel,
         ramdisk,
@@ -158,18 +205,12 @@ fn pack_boot_parts<O: Output>(
         signature,
         bootconfig: _,
     } = parts;
-    match spec.version {
-        0 => pack_boot(spec, &mut [kernel, ramdisk, second], output, w, m),
-        1 => {
-            let mut sections = [kernel, ramdisk, second, recovery_dtbo];
-            pack_boot(spec, &mut sections, output, w, m)
-        }
-        2 => {
-            let mut sections = [kernel, ramdisk, second, recovery_dtbo, dtb];
-            pack_boot(spec, &mut sections, output, w, m)
-        }
-        3 => pack_boot(spec, &mut [kernel, ramdisk], output, w, m),
-        _ => pack_boot(spec, &mut [kernel, ramdisk, signature], output, w, m),
+    match version {
+        0 => ([kernel, ramdisk, second, recovery_dtbo, dtb], 3),
+        1 => ([kernel, ramdisk, second, recovery_dtbo, dtb], 4),
+        2 => ([kernel, ramdisk, second, recovery_dtbo, dtb], 5),
+        3 => ([kernel, ramdisk, second, recovery_dtbo, dtb], 2),
+        _ => ([kernel, ramdisk, signature, recovery_dtbo, dtb], 3),
     }
 }
 

@@ -44,7 +44,7 @@ pub const DTB: Loaded = Loaded {
 };
 
 /// An address of 32 bits; where nothing is said of it, its own.
-pub fn address(
+pub(crate) fn address(
     alloc: Global,
     words: &PackWords<'_>,
     loaded: Loaded,
@@ -57,7 +57,7 @@ pub fn address(
 }
 
 /// An address of 64 bits; where nothing is said of it, its own.
-pub fn long_address(
+pub(crate) fn long_address(
     alloc: Global,
     words: &PackWords<'_>,
     loaded: Loaded,

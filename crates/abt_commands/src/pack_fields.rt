@@ -27,7 +27,7 @@ pub struct Fields {
 
 impl Fields {
     /// The fields of `pack` where nothing is given.
-    pub fn empty(alloc: Global) -> Fields {
+    pub(crate) fn empty(alloc: Global) -> Fields {
         Fields {
             page: 4096,
             kernel_addr: 0,
@@ -42,7 +42,7 @@ impl Fields {
     }
 
     /// The fields that a header has; the others are empty.
-    pub fn of_header(alloc: Global, header: &ImageHeader) -> Result<Fields, CommandFault> {
+    pub(crate) fn of_header(alloc: Global, header: &ImageHeader) -> Result<Fields, CommandFault> {
         Ok(Fields {
             page: header.page_size(),
             kernel_addr: short_address(header, Address::Kernel),
@@ -57,7 +57,11 @@ impl Fields {
     }
 
     /// These, with what was given in its place.
-    pub fn given(self, alloc: Global, words: &PackWords<'_>) -> Result<Fields, CommandFault> {
+    pub(crate) fn given(
+        self,
+        alloc: Global,
+        words: &PackWords<'_>,
+    ) -> Result<Fields, CommandFault> {
         Ok(Fields {
             page: words.number(alloc, "page")?.unwrap_or(self.page),
             kernel_addr: address(alloc, words, KERNEL, self.kernel_addr)?,
@@ -72,7 +76,7 @@ impl Fields {
     }
 
     /// What a boot image of this version is packed from.
-    pub fn boot_spec(&self, version: u32) -> BootSpec<'_>
+    pub(crate) fn boot_spec(&self, version: u32) -> BootSpec<'_>
         ensures { result.version ≡ version }
     {
         BootSpec {
@@ -90,7 +94,7 @@ impl Fields {
     }
 
     /// What a vendor boot image of this version is packed from.
-    pub fn vendor_spec(&self, version: u32) -> VendorSpec<'_>
+    pub(crate) fn vendor_spec(&self, version: u32) -> VendorSpec<'_>
         ensures { result.version ≡ version }
     {
         VendorSpec {

@@ -32,7 +32,7 @@ pub struct Packed<'a> {
 
 impl Parts {
     /// Opens the files in the order of the table.
-    pub fn open<R: Files<File = File>, I, O: Output, E: Output>(
+    pub(crate) fn open<R: Files<File = File>, I, O: Output, E: Output>(
         session: &mut Session<'_, R, I, O, E>,
         words: &PackWords<'_>,
         own: Option<Packed<'_>>,
@@ -103,7 +103,7 @@ fn own_part<R: Files<File = File>, I, O: Output, E: Output>(
 
 impl Packed<'_> {
     /// Where a section stands, if there is one.
-    pub fn place(&self, kind: Section, m: &mut Meter) -> Option<Place> {
+    pub(crate) fn place(&self, kind: Section, m: &mut Meter) -> Option<Place> {
         for i in 0..sections(self.image) {
             m.tick();
             let place = section(self.image, i);
@@ -115,7 +115,7 @@ impl Packed<'_> {
     }
 
     /// So many bytes from a place on, to be read beside the image.
-    pub fn part<R: Files<File = File>, I, O: Output, E: Output>(
+    pub(crate) fn part<R: Files<File = File>, I, O: Output, E: Output>(
         &self,
         session: &mut Session<'_, R, I, O, E>,
         at: u64,

@@ -24,7 +24,7 @@ pub struct Ramdisks {
 
 impl Ramdisks {
     /// No fragment.
-    pub fn new(alloc: Global) -> Ramdisks {
+    pub(crate) fn new(alloc: Global) -> Ramdisks {
         Ramdisks {
             specs: Vec::new(alloc),
             sources: Vec::new(alloc),
@@ -32,12 +32,12 @@ impl Ramdisks {
     }
 
     /// How many they are.
-    pub fn count(&self) -> usize {
+    pub(crate) fn count(&self) -> usize {
         self.specs.len()
     }
 
     /// Opens the files in order.
-    pub fn open<R: Files<File = File>, I, O: Output, E: Output>(
+    pub(crate) fn open<R: Files<File = File>, I, O: Output, E: Output>(
         session: &mut Session<'_, R, I, O, E>,
         words: &PackWords<'_>,
         fragments: &[FragmentWord<'_>],
@@ -52,7 +52,7 @@ impl Ramdisks {
     }
 
     /// Those of an image.
-    pub fn of_image<R: Files<File = File>, I, O: Output, E: Output>(
+    pub(crate) fn of_image<R: Files<File = File>, I, O: Output, E: Output>(
         session: &mut Session<'_, R, I, O, E>,
         own: Packed<'_>,
         source: &mut FileSource,
@@ -93,7 +93,7 @@ impl Ramdisks {
     }
 
     /// These, with the numbers of board ids that were given.
-    pub fn with_board_ids(
+    pub(crate) fn with_board_ids(
         self,
         alloc: Global,
         words: &PackWords<'_>,
@@ -133,7 +133,7 @@ fn set_board_id(specs: &mut [FragmentSpec], board: BoardWord) -> bool {
 }
 
 /// Reads the fragments that were given. Refuses the first word that is none, and any where the image has no fragments.
-pub fn read_fragments<'a>(
+pub(crate) fn read_fragments<'a>(
     alloc: Global,
     kind: ImageKind,
     words: &PackWords<'a>,

@@ -21,7 +21,7 @@ pub struct PackWords<'a> {
 
 impl<'a> PackWords<'a> {
     /// What a parse gives. One that succeeds has all of them.
-    pub fn new(found: ArgMatches<'a>) -> Option<PackWords<'a>> {
+    pub(crate) fn new(found: ArgMatches<'a>) -> Option<PackWords<'a>> {
         let output = found.get_str("OUT")?;
         let is_escaped = found.get_flag("escaped");
         Some(PackWords {
@@ -32,32 +32,36 @@ impl<'a> PackWords<'a> {
     }
 
     /// Whether this option was given.
-    pub fn has(&self, option: &str) -> bool {
+    pub(crate) fn has(&self, option: &str) -> bool {
         self.found.contains_id(option)
     }
 
     /// Whether this flag was given.
-    pub fn has_flag(&self, option: &str) -> bool {
+    pub(crate) fn has_flag(&self, option: &str) -> bool {
         self.found.get_flag(option)
     }
 
     /// The header version that was given.
-    pub fn version(&self) -> Option<u32> {
+    pub(crate) fn version(&self) -> Option<u32> {
         self.found.get_one::<u32>("version")
     }
 
     /// The word that this option was given, as it is written.
-    pub fn word(&self, option: &str) -> Option<&'a str> {
+    pub(crate) fn word(&self, option: &str) -> Option<&'a str> {
         self.found.get_str(option)
     }
 
     /// The number of 32 bits that this option was given.
-    pub fn number(&self, alloc: Global, option: &str) -> Result<Option<u32>, CommandFault> {
+    pub(crate) fn number(&self, alloc: Global, option: &str) -> Result<Option<u32>, CommandFault> {
         number_if(alloc, self.word(option))
     }
 
     /// The number of 64 bits that this option was given.
-    pub fn long_number(&self, alloc: Global, option: &str) -> Result<Option<u64>, CommandFault> {
+    pub(crate) fn long_number(
+        &self,
+        alloc: Global,
+        option: &str,
+    ) -> Result<Option<u64>, CommandFault> {
         match self.word(option) {
             Some(word) => Ok(Some(long_number(alloc, word)?)),
             None => Ok(None),
@@ -65,7 +69,11 @@ impl<'a> PackWords<'a> {
     }
 
     /// The bytes of the text that this option was given.
-    pub fn text(&self, alloc: Global, option: &str) -> Result<Option<Vec<u8>>, CommandFault> {
+    pub(crate) fn text(
+        &self,
+        alloc: Global,
+        option: &str,
+    ) -> Result<Option<Vec<u8>>, CommandFault> {
         match self.found.get_str(option) {
             Some(text) => Ok(Some(self.bytes_of(alloc, text)?)),
             None => Ok(None),
@@ -73,7 +81,7 @@ impl<'a> PackWords<'a> {
     }
 
     /// The path that this option was given.
-    pub fn path(&self, alloc: Global, option: &str) -> Result<Option<String>, CommandFault> {
+    pub(crate) fn path(&self, alloc: Global, option: &str) -> Result<Option<String>, CommandFault> {
         match self.found.get_str(option) {
             Some(path) => Ok(Some(self.path_of(alloc, path)?)),
             None => Ok(None),
@@ -81,7 +89,7 @@ impl<'a> PackWords<'a> {
     }
 
     /// The path that a word writes.
-    pub fn path_of(&self, alloc: Global, word: &str) -> Result<String, CommandFault> {
+    pub(crate) fn path_of(&self, alloc: Global, word: &str) -> Result<String, CommandFault> {
         match String::from_utf8(self.bytes_of(alloc, word)?) {
             Ok(path) => Ok(path),
             Err(_) => Err(CommandFault::CannotOpen(shown_path(alloc, word)?)),
@@ -98,7 +106,7 @@ impl<'a> PackWords<'a> {
     }
 
     /// The OS version and patch level that were given.
-    pub fn os(&self, alloc: Global) -> Result<Option<OsVersion>, CommandFault> {
+    pub(crate) fn os(&self, alloc: Global) -> Result<Option<OsVersion>, CommandFault> {
         if let Some(raw) = self.number(alloc, "os-number")? {
             return Ok(Some(OsVersion::from_raw(raw)));
         }
@@ -112,23 +120,23 @@ impl<'a> PackWords<'a> {
     }
 
     /// Whether `\x` and two digits stand for a byte.
-    pub fn is_escaped(&self) -> bool {
+    pub(crate) fn is_escaped(&self) -> bool {
         self.is_escaped
     }
 
     /// The words that this option, or this list of words, was given in order, if there is one.
-    pub fn all(&self, name: &str) -> Option<&[&'a str]> {
+    pub(crate) fn all(&self, name: &str) -> Option<&[&'a str]> {
         self.found.get_strs(name)
     }
 }
 
 /// A fault of the header's fields.
-pub fn header_fault(fault: HeaderFault) -> CommandFault {
+pub(crate) fn header_fault(fault: HeaderFault) -> CommandFault {
     CommandFault::Section(SectionFault::Header(fault))
 }
 
 /// The command `pack`.
-pub fn pack<'a>(alloc: Global) -> Result<Command<'a>, AllocError> {
+pub(crate) fn pack<'a>(alloc: Global) -> Result<Command<'a>, AllocError> {
     let vendor = Arg::new(alloc, "vendor")
         .long("vendor")
         .action(ArgAction::SetTrue)
@@ -154,7 +162,7 @@ pub fn pack<'a>(alloc: Global) -> Result<Command<'a>, AllocError> {
 }
 
 /// The command `repack`.
-pub fn repack<'a>(alloc: Global) -> Result<Command<'a>, AllocError> {
+pub(crate) fn repack<'a>(alloc: Global) -> Result<Command<'a>, AllocError> {
     let input = Arg::new(alloc, "IN")
         .required(true)
         .action(ArgAction::Set)

@@ -17,7 +17,7 @@ pub struct PartSource {
 
 impl PartSource {
     /// No bytes.
-    pub fn empty() -> PartSource
+    pub(crate) fn empty() -> PartSource
         ensures { result.size ≡ 0 }
     {
         PartSource {
@@ -28,13 +28,13 @@ impl PartSource {
     }
 
     /// All of a file.
-    pub fn whole(file: FileSource) -> PartSource {
+    pub(crate) fn whole(file: FileSource) -> PartSource {
         let size = file.length();
         PartSource { file, at: 0, size }
     }
 
     /// So many bytes of a file from a place on.
-    pub fn range(file: FileSource, at: u64, size: u64) -> PartSource {
+    pub(crate) fn range(file: FileSource, at: u64, size: u64) -> PartSource {
         PartSource { file, at, size }
     }
 }

@@ -47,7 +47,7 @@ pub struct Progress {
 
 impl Progress {
     /// Nothing is shown.
-    pub fn hidden() -> Progress {
+    pub(crate) fn hidden() -> Progress {
         Progress {
             work: Work::None,
             total: None,
@@ -58,7 +58,7 @@ impl Progress {
     }
 
     /// Begins now, to be shown.
-    pub fn shown<R: Clock>(work: Work, rt: &R) -> Progress {
+    pub(crate) fn shown<R: Clock>(work: Work, rt: &R) -> Progress {
         Progress {
             work,
             total: None,
@@ -69,19 +69,19 @@ impl Progress {
     }
 
     /// So many bytes more are to be moved.
-    pub fn expect(&mut self, bytes: u64) {
+    pub(crate) fn expect(&mut self, bytes: u64) {
         self.total = Some(self.total.unwrap_or(0).saturating_add(bytes));
     }
 
     /// All that is to be moved is moved so many times.
-    pub fn repeat(&mut self, times: u64) {
+    pub(crate) fn repeat(&mut self, times: u64) {
         if let Some(total) = self.total {
             self.total = Some(total.saturating_mul(times));
         }
     }
 
     /// So many bytes more were moved.
-    pub fn advance<R: Clock, E: Output>(&mut self, bytes: usize, rt: &R, err: &mut E) {
+    pub(crate) fn advance<R: Clock, E: Output>(&mut self, bytes: usize, rt: &R, err: &mut E) {
         let Some(begun) = self.begun else {
             return;
         };
@@ -96,7 +96,7 @@ impl Progress {
     }
 
     /// Erases the line, where it stands.
-    pub fn erase<E: Output>(&mut self, err: &mut E) {
+    pub(crate) fn erase<E: Output>(&mut self, err: &mut E) {
         if self.shown.is_some() {
             self.shown = None;
             let mut m = Meter::new();

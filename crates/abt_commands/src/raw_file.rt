@@ -25,7 +25,7 @@ pub struct RawFile<'a> {
 
 impl<'a> RawFile<'a> {
     /// Begins at the front of this file, which is empty.
-    pub fn new(file: File, reason: &'a Reason) -> RawFile<'a> {
+    pub(crate) fn new(file: File, reason: &'a Reason) -> RawFile<'a> {
         let length = if is_regular(&file) { Some(0) } else { None };
         RawFile {
             file,

@@ -91,7 +91,7 @@ impl fmt::Display for Reason {
 }
 
 /// Prints the reason of each answer that is no, and how much stands behind the image.
-pub fn tell_reasons<R: Files, I, O: Output, E: Output>(
+pub(crate) fn tell_reasons<R: Files, I, O: Output, E: Output>(
     session: &mut Session<'_, R, I, O, E>,
     report: &InfoReport,
     source: &mut FileSource,

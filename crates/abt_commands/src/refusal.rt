@@ -7,7 +7,7 @@ use std::alloc::{AllocError, Global};
 use std::io;
 
 /// The line, or nothing where there is no memory for it.
-pub fn second_line<R, I, O, E>(
+pub(crate) fn second_line<R, I, O, E>(
     session: &Session<'_, R, I, O, E>,
     fault: &CommandFault,
 ) -> Option<String> {

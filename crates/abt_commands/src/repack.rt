@@ -18,7 +18,7 @@ use std::time::Clock;
 /// Packs an image again, of which parts and fields may be given, and prints how many bytes it has.
 ///
 /// The image and the parts are open before OUT is created or emptied.
-pub fn repack_file<R: Files<File = File> + Clock, I, O: Output, E: Output>(
+pub(crate) fn repack_file<R: Files<File = File> + Clock, I, O: Output, E: Output>(
     session: &mut Session<'_, R, I, O, E>,
     input: &str,
     words: &PackWords<'_>,
@@ -91,7 +91,7 @@ fn trailing_of<R: Files<File = File>, I, O: Output, E: Output>(
 }
 
 /// Where the last section ends, with the bytes up to a page boundary.
-pub fn end_of(image: &Image, m: &mut Meter) -> u64 {
+pub(crate) fn end_of(image: &Image, m: &mut Meter) -> u64 {
     let page = image.header.page_size() as u64;
     let mut end = image.header.size() as u64;
     for i in 0..sections(image) {

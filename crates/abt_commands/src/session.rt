@@ -55,7 +55,11 @@ pub struct Session<'a, R, I, O, E> {
 }
 
 impl<'a, R: Files, I, O: Output, E: Output> Session<'a, R, I, O, E> {
-    pub fn new(rt: &'a R, alloc: Global, streams: Streams<'a, I, O, E>) -> Session<'a, R, I, O, E> {
+    pub(crate) fn new(
+        rt: &'a R,
+        alloc: Global,
+        streams: Streams<'a, I, O, E>,
+    ) -> Session<'a, R, I, O, E> {
         let Streams {
             input,
             out,
@@ -84,12 +88,12 @@ impl<'a, R: Files, I, O: Output, E: Output> Session<'a, R, I, O, E> {
     }
 
     /// Erases the line that says how far it is.
-    pub fn erase_progress(&mut self) {
+    pub(crate) fn erase_progress(&mut self) {
         self.progress.erase(&mut *self.err);
     }
 
     /// Prints a line of the report, to standard output, or to standard error where data goes to standard output.
-    pub fn report<D: fmt::Display + Drop>(&mut self, line: D) -> Result<(), DeviceFault> {
+    pub(crate) fn report<D: fmt::Display + Drop>(&mut self, line: D) -> Result<(), DeviceFault> {
         self.progress.erase(&mut *self.err);
         let told = if self.is_data_on_output {
             print_line(&mut *self.err, line)
@@ -103,14 +107,14 @@ impl<'a, R: Files, I, O: Output, E: Output> Session<'a, R, I, O, E> {
     }
 
     /// Prints a line to standard error, which nothing rests on.
-    pub fn note<D: fmt::Display + Drop>(&mut self, line: D) {
+    pub(crate) fn note<D: fmt::Display + Drop>(&mut self, line: D) {
         self.progress.erase(&mut *self.err);
         let _ = print_line(&mut *self.err, line);
     }
 }
 
 /// What is at this path, where something is.
-pub fn identity_at<R: Files>(rt: &R, path: &str) -> Option<Identity> {
+pub(crate) fn identity_at<R: Files>(rt: &R, path: &str) -> Option<Identity> {
     match fs::metadata(rt, path) {
         Ok(metadata) => Some(Identity::new(&metadata)),
         Err(_) => None,
@@ -118,7 +122,7 @@ pub fn identity_at<R: Files>(rt: &R, path: &str) -> Option<Identity> {
 }
 
 /// A file as the second line of a refusal names it.
-pub fn place_at(alloc: Global, role: &str, path: &str) -> Result<String, CommandFault> {
+pub(crate) fn place_at(alloc: Global, role: &str, path: &str) -> Result<String, CommandFault> {
     let shown = ShownPath(path);
     match format!(in alloc; "{role} {shown}") {
         Ok(place) => Ok(place),
@@ -127,7 +131,7 @@ pub fn place_at(alloc: Global, role: &str, path: &str) -> Result<String, Command
 }
 
 /// A path as the first line of a refusal names it.
-pub fn shown_path(alloc: Global, path: &str) -> Result<String, CommandFault> {
+pub(crate) fn shown_path(alloc: Global, path: &str) -> Result<String, CommandFault> {
     let shown = ShownPath(path);
     match format!(in alloc; "{shown}") {
         Ok(path) => Ok(path),

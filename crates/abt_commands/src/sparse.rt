@@ -2,7 +2,7 @@
 
 ghost use Rattle.std.specs.Prelude.{◌<◌, ◌≤◌, ◌+◌, ◌*◌, ◌^◌, IfOk};
 
-use crate::files::{ImageOutput, send};
+use crate::files::{ImageOutput, sent};
 use crate::numbers::number;
 use crate::session::Session;
 use crate::watched::Watched;
@@ -34,7 +34,7 @@ pub struct SparseOrder<'a> {
 }
 
 /// Writes the sparse image of a raw one, and prints what it has. `-` is standard output.
-pub fn sparse_file<R: Files<File = File> + Clock, I, O: Output, E: Output>(
+pub(crate) fn sparse_file<R: Files<File = File> + Clock, I, O: Output, E: Output>(
     session: &mut Session<'_, R, I, O, E>,
     order: SparseOrder<'_>,
     w: &mut Window,
@@ -64,15 +64,11 @@ pub fn sparse_file<R: Files<File = File> + Clock, I, O: Output, E: Output>(
         Some(ImageOutput::File(image)) => {
             let mut file = image.output;
             let written = sparse_at(&mut source, block, &mut file, w, m);
-            let sent = file.send();
-            let written = written?;
-            sent.map_err(write_fault)?;
-            written
+            file.sent(written)?
         }
         Some(ImageOutput::Stream(mut stream)) => {
             let written = sparse_into(&mut source, block, &mut stream, w, m);
-            send(&mut stream)?;
-            written?
+            sent(&mut stream, written, session.reason)?
         }
     };
     session.is_unfinished = false;

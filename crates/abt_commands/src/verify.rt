@@ -6,7 +6,7 @@ use crate::input::ForwardInput;
 use crate::numbers::number;
 use crate::session::Session;
 use crate::watched::Watched;
-use abt_io::{FileSource, FromRead, Meter, Output, Window};
+use abt_io::{FileSource, Meter, Output, Window};
 use abt_texts::{CommandFault, write_fault};
 use abt_verify::{Verified, verify, verify_raw};
 use std::fs::File;
@@ -26,7 +26,7 @@ pub struct VerifyOrder<'a> {
 }
 
 /// Compares an image with what stands on a partition, and prints how many blocks of it were compared.
-pub fn verify_file<R: Files<File = File> + Clock, I: Read, O: Output, E: Output>(
+pub(crate) fn verify_file<R: Files<File = File> + Clock, I: Read, O: Output, E: Output>(
     session: &mut Session<'_, R, I, O, E>,
     order: VerifyOrder<'_>,
     w: &mut Window,
@@ -61,8 +61,8 @@ fn verify_from<R: Files<File = File> + Clock, I: Read, O: Output, E: Output>(
     w: &mut Window,
     m: &mut Meter,
 ) -> Result<Verified, CommandFault> {
-    let reason = session.reason;
-    let mut from = FromRead::new(ForwardInput::new(file, &mut *session.standard_input, reason));
+    let standard = &mut *session.standard_input;
+    let mut from = ForwardInput::buffered(session.alloc, file, standard, session.reason)?;
     let mut from = Watched::new(
         &mut from,
         &mut session.progress,

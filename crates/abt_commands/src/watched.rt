@@ -15,7 +15,7 @@ pub struct Watched<'a, D, R, E> {
 
 impl<'a, D, R, E> Watched<'a, D, R, E> {
     /// Shows its progress on this output, which is standard error.
-    pub fn new(
+    pub(crate) fn new(
         device: &'a mut D,
         progress: &'a mut Progress,
         rt: &'a R,

@@ -12,7 +12,7 @@ use std::io::Read;
 use std::rt::Files;
 
 /// The texts of the files that these words name, in order. They are read, so no output may be one of them.
-pub fn read_word_files<R: Files<File = File>, S: AsStr, I: Read, O: Output, E: Output>(
+pub(crate) fn read_word_files<R: Files<File = File>, S: AsStr, I: Read, O: Output, E: Output>(
     session: &mut Session<'_, R, I, O, E>,
     words: &[S],
 ) -> Result<Vec<String>, CommandFault> {
@@ -30,7 +30,7 @@ pub fn read_word_files<R: Files<File = File>, S: AsStr, I: Read, O: Output, E: O
 
 /// The words, in which each `@FILE` has given way to those lines of its file that aren't empty, and each other word that
 /// begins with `@@` has lost one of the two.
-pub fn expanded<'a, S: AsStr>(
+pub(crate) fn expanded<'a, S: AsStr>(
     alloc: Global,
     words: &'a [S],
     texts: &'a [String],

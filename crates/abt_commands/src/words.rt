@@ -64,7 +64,7 @@ pub enum Task<'a> {
 
 impl Task<'_> {
     /// The command.
-    pub fn work(&self) -> Work {
+    pub(crate) fn work(&self) -> Work {
         match self {
             Task::Expand { .. } => Work::Expand,
             Task::List { .. } => Work::List,
@@ -85,7 +85,7 @@ impl Task<'_> {
 ///
 /// An error is the text for the user: of a mistake, of `--help` or of `--version`, as its kind says. `OutOfMemory` is
 /// want of memory.
-pub fn order_of<'a, S: AsStr>(alloc: Global, words: &'a [S]) -> Result<Order<'a>, Error> {
+pub(crate) fn order_of<'a, S: AsStr>(alloc: Global, words: &'a [S]) -> Result<Order<'a>, Error> {
     let mut matches = program(alloc)?.try_get_matches_from(words)?;
     let order = match matches.remove_subcommand() {
         Some((name, found)) => order_in(alloc, name, found)?,
@@ -220,7 +220,7 @@ fn no_command(alloc: Global) -> Result<Error, AllocError> {
 }
 
 /// All commands, with their options: the table that a parse, the help and completions go by.
-pub fn program<'a>(alloc: Global) -> Result<Command<'a>, AllocError> {
+pub(crate) fn program<'a>(alloc: Global) -> Result<Command<'a>, AllocError> {
     Command::new(alloc, "abootimg")
         .version("0.1.0")
         .about("Works on Android sparse images and boot images, with every step proved.")
@@ -444,7 +444,7 @@ fn path<'a>(alloc: Global, name: &'a str, help: &'a str) -> Arg<'a> {
 }
 
 /// The command with the options that every command has.
-pub fn telling<'a>(alloc: Global, command: Command<'a>) -> Result<Command<'a>, AllocError> {
+pub(crate) fn telling<'a>(alloc: Global, command: Command<'a>) -> Result<Command<'a>, AllocError> {
     let verbose = Arg::new(alloc, "verbose")
         .short('v')
         .long("verbose")
