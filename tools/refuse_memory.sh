@@ -14,6 +14,7 @@ cp "$here/examples/libsparse_crc.raw" "$work/plain.raw"
 cd "$work"
 # A boot image of version 0 with pages of 2,048 bytes and a kernel of one byte.
 { printf 'ANDROID!\001' && head -c 27 /dev/zero && printf '\000\010' && head -c 2010 /dev/zero && printf 'K'; } > boot.img
+{ cat boot.img && head -c 4000 /dev/zero; } > longer.img
 mkdir parts
 truncate -s 8192 part
 printf '%s\n' --version 4 --kernel image.simg > words
@@ -90,12 +91,13 @@ for words in "" "list image.simg" "expand image.simg raw.img" "list no-such-file
     "cut image.simg 1200 piece" "cut plain.raw 1200 piece --raw 1024" "cut no-such-file 1200 piece" \
     "cut image.simg 1200 no-such-folder/piece" "cut image.simg 1k piece" \
     "sparse plain.raw raw.img --block 1024" "sparse plain.raw no-such-folder/raw.img" \
-    "expand image.simg image.simg" "flash image.simg part" "flash image.simg part 1200 spool" \
+    "expand image.simg image.simg" "flash image.simg part" "flash image.simg part 1200 spool" "verify image.simg part" \
     "flash plain.raw part 1200 spool --raw 1024 --from 2" "flash image.simg no-such-file" \
     "expand - raw.img" "expand -q image.simg -" "sparse plain.raw - --block 1K" "cut image.simg 0x4b0 piece" \
     "pack --version 2 --base 0x10000000 --kernel image.simg --dtb image.simg --page 2K raw.img" \
     "info --check boot.img" "info --check image.simg" "completions bash" "completions zsh" "completions fish" \
-    "expand one.1 one.2 raw.img" "repack boot.img raw.img --ramdisk image.simg" "unpack --words boot.img parts" \
+    "expand one.1 one.2 raw.img" "repack boot.img raw.img --ramdisk image.simg" \
+    "repack longer.img raw.img --keep-trailing" "unpack --words boot.img parts" \
     "pack @words raw.img"; do
     # shellcheck disable=SC2086
     run 0 $words

@@ -205,6 +205,40 @@ limited pack --vendor --version 4 --dtb long.raw broken.img
 try "pack --vendor that is broken off" said 1 "" "abootimg: 12 Write"
 run info broken.img
 try "  leaves an image that is refused" said 1 "" "abootimg: 20 Magic"
+for version in 0 1 2; do
+    rm broken.img
+    limited pack --version $version --kernel long.raw broken.img
+    try "pack --version $version that is broken off" said 1 "" "abootimg: 12 Write"
+    try "  has no magic" no_magic broken.img
+    run repack broken.img again.img
+    try "  so it is refused" said 1 "" "abootimg: 20 Magic"
+    if command -v unpack_bootimg >/dev/null; then
+        unpack_bootimg --boot_img broken.img --out broken.parts >out 2>err
+        try "  and unpack_bootimg unpacks nothing" test ! -e broken.parts/kernel
+    fi
+done
+# A part that takes time to be hashed, and no room.
+truncate -s 3G huge
+rm broken.img
+"$program" pack --version 0 --kernel huge broken.img >out 2>err &
+pid=$!
+until_there is_longer broken.img 1000000
+kill -9 $pid
+wait $pid 2>/dev/null
+try "pack that is killed has no magic" no_magic broken.img
+run info broken.img
+try "  so it is refused" said 1 "" "abootimg: 20 Magic"
+rm broken.img
+"$program" pack --version 2 --kernel x.simg --ramdisk huge broken.img >out 2>err &
+pid=$!
+until_there is_longer broken.img 1000000
+truncate -s 1000 huge
+wait $pid
+status=$?
+try "pack of a part that gets shorter" said 1 "" "abootimg: 14 SourceChanged"
+try "  has no magic" no_magic broken.img
+run info broken.img
+try "  so it is refused" said 1 "" "abootimg: 20 Magic"
 "$program" sparse long.raw long.simg >/dev/null
 limited expand -v long.simg broken.raw
 try "expand -v that is broken off names the output" said 1 "" "abootimg: 12 Write
@@ -224,6 +258,88 @@ pid=$!
 } >slow
 wait $pid 2>/dev/null
 try "expand that is killed leaves what came" cmp -s -n 100000 slow.raw long.raw
+
+echo "== what is read once"
+head -c 300001 long.raw >kernel
+head -c 65536 long.raw >ramdisk
+printf d >dtb
+printf behind >behind
+# Every part that a boot image of this version has.
+parts_of() { # VERSION
+    local words=(--kernel kernel --ramdisk ramdisk)
+    case $1 in 0 | 1 | 2) words+=(--second x.simg --page 2048 --name n --base 0x10000000) ;; esac
+    case $1 in 1 | 2) words+=(--recovery-dtbo ramdisk) ;; esac
+    [ "$1" = 2 ] && words+=(--dtb dtb)
+    [ "$1" = 4 ] && words+=(--signature dtb)
+    printf '%s\n' --version "$1" "${words[@]}" >words
+}
+# Whether the last run, whose system calls are in log, read so many bytes of a file in all.
+has_read() { # FILE BYTES
+    [ "$(awk -v file="/$1>" 'index($0, file) { all += $NF } END { print all + 0 }' log)" = "$2" ]
+}
+# traced WORDS..: runs the program, and what it reads is in log.
+traced() {
+    strace -y -e trace=read,pread64 -o log "$program" "$@" >out 2>err </dev/null
+    status=$?
+}
+can_trace=
+strace -o log true 2>/dev/null && can_trace=1
+[ "$can_trace" ] || echo "LEFT OUT  how much is read of a file: there is no strace that may trace"
+for version in 0 1 2 3 4; do
+    parts_of $version
+    run pack @words once.img
+    cp out told
+    "$program" pack @words /dev/stdout 2>err | cat >twice.img
+    try "pack --version $version to a file is what goes to a pipe" cmp -s once.img twice.img
+    try "  also in its report" cmp -s err told
+    run info once.img
+    try "  and is canonical" test "$(tail -n 1 out)" = "check canonical yes padding yes id yes offset yes"
+    run repack once.img again.img
+    try "  repack gives it back" cmp -s once.img again.img
+    cat once.img behind >longer.img
+    run repack --keep-trailing longer.img again.img
+    try "  with what stands behind it" cmp -s longer.img again.img
+    if [ "$can_trace" ]; then
+        traced pack @words once.img
+        try "  and reads the kernel once" has_read kernel 300001
+        cp twice.img once.img
+        traced repack once.img again.img --ramdisk ramdisk
+        try "  as repack does with a part" has_read ramdisk 65536
+    fi
+done
+printf '%s\n' --version 0 --kernel kernel >words
+run pack @words /dev/full
+try "pack to a full device" said 1 "" "abootimg: 12 Write"
+run pack @words --page 3000 once.img
+try "pack with no such page leaves an empty file" test "$status" = 1 -a "$(cat err)" = "abootimg: 22 PageSize 3000" -a ! -s once.img
+if command -v python3 >/dev/null; then
+    "$here/tools/make_sparse.py" many.simg --block 4 --chunks 3000
+    truncate -s 12000 many.raw
+    "$here/tools/lay_sparse.py" many.simg many.raw
+    run expand many.simg g
+    try "expand of 3,000 chunks" cmp -s g many.raw
+    cat many.simg x.simg | "$program" expand - g >out 2>err
+    try "  of a pipe, with bytes behind" cmp -s g many.raw
+    run list many.simg
+    try "list of 3,000 chunks" test "$status" = 0 -a "$(wc -l <out)" = 3001
+    head -c 5000 many.simg >front
+    run expand front g
+    try "expand of a front of it" test "$status" = 1 -a "$(cat err)" = "abootimg: 10 Truncated at 5000"
+    try "  leaves what comes before" cmp -s -n "$(stat -c %s g)" g many.raw
+    try "  all of it" test "$(stat -c %s g)" = "$(($("$program" list front 2>/dev/null | tail -n +2 | wc -l) * 4))"
+    run expand -v many.simg /dev/full
+    try "expand of small blocks to a full device" said 1 "" "abootimg: 12 Write
+  OUT /dev/full: No space left on device; OUT /dev/full is broken off"
+    if [ "$can_trace" ]; then
+        for command in list "expand -q"; do
+            traced $command many.simg $([ "$command" = list ] || echo g)
+            try "$command reads 3,000 headers by few calls" test "$(grep -c 'many.simg>' log)" -lt 12
+        done
+        traced expand long.simg g
+        try "expand reads large data by large calls" \
+            test "$(awk '/long.simg>/ && $NF <= 8192' log | wc -l)" -lt 5 -a "$(grep -c 'long.simg>' log)" -lt 60
+    fi
+fi
 
 echo "== progress"
 # on_terminal WORDS..: runs the program with standard output and error on a terminal, and what it shows is in out.

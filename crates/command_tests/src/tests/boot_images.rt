@@ -8,24 +8,24 @@ use abt_sections::{BootSpec, FragmentSpec, VendorSpec, pack_boot, pack_vendor};
 use std::process::Abort;
 
 /// The first `n` bytes.
-pub fn front(bytes: &[u8], n: usize) -> &[u8] {
+pub(crate) fn front(bytes: &[u8], n: usize) -> &[u8] {
     &bytes[..n.min(bytes.len())]
 }
 
 /// The bytes from place `n` on.
-pub fn behind(bytes: &[u8], n: usize) -> &[u8] {
+pub(crate) fn behind(bytes: &[u8], n: usize) -> &[u8] {
     &bytes[n.min(bytes.len())..]
 }
 
 /// Lays other bytes over those from a place on.
-pub fn put(bytes: &mut [u8], at: usize, new: &[u8]) {
+pub(crate) fn put(bytes: &mut [u8], at: usize, new: &[u8]) {
     let at = at.min(bytes.len());
     let n = new.len().min(bytes.len() - at);
     bytes[at..at + n].copy_from_slice(&new[..n]);
 }
 
 /// Sets `n` bytes from a place on.
-pub fn put_all(bytes: &mut [u8], at: usize, n: usize, byte: u8) {
+pub(crate) fn put_all(bytes: &mut [u8], at: usize, n: usize, byte: u8) {
     let at = at.min(bytes.len());
     let n = n.min(bytes.len() - at);
     bytes[at..at + n].fill(byte);
@@ -64,7 +64,7 @@ fn vendor(version: u32, page: u32) -> VendorSpec<'static>
 }
 
 /// Version 0 with pages of 2,048 bytes, a kernel of the byte `K`, and nothing else: 4,096 bytes.
-pub fn one_kernel_byte(rt: &impl Abort) -> [u8; 4096] {
+pub(crate) fn one_kernel_byte(rt: &impl Abort) -> [u8; 4096] {
     let mut room = [1u8; 4096];
     let mut parts = [
         SliceSource::new(b"K"),
@@ -80,7 +80,7 @@ pub fn one_kernel_byte(rt: &impl Abort) -> [u8; 4096] {
 }
 
 /// Version 1 with pages of 2,048 bytes and four parts.
-pub fn four_parts(rt: &impl Abort) -> [u8; 10240] {
+pub(crate) fn four_parts(rt: &impl Abort) -> [u8; 10240] {
     let mut room = [1u8; 10240];
     let mut parts = [
         SliceSource::new(b"kernel"),
@@ -97,7 +97,7 @@ pub fn four_parts(rt: &impl Abort) -> [u8; 10240] {
 }
 
 /// Version 2 with pages of 2,048 bytes and parts of 3,000, 1, 0, 5 and 2,049 bytes of 7, and all fields.
-pub fn five_parts(rt: &impl Abort) -> [u8; 14336] {
+pub(crate) fn five_parts(rt: &impl Abort) -> [u8; 14336] {
     let mut room = [1u8; 14336];
     let bytes = [7u8; 3000];
     let mut parts = [
@@ -128,7 +128,7 @@ pub fn five_parts(rt: &impl Abort) -> [u8; 14336] {
 }
 
 /// Version 3 with a kernel and a ramdisk.
-pub fn two_parts(rt: &impl Abort) -> [u8; 12288] {
+pub(crate) fn two_parts(rt: &impl Abort) -> [u8; 12288] {
     let mut room = [1u8; 12288];
     let mut parts = [SliceSource::new(b"kernel"), SliceSource::new(b"ramdisk")];
     let mut output = SliceOutput::new(&mut room);
@@ -152,7 +152,7 @@ pub fn two_parts(rt: &impl Abort) -> [u8; 12288] {
 }
 
 /// Version 4 without a kernel, as an `init_boot` image: a ramdisk and a signature.
-pub fn init_boot(rt: &impl Abort) -> [u8; 12288] {
+pub(crate) fn init_boot(rt: &impl Abort) -> [u8; 12288] {
     let mut room = [1u8; 12288];
     let mut parts = [
         SliceSource::new(&[]),
@@ -168,7 +168,7 @@ pub fn init_boot(rt: &impl Abort) -> [u8; 12288] {
 }
 
 /// Vendor version 3 with pages of 2,048 bytes, a ramdisk of 10 bytes and a dtb of 3.
-pub fn vendor_3(rt: &impl Abort) -> [u8; 8192] {
+pub(crate) fn vendor_3(rt: &impl Abort) -> [u8; 8192] {
     let mut room = [1u8; 8192];
     let mut ramdisks = [SliceSource::new(b"0123456789")];
     let mut dtb = SliceSource::new(b"dtb");
@@ -201,7 +201,7 @@ fn named(kind: u32, letter: u8) -> FragmentSpec {
 }
 
 /// Vendor version 4 with pages of 4,096 bytes, fragments `a` and `b`, a dtb of 1 byte and a bootconfig of 2.
-pub fn vendor_4(rt: &impl Abort) -> [u8; 20480] {
+pub(crate) fn vendor_4(rt: &impl Abort) -> [u8; 20480] {
     let mut room = [1u8; 20480];
     let mut ramdisks = [SliceSource::new(b"first"), SliceSource::new(b"second!")];
     let mut dtb = SliceSource::new(b"d");

@@ -1,6 +1,6 @@
 //! The command line from words to files: what `run` prints and answers.
 
-use crate::tests::images::{WITH_CRC, libsparse, libsparse_raw};
+use crate::tests::images::{WITH_CRC, libsparse, libsparse_raw, words_in_chunks, words_in_turn};
 use abt_commands::{Reason, Streams, run};
 use abt_io::{Faulty, Meter, SliceOutput, Window};
 use abt_texts::IMAGE;
@@ -14,7 +14,7 @@ use std::time::Clock;
 use std::{fs, process};
 
 /// Runs the words, the first of which is the program's name, and expects these texts and this status.
-pub fn expect<R: Files<File = File> + Clock + AllocGlobal + Abort, S: AsStr>(
+pub(crate) fn expect<R: Files<File = File> + Clock + AllocGlobal + Abort, S: AsStr>(
     rt: &R,
     words: &[S],
     out_text: &str,
@@ -43,7 +43,7 @@ pub fn expect<R: Files<File = File> + Clock + AllocGlobal + Abort, S: AsStr>(
 }
 
 /// A path in the folder for such files, which no other test takes.
-pub fn place(rt: &HostRuntime, name: &str) -> Result<String, Fail> {
+pub(crate) fn place(rt: &HostRuntime, name: &str) -> Result<String, Fail> {
     let folder = temp_dir(rt)?;
     let folder = folder.as_str();
     let id = process::id(rt.process());
@@ -108,6 +108,27 @@ fn expands_an_image_of_libsparse_as_simg2img_does(rt: HostRuntime) -> Result<(),
         "",
         0,
     );
+    fs::remove_file(&rt, image.as_str())?;
+    fs::remove_file(&rt, raw.as_str())?;
+    Ok(())
+}
+
+// Headers and small blocks come and go many at a time, and what came before a fault stands.
+#[test]
+fn expands_many_small_chunks(rt: HostRuntime) -> Result<(), Fail> {
+    let image = place(&rt, "many.simg")?;
+    let raw = place(&rt, "many.raw")?;
+    let words = ["abootimg", "expand", image.as_str(), raw.as_str()];
+    let mut bytes = words_in_chunks(rt.alloc(), 2000)?;
+    fs::write(&rt, image.as_str(), bytes.as_slice())?;
+    expect(&rt, &words, "blocks 2000 bytes 8000\n", "", 0);
+    let expected = words_in_turn(rt.alloc(), 2000)?;
+    assert!(rt; fs::read(&rt, raw.as_str())?.as_slice() == expected.as_slice());
+    bytes.truncate(32012);
+    fs::write(&rt, image.as_str(), bytes.as_slice())?;
+    expect(&rt, &words, "", "abootimg: 10 Truncated at 32012\n", 1);
+    let expected = words_in_turn(rt.alloc(), 1999)?;
+    assert!(rt; fs::read(&rt, raw.as_str())?.as_slice() == expected.as_slice());
     fs::remove_file(&rt, image.as_str())?;
     fs::remove_file(&rt, raw.as_str())?;
     Ok(())
@@ -225,7 +246,7 @@ fn help_and_version_go_to_standard_output(rt: HostRuntime) {
 }
 
 // The first write to standard output fails.
-pub fn expect_write_fault<R: Files<File = File> + Clock + AllocGlobal + Abort>(
+pub(crate) fn expect_write_fault<R: Files<File = File> + Clock + AllocGlobal + Abort>(
     rt: &R,
     words: &[&str],
 ) {

@@ -46,7 +46,7 @@ const LIBSPARSE_END: [u8; 16] = [
 const TEXT: [u8; 8] = *b"sparse!\n";
 
 /// The image that libsparse wrote.
-pub fn libsparse(alloc: Global) -> Result<Vec<u8>, AllocError> {
+pub(crate) fn libsparse(alloc: Global) -> Result<Vec<u8>, AllocError> {
     let mut image = Vec::new(alloc);
     image.extend_from_slice(&LIBSPARSE_FRONT)?;
     repeat(&mut image, &TEXT, 128)?;
@@ -57,13 +57,36 @@ pub fn libsparse(alloc: Global) -> Result<Vec<u8>, AllocError> {
 }
 
 /// What simg2img gives for it.
-pub fn libsparse_raw(alloc: Global) -> Result<Vec<u8>, AllocError> {
+pub(crate) fn libsparse_raw(alloc: Global) -> Result<Vec<u8>, AllocError> {
     let mut raw = Vec::new(alloc);
     repeat(&mut raw, &[0], 1024)?;
     repeat(&mut raw, &TEXT, 128)?;
     repeat(&mut raw, b"ABCD", 768)?;
     repeat(&mut raw, &[0], 2048)?;
     repeat(&mut raw, &TEXT, 128)?;
+    Ok(raw)
+}
+
+/// An image of so many blocks of 4 bytes, each in a chunk of its own: the words from 0 on.
+pub(crate) fn words_in_chunks(alloc: Global, chunks: u32) -> Result<Vec<u8>, AllocError> {
+    let mut image = Vec::new(alloc);
+    image.extend_from_slice(&WITH_CRC[..16])?;
+    image.extend_from_slice(&chunks.to_le_bytes())?;
+    image.extend_from_slice(&chunks.to_le_bytes())?;
+    image.extend_from_slice(&[0; 4])?;
+    for word in 0..chunks {
+        image.extend_from_slice(&[0xc2, 0xca, 0, 0, 1, 0, 0, 0, 16, 0, 0, 0])?;
+        image.extend_from_slice(&word.to_le_bytes())?;
+    }
+    Ok(image)
+}
+
+/// What it expands to.
+pub(crate) fn words_in_turn(alloc: Global, chunks: u32) -> Result<Vec<u8>, AllocError> {
+    let mut raw = Vec::new(alloc);
+    for word in 0..chunks {
+        raw.extend_from_slice(&word.to_le_bytes())?;
+    }
     Ok(raw)
 }
 

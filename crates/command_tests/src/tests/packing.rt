@@ -50,8 +50,8 @@ fn with_folder<R: AllocGlobal>(rt: &R, text: &str, folder: &str) -> Result<Strin
     Ok(whole)
 }
 
-// Runs `abootimg pack` with these words, of which `@` stands for the folder, and expects these texts and this status.
-fn expect_pack<R: Files<File = File> + Clock + AllocGlobal + Abort>(
+// Runs `abootimg` with these words, of which `@` stands for the folder, and expects these texts and this status.
+fn expect_words<R: Files<File = File> + Clock + AllocGlobal + Abort>(
     rt: &R,
     folder: &str,
     words: &str,
@@ -62,13 +62,25 @@ fn expect_pack<R: Files<File = File> + Clock + AllocGlobal + Abort>(
     let alloc = rt.alloc();
     let mut all = Vec::new(alloc);
     all.push(String::from_str(alloc, "abootimg")?)?;
-    all.push(String::from_str(alloc, "pack")?)?;
     for word in words.split(' ') {
         all.push(with_folder(rt, word, folder)?)?;
     }
     let err_text = with_folder(rt, err_text, folder)?;
     expect(rt, all.as_slice(), out_text, err_text.as_str(), status);
     Ok(())
+}
+
+// The same of `abootimg pack`.
+fn expect_pack<R: Files<File = File> + Clock + AllocGlobal + Abort>(
+    rt: &R,
+    folder: &str,
+    words: &str,
+    out_text: &str,
+    err_text: &str,
+    status: u8,
+) -> Result<(), Fail> {
+    let words = format!(in rt.alloc(); "pack {words}")?;
+    expect_words(rt, folder, words.as_str(), out_text, err_text, status)
 }
 
 // The image OUT is as long as this, and zero but for these bytes at these places.
@@ -172,6 +184,57 @@ fn lays_a_long_command_line_over_both_fields(rt: HostRuntime) -> Result<(), Fail
     let told = "abootimg: 27 CommandLine\n";
     expect_pack(&rt, folder, words.as_str(), "", told, 1)?;
     expect_image(&rt, folder, 0, &[])?;
+    fs::remove_dir_all(&rt, folder)?;
+    Ok(())
+}
+
+// What `repack` with these words makes of the image IN is IN again.
+fn expect_repacked<R: Files<File = File> + Clock + AllocGlobal + Abort>(
+    rt: &R,
+    folder: &str,
+    words: &str,
+) -> Result<(), Fail> {
+    let image = with_folder(rt, "@/IN", folder)?;
+    let image = fs::read(rt, image.as_str())?;
+    let told = format!(in rt.alloc(); "bytes {}\n", image.len())?;
+    expect_words(rt, folder, words, told.as_str(), "", 0)?;
+    let again = with_folder(rt, "@/OUT", folder)?;
+    assert!(rt; fs::read(rt, again.as_str())?.as_slice() == image.as_slice());
+    Ok(())
+}
+
+// The image that these words pack is packed again in one pass over its parts, and in two where bytes stand behind it.
+fn expect_both_ways<R: Files<File = File> + Clock + AllocGlobal + Abort>(
+    rt: &R,
+    folder: &str,
+    words: &str,
+    told: &str,
+) -> Result<(), Fail> {
+    expect_pack(rt, folder, words, told, "", 0)?;
+    expect_repacked(rt, folder, "repack @/IN @/OUT")?;
+    let path = with_folder(rt, "@/IN", folder)?;
+    let mut longer = fs::read(rt, path.as_str())?;
+    longer.extend_from_slice(b"behind")?;
+    fs::write(rt, path.as_str(), longer.as_slice())?;
+    expect_repacked(rt, folder, "repack --keep-trailing @/IN @/OUT")
+}
+
+#[test]
+fn packs_the_same_in_one_pass_and_in_two(rt: HostRuntime) -> Result<(), Fail> {
+    let folder = folder(&rt, "passes")?;
+    let folder = folder.as_str();
+    let words = "--version 0 --page 2048 --kernel @/KERNEL --second @/SECOND @/IN";
+    expect_both_ways(&rt, folder, words, "bytes 6144\n")?;
+    let words = "--version 1 --ramdisk @/RAMDISK --recovery-dtbo @/DTBO @/IN";
+    expect_both_ways(&rt, folder, words, "bytes 12288\n")?;
+    let words = "--version 2 --page 2048 --kernel @/K --recovery-dtbo @/DTBO --dtb @/DTB @/IN";
+    expect_both_ways(&rt, folder, words, "bytes 8192\n")?;
+    let words = "--version 3 --kernel @/KERNEL @/IN";
+    expect_both_ways(&rt, folder, words, "bytes 8192\n")?;
+    let words = "--version 4 --ramdisk @/RAMDISK --signature @/TEN @/IN";
+    expect_both_ways(&rt, folder, words, "bytes 12288\n")?;
+    let words = "--version 2 --kernel @/K /dev/full";
+    expect_pack(&rt, folder, words, "", "abootimg: 12 Write\n", 1)?;
     fs::remove_dir_all(&rt, folder)?;
     Ok(())
 }
