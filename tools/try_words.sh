@@ -287,6 +287,34 @@ run repack image again 1:new:kernel
 "$program" info again > told
 try "repack with fragments replaces all" test "$(grep -c ^fragment told)" = 1
 try "  and is canonical" is_canonical again
+
+# set FILE PLACE BYTES: these bytes stand at this place then.
+set_bytes() {
+    printf "$3" | dd of="$1" bs=1 seek="$2" conv=notrunc status=none
+}
+
+# left NUMBERS IMAGE WORDS..: repack leaves out so many bytes of the image, and says so.
+left() {
+    local numbers=$1
+    shift
+    run repack "$@"
+    [ "$status" = 0 ] && [ "$(cat err)" = "abootimg: left out bytes: $numbers" ]
+}
+
+run pack --version 4 --kernel kernel --cmdline quiet clean
+cp clean copy
+set_bytes copy 24 '\001'
+set_bytes copy 52 '\377a'
+try "repack says what it leaves out: reserved bytes and texts" left "reserved 1 texts 2 padding 0 ramdisk 0" copy again
+try "  of a text that is not given anew" left "reserved 1 texts 0 padding 0 ramdisk 0" copy again --cmdline quiet
+try "  and leaves it out" cmp -s clean again
+cp clean copy
+set_bytes copy 4095 x
+try "  bytes between sections" left "reserved 0 texts 0 padding 1 ramdisk 0" copy again
+part kernel 5000
+run pack --vendor --version 4 --fragment 1:a:kernel loose
+set_bytes loose 12288 '\205'
+try "  and those of a ramdisk outside fragments" left "reserved 0 texts 0 padding 0 ramdisk 3" loose again
 cp image0 copy
 run repack image0 image0
 try "repack image0 image0" said 1 "" "abootimg: same file image0"

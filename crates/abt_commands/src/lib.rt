@@ -15,6 +15,7 @@
 //! | `expand.rt`, `overlay.rt`, `list.rt`, `sparse.rt`, `cut.rt`, `flash.rt`, `verify.rt`, `info.rt`, `unpack.rt` | the command of that name; `overlay.rt` is `expand` of several images |
 //! | `completions.rt` | the command `completions`, from the table of `words.rt` |
 //! | `reasons.rt` | why a check answers no |
+//! | `left_out.rt` | what `repack` leaves out |
 //! | `pack.rt`, `repack.rt`, `pack_fields.rt`, `pack_addresses.rt`, `pack_parts.rt`, `pack_ramdisks.rt`, `part_source.rt` | the commands `pack` and `repack`, and the fields and parts that an image is packed from |
 #![tactic(auto)]
 
@@ -27,6 +28,7 @@ mod identity;
 mod image_file;
 mod info;
 mod input;
+mod left_out;
 mod list;
 mod noting;
 mod numbers;

@@ -240,7 +240,7 @@ fn first_set(
     Ok(None)
 }
 
-fn read_fault(fault: DeviceFault) -> CommandFault {
+pub(crate) fn read_fault(fault: DeviceFault) -> CommandFault {
     CommandFault::Section(SectionFault::Read(fault))
 }
 
@@ -274,7 +274,7 @@ fn text_reason(header: &ImageHeader) -> Option<Reason> {
     Some(Reason::Text(Unended::Cmdline))
 }
 
-fn short_front(header: &ImageHeader) -> Option<&ShortFront> {
+pub(crate) fn short_front(header: &ImageHeader) -> Option<&ShortFront> {
     match header {
         ImageHeader::Boot(BootHeader::V3(front)) => Some(front),
         ImageHeader::Boot(BootHeader::V4(front, _)) => Some(front),

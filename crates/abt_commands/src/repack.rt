@@ -1,5 +1,6 @@
 //! The command `repack`: an image with other parts and fields, all else kept.
 
+use crate::left_out::left_out;
 use crate::pack::{Contents, check_options, write_image};
 use crate::pack_fields::Fields;
 use crate::pack_parts::{Packed, Parts};
@@ -17,7 +18,8 @@ use std::time::Clock;
 
 /// Packs an image again, of which parts and fields may be given, and prints how many bytes it has.
 ///
-/// The image and the parts are open before OUT is created or emptied.
+/// The image and the parts are open before OUT is created or emptied. Bytes of the image that packing has no place for are
+/// counted on standard error.
 pub(crate) fn repack_file<R: Files<File = File> + Clock, I, O: Output, E: Output>(
     session: &mut Session<'_, R, I, O, E>,
     input: &str,
@@ -37,6 +39,8 @@ pub(crate) fn repack_file<R: Files<File = File> + Clock, I, O: Output, E: Output
     let kind = kind_of(&image.header);
     check_options(kind, words)?;
     let fragments = read_fragments(alloc, kind, words)?;
+    let keeps_fragments = fragments.as_slice().is_empty();
+    let left = left_out(alloc, own, words, keeps_fragments, &mut source, w, m)?;
     let fields = Fields::of_header(alloc, &image.header)?.given(alloc, words)?;
     let ramdisks = ramdisks_for(session, words, fragments.as_slice(), own, &mut source, w, m)?;
     let parts = Parts::open(session, words, Some(own), m)?;
@@ -47,7 +51,11 @@ pub(crate) fn repack_file<R: Files<File = File> + Clock, I, O: Output, E: Output
         ramdisks: ramdisks.with_board_ids(alloc, words)?,
         trailing: trailing_of(session, words, own, m)?,
     };
-    write_image(session, contents, words.output, w, m)
+    write_image(session, contents, words.output, w, m)?;
+    if !left.is_nothing() {
+        session.note(format_args!("abootimg: {left}"));
+    }
+    Ok(())
 }
 
 fn kind_of(header: &ImageHeader) -> ImageKind {
