@@ -77,6 +77,7 @@ bench: $(PROGRAM)
 	bench/expand.py --program $(PROGRAM)
 	bench/cut.py --program $(PROGRAM)
 	bench/flash.py --program $(PROGRAM)
+	bench/verify.py --program $(PROGRAM)
 	bench/boot.py --program $(PROGRAM)
 
 clean:
