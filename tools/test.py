@@ -6,8 +6,8 @@
 `rt ci` proves every crate from nothing, tries the must-fail edits, runs the tests, and leaves the program that it built as
 crates/abootimg/out/abootimg. Each script then runs on that program and ends in a line 'N passed, M failed'. The C library,
 which `rt ci` proves and does not build, is built for the script that tries it, where there are compilers of C and C++. Behind
-each stands the time that it took, by the clock and of the processors. The last line of all is the sum of what passed and
-failed. The exit status is 0 where nothing failed.
+each stands the time that it took, by the clock and of the processors. Where something failed, its lines stand once more at the
+end. The last line of all is the sum of what passed and failed. The exit status is 0 where nothing failed.
 
 `rt ci` reckons what memory each check may take from nothing, and leaves processors idle where the sum might not fit. Most of
 what it runs are checks over kept work, which take a third of that. So it is told here how many to run at once (RT_JOBS): one a
@@ -27,6 +27,7 @@ from prove import free_memory, put_back
 
 HERE = os.path.dirname(os.path.dirname(os.path.abspath(__file__)))
 BUILT = os.path.join(HERE, "crates", "abootimg", "out", "abootimg")
+WRONG = re.compile(r"FAILED|NOT SO|NOT PROVED|NOT REFUSED|BAD EDIT")
 LAST = re.compile(r"(?:[\w ]+: )?(\d+) passed, (\d+) failed")
 LIBRARY = os.path.join(HERE, "build", "libabootimg.a")
 MEMORY = 4096  # what one check is reckoned to take, in MiB
@@ -52,8 +53,8 @@ def lanes():
     return max(1, min(processors, free // MEMORY) if free else processors)
 
 
-def followed(words, name, **how):
-    """Runs a command, shows what it says but for its last line of counts, and answers the counts."""
+def followed(words, name, wrong, **how):
+    """Runs a command and shows what it says but for its last line, whose counts it answers. Lines of what failed are added."""
     print(f"== {name}", flush=True)
     begun, used = time.monotonic(), processor_time()
     try:
@@ -67,6 +68,8 @@ def followed(words, name, **how):
     for line in ran.stdout:
         if last:
             print(last, end="", flush=True)
+        if WRONG.search(line):
+            wrong.append(f"{name}: {line.rstrip()[:300]}")
         last = line
     status = ran.wait()
     counts = LAST.fullmatch(last.strip())
@@ -82,7 +85,7 @@ def followed(words, name, **how):
     return passed, failed
 
 
-def library_tried(rt, builds, program):
+def library_tried(rt, builds, program, wrong):
     """Builds the C library, and tries it beside the program."""
     script = "tools/try_c_library.sh"
     compilers = [os.environ.get("CC", "cc"), os.environ.get("CXX", "c++")]
@@ -100,7 +103,7 @@ def library_tried(rt, builds, program):
     if not os.path.isfile(LIBRARY):
         print(f"== {script}: not run, since there is no {os.path.relpath(LIBRARY, HERE)}")
         return 0, 0
-    return followed([os.path.join(HERE, script), LIBRARY, program], script)
+    return followed([os.path.join(HERE, script), LIBRARY, program], script, wrong)
 
 
 def main():
@@ -108,11 +111,11 @@ def main():
     parser.add_argument("--rt", default=os.environ.get("RT", "rt"))
     parser.add_argument("--program")
     words = parser.parse_args()
-    counts = []
+    counts, wrong = [], []
     if not words.program:
         # What a killed build left: rt ci refuses sources that no crate of crates.txt has.
         put_back()
-        counts.append(followed([words.rt, "ci"], "rt ci", env={"RT_JOBS": str(lanes()), **os.environ}))
+        counts.append(followed([words.rt, "ci"], "rt ci", wrong, env={"RT_JOBS": str(lanes()), **os.environ}))
     program = os.path.abspath(words.program or BUILT)
     for script, needs_program in SCRIPTS:
         if not os.path.exists(os.path.join(HERE, script)):
@@ -122,13 +125,15 @@ def main():
             counts.append((0, 1))
         else:
             environment = {**os.environ, "ABOOTIMG": program, "PYTHONDONTWRITEBYTECODE": "1"}
-            counts.append(followed([os.path.join(HERE, script)], script, env=environment))
+            counts.append(followed([os.path.join(HERE, script)], script, wrong, env=environment))
     if os.path.exists(os.path.join(HERE, "tools/try_c_library.sh")) and os.access(program, os.X_OK):
-        counts.append(library_tried(words.rt, not words.program, program))
+        counts.append(library_tried(words.rt, not words.program, program, wrong))
     passed, failed = (sum(it) for it in zip(*counts))
     if not words.program and not failed:
         os.makedirs(os.path.join(HERE, "build"), exist_ok=True)
         shutil.copy(program, os.path.join(HERE, "build", "abootimg"))
+    if failed:
+        print("", *wrong, sep="\n")
     print(f"{passed} passed, {failed} failed", flush=True)
     return 1 if failed else 0
 
