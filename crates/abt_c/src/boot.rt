@@ -3,7 +3,8 @@
 ghost use Rattle.std.specs.Prelude.{◌≡◌, ◌≤◌, length};
 ghost use Rattle.abt_headers.specs.Boot.{boot_at};
 ghost use Rattle.abt_headers.specs.Vendor.{vendor_at, view};
-ghost use Rattle.abt_c.specs.Told.{Fails, InfoIs, Shows, TellsBoot, TellsVendor, header_detail, section_at, section_number};
+ghost use Rattle.abt_c.specs.Told.{Fails, InfoIs, Shows, TellsBoot, TellsVendor, header_detail, section_at};
+ghost use Rattle.abt_c.specs.Told.{section_number};
 
 use crate::boot_told::{AbtBoot, AbtSection};
 use abt_headers::{BootHeader, HeaderFault, Section, Sections, VendorHeader};

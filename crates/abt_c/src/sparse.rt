@@ -13,7 +13,8 @@ fn again(state: &AbtSparse) -> AbtPart
     ensures kind { result.kind ≡ 6 }
     ensures used { result.used ≡ 0 }
     ensures some { 0 < result.fault }
-    ensures same { 0 < state.now.fault → state.now.fault ≤ 12 → (result.fault ≡ state.now.fault) × (result.detail ≡ state.now.detail) }
+    ensures same { 0 < state.now.fault → state.now.fault ≤ 12 → (result.fault ≡ state.now.fault) ×
+        (result.detail ≡ state.now.detail) }
 {
     if state.fault == 0 || state.fault > 12 {
         return refused(STATE, 0);
@@ -39,7 +40,8 @@ pub extern "C" fn abt_sparse_next(state: &mut AbtSparse, input: &[u8], out: &mut
     ensures kind { (out.new.kind ≡ 6) ↔ (0 < out.new.fault) }
     ensures used { out.new.used ≤ length input.now }
     // What lay ahead of the state is this part, and then what lies ahead of it now, whatever bytes follow.
-    ensures told { state.old.phase < 3 → (out.new.fault ≡ 90 → ⊥) → Told out.new state.old state.new (take out.new.used input.now) }
+    ensures told { state.old.phase < 3 → (out.new.fault ≡ 90 → ⊥) →
+        Told out.new state.old state.new (take out.new.used input.now) }
     ensures lent { out.new.kind ≡ 1 → out.new.offset + out.new.length ≤ out.new.used }
     ensures place { state.old.phase < 3 → (out.new.fault ≡ 90 → ⊥) → out.new.position ≡ place_of state.old }
     // A state that these calls left is taken and left so; another one is left as it is.
@@ -47,7 +49,8 @@ pub extern "C" fn abt_sparse_next(state: &mut AbtSparse, input: &[u8], out: &mut
     ensures spoiled { out.new.fault ≡ 90 → state.new ≡ state.old }
     // After a fault it answers that again.
     ensures again { 3 ≤ state.old.phase → (state.new ≡ state.old) × (out.new.used ≡ 0) }
-    ensures same { IsLeft state.old → 3 ≤ state.old.phase → (out.new.fault ≡ state.old.fault) × (out.new.detail ≡ state.old.detail) }
+    ensures same { IsLeft state.old → 3 ≤ state.old.phase → (out.new.fault ≡ state.old.fault) ×
+        (out.new.detail ≡ state.old.detail) }
 {
     if state.phase >= 3 {
         *out = again(state);
@@ -80,7 +83,8 @@ pub extern "C" fn abt_sparse_last(state: &mut AbtSparse, out: &mut AbtPart) -> u
     ensures left { IsLeft state.old → IsLeft state.new × (out.new.fault ≡ 90 → ⊥) }
     ensures spoiled { out.new.fault ≡ 90 → state.new ≡ state.old }
     ensures again { 3 ≤ state.old.phase → state.new ≡ state.old }
-    ensures same { IsLeft state.old → 3 ≤ state.old.phase → (out.new.fault ≡ state.old.fault) × (out.new.detail ≡ state.old.detail) }
+    ensures same { IsLeft state.old → 3 ≤ state.old.phase → (out.new.fault ≡ state.old.fault) ×
+        (out.new.detail ≡ state.old.detail) }
 {
     if state.phase >= 3 {
         *out = again(state);

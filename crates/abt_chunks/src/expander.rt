@@ -1,6 +1,7 @@
 //! Expanding a sparse image, in steps and as a whole.
 
-ghost use Rattle.std.specs.Prelude.{◌≡◌, ◌<◌, ◌≤◌, ◌+◌, ◌-◌, ◌*◌, ◌++◌, ℕ, List, IsTrue, OnOk, is_err, length, take, drop, max};
+ghost use Rattle.std.specs.Prelude.{◌≡◌, ◌<◌, ◌≤◌, ◌+◌, ◌-◌, ◌*◌, ◌++◌, ℕ, List, IsTrue, OnOk, is_err, length, take};
+ghost use Rattle.std.specs.Prelude.{drop, max};
 ghost use Rattle.abt_sparse.specs.Block.{laid};
 ghost use Rattle.abt_sparse.specs.Cause.{full_answered};
 ghost use Rattle.abt_chunks.specs.Ahead.{finish};
@@ -43,7 +44,8 @@ impl Expander {
     }
 
     /// One step: at most a window is read, and what it gives is written, a fill or a gap whole. An error is the first
-    /// fault of the image (1 to 10) or a device's (11 reading, 12 writing). After an error or Done every step answers that
+    /// fault of the image (1 to 10) or a device's (11 reading, 12 writing). After an error or Done every step answers
+    /// that
     /// again and calls no device.
     pub fn step<I: Input, O: Output>(
         &mut self,
@@ -66,7 +68,8 @@ impl Expander {
         ensures begun { IsTrue I.tells → Begins (O.written output.new)
             (finish (O.written output.old) (ahead self.old.walk
             (take (I.given input.new - I.given input.old) (I.remaining input.old)))).0 }
-        // Nothing is held over: what the bytes read so far give is written, but for the words that a fill or a gap still owes.
+        // Nothing is held over: what the bytes read so far give is written, but for the words that a fill or a gap
+        // still owes.
         ensures held { IsTrue I.tells → OnOk result ((finish (O.written output.old)
             (ahead self.old.walk (take (I.given input.new - I.given input.old) (I.remaining input.old)))).0 ≡
             O.written output.new ++ laid (owed self.new.walk)) }
@@ -113,8 +116,10 @@ impl Expander {
     }
 }
 
-/// Writes the expansion of the image at the front of the input, and reads no further than it needs. An error is the first
-/// fault of the image (1 to 10), behind what comes before it, or a device's (11 reading, 12 writing), behind a beginning
+/// Writes the expansion of the image at the front of the input, and reads no further than it needs. An error is the
+/// first
+/// fault of the image (1 to 10), behind what comes before it, or a device's (11 reading, 12 writing), behind a
+/// beginning
 /// of that.
 pub fn expand<I: Input, O: Output>(
     input: &mut I,

@@ -21,8 +21,10 @@
 //! | `feed.rt`, `pull.rt` | `Puller`, a walk that is fed its input in pieces of any length |
 //! | `laws.rt` | the law of listings |
 //!
-//! `specs/Whole.antt` says what an expansion answers, `specs/Listing.antt` and `specs/Showing.antt` what a listing shows,
-//! `specs/Ahead.antt` and `specs/Walking.antt` what the rest of an input gives to a walk, `specs/Pulling.antt` what a pull
+//! `specs/Whole.antt` says what an expansion answers, `specs/Listing.antt` and `specs/Showing.antt` what a listing
+//! shows,
+//! `specs/Ahead.antt` and `specs/Walking.antt` what the rest of an input gives to a walk, `specs/Pulling.antt` what a
+//! pull
 //! says of it, and `specs/Cause.antt` who is to blame for a refusal and how much was read before it was known.
 #![tactic(auto)]
 

@@ -2,14 +2,17 @@
 //!
 //! Each function that takes a turn has the same clauses. `says`: what lies ahead is what the part gives, and then what
 //! lies ahead behind it, whatever bytes follow. `lists`: the same of what a listing shows. `short`: too few bytes are a
-//! fault. `turn`: what every turn leaves (`TurnTaken`). `closes`, `empties`: where a chunk ends. `place`: where the next
+//! fault. `turn`: what every turn leaves (`TurnTaken`). `closes`, `empties`: where a chunk ends. `place`: where the
+//! next
 //! byte of a block lies in the expanded image. `cause`: whose fault it is.
 
 ghost use Rattle.std.specs.Prelude.{◌≡◌, ◌≤◌, ◌<◌, ◌+◌, ℕ, List, [], length, IsTrue, true, false, ◌-◌, take, drop};
 ghost use Rattle.abt_sparse.specs.Reading.{kind_at, number_at};
 ghost use Rattle.abt_chunks.specs.Cause.{CleanPart, full_in_part, wanted};
 ghost use Rattle.abt_chunks.specs.Expanding.{IsGoing};
-ghost use Rattle.abt_chunks.specs.Walking.{Says, Shows, Lists, Numbers, Empties, Closes, Leaves, Moved, Within, Caused, Told, AtTurn, IsOver, ask_of, needed_of, todo, place_of, upto_of, given_by, is_fault, goes_on};
+ghost use Rattle.abt_chunks.specs.Walking.{Says, Shows, Lists, Numbers, Empties, Closes, Leaves, Moved, Within};
+ghost use Rattle.abt_chunks.specs.Walking.{Caused, Told, AtTurn, IsOver, ask_of, needed_of, todo, place_of, upto_of};
+ghost use Rattle.abt_chunks.specs.Walking.{given_by, is_fault, goes_on};
 ghost use Rattle.abt_chunks.specs.Taking.{TurnTaken};
 ghost use Rattle.abt_chunks.specs.Feeding.{TakesWhole};
 
@@ -380,10 +383,13 @@ impl Walk {
         ensures wanted { result.received ≤ wanted self.old }
         ensures present { IsTrue I.tells → result.received ≤ length (I.remaining input.old) }
         ensures rest { IsTrue I.tells → I.remaining input.new ≡ drop result.received (I.remaining input.old) }
-        ensures window { IsTrue I.tells → take result.received w.new.bytes ≡ take result.received (I.remaining input.old) }
+        ensures window { IsTrue I.tells → take result.received w.new.bytes
+            ≡ take result.received (I.remaining input.old) }
         // What it says of the image: for every continuation t, and at a fault for what is really left.
-        ensures says { IsTrue I.tells → (t : List ℕ) → (is_fault result.part ≡ true → t ≡ I.remaining input.new) → Told result.part self.old self.new (take result.received (I.remaining input.old)) t }
-        ensures lists { IsTrue I.tells → (t : List ℕ) → (is_fault result.part ≡ true → t ≡ I.remaining input.new) → Lists result.part self.old self.new (take result.received (I.remaining input.old)) t }
+        ensures says { IsTrue I.tells → (t : List ℕ) → (is_fault result.part ≡ true → t ≡ I.remaining input.new) →
+            Told result.part self.old self.new (take result.received (I.remaining input.old)) t }
+        ensures lists { IsTrue I.tells → (t : List ℕ) → (is_fault result.part ≡ true → t ≡ I.remaining input.new) →
+            Lists result.part self.old self.new (take result.received (I.remaining input.old)) t }
         ensures leaves { Leaves result.part self.new.phase }
         ensures moved { Moved result.part result.received }
         ensures inside { place_of self.old + given_by result.part ≤ upto_of self.old }

@@ -1,6 +1,8 @@
-//! Every file that a command reads or writes: each is opened here, created or emptied here, and brought to its end here.
+//! Every file that a command reads or writes: each is opened here, created or emptied here, and brought to its end
+//! here.
 //!
-//! No file that is read is ever written: what an output is the same file as, by device and inode, is looked at before it is
+//! No file that is read is ever written: what an output is the same file as, by device and inode, is looked at before
+//! it is
 //! emptied.
 
 use crate::identity::Identity;

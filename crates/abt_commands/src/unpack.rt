@@ -24,9 +24,11 @@ pub struct UnpackOrder<'a> {
     pub with_words: bool,
 }
 
-/// Writes each section and then each ramdisk fragment of an image to a file of a folder, and the words that pack it again.
+/// Writes each section and then each ramdisk fragment of an image to a file of a folder, and the words that pack it
+/// again.
 ///
-/// Each file is opened when its turn comes, and its line is printed when it is whole. Where the image is one of the files
+/// Each file is opened when its turn comes, and its line is printed when it is whole. Where the image is one of the
+/// files
 /// that are going to be written, none is.
 pub(crate) fn unpack_file<R: Files<File = File> + Clock, I, O: Output, E: Output>(
     session: &mut Session<'_, R, I, O, E>,

@@ -28,7 +28,8 @@ pub(crate) fn read_word_files<R: Files<File = File>, S: AsStr, I: Read, O: Outpu
     Ok(texts)
 }
 
-/// The words, in which each `@FILE` has given way to those lines of its file that aren't empty, and each other word that
+/// The words, in which each `@FILE` has given way to those lines of its file that aren't empty, and each other word
+/// that
 /// begins with `@@` has lost one of the two.
 pub(crate) fn expanded<'a, S: AsStr>(
     alloc: Global,

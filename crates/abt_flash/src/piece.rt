@@ -1,6 +1,7 @@
 //! One piece, from the source through the spool to the partition.
 
-ghost use Rattle.std.specs.Prelude.{◌≡◌, ◌<◌, ◌≤◌, ◌+◌, ◌-◌, ◌*◌, ◌++◌, [], ◌∷◌, IsTrue, Err, IfErr, OnErr, OnOk, is_ok};
+ghost use Rattle.std.specs.Prelude.{◌≡◌, ◌<◌, ◌≤◌, ◌+◌, ◌-◌, ◌*◌, ◌++◌, [], ◌∷◌, IsTrue, Err, IfErr, OnErr, OnOk};
+ghost use Rattle.std.specs.Prelude.{is_ok};
 ghost use Rattle.std.specs.Prelude.{length, max, if◌then◌else◌};
 ghost use Rattle.abt_io.specs.Moment.{Keeps, EachSince, moment_of};
 ghost use Rattle.abt_sparse.specs.Block.{cells, over};

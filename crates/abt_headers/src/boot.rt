@@ -139,7 +139,8 @@ impl BootHeader {
         ensures size { IfOk result (λ h. boot_size h ≤ length bytes.now) }
         ensures back { IfOk result (λ h. boot_record h ++ drop (boot_size h) bytes.now ≡ bytes.now) }
         ensures fault { IfErr result (λ f. fault_number f ≤ 25) }
-        ensures found { (h : BootHeader) (rest : List ℕ) → BootFits h → bytes.now ≡ boot_record h ++ rest → result ≡ Ok h }
+        ensures found { (h : BootHeader) (rest : List ℕ) → BootFits h → bytes.now ≡ boot_record h ++ rest →
+            result ≡ Ok h }
     {
         read_boot_header(bytes)
     }

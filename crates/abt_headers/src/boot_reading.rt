@@ -74,7 +74,8 @@ fn short_from(bytes: &[u8]) -> ShortFront
 
 /// Whether so many bytes are there.
 pub(crate) fn check_length(bytes: &[u8], need: u32) -> Result<(), HeaderFault>
-    ensures { MatchResult result (λ _. need ≤ length bytes.now) (λ fault. (length bytes.now < need) × (fault ≡ HeaderFault.Short need)) }
+    ensures { MatchResult result (λ _. need ≤ length bytes.now) (λ fault. (length bytes.now < need) ×
+        (fault ≡ HeaderFault.Short need)) }
 {
     if bytes.len() < need as usize {
         return Err(HeaderFault::Short { need });

@@ -2,7 +2,8 @@
 //! to its place in the lent array.
 
 ghost use Rattle.std.specs.Prelude.{◌≡◌, ◌+◌, ◌≤◌, ◌<◌, ◌^◌, ◌++◌, length, drop};
-ghost use Rattle.abt_headers.specs.Boot.{boot_record, boot_size, dtb_fields, dtbo_fields, front_fields, front_numbers, short_fields, short_numbers};
+ghost use Rattle.abt_headers.specs.Boot.{boot_record, boot_size, dtb_fields, dtbo_fields, front_fields};
+ghost use Rattle.abt_headers.specs.Boot.{front_numbers, short_fields, short_numbers};
 ghost use Rattle.abt_headers.specs.Field.{joined};
 ghost use Rattle.abt_headers.specs.Fits.{BootFits, DtbFits, DtboFits, FrontFits, ShortFits};
 

@@ -1,9 +1,11 @@
 //! The vendor boot header, versions 3 and 4: its parts, and its public calls.
 
-ghost use Rattle.std.specs.Prelude.{◌≡◌, ◌+◌, ◌≤◌, ◌++◌, ℕ, List, IfOk, IfErr, MatchResult, Ok, Err, length, drop, take};
+ghost use Rattle.std.specs.Prelude.{◌≡◌, ◌+◌, ◌≤◌, ◌++◌, ℕ, List, IfOk, IfErr, MatchResult, Ok, Err, length, drop};
+ghost use Rattle.std.specs.Prelude.{take};
 ghost use Rattle.abt_headers.specs.Fault.{fault_number};
 ghost use Rattle.abt_headers.specs.Places.{EachLow};
-ghost use Rattle.abt_headers.specs.Vendor.{Vendor, vendor_at, vendor_page, vendor_places, vendor_record, vendor_size, vendor_version, view};
+ghost use Rattle.abt_headers.specs.Vendor.{Vendor, vendor_at, vendor_page, vendor_places, vendor_record, vendor_size};
+ghost use Rattle.abt_headers.specs.Vendor.{vendor_version, view};
 ghost use Rattle.abt_headers.specs.VendorFits.{VendorFits};
 
 use crate::fault::HeaderFault;
@@ -74,7 +76,8 @@ impl VendorHeader {
         ensures size { IfOk result (λ h. vendor_size (view h) ≤ length bytes.now) }
         ensures back { IfOk result (λ h. vendor_record (view h) ++ drop (vendor_size (view h)) bytes.now ≡ bytes.now) }
         ensures fault { IfErr result (λ f. fault_number f ≤ 25) }
-        ensures found { (v : Vendor) (rest : List ℕ) → VendorFits v → bytes.now ≡ vendor_record v ++ rest → MatchResult result (λ h. view h ≡ v) (λ _. ⊥) }
+        ensures found { (v : Vendor) (rest : List ℕ) → VendorFits v → bytes.now ≡ vendor_record v ++ rest →
+            MatchResult result (λ h. view h ≡ v) (λ _. ⊥) }
     {
         read_vendor_header(bytes)
     }

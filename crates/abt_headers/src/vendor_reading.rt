@@ -71,7 +71,8 @@ fn checked_tail(bytes: &[u8]) -> Result<VendorTail, HeaderFault>
 
 #[tactic(auto, unfolding(crate::specs::Vendor::vendor_of))]
 fn read_version(bytes: &[u8], version: u32) -> Result<VendorHeader, HeaderFault>
-    ensures { MatchResult result (λ h. vendor_of version bytes.now ≡ Ok (view h)) (λ f. vendor_of version bytes.now ≡ Err f) }
+    ensures { MatchResult result (λ h. vendor_of version bytes.now ≡ Ok (view h)) (λ f. vendor_of version bytes.now
+        ≡ Err f) }
 {
     match version {
         3 => {

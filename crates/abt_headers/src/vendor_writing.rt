@@ -3,7 +3,8 @@
 
 ghost use Rattle.std.specs.Prelude.{◌≡◌, ◌+◌, ◌≤◌, ◌++◌, length, drop};
 ghost use Rattle.abt_headers.specs.Field.{joined};
-ghost use Rattle.abt_headers.specs.Vendor.{tail_fields, tail_view, vendor_end, vendor_fields, vendor_head, vendor_record, vendor_size, view};
+ghost use Rattle.abt_headers.specs.Vendor.{tail_fields, tail_view, vendor_end, vendor_fields, vendor_head};
+ghost use Rattle.abt_headers.specs.Vendor.{vendor_record, vendor_size, view};
 ghost use Rattle.abt_headers.specs.VendorFits.{TailFits, VendorFits, VendorFrontFits};
 
 use crate::field::{array_fits, long_number_fits, number_fits, put};

@@ -77,7 +77,8 @@ impl<'a> Cells<'a> {
         requires stable { length stable.now ≡ length self.old.bytes.now }
         requires touched { length touched.now ≡ length self.old.bytes.now }
         ensures same_reference { self.new.bytes.ghost_name ≡ self.old.bytes.ghost_name }
-        ensures left { (i : ℕ) → slice_index self.new.bytes.now i ≡ left_of pick (slice_index self.old.bytes.now i) (slice_index stable.now i) (slice_index touched.now i) }
+        ensures left { (i : ℕ) → slice_index self.new.bytes.now i ≡ left_of pick (slice_index self.old.bytes.now i)
+            (slice_index stable.now i) (slice_index touched.now i) }
         ensures long { length self.new.bytes.now ≡ length self.old.bytes.now }
     {
         leave(self.bytes, stable, touched, pick);

@@ -1,6 +1,7 @@
 //! Bytes from a place of a source to an output, and zeros.
 
-ghost use Rattle.std.specs.Prelude.{◌≡◌, ◌<◌, ◌≤◌, ◌+◌, ◌-◌, ◌*◌, ◌^◌, ◌++◌, IsTrue, IfOk, IfErr, OnOk, OnErr, max, length, take, drop, replicate};
+ghost use Rattle.std.specs.Prelude.{◌≡◌, ◌<◌, ◌≤◌, ◌+◌, ◌-◌, ◌*◌, ◌^◌, ◌++◌, IsTrue, IfOk, IfErr, OnOk, OnErr, max};
+ghost use Rattle.std.specs.Prelude.{length, take, drop, replicate};
 ghost use Rattle.abt_io.specs.Cause.{CopyCause, full_copied};
 ghost use Rattle.abt_io.specs.Count.{full_of};
 
@@ -29,24 +30,31 @@ pub fn copy_step<S: Source, O: Output>(
 ) -> Result<usize, CopyFault>
     requires some { 0 < ask }
     requires room { ask ≤ 65536 }
-    ensures counts { IfOk result (λ k. (0 < k) × (k ≤ ask) × (S.given source.new ≡ S.given source.old + k) × (length (O.written output.new) ≡ length (O.written output.old) + k)) }
+    ensures counts { IfOk result (λ k. (0 < k) × (k ≤ ask) × (S.given source.new ≡ S.given source.old + k) ×
+        (length (O.written output.new) ≡ length (O.written output.old) + k)) }
     ensures asked { S.given source.old ≤ S.given source.new × S.given source.new ≤ S.given source.old + ask }
-    ensures held { length (O.written output.old) ≤ length (O.written output.new) × length (O.written output.new) ≤ length (O.written output.old) + (S.given source.new - S.given source.old) }
+    ensures held { length (O.written output.old) ≤ length (O.written output.new) × length (O.written output.new)
+        ≤ length (O.written output.old) + (S.given source.new - S.given source.old) }
     ensures content { IsTrue S.tells → S.content source.new ≡ S.content source.old }
     ensures size { IsTrue S.tells → S.size source.new ≡ S.size source.old }
     ensures present { IsTrue S.tells → S.given source.new - S.given source.old ≤ length (S.content source.old) - at }
-    ensures front { IsTrue S.tells → O.written output.new ≡ O.written output.old ++ take (length (O.written output.new) - length (O.written output.old)) (drop at (S.content source.old)) }
+    ensures front { IsTrue S.tells → O.written output.new ≡ O.written output.old ++ take
+        (length (O.written output.new) - length (O.written output.old)) (drop at (S.content source.old)) }
     ensures grown { take (length (O.written output.old)) (O.written output.new) ≡ O.written output.old }
     ensures frame { S.read_frame source.new ≡ S.read_frame source.old }
     ensures write_frame { O.write_frame output.new ≡ O.write_frame output.old }
     ensures read_faults { S.read_faults source.old ≤ S.read_faults source.new }
     ensures write_faults { O.write_faults output.old ≤ O.write_faults output.new }
-    ensures cause { IfErr result (λ e. CopyCause e (IsTrue S.tells → length (S.content source.old) ≤ at) (S.read_faults source.old) (S.read_faults source.new) (O.write_faults output.old) (O.write_faults output.new)) }
-    ensures clean { OnOk result ((S.read_faults source.new ≡ S.read_faults source.old) × (O.write_faults output.new ≡ O.write_faults output.old)) }
+    ensures cause { IfErr result (λ e. CopyCause e (IsTrue S.tells → length (S.content source.old) ≤ at)
+        (S.read_faults source.old) (S.read_faults source.new) (O.write_faults output.old) (O.write_faults output.new)) }
+    ensures clean { OnOk result ((S.read_faults source.new ≡ S.read_faults source.old) ×
+        (O.write_faults output.new ≡ O.write_faults output.old)) }
     ensures full_faults { O.full_faults output.new ≡ O.full_faults output.old + full_copied result }
     ensures reads { S.reads source.new ≡ S.reads source.old + 1 }
-    ensures writes { O.writes output.new ≤ O.writes output.old + (length (O.written output.new) - length (O.written output.old)) + 1 }
-    ensures turns { m.new.turns.number ≤ m.old.turns.number + (length (O.written output.new) - length (O.written output.old)) + 1 }
+    ensures writes { O.writes output.new
+        ≤ O.writes output.old + (length (O.written output.new) - length (O.written output.old)) + 1 }
+    ensures turns { m.new.turns.number
+        ≤ m.old.turns.number + (length (O.written output.new) - length (O.written output.old)) + 1 }
     ensures steps { m.new.steps.number ≡ m.old.steps.number + 1 }
     ensures greatest { m.new.greatest.number ≡ max m.old.greatest.number (S.given source.new - S.given source.old) }
 {
@@ -81,15 +89,18 @@ pub fn copy_range<S: Source, O: Output>(
     m: &mut Meter,
 ) -> Result<(), CopyFault>
     requires { from + n < 2 ^ 64 }
-    ensures written { IsTrue S.tells → OnOk result (O.written output.new ≡ O.written output.old ++ take n (drop from (S.content source.old))) }
-    ensures front { IsTrue S.tells → O.written output.new ≡ O.written output.old ++ take (length (O.written output.new) - length (O.written output.old)) (take n (drop from (S.content source.old))) }
+    ensures written { IsTrue S.tells →
+        OnOk result (O.written output.new ≡ O.written output.old ++ take n (drop from (S.content source.old))) }
+    ensures front { IsTrue S.tells → O.written output.new ≡ O.written output.old ++ take
+        (length (O.written output.new) - length (O.written output.old)) (take n (drop from (S.content source.old))) }
     ensures all { OnOk result (length (O.written output.new) ≡ length (O.written output.old) + n) }
     ensures given { OnOk result (S.given source.new ≡ S.given source.old + n) }
     ensures there { IsTrue S.tells → OnOk result (n ≤ length (S.content source.old) - from) }
     ensures asked { S.given source.old ≤ S.given source.new × S.given source.new ≤ S.given source.old + n }
     ensures least { length (O.written output.old) ≤ length (O.written output.new) }
     ensures most { length (O.written output.new) ≤ length (O.written output.old) + n }
-    ensures held { length (O.written output.new) ≤ length (O.written output.old) + (S.given source.new - S.given source.old) }
+    ensures held { length (O.written output.new)
+        ≤ length (O.written output.old) + (S.given source.new - S.given source.old) }
     ensures content { IsTrue S.tells → S.content source.new ≡ S.content source.old }
     ensures size { IsTrue S.tells → S.size source.new ≡ S.size source.old }
     ensures grown { take (length (O.written output.old)) (O.written output.new) ≡ O.written output.old }
@@ -97,13 +108,18 @@ pub fn copy_range<S: Source, O: Output>(
     ensures write_frame { O.write_frame output.new ≡ O.write_frame output.old }
     ensures read_faults { S.read_faults source.old ≤ S.read_faults source.new }
     ensures write_faults { O.write_faults output.old ≤ O.write_faults output.new }
-    ensures cause { IfErr result (λ e. CopyCause e (IsTrue S.tells → length (S.content source.old) < from + n) (S.read_faults source.old) (S.read_faults source.new) (O.write_faults output.old) (O.write_faults output.new)) }
-    ensures clean { OnOk result ((S.read_faults source.new ≡ S.read_faults source.old) × (O.write_faults output.new ≡ O.write_faults output.old)) }
+    ensures cause { IfErr result (λ e. CopyCause e (IsTrue S.tells → length (S.content source.old) < from + n)
+        (S.read_faults source.old) (S.read_faults source.new) (O.write_faults output.old) (O.write_faults output.new)) }
+    ensures clean { OnOk result ((S.read_faults source.new ≡ S.read_faults source.old) ×
+        (O.write_faults output.new ≡ O.write_faults output.old)) }
     ensures full_faults { O.full_faults output.new ≡ O.full_faults output.old + full_copied result }
     ensures reads { S.reads source.new ≤ S.reads source.old + (S.given source.new - S.given source.old) + 1 }
-    ensures writes { O.writes output.new ≤ O.writes output.old + 2 * (length (O.written output.new) - length (O.written output.old)) + 1 }
-    ensures turns { m.new.turns.number ≤ m.old.turns.number + 3 * (length (O.written output.new) - length (O.written output.old)) + 2 }
-    ensures steps { (S.given source.new - S.given source.old) + 65536 * m.old.steps.number ≤ 65536 * m.new.steps.number }
+    ensures writes { O.writes output.new
+        ≤ O.writes output.old + 2 * (length (O.written output.new) - length (O.written output.old)) + 1 }
+    ensures turns { m.new.turns.number
+        ≤ m.old.turns.number + 3 * (length (O.written output.new) - length (O.written output.old)) + 2 }
+    ensures steps { (S.given source.new - S.given source.old) + 65536 * m.old.steps.number
+        ≤ 65536 * m.new.steps.number }
     ensures greatest { m.new.greatest.number ≤ max m.old.greatest.number 65536 }
 {
     let mut at = 0;
@@ -132,7 +148,8 @@ pub fn write_zeros<O: Output>(
     m: &mut Meter,
 ) -> Result<(), DeviceFault>
     ensures written { OnOk result (O.written output.new ≡ O.written output.old ++ replicate n 0) }
-    ensures front { O.written output.new ≡ O.written output.old ++ take (length (O.written output.new) - length (O.written output.old)) (replicate n 0) }
+    ensures front { O.written output.new ≡ O.written output.old ++ take
+        (length (O.written output.new) - length (O.written output.old)) (replicate n 0) }
     ensures all { OnOk result (length (O.written output.new) ≡ length (O.written output.old) + n) }
     ensures least { length (O.written output.old) ≤ length (O.written output.new) }
     ensures most { length (O.written output.new) ≤ length (O.written output.old) + n }
@@ -141,8 +158,10 @@ pub fn write_zeros<O: Output>(
     ensures cause { OnErr result (O.write_faults output.old < O.write_faults output.new) }
     ensures clean { OnOk result (O.write_faults output.new ≡ O.write_faults output.old) }
     ensures full_faults { O.full_faults output.new ≡ O.full_faults output.old + full_of result }
-    ensures writes { O.writes output.new ≤ O.writes output.old + 2 * (length (O.written output.new) - length (O.written output.old)) + 1 }
-    ensures turns { m.new.turns.number ≤ m.old.turns.number + 3 * (length (O.written output.new) - length (O.written output.old)) + 2 }
+    ensures writes { O.writes output.new
+        ≤ O.writes output.old + 2 * (length (O.written output.new) - length (O.written output.old)) + 1 }
+    ensures turns { m.new.turns.number
+        ≤ m.old.turns.number + 3 * (length (O.written output.new) - length (O.written output.old)) + 2 }
     ensures steps { m.new.steps.number ≡ m.old.steps.number }
     ensures greatest { m.new.greatest.number ≡ m.old.greatest.number }
 {

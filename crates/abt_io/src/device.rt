@@ -6,11 +6,14 @@
 //! that fails answers `Failed`. A clause under `IsTrue tells` speaks of bytes, and binds only a device
 //! that tells them. The laws below the last function of a trait hold between any two calls.
 
-ghost use Rattle.std.specs.Prelude.{◌≡◌, ◌<◌, ◌≤◌, ◌+◌, ◌-◌, ◌^◌, ◌++◌, [], ◌∷◌, ℕ, List, Bool, IsTrue, IfOk, IfErr, OnOk, OnErr, IsErrOf, is_ok, false, if◌then◌else◌, length, take, drop};
+ghost use Rattle.std.specs.Prelude.{◌≡◌, ◌<◌, ◌≤◌, ◌+◌, ◌-◌, ◌^◌, ◌++◌, [], ◌∷◌, ℕ, List, Bool, IsTrue, IfOk, IfErr};
+ghost use Rattle.std.specs.Prelude.{OnOk, OnErr, IsErrOf, is_ok, false, if◌then◌else◌, length, take, drop};
 ghost use Rattle.abt_io.specs.Bytes.{AreBytes};
 ghost use Rattle.abt_io.specs.Count.{count_of, full_of};
-ghost use Rattle.abt_io.specs.Frame.{ReadFrame, reads_alone, WriteFrame, writes_alone, PartitionFrame, no_partition, last_cut};
-ghost use Rattle.abt_io.specs.Moment.{Past, Keeps, EachSince, IsNewest, StaysPending, AllPending, in_range, moment_of, put_at};
+ghost use Rattle.abt_io.specs.Frame.{ReadFrame, reads_alone, WriteFrame, writes_alone, PartitionFrame, no_partition};
+ghost use Rattle.abt_io.specs.Frame.{last_cut};
+ghost use Rattle.abt_io.specs.Moment.{Past, Keeps, EachSince, IsNewest, StaysPending, AllPending, in_range};
+ghost use Rattle.abt_io.specs.Moment.{moment_of, put_at};
 
 /// Why a call of a device was refused. A refused call moves nothing; only a `write_at` that was refused
 /// may leave any bytes in the range that it was asked to write.
@@ -132,7 +135,8 @@ pub trait Source {
         requires { length out.old ≤ 65536 }
         ensures within { count_of result ≤ length out.new }
         ensures present { IsTrue tells → count_of result ≤ length (content self.old) - at }
-        ensures bytes { IsTrue tells → take (count_of result) out.new ≡ take (count_of result) (drop at (content self.old)) }
+        ensures bytes { IsTrue tells → take (count_of result) out.new
+            ≡ take (count_of result) (drop at (content self.old)) }
         ensures content { IsTrue tells → content self.new ≡ content self.old }
         ensures size { IsTrue tells → size self.new ≡ size self.old }
         ensures told { IsTrue tells → OnOk result (length (content self.old) < 2 ^ 64) }
@@ -185,10 +189,15 @@ pub trait Partition: Source {
         ensures within { count_of result ≤ length bytes.now }
         ensures progress { IfOk result (λ n. 0 < length bytes.now → 0 < n) }
         ensures size { Self.size self.new ≡ Self.size self.old }
-        ensures written { IsTrue Self.tells → IfOk result (λ n. Self.content self.new ≡ put_at (Self.content self.old) at (take n bytes.now)) }
-        ensures kept { IsTrue Self.tells → Keeps (in_range at (length bytes.now)) (moment_of (past self.old) (Self.content self.old)) (moment_of (past self.new) (Self.content self.new)) }
-        ensures moments { IsTrue Self.tells → EachSince (past self.old).moments (past self.new).moments (λ m. m ≡ moment_of (past self.new) (Self.content self.new)) }
-        ensures newest { IsTrue Self.tells → OnOk result (IsNewest (moment_of (past self.new) (Self.content self.new)) (past self.new).moments) }
+        ensures written { IsTrue Self.tells →
+            IfOk result (λ n. Self.content self.new ≡ put_at (Self.content self.old) at (take n bytes.now)) }
+        ensures kept { IsTrue Self.tells →
+            Keeps (in_range at (length bytes.now)) (moment_of (past self.old) (Self.content self.old))
+            (moment_of (past self.new) (Self.content self.new)) }
+        ensures moments { IsTrue Self.tells → EachSince (past self.old).moments (past self.new).moments
+            (λ m. m ≡ moment_of (past self.new) (Self.content self.new)) }
+        ensures newest { IsTrue Self.tells →
+            OnOk result (IsNewest (moment_of (past self.new) (Self.content self.new)) (past self.new).moments) }
         ensures pending { IsTrue Self.tells → AllPending (in_range at (count_of result)) (past self.new).pending }
         ensures stays { IsTrue Self.tells → StaysPending (past self.old).pending (past self.new).pending }
         ensures synced { (past self.new).synced ≡ (past self.old).synced }
@@ -206,11 +215,15 @@ pub trait Partition: Source {
     /// Makes all that was written last. Where it fails, nothing is stable for certain.
     fn sync(&mut self) -> Result<(), DeviceFault>
         ensures size { Self.size self.new ≡ Self.size self.old }
-        ensures kept { IsTrue Self.tells → Keeps (λ _. false) (moment_of (past self.old) (Self.content self.old)) (moment_of (past self.new) (Self.content self.new)) }
+        ensures kept { IsTrue Self.tells → Keeps (λ _. false) (moment_of (past self.old) (Self.content self.old))
+            (moment_of (past self.new) (Self.content self.new)) }
         ensures settled { IsTrue Self.tells → OnOk result ((past self.new).pending ≡ []) }
-        ensures newest { IsTrue Self.tells → OnOk result (IsNewest (moment_of (past self.new) (Self.content self.new)) (past self.new).moments) }
-        ensures stays { IsTrue Self.tells → OnErr result (StaysPending (past self.old).pending (past self.new).pending) }
-        ensures moments { IsTrue Self.tells → EachSince (past self.old).moments (past self.new).moments (λ m. m ≡ moment_of (past self.new) (Self.content self.new)) }
+        ensures newest { IsTrue Self.tells →
+            OnOk result (IsNewest (moment_of (past self.new) (Self.content self.new)) (past self.new).moments) }
+        ensures stays { IsTrue Self.tells →
+            OnErr result (StaysPending (past self.old).pending (past self.new).pending) }
+        ensures moments { IsTrue Self.tells → EachSince (past self.old).moments (past self.new).moments
+            (λ m. m ≡ moment_of (past self.new) (Self.content self.new)) }
         ensures synced { (past self.new).synced ≡ (past self.old).synced + (if is_ok result then 1 else 0) }
         ensures puts { puts self.new ≡ puts self.old }
         ensures taken { taken self.new ≡ taken self.old }
@@ -224,7 +237,14 @@ pub trait Partition: Source {
         ensures failed { IfErr result (λ e. e ≡ DeviceFault.Failed) };
 
     /// What a read leaves.
-    ghost reading: { (s : Self) → Self.read_frame s ≡ record { size = Self.size s; past = past s; puts = puts s; taken = taken s; syncs = syncs s; put_faults = put_faults s } };
+    ghost reading: { (s : Self) → Self.read_frame s ≡ record {
+      size = Self.size s;
+      past = past s;
+      puts = puts s;
+      taken = taken s;
+      syncs = syncs s;
+      put_faults = put_faults s;
+    } };
 }
 
 /// Is written to, and then read from its front on, each byte once, until it is cleared.
@@ -268,10 +288,28 @@ pub trait Spool: Input + Output {
         ensures failed { IfErr result (λ e. e ≡ DeviceFault.Failed) };
 
     /// What a read leaves.
-    ghost reading: { (s : Self) → Self.read_frame s ≡ record { written = Self.written s; cuts = cuts s; capacity = size s; writes = Self.writes s; write_faults = Self.write_faults s; full_faults = Self.full_faults s; clears = clears s; clear_faults = clear_faults s } };
+    ghost reading: { (s : Self) → Self.read_frame s ≡ record {
+      written = Self.written s;
+      cuts = cuts s;
+      capacity = size s;
+      writes = Self.writes s;
+      write_faults = Self.write_faults s;
+      full_faults = Self.full_faults s;
+      clears = clears s;
+      clear_faults = clear_faults s;
+    } };
 
     /// What a write leaves.
-    ghost writing: { (s : Self) → Self.write_frame s ≡ record { gone = gone s; cuts = cuts s; capacity = size s; reads = Self.reads s; given = Self.given s; read_faults = Self.read_faults s; clears = clears s; clear_faults = clear_faults s } };
+    ghost writing: { (s : Self) → Self.write_frame s ≡ record {
+      gone = gone s;
+      cuts = cuts s;
+      capacity = size s;
+      reads = Self.reads s;
+      given = Self.given s;
+      read_faults = Self.read_faults s;
+      clears = clears s;
+      clear_faults = clear_faults s;
+    } };
 
     /// It gives what was written since the last clear, each byte once.
     ghost held: { (s : Self) → IsTrue Self.tells → Self.remaining s ≡ drop (gone s) (Self.written s) };

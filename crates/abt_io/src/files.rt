@@ -147,7 +147,14 @@ impl Source for FilePartition {
 
     ghost read_faults = { λ s. s.read_faults.number };
 
-    ghost read_frame = { λ s. record { size = s.size; past = record { pending = []; synced = s.synced.number; moments = [] }; puts = s.puts.number; taken = s.taken.number; syncs = s.syncs.number; put_faults = s.put_faults.number } };
+    ghost read_frame = { λ s. record {
+      size = s.size;
+      past = record { pending = []; synced = s.synced.number; moments = [] };
+      puts = s.puts.number;
+      taken = s.taken.number;
+      syncs = s.syncs.number;
+      put_faults = s.put_faults.number;
+    } };
 
     ghost sized = { λ _ t. absurd (false≢true t) };
 
@@ -273,7 +280,16 @@ impl Input for FileSpool {
 
     ghost read_faults = { λ s. s.read_faults.number };
 
-    ghost read_frame = { λ s. record { written = s.log.state.bytes; cuts = s.log.state.cuts; capacity = s.capacity; writes = s.writes.number; write_faults = s.write_faults.number; full_faults = s.full_faults.number; clears = s.clears.number; clear_faults = s.clear_faults.number } };
+    ghost read_frame = { λ s. record {
+      written = s.log.state.bytes;
+      cuts = s.log.state.cuts;
+      capacity = s.capacity;
+      writes = s.writes.number;
+      write_faults = s.write_faults.number;
+      full_faults = s.full_faults.number;
+      clears = s.clears.number;
+      clear_faults = s.clear_faults.number;
+    } };
 
     ghost are_bytes = { λ _ t. absurd (false≢true t) };
 
@@ -307,7 +323,16 @@ impl Output for FileSpool {
 
     ghost full_faults = { λ s. s.full_faults.number };
 
-    ghost write_frame = { λ s. record { gone = last_cut s.log.state.cuts + s.seen; cuts = s.log.state.cuts; capacity = s.capacity; reads = s.reads.number; given = s.given.number; read_faults = s.read_faults.number; clears = s.clears.number; clear_faults = s.clear_faults.number } };
+    ghost write_frame = { λ s. record {
+      gone = last_cut s.log.state.cuts + s.seen;
+      cuts = s.log.state.cuts;
+      capacity = s.capacity;
+      reads = s.reads.number;
+      given = s.given.number;
+      read_faults = s.read_faults.number;
+      clears = s.clears.number;
+      clear_faults = s.clear_faults.number;
+    } };
 
     fn write(&mut self, bytes: &[u8]) -> Result<usize, DeviceFault> {
         self.writes.add(1);
@@ -352,7 +377,8 @@ impl Spool for FileSpool {
 
     ghost held = { λ _ t. absurd (false≢true t) };
 
-    ghost filled = { λ s full. filled_count s.capacity s.used (last_cut s.log.state.cuts) (length s.log.state.bytes) s.since full };
+    ghost filled = { λ s full. filled_count s.capacity s.used (last_cut s.log.state.cuts) (length s.log.state.bytes)
+        s.since full };
 
     fn capacity(&self) -> u64 {
         self.capacity

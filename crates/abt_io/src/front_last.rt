@@ -1,7 +1,8 @@
 //! An output whose first bytes are laid last, so that no reader takes what was broken off for a whole
 //! image: an image without its magic is none.
 
-ghost use Rattle.std.specs.Prelude.{◌≡◌, ◌<◌, ◌≤◌, ◌+◌, ◌++◌, [], IsTrue, IfOk, IfErr, OnOk, OnErr, IsErrOf, false, length, take, replicate};
+ghost use Rattle.std.specs.Prelude.{◌≡◌, ◌<◌, ◌≤◌, ◌+◌, ◌++◌, [], IsTrue, IfOk, IfErr, OnOk, OnErr, IsErrOf, false};
+ghost use Rattle.std.specs.Prelude.{length, take, replicate};
 ghost use Rattle.abt_io.specs.Count.{count_of, full_of};
 ghost use Rattle.abt_io.specs.Over.{WritesFront, with_front};
 
@@ -48,8 +49,10 @@ impl<O: Overwrite> FrontLast<O> {
     /// Lays what was kept back over the zeros in its place, after which nothing is kept back. Where it
     /// fails, a front of that is laid, shorter than all.
     pub fn finish(&mut self, m: &mut Meter) -> Result<(), DeviceFault>
-        ensures laid { OnOk result (O.written self.new.output ≡ with_front self.old.front self.old.kept (O.written self.old.output)) }
-        ensures front { OnErr result (WritesFront (O.written self.old.output) (O.written self.new.output) 0 (take self.old.kept self.old.front)) }
+        ensures laid { OnOk result (O.written self.new.output ≡ with_front self.old.front self.old.kept
+            (O.written self.old.output)) }
+        ensures front { OnErr result (WritesFront (O.written self.old.output) (O.written self.new.output) 0
+            (take self.old.kept self.old.front)) }
         ensures kept { self.new.kept ≡ 0 }
         ensures frame { O.write_frame self.new.output ≡ O.write_frame self.old.output }
         ensures calls { O.writes self.new.output ≤ O.writes self.old.output + 8 }

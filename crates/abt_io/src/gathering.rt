@@ -19,7 +19,8 @@ pub fn gather<I: Input>(input: &mut I, out: &mut [u8], m: &mut Meter) -> Gathere
     ensures within { result.count ≤ length out.new }
     ensures given { I.given input.new ≡ I.given input.old + result.count }
     ensures present { IsTrue I.tells → result.count ≤ length (I.remaining input.old) }
-    ensures all { IsTrue I.tells → IsNone result.fault → result.count ≡ min (length out.new) (length (I.remaining input.old)) }
+    ensures all { IsTrue I.tells → IsNone result.fault →
+        result.count ≡ min (length out.new) (length (I.remaining input.old)) }
     ensures bytes { IsTrue I.tells → take result.count out.new ≡ take result.count (I.remaining input.old) }
     ensures rest { IsTrue I.tells → I.remaining input.new ≡ drop result.count (I.remaining input.old) }
     ensures none { length out.old ≡ 0 → input.new ≡ input.old }
@@ -68,7 +69,8 @@ pub fn gather_at<S: Source>(source: &mut S, at: u64, out: &mut [u8], m: &mut Met
     ensures within { result.count ≤ length out.new }
     ensures given { S.given source.new ≡ S.given source.old + result.count }
     ensures present { IsTrue S.tells → result.count ≤ length (S.content source.old) - at }
-    ensures all { IsTrue S.tells → IsNone result.fault → result.count ≡ min (length out.new) (length (S.content source.old) - at) }
+    ensures all { IsTrue S.tells → IsNone result.fault →
+        result.count ≡ min (length out.new) (length (S.content source.old) - at) }
     ensures bytes { IsTrue S.tells → take result.count out.new ≡ take result.count (drop at (S.content source.old)) }
     ensures content { IsTrue S.tells → S.content source.new ≡ S.content source.old }
     ensures size { IsTrue S.tells → S.size source.new ≡ S.size source.old }

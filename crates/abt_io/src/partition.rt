@@ -52,7 +52,14 @@ impl<'a> Source for SlicePartition<'a> {
 
     ghost read_faults = { λ s. 0 };
 
-    ghost read_frame = { λ s. record { size = length s.cells.bytes.now; past = s.history.past; puts = s.puts.number; taken = s.taken.number; syncs = s.syncs.number; put_faults = 0 } };
+    ghost read_frame = { λ s. record {
+      size = length s.cells.bytes.now;
+      past = s.history.past;
+      puts = s.puts.number;
+      taken = s.taken.number;
+      syncs = s.syncs.number;
+      put_faults = 0;
+    } };
 
     ghost sized = { λ s _. refl };
 

@@ -1,6 +1,7 @@
 //! A lent slice as a source, and as an output.
 
-ghost use Rattle.std.specs.Prelude.{◌≡◌, ◌<◌, ◌≤◌, ◌+◌, ◌-◌, ◌++◌, IsTrue, IfOk, OnOk, OnErr, IsErrOf, min, length, take, drop, true, not, nat_lt, refl};
+ghost use Rattle.std.specs.Prelude.{◌≡◌, ◌<◌, ◌≤◌, ◌+◌, ◌-◌, ◌++◌, IsTrue, IfOk, OnOk, OnErr, IsErrOf, min, length};
+ghost use Rattle.std.specs.Prelude.{take, drop, true, not, nat_lt, refl};
 ghost use Rattle.abt_io.specs.Bytes.{AreBytes};
 ghost use Rattle.abt_io.specs.Count.{count_of, full_of};
 

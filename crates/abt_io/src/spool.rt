@@ -59,7 +59,16 @@ impl<'a> Input for SliceSpool<'a> {
 
     ghost read_faults = { λ s. 0 };
 
-    ghost read_frame = { λ s. record { written = s.log.state.bytes; cuts = s.log.state.cuts; capacity = length s.cells.bytes.now; writes = s.writes.number; write_faults = s.write_faults.number; full_faults = s.write_faults.number; clears = s.clears.number; clear_faults = 0 } };
+    ghost read_frame = { λ s. record {
+      written = s.log.state.bytes;
+      cuts = s.log.state.cuts;
+      capacity = length s.cells.bytes.now;
+      writes = s.writes.number;
+      write_faults = s.write_faults.number;
+      full_faults = s.write_faults.number;
+      clears = s.clears.number;
+      clear_faults = 0;
+    } };
 
     ghost are_bytes = { λ s _. bytes_of_part s.used s.seen s.cells.bytes.now s.cells.told };
 
@@ -85,7 +94,16 @@ impl<'a> Output for SliceSpool<'a> {
 
     ghost full_faults = { λ s. s.write_faults.number };
 
-    ghost write_frame = { λ s. record { gone = last_cut s.log.state.cuts + s.seen; cuts = s.log.state.cuts; capacity = length s.cells.bytes.now; reads = s.reads.number; given = s.given.number; read_faults = 0; clears = s.clears.number; clear_faults = 0 } };
+    ghost write_frame = { λ s. record {
+      gone = last_cut s.log.state.cuts + s.seen;
+      cuts = s.log.state.cuts;
+      capacity = length s.cells.bytes.now;
+      reads = s.reads.number;
+      given = s.given.number;
+      read_faults = 0;
+      clears = s.clears.number;
+      clear_faults = 0;
+    } };
 
     fn write(&mut self, bytes: &[u8]) -> Result<usize, DeviceFault> {
         self.writes.add(1);
@@ -121,9 +139,11 @@ impl<'a> Spool for SliceSpool<'a> {
 
     ghost writing = { λ s. refl };
 
-    ghost held = { λ s _. held_is (take s.used s.cells.bytes.now) s.log.state.bytes (last_cut s.log.state.cuts) s.seen s.since };
+    ghost held = { λ s _. held_is (take s.used s.cells.bytes.now) s.log.state.bytes (last_cut s.log.state.cuts) s.seen
+        s.since };
 
-    ghost filled = { λ s full. filled_is s.cells.bytes.now s.log.state.bytes (last_cut s.log.state.cuts) s.used s.since full };
+    ghost filled = { λ s full. filled_is s.cells.bytes.now s.log.state.bytes (last_cut s.log.state.cuts) s.used s.since
+        full };
 
     fn capacity(&self) -> u64 {
         self.cells.len() as u64

@@ -1,6 +1,7 @@
 //! Writing all of some bytes: to an output, over what stands in one, and to a place of a partition.
 
-ghost use Rattle.std.specs.Prelude.{◌≡◌, ◌<◌, ◌≤◌, ◌+◌, ◌-◌, ◌^◌, ◌++◌, IsTrue, OnOk, OnErr, IfErr, IsErrOf, length, take};
+ghost use Rattle.std.specs.Prelude.{◌≡◌, ◌<◌, ◌≤◌, ◌+◌, ◌-◌, ◌^◌, ◌++◌, IsTrue, OnOk, OnErr, IfErr, IsErrOf, length};
+ghost use Rattle.std.specs.Prelude.{take};
 ghost use Rattle.abt_io.specs.Count.{full_of};
 ghost use Rattle.abt_io.specs.Moment.{Keeps, KeepsUnsynced, EachSince, in_range, moment_of, put_at};
 ghost use Rattle.abt_io.specs.Over.{WritesFront};
@@ -11,7 +12,8 @@ use crate::{DeviceFault, Meter, Output, Overwrite, Partition};
 pub fn write_out<O: Output>(output: &mut O, bytes: &[u8], m: &mut Meter) -> Result<(), DeviceFault>
     requires { length bytes.now ≤ 65536 }
     ensures ok { OnOk result (O.written output.new ≡ O.written output.old ++ bytes.now) }
-    ensures front { O.written output.new ≡ O.written output.old ++ take (length (O.written output.new) - length (O.written output.old)) bytes.now }
+    ensures front { O.written output.new ≡ O.written output.old ++ take
+        (length (O.written output.new) - length (O.written output.old)) bytes.now }
     ensures all { OnOk result (length (O.written output.new) ≡ length (O.written output.old) + length bytes.now) }
     ensures grown { length (O.written output.old) ≤ length (O.written output.new) }
     ensures within { length (O.written output.new) ≤ length (O.written output.old) + length bytes.now }
@@ -22,8 +24,10 @@ pub fn write_out<O: Output>(output: &mut O, bytes: &[u8], m: &mut Meter) -> Resu
     ensures full_faults { O.full_faults output.new ≡ O.full_faults output.old + full_of result }
     ensures full { IsErrOf result DeviceFault.Full → IsTrue (O.is_full output.new) }
     ensures short { OnErr result (length (O.written output.new) < length (O.written output.old) + length bytes.now) }
-    ensures calls { O.writes output.new + length (O.written output.old) ≤ O.writes output.old + length (O.written output.new) + 1 }
-    ensures turns { m.new.turns.number + length (O.written output.old) ≤ m.old.turns.number + length (O.written output.new) + 1 }
+    ensures calls { O.writes output.new + length (O.written output.old) ≤ O.writes output.old + length
+        (O.written output.new) + 1 }
+    ensures turns { m.new.turns.number + length (O.written output.old) ≤ m.old.turns.number + length
+        (O.written output.new) + 1 }
     ensures steps { m.new.steps.number ≡ m.old.steps.number }
     ensures greatest { m.new.greatest.number ≡ m.old.greatest.number }
 {
@@ -50,9 +54,13 @@ pub fn write_all_at<P: Partition>(
     requires fits { at + length bytes.now ≤ P.size partition.old }
     requires below { at + length bytes.now < 2 ^ 64 }
     ensures size { P.size partition.new ≡ P.size partition.old }
-    ensures written { IsTrue P.tells → OnOk result (P.content partition.new ≡ put_at (P.content partition.old) at bytes.now) }
-    ensures kept { IsTrue P.tells → Keeps (in_range at (length bytes.now)) (moment_of (P.past partition.old) (P.content partition.old)) (moment_of (P.past partition.new) (P.content partition.new)) }
-    ensures moments { IsTrue P.tells → EachSince (P.past partition.old).moments (P.past partition.new).moments (KeepsUnsynced (in_range at (length bytes.now)) (moment_of (P.past partition.old) (P.content partition.old))) }
+    ensures written { IsTrue P.tells →
+        OnOk result (P.content partition.new ≡ put_at (P.content partition.old) at bytes.now) }
+    ensures kept { IsTrue P.tells →
+        Keeps (in_range at (length bytes.now)) (moment_of (P.past partition.old) (P.content partition.old))
+        (moment_of (P.past partition.new) (P.content partition.new)) }
+    ensures moments { IsTrue P.tells → EachSince (P.past partition.old).moments (P.past partition.new).moments
+        (KeepsUnsynced (in_range at (length bytes.now)) (moment_of (P.past partition.old) (P.content partition.old))) }
     ensures synced { (P.past partition.new).synced ≡ (P.past partition.old).synced }
     ensures calls { P.puts partition.new ≤ P.puts partition.old + length bytes.now }
     ensures syncs { P.syncs partition.new ≡ P.syncs partition.old }
@@ -66,7 +74,8 @@ pub fn write_all_at<P: Partition>(
     ensures turns { m.new.turns.number ≤ m.old.turns.number + length bytes.now }
     ensures taken { P.taken partition.old ≤ P.taken partition.new }
     ensures all { OnOk result (P.taken partition.new ≡ P.taken partition.old + length bytes.now) }
-    ensures few_calls { P.puts partition.new + P.taken partition.old ≤ P.puts partition.old + P.taken partition.new + 1 }
+    ensures few_calls { P.puts partition.new + P.taken partition.old ≤ P.puts partition.old + P.taken
+        partition.new + 1 }
     ensures few_turns { m.new.turns.number + P.taken partition.old ≤ m.old.turns.number + P.taken partition.new + 1 }
     ensures steps { m.new.steps.number ≡ m.old.steps.number }
     ensures greatest { m.new.greatest.number ≡ m.old.greatest.number }

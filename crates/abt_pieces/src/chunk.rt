@@ -1,5 +1,6 @@
 //! What stands in front of a chunk's blocks.
-ghost use Rattle.std.specs.Prelude.{◌≡◌, ◌<◌, ◌≤◌, ◌+◌, ◌-◌, ◌%◌, ◌^◌, ◌++◌, OnOk, OnErr, IfErr, IsErrOf, IsTrue, length, take};
+ghost use Rattle.std.specs.Prelude.{◌≡◌, ◌<◌, ◌≤◌, ◌+◌, ◌-◌, ◌%◌, ◌^◌, ◌++◌, OnOk, OnErr, IfErr, IsErrOf, IsTrue};
+ghost use Rattle.std.specs.Prelude.{length, take};
 ghost use Rattle.abt_io.specs.Count.{full_of};
 ghost use Rattle.abt_sparse.specs.Chunk.{header_record, plain_header};
 ghost use Rattle.abt_pieces.specs.Contents.{head_len as length_of_head};
@@ -45,7 +46,8 @@ pub fn write_front<O: Output>(
     m: &mut Meter,
 ) -> Result<(), DeviceFault>
     ensures ok { OnOk result (O.written output.new ≡ O.written output.old ++ front_bytes kind blocks total) }
-    ensures front { O.written output.new ≡ O.written output.old ++ take (length (O.written output.new) - length (O.written output.old)) (front_bytes kind blocks total) }
+    ensures front { O.written output.new ≡ O.written output.old ++ take
+        (length (O.written output.new) - length (O.written output.old)) (front_bytes kind blocks total) }
     ensures grown { length (O.written output.old) ≤ length (O.written output.new) }
     ensures within { length (O.written output.new) ≤ length (O.written output.old) + length_of_head kind }
     ensures whole { OnOk result (length (O.written output.new) ≡ length (O.written output.old) + length_of_head kind) }
@@ -56,8 +58,10 @@ pub fn write_front<O: Output>(
     ensures full { IsErrOf result DeviceFault.Full → IsTrue (O.is_full output.new) }
     ensures short { OnErr result (length (O.written output.new) < length (O.written output.old) + length_of_head kind) }
     ensures cause { OnErr result (O.write_faults output.old < O.write_faults output.new) }
-    ensures calls { O.writes output.new + length (O.written output.old) ≤ O.writes output.old + length (O.written output.new) + 1 }
-    ensures turns { m.new.turns.number + length (O.written output.old) ≤ m.old.turns.number + length (O.written output.new) + 1 }
+    ensures calls { O.writes output.new + length (O.written output.old) ≤ O.writes output.old + length
+        (O.written output.new) + 1 }
+    ensures turns { m.new.turns.number + length (O.written output.old) ≤ m.old.turns.number + length
+        (O.written output.new) + 1 }
     ensures steps { m.new.steps.number ≡ m.old.steps.number }
     ensures greatest { m.new.greatest.number ≡ m.old.greatest.number }
 {
@@ -93,8 +97,11 @@ pub fn write_header<O: Output>(
 ) -> Result<(), DeviceFault>
     requires some { 0 < size }
     requires words { size % 4 ≡ 0 }
-    ensures ok { OnOk result (O.written output.new ≡ O.written output.old ++ header_record (plain_header size count chunks)) }
-    ensures front { O.written output.new ≡ O.written output.old ++ take (length (O.written output.new) - length (O.written output.old)) (header_record (plain_header size count chunks)) }
+    ensures ok { OnOk result (O.written output.new ≡ O.written output.old ++ header_record
+        (plain_header size count chunks)) }
+    ensures front { O.written output.new ≡ O.written output.old ++ take
+        (length (O.written output.new) - length (O.written output.old))
+        (header_record (plain_header size count chunks)) }
     ensures grown { length (O.written output.old) ≤ length (O.written output.new) }
     ensures within { length (O.written output.new) ≤ length (O.written output.old) + 28 }
     ensures whole { OnOk result (length (O.written output.new) ≡ length (O.written output.old) + 28) }
@@ -105,8 +112,10 @@ pub fn write_header<O: Output>(
     ensures full { IsErrOf result DeviceFault.Full → IsTrue (O.is_full output.new) }
     ensures short { OnErr result (length (O.written output.new) < length (O.written output.old) + 28) }
     ensures cause { OnErr result (O.write_faults output.old < O.write_faults output.new) }
-    ensures calls { O.writes output.new + length (O.written output.old) ≤ O.writes output.old + length (O.written output.new) + 1 }
-    ensures turns { m.new.turns.number + length (O.written output.old) ≤ m.old.turns.number + length (O.written output.new) + 1 }
+    ensures calls { O.writes output.new + length (O.written output.old) ≤ O.writes output.old + length
+        (O.written output.new) + 1 }
+    ensures turns { m.new.turns.number + length (O.written output.old) ≤ m.old.turns.number + length
+        (O.written output.new) + 1 }
     ensures steps { m.new.steps.number ≡ m.old.steps.number }
     ensures greatest { m.new.greatest.number ≡ m.old.greatest.number }
 {

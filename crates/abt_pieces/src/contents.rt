@@ -1,6 +1,7 @@
 //! What a piece holds: its chunks, its written blocks and its length, counted as blocks are passed.
 ghost use Rattle.std.specs.Prelude.{◌≡◌, ◌<◌, ◌≤◌, ◌+◌, ◌*◌, ◌^◌};
-ghost use Rattle.abt_pieces.specs.Contents.{opens, opens_len, data_len, held, head_len as length_of_head, with_part, contents_before};
+ghost use Rattle.abt_pieces.specs.Contents.{opens, opens_len, data_len, held, head_len as length_of_head, with_part};
+ghost use Rattle.abt_pieces.specs.Contents.{contents_before};
 
 use abt_runs::{RunKind, are_alike};
 

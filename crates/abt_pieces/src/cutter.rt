@@ -1,5 +1,7 @@
 //! Cutting an image into the fewest pieces for a download limit.
-ghost use Rattle.std.specs.Prelude.{◌≡◌, ◌<◌, ◌≤◌, ◌+◌, ◌-◌, ◌*◌, ◌^◌, ◌++◌, max, ℕ, List, [], IsTrue, IfOk, IfErr, IfSome, IfNone, OnOk, OnErr, Ok, Err, length, take, drop, true, false, ◌⊎◌, if◌then◌else◌};
+ghost use Rattle.std.specs.Prelude.{◌≡◌, ◌<◌, ◌≤◌, ◌+◌, ◌-◌, ◌*◌, ◌^◌, ◌++◌, max, ℕ, List, [], IsTrue, IfOk, IfErr};
+ghost use Rattle.std.specs.Prelude.{IfSome, IfNone, OnOk, OnErr, Ok, Err, length, take, drop, true, false, ◌⊎◌};
+ghost use Rattle.std.specs.Prelude.{if◌then◌else◌};
 ghost use Rattle.abt_sparse.specs.Block.{Block};
 ghost use Rattle.abt_sparse.specs.Runs.{Division};
 ghost use Rattle.abt_sparse.specs.Chunk.{piece as piece_bytes};
@@ -7,7 +9,8 @@ ghost use Rattle.abt_pieces.specs.Fault.{HasCause, full_cut};
 ghost use Rattle.abt_pieces.specs.Plan.{FirstPiece};
 ghost use Rattle.abt_pieces.specs.Outline.{IsPiece, IsOutline, blocks_of};
 ghost use Rattle.abt_pieces.specs.Alike.{SoundCutter-prop};
-ghost use Rattle.abt_pieces.specs.Cutter.{SoundOutline, SoundCutter, ToldCutter, Made, Passed, segments_left, coming, has_more, is_begun, has_failed, piece_words};
+ghost use Rattle.abt_pieces.specs.Cutter.{SoundOutline, SoundCutter, ToldCutter, Made, Passed, segments_left, coming};
+ghost use Rattle.abt_pieces.specs.Cutter.{has_more, is_begun, has_failed, piece_words};
 ghost use Rattle.abt_pieces.specs.Image.{Appended, IsImage};
 ghost use Rattle.abt_pieces.specs.SpentStage.{all_passes};
 ghost use Rattle.abt_pieces.specs.Turn.{NextInTurn};
@@ -43,7 +46,9 @@ pub struct Cutter<R: BlockRuns + Drop> {
     /// Where it stands.
     pub stage: Stage,
     /// The places are within the image, and the numbers of a begun piece fit one another and the limit.
-    pub ghost sound: { SoundCutter (R.within runs) (R.reach runs) (R.taken runs) (R.count runs) (R.size runs) limit made start stage } by { SoundCutter-prop (R.within runs) (R.within_alike runs) (R.reach runs) (R.taken runs) (R.count runs) (R.size runs) limit made start stage },
+    pub ghost sound: { SoundCutter (R.within runs) (R.reach runs) (R.taken runs) (R.count runs) (R.size runs) limit made
+        start stage } by { SoundCutter-prop (R.within runs) (R.within_alike runs) (R.reach runs) (R.taken runs)
+            (R.count runs) (R.size runs) limit made start stage },
 }
 
 impl<R: BlockRuns + Drop> Cutter<R> {
@@ -53,9 +58,12 @@ impl<R: BlockRuns + Drop> Cutter<R> {
         ensures runs { IfOk result (λ c. c.runs ≡ runs) }
         ensures limit { IfOk result (λ c. c.limit ≡ limit) }
         ensures granted { IfOk result (λ c. 64 + R.size runs ≤ limit) }
-        ensures refused { IfErr result (λ e. (e ≡ PieceFault.LimitTooSmall (64 + R.size runs)) × (limit < 64 + R.size runs)) }
+        ensures refused { IfErr result (λ e. (e ≡ PieceFault.LimitTooSmall (64 + R.size runs)) ×
+            (limit < 64 + R.size runs)) }
         ensures begins { IfOk result (λ c. (c.stage ≡ Stage.Between) × (c.made ≡ 0) × (c.start.block ≡ 0)) }
-        ensures told { (x : List ℕ) → R.opened runs x → IfOk result (λ c. ToldCutter (R.place runs x) (R.together runs x) (R.size runs) (R.list runs x) c.limit c.made c.start c.stage) }
+        ensures told { (x : List ℕ) → R.opened runs x →
+            IfOk result (λ c. ToldCutter (R.place runs x) (R.together runs x) (R.size runs) (R.list runs x) c.limit
+            c.made c.start c.stage) }
     {
         let least = least_limit(runs.block_size());
         if (limit as u64) < least {
@@ -92,27 +100,42 @@ impl<R: BlockRuns + Drop> Cutter<R> {
         w: &mut Window,
         m: &mut Meter,
     ) -> Result<Outline, PieceFault>
-        requires told { IsTrue S.tells → R.opened self.old.runs (S.content source.old) × R.place self.old.runs (S.content source.old) self.old.start }
+        requires told { IsTrue S.tells → R.opened self.old.runs (S.content source.old) ×
+            R.place self.old.runs (S.content source.old) self.old.start }
         ensures runs { self.new.runs ≡ self.old.runs }
-        ensures rest { (self.new.limit ≡ self.old.limit) × (self.new.start ≡ self.old.start) × (self.new.made ≡ self.old.made) × (self.new.stage ≡ self.old.stage) }
+        ensures rest { (self.new.limit ≡ self.old.limit) × (self.new.start ≡ self.old.start) ×
+            (self.new.made ≡ self.old.made) × (self.new.stage ≡ self.old.stage) }
         ensures content { IsTrue S.tells → S.content source.new ≡ S.content source.old }
         ensures frame { S.read_frame source.new ≡ S.read_frame source.old }
-        ensures sound { IfOk result (λ o. SoundOutline (R.within self.old.runs) (R.count self.old.runs) self.old.limit self.old.start.block o) }
-        ensures exact { IsTrue S.tells → IfOk result (λ o. IsOutline (R.size self.old.runs) (R.list self.old.runs (S.content source.old)) o) }
-        ensures greatest { IsTrue S.tells → IfOk result (λ o. FirstPiece (R.size self.old.runs) (R.list self.old.runs (S.content source.old)) self.old.limit self.old.start.block o.piece.past) }
+        ensures sound { IfOk result (λ o. SoundOutline (R.within self.old.runs) (R.count self.old.runs) self.old.limit
+            self.old.start.block o) }
+        ensures exact { IsTrue S.tells →
+            IfOk result (λ o. IsOutline (R.size self.old.runs) (R.list self.old.runs (S.content source.old)) o) }
+        ensures greatest { IsTrue S.tells →
+            IfOk result (λ o. FirstPiece (R.size self.old.runs) (R.list self.old.runs (S.content source.old))
+            self.old.limit self.old.start.block o.piece.past) }
         ensures place { IsTrue S.tells → IfOk result (λ o. R.place self.old.runs (S.content source.old) o.next) }
-        ensures charged { IfOk result (λ o. S.given source.new + R.charge self.old.runs self.old.start ≤ S.given source.old + R.charge self.old.runs o.next + 48 + R.one self.old.runs) }
-        ensures charged_end { IfOk result (λ o. R.count self.old.runs ≤ o.piece.past → S.given source.new + R.charge self.old.runs self.old.start ≤ S.given source.old + R.charge self.old.runs o.next + 16) }
-        ensures takes { IfOk result (λ o. o.piece.bytes + R.taken self.old.runs self.old.start ≤ R.taken self.old.runs o.next + 80) }
+        ensures charged { IfOk result (λ o. S.given source.new + R.charge self.old.runs self.old.start
+            ≤ S.given source.old + R.charge self.old.runs o.next + 48 + R.one self.old.runs) }
+        ensures charged_end { IfOk result (λ o. R.count self.old.runs ≤ o.piece.past →
+            S.given source.new + R.charge self.old.runs self.old.start ≤ S.given source.old + R.charge self.old.runs
+            o.next + 16) }
+        ensures takes { IfOk result (λ o. o.piece.bytes + R.taken self.old.runs self.old.start
+            ≤ R.taken self.old.runs o.next + 80) }
         ensures given { S.given source.old ≤ S.given source.new }
-        ensures steps { S.given source.new + 65536 * m.old.steps.number ≤ S.given source.old + 65536 * m.new.steps.number }
+        ensures steps { S.given source.new + 65536 * m.old.steps.number
+            ≤ S.given source.old + 65536 * m.new.steps.number }
         ensures received { m.new.greatest.number ≤ max m.old.greatest.number 65536 }
         ensures calls { S.reads source.new ≤ S.reads source.old + 3 * (S.given source.new - S.given source.old) + 2 }
-        ensures turns { m.new.turns.number ≤ m.old.turns.number + 5 * (S.given source.new - S.given source.old) + 2 + 2 * R.one self.old.runs }
-        ensures words { IfOk result (λ o. m.new.turns.number ≤ m.old.turns.number + 5 * (S.given source.new - S.given source.old) + 2 + piece_words (R.one self.old.runs) (R.count self.old.runs) o.piece.past) }
+        ensures turns { m.new.turns.number
+            ≤ m.old.turns.number + 5 * (S.given source.new - S.given source.old) + 2 + 2 * R.one self.old.runs }
+        ensures words { IfOk result (λ o. m.new.turns.number
+            ≤ m.old.turns.number + 5 * (S.given source.new - S.given source.old) + 2 + piece_words (R.one self.old.runs)
+            (R.count self.old.runs) o.piece.past) }
         ensures faults { S.read_faults source.old ≤ S.read_faults source.new }
         ensures clean { OnOk result (S.read_faults source.new ≡ S.read_faults source.old) }
-        ensures cause { IfErr result (λ e. HasCause e S.tells (S.read_faults source.old) (S.read_faults source.new) 0 0) }
+        ensures cause { IfErr result (λ e. HasCause e S.tells (S.read_faults source.old) (S.read_faults source.new) 0
+            0) }
     {
         let start = self.start;
         let planner = match plan_piece(&mut self.runs, source, start, self.limit, w, m) {
@@ -141,43 +164,93 @@ impl<R: BlockRuns + Drop> Cutter<R> {
     ) -> Result<Option<Piece>, PieceFault>
         requires unbegun { is_begun self.old.stage ≡ false }
         requires opened { IsTrue S.tells → R.opened self.old.runs (S.content source.old) }
-        requires told { IsTrue S.tells → ToldCutter (R.place self.old.runs (S.content source.old)) (R.together self.old.runs (S.content source.old)) (R.size self.old.runs) (R.list self.old.runs (S.content source.old)) self.old.limit self.old.made self.old.start self.old.stage }
+        requires told { IsTrue S.tells → ToldCutter (R.place self.old.runs (S.content source.old))
+            (R.together self.old.runs (S.content source.old)) (R.size self.old.runs)
+            (R.list self.old.runs (S.content source.old)) self.old.limit self.old.made self.old.start self.old.stage }
         ensures runs { self.new.runs ≡ self.old.runs }
         ensures limit { self.new.limit ≡ self.old.limit }
         ensures content { IsTrue S.tells → S.content source.new ≡ S.content source.old }
         ensures frame { S.read_frame source.new ≡ S.read_frame source.old }
         ensures write_frame { O.write_frame output.new ≡ O.write_frame output.old }
-        ensures told { IsTrue S.tells → ToldCutter (R.place self.old.runs (S.content source.old)) (R.together self.old.runs (S.content source.old)) (R.size self.old.runs) (R.list self.old.runs (S.content source.old)) self.new.limit self.new.made self.new.start self.new.stage }
+        ensures told { IsTrue S.tells → ToldCutter (R.place self.old.runs (S.content source.old))
+            (R.together self.old.runs (S.content source.old)) (R.size self.old.runs)
+            (R.list self.old.runs (S.content source.old)) self.new.limit self.new.made self.new.start self.new.stage }
         ensures unbegun { is_begun self.new.stage ≡ false }
         ensures grown { length (O.written output.old) ≤ length (O.written output.new) }
         ensures within { length (O.written output.new) ≤ length (O.written output.old) + self.old.limit }
-        ensures front { IsTrue S.tells → O.written output.new ≡ O.written output.old ++ take (length (O.written output.new) - length (O.written output.old)) (coming (R.size self.old.runs) self.old.limit (R.list self.old.runs (S.content source.old)) self.old.start.block self.old.stage) }
-        ensures image { IfOk result (λ o. IfSome o (λ p. Appended (IsImage (R.size self.old.runs) (R.count self.old.runs)) (O.written output.old) (O.written output.new))) }
-        ensures passed { IfOk result (λ o. IfSome o (λ p. Passed (R.count self.old.runs) p.first p.past self.new.stage)) }
+        ensures front { IsTrue S.tells → O.written output.new ≡ O.written output.old ++ take
+            (length (O.written output.new) - length (O.written output.old))
+            (coming (R.size self.old.runs) self.old.limit (R.list self.old.runs (S.content source.old))
+            self.old.start.block self.old.stage) }
+        ensures image { IfOk
+            result (λ o. IfSome o (λ p. Appended (IsImage (R.size self.old.runs) (R.count self.old.runs))
+            (O.written output.old) (O.written output.new))) }
+        ensures passed { IfOk
+            result (λ o. IfSome o (λ p. Passed (R.count self.old.runs) p.first p.past self.new.stage)) }
         ensures least { IfOk result (λ o. IfSome o (λ p. 28 ≤ p.bytes)) }
-        ensures piece { IfOk result (λ o. IfSome o (λ p. (p.first ≡ self.old.start.block) × (p.past ≡ self.new.start.block) × (p.bytes ≤ self.old.limit) × (length (O.written output.new) ≡ length (O.written output.old) + p.bytes) × (self.new.made ≡ self.old.made + 1))) }
-        ensures written { IsTrue S.tells → IfOk result (λ o. IfSome o (λ p. O.written output.new ≡ O.written output.old ++ piece_bytes (R.size self.old.runs) (blocks_of (R.list self.old.runs (S.content source.old)) p))) }
-        ensures exact { IsTrue S.tells → IfOk result (λ o. IfSome o (λ p. IsPiece (R.size self.old.runs) (R.list self.old.runs (S.content source.old)) p)) }
-        ensures greatest { IsTrue S.tells → IfOk result (λ o. IfSome o (λ p. FirstPiece (R.size self.old.runs) (R.list self.old.runs (S.content source.old)) self.old.limit p.first p.past)) }
-        ensures none { IfOk result (λ o. IfNone o ((self.old.stage ≡ Stage.Done) × (output.new ≡ output.old) × (source.new ≡ source.old) × (self.new ≡ self.old))) }
+        ensures piece { IfOk
+            result (λ o. IfSome o (λ p. (p.first ≡ self.old.start.block) × (p.past ≡ self.new.start.block) ×
+            (p.bytes ≤ self.old.limit) × (length (O.written output.new) ≡ length (O.written output.old) + p.bytes) ×
+            (self.new.made ≡ self.old.made + 1))) }
+        ensures written { IsTrue S.tells →
+            IfOk
+            result (λ o. IfSome o (λ p. O.written output.new ≡ O.written output.old ++ piece_bytes
+            (R.size self.old.runs) (blocks_of (R.list self.old.runs (S.content source.old)) p))) }
+        ensures exact { IsTrue S.tells →
+            IfOk
+            result (λ o. IfSome o (λ p. IsPiece (R.size self.old.runs) (R.list self.old.runs (S.content source.old))
+            p)) }
+        ensures greatest { IsTrue S.tells →
+            IfOk
+            result (λ o. IfSome o (λ p. FirstPiece (R.size self.old.runs) (R.list self.old.runs (S.content source.old))
+            self.old.limit p.first p.past)) }
+        ensures none { IfOk result (λ o. IfNone o ((self.old.stage ≡ Stage.Done) × (output.new ≡ output.old) ×
+            (source.new ≡ source.old) × (self.new ≡ self.old))) }
         ensures after_last { self.old.stage ≡ Stage.Done → IfOk result (λ o. IfSome o (λ p. ⊥)) × OnErr result ⊥ }
-        ensures again { (f : PieceFault) → self.old.stage ≡ Stage.Failed f → (result ≡ Err f) × (output.new ≡ output.old) × (source.new ≡ source.old) }
+        ensures again { (f : PieceFault) → self.old.stage ≡ Stage.Failed f → (result ≡ Err f) ×
+            (output.new ≡ output.old) × (source.new ≡ source.old) }
         ensures refused { IfErr result (λ e. self.new.stage ≡ Stage.Failed e) }
         ensures given { S.given source.old ≤ S.given source.new }
-        ensures steps { S.given source.new + 65536 * m.old.steps.number ≤ S.given source.old + 65536 * m.new.steps.number }
+        ensures steps { S.given source.new + 65536 * m.old.steps.number
+            ≤ S.given source.old + 65536 * m.new.steps.number }
         ensures received { m.new.greatest.number ≤ max m.old.greatest.number 65536 }
-        ensures takes { IfOk result (λ o. IfSome o (λ p. p.bytes + R.taken self.old.runs self.old.start ≤ R.taken self.old.runs self.new.start + 80)) }
-        ensures spent { IsTrue S.tells → IfOk result (λ o. IfSome o (λ p. S.given source.new + all_passes (R.charge self.old.runs) (R.copied self.old.runs) self.old.start ≤ S.given source.old + all_passes (R.charge self.old.runs) (R.copied self.old.runs) self.new.start + 80 + R.one self.old.runs)) }
-        ensures spent_end { IsTrue S.tells → IfOk result (λ o. IfSome o (λ p. R.count self.old.runs ≤ p.past → S.given source.new + all_passes (R.charge self.old.runs) (R.copied self.old.runs) self.old.start ≤ S.given source.old + all_passes (R.charge self.old.runs) (R.copied self.old.runs) self.new.start + 48)) }
-        ensures calls { (S.reads source.new - S.reads source.old) + (O.writes output.new - O.writes output.old) ≤ 4 * ((S.given source.new - S.given source.old) + (length (O.written output.new) - length (O.written output.old))) + 24 }
-        ensures turns { m.new.turns.number ≤ m.old.turns.number + 6 * ((S.given source.new - S.given source.old) + (length (O.written output.new) - length (O.written output.old))) + 32 + 3 * R.one self.old.runs }
-        ensures words { IfOk result (λ o. IfSome o (λ p. m.new.turns.number ≤ m.old.turns.number + 6 * ((S.given source.new - S.given source.old) + (length (O.written output.new) - length (O.written output.old))) + 32 + piece_words (R.one self.old.runs) (R.count self.old.runs) p.past)) }
+        ensures takes { IfOk
+            result (λ o. IfSome o (λ p. p.bytes + R.taken self.old.runs self.old.start
+            ≤ R.taken self.old.runs self.new.start + 80)) }
+        ensures spent { IsTrue S.tells →
+            IfOk
+            result (λ o. IfSome o (λ p. S.given source.new + all_passes (R.charge self.old.runs)
+            (R.copied self.old.runs) self.old.start ≤ S.given source.old + all_passes (R.charge self.old.runs)
+            (R.copied self.old.runs) self.new.start + 80 + R.one self.old.runs)) }
+        ensures spent_end { IsTrue S.tells →
+            IfOk
+            result (λ o. IfSome o (λ p. R.count self.old.runs ≤ p.past →
+            S.given source.new + all_passes (R.charge self.old.runs) (R.copied self.old.runs) self.old.start
+            ≤ S.given source.old + all_passes (R.charge self.old.runs) (R.copied self.old.runs) self.new.start + 48)) }
+        ensures calls { (S.reads source.new - S.reads source.old) + (O.writes output.new - O.writes output.old)
+            ≤ 4 * ((S.given source.new - S.given source.old) + (length (O.written output.new) - length
+            (O.written output.old))) + 24 }
+        ensures turns { m.new.turns.number
+            ≤ m.old.turns.number + 6
+            * ((S.given source.new - S.given source.old) + (length (O.written output.new) - length
+            (O.written output.old))) + 32 + 3 * R.one self.old.runs }
+        ensures words { IfOk
+            result (λ o. IfSome o
+            (λ p. m.new.turns.number
+            ≤ m.old.turns.number + 6
+            * ((S.given source.new - S.given source.old) + (length (O.written output.new) - length
+            (O.written output.old))) + 32 + piece_words (R.one self.old.runs) (R.count self.old.runs) p.past)) }
         ensures faults { S.read_faults source.old ≤ S.read_faults source.new }
         ensures write_faults { O.write_faults output.old ≤ O.write_faults output.new }
-        ensures clean { OnOk result ((S.read_faults source.new ≡ S.read_faults source.old) × (O.write_faults output.new ≡ O.write_faults output.old)) }
-        ensures full_faults { has_failed self.old.stage ≡ false → O.full_faults output.new ≡ O.full_faults output.old + full_cut result }
-        ensures full { has_failed self.old.stage ≡ false → full_cut result ≡ 1 → IsTrue (O.is_full output.new) × (length (O.written output.new) < length (O.written output.old) + self.old.limit) }
-        ensures cause { IfErr result (λ e. (self.old.stage ≡ Stage.Failed e) ⊎ HasCause e S.tells (S.read_faults source.old) (S.read_faults source.new) (O.write_faults output.old) (O.write_faults output.new)) }
+        ensures clean { OnOk result ((S.read_faults source.new ≡ S.read_faults source.old) ×
+            (O.write_faults output.new ≡ O.write_faults output.old)) }
+        ensures full_faults { has_failed self.old.stage ≡ false → O.full_faults output.new
+            ≡ O.full_faults output.old + full_cut result }
+        ensures full { has_failed self.old.stage ≡ false → full_cut result ≡ 1 → IsTrue (O.is_full output.new) ×
+            (length (O.written output.new) < length (O.written output.old) + self.old.limit) }
+        ensures cause { IfErr result (λ e. (self.old.stage ≡ Stage.Failed e) ⊎
+            HasCause e S.tells (S.read_faults source.old) (S.read_faults source.new) (O.write_faults output.old)
+            (O.write_faults output.new)) }
     {
         'steps: loop {
             m.tick();
@@ -200,33 +273,61 @@ impl<R: BlockRuns + Drop> Cutter<R> {
     ) -> Result<Option<Piece>, PieceFault>
         requires unbegun { is_begun self.old.stage ≡ false }
         requires opened { IsTrue S.tells → R.opened self.old.runs (S.content source.old) }
-        requires told { IsTrue S.tells → ToldCutter (R.place self.old.runs (S.content source.old)) (R.together self.old.runs (S.content source.old)) (R.size self.old.runs) (R.list self.old.runs (S.content source.old)) self.old.limit self.old.made self.old.start self.old.stage }
+        requires told { IsTrue S.tells → ToldCutter (R.place self.old.runs (S.content source.old))
+            (R.together self.old.runs (S.content source.old)) (R.size self.old.runs)
+            (R.list self.old.runs (S.content source.old)) self.old.limit self.old.made self.old.start self.old.stage }
         ensures runs { self.new.runs ≡ self.old.runs }
         ensures limit { self.new.limit ≡ self.old.limit }
         ensures content { IsTrue S.tells → S.content source.new ≡ S.content source.old }
         ensures frame { S.read_frame source.new ≡ S.read_frame source.old }
-        ensures told { IsTrue S.tells → ToldCutter (R.place self.old.runs (S.content source.old)) (R.together self.old.runs (S.content source.old)) (R.size self.old.runs) (R.list self.old.runs (S.content source.old)) self.new.limit self.new.made self.new.start self.new.stage }
+        ensures told { IsTrue S.tells → ToldCutter (R.place self.old.runs (S.content source.old))
+            (R.together self.old.runs (S.content source.old)) (R.size self.old.runs)
+            (R.list self.old.runs (S.content source.old)) self.new.limit self.new.made self.new.start self.new.stage }
         ensures unbegun { is_begun self.new.stage ≡ false }
-        ensures passed { IfOk result (λ o. IfSome o (λ p. Passed (R.count self.old.runs) p.first p.past self.new.stage)) }
+        ensures passed { IfOk
+            result (λ o. IfSome o (λ p. Passed (R.count self.old.runs) p.first p.past self.new.stage)) }
         ensures least { IfOk result (λ o. IfSome o (λ p. 28 ≤ p.bytes)) }
-        ensures piece { IfOk result (λ o. IfSome o (λ p. (p.first ≡ self.old.start.block) × (p.past ≡ self.new.start.block) × (p.bytes ≤ self.old.limit) × (self.new.made ≡ self.old.made + 1))) }
-        ensures exact { IsTrue S.tells → IfOk result (λ o. IfSome o (λ p. IsPiece (R.size self.old.runs) (R.list self.old.runs (S.content source.old)) p)) }
-        ensures greatest { IsTrue S.tells → IfOk result (λ o. IfSome o (λ p. FirstPiece (R.size self.old.runs) (R.list self.old.runs (S.content source.old)) self.old.limit p.first p.past)) }
-        ensures none { IfOk result (λ o. IfNone o ((self.old.stage ≡ Stage.Done) × (source.new ≡ source.old) × (self.new ≡ self.old))) }
-        ensures again { (f : PieceFault) → self.old.stage ≡ Stage.Failed f → (result ≡ Err f) × (source.new ≡ source.old) }
+        ensures piece { IfOk
+            result (λ o. IfSome o (λ p. (p.first ≡ self.old.start.block) × (p.past ≡ self.new.start.block) ×
+            (p.bytes ≤ self.old.limit) × (self.new.made ≡ self.old.made + 1))) }
+        ensures exact { IsTrue S.tells →
+            IfOk
+            result (λ o. IfSome o (λ p. IsPiece (R.size self.old.runs) (R.list self.old.runs (S.content source.old))
+            p)) }
+        ensures greatest { IsTrue S.tells →
+            IfOk
+            result (λ o. IfSome o (λ p. FirstPiece (R.size self.old.runs) (R.list self.old.runs (S.content source.old))
+            self.old.limit p.first p.past)) }
+        ensures none { IfOk result (λ o. IfNone o ((self.old.stage ≡ Stage.Done) × (source.new ≡ source.old) ×
+            (self.new ≡ self.old))) }
+        ensures again { (f : PieceFault) → self.old.stage ≡ Stage.Failed f → (result ≡ Err f) ×
+            (source.new ≡ source.old) }
         ensures refused { IfErr result (λ e. self.new.stage ≡ Stage.Failed e) }
-        ensures charged { IfOk result (λ o. IfSome o (λ p. S.given source.new + R.charge self.old.runs self.old.start ≤ S.given source.old + R.charge self.old.runs self.new.start + 48 + R.one self.old.runs)) }
-        ensures charged_end { IfOk result (λ o. IfSome o (λ p. R.count self.old.runs ≤ p.past → S.given source.new + R.charge self.old.runs self.old.start ≤ S.given source.old + R.charge self.old.runs self.new.start + 16)) }
-        ensures takes { IfOk result (λ o. IfSome o (λ p. p.bytes + R.taken self.old.runs self.old.start ≤ R.taken self.old.runs self.new.start + 80)) }
+        ensures charged { IfOk result (λ o. IfSome o (λ p. S.given source.new + R.charge self.old.runs self.old.start
+            ≤ S.given source.old + R.charge self.old.runs self.new.start + 48 + R.one self.old.runs)) }
+        ensures charged_end { IfOk
+            result (λ o. IfSome o (λ p. R.count self.old.runs ≤ p.past →
+            S.given source.new + R.charge self.old.runs self.old.start ≤ S.given source.old + R.charge self.old.runs
+            self.new.start + 16)) }
+        ensures takes { IfOk
+            result (λ o. IfSome o (λ p. p.bytes + R.taken self.old.runs self.old.start
+            ≤ R.taken self.old.runs self.new.start + 80)) }
         ensures given { S.given source.old ≤ S.given source.new }
-        ensures steps { S.given source.new + 65536 * m.old.steps.number ≤ S.given source.old + 65536 * m.new.steps.number }
+        ensures steps { S.given source.new + 65536 * m.old.steps.number
+            ≤ S.given source.old + 65536 * m.new.steps.number }
         ensures received { m.new.greatest.number ≤ max m.old.greatest.number 65536 }
         ensures calls { S.reads source.new ≤ S.reads source.old + 3 * (S.given source.new - S.given source.old) + 2 }
-        ensures turns { m.new.turns.number ≤ m.old.turns.number + 5 * (S.given source.new - S.given source.old) + 2 + 2 * R.one self.old.runs }
-        ensures words { IfOk result (λ o. IfSome o (λ p. m.new.turns.number ≤ m.old.turns.number + 5 * (S.given source.new - S.given source.old) + 2 + piece_words (R.one self.old.runs) (R.count self.old.runs) p.past)) }
+        ensures turns { m.new.turns.number
+            ≤ m.old.turns.number + 5 * (S.given source.new - S.given source.old) + 2 + 2 * R.one self.old.runs }
+        ensures words { IfOk
+            result (λ o. IfSome o
+            (λ p. m.new.turns.number
+            ≤ m.old.turns.number + 5 * (S.given source.new - S.given source.old) + 2 + piece_words (R.one self.old.runs)
+            (R.count self.old.runs) p.past)) }
         ensures faults { S.read_faults source.old ≤ S.read_faults source.new }
         ensures clean { OnOk result (S.read_faults source.new ≡ S.read_faults source.old) }
-        ensures cause { IfErr result (λ e. (self.old.stage ≡ Stage.Failed e) ⊎ HasCause e S.tells (S.read_faults source.old) (S.read_faults source.new) 0 0) }
+        ensures cause { IfErr result (λ e. (self.old.stage ≡ Stage.Failed e) ⊎
+            HasCause e S.tells (S.read_faults source.old) (S.read_faults source.new) 0 0) }
     {
         match self.stage {
             Stage::Done => return Ok(None),
@@ -243,7 +344,9 @@ impl<R: BlockRuns + Drop> Cutter<R> {
 /// With so many pieces made, and one more where there is more, no way to divide the image within
 /// the limit has fewer pieces.
 pub fn no_fewer_pieces()
-    ensures { (b limit made s : ℕ) (l : List Block) (st : Stage) (parts : List (List Block)) → Made b limit l made (segments_left b limit l s st) → Division limit b l parts → made + (if has_more st then 1 else 0) ≤ length parts }
+    ensures { (b limit made s : ℕ) (l : List Block) (st : Stage) (parts : List (List Block)) →
+        Made b limit l made (segments_left b limit l s st) → Division limit b l parts →
+        made + (if has_more st then 1 else 0) ≤ length parts }
 {}
 
 /// What a cutter writes next, with so many pieces made, is the one behind them of all pieces of the

@@ -42,7 +42,8 @@ pub fn outlined(planner: &Planner, count: u32, size: u32) -> Outline
     ensures bytes { result.piece.bytes ≤ planner.now.weight }
     ensures least { 28 ≤ result.piece.bytes }
     ensures longer { result.piece.bytes ≤ planner.now.contents.bytes + 12 }
-    ensures exact { (l : List Block) → length l ≡ count → AreBlocks size l → Planned size l planner.now → IsOutline size l result }
+    ensures exact { (l : List Block) → length l ≡ count → AreBlocks size l → Planned size l planner.now →
+        IsOutline size l result }
 {
     let contents = whole(planner, count, size);
     Outline {
@@ -62,7 +63,9 @@ fn whole(planner: &Planner, count: u32, size: u32) -> Contents
     requires even { Even planner.now }
     requires room { planner.now.weight < 2 ^ 32 }
     requires within { planner.now.at.block ≤ count }
-    ensures more { planner.now.at.block < count → result ≡ with_part planner.now.contents (last_kind planner.now.tail planner.now.at.block) RunKind.Skip (count - planner.now.at.block) size }
+    ensures more { planner.now.at.block < count →
+        result ≡ with_part planner.now.contents (last_kind planner.now.tail planner.now.at.block) RunKind.Skip
+        (count - planner.now.at.block) size }
     ensures same { count ≤ planner.now.at.block → result ≡ planner.now.contents }
     ensures bytes { result.bytes ≤ planner.now.weight }
     ensures least { 28 ≤ result.bytes }

@@ -1,11 +1,16 @@
 //! One step of cutting: a part of a plan, the header of a piece, or a part of its chunks.
-ghost use Rattle.std.specs.Prelude.{◌≡◌, ◌<◌, ◌≤◌, ◌+◌, ◌-◌, ◌*◌, ◌^◌, ◌++◌, ℕ, List, IsTrue, IfOk, IfErr, OnOk, OnErr, Ok, Err, length, take, drop, max, true, false, ◌⊎◌};
+ghost use Rattle.std.specs.Prelude.{◌≡◌, ◌<◌, ◌≤◌, ◌+◌, ◌-◌, ◌*◌, ◌^◌, ◌++◌, ℕ, List, IsTrue, IfOk, IfErr, OnOk};
+ghost use Rattle.std.specs.Prelude.{OnErr, Ok, Err, length, take, drop, max, true, false, ◌⊎◌};
 ghost use Rattle.abt_sparse.specs.Block.{Block, AreBlocks};
 ghost use Rattle.abt_sparse.specs.Chunk.{header_record, plain_header};
 ghost use Rattle.abt_pieces.specs.Fault.{HasCause, full_cut};
 ghost use Rattle.abt_pieces.specs.Plan.{Planned, Even, FirstPiece, last_words};
 ghost use Rattle.abt_pieces.specs.Outline.{IsPiece, IsOutline, piece_at};
-ghost use Rattle.abt_pieces.specs.Cutter.{SoundPlanner, SoundOutline, SoundWriting, SoundStage, SoundCutter, TakenPlan, TakenStage, silent_cut, cut_words, piece_words, ToldPlanner, ToldWriting, ToldStage, ToldCutter, Passed, is_more, OnMore, OnEnd, OnPiece, coming, is_begun, so_far, has_failed, first_writer, planned_left, cut_left};
+ghost use Rattle.abt_pieces.specs.Cutter.{SoundPlanner, SoundOutline, SoundWriting, SoundStage, SoundCutter};
+ghost use Rattle.abt_pieces.specs.Cutter.{TakenPlan, TakenStage, silent_cut, cut_words, piece_words, ToldPlanner};
+ghost use Rattle.abt_pieces.specs.Cutter.{ToldWriting, ToldStage, ToldCutter, Passed, is_more, OnMore, OnEnd};
+ghost use Rattle.abt_pieces.specs.Cutter.{OnPiece, coming, is_begun, so_far, has_failed, first_writer, planned_left};
+ghost use Rattle.abt_pieces.specs.Cutter.{cut_left};
 ghost use Rattle.abt_pieces.specs.Image.{Appended, Leads, IsImage, StageMayCome};
 ghost use Rattle.abt_pieces.specs.SpentStage.{SpentPlan, SpentStage, SpentPiece};
 ghost use Rattle.abt_pieces.specs.declared.stage.Stage.{Stage};
@@ -29,11 +34,15 @@ impl<R: BlockRuns + Drop> Cutter<R> {
         requires even { Even planner.now }
         requires room { planner.now.weight ≤ self.now.limit }
         requires at { R.within self.now.runs planner.now.at }
-        ensures sound { IfOk result (λ o. SoundOutline (R.within self.now.runs) (R.count self.now.runs) self.now.limit planner.now.first o) }
-        ensures exact { IfOk result (λ o. (l : List Block) → length l ≡ R.count self.now.runs → AreBlocks (R.size self.now.runs) l → Planned (R.size self.now.runs) l planner.now → IsOutline (R.size self.now.runs) l o) }
+        ensures sound { IfOk result (λ o. SoundOutline (R.within self.now.runs) (R.count self.now.runs) self.now.limit
+            planner.now.first o) }
+        ensures exact { IfOk result (λ o. (l : List Block) → length l ≡ R.count self.now.runs →
+            AreBlocks (R.size self.now.runs) l → Planned (R.size self.now.runs) l planner.now →
+            IsOutline (R.size self.now.runs) l o) }
         ensures longer { IfOk result (λ o. o.piece.bytes ≤ planner.now.contents.bytes + 12) }
         ensures next { IfOk result (λ o. (o.next ≡ planner.now.at) × (o.piece.past ≡ planner.now.at.block)) }
-        ensures refused { IfErr result (λ e. (e ≡ PieceFault.SourceChanged) × (planner.now.first ≡ planner.now.at.block) × (planner.now.at.block < R.count self.now.runs)) }
+        ensures refused { IfErr result (λ e. (e ≡ PieceFault.SourceChanged) × (planner.now.first ≡ planner.now.at.block)
+            × (planner.now.at.block < R.count self.now.runs)) }
     {
         let _limit = self.limit;
         let count = self.runs.blocks();
@@ -49,7 +58,8 @@ impl<R: BlockRuns + Drop> Cutter<R> {
     /// Goes behind a piece that is whole.
     pub(crate) fn pass(&mut self, outline: Outline) -> Piece
         requires few { self.old.made ≤ self.old.start.block }
-        requires outline { SoundOutline (R.within self.old.runs) (R.count self.old.runs) self.old.limit self.old.start.block outline }
+        requires outline { SoundOutline (R.within self.old.runs) (R.count self.old.runs) self.old.limit
+            self.old.start.block outline }
         ensures runs { self.new.runs ≡ self.old.runs }
         ensures limit { self.new.limit ≡ self.old.limit }
         ensures piece { result ≡ outline.piece }
@@ -74,7 +84,8 @@ impl<R: BlockRuns + Drop> Cutter<R> {
         requires few { self.old.made ≤ self.old.start.block }
         ensures fault { result ≡ fault }
         ensures stage { self.new.stage ≡ Stage.Failed fault }
-        ensures rest { (self.new.runs ≡ self.old.runs) × (self.new.limit ≡ self.old.limit) × (self.new.start ≡ self.old.start) × (self.new.made ≡ self.old.made) }
+        ensures rest { (self.new.runs ≡ self.old.runs) × (self.new.limit ≡ self.old.limit) ×
+            (self.new.start ≡ self.old.start) × (self.new.made ≡ self.old.made) }
     {
         self.stage = Stage::Failed(fault);
         fault
@@ -93,33 +104,55 @@ impl<R: BlockRuns + Drop> Cutter<R> {
         requires sound { SoundPlanner (R.within self.old.runs) self.old.limit self.old.start.block from }
         requires taken { TakenPlan (R.taken self.old.runs) (R.size self.old.runs) self.old.limit self.old.start from }
         requires opened { IsTrue S.tells → R.opened self.old.runs (S.content source.old) }
-        requires told { IsTrue S.tells → ToldPlanner (R.place self.old.runs (S.content source.old)) (R.size self.old.runs) (R.list self.old.runs (S.content source.old)) from }
+        requires told { IsTrue S.tells → ToldPlanner (R.place self.old.runs (S.content source.old))
+            (R.size self.old.runs) (R.list self.old.runs (S.content source.old)) from }
         ensures runs { self.new.runs ≡ self.old.runs }
-        ensures rest { (self.new.limit ≡ self.old.limit) × (self.new.start ≡ self.old.start) × (self.new.made ≡ self.old.made) }
+        ensures rest { (self.new.limit ≡ self.old.limit) × (self.new.start ≡ self.old.start) ×
+            (self.new.made ≡ self.old.made) }
         ensures content { IsTrue S.tells → S.content source.new ≡ S.content source.old }
         ensures frame { S.read_frame source.new ≡ S.read_frame source.old }
         ensures more { IfOk result (λ r. r ≡ PieceProgress.More) }
         ensures begun { OnOk result ((is_begun self.new.stage ≡ true) × (so_far self.new.stage ≡ 0)) }
-        ensures sound { OnOk result (SoundStage (R.within self.old.runs) (R.reach self.old.runs) (R.count self.old.runs) (R.size self.old.runs) self.old.limit self.old.start.block self.new.stage) }
-        ensures told { IsTrue S.tells → OnOk result (ToldStage (R.place self.old.runs (S.content source.old)) (R.together self.old.runs (S.content source.old)) (R.size self.old.runs) (R.list self.old.runs (S.content source.old)) self.old.limit self.old.start.block self.new.stage) }
-        ensures coming { IsTrue S.tells → OnOk result (coming (R.size self.old.runs) self.old.limit (R.list self.old.runs (S.content source.old)) self.old.start.block self.new.stage ≡ piece_at (R.size self.old.runs) self.old.limit (R.list self.old.runs (S.content source.old)) self.old.start.block) }
-        ensures comes { OnOk result ((t : List ℕ) → StageMayCome (R.size self.old.runs) (R.count self.old.runs) self.new.stage t → IsImage (R.size self.old.runs) (R.count self.old.runs) t) }
-        ensures left { OnOk result (cut_left (R.left self.old.runs) (R.count self.old.runs) self.old.start self.new.stage < planned_left (R.left self.old.runs) self.old.start + R.left self.old.runs from.at) }
+        ensures sound { OnOk result (SoundStage (R.within self.old.runs) (R.reach self.old.runs) (R.count self.old.runs)
+            (R.size self.old.runs) self.old.limit self.old.start.block self.new.stage) }
+        ensures told { IsTrue S.tells →
+            OnOk result (ToldStage (R.place self.old.runs (S.content source.old))
+            (R.together self.old.runs (S.content source.old)) (R.size self.old.runs)
+            (R.list self.old.runs (S.content source.old)) self.old.limit self.old.start.block self.new.stage) }
+        ensures coming { IsTrue S.tells →
+            OnOk result (coming (R.size self.old.runs) self.old.limit (R.list self.old.runs (S.content source.old))
+            self.old.start.block self.new.stage ≡ piece_at (R.size self.old.runs) self.old.limit
+            (R.list self.old.runs (S.content source.old)) self.old.start.block) }
+        ensures comes { OnOk result ((t : List ℕ) → StageMayCome (R.size self.old.runs) (R.count self.old.runs)
+            self.new.stage t → IsImage (R.size self.old.runs) (R.count self.old.runs) t) }
+        ensures left { OnOk result (cut_left (R.left self.old.runs) (R.count self.old.runs) self.old.start
+            self.new.stage < planned_left (R.left self.old.runs) self.old.start + R.left self.old.runs from.at) }
         ensures refused { IfErr result (λ e. self.new.stage ≡ Stage.Failed e) }
         ensures given { S.given source.old ≤ S.given source.new }
         ensures received { S.given source.new ≤ S.given source.old + 65536 }
         ensures steps { m.new.steps.number ≡ m.old.steps.number + 1 }
         ensures greatest { m.new.greatest.number ≡ max m.old.greatest.number (S.given source.new - S.given source.old) }
-        ensures taken { OnOk result (TakenStage (R.taken self.old.runs) (R.size self.old.runs) self.old.limit self.old.start self.new.stage) }
-        ensures paid { OnOk result (silent_cut (R.count self.old.runs) self.new.stage < 6 + (S.given source.new - S.given source.old)) }
-        ensures spends { (t : ℕ) → SpentPlan (R.charge self.old.runs) (R.copied self.old.runs) (R.size self.old.runs) self.old.limit self.old.start t from → OnOk result (SpentStage (λ c. R.within self.old.runs c × R.place self.old.runs (S.content source.old) c) (R.charge self.old.runs) (R.copied self.old.runs) (R.held self.old.runs) (R.size self.old.runs) self.old.limit (R.count self.old.runs) (R.one self.old.runs) self.old.start (t + (S.given source.new - S.given source.old)) self.new.stage) }
+        ensures taken { OnOk result (TakenStage (R.taken self.old.runs) (R.size self.old.runs) self.old.limit
+            self.old.start self.new.stage) }
+        ensures paid { OnOk result (silent_cut (R.count self.old.runs) self.new.stage
+            < 6 + (S.given source.new - S.given source.old)) }
+        ensures spends { (t : ℕ) → SpentPlan (R.charge self.old.runs) (R.copied self.old.runs) (R.size self.old.runs)
+            self.old.limit self.old.start t from →
+            OnOk result (SpentStage (λ c. R.within self.old.runs c × R.place self.old.runs (S.content source.old) c)
+            (R.charge self.old.runs) (R.copied self.old.runs) (R.held self.old.runs) (R.size self.old.runs)
+            self.old.limit (R.count self.old.runs) (R.one self.old.runs) self.old.start
+            (t + (S.given source.new - S.given source.old)) self.new.stage) }
         ensures calls { S.reads source.new ≤ S.reads source.old + (S.given source.new - S.given source.old) + 2 }
-        ensures turns { m.new.turns.number + last_words (R.one self.old.runs) (R.count self.old.runs) from.at.block ≤ m.old.turns.number + 2 * (S.given source.new - S.given source.old) + 3 + 3 * R.one self.old.runs }
-        ensures words { OnOk result (m.new.turns.number + last_words (R.one self.old.runs) (R.count self.old.runs) from.at.block ≤ m.old.turns.number + 2 * (S.given source.new - S.given source.old) + 3 + cut_words (R.one self.old.runs) (R.count self.old.runs) self.old.start self.new.stage) }
+        ensures turns { m.new.turns.number + last_words (R.one self.old.runs) (R.count self.old.runs) from.at.block
+            ≤ m.old.turns.number + 2 * (S.given source.new - S.given source.old) + 3 + 3 * R.one self.old.runs }
+        ensures words { OnOk result (m.new.turns.number + last_words (R.one self.old.runs) (R.count self.old.runs)
+            from.at.block ≤ m.old.turns.number + 2 * (S.given source.new - S.given source.old) + 3 + cut_words
+            (R.one self.old.runs) (R.count self.old.runs) self.old.start self.new.stage) }
         ensures faults { S.read_faults source.old ≤ S.read_faults source.new }
         ensures clean { OnOk result (S.read_faults source.new ≡ S.read_faults source.old) }
         ensures unwritten { full_cut result ≡ 0 }
-        ensures cause { IfErr result (λ e. HasCause e S.tells (S.read_faults source.old) (S.read_faults source.new) 0 0) }
+        ensures cause { IfErr result (λ e. HasCause e S.tells (S.read_faults source.old) (S.read_faults source.new) 0
+            0) }
     {
         let mut planner = from;
         let limit = self.limit;
@@ -148,7 +181,8 @@ impl<R: BlockRuns + Drop> Cutter<R> {
     ) -> Result<(), PieceFault>
         requires at { self.old.stage ≡ Stage.Begin outline }
         ensures runs { self.new.runs ≡ self.old.runs }
-        ensures rest { (self.new.limit ≡ self.old.limit) × (self.new.start ≡ self.old.start) × (self.new.made ≡ self.old.made) }
+        ensures rest { (self.new.limit ≡ self.old.limit) × (self.new.start ≡ self.old.start) ×
+            (self.new.made ≡ self.old.made) }
         ensures small { self.old.limit < 2 ^ 32 }
         ensures fits { (R.size self.old.runs < 2 ^ 32) × (R.count self.old.runs < 2 ^ 32) × (outline.chunks < 2 ^ 32) }
         ensures write_frame { O.write_frame output.new ≡ O.write_frame output.old }
@@ -156,17 +190,23 @@ impl<R: BlockRuns + Drop> Cutter<R> {
         ensures grown { length (O.written output.old) ≤ length (O.written output.new) }
         ensures within { length (O.written output.new) ≤ length (O.written output.old) + 28 }
         ensures whole { OnOk result (length (O.written output.new) ≡ length (O.written output.old) + 28) }
-        ensures front { O.written output.new ≡ O.written output.old ++ take (length (O.written output.new) - length (O.written output.old)) (header_record (plain_header (R.size self.old.runs) (R.count self.old.runs) outline.chunks)) }
+        ensures front { O.written output.new ≡ O.written output.old ++ take
+            (length (O.written output.new) - length (O.written output.old))
+            (header_record (plain_header (R.size self.old.runs) (R.count self.old.runs) outline.chunks)) }
         ensures refused { IfErr result (λ e. self.new.stage ≡ Stage.Failed e) }
         ensures steps { m.new.steps.number ≡ m.old.steps.number + 1 }
         ensures greatest { m.new.greatest.number ≡ m.old.greatest.number }
-        ensures write_calls { O.writes output.new + length (O.written output.old) ≤ O.writes output.old + length (O.written output.new) + 1 }
-        ensures turns { m.new.turns.number + length (O.written output.old) ≤ m.old.turns.number + length (O.written output.new) + 1 }
+        ensures write_calls { O.writes output.new + length (O.written output.old) ≤ O.writes output.old + length
+            (O.written output.new) + 1 }
+        ensures turns { m.new.turns.number + length (O.written output.old) ≤ m.old.turns.number + length
+            (O.written output.new) + 1 }
         ensures write_faults { O.write_faults output.old ≤ O.write_faults output.new }
         ensures clean { OnOk result (O.write_faults output.new ≡ O.write_faults output.old) }
         ensures full_faults { O.full_faults output.new ≡ O.full_faults output.old + full_cut result }
-        ensures full { full_cut result ≡ 1 → IsTrue (O.is_full output.new) × (length (O.written output.new) < length (O.written output.old) + 28) }
-        ensures cause { IfErr result (λ e. HasCause e true 0 0 (O.write_faults output.old) (O.write_faults output.new)) }
+        ensures full { full_cut result ≡ 1 → IsTrue (O.is_full output.new) ×
+            (length (O.written output.new) < length (O.written output.old) + 28) }
+        ensures cause { IfErr result (λ e. HasCause e true 0 0 (O.write_faults output.old)
+            (O.write_faults output.new)) }
     {
         let _limit = self.limit;
         let _chunks = outline.chunks;
@@ -196,50 +236,109 @@ impl<R: BlockRuns + Drop> Cutter<R> {
     ) -> Result<PieceProgress, PieceFault>
         requires at { self.old.stage ≡ Stage.Write outline from }
         requires opened { IsTrue S.tells → R.opened self.old.runs (S.content source.old) }
-        requires told { IsTrue S.tells → ToldCutter (R.place self.old.runs (S.content source.old)) (R.together self.old.runs (S.content source.old)) (R.size self.old.runs) (R.list self.old.runs (S.content source.old)) self.old.limit self.old.made self.old.start self.old.stage }
+        requires told { IsTrue S.tells → ToldCutter (R.place self.old.runs (S.content source.old))
+            (R.together self.old.runs (S.content source.old)) (R.size self.old.runs)
+            (R.list self.old.runs (S.content source.old)) self.old.limit self.old.made self.old.start self.old.stage }
         ensures runs { self.new.runs ≡ self.old.runs }
         ensures limit { self.new.limit ≡ self.old.limit }
         ensures content { IsTrue S.tells → S.content source.new ≡ S.content source.old }
         ensures frame { S.read_frame source.new ≡ S.read_frame source.old }
         ensures write_frame { O.write_frame output.new ≡ O.write_frame output.old }
-        ensures told { IsTrue S.tells → ToldCutter (R.place self.old.runs (S.content source.old)) (R.together self.old.runs (S.content source.old)) (R.size self.old.runs) (R.list self.old.runs (S.content source.old)) self.new.limit self.new.made self.new.start self.new.stage }
+        ensures told { IsTrue S.tells → ToldCutter (R.place self.old.runs (S.content source.old))
+            (R.together self.old.runs (S.content source.old)) (R.size self.old.runs)
+            (R.list self.old.runs (S.content source.old)) self.new.limit self.new.made self.new.start self.new.stage }
         ensures begun { is_begun self.new.stage ≡ is_more result }
         ensures more { OnMore result ((self.new.start ≡ self.old.start) × (self.new.made ≡ self.old.made)) }
         ensures grown { length (O.written output.old) ≤ length (O.written output.new) }
-        ensures within { so_far self.old.stage + (length (O.written output.new) - length (O.written output.old)) ≤ self.old.limit }
-        ensures counted { OnMore result (so_far self.new.stage ≡ so_far self.old.stage + (length (O.written output.new) - length (O.written output.old))) }
-        ensures few { length (O.written output.new) ≤ length (O.written output.old) + (S.given source.new - S.given source.old) + 80 }
-        ensures front { IsTrue S.tells → O.written output.new ≡ O.written output.old ++ take (length (O.written output.new) - length (O.written output.old)) (coming (R.size self.old.runs) self.old.limit (R.list self.old.runs (S.content source.old)) self.old.start.block self.old.stage) }
-        ensures rest { IsTrue S.tells → OnMore result (coming (R.size self.old.runs) self.old.limit (R.list self.old.runs (S.content source.old)) self.old.start.block self.new.stage ≡ drop (length (O.written output.new) - length (O.written output.old)) (coming (R.size self.old.runs) self.old.limit (R.list self.old.runs (S.content source.old)) self.old.start.block self.old.stage)) }
-        ensures whole { IsTrue S.tells → OnPiece result (λ p. O.written output.new ≡ O.written output.old ++ coming (R.size self.old.runs) self.old.limit (R.list self.old.runs (S.content source.old)) self.old.start.block self.old.stage) }
-        ensures leads { OnMore result (Leads (StageMayCome (R.size self.old.runs) (R.count self.old.runs) self.old.stage) (StageMayCome (R.size self.old.runs) (R.count self.old.runs) self.new.stage) (O.written output.old) (O.written output.new)) }
-        ensures all { OnPiece result (λ p. Appended (StageMayCome (R.size self.old.runs) (R.count self.old.runs) self.old.stage) (O.written output.old) (O.written output.new)) }
+        ensures within { so_far self.old.stage + (length (O.written output.new) - length (O.written output.old))
+            ≤ self.old.limit }
+        ensures counted { OnMore result (so_far self.new.stage
+            ≡ so_far self.old.stage + (length (O.written output.new) - length (O.written output.old))) }
+        ensures few { length (O.written output.new)
+            ≤ length (O.written output.old) + (S.given source.new - S.given source.old) + 80 }
+        ensures front { IsTrue S.tells → O.written output.new ≡ O.written output.old ++ take
+            (length (O.written output.new) - length (O.written output.old))
+            (coming (R.size self.old.runs) self.old.limit (R.list self.old.runs (S.content source.old))
+            self.old.start.block self.old.stage) }
+        ensures rest { IsTrue S.tells →
+            OnMore result (coming (R.size self.old.runs) self.old.limit (R.list self.old.runs (S.content source.old))
+            self.old.start.block self.new.stage ≡ drop (length (O.written output.new) - length (O.written output.old))
+            (coming (R.size self.old.runs) self.old.limit (R.list self.old.runs (S.content source.old))
+            self.old.start.block self.old.stage)) }
+        ensures whole { IsTrue S.tells →
+            OnPiece result (λ p. O.written output.new ≡ O.written output.old ++ coming (R.size self.old.runs)
+            self.old.limit (R.list self.old.runs (S.content source.old)) self.old.start.block self.old.stage) }
+        ensures leads { OnMore
+            result (Leads (StageMayCome (R.size self.old.runs) (R.count self.old.runs) self.old.stage)
+            (StageMayCome (R.size self.old.runs) (R.count self.old.runs) self.new.stage) (O.written output.old)
+            (O.written output.new)) }
+        ensures all { OnPiece
+            result (λ p. Appended (StageMayCome (R.size self.old.runs) (R.count self.old.runs) self.old.stage)
+            (O.written output.old) (O.written output.new)) }
         ensures passed { OnPiece result (λ p. Passed (R.count self.old.runs) p.first p.past self.new.stage) }
         ensures least { OnPiece result (λ p. 28 ≤ p.bytes) }
-        ensures piece { OnPiece result (λ p. (p.first ≡ self.old.start.block) × (p.past ≡ self.new.start.block) × (p.bytes ≤ self.old.limit) × (p.bytes ≡ so_far self.old.stage + (length (O.written output.new) - length (O.written output.old))) × (self.new.made ≡ self.old.made + 1)) }
-        ensures exact { IsTrue S.tells → OnPiece result (λ p. IsPiece (R.size self.old.runs) (R.list self.old.runs (S.content source.old)) p × FirstPiece (R.size self.old.runs) (R.list self.old.runs (S.content source.old)) self.old.limit p.first p.past) }
-        ensures left { OnMore result (cut_left (R.left self.old.runs) (R.count self.old.runs) self.old.start self.new.stage < cut_left (R.left self.old.runs) (R.count self.old.runs) self.old.start self.old.stage) }
+        ensures piece { OnPiece result (λ p. (p.first ≡ self.old.start.block) × (p.past ≡ self.new.start.block) ×
+            (p.bytes ≤ self.old.limit) ×
+            (p.bytes ≡ so_far self.old.stage + (length (O.written output.new) - length (O.written output.old))) ×
+            (self.new.made ≡ self.old.made + 1)) }
+        ensures exact { IsTrue S.tells →
+            OnPiece result (λ p. IsPiece (R.size self.old.runs) (R.list self.old.runs (S.content source.old)) p ×
+            FirstPiece (R.size self.old.runs) (R.list self.old.runs (S.content source.old)) self.old.limit p.first
+            p.past) }
+        ensures left { OnMore result (cut_left (R.left self.old.runs) (R.count self.old.runs) self.old.start
+            self.new.stage < cut_left (R.left self.old.runs) (R.count self.old.runs) self.old.start self.old.stage) }
         ensures refused { IfErr result (λ e. self.new.stage ≡ Stage.Failed e) }
         ensures given { S.given source.old ≤ S.given source.new }
         ensures received { S.given source.new ≤ S.given source.old + 65536 }
         ensures steps { m.new.steps.number ≡ m.old.steps.number + 1 }
         ensures greatest { m.new.greatest.number ≡ max m.old.greatest.number (S.given source.new - S.given source.old) }
-        ensures takes { OnPiece result (λ p. p.bytes + R.taken self.old.runs self.old.start ≤ R.taken self.old.runs self.new.start + 80) }
-        ensures paid { OnMore result (silent_cut (R.count self.old.runs) self.new.stage < silent_cut (R.count self.old.runs) self.old.stage + (S.given source.new - S.given source.old) + (length (O.written output.new) - length (O.written output.old))) }
-        ensures spends { IsTrue S.tells → (t : ℕ) → SpentStage (λ c. R.within self.old.runs c × R.place self.old.runs (S.content source.old) c) (R.charge self.old.runs) (R.copied self.old.runs) (R.held self.old.runs) (R.size self.old.runs) self.old.limit (R.count self.old.runs) (R.one self.old.runs) self.old.start t self.old.stage → OnMore result (SpentStage (λ c. R.within self.old.runs c × R.place self.old.runs (S.content source.old) c) (R.charge self.old.runs) (R.copied self.old.runs) (R.held self.old.runs) (R.size self.old.runs) self.old.limit (R.count self.old.runs) (R.one self.old.runs) self.old.start (t + (S.given source.new - S.given source.old)) self.new.stage) }
-        ensures spent { IsTrue S.tells → (t : ℕ) → SpentStage (λ c. R.within self.old.runs c × R.place self.old.runs (S.content source.old) c) (R.charge self.old.runs) (R.copied self.old.runs) (R.held self.old.runs) (R.size self.old.runs) self.old.limit (R.count self.old.runs) (R.one self.old.runs) self.old.start t self.old.stage → OnPiece result (λ p. SpentPiece (R.charge self.old.runs) (R.copied self.old.runs) (R.count self.old.runs) (R.one self.old.runs) p.past self.new.start (t + (S.given source.new - S.given source.old))) }
+        ensures takes { OnPiece result (λ p. p.bytes + R.taken self.old.runs self.old.start
+            ≤ R.taken self.old.runs self.new.start + 80) }
+        ensures paid { OnMore result (silent_cut (R.count self.old.runs) self.new.stage
+            < silent_cut (R.count self.old.runs) self.old.stage + (S.given source.new - S.given source.old) + (length
+            (O.written output.new) - length (O.written output.old))) }
+        ensures spends { IsTrue S.tells → (t : ℕ) →
+            SpentStage (λ c. R.within self.old.runs c × R.place self.old.runs (S.content source.old) c)
+            (R.charge self.old.runs) (R.copied self.old.runs) (R.held self.old.runs) (R.size self.old.runs)
+            self.old.limit (R.count self.old.runs) (R.one self.old.runs) self.old.start t self.old.stage →
+            OnMore result (SpentStage (λ c. R.within self.old.runs c × R.place self.old.runs (S.content source.old) c)
+            (R.charge self.old.runs) (R.copied self.old.runs) (R.held self.old.runs) (R.size self.old.runs)
+            self.old.limit (R.count self.old.runs) (R.one self.old.runs) self.old.start
+            (t + (S.given source.new - S.given source.old)) self.new.stage) }
+        ensures spent { IsTrue S.tells → (t : ℕ) →
+            SpentStage (λ c. R.within self.old.runs c × R.place self.old.runs (S.content source.old) c)
+            (R.charge self.old.runs) (R.copied self.old.runs) (R.held self.old.runs) (R.size self.old.runs)
+            self.old.limit (R.count self.old.runs) (R.one self.old.runs) self.old.start t self.old.stage →
+            OnPiece result (λ p. SpentPiece (R.charge self.old.runs) (R.copied self.old.runs) (R.count self.old.runs)
+            (R.one self.old.runs) p.past self.new.start (t + (S.given source.new - S.given source.old))) }
         ensures calls { S.reads source.new ≤ S.reads source.old + (S.given source.new - S.given source.old) + 2 }
-        ensures write_calls { O.writes output.new + length (O.written output.old) ≤ O.writes output.old + length (O.written output.new) + 1 }
-        ensures turns { m.new.turns.number + cut_words (R.one self.old.runs) (R.count self.old.runs) self.old.start self.old.stage ≤ m.old.turns.number + 2 * (S.given source.new - S.given source.old) + (length (O.written output.new) - length (O.written output.old)) + 3 + 3 * R.one self.old.runs }
-        ensures words { OnMore result (m.new.turns.number + cut_words (R.one self.old.runs) (R.count self.old.runs) self.old.start self.old.stage ≤ m.old.turns.number + 2 * (S.given source.new - S.given source.old) + (length (O.written output.new) - length (O.written output.old)) + 3 + cut_words (R.one self.old.runs) (R.count self.old.runs) self.new.start self.new.stage) }
-        ensures piece_words { OnPiece result (λ p. m.new.turns.number + cut_words (R.one self.old.runs) (R.count self.old.runs) self.old.start self.old.stage ≤ m.old.turns.number + 2 * (S.given source.new - S.given source.old) + (length (O.written output.new) - length (O.written output.old)) + 3 + piece_words (R.one self.old.runs) (R.count self.old.runs) p.past) }
+        ensures write_calls { O.writes output.new + length (O.written output.old) ≤ O.writes output.old + length
+            (O.written output.new) + 1 }
+        ensures turns { m.new.turns.number + cut_words (R.one self.old.runs) (R.count self.old.runs) self.old.start
+            self.old.stage
+            ≤ m.old.turns.number + 2 * (S.given source.new - S.given source.old) + (length
+            (O.written output.new) - length (O.written output.old)) + 3 + 3 * R.one self.old.runs }
+        ensures words { OnMore result (m.new.turns.number + cut_words (R.one self.old.runs) (R.count self.old.runs)
+            self.old.start self.old.stage
+            ≤ m.old.turns.number + 2 * (S.given source.new - S.given source.old) + (length
+            (O.written output.new) - length (O.written output.old)) + 3 + cut_words (R.one self.old.runs)
+            (R.count self.old.runs) self.new.start self.new.stage) }
+        ensures piece_words { OnPiece result (λ p. m.new.turns.number + cut_words (R.one self.old.runs)
+            (R.count self.old.runs) self.old.start self.old.stage
+            ≤ m.old.turns.number + 2 * (S.given source.new - S.given source.old) + (length
+            (O.written output.new) - length (O.written output.old)) + 3 + piece_words (R.one self.old.runs)
+            (R.count self.old.runs) p.past) }
         ensures faults { S.read_faults source.old ≤ S.read_faults source.new }
         ensures write_faults { O.write_faults output.old ≤ O.write_faults output.new }
-        ensures clean { OnOk result ((S.read_faults source.new ≡ S.read_faults source.old) × (O.write_faults output.new ≡ O.write_faults output.old)) }
+        ensures clean { OnOk result ((S.read_faults source.new ≡ S.read_faults source.old) ×
+            (O.write_faults output.new ≡ O.write_faults output.old)) }
         ensures full_faults { O.full_faults output.new ≡ O.full_faults output.old + full_cut result }
-        ensures full { full_cut result ≡ 1 → IsTrue (O.is_full output.new) × (so_far self.old.stage + (length (O.written output.new) - length (O.written output.old)) < self.old.limit) }
+        ensures full { full_cut result ≡ 1 → IsTrue (O.is_full output.new) ×
+            (so_far self.old.stage + (length (O.written output.new) - length (O.written output.old)) < self.old.limit) }
         ensures unended { OnEnd result ⊥ }
-        ensures cause { IfErr result (λ e. (self.old.stage ≡ Stage.Failed e) ⊎ HasCause e S.tells (S.read_faults source.old) (S.read_faults source.new) (O.write_faults output.old) (O.write_faults output.new)) }
+        ensures cause { IfErr result (λ e. (self.old.stage ≡ Stage.Failed e) ⊎
+            HasCause e S.tells (S.read_faults source.old) (S.read_faults source.new) (O.write_faults output.old)
+            (O.write_faults output.new)) }
     {
         let mut writer = from;
         match writer.step(&mut self.runs, source, output, w, m) {
@@ -265,52 +364,114 @@ impl<R: BlockRuns + Drop> Cutter<R> {
         m: &mut Meter,
     ) -> Result<PieceProgress, PieceFault>
         requires opened { IsTrue S.tells → R.opened self.old.runs (S.content source.old) }
-        requires told { IsTrue S.tells → ToldCutter (R.place self.old.runs (S.content source.old)) (R.together self.old.runs (S.content source.old)) (R.size self.old.runs) (R.list self.old.runs (S.content source.old)) self.old.limit self.old.made self.old.start self.old.stage }
+        requires told { IsTrue S.tells → ToldCutter (R.place self.old.runs (S.content source.old))
+            (R.together self.old.runs (S.content source.old)) (R.size self.old.runs)
+            (R.list self.old.runs (S.content source.old)) self.old.limit self.old.made self.old.start self.old.stage }
         ensures runs { self.new.runs ≡ self.old.runs }
         ensures limit { self.new.limit ≡ self.old.limit }
         ensures content { IsTrue S.tells → S.content source.new ≡ S.content source.old }
         ensures frame { S.read_frame source.new ≡ S.read_frame source.old }
         ensures write_frame { O.write_frame output.new ≡ O.write_frame output.old }
-        ensures told { IsTrue S.tells → ToldCutter (R.place self.old.runs (S.content source.old)) (R.together self.old.runs (S.content source.old)) (R.size self.old.runs) (R.list self.old.runs (S.content source.old)) self.new.limit self.new.made self.new.start self.new.stage }
+        ensures told { IsTrue S.tells → ToldCutter (R.place self.old.runs (S.content source.old))
+            (R.together self.old.runs (S.content source.old)) (R.size self.old.runs)
+            (R.list self.old.runs (S.content source.old)) self.new.limit self.new.made self.new.start self.new.stage }
         ensures begun { is_begun self.new.stage ≡ is_more result }
         ensures more { OnMore result ((self.new.start ≡ self.old.start) × (self.new.made ≡ self.old.made)) }
         ensures grown { length (O.written output.old) ≤ length (O.written output.new) }
-        ensures within { so_far self.old.stage + (length (O.written output.new) - length (O.written output.old)) ≤ self.old.limit }
-        ensures counted { OnMore result (so_far self.new.stage ≡ so_far self.old.stage + (length (O.written output.new) - length (O.written output.old))) }
-        ensures few { length (O.written output.new) ≤ length (O.written output.old) + (S.given source.new - S.given source.old) + 80 }
-        ensures front { IsTrue S.tells → O.written output.new ≡ O.written output.old ++ take (length (O.written output.new) - length (O.written output.old)) (coming (R.size self.old.runs) self.old.limit (R.list self.old.runs (S.content source.old)) self.old.start.block self.old.stage) }
-        ensures rest { IsTrue S.tells → OnMore result (coming (R.size self.old.runs) self.old.limit (R.list self.old.runs (S.content source.old)) self.old.start.block self.new.stage ≡ drop (length (O.written output.new) - length (O.written output.old)) (coming (R.size self.old.runs) self.old.limit (R.list self.old.runs (S.content source.old)) self.old.start.block self.old.stage)) }
-        ensures whole { IsTrue S.tells → OnPiece result (λ p. O.written output.new ≡ O.written output.old ++ coming (R.size self.old.runs) self.old.limit (R.list self.old.runs (S.content source.old)) self.old.start.block self.old.stage) }
-        ensures leads { OnMore result (Leads (StageMayCome (R.size self.old.runs) (R.count self.old.runs) self.old.stage) (StageMayCome (R.size self.old.runs) (R.count self.old.runs) self.new.stage) (O.written output.old) (O.written output.new)) }
-        ensures all { OnPiece result (λ p. Appended (StageMayCome (R.size self.old.runs) (R.count self.old.runs) self.old.stage) (O.written output.old) (O.written output.new)) }
+        ensures within { so_far self.old.stage + (length (O.written output.new) - length (O.written output.old))
+            ≤ self.old.limit }
+        ensures counted { OnMore result (so_far self.new.stage
+            ≡ so_far self.old.stage + (length (O.written output.new) - length (O.written output.old))) }
+        ensures few { length (O.written output.new)
+            ≤ length (O.written output.old) + (S.given source.new - S.given source.old) + 80 }
+        ensures front { IsTrue S.tells → O.written output.new ≡ O.written output.old ++ take
+            (length (O.written output.new) - length (O.written output.old))
+            (coming (R.size self.old.runs) self.old.limit (R.list self.old.runs (S.content source.old))
+            self.old.start.block self.old.stage) }
+        ensures rest { IsTrue S.tells →
+            OnMore result (coming (R.size self.old.runs) self.old.limit (R.list self.old.runs (S.content source.old))
+            self.old.start.block self.new.stage ≡ drop (length (O.written output.new) - length (O.written output.old))
+            (coming (R.size self.old.runs) self.old.limit (R.list self.old.runs (S.content source.old))
+            self.old.start.block self.old.stage)) }
+        ensures whole { IsTrue S.tells →
+            OnPiece result (λ p. O.written output.new ≡ O.written output.old ++ coming (R.size self.old.runs)
+            self.old.limit (R.list self.old.runs (S.content source.old)) self.old.start.block self.old.stage) }
+        ensures leads { OnMore
+            result (Leads (StageMayCome (R.size self.old.runs) (R.count self.old.runs) self.old.stage)
+            (StageMayCome (R.size self.old.runs) (R.count self.old.runs) self.new.stage) (O.written output.old)
+            (O.written output.new)) }
+        ensures all { OnPiece
+            result (λ p. Appended (StageMayCome (R.size self.old.runs) (R.count self.old.runs) self.old.stage)
+            (O.written output.old) (O.written output.new)) }
         ensures passed { OnPiece result (λ p. Passed (R.count self.old.runs) p.first p.past self.new.stage) }
         ensures least { OnPiece result (λ p. 28 ≤ p.bytes) }
-        ensures piece { OnPiece result (λ p. (p.first ≡ self.old.start.block) × (p.past ≡ self.new.start.block) × (p.bytes ≤ self.old.limit) × (p.bytes ≡ so_far self.old.stage + (length (O.written output.new) - length (O.written output.old))) × (self.new.made ≡ self.old.made + 1)) }
-        ensures exact { IsTrue S.tells → OnPiece result (λ p. IsPiece (R.size self.old.runs) (R.list self.old.runs (S.content source.old)) p × FirstPiece (R.size self.old.runs) (R.list self.old.runs (S.content source.old)) self.old.limit p.first p.past) }
-        ensures left { OnMore result (cut_left (R.left self.old.runs) (R.count self.old.runs) self.old.start self.new.stage < cut_left (R.left self.old.runs) (R.count self.old.runs) self.old.start self.old.stage) }
+        ensures piece { OnPiece result (λ p. (p.first ≡ self.old.start.block) × (p.past ≡ self.new.start.block) ×
+            (p.bytes ≤ self.old.limit) ×
+            (p.bytes ≡ so_far self.old.stage + (length (O.written output.new) - length (O.written output.old))) ×
+            (self.new.made ≡ self.old.made + 1)) }
+        ensures exact { IsTrue S.tells →
+            OnPiece result (λ p. IsPiece (R.size self.old.runs) (R.list self.old.runs (S.content source.old)) p ×
+            FirstPiece (R.size self.old.runs) (R.list self.old.runs (S.content source.old)) self.old.limit p.first
+            p.past) }
+        ensures left { OnMore result (cut_left (R.left self.old.runs) (R.count self.old.runs) self.old.start
+            self.new.stage < cut_left (R.left self.old.runs) (R.count self.old.runs) self.old.start self.old.stage) }
         ensures refused { IfErr result (λ e. self.new.stage ≡ Stage.Failed e) }
         ensures given { S.given source.old ≤ S.given source.new }
         ensures received { S.given source.new ≤ S.given source.old + 65536 }
         ensures steps { m.new.steps.number ≡ m.old.steps.number + 1 }
         ensures greatest { m.new.greatest.number ≡ max m.old.greatest.number (S.given source.new - S.given source.old) }
-        ensures takes { OnPiece result (λ p. p.bytes + R.taken self.old.runs self.old.start ≤ R.taken self.old.runs self.new.start + 80) }
-        ensures paid { OnMore result (silent_cut (R.count self.old.runs) self.new.stage < silent_cut (R.count self.old.runs) self.old.stage + (S.given source.new - S.given source.old) + (length (O.written output.new) - length (O.written output.old))) }
-        ensures spends { IsTrue S.tells → (t : ℕ) → SpentStage (λ c. R.within self.old.runs c × R.place self.old.runs (S.content source.old) c) (R.charge self.old.runs) (R.copied self.old.runs) (R.held self.old.runs) (R.size self.old.runs) self.old.limit (R.count self.old.runs) (R.one self.old.runs) self.old.start t self.old.stage → OnMore result (SpentStage (λ c. R.within self.old.runs c × R.place self.old.runs (S.content source.old) c) (R.charge self.old.runs) (R.copied self.old.runs) (R.held self.old.runs) (R.size self.old.runs) self.old.limit (R.count self.old.runs) (R.one self.old.runs) self.old.start (t + (S.given source.new - S.given source.old)) self.new.stage) }
-        ensures spent { IsTrue S.tells → (t : ℕ) → SpentStage (λ c. R.within self.old.runs c × R.place self.old.runs (S.content source.old) c) (R.charge self.old.runs) (R.copied self.old.runs) (R.held self.old.runs) (R.size self.old.runs) self.old.limit (R.count self.old.runs) (R.one self.old.runs) self.old.start t self.old.stage → OnPiece result (λ p. SpentPiece (R.charge self.old.runs) (R.copied self.old.runs) (R.count self.old.runs) (R.one self.old.runs) p.past self.new.start (t + (S.given source.new - S.given source.old))) }
+        ensures takes { OnPiece result (λ p. p.bytes + R.taken self.old.runs self.old.start
+            ≤ R.taken self.old.runs self.new.start + 80) }
+        ensures paid { OnMore result (silent_cut (R.count self.old.runs) self.new.stage
+            < silent_cut (R.count self.old.runs) self.old.stage + (S.given source.new - S.given source.old) + (length
+            (O.written output.new) - length (O.written output.old))) }
+        ensures spends { IsTrue S.tells → (t : ℕ) →
+            SpentStage (λ c. R.within self.old.runs c × R.place self.old.runs (S.content source.old) c)
+            (R.charge self.old.runs) (R.copied self.old.runs) (R.held self.old.runs) (R.size self.old.runs)
+            self.old.limit (R.count self.old.runs) (R.one self.old.runs) self.old.start t self.old.stage →
+            OnMore result (SpentStage (λ c. R.within self.old.runs c × R.place self.old.runs (S.content source.old) c)
+            (R.charge self.old.runs) (R.copied self.old.runs) (R.held self.old.runs) (R.size self.old.runs)
+            self.old.limit (R.count self.old.runs) (R.one self.old.runs) self.old.start
+            (t + (S.given source.new - S.given source.old)) self.new.stage) }
+        ensures spent { IsTrue S.tells → (t : ℕ) →
+            SpentStage (λ c. R.within self.old.runs c × R.place self.old.runs (S.content source.old) c)
+            (R.charge self.old.runs) (R.copied self.old.runs) (R.held self.old.runs) (R.size self.old.runs)
+            self.old.limit (R.count self.old.runs) (R.one self.old.runs) self.old.start t self.old.stage →
+            OnPiece result (λ p. SpentPiece (R.charge self.old.runs) (R.copied self.old.runs) (R.count self.old.runs)
+            (R.one self.old.runs) p.past self.new.start (t + (S.given source.new - S.given source.old))) }
         ensures calls { S.reads source.new ≤ S.reads source.old + (S.given source.new - S.given source.old) + 2 }
-        ensures write_calls { O.writes output.new + length (O.written output.old) ≤ O.writes output.old + length (O.written output.new) + 1 }
-        ensures turns { m.new.turns.number + cut_words (R.one self.old.runs) (R.count self.old.runs) self.old.start self.old.stage ≤ m.old.turns.number + 2 * (S.given source.new - S.given source.old) + (length (O.written output.new) - length (O.written output.old)) + 3 + 3 * R.one self.old.runs }
-        ensures words { OnMore result (m.new.turns.number + cut_words (R.one self.old.runs) (R.count self.old.runs) self.old.start self.old.stage ≤ m.old.turns.number + 2 * (S.given source.new - S.given source.old) + (length (O.written output.new) - length (O.written output.old)) + 3 + cut_words (R.one self.old.runs) (R.count self.old.runs) self.new.start self.new.stage) }
-        ensures piece_words { OnPiece result (λ p. m.new.turns.number + cut_words (R.one self.old.runs) (R.count self.old.runs) self.old.start self.old.stage ≤ m.old.turns.number + 2 * (S.given source.new - S.given source.old) + (length (O.written output.new) - length (O.written output.old)) + 3 + piece_words (R.one self.old.runs) (R.count self.old.runs) p.past) }
+        ensures write_calls { O.writes output.new + length (O.written output.old) ≤ O.writes output.old + length
+            (O.written output.new) + 1 }
+        ensures turns { m.new.turns.number + cut_words (R.one self.old.runs) (R.count self.old.runs) self.old.start
+            self.old.stage
+            ≤ m.old.turns.number + 2 * (S.given source.new - S.given source.old) + (length
+            (O.written output.new) - length (O.written output.old)) + 3 + 3 * R.one self.old.runs }
+        ensures words { OnMore result (m.new.turns.number + cut_words (R.one self.old.runs) (R.count self.old.runs)
+            self.old.start self.old.stage
+            ≤ m.old.turns.number + 2 * (S.given source.new - S.given source.old) + (length
+            (O.written output.new) - length (O.written output.old)) + 3 + cut_words (R.one self.old.runs)
+            (R.count self.old.runs) self.new.start self.new.stage) }
+        ensures piece_words { OnPiece result (λ p. m.new.turns.number + cut_words (R.one self.old.runs)
+            (R.count self.old.runs) self.old.start self.old.stage
+            ≤ m.old.turns.number + 2 * (S.given source.new - S.given source.old) + (length
+            (O.written output.new) - length (O.written output.old)) + 3 + piece_words (R.one self.old.runs)
+            (R.count self.old.runs) p.past) }
         ensures faults { S.read_faults source.old ≤ S.read_faults source.new }
         ensures write_faults { O.write_faults output.old ≤ O.write_faults output.new }
-        ensures clean { OnOk result ((S.read_faults source.new ≡ S.read_faults source.old) × (O.write_faults output.new ≡ O.write_faults output.old)) }
-        ensures full_faults { has_failed self.old.stage ≡ false → O.full_faults output.new ≡ O.full_faults output.old + full_cut result }
-        ensures full { has_failed self.old.stage ≡ false → full_cut result ≡ 1 → IsTrue (O.is_full output.new) × (so_far self.old.stage + (length (O.written output.new) - length (O.written output.old)) < self.old.limit) }
-        ensures cause { IfErr result (λ e. (self.old.stage ≡ Stage.Failed e) ⊎ HasCause e S.tells (S.read_faults source.old) (S.read_faults source.new) (O.write_faults output.old) (O.write_faults output.new)) }
-        ensures end { OnEnd result ((self.old.stage ≡ Stage.Done) × (output.new ≡ output.old) × (source.new ≡ source.old) × (self.new ≡ self.old)) }
+        ensures clean { OnOk result ((S.read_faults source.new ≡ S.read_faults source.old) ×
+            (O.write_faults output.new ≡ O.write_faults output.old)) }
+        ensures full_faults { has_failed self.old.stage ≡ false → O.full_faults output.new
+            ≡ O.full_faults output.old + full_cut result }
+        ensures full { has_failed self.old.stage ≡ false → full_cut result ≡ 1 → IsTrue (O.is_full output.new) ×
+            (so_far self.old.stage + (length (O.written output.new) - length (O.written output.old)) < self.old.limit) }
+        ensures cause { IfErr result (λ e. (self.old.stage ≡ Stage.Failed e) ⊎
+            HasCause e S.tells (S.read_faults source.old) (S.read_faults source.new) (O.write_faults output.old)
+            (O.write_faults output.new)) }
+        ensures end { OnEnd result ((self.old.stage ≡ Stage.Done) × (output.new ≡ output.old) ×
+            (source.new ≡ source.old) × (self.new ≡ self.old)) }
         ensures after_last { self.old.stage ≡ Stage.Done → result ≡ Ok PieceProgress.End }
-        ensures again { (f : PieceFault) → self.old.stage ≡ Stage.Failed f → (result ≡ Err f) × (output.new ≡ output.old) × (source.new ≡ source.old) × (self.new ≡ self.old) }
+        ensures again { (f : PieceFault) → self.old.stage ≡ Stage.Failed f → (result ≡ Err f) ×
+            (output.new ≡ output.old) × (source.new ≡ source.old) × (self.new ≡ self.old) }
     {
         match self.stage {
             Stage::Between => self.plan(Planner::begin(self.start), source, w, m),

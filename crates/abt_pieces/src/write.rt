@@ -1,10 +1,13 @@
 //! Writing one piece: a chunk for each of its runs.
-ghost use Rattle.std.specs.Prelude.{◌≡◌, ℕ, List, [], ◌<◌, ◌≤◌, ◌+◌, ◌-◌, ◌*◌, ◌^◌, ◌++◌, IsTrue, IfOk, IfErr, OnOk, OnErr, length, take, drop, min, max, true, false};
+ghost use Rattle.std.specs.Prelude.{◌≡◌, ℕ, List, [], ◌<◌, ◌≤◌, ◌+◌, ◌-◌, ◌*◌, ◌^◌, ◌++◌, IsTrue, IfOk, IfErr, OnOk};
+ghost use Rattle.std.specs.Prelude.{OnErr, length, take, drop, min, max, true, false};
 ghost use Rattle.abt_runs.specs.Part.{is_end as ends, entry};
 ghost use Rattle.abt_pieces.specs.Fault.{HasCause, full_cut};
 ghost use Rattle.abt_pieces.specs.Contents.{head_len as length_of_head, data_len};
 ghost use Rattle.abt_pieces.specs.Cutter.{first_writer};
-ghost use Rattle.abt_pieces.specs.Write.{front_bytes, chunk_len, chunk_begun, ChunkCause, starts, next_copying, copied_on, rest_of, frame_of, SoundWriter, ToldWriter, write_left, passed_to, writer_words, charge_of};
+ghost use Rattle.abt_pieces.specs.Write.{front_bytes, chunk_len, chunk_begun, ChunkCause, starts, next_copying};
+ghost use Rattle.abt_pieces.specs.Write.{copied_on, rest_of, frame_of, SoundWriter, ToldWriter, write_left};
+ghost use Rattle.abt_pieces.specs.Write.{passed_to, writer_words, charge_of};
 ghost use Rattle.abt_pieces.specs.Image.{Leads, MayCome};
 ghost use Rattle.abt_pieces.specs.Gather.{silent_left, gathered_to};
 ghost use Rattle.abt_runs.specs.declared.part.Cursor.{Cursor};
@@ -136,20 +139,28 @@ impl Writer {
         ensures ok { OnOk result (self.new ≡ chunk_begun self.old run size) }
         ensures segment { (self.new.first ≡ self.old.first) × (self.new.past ≡ self.old.past) }
         ensures room { OnOk result ((0 < self.old.chunks) × (chunk_len run.kind run.blocks size ≤ self.old.bytes)) }
-        ensures written { OnOk result (O.written output.new ≡ O.written output.old ++ front_bytes run.kind run.blocks (chunk_len run.kind run.blocks size)) }
-        ensures front { O.written output.new ≡ O.written output.old ++ take (length (O.written output.new) - length (O.written output.old)) (front_bytes run.kind run.blocks (chunk_len run.kind run.blocks size)) }
+        ensures written { OnOk result (O.written output.new ≡ O.written output.old ++ front_bytes run.kind run.blocks
+            (chunk_len run.kind run.blocks size)) }
+        ensures front { O.written output.new ≡ O.written output.old ++ take
+            (length (O.written output.new) - length (O.written output.old))
+            (front_bytes run.kind run.blocks (chunk_len run.kind run.blocks size)) }
         ensures grown { length (O.written output.old) ≤ length (O.written output.new) }
         ensures within { length (O.written output.new) ≤ length (O.written output.old) + self.old.bytes }
         ensures few { length (O.written output.new) ≤ length (O.written output.old) + 16 }
-        ensures whole { OnOk result (length (O.written output.new) ≡ length (O.written output.old) + length_of_head run.kind) }
+        ensures whole { OnOk result (length (O.written output.new) ≡ length (O.written output.old) + length_of_head
+            run.kind) }
         ensures frame { O.write_frame output.new ≡ O.write_frame output.old }
         ensures faults { O.write_faults output.old ≤ O.write_faults output.new }
         ensures clean { OnOk result (O.write_faults output.new ≡ O.write_faults output.old) }
         ensures full_faults { O.full_faults output.new ≡ O.full_faults output.old + full_cut result }
-        ensures full { full_cut result ≡ 1 → IsTrue (O.is_full output.new) × (length (O.written output.new) < length (O.written output.old) + self.old.bytes) }
-        ensures cause { IfErr result (λ e. ChunkCause e self.old.chunks self.old.bytes (chunk_len run.kind run.blocks size) (O.write_faults output.old) (O.write_faults output.new)) }
-        ensures calls { O.writes output.new + length (O.written output.old) ≤ O.writes output.old + length (O.written output.new) + 1 }
-        ensures turns { m.new.turns.number + length (O.written output.old) ≤ m.old.turns.number + length (O.written output.new) + 1 }
+        ensures full { full_cut result ≡ 1 → IsTrue (O.is_full output.new) ×
+            (length (O.written output.new) < length (O.written output.old) + self.old.bytes) }
+        ensures cause { IfErr result (λ e. ChunkCause e self.old.chunks self.old.bytes
+            (chunk_len run.kind run.blocks size) (O.write_faults output.old) (O.write_faults output.new)) }
+        ensures calls { O.writes output.new + length (O.written output.old) ≤ O.writes output.old + length
+            (O.written output.new) + 1 }
+        ensures turns { m.new.turns.number + length (O.written output.old) ≤ m.old.turns.number + length
+            (O.written output.new) + 1 }
         ensures steps { m.new.steps.number ≡ m.old.steps.number }
         ensures greatest { m.new.greatest.number ≡ m.old.greatest.number }
     {
@@ -177,43 +188,78 @@ impl Writer {
         w: &mut Window,
         m: &mut Meter,
     ) -> Result<(), PieceFault>
-        requires sound { SoundWriter (R.within runs.old) (R.reach runs.old) (R.count runs.old) (R.size runs.old) self.old }
+        requires sound { SoundWriter (R.within runs.old) (R.reach runs.old) (R.count runs.old) (R.size runs.old)
+            self.old }
         requires opened { IsTrue S.tells → R.opened runs.old (S.content source.old) }
-        requires told { IsTrue S.tells → ToldWriter (R.place runs.old (S.content source.old)) (R.together runs.old (S.content source.old)) (R.list runs.old (S.content source.old)) self.old }
+        requires told { IsTrue S.tells → ToldWriter (R.place runs.old (S.content source.old))
+            (R.together runs.old (S.content source.old)) (R.list runs.old (S.content source.old)) self.old }
         requires none { self.old.copying ≡ None }
         requires going { ends self.old.gatherer.kind ≡ false }
         ensures same { runs.new ≡ runs.old }
         ensures content { IsTrue S.tells → S.content source.new ≡ S.content source.old }
         ensures frame { S.read_frame source.new ≡ S.read_frame source.old }
-        ensures sound { OnOk result (SoundWriter (R.within runs.old) (R.reach runs.old) (R.count runs.old) (R.size runs.old) self.new) }
-        ensures told { IsTrue S.tells → OnOk result (ToldWriter (R.place runs.old (S.content source.old)) (R.together runs.old (S.content source.old)) (R.list runs.old (S.content source.old)) self.new) }
+        ensures sound { OnOk result (SoundWriter (R.within runs.old) (R.reach runs.old) (R.count runs.old)
+            (R.size runs.old) self.new) }
+        ensures told { IsTrue S.tells →
+            OnOk result (ToldWriter (R.place runs.old (S.content source.old))
+            (R.together runs.old (S.content source.old)) (R.list runs.old (S.content source.old)) self.new) }
         ensures segment { (self.new.first ≡ self.old.first) × (self.new.past ≡ self.old.past) }
         ensures grown { length (O.written output.old) ≤ length (O.written output.new) }
         ensures within { length (O.written output.new) ≤ length (O.written output.old) + self.old.bytes }
-        ensures counted { OnOk result (length (O.written output.new) + self.new.bytes ≡ length (O.written output.old) + self.old.bytes) }
-        ensures few { length (O.written output.new) ≤ length (O.written output.old) + (S.given source.new - S.given source.old) + 80 }
-        ensures front { IsTrue S.tells → O.written output.new ≡ O.written output.old ++ take (length (O.written output.new) - length (O.written output.old)) (rest_of (frame_of (R.list runs.old (S.content source.old)) self.old) self.old) }
-        ensures rest { IsTrue S.tells → OnOk result (rest_of (frame_of (R.list runs.old (S.content source.old)) self.old) self.new ≡ drop (length (O.written output.new) - length (O.written output.old)) (rest_of (frame_of (R.list runs.old (S.content source.old)) self.old) self.old)) }
-        ensures leads { OnOk result (Leads (MayCome (R.size runs.old) (R.count runs.old) self.old) (MayCome (R.size runs.old) (R.count runs.old) self.new) (O.written output.old) (O.written output.new)) }
+        ensures counted { OnOk result (length (O.written output.new) + self.new.bytes
+            ≡ length (O.written output.old) + self.old.bytes) }
+        ensures few { length (O.written output.new)
+            ≤ length (O.written output.old) + (S.given source.new - S.given source.old) + 80 }
+        ensures front { IsTrue S.tells → O.written output.new ≡ O.written output.old ++ take
+            (length (O.written output.new) - length (O.written output.old))
+            (rest_of (frame_of (R.list runs.old (S.content source.old)) self.old) self.old) }
+        ensures rest { IsTrue S.tells →
+            OnOk result (rest_of (frame_of (R.list runs.old (S.content source.old)) self.old) self.new
+            ≡ drop (length (O.written output.new) - length (O.written output.old))
+            (rest_of (frame_of (R.list runs.old (S.content source.old)) self.old) self.old)) }
+        ensures leads { OnOk result (Leads (MayCome (R.size runs.old) (R.count runs.old) self.old)
+            (MayCome (R.size runs.old) (R.count runs.old) self.new) (O.written output.old) (O.written output.new)) }
         ensures write_frame { O.write_frame output.new ≡ O.write_frame output.old }
         ensures write_faults { O.write_faults output.old ≤ O.write_faults output.new }
-        ensures cause { IfErr result (λ e. HasCause e S.tells (S.read_faults source.old) (S.read_faults source.new) (O.write_faults output.old) (O.write_faults output.new)) }
-        ensures left { OnOk result (write_left (R.left runs.old) (R.count runs.old) self.new < write_left (R.left runs.old) (R.count runs.old) self.old) }
+        ensures cause { IfErr result (λ e. HasCause e S.tells (S.read_faults source.old) (S.read_faults source.new)
+            (O.write_faults output.old) (O.write_faults output.new)) }
+        ensures left { OnOk result (write_left (R.left runs.old) (R.count runs.old) self.new
+            < write_left (R.left runs.old) (R.count runs.old) self.old) }
         ensures given { S.given source.old ≤ S.given source.new }
-        ensures paid { OnOk result (silent_left (R.count runs.old) self.old.past self.new.gatherer < silent_left (R.count runs.old) self.old.past self.old.gatherer + (S.given source.new - S.given source.old)) }
-        ensures gathered { IsTrue S.tells → (d : Cursor) → R.within runs.old d → R.place runs.old (S.content source.old) d → d.block ≡ self.old.past → d.ask ≡ 1 → OnOk result (S.given source.new + gathered_to (R.charge runs.old) self.old.past d self.old.gatherer.at ≤ S.given source.old + gathered_to (R.charge runs.old) self.old.past d self.new.gatherer.at) }
-        ensures spends { IsTrue S.tells → (d : Cursor) → R.within runs.old d → R.place runs.old (S.content source.old) d → d.block ≡ self.old.past → d.ask ≡ 1 → (s t : ℕ) → Spent (λ c. R.within runs.old c × R.place runs.old (S.content source.old) c) (R.charge runs.old) (R.copied runs.old) (R.held runs.old) d s t self.old → OnOk result (Spent (λ c. R.within runs.old c × R.place runs.old (S.content source.old) c) (R.charge runs.old) (R.copied runs.old) (R.held runs.old) d s (t + (S.given source.new - S.given source.old)) self.new) }
+        ensures paid { OnOk result (silent_left (R.count runs.old) self.old.past self.new.gatherer
+            < silent_left (R.count runs.old) self.old.past
+            self.old.gatherer + (S.given source.new - S.given source.old)) }
+        ensures gathered { IsTrue S.tells → (d : Cursor) → R.within runs.old d →
+            R.place runs.old (S.content source.old) d → d.block ≡ self.old.past → d.ask ≡ 1 →
+            OnOk result (S.given source.new + gathered_to (R.charge runs.old) self.old.past d self.old.gatherer.at
+            ≤ S.given source.old + gathered_to (R.charge runs.old) self.old.past d self.new.gatherer.at) }
+        ensures spends { IsTrue S.tells → (d : Cursor) → R.within runs.old d → R.place runs.old (S.content source.old) d
+            → d.block ≡ self.old.past → d.ask ≡ 1 → (s t : ℕ) →
+            Spent (λ c. R.within runs.old c × R.place runs.old (S.content source.old) c) (R.charge runs.old)
+            (R.copied runs.old) (R.held runs.old) d s t self.old →
+            OnOk result (Spent (λ c. R.within runs.old c × R.place runs.old (S.content source.old) c)
+            (R.charge runs.old) (R.copied runs.old) (R.held runs.old) d s
+            (t + (S.given source.new - S.given source.old)) self.new) }
         ensures calls { S.reads source.new ≤ S.reads source.old + (S.given source.new - S.given source.old) + 2 }
-        ensures write_calls { O.writes output.new + length (O.written output.old) ≤ O.writes output.old + length (O.written output.new) + 1 }
-        ensures turns { m.new.turns.number + last_words (R.one runs.old) (R.count runs.old) (min self.old.gatherer.at.block self.old.past) ≤ m.old.turns.number + 2 * (S.given source.new - S.given source.old) + (length (O.written output.new) - length (O.written output.old)) + 3 + R.one runs.old }
-        ensures words { OnOk result (m.new.turns.number + writer_words (R.one runs.old) (R.count runs.old) self.old ≤ m.old.turns.number + 2 * (S.given source.new - S.given source.old) + (length (O.written output.new) - length (O.written output.old)) + 3 + writer_words (R.one runs.old) (R.count runs.old) self.new) }
+        ensures write_calls { O.writes output.new + length (O.written output.old) ≤ O.writes output.old + length
+            (O.written output.new) + 1 }
+        ensures turns { m.new.turns.number + last_words (R.one runs.old) (R.count runs.old)
+            (min self.old.gatherer.at.block self.old.past)
+            ≤ m.old.turns.number + 2 * (S.given source.new - S.given source.old) + (length
+            (O.written output.new) - length (O.written output.old)) + 3 + R.one runs.old }
+        ensures words { OnOk result (m.new.turns.number + writer_words (R.one runs.old) (R.count runs.old) self.old
+            ≤ m.old.turns.number + 2 * (S.given source.new - S.given source.old) + (length
+            (O.written output.new) - length (O.written output.old)) + 3 + writer_words (R.one runs.old)
+            (R.count runs.old) self.new) }
         ensures received { S.given source.new ≤ S.given source.old + 65536 }
         ensures steps { m.new.steps.number ≡ m.old.steps.number + 1 }
         ensures greatest { m.new.greatest.number ≡ max m.old.greatest.number (S.given source.new - S.given source.old) }
         ensures faults { S.read_faults source.old ≤ S.read_faults source.new }
-        ensures clean { OnOk result ((S.read_faults source.new ≡ S.read_faults source.old) × (O.write_faults output.new ≡ O.write_faults output.old)) }
+        ensures clean { OnOk result ((S.read_faults source.new ≡ S.read_faults source.old) ×
+            (O.write_faults output.new ≡ O.write_faults output.old)) }
         ensures full_faults { O.full_faults output.new ≡ O.full_faults output.old + full_cut result }
-        ensures full { full_cut result ≡ 1 → IsTrue (O.is_full output.new) × (length (O.written output.new) < length (O.written output.old) + self.old.bytes) }
+        ensures full { full_cut result ≡ 1 → IsTrue (O.is_full output.new) ×
+            (length (O.written output.new) < length (O.written output.old) + self.old.bytes) }
     {
         let size = runs.block_size();
         let mut gatherer = self.gatherer;
@@ -238,36 +284,57 @@ impl Writer {
         w: &mut Window,
         m: &mut Meter,
     ) -> Result<(), PieceFault>
-        requires sound { SoundWriter (R.within runs.old) (R.reach runs.old) (R.count runs.old) (R.size runs.old) self.old }
+        requires sound { SoundWriter (R.within runs.old) (R.reach runs.old) (R.count runs.old) (R.size runs.old)
+            self.old }
         requires opened { IsTrue S.tells → R.opened runs.old (S.content source.old) }
-        requires told { IsTrue S.tells → ToldWriter (R.place runs.old (S.content source.old)) (R.together runs.old (S.content source.old)) (R.list runs.old (S.content source.old)) self.old }
+        requires told { IsTrue S.tells → ToldWriter (R.place runs.old (S.content source.old))
+            (R.together runs.old (S.content source.old)) (R.list runs.old (S.content source.old)) self.old }
         requires is { self.old.copying ≡ Some copying }
         requires whole { copying.done ≡ copying.size }
         ensures same { runs.new ≡ runs.old }
         ensures content { IsTrue S.tells → S.content source.new ≡ S.content source.old }
         ensures frame { S.read_frame source.new ≡ S.read_frame source.old }
-        ensures sound { OnOk result (SoundWriter (R.within runs.old) (R.reach runs.old) (R.count runs.old) (R.size runs.old) self.new) }
-        ensures told { IsTrue S.tells → OnOk result (ToldWriter (R.place runs.old (S.content source.old)) (R.together runs.old (S.content source.old)) (R.list runs.old (S.content source.old)) self.new) }
+        ensures sound { OnOk result (SoundWriter (R.within runs.old) (R.reach runs.old) (R.count runs.old)
+            (R.size runs.old) self.new) }
+        ensures told { IsTrue S.tells →
+            OnOk result (ToldWriter (R.place runs.old (S.content source.old))
+            (R.together runs.old (S.content source.old)) (R.list runs.old (S.content source.old)) self.new) }
         ensures segment { (self.new.first ≡ self.old.first) × (self.new.past ≡ self.old.past) }
         ensures bytes { self.new.bytes ≡ self.old.bytes }
-        ensures rest { IsTrue S.tells → OnOk result (rest_of (frame_of (R.list runs.old (S.content source.old)) self.old) self.new ≡ rest_of (frame_of (R.list runs.old (S.content source.old)) self.old) self.old) }
-        ensures comes { OnOk result ((t : List ℕ) → MayCome (R.size runs.old) (R.count runs.old) self.new t → MayCome (R.size runs.old) (R.count runs.old) self.old t) }
-        ensures left { OnOk result (write_left (R.left runs.old) (R.count runs.old) self.new < write_left (R.left runs.old) (R.count runs.old) self.old) }
+        ensures rest { IsTrue S.tells →
+            OnOk result (rest_of (frame_of (R.list runs.old (S.content source.old)) self.old) self.new
+            ≡ rest_of (frame_of (R.list runs.old (S.content source.old)) self.old) self.old) }
+        ensures comes { OnOk result ((t : List ℕ) → MayCome (R.size runs.old) (R.count runs.old) self.new t →
+            MayCome (R.size runs.old) (R.count runs.old) self.old t) }
+        ensures left { OnOk result (write_left (R.left runs.old) (R.count runs.old) self.new
+            < write_left (R.left runs.old) (R.count runs.old) self.old) }
         ensures given { S.given source.old ≤ S.given source.new }
         ensures gatherer { self.new.gatherer ≡ self.old.gatherer }
         ensures fetched { OnOk result (S.given source.old < S.given source.new) }
-        ensures charged { OnOk result (S.given source.new + R.charge runs.old copying.next ≤ S.given source.old + charge_of (R.charge runs.old) self.new.copying + entry copying.next) }
-        ensures spends { IsTrue S.tells → (d : Cursor) → R.within runs.old d → R.place runs.old (S.content source.old) d → d.block ≡ self.old.past → d.ask ≡ 1 → (s t : ℕ) → Spent (λ c. R.within runs.old c × R.place runs.old (S.content source.old) c) (R.charge runs.old) (R.copied runs.old) (R.held runs.old) d s t self.old → OnOk result (Spent (λ c. R.within runs.old c × R.place runs.old (S.content source.old) c) (R.charge runs.old) (R.copied runs.old) (R.held runs.old) d s (t + (S.given source.new - S.given source.old)) self.new) }
+        ensures charged { OnOk result (S.given source.new + R.charge runs.old copying.next
+            ≤ S.given source.old + charge_of (R.charge runs.old) self.new.copying + entry copying.next) }
+        ensures spends { IsTrue S.tells → (d : Cursor) → R.within runs.old d → R.place runs.old (S.content source.old) d
+            → d.block ≡ self.old.past → d.ask ≡ 1 → (s t : ℕ) →
+            Spent (λ c. R.within runs.old c × R.place runs.old (S.content source.old) c) (R.charge runs.old)
+            (R.copied runs.old) (R.held runs.old) d s t self.old →
+            OnOk result (Spent (λ c. R.within runs.old c × R.place runs.old (S.content source.old) c)
+            (R.charge runs.old) (R.copied runs.old) (R.held runs.old) d s
+            (t + (S.given source.new - S.given source.old)) self.new) }
         ensures calls { S.reads source.new ≤ S.reads source.old + (S.given source.new - S.given source.old) + 2 }
-        ensures turns { m.new.turns.number + last_words (R.one runs.old) (R.count runs.old) (min copying.next.block self.old.past) ≤ m.old.turns.number + 2 * (S.given source.new - S.given source.old) + 2 + R.one runs.old }
-        ensures words { OnOk result (m.new.turns.number + writer_words (R.one runs.old) (R.count runs.old) self.old ≤ m.old.turns.number + 2 * (S.given source.new - S.given source.old) + 2 + writer_words (R.one runs.old) (R.count runs.old) self.new) }
+        ensures turns { m.new.turns.number + last_words (R.one runs.old) (R.count runs.old)
+            (min copying.next.block self.old.past)
+            ≤ m.old.turns.number + 2 * (S.given source.new - S.given source.old) + 2 + R.one runs.old }
+        ensures words { OnOk result (m.new.turns.number + writer_words (R.one runs.old) (R.count runs.old) self.old
+            ≤ m.old.turns.number + 2 * (S.given source.new - S.given source.old) + 2 + writer_words (R.one runs.old)
+            (R.count runs.old) self.new) }
         ensures received { S.given source.new ≤ S.given source.old + 65536 }
         ensures steps { m.new.steps.number ≡ m.old.steps.number + 1 }
         ensures greatest { m.new.greatest.number ≡ max m.old.greatest.number (S.given source.new - S.given source.old) }
         ensures faults { S.read_faults source.old ≤ S.read_faults source.new }
         ensures clean { OnOk result (S.read_faults source.new ≡ S.read_faults source.old) }
         ensures unwritten { full_cut result ≡ 0 }
-        ensures cause { IfErr result (λ e. HasCause e S.tells (S.read_faults source.old) (S.read_faults source.new) 0 0) }
+        ensures cause { IfErr result (λ e. HasCause e S.tells (S.read_faults source.old) (S.read_faults source.new) 0
+            0) }
     {
         let until = self.gatherer.at.block - self.gatherer.count;
         let size = runs.block_size();
@@ -295,44 +362,72 @@ impl Writer {
         w: &mut Window,
         m: &mut Meter,
     ) -> Result<(), PieceFault>
-        requires sound { SoundWriter (R.within runs.old) (R.reach runs.old) (R.count runs.old) (R.size runs.old) self.old }
+        requires sound { SoundWriter (R.within runs.old) (R.reach runs.old) (R.count runs.old) (R.size runs.old)
+            self.old }
         requires opened { IsTrue S.tells → R.opened runs.old (S.content source.old) }
-        requires told { IsTrue S.tells → ToldWriter (R.place runs.old (S.content source.old)) (R.together runs.old (S.content source.old)) (R.list runs.old (S.content source.old)) self.old }
+        requires told { IsTrue S.tells → ToldWriter (R.place runs.old (S.content source.old))
+            (R.together runs.old (S.content source.old)) (R.list runs.old (S.content source.old)) self.old }
         requires is { self.old.copying ≡ Some copying }
         requires more { copying.done < copying.size }
         ensures same { runs.new ≡ runs.old }
         ensures content { IsTrue S.tells → S.content source.new ≡ S.content source.old }
         ensures frame { S.read_frame source.new ≡ S.read_frame source.old }
-        ensures sound { OnOk result (SoundWriter (R.within runs.old) (R.reach runs.old) (R.count runs.old) (R.size runs.old) self.new) }
-        ensures told { IsTrue S.tells → OnOk result (ToldWriter (R.place runs.old (S.content source.old)) (R.together runs.old (S.content source.old)) (R.list runs.old (S.content source.old)) self.new) }
+        ensures sound { OnOk result (SoundWriter (R.within runs.old) (R.reach runs.old) (R.count runs.old)
+            (R.size runs.old) self.new) }
+        ensures told { IsTrue S.tells →
+            OnOk result (ToldWriter (R.place runs.old (S.content source.old))
+            (R.together runs.old (S.content source.old)) (R.list runs.old (S.content source.old)) self.new) }
         ensures segment { (self.new.first ≡ self.old.first) × (self.new.past ≡ self.old.past) }
         ensures grown { length (O.written output.old) ≤ length (O.written output.new) }
         ensures within { length (O.written output.new) ≤ length (O.written output.old) + self.old.bytes }
-        ensures counted { OnOk result (length (O.written output.new) + self.new.bytes ≡ length (O.written output.old) + self.old.bytes) }
-        ensures few { length (O.written output.new) ≤ length (O.written output.old) + (S.given source.new - S.given source.old) + 80 }
-        ensures front { IsTrue S.tells → O.written output.new ≡ O.written output.old ++ take (length (O.written output.new) - length (O.written output.old)) (rest_of (frame_of (R.list runs.old (S.content source.old)) self.old) self.old) }
-        ensures rest { IsTrue S.tells → OnOk result (rest_of (frame_of (R.list runs.old (S.content source.old)) self.old) self.new ≡ drop (length (O.written output.new) - length (O.written output.old)) (rest_of (frame_of (R.list runs.old (S.content source.old)) self.old) self.old)) }
-        ensures leads { OnOk result (Leads (MayCome (R.size runs.old) (R.count runs.old) self.old) (MayCome (R.size runs.old) (R.count runs.old) self.new) (O.written output.old) (O.written output.new)) }
+        ensures counted { OnOk result (length (O.written output.new) + self.new.bytes
+            ≡ length (O.written output.old) + self.old.bytes) }
+        ensures few { length (O.written output.new)
+            ≤ length (O.written output.old) + (S.given source.new - S.given source.old) + 80 }
+        ensures front { IsTrue S.tells → O.written output.new ≡ O.written output.old ++ take
+            (length (O.written output.new) - length (O.written output.old))
+            (rest_of (frame_of (R.list runs.old (S.content source.old)) self.old) self.old) }
+        ensures rest { IsTrue S.tells →
+            OnOk result (rest_of (frame_of (R.list runs.old (S.content source.old)) self.old) self.new
+            ≡ drop (length (O.written output.new) - length (O.written output.old))
+            (rest_of (frame_of (R.list runs.old (S.content source.old)) self.old) self.old)) }
+        ensures leads { OnOk result (Leads (MayCome (R.size runs.old) (R.count runs.old) self.old)
+            (MayCome (R.size runs.old) (R.count runs.old) self.new) (O.written output.old) (O.written output.new)) }
         ensures write_frame { O.write_frame output.new ≡ O.write_frame output.old }
         ensures write_faults { O.write_faults output.old ≤ O.write_faults output.new }
-        ensures cause { IfErr result (λ e. HasCause e S.tells (S.read_faults source.old) (S.read_faults source.new) (O.write_faults output.old) (O.write_faults output.new)) }
-        ensures left { OnOk result (write_left (R.left runs.old) (R.count runs.old) self.new < write_left (R.left runs.old) (R.count runs.old) self.old) }
+        ensures cause { IfErr result (λ e. HasCause e S.tells (S.read_faults source.old) (S.read_faults source.new)
+            (O.write_faults output.old) (O.write_faults output.new)) }
+        ensures left { OnOk result (write_left (R.left runs.old) (R.count runs.old) self.new
+            < write_left (R.left runs.old) (R.count runs.old) self.old) }
         ensures given { S.given source.old ≤ S.given source.new }
         ensures gatherer { self.new.gatherer ≡ self.old.gatherer }
         ensures put { OnOk result (length (O.written output.old) < length (O.written output.new)) }
-        ensures copies { OnOk result (S.given source.new + R.held runs.old copying.here copying.done ≤ S.given source.old + R.held runs.old copying.here (copying.done + (length (O.written output.new) - length (O.written output.old)))) }
-        ensures spends { IsTrue S.tells → (d : Cursor) → R.within runs.old d → R.place runs.old (S.content source.old) d → d.block ≡ self.old.past → d.ask ≡ 1 → (s t : ℕ) → Spent (λ c. R.within runs.old c × R.place runs.old (S.content source.old) c) (R.charge runs.old) (R.copied runs.old) (R.held runs.old) d s t self.old → OnOk result (Spent (λ c. R.within runs.old c × R.place runs.old (S.content source.old) c) (R.charge runs.old) (R.copied runs.old) (R.held runs.old) d s (t + (S.given source.new - S.given source.old)) self.new) }
+        ensures copies { OnOk result (S.given source.new + R.held runs.old copying.here copying.done
+            ≤ S.given source.old + R.held runs.old copying.here
+            (copying.done + (length (O.written output.new) - length (O.written output.old)))) }
+        ensures spends { IsTrue S.tells → (d : Cursor) → R.within runs.old d → R.place runs.old (S.content source.old) d
+            → d.block ≡ self.old.past → d.ask ≡ 1 → (s t : ℕ) →
+            Spent (λ c. R.within runs.old c × R.place runs.old (S.content source.old) c) (R.charge runs.old)
+            (R.copied runs.old) (R.held runs.old) d s t self.old →
+            OnOk result (Spent (λ c. R.within runs.old c × R.place runs.old (S.content source.old) c)
+            (R.charge runs.old) (R.copied runs.old) (R.held runs.old) d s
+            (t + (S.given source.new - S.given source.old)) self.new) }
         ensures calls { S.reads source.new ≤ S.reads source.old + 1 }
-        ensures write_calls { O.writes output.new + length (O.written output.old) ≤ O.writes output.old + length (O.written output.new) + 1 }
-        ensures turns { m.new.turns.number ≤ m.old.turns.number + (length (O.written output.new) - length (O.written output.old)) + 1 }
-        ensures words { OnOk result (writer_words (R.one runs.old) (R.count runs.old) self.old ≤ writer_words (R.one runs.old) (R.count runs.old) self.new) }
+        ensures write_calls { O.writes output.new + length (O.written output.old) ≤ O.writes output.old + length
+            (O.written output.new) + 1 }
+        ensures turns { m.new.turns.number
+            ≤ m.old.turns.number + (length (O.written output.new) - length (O.written output.old)) + 1 }
+        ensures words { OnOk result (writer_words (R.one runs.old) (R.count runs.old) self.old
+            ≤ writer_words (R.one runs.old) (R.count runs.old) self.new) }
         ensures received { S.given source.new ≤ S.given source.old + 65536 }
         ensures steps { m.new.steps.number ≡ m.old.steps.number + 1 }
         ensures greatest { m.new.greatest.number ≡ max m.old.greatest.number (S.given source.new - S.given source.old) }
         ensures faults { S.read_faults source.old ≤ S.read_faults source.new }
-        ensures clean { OnOk result ((S.read_faults source.new ≡ S.read_faults source.old) × (O.write_faults output.new ≡ O.write_faults output.old)) }
+        ensures clean { OnOk result ((S.read_faults source.new ≡ S.read_faults source.old) ×
+            (O.write_faults output.new ≡ O.write_faults output.old)) }
         ensures full_faults { O.full_faults output.new ≡ O.full_faults output.old + full_cut result }
-        ensures full { full_cut result ≡ 1 → IsTrue (O.is_full output.new) × (length (O.written output.new) < length (O.written output.old) + self.old.bytes) }
+        ensures full { full_cut result ≡ 1 → IsTrue (O.is_full output.new) ×
+            (length (O.written output.new) < length (O.written output.old) + self.old.bytes) }
     {
         let ask = (copying.size - copying.done).min(WINDOW as u64) as usize;
         w.is_whole();
@@ -351,7 +446,8 @@ impl Writer {
     /// Whether all that was planned is written. Else the source has changed since.
     fn end(&self) -> Result<bool, PieceFault>
         ensures whole { IfOk result (λ d. (d ≡ true) × (self.now.bytes ≡ 0) × (self.now.chunks ≡ 0)) }
-        ensures refused { IfErr result (λ e. (e ≡ PieceFault.SourceChanged) × ((self.now.bytes ≡ 0) × (self.now.chunks ≡ 0) → ⊥)) }
+        ensures refused { IfErr result (λ e. (e ≡ PieceFault.SourceChanged) ×
+            ((self.now.bytes ≡ 0) × (self.now.chunks ≡ 0) → ⊥)) }
     {
         if self.chunks == 0 && self.bytes == 0 {
             return Ok(true);
@@ -368,43 +464,80 @@ impl Writer {
         w: &mut Window,
         m: &mut Meter,
     ) -> Result<bool, PieceFault>
-        requires sound { SoundWriter (R.within runs.old) (R.reach runs.old) (R.count runs.old) (R.size runs.old) self.old }
+        requires sound { SoundWriter (R.within runs.old) (R.reach runs.old) (R.count runs.old) (R.size runs.old)
+            self.old }
         requires opened { IsTrue S.tells → R.opened runs.old (S.content source.old) }
-        requires told { IsTrue S.tells → ToldWriter (R.place runs.old (S.content source.old)) (R.together runs.old (S.content source.old)) (R.list runs.old (S.content source.old)) self.old }
+        requires told { IsTrue S.tells → ToldWriter (R.place runs.old (S.content source.old))
+            (R.together runs.old (S.content source.old)) (R.list runs.old (S.content source.old)) self.old }
         ensures same { runs.new ≡ runs.old }
         ensures content { IsTrue S.tells → S.content source.new ≡ S.content source.old }
         ensures frame { S.read_frame source.new ≡ S.read_frame source.old }
-        ensures sound { OnOk result (SoundWriter (R.within runs.old) (R.reach runs.old) (R.count runs.old) (R.size runs.old) self.new) }
-        ensures told { IsTrue S.tells → OnOk result (ToldWriter (R.place runs.old (S.content source.old)) (R.together runs.old (S.content source.old)) (R.list runs.old (S.content source.old)) self.new) }
+        ensures sound { OnOk result (SoundWriter (R.within runs.old) (R.reach runs.old) (R.count runs.old)
+            (R.size runs.old) self.new) }
+        ensures told { IsTrue S.tells →
+            OnOk result (ToldWriter (R.place runs.old (S.content source.old))
+            (R.together runs.old (S.content source.old)) (R.list runs.old (S.content source.old)) self.new) }
         ensures segment { (self.new.first ≡ self.old.first) × (self.new.past ≡ self.old.past) }
         ensures grown { length (O.written output.old) ≤ length (O.written output.new) }
         ensures within { length (O.written output.new) ≤ length (O.written output.old) + self.old.bytes }
-        ensures counted { OnOk result (length (O.written output.new) + self.new.bytes ≡ length (O.written output.old) + self.old.bytes) }
-        ensures few { length (O.written output.new) ≤ length (O.written output.old) + (S.given source.new - S.given source.old) + 80 }
-        ensures front { IsTrue S.tells → O.written output.new ≡ O.written output.old ++ take (length (O.written output.new) - length (O.written output.old)) (rest_of (frame_of (R.list runs.old (S.content source.old)) self.old) self.old) }
-        ensures rest { IsTrue S.tells → OnOk result (rest_of (frame_of (R.list runs.old (S.content source.old)) self.old) self.new ≡ drop (length (O.written output.new) - length (O.written output.old)) (rest_of (frame_of (R.list runs.old (S.content source.old)) self.old) self.old)) }
-        ensures leads { IfOk result (λ d. d ≡ false → Leads (MayCome (R.size runs.old) (R.count runs.old) self.old) (MayCome (R.size runs.old) (R.count runs.old) self.new) (O.written output.old) (O.written output.new)) }
+        ensures counted { OnOk result (length (O.written output.new) + self.new.bytes
+            ≡ length (O.written output.old) + self.old.bytes) }
+        ensures few { length (O.written output.new)
+            ≤ length (O.written output.old) + (S.given source.new - S.given source.old) + 80 }
+        ensures front { IsTrue S.tells → O.written output.new ≡ O.written output.old ++ take
+            (length (O.written output.new) - length (O.written output.old))
+            (rest_of (frame_of (R.list runs.old (S.content source.old)) self.old) self.old) }
+        ensures rest { IsTrue S.tells →
+            OnOk result (rest_of (frame_of (R.list runs.old (S.content source.old)) self.old) self.new
+            ≡ drop (length (O.written output.new) - length (O.written output.old))
+            (rest_of (frame_of (R.list runs.old (S.content source.old)) self.old) self.old)) }
+        ensures leads { IfOk result (λ d. d ≡ false → Leads (MayCome (R.size runs.old) (R.count runs.old) self.old)
+            (MayCome (R.size runs.old) (R.count runs.old) self.new) (O.written output.old) (O.written output.new)) }
         ensures all { IfOk result (λ d. d ≡ true → MayCome (R.size runs.old) (R.count runs.old) self.old []) }
         ensures write_frame { O.write_frame output.new ≡ O.write_frame output.old }
         ensures write_faults { O.write_faults output.old ≤ O.write_faults output.new }
-        ensures cause { IfErr result (λ e. HasCause e S.tells (S.read_faults source.old) (S.read_faults source.new) (O.write_faults output.old) (O.write_faults output.new)) }
-        ensures left { IfOk result (λ d. d ≡ false → write_left (R.left runs.old) (R.count runs.old) self.new < write_left (R.left runs.old) (R.count runs.old) self.old) }
-        ensures ended { IfOk result (λ d. d ≡ true → (self.old.bytes ≡ 0) × (O.written output.new ≡ O.written output.old)) }
+        ensures cause { IfErr result (λ e. HasCause e S.tells (S.read_faults source.old) (S.read_faults source.new)
+            (O.write_faults output.old) (O.write_faults output.new)) }
+        ensures left { IfOk result (λ d. d ≡ false → write_left (R.left runs.old) (R.count runs.old) self.new
+            < write_left (R.left runs.old) (R.count runs.old) self.old) }
+        ensures ended { IfOk result (λ d. d ≡ true → (self.old.bytes ≡ 0) ×
+            (O.written output.new ≡ O.written output.old)) }
         ensures given { S.given source.old ≤ S.given source.new }
-        ensures paid { IfOk result (λ d. d ≡ false → silent_left (R.count runs.old) self.old.past self.new.gatherer < silent_left (R.count runs.old) self.old.past self.old.gatherer + (S.given source.new - S.given source.old) + (length (O.written output.new) - length (O.written output.old))) }
-        ensures spends { IsTrue S.tells → (d : Cursor) → R.within runs.old d → R.place runs.old (S.content source.old) d → d.block ≡ self.old.past → d.ask ≡ 1 → (s t : ℕ) → Spent (λ c. R.within runs.old c × R.place runs.old (S.content source.old) c) (R.charge runs.old) (R.copied runs.old) (R.held runs.old) d s t self.old → IfOk result (λ _. Spent (λ c. R.within runs.old c × R.place runs.old (S.content source.old) c) (R.charge runs.old) (R.copied runs.old) (R.held runs.old) d s (t + (S.given source.new - S.given source.old)) self.new) }
-        ensures spent { IsTrue S.tells → (d : Cursor) → R.within runs.old d → R.place runs.old (S.content source.old) d → d.block ≡ self.old.past → d.ask ≡ 1 → (s t : ℕ) → Spent (λ c. R.within runs.old c × R.place runs.old (S.content source.old) c) (R.charge runs.old) (R.copied runs.old) (R.held runs.old) d s t self.old → IfOk result (λ done. done ≡ true → t + (S.given source.new - S.given source.old) ≤ 2 * R.charge runs.old d + R.copied runs.old d + 32) }
+        ensures paid { IfOk result (λ d. d ≡ false → silent_left (R.count runs.old) self.old.past self.new.gatherer
+            < silent_left (R.count runs.old) self.old.past self.old.gatherer + (S.given source.new - S.given source.old)
+            + (length (O.written output.new) - length (O.written output.old))) }
+        ensures spends { IsTrue S.tells → (d : Cursor) → R.within runs.old d → R.place runs.old (S.content source.old) d
+            → d.block ≡ self.old.past → d.ask ≡ 1 → (s t : ℕ) →
+            Spent (λ c. R.within runs.old c × R.place runs.old (S.content source.old) c) (R.charge runs.old)
+            (R.copied runs.old) (R.held runs.old) d s t self.old →
+            IfOk result (λ _. Spent (λ c. R.within runs.old c × R.place runs.old (S.content source.old) c)
+            (R.charge runs.old) (R.copied runs.old) (R.held runs.old) d s
+            (t + (S.given source.new - S.given source.old)) self.new) }
+        ensures spent { IsTrue S.tells → (d : Cursor) → R.within runs.old d → R.place runs.old (S.content source.old) d
+            → d.block ≡ self.old.past → d.ask ≡ 1 → (s t : ℕ) →
+            Spent (λ c. R.within runs.old c × R.place runs.old (S.content source.old) c) (R.charge runs.old)
+            (R.copied runs.old) (R.held runs.old) d s t self.old →
+            IfOk result (λ done. done ≡ true → t + (S.given source.new - S.given source.old)
+            ≤ 2 * R.charge runs.old d + R.copied runs.old d + 32) }
         ensures calls { S.reads source.new ≤ S.reads source.old + (S.given source.new - S.given source.old) + 2 }
-        ensures write_calls { O.writes output.new + length (O.written output.old) ≤ O.writes output.old + length (O.written output.new) + 1 }
-        ensures turns { m.new.turns.number + writer_words (R.one runs.old) (R.count runs.old) self.old ≤ m.old.turns.number + 2 * (S.given source.new - S.given source.old) + (length (O.written output.new) - length (O.written output.old)) + 3 + 2 * R.one runs.old }
-        ensures words { IfOk result (λ d. m.new.turns.number + writer_words (R.one runs.old) (R.count runs.old) self.old ≤ m.old.turns.number + 2 * (S.given source.new - S.given source.old) + (length (O.written output.new) - length (O.written output.old)) + 3 + writer_words (R.one runs.old) (R.count runs.old) self.new) }
+        ensures write_calls { O.writes output.new + length (O.written output.old) ≤ O.writes output.old + length
+            (O.written output.new) + 1 }
+        ensures turns { m.new.turns.number + writer_words (R.one runs.old) (R.count runs.old) self.old
+            ≤ m.old.turns.number + 2 * (S.given source.new - S.given source.old) + (length
+            (O.written output.new) - length (O.written output.old)) + 3 + 2 * R.one runs.old }
+        ensures words { IfOk result (λ d. m.new.turns.number + writer_words (R.one runs.old) (R.count runs.old) self.old
+            ≤ m.old.turns.number + 2 * (S.given source.new - S.given source.old) + (length
+            (O.written output.new) - length (O.written output.old)) + 3 + writer_words (R.one runs.old)
+            (R.count runs.old) self.new) }
         ensures received { S.given source.new ≤ S.given source.old + 65536 }
         ensures steps { m.new.steps.number ≡ m.old.steps.number + 1 }
         ensures greatest { m.new.greatest.number ≡ max m.old.greatest.number (S.given source.new - S.given source.old) }
         ensures faults { S.read_faults source.old ≤ S.read_faults source.new }
-        ensures clean { OnOk result ((S.read_faults source.new ≡ S.read_faults source.old) × (O.write_faults output.new ≡ O.write_faults output.old)) }
+        ensures clean { OnOk result ((S.read_faults source.new ≡ S.read_faults source.old) ×
+            (O.write_faults output.new ≡ O.write_faults output.old)) }
         ensures full_faults { O.full_faults output.new ≡ O.full_faults output.old + full_cut result }
-        ensures full { full_cut result ≡ 1 → IsTrue (O.is_full output.new) × (length (O.written output.new) < length (O.written output.old) + self.old.bytes) }
+        ensures full { full_cut result ≡ 1 → IsTrue (O.is_full output.new) ×
+            (length (O.written output.new) < length (O.written output.old) + self.old.bytes) }
     {
         match self.copying {
             Some(copying) => {

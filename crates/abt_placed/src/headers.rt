@@ -19,7 +19,8 @@ pub fn lay_front<O: Overwrite>(
 ) -> Result<(), DeviceFault>
     requires stands { at + 12 ≤ length (O.written output.old) }
     requires below { at + 12 < 2 ^ 64 }
-    ensures ok { OnOk result (O.written output.new ≡ put_at (O.written output.old) at (front_bytes RunKind.Raw blocks total)) }
+    ensures ok { OnOk result (O.written output.new ≡ put_at (O.written output.old) at
+        (front_bytes RunKind.Raw blocks total)) }
     ensures before { take at (O.written output.new) ≡ take at (O.written output.old) }
     ensures long { length (O.written output.new) ≡ length (O.written output.old) }
     ensures frame { O.write_frame output.new ≡ O.write_frame output.old }
@@ -52,7 +53,8 @@ pub fn lay_header<O: Overwrite>(
     requires stands { at + 28 ≤ length (O.written output.old) }
     requires below { at + 28 < 2 ^ 64 }
     requires zeros { take 28 (drop at (O.written output.old)) ≡ replicate 28 0 }
-    ensures ok { OnOk result (O.written output.new ≡ put_at (O.written output.old) at (header_record (plain_header size count chunks))) }
+    ensures ok { OnOk result (O.written output.new ≡ put_at (O.written output.old) at
+        (header_record (plain_header size count chunks))) }
     ensures before { take at (O.written output.new) ≡ take at (O.written output.old) }
     ensures unfinished { OnErr result (IsUnfinished (drop at (O.written output.new))) }
     ensures long { length (O.written output.new) ≡ length (O.written output.old) }

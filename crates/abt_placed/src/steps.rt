@@ -1,5 +1,6 @@
 //! One step of laying an image: the next window of the source, or the end.
-ghost use Rattle.std.specs.Prelude.{◌≡◌, ◌<◌, ◌≤◌, ◌+◌, ◌-◌, ◌*◌, ◌%◌, ◌^◌, ◌++◌, IsTrue, IfOk, IfErr, OnOk, OnErr, IsErrOf, length, take, drop, replicate, min, max, true, false};
+ghost use Rattle.std.specs.Prelude.{◌≡◌, ◌<◌, ◌≤◌, ◌+◌, ◌-◌, ◌*◌, ◌%◌, ◌^◌, ◌++◌, IsTrue, IfOk, IfErr, OnOk, OnErr};
+ghost use Rattle.std.specs.Prelude.{IsErrOf, length, take, drop, replicate, min, max, true, false};
 ghost use Rattle.abt_io.specs.Count.{full_of};
 ghost use Rattle.abt_io.specs.Moment.{put_at};
 ghost use Rattle.abt_sparse.specs.Chunk.{header_record, plain_header};
@@ -41,18 +42,22 @@ impl Placer {
         ensures ok { OnOk result (self.new ≡ closed self.old) }
         ensures same { (self.new.most ≡ self.old.most) × (self.new.front ≡ self.old.front) }
         ensures before { take self.old.front (O.written output.new) ≡ take self.old.front (O.written output.old) }
-        ensures laid { OnOk result (O.written output.new ≡ put_at (closing self.old size (O.written output.old)) self.old.front (header_record (plain_header size (closed self.old).blocks (closed self.old).chunks))) }
+        ensures laid { OnOk result (O.written output.new ≡ put_at (closing self.old size (O.written output.old))
+            self.old.front (header_record (plain_header size (closed self.old).blocks (closed self.old).chunks))) }
         ensures unfinished { OnErr result (IsUnfinished (drop self.old.front (O.written output.new))) }
         ensures grown { length (O.written output.old) ≤ length (O.written output.new) }
-        ensures within { length (O.written output.new) ≤ self.old.front + 28 + (self.old.blocks + self.old.count) * (size + 16) }
+        ensures within { length (O.written output.new)
+            ≤ self.old.front + 28 + (self.old.blocks + self.old.count) * (size + 16) }
         ensures frame { O.write_frame output.new ≡ O.write_frame output.old }
         ensures faults { O.write_faults output.old ≤ O.write_faults output.new }
         ensures clean { OnOk result (O.write_faults output.new ≡ O.write_faults output.old) }
         ensures full_faults { O.full_faults output.new ≡ O.full_faults output.old + full_of result }
         ensures full { IsErrOf result DeviceFault.Full → IsTrue (O.is_full output.new) }
         ensures cause { OnErr result (O.write_faults output.old < O.write_faults output.new) }
-        ensures calls { O.writes output.new + length (O.written output.old) ≤ O.writes output.old + length (O.written output.new) + 40 }
-        ensures turns { m.new.turns.number + length (O.written output.old) ≤ m.old.turns.number + length (O.written output.new) + 40 }
+        ensures calls { O.writes output.new + length (O.written output.old) ≤ O.writes output.old + length
+            (O.written output.new) + 40 }
+        ensures turns { m.new.turns.number + length (O.written output.old) ≤ m.old.turns.number + length
+            (O.written output.new) + 40 }
         ensures steps { m.new.steps.number ≡ m.old.steps.number }
         ensures greatest { m.new.greatest.number ≡ m.old.greatest.number }
     {
@@ -85,11 +90,14 @@ impl Placer {
         ensures content { IsTrue S.tells → S.content source.new ≡ S.content source.old }
         ensures read_frame { S.read_frame source.new ≡ S.read_frame source.old }
         ensures write_frame { O.write_frame output.new ≡ O.write_frame output.old }
-        ensures going { IfOk result (λ d. d ≡ false → Laid S.tells (S.content source.old) runs.now.size (O.written output.new) self.new) }
-        ensures whole { IfOk result (λ d. d ≡ true → Whole S.tells (S.content source.old) runs.now.size runs.now.blocks self.old.most self.new.chunks (take self.old.front (O.written output.old)) (O.written output.new)) }
+        ensures going { IfOk result (λ d. d ≡ false → Laid S.tells (S.content source.old) runs.now.size
+            (O.written output.new) self.new) }
+        ensures whole { IfOk result (λ d. d ≡ true → Whole S.tells (S.content source.old) runs.now.size runs.now.blocks
+            self.old.most self.new.chunks (take self.old.front (O.written output.old)) (O.written output.new)) }
         ensures before { take self.old.front (O.written output.new) ≡ take self.old.front (O.written output.old) }
         ensures unfinished { OnErr result (IsUnfinished (drop self.old.front (O.written output.new))) }
-        ensures sound { IfOk result (λ d. d ≡ false → SoundPlacer runs.now.size (length (O.written output.new)) self.new) }
+        ensures sound { IfOk result (λ d. d ≡ false → SoundPlacer runs.now.size (length (O.written output.new))
+            self.new) }
         ensures on { IfOk result (λ d. d ≡ false → taken self.old < taken self.new) }
         ensures inside { OnOk result (taken self.new ≤ runs.now.blocks) }
         ensures same { (self.new.most ≡ self.old.most) × (self.new.front ≡ self.old.front) }
@@ -97,20 +105,36 @@ impl Placer {
         ensures grown { length (O.written output.old) ≤ length (O.written output.new) }
         ensures long { length (O.written output.new) ≤ self.old.front + 28 + runs.now.blocks * (runs.now.size + 16) }
         ensures given { S.given source.old ≤ S.given source.new }
-        ensures received { S.given source.new + 65536 * m.old.steps.number ≤ S.given source.old + 65536 * m.new.steps.number }
-        ensures economy { S.given source.new + read_of runs.now.length runs.now.size (taken self.old) ≤ S.given source.old + runs.now.length }
-        ensures once { OnOk result (S.given source.new + read_of runs.now.length runs.now.size (taken self.old) ≡ S.given source.old + read_of runs.now.length runs.now.size (taken self.new)) }
-        ensures going_calls { IfOk result (λ d. d ≡ false → S.reads source.new + O.writes output.new + length (O.written output.old) + 4 * padding runs.now.length runs.now.size (taken self.old) ≤ S.reads source.old + O.writes output.old + length (O.written output.new) + 6 * (S.given source.new - S.given source.old) + 4 * padding runs.now.length runs.now.size (taken self.new)) }
-        ensures calls { S.reads source.new + O.writes output.new + length (O.written output.old) + 4 * padding runs.now.length runs.now.size (taken self.old) ≤ S.reads source.old + O.writes output.old + length (O.written output.new) + 6 * (S.given source.new - S.given source.old) + 4 * runs.now.size + 41 }
-        ensures going_turns { IfOk result (λ d. d ≡ false → m.new.turns.number + 1 + length (O.written output.old) + 5 * padding runs.now.length runs.now.size (taken self.old) ≤ m.old.turns.number + length (O.written output.new) + 8 * (S.given source.new - S.given source.old) + 5 * padding runs.now.length runs.now.size (taken self.new)) }
-        ensures turns { m.new.turns.number + length (O.written output.old) + 5 * padding runs.now.length runs.now.size (taken self.old) ≤ m.old.turns.number + length (O.written output.new) + 8 * (S.given source.new - S.given source.old) + 5 * runs.now.size + 41 }
+        ensures received { S.given source.new + 65536 * m.old.steps.number
+            ≤ S.given source.old + 65536 * m.new.steps.number }
+        ensures economy { S.given source.new + read_of runs.now.length runs.now.size (taken self.old)
+            ≤ S.given source.old + runs.now.length }
+        ensures once { OnOk result (S.given source.new + read_of runs.now.length runs.now.size (taken self.old)
+            ≡ S.given source.old + read_of runs.now.length runs.now.size (taken self.new)) }
+        ensures going_calls { IfOk result (λ d. d ≡ false → S.reads source.new + O.writes output.new + length
+            (O.written output.old) + 4 * padding runs.now.length runs.now.size (taken self.old)
+            ≤ S.reads source.old + O.writes output.old + length
+            (O.written output.new) + 6 * (S.given source.new - S.given source.old) + 4 * padding runs.now.length
+            runs.now.size (taken self.new)) }
+        ensures calls { S.reads source.new + O.writes output.new + length (O.written output.old) + 4 * padding
+            runs.now.length runs.now.size (taken self.old) ≤ S.reads source.old + O.writes output.old + length
+            (O.written output.new) + 6 * (S.given source.new - S.given source.old) + 4 * runs.now.size + 41 }
+        ensures going_turns { IfOk result (λ d. d ≡ false →
+            m.new.turns.number + 1 + length (O.written output.old) + 5 * padding runs.now.length runs.now.size
+            (taken self.old) ≤ m.old.turns.number + length (O.written output.new) + 8 * (S.given source.new - S.given
+            source.old) + 5 * padding runs.now.length runs.now.size (taken self.new)) }
+        ensures turns { m.new.turns.number + length (O.written output.old) + 5 * padding runs.now.length runs.now.size
+            (taken self.old) ≤ m.old.turns.number + length (O.written output.new) + 8 * (S.given source.new - S.given
+            source.old) + 5 * runs.now.size + 41 }
         ensures greatest { m.new.greatest.number ≤ max m.old.greatest.number 65536 }
         ensures faults { S.read_faults source.old ≤ S.read_faults source.new }
         ensures write_faults { O.write_faults output.old ≤ O.write_faults output.new }
-        ensures clean { OnOk result ((S.read_faults source.new ≡ S.read_faults source.old) × (O.write_faults output.new ≡ O.write_faults output.old)) }
+        ensures clean { OnOk result ((S.read_faults source.new ≡ S.read_faults source.old) ×
+            (O.write_faults output.new ≡ O.write_faults output.old)) }
         ensures full_faults { O.full_faults output.new ≡ O.full_faults output.old + full_cut result }
         ensures full { full_cut result ≡ 1 → IsTrue (O.is_full output.new) }
-        ensures cause { IfErr result (λ e. HasCause e S.tells (S.read_faults source.old) (S.read_faults source.new) (O.write_faults output.old) (O.write_faults output.new)) }
+        ensures cause { IfErr result (λ e. HasCause e S.tells (S.read_faults source.old) (S.read_faults source.new)
+            (O.write_faults output.old) (O.write_faults output.new)) }
     {
         let from = self.blocks + self.count;
         if from == runs.blocks {

@@ -1,11 +1,13 @@
 //! Blocks that are taken, class by class, as they stand in the window.
-ghost use Rattle.std.specs.Prelude.{◌≡◌, ◌<◌, ◌≤◌, ◌+◌, ◌-◌, ◌*◌, ◌%◌, ◌^◌, ◌++◌, IsTrue, OnOk, OnErr, IsErrOf, List, length, take, drop, replicate, false};
+ghost use Rattle.std.specs.Prelude.{◌≡◌, ◌<◌, ◌≤◌, ◌+◌, ◌-◌, ◌*◌, ◌%◌, ◌^◌, ◌++◌, IsTrue, OnOk, OnErr, IsErrOf, List};
+ghost use Rattle.std.specs.Prelude.{length, take, drop, replicate, false};
 ghost use Rattle.abt_io.specs.Count.{full_of};
 ghost use Rattle.abt_sparse.specs.Block.{Block};
 ghost use Rattle.abt_sparse.specs.Chunk.{header_record, plain_header};
 ghost use Rattle.abt_io.specs.Moment.{put_at};
 ghost use Rattle.abt_runs.specs.Part.{AllOf, is_end};
-ghost use Rattle.abt_placed.specs.Placer.{SoundPlacer, open_len, closed, closing, beginning, taking, kept_for, data_for, with_part, room_of};
+ghost use Rattle.abt_placed.specs.Placer.{SoundPlacer, open_len, closed, closing, beginning, taking, kept_for};
+ghost use Rattle.abt_placed.specs.Placer.{data_for, with_part, room_of};
 ghost use Rattle.abt_placed.specs.Placed.{Placed, classes};
 ghost use Rattle.abt_placed.specs.Unfinished.{KeepsFront};
 
@@ -26,20 +28,24 @@ impl Placer {
     ) -> Result<(), DeviceFault>
         requires raw { self.now.kind ≡ RunKind.Raw → self.now.count ≤ self.now.most }
         requires some { is_end self.now.kind ≡ false → 0 < self.now.count }
-        requires room { self.now.front + 28 + open_len self.now.kind self.now.count size ≤ length (O.written output.old) }
+        requires room { self.now.front + 28 + open_len self.now.kind self.now.count size
+            ≤ length (O.written output.old) }
         requires small { 12 + self.now.most * size < 2 ^ 32 }
         ensures kept { KeepsFront (self.now.front + 28) (O.written output.old) (O.written output.new) }
         ensures written { OnOk result (O.written output.new ≡ closing self.now size (O.written output.old)) }
         ensures grown { length (O.written output.old) ≤ length (O.written output.new) }
-        ensures within { length (O.written output.new) + open_len self.now.kind self.now.count size ≤ length (O.written output.old) + self.now.count * (size + 16) }
+        ensures within { length (O.written output.new) + open_len self.now.kind self.now.count size
+            ≤ length (O.written output.old) + self.now.count * (size + 16) }
         ensures frame { O.write_frame output.new ≡ O.write_frame output.old }
         ensures faults { O.write_faults output.old ≤ O.write_faults output.new }
         ensures clean { OnOk result (O.write_faults output.new ≡ O.write_faults output.old) }
         ensures full_faults { O.full_faults output.new ≡ O.full_faults output.old + full_of result }
         ensures full { IsErrOf result DeviceFault.Full → IsTrue (O.is_full output.new) }
         ensures cause { OnErr result (O.write_faults output.old < O.write_faults output.new) }
-        ensures calls { O.writes output.new + length (O.written output.old) ≤ O.writes output.old + length (O.written output.new) + 12 }
-        ensures turns { m.new.turns.number + length (O.written output.old) ≤ m.old.turns.number + length (O.written output.new) + 12 }
+        ensures calls { O.writes output.new + length (O.written output.old) ≤ O.writes output.old + length
+            (O.written output.new) + 12 }
+        ensures turns { m.new.turns.number + length (O.written output.old) ≤ m.old.turns.number + length
+            (O.written output.new) + 12 }
         ensures steps { m.new.steps.number ≡ m.old.steps.number }
         ensures greatest { m.new.greatest.number ≡ m.old.greatest.number }
     {
@@ -66,20 +72,24 @@ impl Placer {
     ) -> Result<(), DeviceFault>
         requires raw { self.now.kind ≡ RunKind.Raw → self.now.count ≤ self.now.most }
         requires some { is_end self.now.kind ≡ false → 0 < self.now.count }
-        requires room { self.now.front + 28 + open_len self.now.kind self.now.count size ≤ length (O.written output.old) }
+        requires room { self.now.front + 28 + open_len self.now.kind self.now.count size
+            ≤ length (O.written output.old) }
         requires small { 12 + self.now.most * size < 2 ^ 32 }
         ensures kept { KeepsFront (self.now.front + 28) (O.written output.old) (O.written output.new) }
         ensures written { OnOk result (O.written output.new ≡ beginning self.now kind size (O.written output.old)) }
         ensures grown { length (O.written output.old) ≤ length (O.written output.new) }
-        ensures within { length (O.written output.new) + open_len self.now.kind self.now.count size ≤ length (O.written output.old) + self.now.count * (size + 16) + length (kept_for kind) }
+        ensures within { length (O.written output.new) + open_len self.now.kind self.now.count size
+            ≤ length (O.written output.old) + self.now.count * (size + 16) + length (kept_for kind) }
         ensures frame { O.write_frame output.new ≡ O.write_frame output.old }
         ensures faults { O.write_faults output.old ≤ O.write_faults output.new }
         ensures clean { OnOk result (O.write_faults output.new ≡ O.write_faults output.old) }
         ensures full_faults { O.full_faults output.new ≡ O.full_faults output.old + full_of result }
         ensures full { IsErrOf result DeviceFault.Full → IsTrue (O.is_full output.new) }
         ensures cause { OnErr result (O.write_faults output.old < O.write_faults output.new) }
-        ensures calls { O.writes output.new + length (O.written output.old) ≤ O.writes output.old + length (O.written output.new) + 13 }
-        ensures turns { m.new.turns.number + length (O.written output.old) ≤ m.old.turns.number + length (O.written output.new) + 13 }
+        ensures calls { O.writes output.new + length (O.written output.old) ≤ O.writes output.old + length
+            (O.written output.new) + 13 }
+        ensures turns { m.new.turns.number + length (O.written output.old) ≤ m.old.turns.number + length
+            (O.written output.new) + 13 }
         ensures steps { m.new.steps.number ≡ m.old.steps.number }
         ensures greatest { m.new.greatest.number ≡ m.old.greatest.number }
     {
@@ -118,19 +128,23 @@ impl Placer {
         ensures ok { OnOk result (self.new ≡ with_part self.old kind blocks) }
         ensures kept { KeepsFront (self.old.front + 28) (O.written output.old) (O.written output.new) }
         ensures sound { OnOk result (SoundPlacer size (length (O.written output.new)) self.new) }
-        ensures laid { (g : List Block) → Placed size g (O.written output.old) self.old → OnOk result (Placed size (g ++ classes size blocks bytes.now) (O.written output.new) self.new) }
+        ensures laid { (g : List Block) → Placed size g (O.written output.old) self.old →
+            OnOk result (Placed size (g ++ classes size blocks bytes.now) (O.written output.new) self.new) }
         ensures passed { OnOk result (self.new.blocks + self.new.count ≡ self.old.blocks + self.old.count + blocks) }
         ensures same { (self.new.most ≡ self.old.most) × (self.new.front ≡ self.old.front) }
         ensures grown { length (O.written output.old) ≤ length (O.written output.new) }
-        ensures within { length (O.written output.new) ≤ self.old.front + 28 + (self.old.blocks + self.old.count + blocks) * (size + 16) }
+        ensures within { length (O.written output.new)
+            ≤ self.old.front + 28 + (self.old.blocks + self.old.count + blocks) * (size + 16) }
         ensures frame { O.write_frame output.new ≡ O.write_frame output.old }
         ensures faults { O.write_faults output.old ≤ O.write_faults output.new }
         ensures clean { OnOk result (O.write_faults output.new ≡ O.write_faults output.old) }
         ensures full_faults { O.full_faults output.new ≡ O.full_faults output.old + full_of result }
         ensures full { IsErrOf result DeviceFault.Full → IsTrue (O.is_full output.new) }
         ensures cause { OnErr result (O.write_faults output.old < O.write_faults output.new) }
-        ensures calls { O.writes output.new + length (O.written output.old) ≤ O.writes output.old + length (O.written output.new) + 14 }
-        ensures turns { m.new.turns.number + length (O.written output.old) ≤ m.old.turns.number + length (O.written output.new) + 14 }
+        ensures calls { O.writes output.new + length (O.written output.old) ≤ O.writes output.old + length
+            (O.written output.new) + 14 }
+        ensures turns { m.new.turns.number + length (O.written output.old) ≤ m.old.turns.number + length
+            (O.written output.new) + 14 }
         ensures steps { m.new.steps.number ≡ m.old.steps.number }
         ensures greatest { m.new.greatest.number ≡ m.old.greatest.number }
     {
@@ -162,19 +176,23 @@ impl Placer {
         requires sound { SoundPlacer size (length (O.written output.old)) self.old }
         ensures kept { KeepsFront (self.old.front + 28) (O.written output.old) (O.written output.new) }
         ensures sound { OnOk result (SoundPlacer size (length (O.written output.new)) self.new) }
-        ensures laid { (g : List Block) → Placed size g (O.written output.old) self.old → OnOk result (Placed size (g ++ classes size blocks w.now.bytes) (O.written output.new) self.new) }
+        ensures laid { (g : List Block) → Placed size g (O.written output.old) self.old →
+            OnOk result (Placed size (g ++ classes size blocks w.now.bytes) (O.written output.new) self.new) }
         ensures passed { OnOk result (self.new.blocks + self.new.count ≡ self.old.blocks + self.old.count + blocks) }
         ensures same { (self.new.most ≡ self.old.most) × (self.new.front ≡ self.old.front) }
         ensures grown { length (O.written output.old) ≤ length (O.written output.new) }
-        ensures within { length (O.written output.new) ≤ self.old.front + 28 + (self.old.blocks + self.old.count + blocks) * (size + 16) }
+        ensures within { length (O.written output.new)
+            ≤ self.old.front + 28 + (self.old.blocks + self.old.count + blocks) * (size + 16) }
         ensures frame { O.write_frame output.new ≡ O.write_frame output.old }
         ensures faults { O.write_faults output.old ≤ O.write_faults output.new }
         ensures clean { OnOk result (O.write_faults output.new ≡ O.write_faults output.old) }
         ensures full_faults { O.full_faults output.new ≡ O.full_faults output.old + full_of result }
         ensures full { IsErrOf result DeviceFault.Full → IsTrue (O.is_full output.new) }
         ensures cause { OnErr result (O.write_faults output.old < O.write_faults output.new) }
-        ensures calls { O.writes output.new + length (O.written output.old) ≤ O.writes output.old + length (O.written output.new) + 4 * (blocks * size) }
-        ensures turns { m.new.turns.number + length (O.written output.old) ≤ m.old.turns.number + length (O.written output.new) + 5 * (blocks * size) }
+        ensures calls { O.writes output.new + length (O.written output.old) ≤ O.writes output.old + length
+            (O.written output.new) + 4 * (blocks * size) }
+        ensures turns { m.new.turns.number + length (O.written output.old) ≤ m.old.turns.number + length
+            (O.written output.new) + 5 * (blocks * size) }
         ensures steps { m.new.steps.number ≡ m.old.steps.number }
         ensures greatest { m.new.greatest.number ≡ m.old.greatest.number }
     {
@@ -214,8 +232,10 @@ fn put_data<O: Overwrite>(
     ensures full_faults { O.full_faults output.new ≡ O.full_faults output.old + full_of result }
     ensures full { IsErrOf result DeviceFault.Full → IsTrue (O.is_full output.new) }
     ensures cause { OnErr result (O.write_faults output.old < O.write_faults output.new) }
-    ensures calls { O.writes output.new + length (O.written output.old) ≤ O.writes output.old + length (O.written output.new) + 1 }
-    ensures turns { m.new.turns.number + length (O.written output.old) ≤ m.old.turns.number + length (O.written output.new) + 1 }
+    ensures calls { O.writes output.new + length (O.written output.old) ≤ O.writes output.old + length
+        (O.written output.new) + 1 }
+    ensures turns { m.new.turns.number + length (O.written output.old) ≤ m.old.turns.number + length
+        (O.written output.new) + 1 }
     ensures steps { m.new.steps.number ≡ m.old.steps.number }
     ensures greatest { m.new.greatest.number ≡ m.old.greatest.number }
 {

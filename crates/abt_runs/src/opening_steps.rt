@@ -1,5 +1,6 @@
 //! The steps of an opening.
-ghost use Rattle.std.specs.Prelude.{◌≡◌, ◌<◌, ◌≤◌, ◌+◌, ◌-◌, ◌^◌, ℕ, List, IsTrue, IfOk, IfErr, OnOk, Result, Ok, Err, length, take, drop, max, true, false};
+ghost use Rattle.std.specs.Prelude.{◌≡◌, ◌<◌, ◌≤◌, ◌+◌, ◌-◌, ◌^◌, ℕ, List, IsTrue, IfOk, IfErr, OnOk, Result, Ok};
+ghost use Rattle.std.specs.Prelude.{Err, length, take, drop, max, true, false};
 ghost use Rattle.abt_sparse.specs.Chunk.{Header};
 ghost use Rattle.abt_sparse.specs.Reading.{outcome, kind_at, number_at};
 ghost use Rattle.abt_sparse.specs.View.{view};
@@ -67,7 +68,8 @@ impl Opening {
         requires here { self.old.stage ≡ Stage.Header }
         requires whole { length bytes.now ≡ 28 }
         requires long { 28 ≤ size }
-        ensures keeps { (x : List ℕ) → length x ≡ size → bytes.now ≡ take 28 x → (v : Result (Header × ℕ) SparseFaults) → ComesTo self.old x v → ComesTo self.new x v }
+        ensures keeps { (x : List ℕ) → length x ≡ size → bytes.now ≡ take 28 x → (v : Result (Header × ℕ) SparseFaults)
+            → ComesTo self.old x v → ComesTo self.new x v }
         ensures leaves { Leaves result self.new.stage }
         ensures on { OnOk result ((is_more result ≡ true) × (28 ≤ self.new.at) × (to_do self.new < to_do self.old)) }
         ensures own { IfErr result IsFormat }
@@ -97,9 +99,11 @@ impl Opening {
         requires more { self.old.index < self.old.header.total_chunks }
         requires there { self.old.at + 12 ≤ self.old.length }
         requires whole { length bytes.now ≡ 12 }
-        ensures keeps { (x : List ℕ) → bytes.now ≡ take 12 (drop self.old.at x) → (v : Result (Header × ℕ) SparseFaults) → ComesTo self.old x v → ComesTo self.new x v }
+        ensures keeps { (x : List ℕ) → bytes.now ≡ take 12 (drop self.old.at x) → (v : Result (Header × ℕ) SparseFaults)
+            → ComesTo self.old x v → ComesTo self.new x v }
         ensures leaves { Leaves result self.new.stage }
-        ensures on { OnOk result ((is_more result ≡ true) × (self.old.at + 12 ≤ self.new.at) × (to_do self.new < to_do self.old)) }
+        ensures on { OnOk result ((is_more result ≡ true) × (self.old.at + 12 ≤ self.new.at) ×
+            (to_do self.new < to_do self.old)) }
         ensures own { IfErr result IsFormat }
     {
         match head_at(bytes) {
@@ -118,9 +122,11 @@ impl Opening {
         requires there { self.old.at + 12 ≤ self.old.length }
         requires whole { length bytes.now ≡ 12 }
         requires known { head_of bytes.now ≡ Some chunk }
-        ensures keeps { (x : List ℕ) → bytes.now ≡ take 12 (drop self.old.at x) → (v : Result (Header × ℕ) SparseFaults) → ComesTo self.old x v → ComesTo self.new x v }
+        ensures keeps { (x : List ℕ) → bytes.now ≡ take 12 (drop self.old.at x) → (v : Result (Header × ℕ) SparseFaults)
+            → ComesTo self.old x v → ComesTo self.new x v }
         ensures leaves { Leaves result self.new.stage }
-        ensures on { OnOk result ((is_more result ≡ true) × (self.old.at + 12 ≤ self.new.at) × (to_do self.new < to_do self.old)) }
+        ensures on { OnOk result ((is_more result ≡ true) × (self.old.at + 12 ≤ self.new.at) ×
+            (to_do self.new < to_do self.old)) }
         ensures own { IfErr result IsFormat }
     {
         let header = self.header;
@@ -150,7 +156,8 @@ impl Opening {
     fn end(&mut self) -> Result<Progress, RunFault>
         requires here { self.old.stage ≡ Stage.Chunks }
         requires last { self.old.header.total_chunks ≤ self.old.index }
-        ensures keeps { (x : List ℕ) (v : Result (Header × ℕ) SparseFaults) → ComesTo self.old x v → ComesTo self.new x v }
+        ensures keeps { (x : List ℕ) (v : Result (Header × ℕ) SparseFaults) → ComesTo self.old x v →
+            ComesTo self.new x v }
         ensures leaves { Leaves result self.new.stage }
         ensures over { OnOk result ((is_more result ≡ false) × (self.new.at ≡ self.old.at)) }
         ensures own { IfErr result IsFormat }
@@ -170,7 +177,8 @@ impl Opening {
         m: &mut Meter,
     ) -> Result<Progress, RunFault>
         requires here { self.old.stage ≡ Stage.Header }
-        ensures keeps { IsTrue S.tells → (v : Result (Header × ℕ) SparseFaults) → ComesTo self.old (S.content source.old) v → ComesTo self.new (S.content source.old) v }
+        ensures keeps { IsTrue S.tells → (v : Result (Header × ℕ) SparseFaults) →
+            ComesTo self.old (S.content source.old) v → ComesTo self.new (S.content source.old) v }
         ensures leaves { Leaves result self.new.stage }
         ensures fewer { is_more result ≡ true → to_do self.new < to_do self.old }
         ensures charged { OnOk result (S.given source.new + self.old.at ≤ S.given source.old + self.new.at) }
@@ -184,7 +192,9 @@ impl Opening {
         ensures greatest { m.new.greatest.number ≡ max m.old.greatest.number (S.given source.new - S.given source.old) }
         ensures faults { S.read_faults source.old ≤ S.read_faults source.new }
         ensures clean { OnOk result (S.read_faults source.new ≡ S.read_faults source.old) }
-        ensures cause { IfErr result (λ e. CausedAt self.old.stage e (S.read_faults source.old) (S.read_faults source.new) (IsTrue S.tells × SameLength self.old.stage self.old.length (S.content source.old))) }
+        ensures cause { IfErr result (λ e. CausedAt self.old.stage e (S.read_faults source.old)
+            (S.read_faults source.new) (IsTrue S.tells ×
+            SameLength self.old.stage self.old.length (S.content source.old))) }
     {
         let size = source.length();
         if size < FILE_HEADER as u64 {
@@ -208,8 +218,10 @@ impl Opening {
         m: &mut Meter,
     ) -> Result<Progress, RunFault>
         requires here { self.old.stage ≡ Stage.Chunks }
-        ensures keeps { IsTrue S.tells → (v : Result (Header × ℕ) SparseFaults) → ComesTo self.old (S.content source.old) v → ComesTo self.new (S.content source.old) v }
-        ensures length { self.old.stage ≡ Stage.Chunks → self.old.index < self.old.header.total_chunks → IfErr result (λ e. IsFormat e → S.size source.old ≡ self.old.length) }
+        ensures keeps { IsTrue S.tells → (v : Result (Header × ℕ) SparseFaults) →
+            ComesTo self.old (S.content source.old) v → ComesTo self.new (S.content source.old) v }
+        ensures length { self.old.stage ≡ Stage.Chunks → self.old.index < self.old.header.total_chunks →
+            IfErr result (λ e. IsFormat e → S.size source.old ≡ self.old.length) }
         ensures leaves { Leaves result self.new.stage }
         ensures fewer { is_more result ≡ true → to_do self.new < to_do self.old }
         ensures charged { OnOk result (S.given source.new + self.old.at ≤ S.given source.old + self.new.at) }
@@ -223,7 +235,9 @@ impl Opening {
         ensures greatest { m.new.greatest.number ≡ max m.old.greatest.number (S.given source.new - S.given source.old) }
         ensures faults { S.read_faults source.old ≤ S.read_faults source.new }
         ensures clean { OnOk result (S.read_faults source.new ≡ S.read_faults source.old) }
-        ensures cause { IfErr result (λ e. CausedAt self.old.stage e (S.read_faults source.old) (S.read_faults source.new) (IsTrue S.tells × SameLength self.old.stage self.old.length (S.content source.old))) }
+        ensures cause { IfErr result (λ e. CausedAt self.old.stage e (S.read_faults source.old)
+            (S.read_faults source.new) (IsTrue S.tells ×
+            SameLength self.old.stage self.old.length (S.content source.old))) }
     {
         if self.index == self.header.total_chunks {
             m.close_step(0);
@@ -259,8 +273,10 @@ impl Opening {
         w: &mut Window,
         m: &mut Meter,
     ) -> Result<Progress, RunFault>
-        ensures keeps { IsTrue S.tells → (v : Result (Header × ℕ) SparseFaults) → ComesTo self.old (S.content source.old) v → ComesTo self.new (S.content source.old) v }
-        ensures length { self.old.stage ≡ Stage.Chunks → self.old.index < self.old.header.total_chunks → IfErr result (λ e. IsFormat e → S.size source.old ≡ self.old.length) }
+        ensures keeps { IsTrue S.tells → (v : Result (Header × ℕ) SparseFaults) →
+            ComesTo self.old (S.content source.old) v → ComesTo self.new (S.content source.old) v }
+        ensures length { self.old.stage ≡ Stage.Chunks → self.old.index < self.old.header.total_chunks →
+            IfErr result (λ e. IsFormat e → S.size source.old ≡ self.old.length) }
         ensures leaves { Leaves result self.new.stage }
         ensures fewer { is_more result ≡ true → to_do self.new < to_do self.old }
         ensures again { IsOver self.old.stage → (self.new ≡ self.old) × (source.new ≡ source.old) }
@@ -275,7 +291,9 @@ impl Opening {
         ensures greatest { m.new.greatest.number ≡ max m.old.greatest.number (S.given source.new - S.given source.old) }
         ensures faults { S.read_faults source.old ≤ S.read_faults source.new }
         ensures clean { OnOk result (S.read_faults source.new ≡ S.read_faults source.old) }
-        ensures cause { IfErr result (λ e. CausedAt self.old.stage e (S.read_faults source.old) (S.read_faults source.new) (IsTrue S.tells × SameLength self.old.stage self.old.length (S.content source.old))) }
+        ensures cause { IfErr result (λ e. CausedAt self.old.stage e (S.read_faults source.old)
+            (S.read_faults source.new) (IsTrue S.tells ×
+            SameLength self.old.stage self.old.length (S.content source.old))) }
     {
         match self.stage {
             Stage::Header => self.read_header(source, w, m),

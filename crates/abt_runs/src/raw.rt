@@ -1,10 +1,13 @@
 //! A raw image as classed blocks: each block of one word all over is fill, any other is raw.
-ghost use Rattle.std.specs.Prelude.{◌≡◌, ◌<◌, ◌≤◌, ◌+◌, ◌-◌, ◌*◌, ◌/◌, ◌%◌, ◌^◌, ◌++◌, ℕ, IsTrue, IsNone, false, IfOk, IfErr, IfSome, IfNone, length, take, drop, map, replicate, slice_range};
+ghost use Rattle.std.specs.Prelude.{◌≡◌, ◌<◌, ◌≤◌, ◌+◌, ◌-◌, ◌*◌, ◌/◌, ◌%◌, ◌^◌, ◌++◌, ℕ, IsTrue, IsNone, false};
+ghost use Rattle.std.specs.Prelude.{IfOk, IfErr, IfSome, IfNone, length, take, drop, map, replicate, slice_range};
 ghost use Rattle.abt_sparse.specs.Block.{split, class_of, classify};
 ghost use Rattle.abt_runs.specs.Part.{AllOf, Caused, is_end, next_ask};
 ghost use Rattle.abt_runs.specs.Words.{kind_of_word};
 ghost use Rattle.abt_runs.specs.Raw.{RawPlace, RawPlace-prop, raw_charge, raw_padding, raw_before, raw_held, Refused};
-ghost use Rattle.abt_runs.specs.RawLaws.{raw_left, raw_long, raw_are_blocks, own_size, raw_passed, raw_copied_fits, raw_held_grows, raw_place_afresh, raw_afresh, raw_spared, raw_economy, raw_padded, raw_inside};
+ghost use Rattle.abt_runs.specs.RawLaws.{raw_left, raw_long, raw_are_blocks, own_size, raw_passed, raw_copied_fits};
+ghost use Rattle.abt_runs.specs.RawLaws.{raw_held_grows, raw_place_afresh, raw_afresh, raw_spared, raw_economy};
+ghost use Rattle.abt_runs.specs.RawLaws.{raw_padded, raw_inside};
 
 use crate::reading::{Loaded, load};
 use crate::{BlockRuns, Cursor, Run, RunFault, RunKind, equal_word};
@@ -91,7 +94,9 @@ pub fn load_filled<S: Source>(
     requires there { IsTrue S.tells → at + want ≤ length (S.content source.old) }
     ensures few { result.received ≤ want }
     ensures whole { IfNone result.fault (result.received ≡ want) }
-    ensures bytes { IsTrue S.tells → IfNone result.fault (slice_range w.new.bytes 0 room ≡ take want (drop at (S.content source.old)) ++ replicate (room - want) 0) }
+    ensures bytes { IsTrue S.tells →
+        IfNone result.fault (slice_range w.new.bytes 0 room ≡ take want (drop at (S.content source.old)) ++ replicate
+        (room - want) 0) }
     ensures content { IsTrue S.tells → S.content source.new ≡ S.content source.old }
     ensures frame { S.read_frame source.new ≡ S.read_frame source.old }
     ensures given { S.given source.new ≡ S.given source.old + result.received }

@@ -25,7 +25,8 @@ pub fn load<S: Source>(
     requires there { IsTrue S.tells → at + want ≤ length (S.content source.old) }
     ensures few { result.received ≤ want }
     ensures whole { IfNone result.fault (result.received ≡ want) }
-    ensures bytes { IsTrue S.tells → IfNone result.fault (take want w.new.bytes ≡ take want (drop at (S.content source.old))) }
+    ensures bytes { IsTrue S.tells →
+        IfNone result.fault (take want w.new.bytes ≡ take want (drop at (S.content source.old))) }
     ensures content { IsTrue S.tells → S.content source.new ≡ S.content source.old }
     ensures size { IsTrue S.tells → S.size source.new ≡ S.size source.old }
     ensures frame { S.read_frame source.new ≡ S.read_frame source.old }

@@ -1,9 +1,11 @@
 //! The trait of opened images: what is known of one, and how it is read in repeated passes.
-ghost use Rattle.std.specs.Prelude.{◌≡◌, ◌<◌, ◌≤◌, ◌+◌, ◌-◌, ◌*◌, ◌%◌, ◌^◌, ◌↔◌, ℕ, List, IsTrue, IfOk, IfErr, OnOk, length, take, drop, min, max, true, false};
+ghost use Rattle.std.specs.Prelude.{◌≡◌, ◌<◌, ◌≤◌, ◌+◌, ◌-◌, ◌*◌, ◌%◌, ◌^◌, ◌↔◌, ℕ, List, IsTrue, IfOk, IfErr, OnOk};
+ghost use Rattle.std.specs.Prelude.{length, take, drop, min, max, true, false};
 ghost use Rattle.abt_io.specs.Count.{count_of};
 ghost use Rattle.abt_sparse.specs.Block.{Block, AreBlocks};
 ghost use Rattle.abt_runs.specs.declared.part.Cursor.{Cursor};
-ghost use Rattle.abt_runs.specs.Part.{PartOf, AllOf, MovesOn, Capped, Caused, Earliest, Afresh, afresh, entry, is_end, raw_of, piece_bytes};
+ghost use Rattle.abt_runs.specs.Part.{PartOf, AllOf, MovesOn, Capped, Caused, Earliest, Afresh, afresh, entry};
+ghost use Rattle.abt_runs.specs.Part.{is_end, raw_of, piece_bytes};
 ghost use Rattle.abt_runs.specs.Whole.{RunOf};
 
 use crate::whole::{joined, room};
@@ -111,40 +113,52 @@ pub trait BlockRuns {
     ) -> Result<Run, RunFault>
         requires some { 0 < cap }
         requires within { within self.old from }
-        requires told { IsTrue S.tells → opened self.old (S.content source.old) × place self.old (S.content source.old) from }
+        requires told { IsTrue S.tells → opened self.old (S.content source.old) ×
+            place self.old (S.content source.old) from }
         ensures same { self.new ≡ self.old }
         ensures content { IsTrue S.tells → S.content source.new ≡ S.content source.old }
         ensures frame { S.read_frame source.new ≡ S.read_frame source.old }
         ensures part { IsTrue S.tells → IfOk result (λ r. PartOf (list self.old (S.content source.old)) from.block r) }
         ensures place { IsTrue S.tells → IfOk result (λ r. place self.old (S.content source.old) r.next) }
         ensures here_place { IsTrue S.tells → IfOk result (λ r. place self.old (S.content source.old) r.here) }
-        ensures stands { IsTrue S.tells → IfOk result (λ r. r.kind ≡ RunKind.Raw → r.blocks ≤ together self.old (S.content source.old) r.here) }
+        ensures stands { IsTrue S.tells →
+            IfOk result (λ r. r.kind ≡ RunKind.Raw → r.blocks ≤ together self.old (S.content source.old) r.here) }
         ensures within { IfOk result (λ r. within self.old r.next) }
-        ensures here { IfOk result (λ r. (r.here.block ≡ from.block) × within self.old r.here × (charge self.old from ≤ charge self.old r.here)) }
+        ensures here { IfOk result (λ r. (r.here.block ≡ from.block) × within self.old r.here ×
+            (charge self.old from ≤ charge self.old r.here)) }
         ensures inside { IfOk result (λ r. r.here.used ≤ from.used) }
         ensures reached { IfOk result (λ r. r.kind ≡ RunKind.Raw → r.blocks * size self.old ≤ reach self.old r.here) }
         ensures nowhere { IfOk result (λ r. r.blocks ≡ 0 → r.here ≡ r.next) }
         ensures length { IfOk result (λ r. is_end r.kind ≡ false → S.size source.old ≡ source_size self.old) }
-        ensures first { IsTrue S.tells → IfOk result (λ r. 0 < r.blocks → Earliest (λ d. within self.old d × place self.old (S.content source.old) d) (copied self.old) (charge self.old) r.next) }
+        ensures first { IsTrue S.tells →
+            IfOk result (λ r. 0 < r.blocks → Earliest (λ d. within self.old d × place self.old (S.content source.old) d)
+            (copied self.old) (charge self.old) r.next) }
         ensures anew { IfOk result (λ r. charge self.old (afresh r.here) ≤ charge self.old r.here) }
-        ensures not_past { IsTrue S.tells → IfOk result (λ r. (d : Cursor) → within self.old d → place self.old (S.content source.old) d → d.block ≡ from.block + cap → r.blocks ≤ cap) }
+        ensures not_past { IsTrue S.tells →
+            IfOk result (λ r. (d : Cursor) → within self.old d → place self.old (S.content source.old) d →
+            d.block ≡ from.block + cap → r.blocks ≤ cap) }
         ensures moved { IfOk result (λ r. r.next.block ≡ from.block + r.blocks) }
         ensures capped { IfOk result (λ r. Capped cap r) }
         ensures on { IfOk result (λ r. MovesOn (left self.old) from r) }
         ensures stops { IfOk result (λ r. 0 < r.next.used → (r.kind ≡ RunKind.Raw) × (r.blocks ≡ cap)) }
         ensures goes_on { 0 < from.used → IfOk result (λ r. (r.kind ≡ RunKind.Raw) × (0 < r.blocks)) }
         ensures at_end { IfOk result (λ r. is_end r.kind ≡ true → (from.block ≡ count self.old) × (r.blocks ≡ 0)) }
-        ensures charged { IfOk result (λ r. S.given source.new + charge self.old from ≤ S.given source.old + charge self.old r.next + entry from) }
-        ensures takes { IfOk result (λ r. piece_bytes (size self.old) from.used r.kind r.blocks + taken self.old from ≤ taken self.old r.next) }
-        ensures copies { IfOk result (λ r. r.kind ≡ RunKind.Raw → copied self.old r.here + held self.old r.here (r.blocks * size self.old) ≤ copied self.old r.next) }
-        ensures onward { IfOk result (λ r. (copied self.old from ≤ copied self.old r.here) × (copied self.old r.here ≤ copied self.old r.next)) }
+        ensures charged { IfOk result (λ r. S.given source.new + charge self.old from ≤ S.given source.old + charge
+            self.old r.next + entry from) }
+        ensures takes { IfOk result (λ r. piece_bytes (size self.old) from.used r.kind r.blocks + taken self.old from
+            ≤ taken self.old r.next) }
+        ensures copies { IfOk result (λ r. r.kind ≡ RunKind.Raw →
+            copied self.old r.here + held self.old r.here (r.blocks * size self.old) ≤ copied self.old r.next) }
+        ensures onward { IfOk result (λ r. (copied self.old from ≤ copied self.old r.here) ×
+            (copied self.old r.here ≤ copied self.old r.next)) }
         ensures given { S.given source.old ≤ S.given source.new }
         ensures fetched { IfOk result (λ r. is_end r.kind ≡ false → S.given source.old < S.given source.new) }
         ensures ended { IfOk result (λ r. is_end r.kind ≡ true → S.given source.new ≡ S.given source.old) }
         ensures most { S.given source.new ≤ S.given source.old + 16 + cap * one self.old }
         ensures received { S.given source.new ≤ S.given source.old + 65536 }
         ensures calls { S.reads source.new ≤ S.reads source.old + (S.given source.new - S.given source.old) + 2 }
-        ensures turns { m.new.turns.number ≤ m.old.turns.number + 2 * (S.given source.new - S.given source.old) + 2 + padding self.old from }
+        ensures turns { m.new.turns.number
+            ≤ m.old.turns.number + 2 * (S.given source.new - S.given source.old) + 2 + padding self.old from }
         ensures filled_up { IfOk result (λ r. 0 < padding self.old from → 0 < r.blocks) }
         ensures steps { m.new.steps.number ≡ m.old.steps.number + 1 }
         ensures greatest { m.new.greatest.number ≡ max m.old.greatest.number (S.given source.new - S.given source.old) }
@@ -169,15 +183,22 @@ pub trait BlockRuns {
         requires window { length out.old ≤ 65536 }
         requires within { within self.old here }
         requires room { at + length out.old ≤ reach self.old here }
-        requires told { IsTrue S.tells → opened self.old (S.content source.old) × place self.old (S.content source.old) here }
+        requires told { IsTrue S.tells → opened self.old (S.content source.old) ×
+            place self.old (S.content source.old) here }
         ensures same { self.new ≡ self.old }
         ensures content { IsTrue S.tells → S.content source.new ≡ S.content source.old }
         ensures frame { S.read_frame source.new ≡ S.read_frame source.old }
         ensures within { count_of result ≤ length out.new }
         ensures some { IfOk result (λ n. 0 < length out.new → 0 < n) }
-        ensures bytes { IsTrue S.tells → IfOk result (λ n. (q : ℕ) → q ≤ together self.old (S.content source.old) here → AllOf RunKind.Raw (take q (drop here.block (list self.old (S.content source.old)))) → at + n ≤ q * size self.old → take n out.new ≡ take n (drop at (raw_of (take q (drop here.block (list self.old (S.content source.old))))))) }
-        ensures given { S.given source.old ≤ S.given source.new × S.given source.new ≤ S.given source.old + count_of result }
-        ensures read { S.given source.new + held self.old here at ≤ S.given source.old + held self.old here (at + count_of result) }
+        ensures bytes { IsTrue S.tells → IfOk result (λ n. (q : ℕ) → q ≤ together self.old (S.content source.old) here →
+            AllOf RunKind.Raw (take q (drop here.block (list self.old (S.content source.old)))) →
+            at + n ≤ q * size self.old →
+            take n out.new
+            ≡ take n (drop at (raw_of (take q (drop here.block (list self.old (S.content source.old))))))) }
+        ensures given { S.given source.old ≤ S.given source.new × S.given source.new ≤ S.given source.old + count_of
+            result }
+        ensures read { S.given source.new + held self.old here at ≤ S.given source.old + held self.old here
+            (at + count_of result) }
         ensures few { IfOk result (λ n. n ≤ 80 + (S.given source.new - S.given source.old)) }
         ensures calls { S.reads source.new ≤ S.reads source.old + 1 }
         ensures turns { m.new.turns.number ≡ m.old.turns.number }
@@ -202,24 +223,33 @@ pub trait BlockRuns {
     ) -> Result<Run, RunFault>
         requires some { 0 < cap }
         requires within { within self.old from }
-        requires told { IsTrue S.tells → opened self.old (S.content source.old) × place self.old (S.content source.old) from }
+        requires told { IsTrue S.tells → opened self.old (S.content source.old) ×
+            place self.old (S.content source.old) from }
         ensures same { self.new ≡ self.old }
         ensures content { IsTrue S.tells → S.content source.new ≡ S.content source.old }
         ensures frame { S.read_frame source.new ≡ S.read_frame source.old }
-        ensures run { IsTrue S.tells → IfOk result (λ r. RunOf cap (list self.old (S.content source.old)) from.block r) }
-        ensures places { IsTrue S.tells → IfOk result (λ r. place self.old (S.content source.old) r.here × place self.old (S.content source.old) r.next) }
+        ensures run { IsTrue S.tells →
+            IfOk result (λ r. RunOf cap (list self.old (S.content source.old)) from.block r) }
+        ensures places { IsTrue S.tells → IfOk result (λ r. place self.old (S.content source.old) r.here ×
+            place self.old (S.content source.old) r.next) }
         ensures nowhere { IfOk result (λ r. r.blocks ≡ 0 → r.here ≡ r.next) }
-        ensures stands { IsTrue S.tells → IfOk result (λ r. r.kind ≡ RunKind.Raw → 0 < together self.old (S.content source.old) r.here) }
+        ensures stands { IsTrue S.tells →
+            IfOk result (λ r. r.kind ≡ RunKind.Raw → 0 < together self.old (S.content source.old) r.here) }
         ensures within { IfOk result (λ r. within self.old r.here × within self.old r.next) }
         ensures reached { IfOk result (λ r. r.kind ≡ RunKind.Raw → size self.old ≤ reach self.old r.here) }
         ensures moved { IfOk result (λ r. (r.here.block ≡ from.block) × (r.next.block ≡ from.block + r.blocks)) }
         ensures capped { IfOk result (λ r. Capped cap r) }
         ensures end { IfOk result (λ r. IsTrue (is_end r.kind) ↔ from.block ≡ count self.old) }
-        ensures charged { IfOk result (λ r. S.given source.new + charge self.old from ≤ S.given source.old + charge self.old r.next + entry from + min 65536 (16 + cap * one self.old)) }
+        ensures charged { IfOk result (λ r. S.given source.new + charge self.old from ≤ S.given source.old + charge
+            self.old r.next + entry from + min 65536 (16 + cap * one self.old)) }
         ensures given { S.given source.old ≤ S.given source.new }
-        ensures received { S.given source.new + 65536 * m.old.steps.number ≤ S.given source.old + 65536 * m.new.steps.number }
-        ensures calls { S.reads source.new + 2 * m.old.steps.number ≤ S.reads source.old + (S.given source.new - S.given source.old) + 2 * m.new.steps.number }
-        ensures turns { m.new.turns.number + (3 + one self.old) * m.old.steps.number ≤ m.old.turns.number + 2 * (S.given source.new - S.given source.old) + (3 + one self.old) * m.new.steps.number + 1 }
+        ensures received { S.given source.new + 65536 * m.old.steps.number
+            ≤ S.given source.old + 65536 * m.new.steps.number }
+        ensures calls { S.reads source.new + 2 * m.old.steps.number
+            ≤ S.reads source.old + (S.given source.new - S.given source.old) + 2 * m.new.steps.number }
+        ensures turns { m.new.turns.number + (3 + one self.old) * m.old.steps.number
+            ≤ m.old.turns.number + 2 * (S.given source.new - S.given source.old) + (3 + one self.old)
+            * m.new.steps.number + 1 }
         ensures greatest { m.new.greatest.number ≤ max m.old.greatest.number 65536 }
         ensures faults { S.read_faults source.old ≤ S.read_faults source.new }
         ensures clean { OnOk result (S.read_faults source.new ≡ S.read_faults source.old) }
@@ -282,7 +312,8 @@ pub trait BlockRuns {
     ghost held_grows: { (s : Self) (c : Cursor) (m n : ℕ) → m ≤ n → (held s c m ≤ held s c n) × (held s c n ≤ n) };
 
     /// A place is one, too, where one block is asked for: no less has been read before it then, and no more is to pass.
-    ghost afresh_within: { (s : Self) (c : Cursor) → within s c → Afresh (within s) (charge s) (taken s) (copied s) (left s) c };
+    ghost afresh_within: { (s : Self) (c : Cursor) → within s c → Afresh (within s) (charge s) (taken s) (copied s)
+        (left s) c };
 
     /// So it is in the image that these bytes are.
     ghost afresh_place: { (s : Self) (x : List ℕ) (c : Cursor) → place s x c → place s x (afresh c) };

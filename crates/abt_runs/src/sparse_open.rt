@@ -1,5 +1,6 @@
 //! Opening a sparse image.
-ghost use Rattle.std.specs.Prelude.{◌≡◌, ◌<◌, ◌≤◌, ◌+◌, ◌-◌, ◌*◌, ℕ, List, IsTrue, IfOk, IfErr, OnOk, length, max, true};
+ghost use Rattle.std.specs.Prelude.{◌≡◌, ◌<◌, ◌≤◌, ◌+◌, ◌-◌, ◌*◌, ℕ, List, IsTrue, IfOk, IfErr, OnOk, length, max};
+ghost use Rattle.std.specs.Prelude.{true};
 ghost use Rattle.abt_sparse.specs.Reading.{outcome};
 ghost use Rattle.abt_sparse.specs.View.{view};
 ghost use Rattle.abt_runs.specs.Stage.{is_done};
@@ -14,7 +15,8 @@ impl Opening {
     pub fn into_runs(self) -> SparseRuns
         requires { is_done self.stage ≡ true }
         ensures image { result.image ≡ self.at }
-        ensures opened { (x : List ℕ) → ComesTo self x (ends (outcome x)) → SparseOpened (view result.header) result.length result.image x }
+        ensures opened { (x : List ℕ) → ComesTo self x (ends (outcome x)) →
+            SparseOpened (view result.header) result.length result.image x }
     {
         SparseRuns {
             header: self.header,
@@ -33,7 +35,8 @@ impl SparseRuns {
         w: &mut Window,
         m: &mut Meter,
     ) -> Result<SparseRuns, RunFault>
-        ensures opened { IsTrue S.tells → IfOk result (λ r. SparseOpened (view r.header) r.length r.image (S.content source.old)) }
+        ensures opened { IsTrue S.tells →
+            IfOk result (λ r. SparseOpened (view r.header) r.length r.image (S.content source.old)) }
         ensures refused { IsTrue S.tells → IfErr result (λ e. Refuses e (outcome (S.content source.old))) }
         ensures content { IsTrue S.tells → S.content source.new ≡ S.content source.old }
         ensures frame { S.read_frame source.new ≡ S.read_frame source.old }
@@ -45,7 +48,8 @@ impl SparseRuns {
         ensures greatest { m.new.greatest.number ≤ max m.old.greatest.number 28 }
         ensures faults { S.read_faults source.old ≤ S.read_faults source.new }
         ensures clean { OnOk result (S.read_faults source.new ≡ S.read_faults source.old) }
-        ensures cause { IfErr result (λ e. CausedAt Stage.Header e (S.read_faults source.old) (S.read_faults source.new) (IsTrue S.tells)) }
+        ensures cause { IfErr result (λ e. CausedAt Stage.Header e (S.read_faults source.old) (S.read_faults source.new)
+            (IsTrue S.tells)) }
     {
         let mut opening = Opening::begin();
         'steps: loop {

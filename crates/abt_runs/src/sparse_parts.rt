@@ -1,12 +1,17 @@
 //! A sparse image as classed blocks: its chunks one after the other, each read where it stands.
-ghost use Rattle.std.specs.Prelude.{◌≡◌, ◌<◌, ◌≤◌, ◌+◌, ◌-◌, ◌*◌, ◌^◌, ◌↔◌, ℕ, IsTrue, IsNone, IfSome, IfNone, Some, length, take, drop, true, false};
+ghost use Rattle.std.specs.Prelude.{◌≡◌, ◌<◌, ◌≤◌, ◌+◌, ◌-◌, ◌*◌, ◌^◌, ◌↔◌, ℕ, IsTrue, IsNone, IfSome, IfNone, Some};
+ghost use Rattle.std.specs.Prelude.{length, take, drop, true, false};
 ghost use Rattle.abt_sparse.specs.Reading.{counted};
 ghost use Rattle.abt_sparse.specs.View.{view};
 ghost use Rattle.abt_sparse.specs.declared.chunk_header.ChunkHeader.{ChunkHeader as Heads};
 ghost use Rattle.abt_runs.specs.Part.{Caused};
-ghost use Rattle.abt_runs.specs.Head.{head_of, HeadFits, has_word as wants_word, class_of_kind, part_of_chunk, is_raw as raws};
-ghost use Rattle.abt_runs.specs.Sparse.{SparseOpened, SparsePlace, SparseWithin, SparseWithin-prop, sparse_list, sparse_charge, data_place, blocks_together};
-ghost use Rattle.abt_runs.specs.SparseLaws.{sparse_long, sparse_are_blocks, sparse_one, sparse_left, sparse_held_grows, sparse_place_afresh, sparse_afresh, sparse_spared, sparse_economy, sparse_padded, sparse_source_long};
+ghost use Rattle.abt_runs.specs.Head.{head_of, HeadFits, has_word as wants_word, class_of_kind, part_of_chunk};
+ghost use Rattle.abt_runs.specs.Head.{is_raw as raws};
+ghost use Rattle.abt_runs.specs.Sparse.{SparseOpened, SparsePlace, SparseWithin, SparseWithin-prop, sparse_list};
+ghost use Rattle.abt_runs.specs.Sparse.{sparse_charge, data_place, blocks_together};
+ghost use Rattle.abt_runs.specs.SparseLaws.{sparse_long, sparse_are_blocks, sparse_one, sparse_left};
+ghost use Rattle.abt_runs.specs.SparseLaws.{sparse_held_grows, sparse_place_afresh, sparse_afresh, sparse_spared};
+ghost use Rattle.abt_runs.specs.SparseLaws.{sparse_economy, sparse_padded, sparse_source_long};
 
 use crate::head::{CHUNK_HEADER, head_at};
 use crate::reading::load;
@@ -111,10 +116,12 @@ fn load_word<S: Source>(
     m: &mut Meter,
 ) -> Word
     requires below { at + 4 < 2 ^ 64 }
-    requires there { IsTrue S.tells → wants_word chunk.now.kind chunk.now.blocks ≡ true → at + 4 ≤ length (S.content source.old) }
+    requires there { IsTrue S.tells → wants_word chunk.now.kind chunk.now.blocks ≡ true →
+        at + 4 ≤ length (S.content source.old) }
     ensures few { result.received ≤ 4 }
     ensures none { wants_word chunk.now.kind chunk.now.blocks ≡ false → result.received ≡ 0 }
-    ensures bytes { IsTrue S.tells → IfNone result.fault (wants_word chunk.now.kind chunk.now.blocks ≡ true → result.bytes ≡ take 4 (drop at (S.content source.old))) }
+    ensures bytes { IsTrue S.tells → IfNone result.fault (wants_word chunk.now.kind chunk.now.blocks ≡ true →
+        result.bytes ≡ take 4 (drop at (S.content source.old))) }
     ensures content { IsTrue S.tells → S.content source.new ≡ S.content source.old }
     ensures frame { S.read_frame source.new ≡ S.read_frame source.old }
     ensures given { S.given source.new ≡ S.given source.old + result.received }
@@ -173,7 +180,8 @@ impl SparseRuns {
         requires at { from.at ≤ self.now.image }
         ensures fits { IfSome result (λ k. HeadFits (view self.now.header) self.now.image from k) }
         ensures read { IfSome result (λ k. head_of bytes.now ≡ Some k) }
-        ensures found { (k : Heads) → head_of bytes.now ≡ Some k → HeadFits (view self.now.header) self.now.image from k → result ≡ Some k }
+        ensures found { (k : Heads) → head_of bytes.now ≡ Some k → HeadFits (view self.now.header) self.now.image from k
+            → result ≡ Some k }
     {
         match head_at(bytes) {
             Some(chunk) => {
@@ -245,7 +253,8 @@ impl BlockRuns for SparseRuns {
 
     ghost bounded = { λ s c h. h.block };
 
-    ghost left_fits = { λ s c h. sparse_left s.header.total_blks s.header.total_chunks c.block c.chunk s.few_blocks s.few_chunks };
+    ghost left_fits = { λ s c h. sparse_left s.header.total_blks s.header.total_chunks c.block c.chunk s.few_blocks
+        s.few_chunks };
 
     ghost passed = { λ s c h. (h.charge, h.charge) };
 

@@ -1,6 +1,7 @@
 //! Whether an image is what the packer would have written.
 
-ghost use Rattle.std.specs.Prelude.{◌≡◌, ◌<◌, ◌≤◌, ◌+◌, ◌-◌, ◌^◌, ◌++◌, ◌↔◌, ◌&&◌, IsTrue, IfOk, IfErr, OnOk, Err, None, length, take, drop, slice_range};
+ghost use Rattle.std.specs.Prelude.{◌≡◌, ◌<◌, ◌≤◌, ◌+◌, ◌-◌, ◌^◌, ◌++◌, ◌↔◌, ◌&&◌, IsTrue, IfOk, IfErr, OnOk, Err};
+ghost use Rattle.std.specs.Prelude.{None, length, take, drop, slice_range};
 ghost use Rattle.abt_headers.specs.Places.{EachLow};
 ghost use Rattle.abt_sections.specs.Cause.{ReadCause, full_handed};
 ghost use Rattle.abt_sections.specs.Canonical.{StartsAsPacked};

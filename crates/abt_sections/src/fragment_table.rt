@@ -1,6 +1,7 @@
 //! The table of ramdisk fragments, which a vendor boot image of version 4 has.
 
-ghost use Rattle.std.specs.Prelude.{◌≡◌, ◌<◌, ◌≤◌, ◌+◌, ◌-◌, ◌*◌, ◌^◌, ℕ, IsTrue, IfOk, IfErr, OnOk, MatchBool, MatchResult, ◌↔◌, Err, None, length, take, drop};
+ghost use Rattle.std.specs.Prelude.{◌≡◌, ◌<◌, ◌≤◌, ◌+◌, ◌-◌, ◌*◌, ◌^◌, ℕ, IsTrue, IfOk, IfErr, OnOk, MatchBool};
+ghost use Rattle.std.specs.Prelude.{MatchResult, ◌↔◌, Err, None, length, take, drop};
 ghost use Rattle.abt_headers.specs.Entry.{entry_at};
 ghost use Rattle.abt_sections.specs.Cause.{ReadCause, OpenCause, full_handed};
 ghost use Rattle.abt_sections.specs.Entries.{EntriesStand, HoldsEntry};

@@ -3,7 +3,8 @@
 //! What stands where a call here fails is said no closer than that the bytes before are kept (`grown`): its caller has
 //! zeros where the header will stand.
 
-ghost use Rattle.std.specs.Prelude.{◌≡◌, ◌<◌, ◌≤◌, ◌+◌, ◌*◌, ◌^◌, ◌++◌, ◌∷◌, [], ℕ, List, IsTrue, IfErr, OnOk, length, map, take, drop, sum};
+ghost use Rattle.std.specs.Prelude.{◌≡◌, ◌<◌, ◌≤◌, ◌+◌, ◌*◌, ◌^◌, ◌++◌, ◌∷◌, [], ℕ, List, IsTrue, IfErr, OnOk};
+ghost use Rattle.std.specs.Prelude.{length, map, take, drop, sum};
 ghost use Rattle.sha1.specs.Sha1.{Holds};
 ghost use Rattle.abt_headers.specs.Page as of_page;
 ghost use Rattle.abt_sections.specs.Cause.{MoveCause, total, full_handed};

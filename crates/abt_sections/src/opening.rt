@@ -1,6 +1,7 @@
 //! Opening an image: its header, its sections against the source's length, and its table of ramdisk fragments.
 
-ghost use Rattle.std.specs.Prelude.{◌≡◌, ◌<◌, ◌≤◌, ◌+◌, ◌*◌, ◌^◌, IsTrue, IfOk, IfErr, OnOk, MatchResult, Ok, Err, length, take, drop, min};
+ghost use Rattle.std.specs.Prelude.{◌≡◌, ◌<◌, ◌≤◌, ◌+◌, ◌*◌, ◌^◌, IsTrue, IfOk, IfErr, OnOk, MatchResult, Ok, Err};
+ghost use Rattle.std.specs.Prelude.{length, take, drop, min};
 ghost use Rattle.abt_sections.specs.Cause.{OpenCause, full_handed};
 ghost use Rattle.abt_sections.specs.Header as header_spec;
 ghost use Rattle.abt_sections.specs.Open.{beyond, ends_beyond, OpensAs, RefusedAs};

@@ -1,6 +1,7 @@
 //! Packing a boot image.
 
-ghost use Rattle.std.specs.Prelude.{◌≡◌, ◌<◌, ◌≤◌, ◌+◌, ◌-◌, ◌*◌, ◌^◌, ◌++◌, IsTrue, IfOk, IfErr, OnOk, Err, length, map, take};
+ghost use Rattle.std.specs.Prelude.{◌≡◌, ◌<◌, ◌≤◌, ◌+◌, ◌-◌, ◌*◌, ◌^◌, ◌++◌, IsTrue, IfOk, IfErr, OnOk, Err, length};
+ghost use Rattle.std.specs.Prelude.{map, take};
 ghost use Rattle.abt_headers.specs.Boot.{boot_page, boot_record, boot_size};
 ghost use Rattle.abt_headers.specs.Page as of_page;
 ghost use Rattle.abt_sections.specs.BootCanon as canon;
@@ -113,7 +114,8 @@ fn write_image<S: Source, O: Output>(
 
 /// Packs a boot image of these fields and parts: the bytes of `bootimg.h`, laid as `mkbootimg` lays them.
 ///
-/// The parts stand in the order of the version's sections: kernel and ramdisk; then in versions 0 to 2 the second stage,
+/// The parts stand in the order of the version's sections: kernel and ramdisk; then in versions 0 to 2 the second
+/// stage,
 /// from version 1 the recovery dtbo, in version 2 the dtb; in version 4 the signature. An absent part has length 0.
 /// Versions 0 to 2 read each part twice: for the id, and for its bytes.
 ///

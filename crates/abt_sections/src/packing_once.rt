@@ -3,7 +3,8 @@
 //! The id is hashed of the parts as they are written, so the header comes last. Zeros stand for its page until all else
 //! is written, and its magic comes last of all: what was broken off opens as no image, whatever follows it.
 
-ghost use Rattle.std.specs.Prelude.{◌≡◌, ◌<◌, ◌≤◌, ◌+◌, ◌-◌, ◌*◌, ◌^◌, ◌++◌, ℕ, List, IsTrue, IfOk, IfErr, OnOk, OnErr, Err, length, map, take, drop, replicate, sum};
+ghost use Rattle.std.specs.Prelude.{◌≡◌, ◌<◌, ◌≤◌, ◌+◌, ◌-◌, ◌*◌, ◌^◌, ◌++◌, ℕ, List, IsTrue, IfOk, IfErr, OnOk};
+ghost use Rattle.std.specs.Prelude.{OnErr, Err, length, map, take, drop, replicate, sum};
 ghost use Rattle.sha1.specs.Sha1.{Holds, sha1};
 ghost use Rattle.abt_io.specs.Moment.{put_at};
 ghost use Rattle.abt_headers.specs.Boot.{boot_record, boot_size};

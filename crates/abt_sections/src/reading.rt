@@ -1,6 +1,7 @@
 //! Reading one ask from a source to the window's front.
 
-ghost use Rattle.std.specs.Prelude.{◌≡◌, ◌<◌, ◌≤◌, ◌+◌, ◌^◌, IsTrue, IfErr, OnOk, OnErr, length, take, drop, slice_range};
+ghost use Rattle.std.specs.Prelude.{◌≡◌, ◌<◌, ◌≤◌, ◌+◌, ◌^◌, IsTrue, IfErr, OnOk, OnErr, length, take, drop};
+ghost use Rattle.std.specs.Prelude.{slice_range};
 ghost use Rattle.abt_sections.specs.Cause.{ReadCause, full_handed};
 
 use crate::fault::SectionFault;

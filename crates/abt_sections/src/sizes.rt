@@ -1,6 +1,7 @@
 //! The sizes of parts, tested before anything is written.
 
-ghost use Rattle.std.specs.Prelude.{◌≡◌, ◌<◌, ◌≤◌, ◌+◌, ◌*◌, ◌^◌, MatchResult, MatchOption, length, map, take, slice_index_or, Some, None};
+ghost use Rattle.std.specs.Prelude.{◌≡◌, ◌<◌, ◌≤◌, ◌+◌, ◌*◌, ◌^◌, MatchResult, MatchOption, length, map, take};
+ghost use Rattle.std.specs.Prelude.{slice_index_or, Some, None};
 ghost use Rattle.abt_sections.specs.Cause.{full_handed, total};
 ghost use Rattle.abt_sections.specs.Fields.{filled};
 ghost use Rattle.abt_sections.specs.Refusal.{boot_names, vendor_names, size_refusal};

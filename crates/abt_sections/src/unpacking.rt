@@ -1,6 +1,7 @@
 //! Taking sections and ramdisk fragments out of an image.
 
-ghost use Rattle.std.specs.Prelude.{◌≡◌, ◌<◌, ◌≤◌, ◌+◌, ◌-◌, ◌^◌, ◌++◌, IsTrue, IfErr, OnOk, Err, length, take, drop, slice_index_or};
+ghost use Rattle.std.specs.Prelude.{◌≡◌, ◌<◌, ◌≤◌, ◌+◌, ◌-◌, ◌^◌, ◌++◌, IsTrue, IfErr, OnOk, Err, length, take, drop};
+ghost use Rattle.std.specs.Prelude.{slice_index_or};
 ghost use Rattle.abt_headers.specs.declared.sections.Place.{Place};
 ghost use Rattle.abt_sections.specs.Cause.{MoveCause, full_handed};
 ghost use Rattle.abt_sections.specs.Grown.{Begins};

@@ -1,6 +1,7 @@
 //! Packing a vendor boot image.
 
-ghost use Rattle.std.specs.Prelude.{◌≡◌, ◌<◌, ◌≤◌, ◌+◌, ◌-◌, ◌*◌, ◌^◌, ◌++◌, ◌∷◌, [], IsTrue, IfOk, IfErr, OnOk, Err, length, map, take, drop, slice_index};
+ghost use Rattle.std.specs.Prelude.{◌≡◌, ◌<◌, ◌≤◌, ◌+◌, ◌-◌, ◌*◌, ◌^◌, ◌++◌, ◌∷◌, [], IsTrue, IfOk, IfErr, OnOk, Err};
+ghost use Rattle.std.specs.Prelude.{length, map, take, drop, slice_index};
 ghost use Rattle.std.specs.List.{concat};
 ghost use Rattle.abt_headers.specs.Page as of_page;
 ghost use Rattle.abt_headers.specs.Vendor.{view, vendor_page, vendor_record, vendor_size};

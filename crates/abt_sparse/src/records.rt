@@ -15,7 +15,8 @@ impl SparseHeader {
     /// The header in 28 bytes, or the first check that fails: 1 the magic number, 2 the major version, 3
     /// `file_hdr_sz` below 28, 4 `chunk_hdr_sz` below 12, 5 `blk_sz` 0 or no multiple of 4.
     pub fn decode(bytes: &[u8; 28]) -> Result<SparseHeader, SparseFault>
-        ensures exact { MatchResult result (λ h. checked_header bytes.now ≡ Ok (view h)) (λ f. checked_header bytes.now ≡ Err f) }
+        ensures exact { MatchResult result (λ h. checked_header bytes.now ≡ Ok (view h)) (λ f. checked_header bytes.now
+            ≡ Err f) }
         ensures back { IfOk result (λ h. header_record (view h) ≡ bytes.now) }
         ensures cause { IfErr result (λ f. HeaderFails bytes.now f) }
     {

@@ -1,6 +1,8 @@
 //! Laws of sparse images, each the contract of a function that does nothing. What they say stands in `specs/Laws.antt`.
 
-ghost use Rattle.abt_sparse.specs.Laws.{OneOutcome, HasBlocks, LaysBlocks, EndsEarly, KeepsRaw, OneGrouping, ReadsBack, PiecesRead, EachPiece, Weighs, OneCutting, Fewest, FewBytes, SamePieces, SameFromRaw, InTurn, CarriesRaw, FromPiece, Mends, OneCode};
+ghost use Rattle.abt_sparse.specs.Laws.{OneOutcome, HasBlocks, LaysBlocks, EndsEarly, KeepsRaw, OneGrouping};
+ghost use Rattle.abt_sparse.specs.Laws.{ReadsBack, PiecesRead, EachPiece, Weighs, OneCutting, Fewest, FewBytes};
+ghost use Rattle.abt_sparse.specs.Laws.{SamePieces, SameFromRaw, InTurn, CarriesRaw, FromPiece, Mends, OneCode};
 ghost use Rattle.abt_sparse.specs.Worked.{WorkedImages, WorkedFaults, WorkedPieces};
 
 /// Bytes begin with an image or have a fault, one of these and no other, and reading finds which.

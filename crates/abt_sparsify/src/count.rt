@@ -75,14 +75,20 @@ pub fn count_runs<S: Source>(
     ensures content { IsTrue S.tells → S.content source.new ≡ S.content source.old }
     ensures frame { S.read_frame source.new ≡ S.read_frame source.old }
     ensures blocks { IfOk result (λ a. a.blocks ≡ runs.old.blocks) }
-    ensures chunks { IsTrue S.tells → IfOk result (λ a. a.chunks ≡ length (chunks_of most (classify runs.old.size (S.content source.old)))) }
-    ensures bytes { IsTrue S.tells → IfOk result (λ a. a.bytes ≡ length (spelling runs.old.size most (classify runs.old.size (S.content source.old)))) }
+    ensures chunks { IsTrue S.tells →
+        IfOk result (λ a. a.chunks ≡ length (chunks_of most (classify runs.old.size (S.content source.old)))) }
+    ensures bytes { IsTrue S.tells →
+        IfOk
+        result (λ a. a.bytes ≡ length (spelling runs.old.size most (classify runs.old.size (S.content source.old)))) }
     ensures bounded { IfOk result (λ a. (28 ≤ a.bytes) × (a.bytes ≤ 28 + runs.old.blocks * (runs.old.size + 16))) }
     ensures given { S.given source.old ≤ S.given source.new }
-    ensures received { S.given source.new + 65536 * m.old.steps.number ≤ S.given source.old + 65536 * m.new.steps.number }
-    ensures economy { IsTrue S.tells → IfOk result (λ a. S.given source.new ≤ S.given source.old + 2 * runs.old.length) }
+    ensures received { S.given source.new + 65536 * m.old.steps.number
+        ≤ S.given source.old + 65536 * m.new.steps.number }
+    ensures economy { IsTrue S.tells →
+        IfOk result (λ a. S.given source.new ≤ S.given source.old + 2 * runs.old.length) }
     ensures calls { S.reads source.new ≤ S.reads source.old + 3 * (S.given source.new - S.given source.old) + 8 }
-    ensures turns { m.new.turns.number ≤ m.old.turns.number + 5 * (S.given source.new - S.given source.old) + 12 + runs.old.size }
+    ensures turns { m.new.turns.number
+        ≤ m.old.turns.number + 5 * (S.given source.new - S.given source.old) + 12 + runs.old.size }
     ensures greatest { m.new.greatest.number ≤ max m.old.greatest.number 65536 }
     ensures faults { S.read_faults source.old ≤ S.read_faults source.new }
     ensures clean { OnOk result (S.read_faults source.new ≡ S.read_faults source.old) }

@@ -1,5 +1,6 @@
 //! Writing a sparse image: a chunk for each run of a raw image, raw runs in several.
-ghost use Rattle.std.specs.Prelude.{◌≡◌, ℕ, List, [], ◌<◌, ◌≤◌, ◌+◌, ◌-◌, ◌*◌, ◌^◌, ◌++◌, IsTrue, IfOk, IfErr, OnOk, OnErr, length, take, drop, max, min, true, false};
+ghost use Rattle.std.specs.Prelude.{◌≡◌, ℕ, List, [], ◌<◌, ◌≤◌, ◌+◌, ◌-◌, ◌*◌, ◌^◌, ◌++◌, IsTrue, IfOk, IfErr, OnOk};
+ghost use Rattle.std.specs.Prelude.{OnErr, length, take, drop, max, min, true, false};
 ghost use Rattle.abt_sparse.specs.Block.{classify};
 ghost use Rattle.abt_sparse.specs.Chunk.{spelling, chunks_of};
 ghost use Rattle.abt_runs.specs.declared.part.RunKind.{RunKind};
@@ -10,7 +11,9 @@ ghost use Rattle.abt_pieces.specs.Gather.{silent_left};
 ghost use Rattle.abt_pieces.specs.Image.{Appended, Leads, AreChunks};
 ghost use Rattle.abt_pieces.specs.Plan.{last_words};
 ghost use Rattle.abt_pieces.specs.Write.{front_bytes, ChunkCause};
-ghost use Rattle.abt_sparsify.specs.Sparsify.{MayCome, SoundSparser, ToldSparser, left_of, bytes_of, sparse_left, front_begun, run_begun, run_head, run_front, next_blocks, cut_on, chunk_opened, copied_cutting, first_sparser, spent};
+ghost use Rattle.abt_sparsify.specs.Sparsify.{MayCome, SoundSparser, ToldSparser, left_of, bytes_of, sparse_left};
+ghost use Rattle.abt_sparsify.specs.Sparsify.{front_begun, run_begun, run_head, run_front, next_blocks, cut_on};
+ghost use Rattle.abt_sparsify.specs.Sparsify.{chunk_opened, copied_cutting, first_sparser, spent};
 
 use crate::count::Written;
 use abt_io::{Meter, Output, Source, WINDOW, Window, write_out};
@@ -102,21 +105,29 @@ impl Sparser {
     ) -> Result<(), PieceFault>
         requires small { length_of_head kind + data_len kind blocks size < 2 ^ 32 }
         ensures ok { OnOk result (self.new ≡ front_begun self.old kind) }
-        ensures room { OnOk result ((0 < self.old.chunks) × (length_of_head kind + data_len kind blocks size ≤ self.old.bytes)) }
+        ensures room { OnOk result ((0 < self.old.chunks) ×
+            (length_of_head kind + data_len kind blocks size ≤ self.old.bytes)) }
         ensures kept { OnErr result (self.new ≡ self.old) }
-        ensures written { OnOk result (O.written output.new ≡ O.written output.old ++ front_bytes kind blocks (length_of_head kind + data_len kind blocks size)) }
-        ensures front { O.written output.new ≡ O.written output.old ++ take (length (O.written output.new) - length (O.written output.old)) (front_bytes kind blocks (length_of_head kind + data_len kind blocks size)) }
+        ensures written { OnOk result (O.written output.new ≡ O.written output.old ++ front_bytes kind blocks
+            (length_of_head kind + data_len kind blocks size)) }
+        ensures front { O.written output.new ≡ O.written output.old ++ take
+            (length (O.written output.new) - length (O.written output.old))
+            (front_bytes kind blocks (length_of_head kind + data_len kind blocks size)) }
         ensures grown { length (O.written output.old) ≤ length (O.written output.new) }
         ensures within { length (O.written output.new) ≤ length (O.written output.old) + self.old.bytes }
-        ensures whole { OnOk result (length (O.written output.new) ≡ length (O.written output.old) + length_of_head kind) }
+        ensures whole { OnOk result (length (O.written output.new) ≡ length (O.written output.old) + length_of_head
+            kind) }
         ensures frame { O.write_frame output.new ≡ O.write_frame output.old }
         ensures faults { O.write_faults output.old ≤ O.write_faults output.new }
         ensures clean { OnOk result (O.write_faults output.new ≡ O.write_faults output.old) }
         ensures full_faults { O.full_faults output.new ≡ O.full_faults output.old + full_cut result }
         ensures full { full_cut result ≡ 1 → IsTrue (O.is_full output.new) }
-        ensures cause { IfErr result (λ e. ChunkCause e self.old.chunks self.old.bytes (length_of_head kind + data_len kind blocks size) (O.write_faults output.old) (O.write_faults output.new)) }
-        ensures calls { O.writes output.new + length (O.written output.old) ≤ O.writes output.old + length (O.written output.new) + 1 }
-        ensures turns { m.new.turns.number + length (O.written output.old) ≤ m.old.turns.number + length (O.written output.new) + 1 }
+        ensures cause { IfErr result (λ e. ChunkCause e self.old.chunks self.old.bytes
+            (length_of_head kind + data_len kind blocks size) (O.write_faults output.old) (O.write_faults output.new)) }
+        ensures calls { O.writes output.new + length (O.written output.old) ≤ O.writes output.old + length
+            (O.written output.new) + 1 }
+        ensures turns { m.new.turns.number + length (O.written output.old) ≤ m.old.turns.number + length
+            (O.written output.new) + 1 }
         ensures steps { m.new.steps.number ≡ m.old.steps.number }
         ensures greatest { m.new.greatest.number ≡ m.old.greatest.number }
     {
@@ -147,18 +158,23 @@ impl Sparser {
         ensures room { OnOk result (run_head run.kind ≤ self.old.bytes) }
         ensures some { OnOk result (0 < run_head run.kind → 0 < self.old.chunks) }
         ensures written { OnOk result (O.written output.new ≡ O.written output.old ++ run_front run.kind run.blocks) }
-        ensures front { O.written output.new ≡ O.written output.old ++ take (length (O.written output.new) - length (O.written output.old)) (run_front run.kind run.blocks) }
+        ensures front { O.written output.new ≡ O.written output.old ++ take
+            (length (O.written output.new) - length (O.written output.old)) (run_front run.kind run.blocks) }
         ensures grown { length (O.written output.old) ≤ length (O.written output.new) }
         ensures within { length (O.written output.new) ≤ length (O.written output.old) + self.old.bytes }
-        ensures whole { OnOk result (length (O.written output.new) ≡ length (O.written output.old) + run_head run.kind) }
+        ensures whole { OnOk result (length (O.written output.new) ≡ length (O.written output.old) + run_head
+            run.kind) }
         ensures frame { O.write_frame output.new ≡ O.write_frame output.old }
         ensures faults { O.write_faults output.old ≤ O.write_faults output.new }
         ensures clean { OnOk result (O.write_faults output.new ≡ O.write_faults output.old) }
         ensures full_faults { O.full_faults output.new ≡ O.full_faults output.old + full_cut result }
         ensures full { full_cut result ≡ 1 → IsTrue (O.is_full output.new) }
-        ensures cause { IfErr result (λ e. ChunkCause e self.old.chunks self.old.bytes (length_of_head run.kind) (O.write_faults output.old) (O.write_faults output.new)) }
-        ensures calls { O.writes output.new + length (O.written output.old) ≤ O.writes output.old + length (O.written output.new) + 1 }
-        ensures turns { m.new.turns.number + length (O.written output.old) ≤ m.old.turns.number + length (O.written output.new) + 1 }
+        ensures cause { IfErr result (λ e. ChunkCause e self.old.chunks self.old.bytes (length_of_head run.kind)
+            (O.write_faults output.old) (O.write_faults output.new)) }
+        ensures calls { O.writes output.new + length (O.written output.old) ≤ O.writes output.old + length
+            (O.written output.new) + 1 }
+        ensures turns { m.new.turns.number + length (O.written output.old) ≤ m.old.turns.number + length
+            (O.written output.new) + 1 }
         ensures steps { m.new.steps.number ≡ m.old.steps.number }
         ensures greatest { m.new.greatest.number ≡ m.old.greatest.number }
     {
@@ -190,9 +206,14 @@ impl Sparser {
         requires small { 12 + self.old.most * size < 2 ^ 32 }
         ensures ok { OnOk result (self.new ≡ chunk_opened self.old cutting) }
         ensures same { (self.new.most ≡ self.old.most) × (self.new.gatherer ≡ self.old.gatherer) }
-        ensures room { OnOk result ((0 < self.old.chunks) × (12 + next_blocks cutting self.old.most * size ≤ self.old.bytes)) }
-        ensures written { OnOk result (O.written output.new ≡ O.written output.old ++ front_bytes RunKind.Raw (next_blocks cutting self.old.most) (12 + next_blocks cutting self.old.most * size)) }
-        ensures front { O.written output.new ≡ O.written output.old ++ take (length (O.written output.new) - length (O.written output.old)) (front_bytes RunKind.Raw (next_blocks cutting self.old.most) (12 + next_blocks cutting self.old.most * size)) }
+        ensures room { OnOk result ((0 < self.old.chunks) ×
+            (12 + next_blocks cutting self.old.most * size ≤ self.old.bytes)) }
+        ensures written { OnOk result (O.written output.new ≡ O.written output.old ++ front_bytes RunKind.Raw
+            (next_blocks cutting self.old.most) (12 + next_blocks cutting self.old.most * size)) }
+        ensures front { O.written output.new ≡ O.written output.old ++ take
+            (length (O.written output.new) - length (O.written output.old))
+            (front_bytes RunKind.Raw (next_blocks cutting self.old.most)
+            (12 + next_blocks cutting self.old.most * size)) }
         ensures grown { length (O.written output.old) ≤ length (O.written output.new) }
         ensures within { length (O.written output.new) ≤ length (O.written output.old) + self.old.bytes }
         ensures whole { OnOk result (length (O.written output.new) ≡ length (O.written output.old) + 12) }
@@ -201,9 +222,12 @@ impl Sparser {
         ensures clean { OnOk result (O.write_faults output.new ≡ O.write_faults output.old) }
         ensures full_faults { O.full_faults output.new ≡ O.full_faults output.old + full_cut result }
         ensures full { full_cut result ≡ 1 → IsTrue (O.is_full output.new) }
-        ensures cause { IfErr result (λ e. ChunkCause e self.old.chunks self.old.bytes (12 + next_blocks cutting self.old.most * size) (O.write_faults output.old) (O.write_faults output.new)) }
-        ensures calls { O.writes output.new + length (O.written output.old) ≤ O.writes output.old + length (O.written output.new) + 1 }
-        ensures turns { m.new.turns.number + length (O.written output.old) ≤ m.old.turns.number + length (O.written output.new) + 1 }
+        ensures cause { IfErr result (λ e. ChunkCause e self.old.chunks self.old.bytes
+            (12 + next_blocks cutting self.old.most * size) (O.write_faults output.old) (O.write_faults output.new)) }
+        ensures calls { O.writes output.new + length (O.written output.old) ≤ O.writes output.old + length
+            (O.written output.new) + 1 }
+        ensures turns { m.new.turns.number + length (O.written output.old) ≤ m.old.turns.number + length
+            (O.written output.new) + 1 }
         ensures steps { m.new.steps.number ≡ m.old.steps.number + 1 }
         ensures greatest { m.new.greatest.number ≡ max m.old.greatest.number 0 }
     {
@@ -229,7 +253,8 @@ impl Sparser {
     ) -> Result<(), PieceFault>
         requires sound { SoundSparser runs.old.blocks runs.old.size self.old }
         requires opened { IsTrue S.tells → runs.old.length ≡ length (S.content source.old) }
-        requires told { IsTrue S.tells → ToldSparser runs.old.blocks runs.old.size (classify runs.old.size (S.content source.old)) self.old }
+        requires told { IsTrue S.tells →
+            ToldSparser runs.old.blocks runs.old.size (classify runs.old.size (S.content source.old)) self.old }
         requires none { self.old.cutting ≡ None }
         requires going { ends self.old.gatherer.kind ≡ false }
         ensures same { runs.new ≡ runs.old }
@@ -237,31 +262,53 @@ impl Sparser {
         ensures frame { S.read_frame source.new ≡ S.read_frame source.old }
         ensures most { self.new.most ≡ self.old.most }
         ensures sound { OnOk result (SoundSparser runs.old.blocks runs.old.size self.new) }
-        ensures told { IsTrue S.tells → OnOk result (ToldSparser runs.old.blocks runs.old.size (classify runs.old.size (S.content source.old)) self.new) }
+        ensures told { IsTrue S.tells →
+            OnOk result (ToldSparser runs.old.blocks runs.old.size (classify runs.old.size (S.content source.old))
+            self.new) }
         ensures grown { length (O.written output.old) ≤ length (O.written output.new) }
         ensures within { length (O.written output.new) ≤ length (O.written output.old) + self.old.bytes }
-        ensures counted { OnOk result (length (O.written output.new) + self.new.bytes ≡ length (O.written output.old) + self.old.bytes) }
-        ensures front { IsTrue S.tells → O.written output.new ≡ O.written output.old ++ take (length (O.written output.new) - length (O.written output.old)) (left_of (classify runs.old.size (S.content source.old)) self.old) }
-        ensures rest { IsTrue S.tells → OnOk result (left_of (classify runs.old.size (S.content source.old)) self.new ≡ drop (length (O.written output.new) - length (O.written output.old)) (left_of (classify runs.old.size (S.content source.old)) self.old)) }
-        ensures leads { OnOk result (Leads (MayCome runs.old.size runs.old.blocks self.old) (MayCome runs.old.size runs.old.blocks self.new) (O.written output.old) (O.written output.new)) }
+        ensures counted { OnOk result (length (O.written output.new) + self.new.bytes
+            ≡ length (O.written output.old) + self.old.bytes) }
+        ensures front { IsTrue S.tells → O.written output.new ≡ O.written output.old ++ take
+            (length (O.written output.new) - length (O.written output.old))
+            (left_of (classify runs.old.size (S.content source.old)) self.old) }
+        ensures rest { IsTrue S.tells → OnOk result (left_of (classify runs.old.size (S.content source.old)) self.new
+            ≡ drop (length (O.written output.new) - length (O.written output.old))
+            (left_of (classify runs.old.size (S.content source.old)) self.old)) }
+        ensures leads { OnOk result (Leads (MayCome runs.old.size runs.old.blocks self.old)
+            (MayCome runs.old.size runs.old.blocks self.new) (O.written output.old) (O.written output.new)) }
         ensures write_frame { O.write_frame output.new ≡ O.write_frame output.old }
         ensures write_faults { O.write_faults output.old ≤ O.write_faults output.new }
-        ensures cause { IfErr result (λ e. HasCause e S.tells (S.read_faults source.old) (S.read_faults source.new) (O.write_faults output.old) (O.write_faults output.new)) }
+        ensures cause { IfErr result (λ e. HasCause e S.tells (S.read_faults source.old) (S.read_faults source.new)
+            (O.write_faults output.old) (O.write_faults output.new)) }
         ensures given { S.given source.old ≤ S.given source.new }
         ensures received { S.given source.new ≤ S.given source.old + 65536 }
         ensures steps { m.new.steps.number ≡ m.old.steps.number + 1 }
         ensures greatest { m.new.greatest.number ≡ max m.old.greatest.number (S.given source.new - S.given source.old) }
         ensures faults { S.read_faults source.old ≤ S.read_faults source.new }
-        ensures clean { OnOk result ((S.read_faults source.new ≡ S.read_faults source.old) × (O.write_faults output.new ≡ O.write_faults output.old)) }
+        ensures clean { OnOk result ((S.read_faults source.new ≡ S.read_faults source.old) ×
+            (O.write_faults output.new ≡ O.write_faults output.old)) }
         ensures full_faults { O.full_faults output.new ≡ O.full_faults output.old + full_cut result }
         ensures full { full_cut result ≡ 1 → IsTrue (O.is_full output.new) }
         ensures left { OnOk result (sparse_left runs.old.blocks self.new < sparse_left runs.old.blocks self.old) }
-        ensures paid { OnOk result (silent_left runs.old.blocks runs.old.blocks self.new.gatherer < silent_left runs.old.blocks runs.old.blocks self.old.gatherer + (S.given source.new - S.given source.old)) }
-        ensures spends { IsTrue S.tells → OnOk result (S.given source.new + spent runs.old.length runs.old.blocks runs.old.size self.old ≤ S.given source.old + spent runs.old.length runs.old.blocks runs.old.size self.new) }
+        ensures paid { OnOk result (silent_left runs.old.blocks runs.old.blocks self.new.gatherer
+            < silent_left runs.old.blocks runs.old.blocks
+            self.old.gatherer + (S.given source.new - S.given source.old)) }
+        ensures spends { IsTrue S.tells →
+            OnOk result (S.given source.new + spent runs.old.length runs.old.blocks runs.old.size self.old
+            ≤ S.given source.old + spent runs.old.length runs.old.blocks runs.old.size self.new) }
         ensures calls { S.reads source.new ≤ S.reads source.old + (S.given source.new - S.given source.old) + 2 }
-        ensures write_calls { O.writes output.new + length (O.written output.old) ≤ O.writes output.old + length (O.written output.new) + 1 }
-        ensures turns { m.new.turns.number + last_words runs.old.size runs.old.blocks (min self.old.gatherer.at.block runs.old.blocks) ≤ m.old.turns.number + 2 * (S.given source.new - S.given source.old) + (length (O.written output.new) - length (O.written output.old)) + 3 + runs.old.size }
-        ensures words { OnOk result (m.new.turns.number + last_words runs.old.size runs.old.blocks (min self.old.gatherer.at.block runs.old.blocks) ≤ m.old.turns.number + 2 * (S.given source.new - S.given source.old) + (length (O.written output.new) - length (O.written output.old)) + 3 + last_words runs.old.size runs.old.blocks (min self.new.gatherer.at.block runs.old.blocks)) }
+        ensures write_calls { O.writes output.new + length (O.written output.old) ≤ O.writes output.old + length
+            (O.written output.new) + 1 }
+        ensures turns { m.new.turns.number + last_words runs.old.size runs.old.blocks
+            (min self.old.gatherer.at.block runs.old.blocks)
+            ≤ m.old.turns.number + 2 * (S.given source.new - S.given source.old) + (length
+            (O.written output.new) - length (O.written output.old)) + 3 + runs.old.size }
+        ensures words { OnOk result (m.new.turns.number + last_words runs.old.size runs.old.blocks
+            (min self.old.gatherer.at.block runs.old.blocks)
+            ≤ m.old.turns.number + 2 * (S.given source.new - S.given source.old) + (length
+            (O.written output.new) - length (O.written output.old)) + 3 + last_words runs.old.size runs.old.blocks
+            (min self.new.gatherer.at.block runs.old.blocks)) }
     {
         let size = runs.block_size();
         let count = runs.blocks();
@@ -290,7 +337,8 @@ impl Sparser {
     ) -> Result<(), PieceFault>
         requires sound { SoundSparser runs.old.blocks runs.old.size self.old }
         requires opened { IsTrue S.tells → runs.old.length ≡ length (S.content source.old) }
-        requires told { IsTrue S.tells → ToldSparser runs.old.blocks runs.old.size (classify runs.old.size (S.content source.old)) self.old }
+        requires told { IsTrue S.tells →
+            ToldSparser runs.old.blocks runs.old.size (classify runs.old.size (S.content source.old)) self.old }
         requires is { self.old.cutting ≡ Some cutting }
         requires more { cutting.done < cutting.blocks * runs.old.size }
         ensures same { runs.new ≡ runs.old }
@@ -298,31 +346,45 @@ impl Sparser {
         ensures frame { S.read_frame source.new ≡ S.read_frame source.old }
         ensures most { self.new.most ≡ self.old.most }
         ensures sound { OnOk result (SoundSparser runs.old.blocks runs.old.size self.new) }
-        ensures told { IsTrue S.tells → OnOk result (ToldSparser runs.old.blocks runs.old.size (classify runs.old.size (S.content source.old)) self.new) }
+        ensures told { IsTrue S.tells →
+            OnOk result (ToldSparser runs.old.blocks runs.old.size (classify runs.old.size (S.content source.old))
+            self.new) }
         ensures grown { length (O.written output.old) ≤ length (O.written output.new) }
         ensures within { length (O.written output.new) ≤ length (O.written output.old) + self.old.bytes }
-        ensures counted { OnOk result (length (O.written output.new) + self.new.bytes ≡ length (O.written output.old) + self.old.bytes) }
-        ensures front { IsTrue S.tells → O.written output.new ≡ O.written output.old ++ take (length (O.written output.new) - length (O.written output.old)) (left_of (classify runs.old.size (S.content source.old)) self.old) }
-        ensures rest { IsTrue S.tells → OnOk result (left_of (classify runs.old.size (S.content source.old)) self.new ≡ drop (length (O.written output.new) - length (O.written output.old)) (left_of (classify runs.old.size (S.content source.old)) self.old)) }
-        ensures leads { OnOk result (Leads (MayCome runs.old.size runs.old.blocks self.old) (MayCome runs.old.size runs.old.blocks self.new) (O.written output.old) (O.written output.new)) }
+        ensures counted { OnOk result (length (O.written output.new) + self.new.bytes
+            ≡ length (O.written output.old) + self.old.bytes) }
+        ensures front { IsTrue S.tells → O.written output.new ≡ O.written output.old ++ take
+            (length (O.written output.new) - length (O.written output.old))
+            (left_of (classify runs.old.size (S.content source.old)) self.old) }
+        ensures rest { IsTrue S.tells → OnOk result (left_of (classify runs.old.size (S.content source.old)) self.new
+            ≡ drop (length (O.written output.new) - length (O.written output.old))
+            (left_of (classify runs.old.size (S.content source.old)) self.old)) }
+        ensures leads { OnOk result (Leads (MayCome runs.old.size runs.old.blocks self.old)
+            (MayCome runs.old.size runs.old.blocks self.new) (O.written output.old) (O.written output.new)) }
         ensures write_frame { O.write_frame output.new ≡ O.write_frame output.old }
         ensures write_faults { O.write_faults output.old ≤ O.write_faults output.new }
-        ensures cause { IfErr result (λ e. HasCause e S.tells (S.read_faults source.old) (S.read_faults source.new) (O.write_faults output.old) (O.write_faults output.new)) }
+        ensures cause { IfErr result (λ e. HasCause e S.tells (S.read_faults source.old) (S.read_faults source.new)
+            (O.write_faults output.old) (O.write_faults output.new)) }
         ensures given { S.given source.old ≤ S.given source.new }
         ensures received { S.given source.new ≤ S.given source.old + 65536 }
         ensures steps { m.new.steps.number ≡ m.old.steps.number + 1 }
         ensures greatest { m.new.greatest.number ≡ max m.old.greatest.number (S.given source.new - S.given source.old) }
         ensures faults { S.read_faults source.old ≤ S.read_faults source.new }
-        ensures clean { OnOk result ((S.read_faults source.new ≡ S.read_faults source.old) × (O.write_faults output.new ≡ O.write_faults output.old)) }
+        ensures clean { OnOk result ((S.read_faults source.new ≡ S.read_faults source.old) ×
+            (O.write_faults output.new ≡ O.write_faults output.old)) }
         ensures full_faults { O.full_faults output.new ≡ O.full_faults output.old + full_cut result }
         ensures full { full_cut result ≡ 1 → IsTrue (O.is_full output.new) }
         ensures left { OnOk result (sparse_left runs.old.blocks self.new < sparse_left runs.old.blocks self.old) }
         ensures gatherer { self.new.gatherer ≡ self.old.gatherer }
         ensures put { OnOk result (length (O.written output.old) < length (O.written output.new)) }
-        ensures spends { IsTrue S.tells → OnOk result (S.given source.new + spent runs.old.length runs.old.blocks runs.old.size self.old ≤ S.given source.old + spent runs.old.length runs.old.blocks runs.old.size self.new) }
+        ensures spends { IsTrue S.tells →
+            OnOk result (S.given source.new + spent runs.old.length runs.old.blocks runs.old.size self.old
+            ≤ S.given source.old + spent runs.old.length runs.old.blocks runs.old.size self.new) }
         ensures calls { S.reads source.new ≤ S.reads source.old + 1 }
-        ensures write_calls { O.writes output.new + length (O.written output.old) ≤ O.writes output.old + length (O.written output.new) + 1 }
-        ensures turns { m.new.turns.number ≤ m.old.turns.number + (length (O.written output.new) - length (O.written output.old)) + 1 }
+        ensures write_calls { O.writes output.new + length (O.written output.old) ≤ O.writes output.old + length
+            (O.written output.new) + 1 }
+        ensures turns { m.new.turns.number
+            ≤ m.old.turns.number + (length (O.written output.new) - length (O.written output.old)) + 1 }
     {
         let size = runs.block_size();
         let rest = copied_len(RunKind::Raw, cutting.blocks, size) - cutting.done;
@@ -343,7 +405,8 @@ impl Sparser {
     /// Whether all that was counted is written. Else the source has changed since.
     fn end(&self) -> Result<bool, PieceFault>
         ensures whole { IfOk result (λ d. (d ≡ true) × (self.now.bytes ≡ 0) × (self.now.chunks ≡ 0)) }
-        ensures refused { IfErr result (λ e. (e ≡ PieceFault.SourceChanged) × ((self.now.bytes ≡ 0) × (self.now.chunks ≡ 0) → ⊥)) }
+        ensures refused { IfErr result (λ e. (e ≡ PieceFault.SourceChanged) ×
+            ((self.now.bytes ≡ 0) × (self.now.chunks ≡ 0) → ⊥)) }
     {
         if self.chunks == 0 && self.bytes == 0 {
             return Ok(true);
@@ -362,39 +425,64 @@ impl Sparser {
     ) -> Result<bool, PieceFault>
         requires sound { SoundSparser runs.old.blocks runs.old.size self.old }
         requires opened { IsTrue S.tells → runs.old.length ≡ length (S.content source.old) }
-        requires told { IsTrue S.tells → ToldSparser runs.old.blocks runs.old.size (classify runs.old.size (S.content source.old)) self.old }
+        requires told { IsTrue S.tells →
+            ToldSparser runs.old.blocks runs.old.size (classify runs.old.size (S.content source.old)) self.old }
         ensures same { runs.new ≡ runs.old }
         ensures content { IsTrue S.tells → S.content source.new ≡ S.content source.old }
         ensures frame { S.read_frame source.new ≡ S.read_frame source.old }
         ensures most { self.new.most ≡ self.old.most }
         ensures sound { OnOk result (SoundSparser runs.old.blocks runs.old.size self.new) }
-        ensures told { IsTrue S.tells → OnOk result (ToldSparser runs.old.blocks runs.old.size (classify runs.old.size (S.content source.old)) self.new) }
+        ensures told { IsTrue S.tells →
+            OnOk result (ToldSparser runs.old.blocks runs.old.size (classify runs.old.size (S.content source.old))
+            self.new) }
         ensures grown { length (O.written output.old) ≤ length (O.written output.new) }
         ensures within { length (O.written output.new) ≤ length (O.written output.old) + self.old.bytes }
-        ensures counted { OnOk result (length (O.written output.new) + self.new.bytes ≡ length (O.written output.old) + self.old.bytes) }
-        ensures front { IsTrue S.tells → O.written output.new ≡ O.written output.old ++ take (length (O.written output.new) - length (O.written output.old)) (left_of (classify runs.old.size (S.content source.old)) self.old) }
-        ensures rest { IsTrue S.tells → OnOk result (left_of (classify runs.old.size (S.content source.old)) self.new ≡ drop (length (O.written output.new) - length (O.written output.old)) (left_of (classify runs.old.size (S.content source.old)) self.old)) }
-        ensures leads { IfOk result (λ d. d ≡ false → Leads (MayCome runs.old.size runs.old.blocks self.old) (MayCome runs.old.size runs.old.blocks self.new) (O.written output.old) (O.written output.new)) }
+        ensures counted { OnOk result (length (O.written output.new) + self.new.bytes
+            ≡ length (O.written output.old) + self.old.bytes) }
+        ensures front { IsTrue S.tells → O.written output.new ≡ O.written output.old ++ take
+            (length (O.written output.new) - length (O.written output.old))
+            (left_of (classify runs.old.size (S.content source.old)) self.old) }
+        ensures rest { IsTrue S.tells → OnOk result (left_of (classify runs.old.size (S.content source.old)) self.new
+            ≡ drop (length (O.written output.new) - length (O.written output.old))
+            (left_of (classify runs.old.size (S.content source.old)) self.old)) }
+        ensures leads { IfOk result (λ d. d ≡ false → Leads (MayCome runs.old.size runs.old.blocks self.old)
+            (MayCome runs.old.size runs.old.blocks self.new) (O.written output.old) (O.written output.new)) }
         ensures all { IfOk result (λ d. d ≡ true → MayCome runs.old.size runs.old.blocks self.old []) }
         ensures write_frame { O.write_frame output.new ≡ O.write_frame output.old }
         ensures write_faults { O.write_faults output.old ≤ O.write_faults output.new }
-        ensures cause { IfErr result (λ e. HasCause e S.tells (S.read_faults source.old) (S.read_faults source.new) (O.write_faults output.old) (O.write_faults output.new)) }
+        ensures cause { IfErr result (λ e. HasCause e S.tells (S.read_faults source.old) (S.read_faults source.new)
+            (O.write_faults output.old) (O.write_faults output.new)) }
         ensures given { S.given source.old ≤ S.given source.new }
         ensures received { S.given source.new ≤ S.given source.old + 65536 }
         ensures steps { m.new.steps.number ≡ m.old.steps.number + 1 }
         ensures greatest { m.new.greatest.number ≡ max m.old.greatest.number (S.given source.new - S.given source.old) }
         ensures faults { S.read_faults source.old ≤ S.read_faults source.new }
-        ensures clean { OnOk result ((S.read_faults source.new ≡ S.read_faults source.old) × (O.write_faults output.new ≡ O.write_faults output.old)) }
+        ensures clean { OnOk result ((S.read_faults source.new ≡ S.read_faults source.old) ×
+            (O.write_faults output.new ≡ O.write_faults output.old)) }
         ensures full_faults { O.full_faults output.new ≡ O.full_faults output.old + full_cut result }
         ensures full { full_cut result ≡ 1 → IsTrue (O.is_full output.new) }
-        ensures left { IfOk result (λ d. d ≡ false → sparse_left runs.old.blocks self.new < sparse_left runs.old.blocks self.old) }
-        ensures paid { IfOk result (λ d. d ≡ false → silent_left runs.old.blocks runs.old.blocks self.new.gatherer < silent_left runs.old.blocks runs.old.blocks self.old.gatherer + (S.given source.new - S.given source.old) + (length (O.written output.new) - length (O.written output.old))) }
-        ensures spends { IsTrue S.tells → OnOk result (S.given source.new + spent runs.old.length runs.old.blocks runs.old.size self.old ≤ S.given source.old + spent runs.old.length runs.old.blocks runs.old.size self.new) }
+        ensures left { IfOk result (λ d. d ≡ false → sparse_left runs.old.blocks self.new < sparse_left runs.old.blocks
+            self.old) }
+        ensures paid { IfOk result (λ d. d ≡ false → silent_left runs.old.blocks runs.old.blocks self.new.gatherer
+            < silent_left runs.old.blocks runs.old.blocks self.old.gatherer + (S.given source.new - S.given source.old)
+            + (length (O.written output.new) - length (O.written output.old))) }
+        ensures spends { IsTrue S.tells →
+            OnOk result (S.given source.new + spent runs.old.length runs.old.blocks runs.old.size self.old
+            ≤ S.given source.old + spent runs.old.length runs.old.blocks runs.old.size self.new) }
         ensures calls { S.reads source.new ≤ S.reads source.old + (S.given source.new - S.given source.old) + 2 }
-        ensures write_calls { O.writes output.new + length (O.written output.old) ≤ O.writes output.old + length (O.written output.new) + 1 }
-        ensures turns { m.new.turns.number + last_words runs.old.size runs.old.blocks (min self.old.gatherer.at.block runs.old.blocks) ≤ m.old.turns.number + 2 * (S.given source.new - S.given source.old) + (length (O.written output.new) - length (O.written output.old)) + 3 + runs.old.size }
-        ensures words { IfOk result (λ d. m.new.turns.number + last_words runs.old.size runs.old.blocks (min self.old.gatherer.at.block runs.old.blocks) ≤ m.old.turns.number + 2 * (S.given source.new - S.given source.old) + (length (O.written output.new) - length (O.written output.old)) + 3 + last_words runs.old.size runs.old.blocks (min self.new.gatherer.at.block runs.old.blocks)) }
-        ensures ended { IfOk result (λ d. d ≡ true → (self.old.bytes ≡ 0) × (O.written output.new ≡ O.written output.old)) }
+        ensures write_calls { O.writes output.new + length (O.written output.old) ≤ O.writes output.old + length
+            (O.written output.new) + 1 }
+        ensures turns { m.new.turns.number + last_words runs.old.size runs.old.blocks
+            (min self.old.gatherer.at.block runs.old.blocks)
+            ≤ m.old.turns.number + 2 * (S.given source.new - S.given source.old) + (length
+            (O.written output.new) - length (O.written output.old)) + 3 + runs.old.size }
+        ensures words { IfOk result (λ d. m.new.turns.number + last_words runs.old.size runs.old.blocks
+            (min self.old.gatherer.at.block runs.old.blocks)
+            ≤ m.old.turns.number + 2 * (S.given source.new - S.given source.old) + (length
+            (O.written output.new) - length (O.written output.old)) + 3 + last_words runs.old.size runs.old.blocks
+            (min self.new.gatherer.at.block runs.old.blocks)) }
+        ensures ended { IfOk result (λ d. d ≡ true → (self.old.bytes ≡ 0) ×
+            (O.written output.new ≡ O.written output.old)) }
     {
         match self.cutting {
             Some(cutting) => {
@@ -433,8 +521,10 @@ pub fn write_runs<S: Source, O: Output>(
     requires small { 12 + most * runs.old.size < 2 ^ 32 }
     requires opened { IsTrue S.tells → runs.old.length ≡ length (S.content source.old) }
     requires least { 28 ≤ counted.bytes }
-    requires chunks { IsTrue S.tells → counted.chunks ≡ length (chunks_of most (classify runs.old.size (S.content source.old))) }
-    requires bytes { IsTrue S.tells → counted.bytes ≡ length (spelling runs.old.size most (classify runs.old.size (S.content source.old))) }
+    requires chunks { IsTrue S.tells →
+        counted.chunks ≡ length (chunks_of most (classify runs.old.size (S.content source.old))) }
+    requires bytes { IsTrue S.tells →
+        counted.bytes ≡ length (spelling runs.old.size most (classify runs.old.size (S.content source.old))) }
     ensures same { runs.new ≡ runs.old }
     ensures content { IsTrue S.tells → S.content source.new ≡ S.content source.old }
     ensures frame { S.read_frame source.new ≡ S.read_frame source.old }
@@ -442,22 +532,36 @@ pub fn write_runs<S: Source, O: Output>(
     ensures grown { length (O.written output.old) ≤ length (O.written output.new) }
     ensures within { length (O.written output.new) + 28 ≤ length (O.written output.old) + counted.bytes }
     ensures long { OnOk result (length (O.written output.new) + 28 ≡ length (O.written output.old) + counted.bytes) }
-    ensures front { IsTrue S.tells → O.written output.new ≡ O.written output.old ++ take (length (O.written output.new) - length (O.written output.old)) (bytes_of most (classify runs.old.size (S.content source.old))) }
-    ensures whole { IsTrue S.tells → OnOk result (O.written output.new ≡ O.written output.old ++ bytes_of most (classify runs.old.size (S.content source.old))) }
-    ensures image { OnOk result (Appended (AreChunks runs.old.size counted.chunks runs.old.blocks) (O.written output.old) (O.written output.new)) }
+    ensures front { IsTrue S.tells → O.written output.new ≡ O.written output.old ++ take
+        (length (O.written output.new) - length (O.written output.old))
+        (bytes_of most (classify runs.old.size (S.content source.old))) }
+    ensures whole { IsTrue S.tells →
+        OnOk result (O.written output.new ≡ O.written output.old ++ bytes_of most
+        (classify runs.old.size (S.content source.old))) }
+    ensures image { OnOk result (Appended (AreChunks runs.old.size counted.chunks runs.old.blocks)
+        (O.written output.old) (O.written output.new)) }
     ensures given { S.given source.old ≤ S.given source.new }
-    ensures received { S.given source.new + 65536 * m.old.steps.number ≤ S.given source.old + 65536 * m.new.steps.number }
+    ensures received { S.given source.new + 65536 * m.old.steps.number
+        ≤ S.given source.old + 65536 * m.new.steps.number }
     ensures economy { IsTrue S.tells → OnOk result (S.given source.new ≤ S.given source.old + 3 * runs.old.length) }
-    ensures calls { S.reads source.new ≤ S.reads source.old + 3 * (S.given source.new - S.given source.old) + 2 * (length (O.written output.new) - length (O.written output.old)) + 8 }
-    ensures write_calls { O.writes output.new ≤ O.writes output.old + (S.given source.new - S.given source.old) + 2 * (length (O.written output.new) - length (O.written output.old)) + 4 }
-    ensures turns { m.new.turns.number ≤ m.old.turns.number + 6 * (S.given source.new - S.given source.old) + 5 * (length (O.written output.new) - length (O.written output.old)) + 15 + runs.old.size }
+    ensures calls { S.reads source.new
+        ≤ S.reads source.old + 3 * (S.given source.new - S.given source.old) + 2 * (length
+        (O.written output.new) - length (O.written output.old)) + 8 }
+    ensures write_calls { O.writes output.new
+        ≤ O.writes output.old + (S.given source.new - S.given source.old) + 2 * (length (O.written output.new) - length
+        (O.written output.old)) + 4 }
+    ensures turns { m.new.turns.number
+        ≤ m.old.turns.number + 6 * (S.given source.new - S.given source.old) + 5 * (length
+        (O.written output.new) - length (O.written output.old)) + 15 + runs.old.size }
     ensures greatest { m.new.greatest.number ≤ max m.old.greatest.number 65536 }
     ensures faults { S.read_faults source.old ≤ S.read_faults source.new }
     ensures write_faults { O.write_faults output.old ≤ O.write_faults output.new }
-    ensures clean { OnOk result ((S.read_faults source.new ≡ S.read_faults source.old) × (O.write_faults output.new ≡ O.write_faults output.old)) }
+    ensures clean { OnOk result ((S.read_faults source.new ≡ S.read_faults source.old) ×
+        (O.write_faults output.new ≡ O.write_faults output.old)) }
     ensures full_faults { O.full_faults output.new ≡ O.full_faults output.old + full_cut result }
     ensures full { full_cut result ≡ 1 → IsTrue (O.is_full output.new) }
-    ensures cause { IfErr result (λ e. HasCause e S.tells (S.read_faults source.old) (S.read_faults source.new) (O.write_faults output.old) (O.write_faults output.new)) }
+    ensures cause { IfErr result (λ e. HasCause e S.tells (S.read_faults source.old) (S.read_faults source.new)
+        (O.write_faults output.old) (O.write_faults output.new)) }
 {
     let mut sparser = Sparser::begin(runs.start(), counted, most);
     while !sparser.step(runs, source, output, w, m)? {

@@ -22,7 +22,8 @@ pub const IMAGE: [u8; 72] = [
 /// The only refusal is `Write`, with a beginning of the line written. It takes no memory.
 pub fn demo<O: Output>(out: &mut O, w: &mut Window, m: &mut Meter) -> Result<(), SparseFault>
     ensures line { OnOk result (O.written out.new ≡ O.written out.old ++ demo_line) }
-    ensures front { O.written out.new ≡ O.written out.old ++ take (length (O.written out.new) - length (O.written out.old)) demo_line }
+    ensures front { O.written out.new ≡ O.written out.old ++ take
+        (length (O.written out.new) - length (O.written out.old)) demo_line }
     ensures frame { O.write_frame out.new ≡ O.write_frame out.old }
     ensures cause { IfErr result (λ fault. IsWriteFault fault × (O.write_faults out.old < O.write_faults out.new)) }
 {

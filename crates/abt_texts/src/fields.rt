@@ -100,7 +100,8 @@ fn vendor_address(front: &VendorFront, which: Address) -> Option<u64>
 
 /// The OS version and patch level, which every boot image has.
 pub fn os_version_of(header: &ImageHeader) -> Option<OsVersion>
-    ensures { MatchOption result (info.os_number_of (view_of header.now) ≡ None) (λ os. info.os_number_of (view_of header.now) ≡ Some os.number) }
+    ensures { MatchOption result (info.os_number_of (view_of header.now) ≡ None)
+        (λ os. info.os_number_of (view_of header.now) ≡ Some os.number) }
 {
     match header {
         ImageHeader::Boot(BootHeader::V0(front)) => Some(front.os_version),
@@ -114,7 +115,8 @@ pub fn os_version_of(header: &ImageHeader) -> Option<OsVersion>
 
 /// The bytes of a text field, where the header has it.
 pub fn text_field_of(header: &ImageHeader, which: TextField) -> Option<&[u8]>
-    ensures { MatchOption result (info.field_of (view_of header.now) which ≡ None) (λ field. info.field_of (view_of header.now) which ≡ Some field.now) }
+    ensures { MatchOption result (info.field_of (view_of header.now) which ≡ None)
+        (λ field. info.field_of (view_of header.now) which ≡ Some field.now) }
 {
     match header {
         ImageHeader::Boot(BootHeader::V0(front)) => Some(front_field(front, which)),
@@ -138,7 +140,8 @@ fn front_field(front: &BootFront, which: TextField) -> &[u8]
 }
 
 fn cmdline_alone(cmdline: &[u8], which: TextField) -> Option<&[u8]>
-    ensures { MatchOption result (info.cmdline_alone cmdline.now which ≡ None) (λ field. info.cmdline_alone cmdline.now which ≡ Some field.now) }
+    ensures { MatchOption result (info.cmdline_alone cmdline.now which ≡ None)
+        (λ field. info.cmdline_alone cmdline.now which ≡ Some field.now) }
 {
     match which {
         TextField::Name => None,
@@ -148,7 +151,8 @@ fn cmdline_alone(cmdline: &[u8], which: TextField) -> Option<&[u8]>
 }
 
 fn vendor_field(front: &VendorFront, which: TextField) -> Option<&[u8]>
-    ensures { MatchOption result (info.vendor_field front.now which ≡ None) (λ field. info.vendor_field front.now which ≡ Some field.now) }
+    ensures { MatchOption result (info.vendor_field front.now which ≡ None) (λ field. info.vendor_field front.now which
+        ≡ Some field.now) }
 {
     match which {
         TextField::Name => Some(&front.name),

@@ -25,7 +25,8 @@ impl<'a> FragmentWord<'a> {
     /// Reads a word, or answers `None` where its shape or its TYPE is another, or its NAME has more than 31 bytes.
     pub fn new(word: &'a str) -> Option<FragmentWord<'a>>
         ensures value { IfSome result (λ f. IsFragment word.entry.now f.spec f.path.now) }
-        ensures accepts { (spec : FragmentSpec) (path : List ℕ) → IsFragment word.entry.now spec path → IsSomeAnd result (λ f. (f.spec ≡ spec) × (f.path.now ≡ path)) }
+        ensures accepts { (spec : FragmentSpec) (path : List ℕ) → IsFragment word.entry.now spec path →
+            IsSomeAnd result (λ f. (f.spec ≡ spec) × (f.path.now ≡ path)) }
     {
         let (kind, rest) = word.split_once(':')?;
         let (name, path) = rest.split_once(':')?;
@@ -37,11 +38,13 @@ impl<'a> FragmentWord<'a> {
         Some(FragmentWord { spec, path })
     }
 
-    /// The same of a word in which `\x` and two hexadecimal digits stand for a byte. NAME stands for at most 32 bytes, any
+    /// The same of a word in which `\x` and two hexadecimal digits stand for a byte. NAME stands for at most 32 bytes,
+    /// any
     /// of which may be zero; FILE is as it is written.
     pub fn escaped(alloc: Global, word: &'a str) -> Result<Option<FragmentWord<'a>>, AllocError>
         ensures value { IfOk result (λ o. IfSome o (λ f. IsEscapedFragment word.entry.now f.spec f.path.now)) }
-        ensures accepts { (spec : FragmentSpec) (path : List ℕ) → IsEscapedFragment word.entry.now spec path → IfOk result (λ o. IsSomeAnd o (λ f. (f.spec ≡ spec) × (f.path.now ≡ path))) }
+        ensures accepts { (spec : FragmentSpec) (path : List ℕ) → IsEscapedFragment word.entry.now spec path →
+            IfOk result (λ o. IsSomeAnd o (λ f. (f.spec ≡ spec) × (f.path.now ≡ path))) }
     {
         let Some((kind, rest)) = word.split_once(':') else {
             return Ok(None);

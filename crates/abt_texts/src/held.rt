@@ -48,7 +48,8 @@ impl Held {
     /// Takes as many of these bytes as have room, and says how many.
     pub fn put(&mut self, bytes: &[u8]) -> usize
         ensures count { result ≡ min (length bytes.now) (8192 - self.old.used) }
-        ensures text { text_in self.new.bytes self.new.used ≡ text_in self.old.bytes self.old.used ++ take result bytes.now }
+        ensures text { text_in self.new.bytes self.new.used ≡ text_in self.old.bytes self.old.used ++ take
+            result bytes.now }
     {
         let from = self.used;
         let n = bytes.len().min(ROOM - from);

@@ -28,7 +28,8 @@ pub struct InfoReport {
 
 /// Prints what the header of the image at the front of a source says, a line for each field, and what checking finds.
 ///
-/// An image that doesn't open prints nothing. Where the source fails later, the lines of what came before stand. A write
+/// An image that doesn't open prints nothing. Where the source fails later, the lines of what came before stand. A
+/// write
 /// that fails is `Write`. It takes no memory.
 pub fn report_info<S: Source, O: Output>(
     source: &mut S,
@@ -37,9 +38,13 @@ pub fn report_info<S: Source, O: Output>(
     m: &mut Meter,
 ) -> Result<InfoReport, SectionFault>
     ensures content { IsTrue S.tells → OnOk result (S.content source.new ≡ S.content source.old) }
-    ensures reported { IsTrue S.tells → IfOk result (λ r. IsOpened (S.content source.old) r.image × spec.IsVerdict (S.content source.old) (view_of r.image.header) r.verdict) }
-    ensures printed { IsTrue S.tells → OnOk result (spec.Reports (S.content source.old) (O.written out.old) (O.written out.new)) }
-    ensures refused { IsTrue S.tells → IfErr result (λ f. spec.InfoCause f (S.content source.old) (S.read_faults source.old) (S.read_faults source.new) (O.written out.new ≡ O.written out.old)) }
+    ensures reported { IsTrue S.tells → IfOk result (λ r. IsOpened (S.content source.old) r.image ×
+        spec.IsVerdict (S.content source.old) (view_of r.image.header) r.verdict) }
+    ensures printed { IsTrue S.tells →
+        OnOk result (spec.Reports (S.content source.old) (O.written out.old) (O.written out.new)) }
+    ensures refused { IsTrue S.tells →
+        IfErr result (λ f. spec.InfoCause f (S.content source.old) (S.read_faults source.old) (S.read_faults source.new)
+        (O.written out.new ≡ O.written out.old)) }
 {
     let image = match open(source, w, m) {
         Ok(image) => image,
@@ -63,8 +68,11 @@ fn image_lines<S: Source, O: Output>(
 ) -> Result<Verdict, SectionFault>
     ensures content { IsTrue S.tells → OnOk result (S.content source.new ≡ S.content source.old) }
     ensures verdict { IsTrue S.tells → IfOk result (spec.IsVerdict (S.content source.old) (view_of image.now.header)) }
-    ensures lines { IsTrue S.tells → OnOk result (spec.Checked (S.content source.old) (view_of image.now.header) (Prints O.written text.old text.new)) }
-    ensures refused { IsTrue S.tells → IsOpened (S.content source.old) image.now → IfErr result (λ f. spec.PrintCause f (S.read_faults source.old) (S.read_faults source.new)) }
+    ensures lines { IsTrue S.tells →
+        OnOk result (spec.Checked (S.content source.old) (view_of image.now.header)
+        (Prints O.written text.old text.new)) }
+    ensures refused { IsTrue S.tells → IsOpened (S.content source.old) image.now →
+        IfErr result (λ f. spec.PrintCause f (S.read_faults source.old) (S.read_faults source.new)) }
 {
     print(text, KindLine(&image.header))?;
     section_lines(image, text, m)?;
@@ -88,7 +96,9 @@ fn section_lines<O: Output>(
     text: &mut Text<'_, O>,
     m: &mut Meter,
 ) -> Result<(), SectionFault>
-    ensures lines { OnOk result (Prints O.written text.old text.new (flat_map spec.section_line (places_of (view_of image.now.header)))) }
+    ensures lines { OnOk
+        result (Prints O.written text.old text.new
+        (flat_map spec.section_line (places_of (view_of image.now.header)))) }
     ensures refused { IfErr result spec.IsWrite }
 {
     for i in 0..sections(image) {
@@ -106,9 +116,14 @@ fn fragment_lines<S: Source, O: Output>(
     m: &mut Meter,
 ) -> Result<(), SectionFault>
     ensures content { IsTrue S.tells → OnOk result (S.content source.new ≡ S.content source.old) }
-    ensures lines { IsTrue S.tells → OnOk result (Prints O.written text.old text.new (spec.fragment_lines (S.content source.old) (view_of image.now.header) (fragment_count (view_of image.now.header)))) }
+    ensures lines { IsTrue S.tells →
+        OnOk
+        result (Prints O.written text.old text.new
+        (spec.fragment_lines (S.content source.old) (view_of image.now.header)
+        (fragment_count (view_of image.now.header)))) }
     ensures faults { S.read_faults source.old ≤ S.read_faults source.new }
-    ensures refused { IsTrue S.tells → IsOpened (S.content source.old) image.now → IfErr result (λ f. spec.PrintCause f (S.read_faults source.old) (S.read_faults source.new)) }
+    ensures refused { IsTrue S.tells → IsOpened (S.content source.old) image.now →
+        IfErr result (λ f. spec.PrintCause f (S.read_faults source.old) (S.read_faults source.new)) }
 {
     for i in 0..fragments(image) {
         m.tick();

@@ -20,7 +20,9 @@ pub fn report_list<I: Input, O: Output>(
     w: &mut Window,
     m: &mut Meter,
 ) -> Result<(), SparseFault>
-    ensures { IsTrue I.tells → OnOk result (Listed (I.remaining input.old) (I.remaining input.new) (λ text. O.written out.new ≡ O.written out.old ++ text)) }
+    ensures { IsTrue I.tells →
+        OnOk result (Listed (I.remaining input.old) (I.remaining input.new)
+        (λ text. O.written out.new ≡ O.written out.old ++ text)) }
 {
     let mut text = Text::new(out);
     let listed = lines(input, &mut text, w, m);
@@ -36,7 +38,8 @@ fn lines<I: Input, O: Output>(
     w: &mut Window,
     m: &mut Meter,
 ) -> Result<(), SparseFault>
-    ensures { IsTrue I.tells → OnOk result (Listed (I.remaining input.old) (I.remaining input.new) (Prints O.written text.old text.new)) }
+    ensures { IsTrue I.tells →
+        OnOk result (Listed (I.remaining input.old) (I.remaining input.new) (Prints O.written text.old text.new)) }
 {
     let mut chunks = Chunks::open(input, w, m)?;
     let header = chunks.header();
@@ -53,7 +56,9 @@ fn chunk_lines<I: Input, O: Output>(
     w: &mut Window,
     m: &mut Meter,
 ) -> Result<(), SparseFault>
-    ensures { IsTrue I.tells → length (yet chunks.old.walk (I.remaining input.old)).shown ≤ most → OnOk result (((yet chunks.old.walk (I.remaining input.old)).ending ≡ Ok (I.remaining input.new)) × Prints O.written text.old text.new (flat_map chunk_line (yet chunks.old.walk (I.remaining input.old)).shown)) }
+    ensures { IsTrue I.tells → length (yet chunks.old.walk (I.remaining input.old)).shown ≤ most →
+        OnOk result (((yet chunks.old.walk (I.remaining input.old)).ending ≡ Ok (I.remaining input.new)) ×
+        Prints O.written text.old text.new (flat_map chunk_line (yet chunks.old.walk (I.remaining input.old)).shown)) }
 {
     for _listed in 0..most as u64 + 1 {
         m.tick();

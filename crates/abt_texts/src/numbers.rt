@@ -3,7 +3,8 @@
 ghost use Rattle.std.specs.Prelude.{◌≡◌, ◌≢◌, ◌<◌, ◌≤◌, ◌^◌, ℕ, List, [], ◌∷◌, ◌++◌, Some, None, IfSome};
 ghost use Rattle.abt_texts.specs.NumberWord.{IsDecimal, IsDigits, IsNumber, IsScale};
 
-/// Reads a number: `4096`, `0x1000`, or `4K`, `1M` and `2G` in powers of 1024. Nothing stands before it or behind it, no
+/// Reads a number: `4096`, `0x1000`, or `4K`, `1M` and `2G` in powers of 1024. Nothing stands before it or behind it,
+/// no
 /// sign either. `None` for every other word, and for a number that has no room in 64 bits.
 pub fn number_word(word: &str) -> Option<u64>
     ensures value { IfSome result (λ n. IsNumber word.now n) }
@@ -36,8 +37,10 @@ fn decimal(word: &str) -> Option<u64>
 
 // What stands before the letter of a scale, and what the letter stands for.
 fn scaled(word: &str) -> Option<(&str, u64)>
-    ensures value { IfSome result (λ cut. (letter : ℕ) × IsScale letter cut.1 × (word.now ≡ cut.0.now ++ (letter ∷ []))) }
-    ensures none { result ≡ None → (digits : List ℕ) (letter scale : ℕ) → IsScale letter scale → word.now ≢ digits ++ (letter ∷ []) }
+    ensures value { IfSome result (λ cut. (letter : ℕ) × IsScale letter cut.1 ×
+        (word.now ≡ cut.0.now ++ (letter ∷ []))) }
+    ensures none { result ≡ None → (digits : List ℕ) (letter scale : ℕ) → IsScale letter scale →
+        word.now ≢ digits ++ (letter ∷ []) }
 {
     if let Some(digits) = word.strip_suffix('K') {
         return Some((digits, 1024));

@@ -10,8 +10,10 @@ use abt_headers::{HeaderFault, OsParts, OsVersion};
 /// Reads `A.B.C-YYYY-MM`: digits alone, four for the year and two for the month. Every other shape, and numbers that
 /// have no room in a header, are refused as 28.
 pub fn os_from_word(word: &str) -> Result<OsVersion, HeaderFault>
-    ensures value { IfOk result (λ version. (os : OsParts) × IsOsWord word.now os × IsOsVersion os × (version.number ≡ os_raw os)) }
-    ensures accepts { (os : OsParts) → IsOsWord word.now os → IsOsVersion os → IsOkAnd result (λ version. version.number ≡ os_raw os) }
+    ensures value { IfOk result (λ version. (os : OsParts) × IsOsWord word.now os × IsOsVersion os ×
+        (version.number ≡ os_raw os)) }
+    ensures accepts { (os : OsParts) → IsOsWord word.now os → IsOsVersion os →
+        IsOkAnd result (λ version. version.number ≡ os_raw os) }
     ensures refuses { IfErr result (λ fault. fault ≡ HeaderFault.Os) }
 {
     match parts_of(word) {

@@ -33,8 +33,11 @@ pub fn write_words<S: Source, O: Output>(
     m: &mut Meter,
 ) -> Result<(), SectionFault>
     ensures content { IsTrue S.tells → OnOk result (S.content source.new ≡ S.content source.old) }
-    ensures written { IsTrue S.tells → OnOk result (O.written out.new ≡ O.written out.old ++ words.words_text (words.image_words folder.now (S.content source.old) (view_of image.now.header))) }
-    ensures refused { IsTrue S.tells → IsOpened (S.content source.old) image.now → IfErr result (λ f. info.PrintCause f (S.read_faults source.old) (S.read_faults source.new)) }
+    ensures written { IsTrue S.tells →
+        OnOk result (O.written out.new ≡ O.written out.old ++ words.words_text
+        (words.image_words folder.now (S.content source.old) (view_of image.now.header))) }
+    ensures refused { IsTrue S.tells → IsOpened (S.content source.old) image.now →
+        IfErr result (λ f. info.PrintCause f (S.read_faults source.old) (S.read_faults source.new)) }
 {
     let mut text = Text::new(out);
     let told = image_words(image, folder, source, &mut text, w, m);
@@ -53,8 +56,12 @@ fn image_words<S: Source, O: Output>(
     m: &mut Meter,
 ) -> Result<(), SectionFault>
     ensures content { IsTrue S.tells → OnOk result (S.content source.new ≡ S.content source.old) }
-    ensures lines { IsTrue S.tells → OnOk result (Prints O.written text.old text.new (words.words_text (words.image_words folder.now (S.content source.old) (view_of image.now.header)))) }
-    ensures refused { IsTrue S.tells → IsOpened (S.content source.old) image.now → IfErr result (λ f. info.PrintCause f (S.read_faults source.old) (S.read_faults source.new)) }
+    ensures lines { IsTrue S.tells →
+        OnOk
+        result (Prints O.written text.old text.new
+        (words.words_text (words.image_words folder.now (S.content source.old) (view_of image.now.header)))) }
+    ensures refused { IsTrue S.tells → IsOpened (S.content source.old) image.now →
+        IfErr result (λ f. info.PrintCause f (S.read_faults source.old) (S.read_faults source.new)) }
 {
     let header = &image.header;
     kind_words(header, text)?;
@@ -67,7 +74,8 @@ fn image_words<S: Source, O: Output>(
 }
 
 fn kind_words<O: Output>(header: &ImageHeader, text: &mut Text<'_, O>) -> Result<(), SectionFault>
-    ensures lines { OnOk result (Prints O.written text.old text.new (words.words_text (words.kind_words (view_of header.now)))) }
+    ensures lines { OnOk
+        result (Prints O.written text.old text.new (words.words_text (words.kind_words (view_of header.now)))) }
     ensures refused { IfErr result info.IsWrite }
 {
     print(text, FlagWord("escaped"))?;
@@ -90,7 +98,10 @@ fn section_words<O: Output>(
     text: &mut Text<'_, O>,
     m: &mut Meter,
 ) -> Result<(), SectionFault>
-    ensures lines { OnOk result (Prints O.written text.old text.new (words.words_text (flat_map (words.section_words folder.now (words.has_table (view_of image.now.header))) (places_of (view_of image.now.header))))) }
+    ensures lines { OnOk
+        result (Prints O.written text.old text.new
+        (words.words_text (flat_map (words.section_words folder.now (words.has_table (view_of image.now.header)))
+        (places_of (view_of image.now.header))))) }
     ensures refused { IfErr result info.IsWrite }
 {
     let table = has_table(&image.header);
@@ -107,7 +118,8 @@ fn section_word<O: Output>(
     table: bool,
     text: &mut Text<'_, O>,
 ) -> Result<(), SectionFault>
-    ensures lines { OnOk result (Prints O.written text.old text.new (words.words_text (words.section_words folder.now table place))) }
+    ensures lines { OnOk
+        result (Prints O.written text.old text.new (words.words_text (words.section_words folder.now table place))) }
     ensures refused { IfErr result info.IsWrite }
 {
     match section_option(table, place.kind) {
@@ -133,7 +145,8 @@ fn has_table(header: &ImageHeader) -> bool
 // The option that a section is given by, where there is one: a vendor ramdisk with a table is given by its fragments,
 // and the table with them.
 fn section_option(table: bool, section: Section) -> Option<&'static str>
-    ensures { MatchOption result (words.section_option table section ≡ None) (λ name. words.section_option table section ≡ Some name.now) }
+    ensures { MatchOption result (words.section_option table section ≡ None) (λ name. words.section_option table section
+        ≡ Some name.now) }
 {
     match section {
         Section::Kernel => Some("kernel"),
@@ -152,7 +165,8 @@ fn address_words<O: Output>(
     header: &ImageHeader,
     text: &mut Text<'_, O>,
 ) -> Result<(), SectionFault>
-    ensures lines { OnOk result (Prints O.written text.old text.new (words.words_text (words.address_words (view_of header.now)))) }
+    ensures lines { OnOk
+        result (Prints O.written text.old text.new (words.words_text (words.address_words (view_of header.now)))) }
     ensures refused { IfErr result info.IsWrite }
 {
     address_word(header, Address::Kernel, text)?;
@@ -167,7 +181,8 @@ fn address_word<O: Output>(
     which: Address,
     text: &mut Text<'_, O>,
 ) -> Result<(), SectionFault>
-    ensures lines { OnOk result (Prints O.written text.old text.new (words.words_text (words.address_word (view_of header.now) which))) }
+    ensures lines { OnOk
+        result (Prints O.written text.old text.new (words.words_text (words.address_word (view_of header.now) which))) }
     ensures refused { IfErr result info.IsWrite }
 {
     match address_of(header, which) {
@@ -189,7 +204,8 @@ fn address_option(which: Address) -> &'static str
 }
 
 fn name_words<O: Output>(header: &ImageHeader, text: &mut Text<'_, O>) -> Result<(), SectionFault>
-    ensures lines { OnOk result (Prints O.written text.old text.new (words.words_text (words.name_words (view_of header.now)))) }
+    ensures lines { OnOk
+        result (Prints O.written text.old text.new (words.words_text (words.name_words (view_of header.now)))) }
     ensures refused { IfErr result info.IsWrite }
 {
     match text_field_of(header, TextField::Name) {
@@ -203,7 +219,8 @@ fn name_words<O: Output>(header: &ImageHeader, text: &mut Text<'_, O>) -> Result
 }
 
 fn cmdline_word<O: Output>(header: &ImageHeader, text: &mut Text<'_, O>) -> Result<(), SectionFault>
-    ensures lines { OnOk result (Prints O.written text.old text.new (words.words_text (words.cmdline_word (view_of header.now) ∷ []))) }
+    ensures lines { OnOk
+        result (Prints O.written text.old text.new (words.words_text (words.cmdline_word (view_of header.now) ∷ []))) }
     ensures refused { IfErr result info.IsWrite }
 {
     let name = "cmdline";
@@ -213,7 +230,8 @@ fn cmdline_word<O: Output>(header: &ImageHeader, text: &mut Text<'_, O>) -> Resu
 }
 
 fn os_words<O: Output>(header: &ImageHeader, text: &mut Text<'_, O>) -> Result<(), SectionFault>
-    ensures lines { OnOk result (Prints O.written text.old text.new (words.words_text (words.os_words (view_of header.now)))) }
+    ensures lines { OnOk
+        result (Prints O.written text.old text.new (words.words_text (words.os_words (view_of header.now)))) }
     ensures refused { IfErr result info.IsWrite }
 {
     match os_version_of(header) {
@@ -231,9 +249,14 @@ fn fragment_words<S: Source, O: Output>(
     m: &mut Meter,
 ) -> Result<(), SectionFault>
     ensures content { IsTrue S.tells → OnOk result (S.content source.new ≡ S.content source.old) }
-    ensures lines { IsTrue S.tells → OnOk result (Prints O.written text.old text.new (words.words_text (words.fragment_words folder.now (S.content source.old) (view_of image.now.header) (fragment_count (view_of image.now.header))))) }
+    ensures lines { IsTrue S.tells →
+        OnOk
+        result (Prints O.written text.old text.new
+        (words.words_text (words.fragment_words folder.now (S.content source.old) (view_of image.now.header)
+        (fragment_count (view_of image.now.header))))) }
     ensures faults { S.read_faults source.old ≤ S.read_faults source.new }
-    ensures refused { IsTrue S.tells → IsOpened (S.content source.old) image.now → IfErr result (λ f. info.PrintCause f (S.read_faults source.old) (S.read_faults source.new)) }
+    ensures refused { IsTrue S.tells → IsOpened (S.content source.old) image.now →
+        IfErr result (λ f. info.PrintCause f (S.read_faults source.old) (S.read_faults source.new)) }
 {
     for i in 0..fragments(image) {
         m.tick();
@@ -256,7 +279,8 @@ fn entry_words<O: Output>(
     text: &mut Text<'_, O>,
     m: &mut Meter,
 ) -> Result<(), SectionFault>
-    ensures lines { OnOk result (Prints O.written text.old text.new (words.words_text (words.entry_words folder.now index entry.now))) }
+    ensures lines { OnOk
+        result (Prints O.written text.old text.new (words.words_text (words.entry_words folder.now index entry.now))) }
     ensures refused { IfErr result info.IsWrite }
 {
     let option = FragmentOption {
@@ -298,7 +322,8 @@ fn board_words<O: Output>(
     text: &mut Text<'_, O>,
     m: &mut Meter,
 ) -> Result<(), SectionFault>
-    ensures lines { OnOk result (Prints O.written text.old text.new (words.words_text (words.board_words fragment 0 board_id.now))) }
+    ensures lines { OnOk
+        result (Prints O.written text.old text.new (words.words_text (words.board_words fragment 0 board_id.now))) }
     ensures refused { IfErr result info.IsWrite }
 {
     for place in 0..16 {
@@ -314,7 +339,8 @@ fn board_word<O: Output>(
     number: u32,
     text: &mut Text<'_, O>,
 ) -> Result<(), SectionFault>
-    ensures lines { OnOk result (Prints O.written text.old text.new (words.words_text (words.board_word fragment place number))) }
+    ensures lines { OnOk
+        result (Prints O.written text.old text.new (words.words_text (words.board_word fragment place number))) }
     ensures refused { IfErr result info.IsWrite }
 {
     if number == 0 {
@@ -333,7 +359,8 @@ fn print<O: Output, D: fmt::Display + Drop>(
     text: &mut Text<'_, O>,
     word: D,
 ) -> Result<(), SectionFault>
-    ensures line { OnOk result (IfSome (D.output word) (λ bs. Prints O.written text.old text.new (words.words_text (bs ∷ [])))) }
+    ensures line { OnOk
+        result (IfSome (D.output word) (λ bs. Prints O.written text.old text.new (words.words_text (bs ∷ [])))) }
     ensures refused { IfErr result info.IsWrite }
 {
     match text.line(word) {

@@ -25,7 +25,8 @@ pub struct Text<'a, O> {
 impl<'a, O: Output> Text<'a, O> {
     pub fn new(output: &'a mut O) -> Text<'a, O>
         ensures same_reference { result.output.ghost_name ≡ output.entry.ghost_name }
-        ensures text { O.written result.output.now ++ text_in result.held.bytes result.held.used ≡ O.written output.old }
+        ensures text { O.written result.output.now ++ text_in result.held.bytes result.held.used
+            ≡ O.written output.old }
     {
         Text {
             output,
@@ -36,7 +37,11 @@ impl<'a, O: Output> Text<'a, O> {
 
     /// Adds a line. After an error the output holds a beginning of the text, and nothing more is written.
     pub fn line<D: fmt::Display + Drop>(&mut self, line: D) -> Result<(), DeviceFault>
-        ensures { OnOk result (IfSome (with_newline (D.output line)) (λ bs. (O.written self.new.output.now ++ text_in self.new.held.bytes self.new.held.used ≡ (O.written self.old.output.now ++ text_in self.old.held.bytes self.old.held.used) ++ bs) × (self.new.output.ghost_name ≡ self.old.output.ghost_name))) }
+        ensures { OnOk
+            result (IfSome (with_newline (D.output line))
+            (λ bs. (O.written self.new.output.now ++ text_in self.new.held.bytes self.new.held.used
+            ≡ (O.written self.old.output.now ++ text_in self.old.held.bytes self.old.held.used) ++ bs) ×
+            (self.new.output.ghost_name ≡ self.old.output.ghost_name))) }
     {
         match self.writeln(line) {
             Ok(()) => self.end_line(),
@@ -47,7 +52,8 @@ impl<'a, O: Output> Text<'a, O> {
     // Sends what is held where it is enough.
     fn end_line(&mut self) -> Result<(), DeviceFault>
         ensures same_reference { self.new.output.ghost_name ≡ self.old.output.ghost_name }
-        ensures text { OnOk result (O.written self.new.output.now ++ text_in self.new.held.bytes self.new.held.used ≡ O.written self.old.output.now ++ text_in self.old.held.bytes self.old.held.used) }
+        ensures text { OnOk result (O.written self.new.output.now ++ text_in self.new.held.bytes self.new.held.used
+            ≡ O.written self.old.output.now ++ text_in self.old.held.bytes self.old.held.used) }
     {
         if self.held.len() < ENOUGH {
             Ok(())
@@ -58,7 +64,11 @@ impl<'a, O: Output> Text<'a, O> {
 
     /// Adds text that need not end a line.
     pub fn add<D: fmt::Display + Drop>(&mut self, text: D) -> Result<(), DeviceFault>
-        ensures { OnOk result (IfSome (D.output text) (λ bs. (O.written self.new.output.now ++ text_in self.new.held.bytes self.new.held.used ≡ (O.written self.old.output.now ++ text_in self.old.held.bytes self.old.held.used) ++ bs) × (self.new.output.ghost_name ≡ self.old.output.ghost_name))) }
+        ensures { OnOk
+            result (IfSome (D.output text)
+            (λ bs. (O.written self.new.output.now ++ text_in self.new.held.bytes self.new.held.used
+            ≡ (O.written self.old.output.now ++ text_in self.old.held.bytes self.old.held.used) ++ bs) ×
+            (self.new.output.ghost_name ≡ self.old.output.ghost_name))) }
     {
         match self.write(text) {
             Ok(()) => Ok(()),
@@ -69,7 +79,8 @@ impl<'a, O: Output> Text<'a, O> {
     /// Sends what is held, and holds nothing any more, also where it can't be written.
     pub fn finish(&mut self) -> Result<(), DeviceFault>
         ensures same_reference { self.new.output.ghost_name ≡ self.old.output.ghost_name }
-        ensures written { OnOk result (O.written self.new.output.now ≡ O.written self.old.output.now ++ text_in self.old.held.bytes self.old.held.used) }
+        ensures written { OnOk result (O.written self.new.output.now ≡ O.written self.old.output.now ++ text_in
+            self.old.held.bytes self.old.held.used) }
         ensures emptied { OnOk result (self.new.held.used ≡ 0) }
         ensures nothing_held { OnOk result (text_in self.new.held.bytes self.new.held.used ≡ []) }
     {
@@ -90,7 +101,8 @@ impl<'a, O: Output> Text<'a, O> {
         ensures same_reference { self.new.output.ghost_name ≡ self.old.output.ghost_name }
         ensures within { IfOk result (λ n. n ≤ length bytes.now) }
         ensures progress { IfOk result (λ n. 0 < length bytes.now → 0 < n) }
-        ensures text { IfOk result (λ n. O.written self.new.output.now ++ text_in self.new.held.bytes self.new.held.used ≡ (O.written self.old.output.now ++ text_in self.old.held.bytes self.old.held.used) ++ take n bytes.now) }
+        ensures text { IfOk result (λ n. O.written self.new.output.now ++ text_in self.new.held.bytes self.new.held.used
+            ≡ (O.written self.old.output.now ++ text_in self.old.held.bytes self.old.held.used) ++ take n bytes.now) }
     {
         if self.held.len() == ROOM {
             self.finish()?;
@@ -100,7 +112,8 @@ impl<'a, O: Output> Text<'a, O> {
 
     fn put(&mut self, bytes: &[u8]) -> Result<(), DeviceFault>
         ensures same_reference { self.new.output.ghost_name ≡ self.old.output.ghost_name }
-        ensures text { OnOk result (O.written self.new.output.now ++ text_in self.new.held.bytes self.new.held.used ≡ (O.written self.old.output.now ++ text_in self.old.held.bytes self.old.held.used) ++ bytes.now) }
+        ensures text { OnOk result (O.written self.new.output.now ++ text_in self.new.held.bytes self.new.held.used
+            ≡ (O.written self.old.output.now ++ text_in self.old.held.bytes self.old.held.used) ++ bytes.now) }
     {
         let mut at = 0;
         while at < bytes.len() {
@@ -111,7 +124,9 @@ impl<'a, O: Output> Text<'a, O> {
 }
 
 impl<O: Output> fmt::Write for Text<'_, O> {
-    ghost write_str_gives = { λ s bs t. (O.written t.output.now ++ text_in t.held.bytes t.held.used ≡ (O.written s.output.now ++ text_in s.held.bytes s.held.used) ++ bs) × (t.output.ghost_name ≡ s.output.ghost_name) };
+    ghost write_str_gives = { λ s bs t. (O.written t.output.now ++ text_in t.held.bytes t.held.used
+        ≡ (O.written s.output.now ++ text_in s.held.bytes s.held.used) ++ bs) ×
+        (t.output.ghost_name ≡ s.output.ghost_name) };
 
     fn write_str(&mut self, s: &str) -> fmt::Result {
         match self.put(s.as_bytes()) {
@@ -126,7 +141,8 @@ pub fn print_line<O: Output, D: fmt::Display + Drop>(
     output: &mut O,
     line: D,
 ) -> Result<(), DeviceFault>
-    ensures { OnOk result (IfSome (with_newline (D.output line)) (λ bs. O.written output.new ≡ O.written output.old ++ bs)) }
+    ensures { OnOk
+        result (IfSome (with_newline (D.output line)) (λ bs. O.written output.new ≡ O.written output.old ++ bs)) }
 {
     let mut text = Text::new(output);
     match text.line(line) {

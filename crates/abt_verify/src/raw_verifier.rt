@@ -1,11 +1,13 @@
 //! Verifying a raw image in steps.
 
-ghost use Rattle.std.specs.Prelude.{◌≡◌, ◌<◌, ◌≤◌, ◌+◌, ◌-◌, ◌*◌, ◌^◌, IsTrue, IsNone, IfNone, OnOk, length, take, drop, max, min};
+ghost use Rattle.std.specs.Prelude.{◌≡◌, ◌<◌, ◌≤◌, ◌+◌, ◌-◌, ◌*◌, ◌^◌, IsTrue, IsNone, IfNone, OnOk, length, take};
+ghost use Rattle.std.specs.Prelude.{drop, max, min};
 ghost use Rattle.abt_chunks.specs.Ahead.{somes};
 ghost use Rattle.abt_verify.specs.Comparing.{PartDiffers};
 ghost use Rattle.abt_verify.specs.Fault.{PieceCause, RawRises, short_fault};
 ghost use Rattle.abt_verify.specs.Standing.{FirstDiffers, Stands, from_place};
-ghost use Rattle.abt_verify.specs.Stepping.{IsOver, IsUnderway, OnDiffers, OnDone, OnMore, passed_by, raw_answer, stage_of};
+ghost use Rattle.abt_verify.specs.Stepping.{IsOver, IsUnderway, OnDiffers, OnDone, OnMore, passed_by, raw_answer};
+ghost use Rattle.abt_verify.specs.Stepping.{stage_of};
 
 use crate::comparing::{Compared, HALF, compare_at};
 use crate::fault::VerifyFault;
@@ -148,7 +150,8 @@ impl RawVerifier {
         (self.length - self.at).min(HALF as u64) as usize
     }
 
-    /// One step: at most half a window is read of the source, and compared with as many bytes of the partition. An error
+    /// One step: at most half a window is read of the source, and compared with as many bytes of the partition. An
+    /// error
     /// is a device's (11 reading the source, 37 the partition), the first byte that differs (35), as all behind the
     /// partition's end do, or 14 where the source gives fewer bytes than it has said. After an error or Done every step
     /// answers that again and calls no device.

@@ -58,10 +58,16 @@ fn stepped<R: BlockRuns + Drop, S: Source, O: Output>(
     m: &mut Meter,
 ) -> Result<Option<Piece>, PieceFault>
     requires opened { IsTrue S.tells → R.opened cutter.old.runs (S.content source.old) }
-    requires told { IsTrue S.tells → ToldCutter (R.place cutter.old.runs (S.content source.old)) (R.together cutter.old.runs (S.content source.old)) (R.size cutter.old.runs) (R.list cutter.old.runs (S.content source.old)) cutter.old.limit cutter.old.made cutter.old.start cutter.old.stage }
+    requires told { IsTrue S.tells → ToldCutter (R.place cutter.old.runs (S.content source.old))
+        (R.together cutter.old.runs (S.content source.old)) (R.size cutter.old.runs)
+        (R.list cutter.old.runs (S.content source.old)) cutter.old.limit cutter.old.made cutter.old.start
+        cutter.old.stage }
     ensures runs { cutter.new.runs ≡ cutter.old.runs }
     ensures content { IsTrue S.tells → S.content source.new ≡ S.content source.old }
-    ensures told { IsTrue S.tells → ToldCutter (R.place cutter.old.runs (S.content source.old)) (R.together cutter.old.runs (S.content source.old)) (R.size cutter.old.runs) (R.list cutter.old.runs (S.content source.old)) cutter.new.limit cutter.new.made cutter.new.start cutter.new.stage }
+    ensures told { IsTrue S.tells → ToldCutter (R.place cutter.old.runs (S.content source.old))
+        (R.together cutter.old.runs (S.content source.old)) (R.size cutter.old.runs)
+        (R.list cutter.old.runs (S.content source.old)) cutter.new.limit cutter.new.made cutter.new.start
+        cutter.new.stage }
 {
     'steps: for _ in 0..32 {
         m.tick();

@@ -6,7 +6,8 @@ use sparse_tests::vectors::{MIXED, NO_GAP};
 
 const ROW: [u8; 12] = *b"ABCD\x04\x03\x02\x01WXYZ";
 
-/// Verifies where one call of the image or of the partition fails, from 1 on; at 0 none does. And how many calls each had.
+/// Verifies where one call of the image or of the partition fails, from 1 on; at 0 none does. And how many calls each
+/// had.
 fn verified(image_at: u64, partition_at: u64) -> (Result<Verified, VerifyFault>, u64, u64) {
     let mut input = Faulty::new(
         Cut::new(Forward::new(SliceSource::new(&NO_GAP)), 5),

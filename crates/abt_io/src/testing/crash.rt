@@ -57,7 +57,9 @@ impl<'a> CrashPartition<'a> {
     pub fn crash(&mut self, pick: Pick)
         ensures same_reference { self.new.now.bytes.ghost_name ≡ self.old.now.bytes.ghost_name }
         ensures left { MayLeave (moment_of self.old.history.past self.old.now.bytes.now) self.new.now.bytes.now }
-        ensures picked { (i : ℕ) → i < length self.old.now.bytes.now → is_pending self.old.history.past.pending i ≡ true → slice_index self.new.now.bytes.now i ≡ picked pick (slice_index self.old.now.bytes.now i) (slice_index self.old.stable.bytes.now i) }
+        ensures picked { (i : ℕ) → i < length self.old.now.bytes.now → is_pending self.old.history.past.pending i ≡ true
+            → slice_index self.new.now.bytes.now i ≡ picked pick (slice_index self.old.now.bytes.now i)
+            (slice_index self.old.stable.bytes.now i) }
         ensures stable { self.new.stable.bytes.now ≡ self.new.now.bytes.now }
         ensures touched { self.new.touched.bytes.now ≡ replicate (length self.old.now.bytes.now) 0 }
         ensures history { self.new.history.past ≡ no_past }
@@ -82,7 +84,14 @@ impl<'a> Source for CrashPartition<'a> {
 
     ghost read_faults = { λ s. 0 };
 
-    ghost read_frame = { λ s. record { size = length s.now.bytes.now; past = s.history.past; puts = s.puts.number; taken = s.taken.number; syncs = s.syncs.number; put_faults = 0 } };
+    ghost read_frame = { λ s. record {
+      size = length s.now.bytes.now;
+      past = s.history.past;
+      puts = s.puts.number;
+      taken = s.taken.number;
+      syncs = s.syncs.number;
+      put_faults = 0;
+    } };
 
     ghost sized = { λ s _. refl };
 

@@ -1,8 +1,10 @@
 //! A device that moves few bytes a call.
 
-ghost use Rattle.std.specs.Prelude.{◌≡◌, ◌<◌, ◌≤◌, ◌+◌, ◌-◌, ◌^◌, ◌++◌, [], IsTrue, IfOk, IfErr, OnOk, OnErr, IsErrOf, length, take, drop};
+ghost use Rattle.std.specs.Prelude.{◌≡◌, ◌<◌, ◌≤◌, ◌+◌, ◌-◌, ◌^◌, ◌++◌, [], IsTrue, IfOk, IfErr, OnOk, OnErr};
+ghost use Rattle.std.specs.Prelude.{IsErrOf, length, take, drop};
 ghost use Rattle.abt_io.specs.Count.{count_of, full_of};
-ghost use Rattle.abt_io.specs.Moment.{Keeps, EachSince, IsNewest, StaysPending, AllPending, in_range, moment_of, put_at};
+ghost use Rattle.abt_io.specs.Moment.{Keeps, EachSince, IsNewest, StaysPending, AllPending, in_range, moment_of};
+ghost use Rattle.abt_io.specs.Moment.{put_at};
 
 use crate::{DeviceFault, Input, Output, Overwrite, Partition, Source, Spool};
 

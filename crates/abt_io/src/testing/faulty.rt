@@ -1,11 +1,14 @@
 //! A device that fails once.
 
-ghost use Rattle.std.specs.Prelude.{◌≡◌, ◌<◌, ◌≤◌, ◌+◌, ◌-◌, ◌^◌, ◌++◌, ◌∷◌, ◌↔◌, [], false, IsTrue, IfOk, IfErr, OnOk, OnErr, IsErrOf, is_ok, if◌then◌else◌, min, length, take, drop};
+ghost use Rattle.std.specs.Prelude.{◌≡◌, ◌<◌, ◌≤◌, ◌+◌, ◌-◌, ◌^◌, ◌++◌, ◌∷◌, ◌↔◌, [], false, IsTrue, IfOk, IfErr};
+ghost use Rattle.std.specs.Prelude.{OnOk, OnErr, IsErrOf, is_ok, if◌then◌else◌, min, length, take, drop};
 ghost use Rattle.std.specs.Borrow.{sem};
 ghost use Rattle.abt_io.specs.Count.{count_of, full_of};
 ghost use Rattle.abt_io.specs.Inner.{LendsInner};
-ghost use Rattle.abt_io.specs.Moment.{Keeps, EachSince, IsNewest, StaysPending, AllPending, in_range, moment_of, put_at};
-ghost use Rattle.abt_io.specs.FrameLaws.{counted_reading, counted_writing, counted_partition, more_reading, more_writing, more_partition};
+ghost use Rattle.abt_io.specs.Moment.{Keeps, EachSince, IsNewest, StaysPending, AllPending, in_range, moment_of};
+ghost use Rattle.abt_io.specs.Moment.{put_at};
+ghost use Rattle.abt_io.specs.FrameLaws.{counted_reading, counted_writing, counted_partition, more_reading};
+ghost use Rattle.abt_io.specs.FrameLaws.{more_writing, more_partition};
 
 use crate::{DeviceFault, Input, Output, Overwrite, Partition, Source, Spool, Tally};
 

@@ -1,9 +1,11 @@
 //! A partition whose first write over one byte fails and leaves something else there.
 
-ghost use Rattle.std.specs.Prelude.{◌≡◌, ◌<◌, ◌≤◌, ◌+◌, IsTrue, IfOk, IfErr, OnOk, OnErr, IsErrOf, false, true, length, take};
+ghost use Rattle.std.specs.Prelude.{◌≡◌, ◌<◌, ◌≤◌, ◌+◌, IsTrue, IfOk, IfErr, OnOk, OnErr, IsErrOf, false, true};
+ghost use Rattle.std.specs.Prelude.{length, take};
 ghost use Rattle.abt_io.specs.Count.{count_of};
 ghost use Rattle.abt_io.specs.FrameLaws.{marred_partition};
-ghost use Rattle.abt_io.specs.Moment.{Keeps, EachSince, IsNewest, StaysPending, AllPending, in_range, moment_of, put_at};
+ghost use Rattle.abt_io.specs.Moment.{Keeps, EachSince, IsNewest, StaysPending, AllPending, in_range, moment_of};
+ghost use Rattle.abt_io.specs.Moment.{put_at};
 
 use crate::{DeviceFault, Partition, Source, Tally, Window};
 
@@ -56,7 +58,10 @@ impl<P: Partition> Source for Marred<P> {
 
     ghost read_faults = { λ s. P.read_faults s.partition };
 
-    ghost read_frame = { λ s. record (P.read_frame s.partition) { taken = s.taken.number; put_faults = (P.read_frame s.partition).put_faults + s.faults.number } };
+    ghost read_frame = { λ s. record (P.read_frame s.partition) {
+      taken = s.taken.number;
+      put_faults = (P.read_frame s.partition).put_faults + s.faults.number;
+    } };
 
     ghost sized = { λ s t. P.sized s.partition t };
 

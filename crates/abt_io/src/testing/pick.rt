@@ -37,7 +37,8 @@ impl Pick {
 pub(crate) fn leave(now: &mut [u8], stable: &[u8], touched: &[u8], pick: Pick)
     requires stable { length stable.now ≡ length now.old }
     requires touched { length touched.now ≡ length now.old }
-    ensures left { (i : ℕ) → slice_index now.new i ≡ left_of pick (slice_index now.old i) (slice_index stable.now i) (slice_index touched.now i) }
+    ensures left { (i : ℕ) → slice_index now.new i ≡ left_of pick (slice_index now.old i) (slice_index stable.now i)
+        (slice_index touched.now i) }
     ensures told { AreBytes now.new }
 {
     for i in 0..now.len() {
