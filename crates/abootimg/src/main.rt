@@ -1,8 +1,7 @@
 //! The program `abootimg`: a toolkit for Android sparse images and boot images on the command line.
 //!
 //! What it does with words is the crate `abt_commands`; without words it shows the demonstration of `abt_texts`. Here
-//! are
-//! the standard streams.
+//! are the standard streams.
 #![tactic(auto)]
 
 use abt_commands::{Noted, Reason, Streams, run};

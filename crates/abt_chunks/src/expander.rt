@@ -45,8 +45,7 @@ impl Expander {
 
     /// One step: at most a window is read, and what it gives is written, a fill or a gap whole. An error is the first
     /// fault of the image (1 to 10) or a device's (11 reading, 12 writing). After an error or Done every step answers
-    /// that
-    /// again and calls no device.
+    /// that again and calls no device.
     pub fn step<I: Input, O: Output>(
         &mut self,
         input: &mut I,
@@ -117,10 +116,8 @@ impl Expander {
 }
 
 /// Writes the expansion of the image at the front of the input, and reads no further than it needs. An error is the
-/// first
-/// fault of the image (1 to 10), behind what comes before it, or a device's (11 reading, 12 writing), behind a
-/// beginning
-/// of that.
+/// first fault of the image (1 to 10), behind what comes before it, or a device's (11 reading, 12 writing), behind a
+/// beginning of that.
 pub fn expand<I: Input, O: Output>(
     input: &mut I,
     output: &mut O,

@@ -22,10 +22,9 @@
 //! | `laws.rt` | the law of listings |
 //!
 //! `specs/Whole.antt` says what an expansion answers, `specs/Listing.antt` and `specs/Showing.antt` what a listing
-//! shows,
-//! `specs/Ahead.antt` and `specs/Walking.antt` what the rest of an input gives to a walk, `specs/Pulling.antt` what a
-//! pull
-//! says of it, and `specs/Cause.antt` who is to blame for a refusal and how much was read before it was known.
+//! shows, `specs/Ahead.antt` and `specs/Walking.antt` what the rest of an input gives to a walk, `specs/Pulling.antt`
+//! what a pull says of it, and `specs/Cause.antt` who is to blame for a refusal and how much was read before it was
+//! known.
 #![tactic(auto)]
 
 mod expander;

@@ -3,8 +3,7 @@
 //! Each function that takes a turn has the same clauses. `says`: what lies ahead is what the part gives, and then what
 //! lies ahead behind it, whatever bytes follow. `lists`: the same of what a listing shows. `short`: too few bytes are a
 //! fault. `turn`: what every turn leaves (`TurnTaken`). `closes`, `empties`: where a chunk ends. `place`: where the
-//! next
-//! byte of a block lies in the expanded image. `cause`: whose fault it is.
+//! next byte of a block lies in the expanded image. `cause`: whose fault it is.
 
 ghost use Rattle.std.specs.Prelude.{◌≡◌, ◌≤◌, ◌<◌, ◌+◌, ℕ, List, [], length, IsTrue, true, false, ◌-◌, take, drop};
 ghost use Rattle.abt_sparse.specs.Reading.{kind_at, number_at};

@@ -1,6 +1,5 @@
 //! The command `completions`: what bash, zsh and fish need to complete the words of the program, from the table that
-//! the
-//! parse goes by.
+//! the parse goes by.
 
 use crate::session::Session;
 use crate::words::program;

@@ -33,10 +33,8 @@ pub struct CutOrder<'a> {
 /// Writes each piece of an image to a file of its own, and prints what they are.
 ///
 /// A piece's file is opened when its turn comes, and its line is printed when all of it is in the file. Pieces and
-/// lines
-/// before a fault stand. Where the image is one of the files that are there for pieces, nothing is written. The next
-/// piece
-/// of an older cut is named, since it is no piece of this one.
+/// lines before a fault stand. Where the image is one of the files that are there for pieces, nothing is written. The
+/// next piece of an older cut is named, since it is no piece of this one.
 pub(crate) fn cut_file<R: Files<File = File> + Clock, I, O: Output, E: Output>(
     session: &mut Session<'_, R, I, O, E>,
     order: CutOrder<'_>,

@@ -2,8 +2,7 @@
 //! here.
 //!
 //! No file that is read is ever written: what an output is the same file as, by device and inode, is looked at before
-//! it is
-//! emptied.
+//! it is emptied.
 
 use crate::identity::Identity;
 use crate::image_file::ImageFile;

@@ -1,10 +1,8 @@
 //! The commands of the program, from the words of the command line to files and the exit status.
 //!
 //! What they do with bytes is proved in the crates below; here the words are read, files are opened, and the text of
-//! what
-//! was done is printed. The exit status is 0, 1 or 2. `way_round`, of `abt_laws`, joins what the libraries promise:
-//! parts
-//! that are packed, sent to a partition and unpacked from there come back byte for byte.
+//! what was done is printed. The exit status is 0, 1 or 2. `way_round`, of `abt_laws`, joins what the libraries
+//! promise: parts that are packed, sent to a partition and unpacked from there come back byte for byte.
 //!
 //! | file | has |
 //! |---|---|

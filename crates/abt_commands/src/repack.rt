@@ -19,8 +19,7 @@ use std::time::Clock;
 /// Packs an image again, of which parts and fields may be given, and prints how many bytes it has.
 ///
 /// The image and the parts are open before OUT is created or emptied. Bytes of the image that packing has no place for
-/// are
-/// counted on standard error.
+/// are counted on standard error.
 pub(crate) fn repack_file<R: Files<File = File> + Clock, I, O: Output, E: Output>(
     session: &mut Session<'_, R, I, O, E>,
     input: &str,

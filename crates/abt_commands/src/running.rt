@@ -31,8 +31,7 @@ use std::time::Clock;
 /// Does what the words ask for, of which the first is the program's name, and answers the exit status.
 ///
 /// What a command prints goes to standard output, and the text of a fault to standard error, after it. Where data goes
-/// to
-/// standard output, what is printed goes to standard error. A word `@FILE` stands for the lines of that file.
+/// to standard output, what is printed goes to standard error. A word `@FILE` stands for the lines of that file.
 pub fn run<R: Files<File = File> + Clock, S: AsStr, I: Read, O: Output, E: Output>(
     rt: &R,
     alloc: Global,

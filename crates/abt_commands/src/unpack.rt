@@ -28,8 +28,7 @@ pub struct UnpackOrder<'a> {
 /// again.
 ///
 /// Each file is opened when its turn comes, and its line is printed when it is whole. Where the image is one of the
-/// files
-/// that are going to be written, none is.
+/// files that are going to be written, none is.
 pub(crate) fn unpack_file<R: Files<File = File> + Clock, I, O: Output, E: Output>(
     session: &mut Session<'_, R, I, O, E>,
     order: UnpackOrder<'_>,

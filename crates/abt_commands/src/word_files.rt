@@ -29,8 +29,7 @@ pub(crate) fn read_word_files<R: Files<File = File>, S: AsStr, I: Read, O: Outpu
 }
 
 /// The words, in which each `@FILE` has given way to those lines of its file that aren't empty, and each other word
-/// that
-/// begins with `@@` has lost one of the two.
+/// that begins with `@@` has lost one of the two.
 pub(crate) fn expanded<'a, S: AsStr>(
     alloc: Global,
     words: &'a [S],

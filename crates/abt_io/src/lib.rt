@@ -15,10 +15,9 @@
 //!
 //! - `window`: the 65,536 bytes that are lent down to every call; `laying`: one word all over it.
 //! - `meter`, `tally`, `log`, `history`: what contracts count, with no bytes at run time.
-//! - `device`: the five traits, and `overwrite`, an output that can be written over; `front_last`: one
-//!   whose first bytes are laid last. Their words stand in `specs/`: `Count`, `Bytes`, `Frame` (what a read or a write
-//!   leaves as it was), `Moment` (what a
-//!   crash may leave), `Over` (what writing over leaves), `Cause` (who failed).
+//! - `device`: the five traits, and `overwrite`, an output that can be written over; `front_last`: one whose first
+//!   bytes are laid last. Their words stand in `specs/`: `Count`, `Bytes`, `Frame` (what a read or a write leaves as it
+//!   was), `Moment` (what a crash may leave), `Over` (what writing over leaves), `Cause` (who failed).
 //! - `gathering`, `writing`, `copying`: the movers, generic over the traits.
 //! - `slices`, `partition`, `spool`: devices over lent memory, which tell their bytes; `bytes` and
 //!   `cells` serve them. `forward`: a source read from its front.

@@ -22,8 +22,7 @@ pub fn packed_is_image()
 {}
 
 /// An image is canonical exactly where it begins with one that the packer writes of some fields and parts that it
-/// takes;
-/// and every image that the packer writes of what it takes is opened and is canonical.
+/// takes; and every image that the packer writes of what it takes is opened and is canonical.
 pub fn canonical_is_packed()
     ensures exact { (x : List ℕ) (h : Header) → AreBytes x → HasImage x h → (IsCanonical x h ↔ StartsAsPacked x) }
     ensures opens { (x : List ℕ) → StartsAsPacked x → (h : Header) × HasImage x h × IsCanonical x h }
@@ -37,10 +36,8 @@ pub fn image_is_whole()
 {}
 
 /// What is packed of fields and parts that the packer takes is an image of just these, whatever follows it: it is
-/// opened
-/// as their header, and what stands in its sections is the parts; in version 4 of a vendor boot image ramdisk fragment
-/// i
-/// is ramdisk i, and entry i of the table is that of fragment i. So unpacking gives back each part.
+/// opened as their header, and what stands in its sections is the parts; in version 4 of a vendor boot image ramdisk
+/// fragment i is ramdisk i, and entry i of the table is that of fragment i. So unpacking gives back each part.
 pub fn packed_holds_parts()
     ensures boot { (s : BootFields) (parts : List (List ℕ)) (rest : List ℕ) → IsBootInput s parts →
         HoldsBoot (boot_canon s parts ++ rest) s parts }

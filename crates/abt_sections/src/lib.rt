@@ -5,12 +5,10 @@
 //! above: `pack_boot` and `pack_vendor` write the one canonical image of the fields and parts (`specs/BootCanon`,
 //! `specs/VendorCanon`), `open` accepts exactly the images of `specs/Open`, and `unpack` writes a section's bytes.
 //! After any refusal the output holds a beginning of what would have been written. `pack_boot_once` reads each part
-//! once,
-//! where what was written can be written over.
+//! once, where what was written can be written over.
 //!
 //! No call takes memory: all bytes pass through the lent `Window`, in asks of up to its size, and an `Image` is a
-//! header
-//! and a length.
+//! header and a length.
 //!
 //! - `fault`: why an image is refused, by number and text.
 //! - `spec`: the fields that an image is packed from.
@@ -18,8 +16,7 @@
 //! - `boot_header`, `vendor_header`: the header that fields and sizes give.
 //! - `reading`, `hashing`: one ask from a source; the id.
 //! - `writing`, `packing`, `vendor_packing`: parts with their padding; whole images. `moving`, `packing_once`: the same
-//!   in
-//!   one pass.
+//!   in one pass.
 //! - `image`, `opening`, `fragment_table`: an opened image, its sections and its ramdisk fragments.
 //! - `laws`: laws about these definitions, for the layers above; `inputs`: that what isn't refused is what they ask
 //!   for.

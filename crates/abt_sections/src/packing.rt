@@ -115,9 +115,8 @@ fn write_image<S: Source, O: Output>(
 /// Packs a boot image of these fields and parts: the bytes of `bootimg.h`, laid as `mkbootimg` lays them.
 ///
 /// The parts stand in the order of the version's sections: kernel and ramdisk; then in versions 0 to 2 the second
-/// stage,
-/// from version 1 the recovery dtbo, in version 2 the dtb; in version 4 the signature. An absent part has length 0.
-/// Versions 0 to 2 read each part twice: for the id, and for its bytes.
+/// stage, from version 1 the recovery dtbo, in version 2 the dtb; in version 4 the signature. An absent part has length
+/// 0. Versions 0 to 2 read each part twice: for the id, and for its bytes.
 ///
 /// # Errors
 /// Before anything is written, the first of: `Header(Version)`, `Header(PageSize)`, `Name`, `CommandLine`,

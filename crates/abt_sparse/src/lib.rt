@@ -5,9 +5,8 @@
 //! - `specs/` has the words in which they state their contracts: blocks and what they lay over a device (`Block`),
 //!   chunks and their spellings (`Chunk`), what any bytes are, as one function (`Reading`) and as two relations, 'is
 //!   spelled so' and 'fails so' (`Fails`), runs, weight and cuts (`Runs`, `Gains`), pieces and flashing (`Pieces`).
-//! - `theorems.rt` has the laws of these definitions, each the contract of a function that does nothing: exactly one
-//!   of the two relations holds of any bytes and `outcome` finds it; the spelling of a list of blocks reads back as
-//!   that
+//! - `theorems.rt` has the laws of these definitions, each the contract of a function that does nothing: exactly one of
+//!   the two relations holds of any bytes and `outcome` finds it; the spelling of a list of blocks reads back as that
 //!   list; greedy cuts are the fewest; flashing the pieces in turn is flashing the image. `specs/Laws.antt` states
 //!   them, and `proofs/` has their lemmas, which proofs of the layers above cite.
 //! - `SparseHeader` and `ChunkHeader` decode and encode, inverse both ways but for the reserved field of a chunk's

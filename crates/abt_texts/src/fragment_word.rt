@@ -39,8 +39,7 @@ impl<'a> FragmentWord<'a> {
     }
 
     /// The same of a word in which `\x` and two hexadecimal digits stand for a byte. NAME stands for at most 32 bytes,
-    /// any
-    /// of which may be zero; FILE is as it is written.
+    /// any of which may be zero; FILE is as it is written.
     pub fn escaped(alloc: Global, word: &'a str) -> Result<Option<FragmentWord<'a>>, AllocError>
         ensures value { IfOk result (λ o. IfSome o (λ f. IsEscapedFragment word.entry.now f.spec f.path.now)) }
         ensures accepts { (spec : FragmentSpec) (path : List ℕ) → IsEscapedFragment word.entry.now spec path →

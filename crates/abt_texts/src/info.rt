@@ -29,8 +29,7 @@ pub struct InfoReport {
 /// Prints what the header of the image at the front of a source says, a line for each field, and what checking finds.
 ///
 /// An image that doesn't open prints nothing. Where the source fails later, the lines of what came before stand. A
-/// write
-/// that fails is `Write`. It takes no memory.
+/// write that fails is `Write`. It takes no memory.
 pub fn report_info<S: Source, O: Output>(
     source: &mut S,
     out: &mut O,

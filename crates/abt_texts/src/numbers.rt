@@ -4,8 +4,7 @@ ghost use Rattle.std.specs.Prelude.{◌≡◌, ◌≢◌, ◌<◌, ◌≤◌, �
 ghost use Rattle.abt_texts.specs.NumberWord.{IsDecimal, IsDigits, IsNumber, IsScale};
 
 /// Reads a number: `4096`, `0x1000`, or `4K`, `1M` and `2G` in powers of 1024. Nothing stands before it or behind it,
-/// no
-/// sign either. `None` for every other word, and for a number that has no room in 64 bits.
+/// no sign either. `None` for every other word, and for a number that has no room in 64 bits.
 pub fn number_word(word: &str) -> Option<u64>
     ensures value { IfSome result (λ n. IsNumber word.now n) }
     ensures accepts { (n : ℕ) → IsNumber word.now n → n < 2 ^ 64 → result ≡ Some n }

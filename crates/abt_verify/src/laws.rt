@@ -6,8 +6,7 @@ ghost use Rattle.abt_verify.specs.Laws.{VerifyingIsRight};
 use abt_io::Partition;
 
 /// Where an image stands, flashing it changes nothing, and what was flashed stands. An image stands or there is one
-/// first
-/// byte that differs.
+/// first byte that differs.
 pub fn verifying_is_right()
     ensures { VerifyingIsRight }
 {}

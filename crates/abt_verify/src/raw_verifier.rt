@@ -151,10 +151,9 @@ impl RawVerifier {
     }
 
     /// One step: at most half a window is read of the source, and compared with as many bytes of the partition. An
-    /// error
-    /// is a device's (11 reading the source, 37 the partition), the first byte that differs (35), as all behind the
-    /// partition's end do, or 14 where the source gives fewer bytes than it has said. After an error or Done every step
-    /// answers that again and calls no device.
+    /// error is a device's (11 reading the source, 37 the partition), the first byte that differs (35), as all behind
+    /// the partition's end do, or 14 where the source gives fewer bytes than it has said. After an error or Done every
+    /// step answers that again and calls no device.
     pub fn step<S: Source, P: Source>(
         &mut self,
         source: &mut S,

@@ -88,8 +88,7 @@ impl Verifier {
     /// One step: at most half a window is read of the input, and what it gives is compared with as many bytes of the
     /// partition. Of a gap nothing is read. An error is a fault of the image (1 to 10) or of a device (11 reading the
     /// input, 37 the partition), or the first byte that differs (35), as all behind the partition's end do. After an
-    /// error
-    /// or Done every step answers that again and calls no device.
+    /// error or Done every step answers that again and calls no device.
     pub fn step<I: Input, P: Source>(
         &mut self,
         input: &mut I,

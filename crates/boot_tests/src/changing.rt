@@ -12,8 +12,7 @@ use std::process::Abort;
 const CHANGED: Option<SectionFault> = Some(SectionFault::SourceChanged);
 
 /// Every call that is lent an opened image, over these bytes in its place, of which none is read and of which nothing
-/// is
-/// written.
+/// is written.
 fn is_refused_unread<R: Abort>(rt: &R, image: &Image, bytes: &[u8]) {
     let mut room = [1u8; 16];
     let mut source = Faulty::new(SliceSource::new(bytes), 0);

@@ -29,8 +29,7 @@ impl Laid {
 }
 
 /// Feeds an image in pieces of at most so many bytes: the fault that ended it, if one did, how many bytes were used,
-/// and
-/// what came.
+/// and what came.
 fn fed(image: &[u8], most: usize) -> (Option<SparseFault>, usize, Laid) {
     let mut laid = Laid {
         room: [9u8; 14],
