@@ -31,8 +31,7 @@ all: $(PROGRAM) $(MANUAL)
 
 $(PROGRAM): crates.txt $(SOURCES)
 	tools/prove.py --rt $(RT) --jobs $(JOBS) abootimg
-	@mkdir -p build
-	@install -m 755 crates/abootimg/out/abootimg $(PROGRAM)
+	@tools/link.sh $(PROGRAM) --rt $(RT)
 
 $(MANUAL): docs/COMMANDS.md tools/make_man.py
 	@mkdir -p build

@@ -1,7 +1,7 @@
 #!/usr/bin/env python3
 """Times `abootimg pack`, `unpack` and `info` against AOSP's mkbootimg and unpack_bootimg, in one run and in turn.
 
-  bench/boot.py [--program crates/abootimg/out/abootimg] [--folder FOLDER] [--mib 64] [--rounds 7]
+  bench/boot.py [--program build/abootimg] [--folder FOLDER] [--mib 64] [--rounds 7]
 
 The kernel and the ramdisk have --mib MiB each. Boot version 0 has an id, the SHA-1 of all parts, which packing hashes as it
 writes them, and `info` computes the id again; version 3 has none. Each round runs each program once, and what a program writes

@@ -1,7 +1,7 @@
 #!/usr/bin/env python3
 """Times `abootimg sparse` against img2simg, and `abootimg cut` against simg2simg, in one run and in turn.
 
-  bench/cut.py [--program crates/abootimg/out/abootimg] [--folder FOLDER] [--mib 1024] [--rounds 5] [--only NAME]
+  bench/cut.py [--program build/abootimg] [--folder FOLDER] [--mib 1024] [--rounds 5] [--only NAME]
 
 The images, each of so many MiB in blocks of 4 KiB:
 

@@ -1,7 +1,7 @@
 #!/usr/bin/env python3
 """Times `abootimg expand` and `abootimg list` against simg2img and `dd bs=64k`, in one run and in turn.
 
-  bench/expand.py [--program crates/abootimg/out/abootimg] [--folder FOLDER] [--mib 1024] [--rounds 7] [--chunks 3000000]
+  bench/expand.py [--program build/abootimg] [--folder FOLDER] [--mib 1024] [--rounds 7] [--chunks 3000000]
 
 The image is 40 % raw, 30 % zero fill, 10 % other fill and 20 % don't care, written by tools/make_sparse.py; beside it stands
 one of --chunks chunks of one 4-byte block each. Each round runs each program once, each into a file that is removed first, so

@@ -1,7 +1,7 @@
 #!/usr/bin/env python3
 """Times `abootimg flash` against `dd` of the expanded bytes, in one run and in turn.
 
-  bench/flash.py [--program crates/abootimg/out/abootimg] [--folder FOLDER] [--mib 1024] [--rounds 5] [--limit MIB]
+  bench/flash.py [--program build/abootimg] [--folder FOLDER] [--mib 1024] [--rounds 5] [--limit MIB]
 
 The image is 40 % raw, 30 % zero fill, 10 % other fill and 20 % don't care, in blocks of 4 KiB (tools/make_sparse.py). The
 partition is a file of as many bytes, full of ones, whose pages are all there. Beside each other stand

@@ -23,7 +23,7 @@ BLOCK = 4096
 def parser(description, mib=1024, rounds=5):
     """The words that every script takes."""
     words = argparse.ArgumentParser(description=description, formatter_class=argparse.RawDescriptionHelpFormatter)
-    words.add_argument("--program", default=os.path.join(HERE, "crates/abootimg/out/abootimg"))
+    words.add_argument("--program", default=os.path.join(HERE, "build/abootimg"))
     words.add_argument("--folder")
     words.add_argument("--mib", type=int, default=mib)
     words.add_argument("--rounds", type=int, default=rounds)

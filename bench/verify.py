@@ -1,7 +1,7 @@
 #!/usr/bin/env python3
 """Times `abootimg verify` against `cmp` of the expanded image and the partition, in one run and in turn.
 
-  bench/verify.py [--program crates/abootimg/out/abootimg] [--folder FOLDER] [--mib 1024] [--rounds 7]
+  bench/verify.py [--program build/abootimg] [--folder FOLDER] [--mib 1024] [--rounds 7]
 
 The image is 40 % raw, 30 % zero fill, 10 % other fill and 20 % don't care, in blocks of 4 KiB (tools/make_sparse.py). The
 partition holds it over zeros, which is what `cmp` needs. Beside each other stand

@@ -1,7 +1,7 @@
 #!/usr/bin/env python3
 """Runs every example of README.md and docs/COMMANDS.md on the built program, and compares what it prints.
 
-  tools/check_examples.py [--show]           the program is $ABOOTIMG, or crates/abootimg/out/abootimg
+  tools/check_examples.py [--show]           the program is $ABOOTIMG, or build/abootimg
 
 An example is a block that begins with ```console: each line '$ COMMAND' is run by bash, and what it writes to standard output
 and standard error must be the lines up to the next command. A line '> ..' behind a command goes on with it. The examples of

@@ -2,10 +2,10 @@
 # Compares `abootimg expand` with simg2img on each image of a folder (examples/ if none is given), and with the bytes
 # that stand beside it. Nothing in the gate runs this.
 #
-#   tools/compare_simg2img.sh [FOLDER]         the program is $ABOOTIMG, or crates/abootimg/out/abootimg
+#   tools/compare_simg2img.sh [FOLDER]         the program is $ABOOTIMG, or build/abootimg
 set -euo pipefail
 here=$(cd "$(dirname "$0")/.." && pwd)
-program=${ABOOTIMG:-$here/crates/abootimg/out/abootimg}
+program=${ABOOTIMG:-$here/build/abootimg}
 folder=${1:-$here/examples}
 work=$(mktemp -d)
 trap 'rm -rf "$work"' EXIT

@@ -2,10 +2,10 @@
 # Tries `abootimg flash` on a loop device: straight, in pieces, raw, from a piece on, and on one that is too small. Where the
 # machine has no loop device to give, or this is not root, it says so and ends with 0. Nothing in the gate runs this.
 #
-#   tools/flash_loop.sh [MIB]                  the program is $ABOOTIMG, or crates/abootimg/out/abootimg; MIB is 32
+#   tools/flash_loop.sh [MIB]                  the program is $ABOOTIMG, or build/abootimg; MIB is 32
 set -euo pipefail
 here=$(cd "$(dirname "$0")/.." && pwd)
-program=$(realpath "${ABOOTIMG:-$here/crates/abootimg/out/abootimg}")
+program=$(realpath "${ABOOTIMG:-$here/build/abootimg}")
 mib=${1:-32}
 work=$(mktemp -d)
 device=

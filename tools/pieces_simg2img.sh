@@ -4,10 +4,10 @@
 # same for what `abootimg sparse` writes. Nothing in the gate runs this.
 #
 #   apt-get install android-sdk-libsparse-utils
-#   tools/pieces_simg2img.sh [MIB]             the program is $ABOOTIMG, or crates/abootimg/out/abootimg; MIB is 32
+#   tools/pieces_simg2img.sh [MIB]             the program is $ABOOTIMG, or build/abootimg; MIB is 32
 set -euo pipefail
 here=$(cd "$(dirname "$0")/.." && pwd)
-program=$(realpath "${ABOOTIMG:-$here/crates/abootimg/out/abootimg}")
+program=$(realpath "${ABOOTIMG:-$here/build/abootimg}")
 mib=${1:-32}
 work=$(mktemp -d)
 trap 'rm -rf "$work"' EXIT

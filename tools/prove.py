@@ -8,9 +8,9 @@ in a folder of its own below build/proving: its sources, the built libraries bel
 which is moved there and back. What stands in `out` afterwards is what `rt lib` and `rt run` leave, and with nothing changed
 since, neither they nor this script prove anything again.
 
-A crate is begun when all below it are built, first the one with the most behind it. That one gets the processors that are
-left where each other crate that could begin gets one. --jobs says how many processors there are to use, --memory how many MiB
-one job is reckoned to take.
+A crate is begun when all below it are built. The one with the most behind it gets every processor, since all the rest waits
+for it; what can be proved beside it has a job each, half as many in all, and a lower priority, and fills the gaps. --jobs says
+how many processors there are to use, --memory how many MiB one job is reckoned to take.
 """
 import argparse
 import fcntl
@@ -89,11 +89,21 @@ def put_back():
         shutil.rmtree(PROVING)
 
 
+def step_back(process):
+    """Gives a process, and what it starts, a lower priority: its own, and that of its session where sessions have one."""
+    try:
+        os.setpriority(os.PRIO_PROCESS, process, 10)
+        with open(f"/proc/{process}/autogroup", "w", encoding="ascii") as group:
+            group.write("10")
+    except OSError:
+        pass
+
+
 class Proof:
     """One crate that is being proved."""
 
-    def __init__(self, name, rt, jobs, lines, uses):
-        self.name, self.jobs = name, jobs
+    def __init__(self, name, rt, jobs, is_first, lines, uses):
+        self.name, self.jobs, self.is_first = name, jobs, is_first
         self.begun = time.monotonic()
         self.room = os.path.join(PROVING, name)
         under = below(name, uses)
@@ -113,6 +123,8 @@ class Proof:
         self.child = subprocess.Popen(
             [rt, "run" if is_program else "lib", "--jobs", str(jobs)], cwd=self.crate(self.room, name),
             stdin=subprocess.DEVNULL, stdout=self.log, stderr=subprocess.STDOUT, start_new_session=True)
+        if not is_first:
+            step_back(self.child.pid)
 
     @staticmethod
     def crate(root, name):
@@ -166,17 +178,20 @@ class Progress:
             print(f"\r\033[K        {clock(self.shown - self.begun)} proving {names}"[:118], end="", flush=True)
 
 
-def jobs_for(running, ready, words, lanes):
-    """How many jobs the next of so many crates may use, as far as memory goes. With no processor to spare it waits."""
-    idle = lanes - sum(it.jobs for it in running)
-    if idle < 1:
-        return 0
+def jobs_for(running, ready, is_first, words, lanes):
+    """How many jobs the next of so many crates may use, as far as memory goes. With none to spare it waits."""
+    if is_first:
+        idle = lanes
+    else:
+        beside = lanes // 2 if any(it.is_first for it in running) else lanes
+        idle = beside - sum(it.jobs for it in running if not it.is_first)
     free = free_memory()
-    # What has just begun has not taken its memory yet.
     if free is not None:
+        # What has just begun has not taken its memory yet.
         free -= sum(words.memory * it.jobs for it in running if it.seconds() < 30)
         idle = min(idle, free // words.memory)
-    return max(1 if not running else 0, min(4, max(idle - (ready - 1), min(idle, 1))))
+    jobs = min(4, idle if is_first else max(idle - (ready - 1), min(idle, 1)))
+    return max(1 if not running else 0, jobs)
 
 
 def prove(words, lines, uses, wanted):
@@ -190,10 +205,11 @@ def prove(words, lines, uses, wanted):
         while running or any(set(uses[it]) <= proved for it in left):
             ready = sorted((it for it in left if set(uses[it]) <= proved), key=lambda it: -behind[it])
             for at, name in enumerate(ready):
-                jobs = jobs_for(running, len(ready) - at, words, lanes)
+                is_first = all(behind[name] > behind[it.name] for it in running)
+                jobs = jobs_for(running, len(ready) - at, is_first, words, lanes)
                 if jobs:
                     left.remove(name)
-                    running.append(Proof(name, words.rt, jobs, lines, uses))
+                    running.append(Proof(name, words.rt, jobs, is_first, lines, uses))
                     done = sum(lengths[it] for it in proved)
                     progress.line(done, f"{name}: begun with {jobs} {'job' if jobs == 1 else 'jobs'}")
             time.sleep(0.2)

@@ -3,8 +3,8 @@
 
   tools/test.py [--rt rt] [--program FILE]      (--program: the scripts alone, on what was built before)
 
-`rt ci` proves every crate from nothing, tries the must-fail edits, runs the tests, and leaves the program that it built as
-crates/abootimg/out/abootimg. Each script then runs on that program and ends in a line 'N passed, M failed'. The C library,
+`rt ci` proves every crate from nothing, tries the must-fail edits, runs the tests, and compiles the program. It is linked as
+make links it (tools/link.sh), and each script then runs on it and ends in a line 'N passed, M failed'. The C library,
 which `rt ci` proves and does not build, is built for the script that tries it, where there are compilers of C and C++. Behind
 each stands the time that it took, by the clock and of the processors. Where something failed, its lines stand once more at the
 end. The last line of all is the sum of what passed and failed. The exit status is 0 where nothing failed.
@@ -26,7 +26,7 @@ sys.dont_write_bytecode = True
 from prove import free_memory, put_back
 
 HERE = os.path.dirname(os.path.dirname(os.path.abspath(__file__)))
-BUILT = os.path.join(HERE, "crates", "abootimg", "out", "abootimg")
+BUILT = os.path.join(HERE, "build", "abootimg.tried")
 WRONG = re.compile(r"FAILED|NOT SO|NOT PROVED|NOT REFUSED|BAD EDIT")
 LAST = re.compile(r"(?:[\w ]+: )?(\d+) passed, (\d+) failed")
 LIBRARY = os.path.join(HERE, "build", "libabootimg.a")
@@ -116,6 +116,9 @@ def main():
         # What a killed build left: rt ci refuses sources that no crate of crates.txt has.
         put_back()
         counts.append(followed([words.rt, "ci"], "rt ci", wrong, env={"RT_JOBS": str(lanes()), **os.environ}))
+        if os.path.exists(BUILT):
+            os.remove(BUILT)
+        subprocess.run([os.path.join(HERE, "tools/link.sh"), BUILT, "--rt", words.rt])
     program = os.path.abspath(words.program or BUILT)
     for script, needs_program in SCRIPTS:
         if not os.path.exists(os.path.join(HERE, script)):
@@ -130,8 +133,7 @@ def main():
         counts.append(library_tried(words.rt, not words.program, program, wrong))
     passed, failed = (sum(it) for it in zip(*counts))
     if not words.program and not failed:
-        os.makedirs(os.path.join(HERE, "build"), exist_ok=True)
-        shutil.copy(program, os.path.join(HERE, "build", "abootimg"))
+        os.replace(BUILT, os.path.join(HERE, "build", "abootimg"))
     if failed:
         print("", *wrong, sep="\n")
     print(f"{passed} passed, {failed} failed", flush=True)

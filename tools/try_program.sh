@@ -502,6 +502,36 @@ try "a shell" test "$(completed abootimg completions f)" = fish
 run completions csh
 try "another shell" test $status = 2
 
+echo "== resident memory"
+# below LIMIT WORDS..: at no moment more KiB of the program are resident than the limit.
+below() {
+    local limit=$1
+    shift
+    "$gnu_time" -f %M -o peak "$program" "$@" >out 2>err </dev/null && [ "$(tail -n 1 peak)" -lt "$limit" ]
+}
+# Where it needs the shared C library of the machine, that library's pages count too.
+if gnu_time=$(type -P time) && ! head -c 4096 "$program" | grep -qa /ld-linux; then
+    head -c 32M /dev/urandom >big
+    truncate -s 64M big part
+    while IFS= read -r words; do
+        try "$words: below 2 MiB" below 2048 $words
+    done <<'END'
+sparse big big.simg
+expand big.simg big.raw
+list big.simg
+cut big.simg 8M big
+cut big 8M raw --raw 4096
+flash big.simg part
+flash big.simg part 8M spool
+verify big.simg part
+pack --version 0 --page 2048 --kernel big --ramdisk big big.img
+pack --version 4 --kernel big --ramdisk big big.img
+info big.img
+unpack big.img parts
+END
+    rm -f big* raw.* part spool parts/*
+fi
+
 echo "== pieces"
 "$program" cut x.simg 68 c >/dev/null
 run cut x.simg 84 c
