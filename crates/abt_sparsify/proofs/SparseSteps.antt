@@ -15,9 +15,9 @@ use Rattle.abt_runs.specs.declared.part.RunKind.{RunKind}
 use Rattle.abt_runs.specs.declared.part.RunKind.TheVariants as kinds
 use Rattle.abt_pieces.specs.Plan.{between}
 use Rattle.abt_pieces.specs.Contents.{head_len, data_len}
-use Rattle.abt_pieces.specs.Gather.{frame, Gathered, Closed, ClosedRun, SoundGatherer, ToldGatherer, first_gatherer}
+use Rattle.abt_pieces.specs.Gather.{frame, Gathered, Closed, ClosedRun, SoundGatherer, ToldGatherer, first_gatherer, look_left}
 use Rattle.abt_pieces.specs.Write.{begins, front_bytes}
-use Rattle.abt_sparsify.specs.Sparsify.{chunks_in, with_run, bytes_of, Counted, SoundCount, cut_bytes, to_cut, to_begin, left_of, IsCutting, SoundSparser, ToldCut, ToldSparser, front_begun, run_front, raw_begun, begun_as, run_begun, next_blocks, cut_on, chunk_opened, copied_cutting, no_runs, end_place, read_to, copied_place, spent}
+use Rattle.abt_sparsify.specs.Sparsify.{chunks_in, with_run, bytes_of, Counted, SoundCount, cut_bytes, to_cut, to_begin, left_of, sparse_left, IsCutting, SoundSparser, ToldCut, ToldSparser, front_begun, run_front, run_head, raw_begun, begun_as, run_begun, next_blocks, cut_on, chunk_opened, copied_cutting, no_runs, end_place, read_to, copied_place, spent}
 use Rattle.abt_pieces.specs.declared.gather.Gatherer.{Gatherer}
 use Rattle.abt_sparsify.specs.declared.count.Written.{Written}
 use Rattle.abt_sparsify.specs.declared.write.Cutting.{Cutting}
@@ -419,6 +419,37 @@ begun_sound n b t (Err f) v z e = tt
 pub begun_rest : {A : Type 0} (l : List Block) (s t : Sparser) (front : List ℕ) (res : Result A PieceFault) (v : Sparser) (old new : List ℕ) → left_of l s ≡ front ++ left_of l t → OnOk res (v ≡ t) → OnOk res (new ≡ old ++ front) → OnOk res (left_of l v ≡ drop (length new - length old) (left_of l s))
 begun_rest l s t front (Ok x) v old new z e h = rw e (wrote_rest old new front (left_of l s) (left_of l t) h z)
 begun_rest l s t front (Err f) v old new z e h = tt
+
+-- its head is counted
+head_counted : (k : RunKind) (s : Sparser) (x : Run) → run_head k ≤ s.bytes → run_head k + (begun_as k s x).bytes ≡ s.bytes
+head_counted kinds.Raw s x room = omega arith
+head_counted (kinds.Fill w) s x room = omega arith
+head_counted kinds.Skip s x room = omega arith
+head_counted kinds.End s x room = omega arith
+
+pub run_counted : {A : Type 0} (res : Result A PieceFault) (s v : Sparser) (x : Run) (old new : ℕ) → OnOk res (v ≡ run_begun s x) → OnOk res (run_head x.kind ≤ s.bytes) → OnOk res (new ≡ old + run_head x.kind) → OnOk res (new + v.bytes ≡ old + s.bytes)
+run_counted (Ok y) s v x old new is room whole = let z = head_counted x.kind s x room in rw is (omega (arith, whole, z))
+run_counted (Err f) s v x old new is room whole = tt
+
+-- no more is left to look for or to write than before
+run_least : (k : RunKind) (s : Sparser) (x : Run) → ((begun_as k s x).gatherer ≡ s.gatherer) × ((begun_as k s x).bytes ≤ s.bytes)
+run_least kinds.Raw s x = (refl, omega arith)
+run_least (kinds.Fill w) s x = (refl, omega arith)
+run_least kinds.Skip s x = (refl, omega arith)
+run_least kinds.End s x = (refl, omega arith)
+
+pub fewer_looks : (x y k : ℕ) → x < y → x + k < y + k
+fewer_looks x y k h = omega (arith, h)
+
+pub fewer_bytes : (x n k : ℕ) → 0 < k → k ≤ n → x + (n - k) < x + n
+fewer_bytes x n k some fits = omega (arith, some, fits)
+
+pub run_fewer : {A : Type 0} (res : Result A PieceFault) (s v : Sparser) (x : Run) (n before : ℕ) → OnOk res (v ≡ run_begun s x) → look_left (λ c. n - c.block) n n s.gatherer < before → OnOk res (sparse_left n v < before + s.bytes)
+run_fewer (Ok y) s v x n before is less =
+    let z = run_least x.kind s x in
+    let same : look_left (λ c. n - c.block) n n (run_begun s x).gatherer ≡ look_left (λ c. n - c.block) n n s.gatherer = ap (λ (g : Gatherer). look_left (λ c. n - c.block) n n g) z.0 in
+    rw is (omega (arith, same, less, z.1))
+run_fewer (Err f) s v x n before is less = tt
 
 -- of an opened raw image
 pub raw_blocks : (blocks size len : ℕ) (x : List ℕ) → 4 ≤ size → len ≤ blocks * size → blocks * size < len + size → len ≡ length x → (blocks ≡ length (classify size x)) × AreBlocks size (classify size x)

@@ -21,7 +21,7 @@ use abt_pieces::{Gatherer, PieceFault, copied_len, head_len, run_fault, write_fr
 use abt_runs::{BlockRuns, Cursor, RawRuns, Run, RunKind};
 
 /// A raw run that is being written in chunks.
-#[derive(Clone, Copy, Debug, PartialEq, Eq, Drop)]
+#[derive(Clone, Copy, Drop)]
 pub struct Cutting {
     /// The place of the chunk's first block.
     pub here: Cursor,
@@ -34,7 +34,7 @@ pub struct Cutting {
 }
 
 /// Writes one sparse image, in steps. It holds numbers alone.
-#[derive(Clone, Copy, Debug, PartialEq, Eq, Drop)]
+#[derive(Clone, Copy, Drop)]
 pub struct Sparser {
     /// How many blocks a raw chunk has at most.
     pub most: u32,
@@ -488,19 +488,25 @@ impl Sparser {
             Some(cutting) => {
                 let size = runs.block_size();
                 if cutting.done == copied_len(RunKind::Raw, cutting.blocks, size) {
-                    self.open_chunk(cutting, size, output, m)?;
-                } else {
-                    self.copy_bytes(cutting, runs, source, output, w, m)?;
+                    return match self.open_chunk(cutting, size, output, m) {
+                        Ok(()) => Ok(false),
+                        Err(fault) => Err(fault),
+                    };
                 }
-                Ok(false)
+                match self.copy_bytes(cutting, runs, source, output, w, m) {
+                    Ok(()) => Ok(false),
+                    Err(fault) => Err(fault),
+                }
             }
             None => {
                 if self.gatherer.is_done() {
                     m.close_step(0);
                     return self.end();
                 }
-                self.look(runs, source, output, w, m)?;
-                Ok(false)
+                match self.look(runs, source, output, w, m) {
+                    Ok(()) => Ok(false),
+                    Err(fault) => Err(fault),
+                }
             }
         }
     }

@@ -1,85 +1,150 @@
-use Rattle.std.proofs.Common.{sym, refl}
-use Rattle.abt_pieces.proofs.Fronts.{wrote_part}
+use Rattle.std.proofs.Common.{arith, sym, refl, ◌∙◌, length, IsTrue}
+use Rattle.abt_pieces.proofs.Fronts.{wrote_part, nothing_more, nothing_less, as_many, no_more, none_more, ok_both, run_causes, run_unfilled, run_unsaid, not_full}
 use Rattle.abt_pieces.proofs.Going.{chunk_causes}
+use Rattle.abt_pieces.proofs.Spending.{always_ok}
 use Rattle.abt_sparsify.specs.Sparsify.{end_place}
-use Rattle.abt_sparsify.proofs.SparseSteps.{is_end_place, begun_spent, still_spent, begun_rest_spent, raw_blocks, run_begins, run_still, begun_told, begun_rest}
+use Rattle.abt_sparsify.proofs.SparseSteps.{is_end_place, begun_spent, still_spent, begun_rest_spent, raw_blocks, run_begins, run_still, begun_told, begun_rest, begun_sound, run_sound, still_sound, run_counted, run_fewer, fewer_looks}
 use Rattle.abt_pieces.proofs.Image.{leads_same}
 use Rattle.abt_sparsify.proofs.Images.{run_leads, look_comes}
 use Rattle.abt_sparsify.proofs.write.Sparser.look.Goals as goal
 
-pub returns-in-Some-clause-told : goal.returns-in-Some-clause-told
-returns-in-Some-clause-told g c tells =
+-- the source has failed
+pub returns-in-Err : goal.returns-in-Err
+returns-in-Err g c =
+    let a = c.gather.ensures in
+    let turns = rw c.blocks-count.ensures at a.turns in
+    record {
+      same = a.same;
+      content = a.content;
+      frame = a.frame;
+      most = refl;
+      sound = tt;
+      told = λ tells. tt;
+      grown = as_many _;
+      within = no_more _ _;
+      counted = tt;
+      front = λ tells. nothing_more _ _;
+      rest = λ tells. tt;
+      leads = tt;
+      write_frame = refl;
+      write_faults = as_many _;
+      cause = run_causes _ _ _ _ _ _ _ c.run_fault.ensures c.in-Err.ensures.cause;
+      given = a.given;
+      received = a.received;
+      steps = a.steps;
+      greatest = a.greatest;
+      faults = a.faults;
+      clean = tt;
+      full_faults = run_unfilled _ _ _ c.run_fault.ensures;
+      full = λ says. absurd (run_unsaid _ _ c.run_fault.ensures says);
+      left = tt;
+      paid = tt;
+      spends = λ tells. tt;
+      calls = a.calls;
+      write_calls = no_more _ _;
+      turns = omega (arith, turns);
+      words = tt;
+    }
+
+-- a run has ended, and its chunks begin
+pub returns-in-Some : goal.returns-in-Some
+returns-in-Some g c =
+    let a = c.gather.ensures in
+    let e = c.in-Ok.ensures in
+    let b = c.begin_run.ensures in
+    let self = c.args.self.now in
+    let on = c.gather.new.self in
     let i = c.args.runs.now in
     let n = c.blocks-count.ensures in
+    let run = rw c.in-Some.is at e.run in
+    let begins = λ (tells : IsTrue g.S.Source.tells).
     let o = raw_blocks i.blocks i.size i.length _ i.some i.covers i.last (c.requires.opened tells) in
-    let run = rw c.in-Some.is at c.in-Ok.ensures.run in
-    let closed = rw (n, c.in-Some.is) at (c.in-Ok.ensures.closed tells) in
-    let z = run_begins _ _ _ c.args.self.now c.gather.new.self c.in-Some.run' c.requires.none o.0 o.1 c.requires.sound (c.requires.told tells) (rw n at (c.in-Ok.ensures.told tells)) closed run in
-    begun_told _ _ _ _ c.begin_run.result c.begin_run.new.self z.told c.begin_run.ensures.ok
+    let closed = rw (n, c.in-Some.is) at (e.closed tells) in
+    run_begins _ _ _ self on c.in-Some.run' c.requires.none o.0 o.1 c.requires.sound (c.requires.told tells) (rw n at (e.told tells)) closed run in
+    let turns = rw n at a.turns in
+    let words = rw n at e.words in
+    let more = b.turns in
+    record {
+      same = a.same;
+      content = a.content;
+      frame = a.frame;
+      most = b.same.0;
+      sound = begun_sound _ _ _ c.begin_run.result c.begin_run.new.self (run_sound _ _ self on c.in-Some.run' c.requires.none c.requires.sound (rw n at e.sound) run) b.ok;
+      told = λ tells. begun_told _ _ _ _ c.begin_run.result c.begin_run.new.self (begins tells).told b.ok;
+      grown = b.grown;
+      within = b.within;
+      counted = run_counted c.begin_run.result _ c.begin_run.new.self c.in-Some.run' (length (g.O.Output.written c.args.output.now)) (length (g.O.Output.written c.begin_run.new.output)) b.ok b.room b.whole;
+      front = λ tells. wrote_part _ _ _ _ _ b.front (begins tells).chunk;
+      rest = λ tells. begun_rest _ self _ _ c.begin_run.result c.begin_run.new.self _ _ (begins tells).chunk b.ok b.written;
+      leads = run_leads _ _ _ self on c.in-Some.run' c.begin_run.result c.begin_run.new.self _ _ c.requires.none c.requires.going c.requires.sound.gathering (rw n at e.sound) run b.ok b.some b.written b.whole;
+      write_frame = b.frame;
+      write_faults = b.faults;
+      cause = chunk_causes c.begin_run.result _ self.chunks self.bytes _ (g.S.Source.read_faults c.args.source.now) (g.S.Source.read_faults c.gather.new.source) (g.O.Output.write_faults c.args.output.now) (g.O.Output.write_faults c.begin_run.new.output) b.cause (λ tells. let z = begins tells in (z.enough, z.room));
+      given = a.given;
+      received = a.received;
+      steps = b.steps ∙ a.steps;
+      greatest = b.greatest ∙ a.greatest;
+      faults = a.faults;
+      clean = ok_both c.begin_run.result _ _ e.clean b.clean;
+      full_faults = b.full_faults;
+      full = b.full;
+      left = run_fewer c.begin_run.result _ c.begin_run.new.self c.in-Some.run' _ _ b.ok (rw n at (e.left c.requires.going));
+      paid = always_ok c.begin_run.result _ (λ x. rw b.same.1 (rw n at (e.paid c.requires.going)));
+      spends = λ tells.
+          let place = is_end_place i.blocks i.size i.window in
+          let reads = rw n at (e.gathered tells (end_place i.blocks) place place (sym n) refl) in
+          begun_rest_spent _ _ _ _ _ c.begin_run.result self _ c.begin_run.new.self b.ok (begun_spent i.length i.blocks i.size self on c.in-Some.run' _ _ c.requires.none c.requires.sound run reads);
+      calls = a.calls;
+      write_calls = b.calls;
+      turns = omega (arith, turns, more, b.grown);
+      words = always_ok c.begin_run.result _ (λ x. rw b.same.1 (omega (arith, words, more, b.grown)));
+    }
 
-pub returns-in-Some-clause-front : goal.returns-in-Some-clause-front
-returns-in-Some-clause-front g c tells =
+-- the run is still open
+pub returns-in-None : goal.returns-in-None
+returns-in-None g c =
+    let a = c.gather.ensures in
+    let e = c.in-Ok.ensures in
+    let self = c.args.self.now in
+    let on = c.gather.new.self in
     let i = c.args.runs.now in
     let n = c.blocks-count.ensures in
-    let o = raw_blocks i.blocks i.size i.length _ i.some i.covers i.last (c.requires.opened tells) in
-    let run = rw c.in-Some.is at c.in-Ok.ensures.run in
-    let closed = rw (n, c.in-Some.is) at (c.in-Ok.ensures.closed tells) in
-    let z = run_begins _ _ _ c.args.self.now c.gather.new.self c.in-Some.run' c.requires.none o.0 o.1 c.requires.sound (c.requires.told tells) (rw n at (c.in-Ok.ensures.told tells)) closed run in
-    wrote_part _ _ _ _ _ c.begin_run.ensures.front z.chunk
-
-pub returns-in-Some-clause-rest : goal.returns-in-Some-clause-rest
-returns-in-Some-clause-rest g c tells =
-    let i = c.args.runs.now in
-    let n = c.blocks-count.ensures in
-    let o = raw_blocks i.blocks i.size i.length _ i.some i.covers i.last (c.requires.opened tells) in
-    let run = rw c.in-Some.is at c.in-Ok.ensures.run in
-    let closed = rw (n, c.in-Some.is) at (c.in-Ok.ensures.closed tells) in
-    let z = run_begins _ _ _ c.args.self.now c.gather.new.self c.in-Some.run' c.requires.none o.0 o.1 c.requires.sound (c.requires.told tells) (rw n at (c.in-Ok.ensures.told tells)) closed run in
-    begun_rest _ c.args.self.now _ _ c.begin_run.result c.begin_run.new.self _ _ z.chunk c.begin_run.ensures.ok c.begin_run.ensures.written
-
-pub returns-in-Some-clause-cause : goal.returns-in-Some-clause-cause
-returns-in-Some-clause-cause g c =
-    let i = c.args.runs.now in
-    let n = c.blocks-count.ensures in
-    let run = rw c.in-Some.is at c.in-Ok.ensures.run in
-    chunk_causes c.begin_run.result _ c.args.self.now.chunks c.args.self.now.bytes _ (g.S.Source.read_faults c.args.source.now) (g.S.Source.read_faults c.gather.new.source) (g.O.Output.write_faults c.args.output.now) (g.O.Output.write_faults c.begin_run.new.output) c.begin_run.ensures.cause (λ tells.
-    let o = raw_blocks i.blocks i.size i.length _ i.some i.covers i.last (c.requires.opened tells) in
-    let closed = rw (n, c.in-Some.is) at (c.in-Ok.ensures.closed tells) in
-    let z = run_begins _ _ _ c.args.self.now c.gather.new.self c.in-Some.run' c.requires.none o.0 o.1 c.requires.sound (c.requires.told tells) (rw n at (c.in-Ok.ensures.told tells)) closed run in
-    (z.enough, z.room))
-
-pub returns-in-None-clause-told : goal.returns-in-None-clause-told
-returns-in-None-clause-told g c tells =
-    let n = c.blocks-count.ensures in
-    (run_still c.args.runs.now.blocks c.args.runs.now.size _ c.args.self.now c.gather.new.self c.requires.none c.requires.sound (rw n at c.in-Ok.ensures.sound) (c.requires.told tells) (rw n at (c.in-Ok.ensures.told tells)) (rw c.in-None.is at c.in-Ok.ensures.grows)).1
-
-pub returns-in-Some-clause-spends : goal.returns-in-Some-clause-spends
-returns-in-Some-clause-spends g c tells =
-    let i = c.args.runs.now in
-    let n = c.blocks-count.ensures in
-    let run = rw c.in-Some.is at c.in-Ok.ensures.run in
-    let place = is_end_place i.blocks i.size i.window in
-    let reads = rw n at (c.in-Ok.ensures.gathered tells (end_place i.blocks) place place (sym n) refl) in
-    begun_rest_spent _ _ _ _ _ c.begin_run.result c.args.self.now _ c.begin_run.new.self c.begin_run.ensures.ok (begun_spent i.length i.blocks i.size c.args.self.now c.gather.new.self c.in-Some.run' _ _ c.requires.none c.requires.sound run reads)
-
-pub returns-in-None-clause-spends : goal.returns-in-None-clause-spends
-returns-in-None-clause-spends g c tells =
-    let i = c.args.runs.now in
-    let n = c.blocks-count.ensures in
-    let grows = rw c.in-None.is at c.in-Ok.ensures.grows in
-    let place = is_end_place i.blocks i.size i.window in
-    let reads = rw n at (c.in-Ok.ensures.gathered tells (end_place i.blocks) place place (sym n) refl) in
-    still_spent i.length i.blocks i.size c.args.self.now c.gather.new.self _ _ c.requires.sound.gathering.behind_it c.in-Ok.ensures.sound.behind_it grows c.requires.none reads
-
-pub returns-in-Some-clause-leads : goal.returns-in-Some-clause-leads
-returns-in-Some-clause-leads g c =
-    let n = c.blocks-count.ensures in
-    let run = rw c.in-Some.is at c.in-Ok.ensures.run in
-    let e = c.begin_run.ensures in
-    run_leads _ _ _ c.args.self.now c.gather.new.self c.in-Some.run' c.begin_run.result c.begin_run.new.self _ _ c.requires.none c.requires.going c.requires.sound.gathering (rw n at c.in-Ok.ensures.sound) run e.ok e.some e.written e.whole
-
-pub returns-in-None-clause-leads : goal.returns-in-None-clause-leads
-returns-in-None-clause-leads g c =
-    let n = c.blocks-count.ensures in
-    let grows = rw c.in-None.is at c.in-Ok.ensures.grows in
-    leads_same _ _ _ _ refl (look_comes _ _ _ c.args.self.now c.gather.new.self c.requires.sound.gathering (rw n at c.in-Ok.ensures.sound) grows)
+    let grows = rw c.in-None.is at e.grows in
+    let still = λ (tells : IsTrue g.S.Source.tells). run_still i.blocks i.size _ self on c.requires.none c.requires.sound (rw n at e.sound) (c.requires.told tells) (rw n at (e.told tells)) grows in
+    let turns = rw n at a.turns in
+    let words = rw n at e.words in
+    record {
+      same = a.same;
+      content = a.content;
+      frame = a.frame;
+      most = refl;
+      sound = still_sound _ _ self on c.requires.none c.requires.sound (rw n at e.sound);
+      told = λ tells. (still tells).1;
+      grown = as_many _;
+      within = no_more _ _;
+      counted = refl;
+      front = λ tells. nothing_more _ _;
+      rest = λ tells. (still tells).0 ∙ nothing_less (g.O.Output.written c.args.output.now) _;
+      leads = leads_same _ _ _ _ refl (look_comes _ _ _ self on c.requires.sound.gathering (rw n at e.sound) grows);
+      write_frame = refl;
+      write_faults = as_many _;
+      cause = tt;
+      given = a.given;
+      received = a.received;
+      steps = a.steps;
+      greatest = a.greatest;
+      faults = a.faults;
+      clean = (e.clean, refl);
+      full_faults = none_more _;
+      full = λ says. absurd (not_full says);
+      left = fewer_looks _ _ _ (rw n at (e.left c.requires.going));
+      paid = rw n at (e.paid c.requires.going);
+      spends = λ tells.
+          let place = is_end_place i.blocks i.size i.window in
+          let reads = rw n at (e.gathered tells (end_place i.blocks) place place (sym n) refl) in
+          still_spent i.length i.blocks i.size self on _ _ c.requires.sound.gathering.behind_it e.sound.behind_it grows c.requires.none reads;
+      calls = a.calls;
+      write_calls = no_more _ _;
+      turns = omega (arith, turns);
+      words = omega (arith, words);
+    }
