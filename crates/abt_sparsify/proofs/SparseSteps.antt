@@ -1,5 +1,5 @@
 -- A sparser that goes on: with a run counted, with a run's chunks begun, with the next chunk of a raw run, with bytes copied.
-use Rattle.std.proofs.Common.{IfOk, ◌^◌, ◌≡◌, ℕ, suc, ◌+◌, ◌-◌, ◌*◌, ◌<◌, ◌≤◌, min, List, [], ◌++◌, length, take, drop, replicate, refl, sym, ap, subst, ◌∙◌, append_assoc, append-nil, arith, inl, inr, ◌⊎◌, length-append, length-drop, mul-le-mul_left, Option, Some, None, Result, Ok, Err, OnOk, ◌==◌, IsTrue, Bool, IfErr, nat_lt, false}
+use Rattle.std.proofs.Common.{IfOk, ◌^◌, ◌≡◌, ℕ, suc, ◌+◌, ◌-◌, ◌*◌, ◌<◌, ◌≤◌, min, List, [], ◌++◌, length, take, drop, replicate, refl, sym, ap, subst, ◌∙◌, append_assoc, append-nil, arith, inl, inr, ◌⊎◌, length-append, length-drop, mul-le-mul_left, mul-le-mul_right, Option, Some, None, Result, Ok, Err, OnOk, ◌==◌, IsTrue, Bool, IfErr, nat_lt, false}
 use Rattle.std.proofs.lemmas.Bool.{cases_Bool, eqb-true, eqb-false, ltb-true, ltb-false}
 use Rattle.std.proofs.lemmas.List.{drop-drop, length-take-le, take_all, take-append-le, drop-append-le}
 use Rattle.std.proofs.Math.Seq.{take-append_seam, drop-append_seam}
@@ -17,15 +17,19 @@ use Rattle.abt_pieces.specs.Plan.{between}
 use Rattle.abt_pieces.specs.Contents.{head_len, data_len}
 use Rattle.abt_pieces.specs.Gather.{frame, Gathered, Closed, ClosedRun, SoundGatherer, ToldGatherer, first_gatherer, look_left}
 use Rattle.abt_pieces.specs.Write.{begins, front_bytes}
-use Rattle.abt_sparsify.specs.Sparsify.{chunks_in, with_run, bytes_of, Counted, SoundCount, cut_bytes, to_cut, to_begin, left_of, sparse_left, IsCutting, SoundSparser, ToldCut, ToldSparser, front_begun, run_front, run_head, raw_begun, begun_as, run_begun, next_blocks, cut_on, chunk_opened, copied_cutting, no_runs, end_place, read_to, copied_place, spent}
+use Rattle.abt_sparsify.specs.Sparsify.{chunks_in, with_run, bytes_of, Counted, SoundCount, cut_bytes, to_cut, to_begin, left_of, sparse_left, IsCutting, SoundSparser, ToldCut, ToldSparser, front_begun, run_front, run_head, raw_begun, begun_as, run_begun, next_blocks, cut_on, chunk_opened, copied_cutting, no_runs, end_place, read_to, copied_place, spent, first_sparser, IsRawSize, SparsifyCause}
 use Rattle.abt_pieces.specs.declared.gather.Gatherer.{Gatherer}
 use Rattle.abt_sparsify.specs.declared.count.Written.{Written}
 use Rattle.abt_sparsify.specs.declared.write.Cutting.{Cutting}
 use Rattle.abt_sparsify.specs.declared.write.Sparser.{Sparser}
-use Rattle.abt_pieces.specs.Fault.{HasCause}
+use Rattle.abt_pieces.specs.Fault.{HasCause, full_in_cut, fault_of_run}
+use Rattle.abt_runs.specs.Raw.{Refused}
+use Rattle.abt_runs.specs.declared.part.RunFault.{RunFault}
+use Rattle.abt_runs.specs.declared.part.RunFault.TheVariants as of_runs
 use Rattle.abt_pieces.specs.declared.fault.PieceFault.{PieceFault}
-use Rattle.abt_pieces.specs.declared.fault.PieceFault.TheVariants.{SourceChanged}
+use Rattle.abt_pieces.specs.declared.fault.PieceFault.TheVariants.{Read, Write, TooLarge, SourceChanged, BadBlock, LimitTooSmall}
 use Rattle.abt_pieces.proofs.Fronts.{wrote_rest, not_told}
+use Rattle.abt_pieces.proofs.Cutting.{sound_first, gathered_first}
 use Rattle.abt_pieces.proofs.Writing.{blocks_take, blocks_drop, between_two, raw_back, raw_front, raw_long, front_long}
 use Rattle.abt_sparsify.proofs.Sparsing.{no_cut, one_cut, few_cuts, FirstCut, first_cut, cut_next}
 
@@ -64,6 +68,42 @@ run_ended b r n l g h x some e good gathered closed run =
       within = gl.within;
       blocks = these;
       cut = first_cut b r x.kind (between l u v) (drop v l) (drop u l) cl.first some all (omega (arith, long, run.some, run.blocks)) these;
+    }
+
+-- ---- before the first block
+
+none_begun : (c : Cursor) → c.block - c.block ≡ 0
+none_begun c = omega arith
+
+pub gatherer_sound : (n b : ℕ) (c : Cursor) → c.block ≡ 0 → RawPlace n b c → SoundGatherer (λ d. RawPlace n b d) n 0 n (first_gatherer c)
+gatherer_sound n b c first place = subst (λ (s : ℕ). SoundGatherer (λ d. RawPlace n b d) n s n (first_gatherer c)) first (sound_first (λ d. RawPlace n b d) n n c (omega (arith, first)) (omega arith) place)
+
+pub gatherer_told : (n b : ℕ) (l : List Block) (c : Cursor) → c.block ≡ 0 → RawPlace n b c → n ≡ length l → ToldGatherer (λ d. RawPlace n b d) l 0 n (first_gatherer c)
+gatherer_told n b l c first place e =
+    let long : length (frame l c.block n) ≡ length l = ap (λ (s : ℕ). length (frame l s n)) first ∙ ap length (frame_whole l n e) in
+    record {
+      gathered = subst (λ (s : ℕ). Gathered (frame l s n) (first_gatherer c)) first (gathered_first l n c (omega (arith, first)) (omega (arith, e)) long);
+      place = λ h. place;
+      raw = λ h s. absurd cc;
+    }
+
+pub first_count : (b n : ℕ) (c : Cursor) → SoundCount b (first_gatherer c) (no_runs n)
+first_count b n c = record { chunks = omega arith; least = omega arith; bytes = omega arith }
+
+pub first_sound : (n b r : ℕ) (c : Cursor) (a : Written) → c.block ≡ 0 → RawPlace n b c → 0 < r → 12 + r * b < 2 ^ 32 → SoundSparser n b (first_sparser c a r)
+first_sound n b r c a first place some small = record { gathering = gatherer_sound n b c first place; cuts = tt; most = some; small = small }
+
+pub first_rest : (r : ℕ) (l : List Block) (c : Cursor) (a : Written) → left_of l (first_sparser c a r) ≡ bytes_of r l
+first_rest r l c a = ap (λ (k : ℕ). bytes_of r (drop k l)) (none_begun c)
+
+pub first_told : (n b r : ℕ) (l : List Block) (c : Cursor) (a : Written) → c.block ≡ 0 → RawPlace n b c → n ≡ length l → a.chunks ≡ length (chunks_of r l) → a.bytes ≡ length (spelling b r l) → ToldSparser n b l (first_sparser c a r)
+first_told n b r l c a first place e chunks bytes =
+    let whole = length-append (header_record (plain_header b (length l) (length (chunks_of r l)))) (bytes_of r l) in
+    record {
+      gathering = gatherer_told n b l c first place e;
+      cuts = tt;
+      count = omega (arith, chunks, ap (λ (k : ℕ). length (chunks_of r (drop k l))) (none_begun c));
+      long = omega (arith, bytes, whole, ap length (first_rest r l c a));
     }
 
 -- ---- counting
@@ -482,6 +522,9 @@ counted_first r l c n e =
     let z : c.block - c.block ≡ 0 = omega arith in
     record { chunks = rw z (omega arith); bytes = rw z (omega arith) }
 
+pub bounded_whole : (b n : ℕ) (g : Gatherer) (a : Written) → g.count ≡ 0 → g.at.block ≡ n → SoundCount b g a → (28 ≤ a.bytes) × (a.bytes ≤ 28 + n * (b + 16))
+bounded_whole b n g a none end h = let all : begins g ≡ n = omega (arith, none, end) in (h.least, rw all at h.bytes)
+
 pub few_bytes : (x n b y : ℕ) → x ≤ n → n < 2 ^ 32 → b ≤ 65536 → y ≤ 28 + x * (b + 16) → y < 2 ^ 64
 few_bytes x n b y le small window h =
     let p : x * (b + 16) ≤ x * 65552 = mul-le-mul_left x (let z : b + 16 ≤ 65552 = omega arith in z) in
@@ -600,3 +643,51 @@ within_blocks x n b len last fits = elim (cases_Bool (nat_lt n x)) [
   | inl h ↦ let lt = ltb-true n x h in let p : b * (n + 1) ≤ b * x = mul-le-mul_left b (let z : n + 1 ≤ x = omega arith in z) in absurd (omega (arith, p))
   | inr h ↦ let le = ltb-false n x h in let p : (b + 16) * x ≤ (b + 16) * n = mul-le-mul_left (b + 16) (let z : x ≤ n = omega arith in z) in omega (arith, p)
 ]
+
+-- ---- refusals
+
+-- counting has no output
+pub unwritten : (e : PieceFault) (tells : Bool) (r r' : ℕ) → HasCause e tells r r' 0 0 → full_in_cut e ≡ 0
+unwritten (Read f) tells r r' h = refl
+unwritten (Write f) tells r r' h = absurd (omega (arith, h))
+unwritten TooLarge tells r r' h = absurd h
+unwritten SourceChanged tells r r' h = refl
+unwritten (BadBlock n) tells r r' h = absurd h
+unwritten (LimitTooSmall n) tells r r' h = absurd h
+
+pub few_blocks : (x b long : ℕ) → long ≤ x * b → x < 2 ^ 32 → (2 ^ 32 - 1) * b < long → ⊥
+few_blocks x b long covers fits large = let p : x * b ≤ (2 ^ 32 - 1) * b = mul-le-mul_right b (let z : x ≤ 2 ^ 32 - 1 = omega (arith, fits) in z) in omega (arith, p, covers, large)
+
+pub blocks_cover : (res : Result Written PieceFault) (n b long : ℕ) → IfOk res (λ a. a.blocks ≡ n) → long ≤ n * b → n * b < long + b → IfOk res (λ a. (long ≤ a.blocks * b) × (a.blocks * b < long + b))
+blocks_cover (Ok a) n b long is covers last = rw is (covers, last)
+blocks_cover (Err f) n b long is covers last = tt
+
+pub sparsify_causes : (res : Result Written PieceFault) (b long : ℕ) (tells : Bool) (r r' w w' : ℕ) → IfErr res (λ e. HasCause e tells r r' w w') → IfErr res (λ e. SparsifyCause e b long tells r r' w w')
+sparsify_causes (Ok a) b long tells r r' w w' h = tt
+sparsify_causes (Err (Read f)) b long tells r r' w w' h = h
+sparsify_causes (Err (Write f)) b long tells r r' w w' h = h
+sparsify_causes (Err SourceChanged) b long tells r r' w w' h = h
+sparsify_causes (Err TooLarge) b long tells r r' w w' h = absurd h
+sparsify_causes (Err (BadBlock n)) b long tells r r' w w' h = absurd h
+sparsify_causes (Err (LimitTooSmall n)) b long tells r r' w w' h = absurd h
+
+pub refused_bad : (e : PieceFault) (f : RunFault) (b long : ℕ) → e ≡ fault_of_run f → Refused f b long → (IsRawSize b → ⊥) → e ≡ BadBlock b
+refused_bad e (of_runs.BadBlock n) b long is h bad = is ∙ ap BadBlock h.0
+refused_bad e of_runs.TooLarge b long is h bad = absurd (bad (h.0, h.1, h.2))
+refused_bad e (of_runs.Sparse f) b long is h bad = absurd h
+refused_bad e (of_runs.Read f) b long is h bad = absurd h
+refused_bad e of_runs.SourceChanged b long is h bad = absurd h
+
+pub refused_large : (e : PieceFault) (f : RunFault) (b long : ℕ) → e ≡ fault_of_run f → Refused f b long → IsRawSize b → e ≡ TooLarge
+refused_large e (of_runs.BadBlock n) b long is h good = absurd (h.1 good)
+refused_large e of_runs.TooLarge b long is h good = is
+refused_large e (of_runs.Sparse f) b long is h good = absurd h
+refused_large e (of_runs.Read f) b long is h good = absurd h
+refused_large e of_runs.SourceChanged b long is h good = absurd h
+
+pub refused_cause : (e : PieceFault) (f : RunFault) (b long : ℕ) (tells : Bool) (r r' w w' : ℕ) → e ≡ fault_of_run f → Refused f b long → SparsifyCause e b long tells r r' w w'
+refused_cause e (of_runs.BadBlock n) b long tells r r' w w' is h = rw is h
+refused_cause e of_runs.TooLarge b long tells r r' w w' is h = rw is ((h.0, h.1, h.2), h.3)
+refused_cause e (of_runs.Sparse f) b long tells r r' w w' is h = absurd h
+refused_cause e (of_runs.Read f) b long tells r r' w w' is h = absurd h
+refused_cause e of_runs.SourceChanged b long tells r r' w w' is h = absurd h

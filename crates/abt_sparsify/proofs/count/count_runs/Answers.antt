@@ -1,8 +1,39 @@
-use Rattle.std.proofs.Common.{arith, ◌∙◌, sym, min, refl}
+use Rattle.std.proofs.Common.{arith, ◌∙◌, sym, min, refl, IsTrue}
+use Rattle.abt_pieces.proofs.Fronts.{as_many, max_most, run_causes}
 use Rattle.abt_pieces.proofs.Counts.{silent_most, words_most}
 use Rattle.abt_sparsify.specs.Sparsify.{end_place}
-use Rattle.abt_sparsify.proofs.SparseSteps.{is_end_place, granted_end, raw_blocks, counted_on, counted_still, counted_whole, sound_count_on, sound_count_still, few_bytes}
+use Rattle.abt_sparsify.proofs.SparseSteps.{is_end_place, granted, granted_end, raw_blocks, counted_on, counted_still, counted_whole, counted_first, sound_count_on, sound_count_still, few_bytes, first_count, gatherer_sound, gatherer_told, bounded_whole}
 use Rattle.abt_sparsify.proofs.count.count_runs.Goals as goal
+
+-- before the first block
+pub loop-gatherer-init : goal.loop-gatherer-init
+loop-gatherer-init g c =
+    let r = c.args.runs.now in
+    let s = c.start.ensures in
+    let begun = c.begin-gatherer.ensures in
+    let none = c.begin-counted.ensures in
+    record {
+      same = refl;
+      size = c.block_size-size.ensures;
+      count = c.blocks-count.ensures;
+      blocks = rw none c.blocks-count.ensures;
+      kept = λ tells. refl;
+      frame = refl;
+      sound = rw begun (gatherer_sound _ _ c.start.result s.first s.within);
+      told = λ tells.
+          let o = raw_blocks r.blocks r.size r.length _ r.some r.covers r.last (c.requires.opened tells) in
+          rw begun (gatherer_told _ _ _ c.start.result s.first s.within o.0);
+      bounds = rw (begun, none) (first_count _ _ c.start.result);
+      numbers = λ tells. rw (begun, none) (counted_first _ _ c.start.result _ s.first);
+      given = as_many _;
+      received = as_many _;
+      greatest = max_most _ _;
+      reads = omega arith;
+      turns = omega arith;
+      reads_to = λ tells. rw begun (let z = granted r.length r.blocks r.size c.start.result s.unused in omega (arith, z));
+      faults = as_many _;
+      clean = refl;
+    }
 
 pub and_run-counted-requires-clause-chunks : goal.and_run-counted-requires-clause-chunks
 and_run-counted-requires-clause-chunks g c =
@@ -92,46 +123,56 @@ loop-gatherer-preserved g c =
       clean = e.clean ∙ i.clean;
     }
 
-pub returns-clause-chunks : goal.returns-clause-chunks
-returns-clause-chunks g c tells =
+-- all runs are counted
+pub returns : goal.returns
+returns g c =
     let i = c.loop-gatherer.invariant in
     let r = c.args.runs.now in
-    let o = raw_blocks r.blocks r.size r.length _ r.some r.covers r.last (c.requires.opened tells) in
     let z = i.sound.ended (sym c.loop-gatherer-test.ensures) in
-    (counted_whole r.size _ _ _ c.loop-gatherer.gatherer c.loop-gatherer.counted o.0 z.0 z.1 (i.numbers tells)).0
-
-pub returns-clause-bytes : goal.returns-clause-bytes
-returns-clause-bytes g c tells =
-    let i = c.loop-gatherer.invariant in
-    let r = c.args.runs.now in
+    let whole = λ (tells : IsTrue g.S.Source.tells).
     let o = raw_blocks r.blocks r.size r.length _ r.some r.covers r.last (c.requires.opened tells) in
-    let z = i.sound.ended (sym c.loop-gatherer-test.ensures) in
-    (counted_whole r.size _ _ _ c.loop-gatherer.gatherer c.loop-gatherer.counted o.0 z.0 z.1 (i.numbers tells)).1
-
-pub returns-clause-turns : goal.returns-clause-turns
-returns-clause-turns g c =
-    let i = c.loop-gatherer.invariant in
-    let r = c.args.runs.now in
+    counted_whole r.size _ _ _ c.loop-gatherer.gatherer c.loop-gatherer.counted o.0 z.0 z.1 (i.numbers tells) in
     let most = words_most r.size r.blocks (min c.loop-gatherer.gatherer.at.block r.blocks) in
-    omega (arith, i.turns, most)
+    record {
+      same = i.same;
+      content = i.kept;
+      frame = i.frame;
+      blocks = i.blocks;
+      chunks = λ tells. (whole tells).0;
+      bytes = λ tells. (whole tells).1;
+      bounded = bounded_whole _ _ c.loop-gatherer.gatherer c.loop-gatherer.counted z.0 z.1 i.bounds;
+      given = i.given;
+      received = i.received;
+      economy = λ tells. let end = granted_end r.length r.blocks r.size c.loop-gatherer.gatherer.at z.1 in omega (arith, end, i.reads_to tells);
+      calls = omega (arith, i.reads);
+      turns = omega (arith, i.turns, most);
+      greatest = i.greatest;
+      faults = i.faults;
+      clean = i.clean;
+      cause = tt;
+    }
 
-pub returns-in-Err-clause-turns : goal.returns-in-Err-clause-turns
-returns-in-Err-clause-turns g c =
+-- the source has failed
+pub returns-in-Err : goal.returns-in-Err
+returns-in-Err g c =
     let i = c.loop-gatherer.invariant in
     let e = c.gather.ensures in
     let turns = rw (i.same, i.count) at e.turns in
-    omega (arith, i.turns, turns, i.given, e.given, c.tick.ensures.turns)
-
-pub returns-in-Err-clause-calls : goal.returns-in-Err-clause-calls
-returns-in-Err-clause-calls g c =
-    let i = c.loop-gatherer.invariant in
-    let e = c.gather.ensures in
-    omega (arith, i.reads, e.calls, i.given, e.given)
-
-pub returns-clause-economy : goal.returns-clause-economy
-returns-clause-economy g c tells =
-    let i = c.loop-gatherer.invariant in
-    let r = c.args.runs.now in
-    let z = i.sound.ended (sym c.loop-gatherer-test.ensures) in
-    let end = granted_end r.length r.blocks r.size c.loop-gatherer.gatherer.at z.1 in
-    omega (arith, end, i.reads_to tells)
+    record {
+      same = e.same ∙ i.same;
+      content = λ tells. e.content tells ∙ i.kept tells;
+      frame = e.frame ∙ i.frame;
+      blocks = tt;
+      chunks = λ tells. tt;
+      bytes = λ tells. tt;
+      bounded = tt;
+      given = omega (arith, i.given, e.given);
+      received = omega (arith, e.received, e.steps, i.received, c.tick.ensures.steps);
+      economy = λ tells. tt;
+      calls = omega (arith, i.reads, e.calls, i.given, e.given);
+      turns = omega (arith, i.turns, turns, i.given, e.given, c.tick.ensures.turns);
+      greatest = omega (arith, e.received, e.greatest, i.greatest, c.tick.ensures.greatest);
+      faults = omega (arith, i.faults, e.faults);
+      clean = tt;
+      cause = run_causes _ _ _ _ _ _ _ c.run_fault.ensures (rw i.clean at c.in-Err.ensures.cause);
+    }
