@@ -1,5 +1,5 @@
 -- What a pass over a raw image reads.
-use Rattle.std.proofs.Common.{◌≡◌, ℕ, ◌+◌, ◌-◌, ◌*◌, ◌<◌, ◌≤◌, true, false, ◌&&◌, ◌==◌, nat_lt, nat_le, min, ap, arith, inl, inr, ltb-true, ltb-false, mul-le-mul_right, if◌then◌else◌, eqb-true, eq-eqb, leb-true, leb-false, ◌/◌, ◌%◌}
+use Rattle.std.proofs.Common.{◌≡◌, ℕ, ◌+◌, ◌-◌, ◌*◌, ◌<◌, ◌≤◌, true, false, ◌&&◌, ◌==◌, nat_lt, nat_le, min, ap, ◌∙◌, arith, inl, inr, ltb-true, ltb-false, mul-le-mul_right, if◌then◌else◌, eqb-true, eq-eqb, leb-true, leb-false, ◌/◌, ◌%◌}
 use Rattle.std.proofs.lemmas.Bool.{cases_Bool, lt-ltb, and_parts}
 use Rattle.abt_runs.specs.Part.{next_ask, piece_bytes, afresh}
 use Rattle.abt_runs.specs.declared.part.RunKind.{RunKind}
@@ -124,4 +124,32 @@ raw_first len blocks size c d some covers last place le = elim (cases_Bool (nat_
       let m : (2 * c.block + 1 - c.ask) * size ≤ (2 * d.block + 1 - 1) * size = mul-le-mul_right size (let z : 2 * c.block + 1 - c.ask ≤ 2 * d.block + 1 - 1 = omega (arith, place.some) in z) in
       rw (e, lt') m
   | inr e ↦ rw e (raw_passed len blocks size c some covers last place).0
+]
+
+-- behind the last block a pass has read as much, whatever is asked for
+pub charge_end : (len blocks size : ℕ) (c : Cursor) → c.block ≡ blocks → raw_charge len blocks size (afresh c) ≤ raw_charge len blocks size c
+charge_end len blocks size c e = elim (cases_Bool (nat_lt c.block blocks)) [
+  | inl h ↦ absurd (let lt = ltb-true c.block blocks h in omega (arith, lt, e))
+  | inr h ↦ rw h (omega arith)
+]
+
+-- the place behind q of a blocks that were asked for
+pub raw_next : (blocks size : ℕ) (from next : Cursor) (a q : ℕ) → RawPlace blocks size from → 0 < q → q ≤ a → from.block + a ≤ blocks → size ≤ 65536 → next.block ≡ from.block + q → next.used ≡ from.used → next.ask ≡ next_ask from.ask a q size → RawPlace blocks size next
+raw_next blocks size from next a q w some few room small at used ask = elim (cases_Bool (nat_lt q a)) [
+  | inl h ↦
+      let one : next.ask ≡ 1 = rw h at ask in
+      record { within = omega (arith, at, few, room); some = omega (arith, one); window = rw one (omega (arith, small)); passed = omega (arith, one); used = used ∙ w.used }
+  | inr h ↦
+      let all = ltb-false q a h in
+      elim (cases_Bool ((a == from.ask) && nat_le (2 * from.ask * size) 65536)) [
+        | inl d ↦
+            let p = and_parts _ _ d in
+            let asked = eqb-true a from.ask p.0 in
+            let fits = leb-true (2 * from.ask * size) 65536 p.1 in
+            let twice : next.ask ≡ 2 * from.ask = rw (h, d) at ask in
+            record { within = omega (arith, at, few, room); some = omega (arith, twice, w.some); window = rw twice fits; passed = omega (arith, twice, at, all, asked); used = used ∙ w.used }
+        | inr d ↦
+            let same : next.ask ≡ from.ask = rw (h, d) at ask in
+            record { within = omega (arith, at, few, room); some = omega (arith, same, w.some); window = rw same w.window; passed = omega (arith, same, at, w.passed); used = used ∙ w.used }
+      ]
 ]

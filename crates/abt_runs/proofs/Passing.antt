@@ -6,7 +6,7 @@ use Rattle.abt_sparse.specs.declared.kind.ChunkKind.TheVariants as kinds
 use Rattle.abt_sparse.specs.declared.chunk_header.ChunkHeader.{ChunkHeader}
 use Rattle.abt_sparse.specs.Chunk.{Header}
 use Rattle.abt_sparse.specs.Reading.{data_len, counted}
-use Rattle.abt_runs.specs.Part.{entry, piece_bytes}
+use Rattle.abt_runs.specs.Part.{entry, piece_bytes, is_end}
 use Rattle.abt_runs.specs.Sparse.{SparseWithin, sparse_charge, data_place}
 use Rattle.abt_runs.specs.Head.{HeadFits, has_word, class_of_kind}
 use Rattle.abt_runs.specs.declared.part.Cursor.{Cursor}
@@ -100,6 +100,22 @@ pub goes_raw : (h : Header) (image : ℕ) (k : ChunkHeader) (word : List ℕ) (c
 goes_raw h image k word c cap _ f some (passes none) z = absurd (let n = none_left h image c k f none in omega (arith, n.0))
 goes_raw h image k word c cap _ f some (stops raw less) z = (refl, some)
 goes_raw h image k word c cap _ f some (ends more few) z = let g = f.going z in (class_is k.kind word g.0, omega arith)
+
+class_goes : (k : ChunkKind) (word : List ℕ) → is_end (class_of_kind k word) ≡ false
+class_goes kinds.Raw word = refl
+class_goes kinds.Fill word = refl
+class_goes kinds.Skip word = refl
+class_goes kinds.Crc word = refl
+
+pub not_end : (k : ChunkHeader) (word : List ℕ) (c : Cursor) (cap : ℕ) (r : Run) → Parts k word c cap r → is_end r.kind ≡ false
+not_end k word c cap _ (passes none) = refl
+not_end k word c cap _ (stops raw less) = refl
+not_end k word c cap _ (ends more few) = class_goes k.kind word
+
+pub nowhere_else : (k : ChunkHeader) (word : List ℕ) (c : Cursor) (cap : ℕ) (r : Run) → 0 < cap → Parts k word c cap r → r.blocks ≡ 0 → r.here ≡ r.next
+nowhere_else k word c cap _ some (passes none) e = refl
+nowhere_else k word c cap _ some (stops raw less) e = absurd (omega (arith, some, e))
+nowhere_else k word c cap _ some (ends more few) e = absurd (omega (arith, more, e))
 
 pub raw_few : (k : ChunkHeader) (word : List ℕ) (c : Cursor) (cap : ℕ) (r : Run) → Parts k word c cap r → r.kind ≡ classes.Raw → r.blocks ≤ cap
 raw_few k word c cap _ (passes none) e = absurd cc

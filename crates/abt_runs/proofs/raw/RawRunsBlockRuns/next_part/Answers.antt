@@ -1,100 +1,251 @@
-use Rattle.std.proofs.Common.{arith, rules, ◌∙◌, ap, refl, ◌≡◌, ◌*◌, ◌≤◌, ◌-◌, ℕ, min, length, mul-le-mul_right}
-use Rattle.abt_runs.specs.RawLaws.{raw_long, raw_count}
+use Rattle.std.proofs.Common.{arith, ◌∙◌, ap, refl, sym, ◌≡◌, ◌*◌, ◌+◌, ◌≤◌, ◌<◌, ◌-◌, ℕ, min, true, false, length, mul-le-mul_right, IsTrue}
+use Rattle.std.specs.Prelude.{is_some, Option, None}
+use Rattle.std.proofs.lemmas.Bool.{true≢false}
+use Rattle.abt_runs.specs.RawLaws.{raw_long, raw_count, raw_padded, own_size}
+use Rattle.abt_runs.specs.Raw.{RawPlace}
+use Rattle.abt_runs.specs.Part.{is_end}
+use Rattle.abt_runs.specs.declared.part.RunFault.{RunFault}
+use Rattle.abt_runs.specs.declared.part.Cursor.{Cursor}
+use Rattle.abt_runs.proofs.Chunked.{not_telling}
 use Rattle.abt_runs.proofs.Classes.{raw_all, never, if_none}
-use Rattle.abt_runs.proofs.Charges.{raw_charged, charge_fresh, raw_turns, raw_takes, raw_copies, raw_onward, raw_first, minus_zero}
+use Rattle.abt_runs.proofs.Charges.{raw_charged, charge_fresh, charge_end, raw_turns, raw_takes, raw_copies, raw_onward, raw_first, minus_zero, raw_next}
 use Rattle.abt_runs.proofs.raw.RawRunsBlockRuns.next_part.Goals as goal
 
-pub returns-then-from-self-clause-part : goal.returns-then-from-self-clause-part
-returns-then-from-self-clause-part g c tells =
-    let s = c.args.self.now in
-    let e = (c.requires.told tells).0 in
-    let n = raw_long s.length s.blocks s.size _ s.some s.covers s.last e in
+-- no block is left
+pub returns-then-from-self : goal.returns-then-from-self
+returns-then-from-self g c =
+    let self = c.args.self.now in
+    let s = c.close_step.ensures in
+    let w = c.requires.within in
+    let none : true ≡ false → ⊥ = true≢false in
+    let fresh : 0 < c.args.from.used → ⊥ = λ used. omega (arith, w.used, used) in
     record {
-      within = omega arith;
-      next = omega arith;
-      all = refl;
-      ended = λ _. omega arith;
+      same = refl;
+      content = λ tells. refl;
+      frame = refl;
+      part = λ tells.
+          let n = raw_long self.length self.blocks self.size _ self.some self.covers self.last (c.requires.told tells).0 in
+          record {
+            within = omega (arith, n, c.if-from-self.true);
+            next = omega arith;
+            all = refl;
+            ended = λ _. omega (arith, n, c.if-from-self.true);
+          };
+      place = λ tells. w;
+      here_place = λ tells. w;
+      stands = λ tells kind. absurd cc;
+      within = w;
+      here = (refl, w, own_size _);
+      inside = own_size _;
+      reached = λ kind. absurd cc;
+      nowhere = λ _. refl;
+      length = λ going. absurd (none going);
+      first = λ tells some. absurd (omega (arith, some));
+      anew = charge_end self.length self.blocks self.size c.args.from c.if-from-self.true;
+      not_past = λ tells d within place at. omega arith;
+      moved = omega arith;
+      capped = record { raw = λ kind. omega arith };
+      on = λ going. absurd (none going);
+      stops = λ used. absurd (fresh used);
+      goes_on = λ used. absurd (fresh used);
+      at_end = λ end. (c.if-from-self.true, refl);
+      charged = omega arith;
+      takes = omega arith;
+      copies = λ kind. absurd cc;
+      onward = (own_size _, own_size _);
+      given = own_size _;
+      fetched = λ going. absurd (none going);
+      ended = λ end. refl;
+      most = omega arith;
+      received = omega arith;
+      calls = omega arith;
+      turns = omega (arith, s.turns);
+      filled_up = λ some. absurd (let last = (raw_padded self.blocks self.size c.args.from).1 some in omega (arith, last, c.if-from-self.true));
+      steps = s.steps;
+      greatest = omega (arith, s.greatest);
+      faults = own_size _;
+      clean = refl;
+      cause = tt;
     }
 
-pub returns-clause-part : goal.returns-clause-part
-returns-clause-part g c tells =
-    let s = c.args.self.now in
-    let x = g.S.Source.content c.args.source.now in
-    let e = (c.requires.told tells).0 in
-    let n = raw_long s.length s.blocks s.size x s.some s.covers s.last e in
+-- the source has another length
+pub returns-then-length-self : goal.returns-then-length-self
+returns-then-length-self g c =
+    let s = c.close_step-then-length-self.ensures in
+    record {
+      same = refl;
+      content = λ tells. refl;
+      frame = refl;
+      part = λ tells. tt;
+      place = λ tells. tt;
+      here_place = λ tells. tt;
+      stands = λ tells. tt;
+      within = tt;
+      here = tt;
+      inside = tt;
+      reached = tt;
+      nowhere = tt;
+      length = tt;
+      first = λ tells. tt;
+      anew = tt;
+      not_past = λ tells. tt;
+      moved = tt;
+      capped = tt;
+      on = tt;
+      stops = tt;
+      goes_on = λ used. tt;
+      at_end = tt;
+      charged = tt;
+      takes = tt;
+      copies = tt;
+      onward = tt;
+      given = own_size _;
+      fetched = tt;
+      ended = tt;
+      most = omega arith;
+      received = omega arith;
+      calls = omega arith;
+      turns = omega (arith, s.turns);
+      filled_up = tt;
+      steps = s.steps;
+      greatest = omega (arith, s.greatest);
+      faults = own_size _;
+      clean = tt;
+      cause = not_telling g.S.Source.tells (λ t. c.if-length-self.true (c.length.ensures.told t ∙ sym (c.requires.told t).0));
+    }
+
+-- the source has failed
+pub returns-in-Some : goal.returns-in-Some
+returns-in-Some g c =
+    let self = c.args.self.now in
+    let l = c.load_filled-loaded.ensures in
+    let s = c.close_step-in-Some.ensures in
+    let a = c.asked-asked.ensures in
+    let want : c.min-want.result ≤ c.asked-asked.result * self.size = omega (arith, c.min-want.ensures) in
+    let capped : c.asked-asked.result * self.size ≤ c.args.cap * self.size = mul-le-mul_right self.size a.capped in
+    let window : c.asked-asked.result * self.size ≤ c.args.from.ask * self.size = mul-le-mul_right self.size a.ask in
+    record {
+      same = refl;
+      content = l.content;
+      frame = l.frame;
+      part = λ tells. tt;
+      place = λ tells. tt;
+      here_place = λ tells. tt;
+      stands = λ tells. tt;
+      within = tt;
+      here = tt;
+      inside = tt;
+      reached = tt;
+      nowhere = tt;
+      length = tt;
+      first = λ tells. tt;
+      anew = tt;
+      not_past = λ tells. tt;
+      moved = tt;
+      capped = tt;
+      on = tt;
+      stops = tt;
+      goes_on = λ used. tt;
+      at_end = tt;
+      charged = tt;
+      takes = tt;
+      copies = tt;
+      onward = tt;
+      given = omega (arith, l.given);
+      fetched = tt;
+      ended = tt;
+      most = omega (arith, l.given, l.few, want, capped);
+      received = omega (arith, l.given, l.few, want, window, c.requires.within.window);
+      calls = omega (arith, l.calls, l.given);
+      turns = omega (arith, l.turns, l.given, s.turns);
+      filled_up = tt;
+      steps = omega (arith, s.steps, l.steps);
+      greatest = omega (arith, s.greatest, l.greatest, l.given);
+      faults = l.faults;
+      clean = tt;
+      cause = rw c.in-Some.is at l.cause;
+    }
+
+none_is : (o : Option RunFault) → o ≡ None → is_some o ≡ false
+none_is o e = rw e refl
+
+-- the blocks that are alike
+pub returns : goal.returns
+returns g c =
+    let self = c.args.self.now in
+    let from = c.args.from in
+    let w = c.requires.within in
+    let f = c.load_filled-loaded.ensures in
     let l = c.leading-kind.ensures in
     let a = c.asked-asked.ensures in
-    let i = c.args.from.block in
-    let at : c.place_of-at.result ≡ i * s.size = c.place_of-at.ensures.place in
+    let n = c.after.ensures in
+    let s = c.close_step-2.ensures in
+    let asked = c.asked-asked.result in
+    let blocks = c.leading-kind.result.1 in
+    let at : c.place_of-at.result ≡ from.block * self.size = c.place_of-at.ensures.place in
     let below = c.place_of-at.ensures.within in
-    let want = c.min-want.result in
-    let read = c.part.ensures.value ∙ if_none c.load_filled-loaded.result.fault c.in_default.is (c.load_filled-loaded.ensures.bytes tells) in
+    let want : c.min-want.result ≡ min (asked * self.size) (self.length - from.block * self.size) = omega (arith, at, c.min-want.ensures) in
+    let got : c.load_filled-loaded.result.received ≡ c.min-want.result = if_none c.load_filled-loaded.result.fault c.in_default.is f.whole in
+    let capped : asked * self.size ≤ c.args.cap * self.size = mul-le-mul_right self.size a.capped in
+    let window : asked * self.size ≤ from.ask * self.size = mul-le-mul_right self.size a.ask in
+    let whole : 1 * self.size ≤ asked * self.size = mul-le-mul_right self.size (let z : 1 ≤ asked = omega (arith, a.some) in z) in
+    let there : from.block < self.blocks = omega (arith, a.some, a.within) in
+    let next = raw_next self.blocks self.size from c.after.result asked blocks w l.some l.within a.within self.window n.block n.used n.ask in
+    let here : RawPlace self.blocks self.size (record from { ask = 1 }) = record { within = w.within; some = omega arith; window = omega (arith, self.window); passed = omega arith; used = w.used } in
+    let over : is_end c.leading-kind.result.0 ≡ true → ⊥ = λ end. true≢false (sym end ∙ l.goes) in
+    let reach : blocks * self.size ≤ (self.blocks - from.block) * self.size = mul-le-mul_right self.size (let z : blocks ≤ self.blocks - from.block = omega (arith, l.within, a.within) in z) in
     record {
-      within = omega (arith, n, l.within, a.within);
-      next = c.after.ensures.block;
-      all = raw_all c.leading-kind.result.0 s.size i c.leading-kind.result.1 c.asked-asked.result s.blocks want c.place_of-at.result (c.asked-asked.result * s.size) x c.part.result.now (raw_count s.length s.blocks s.size x s.some s.covers s.last e) a.within l.within at (omega (arith, e, below)) (omega (arith, e, s.covers)) refl (c.min-want.ensures ∙ ap (λ (j : ℕ). min (j - c.place_of-at.result) (c.asked-asked.result * s.size)) e) read l.all;
-      ended = never _ _ _ l.goes;
+      same = refl;
+      content = f.content;
+      frame = f.frame;
+      part = λ tells.
+          let x = g.S.Source.content c.args.source.now in
+          let e = (c.requires.told tells).0 in
+          let long = raw_long self.length self.blocks self.size x self.some self.covers self.last e in
+          let read = c.part.ensures.value ∙ if_none c.load_filled-loaded.result.fault c.in_default.is (f.bytes tells) in
+          record {
+            within = omega (arith, long, l.within, a.within);
+            next = n.block;
+            all = raw_all c.leading-kind.result.0 self.size from.block blocks asked self.blocks c.min-want.result c.place_of-at.result (asked * self.size) x c.part.result.now (raw_count self.length self.blocks self.size x self.some self.covers self.last e) a.within l.within at (omega (arith, e, below)) (omega (arith, e, self.covers)) refl (c.min-want.ensures ∙ ap (λ (j : ℕ). min (j - c.place_of-at.result) (asked * self.size)) e) read l.all;
+            ended = never _ _ _ l.goes;
+          };
+      place = λ tells. next;
+      here_place = λ tells. here;
+      stands = λ tells kind. omega (arith, l.within, a.within);
+      within = next;
+      here = (refl, here, charge_fresh self.length self.blocks self.size from (record from { ask = 1 }) there w.some refl refl);
+      inside = own_size _;
+      reached = λ kind. reach;
+      nowhere = λ none. absurd (omega (arith, l.some, none));
+      length = λ _. sym c.length.ensures.size ∙ c.if-length-self.false;
+      first = λ tells some d is le. (raw_onward self.length self.size c.after.result.block d.block le, raw_first self.length self.blocks self.size c.after.result d self.some self.covers self.last next le);
+      anew = own_size _;
+      not_past = λ tells d within place past. omega (arith, l.within, a.capped);
+      moved = n.block;
+      capped = record { raw = λ kind. omega (arith, l.within, a.capped) };
+      on = λ _. omega (arith, n.block, l.some, there);
+      stops = λ used. absurd (omega (arith, n.used, w.used, used));
+      goes_on = λ used. absurd (omega (arith, w.used, used));
+      at_end = λ end. absurd (over end);
+      charged = let r = raw_charged self.length self.blocks self.size from c.after.result asked blocks c.min-want.result l.some l.within there a.within a.ask w.some w.passed self.covers self.last want n.block n.ask in
+          omega (arith, r, got, f.given);
+      takes = raw_takes c.leading-kind.result.0 self.size from.used from.block blocks c.after.result.block l.some n.block;
+      copies = λ kind. raw_copies self.length self.size from.block blocks c.after.result.block n.block;
+      onward = (own_size _, raw_onward self.length self.size from.block c.after.result.block (omega (arith, n.block)));
+      given = omega (arith, f.given);
+      fetched = λ _. omega (arith, got, whole, self.some, want, at, below, f.given);
+      ended = λ end. absurd (over end);
+      most = omega (arith, f.given, f.few, want, capped);
+      received = omega (arith, f.given, f.few, want, window, w.window);
+      calls = omega (arith, f.calls, f.given);
+      turns = let long : length c.part.result.now ≡ asked * self.size = c.part.ensures.long ∙ minus_zero (asked * self.size) in
+          let t = c.leading-kind.new.m.turns.number - c.load_filled-loaded.new.m.turns.number in
+          let r = raw_turns self.length self.blocks self.size from.block asked c.min-want.result t self.some self.words a.some a.within there self.last want (omega (arith, at, below)) (omega (arith, l.turns, long, whole)) in
+          omega (arith, r, got, s.turns, f.turns, f.given);
+      filled_up = λ _. l.some;
+      steps = omega (arith, s.steps, l.steps, f.steps);
+      greatest = omega (arith, s.greatest, l.greatest, f.greatest, f.given);
+      faults = f.faults;
+      clean = f.clean (none_is _ c.in_default.is);
+      cause = tt;
     }
-
-pub returns-clause-charged : goal.returns-clause-charged
-returns-clause-charged g c =
-    let s = c.args.self.now in
-    let a = c.asked-asked.ensures in
-    let at : c.place_of-at.result ≡ c.args.from.block * s.size = c.place_of-at.ensures.place in
-    let want : c.min-want.result ≡ min (c.asked-asked.result * s.size) (s.length - c.args.from.block * s.size) = omega (arith, at, c.min-want.ensures) in
-    let r = raw_charged s.length s.blocks s.size c.args.from c.after.result c.asked-asked.result c.leading-kind.result.1 c.min-want.result c.leading-kind.ensures.some c.leading-kind.ensures.within (omega (arith, a.some, a.within)) a.within a.ask c.requires.within.some c.requires.within.passed s.covers s.last want c.after.ensures.block c.after.ensures.ask in
-    let w : c.load_filled-loaded.result.received ≡ c.min-want.result = if_none c.load_filled-loaded.result.fault c.in_default.is c.load_filled-loaded.ensures.whole in
-    omega (arith, r, w, c.load_filled-loaded.ensures.given)
-
-pub returns-clause-takes : goal.returns-clause-takes
-returns-clause-takes g c =
-    let s = c.args.self.now in
-    raw_takes c.leading-kind.result.0 s.size c.args.from.used c.args.from.block c.leading-kind.result.1 c.after.result.block c.leading-kind.ensures.some c.after.ensures.block
-
-pub returns-clause-turns : goal.returns-clause-turns
-returns-clause-turns g c =
-    let s = c.args.self.now in
-    let a = c.asked-asked.ensures in
-    let at : c.place_of-at.result ≡ c.args.from.block * s.size = c.place_of-at.ensures.place in
-    let want : c.min-want.result ≡ min (c.asked-asked.result * s.size) (s.length - c.args.from.block * s.size) = omega (arith, at, c.min-want.ensures) in
-    let w : c.load_filled-loaded.result.received ≡ c.min-want.result = if_none c.load_filled-loaded.result.fault c.in_default.is c.load_filled-loaded.ensures.whole in
-    let long : length c.part.result.now ≡ c.asked-asked.result * s.size = c.part.ensures.long ∙ minus_zero (c.asked-asked.result * c.args.self.now.size) in
-    let few = c.leading-kind.ensures.turns in
-    let read = c.load_filled-loaded.ensures.turns in
-    let closed = c.close_step-2.ensures.turns in
-    let whole : 1 * s.size ≤ c.asked-asked.result * s.size = mul-le-mul_right s.size (let z : 1 ≤ c.asked-asked.result = omega (arith, a.some) in z) in
-    let t = c.leading-kind.new.m.turns.number - c.load_filled-loaded.new.m.turns.number in
-    let r = raw_turns s.length s.blocks s.size c.args.from.block c.asked-asked.result c.min-want.result t s.some s.words a.some a.within (omega (arith, a.some, a.within)) s.last want (omega (arith, at, c.place_of-at.ensures.within)) (omega (arith, few, long, whole)) in
-    omega (arith, r, w, closed, read, c.load_filled-loaded.ensures.given)
-
-pub returns-clause-here : goal.returns-clause-here
-returns-clause-here g c =
-    let s = c.args.self.now in
-    let w = c.requires.within in
-    let a = c.asked-asked.ensures in
-    (refl, record { within = w.within; some = omega arith; window = omega (arith, s.window); passed = omega arith; used = w.used }, charge_fresh s.length s.blocks s.size c.args.from (record c.args.from { ask = 1 }) (omega (arith, a.some, a.within)) w.some refl refl)
-
-pub returns-clause-copies : goal.returns-clause-copies
-returns-clause-copies g c kind =
-    let s = c.args.self.now in
-    raw_copies s.length s.size c.args.from.block c.leading-kind.result.1 c.after.result.block c.after.ensures.block
-
-pub returns-clause-onward : goal.returns-clause-onward
-returns-clause-onward g c =
-    let s = c.args.self.now in
-    (omega arith, raw_onward s.length s.size c.args.from.block c.after.result.block (omega (arith, c.after.ensures.block)))
-
-pub returns-clause-fetched : goal.returns-clause-fetched
-returns-clause-fetched g c not_end =
-    let s = c.args.self.now in
-    let a = c.asked-asked.ensures in
-    let w : c.load_filled-loaded.result.received ≡ c.min-want.result = if_none c.load_filled-loaded.result.fault c.in_default.is c.load_filled-loaded.ensures.whole in
-    let whole : 1 * s.size ≤ c.asked-asked.result * s.size = mul-le-mul_right s.size (let z : 1 ≤ c.asked-asked.result = omega (arith, a.some) in z) in
-    omega (arith, w, whole, s.some, c.min-want.ensures, c.place_of-at.ensures.within, c.load_filled-loaded.ensures.given)
-
-pub returns-clause-first : goal.returns-clause-first
-returns-clause-first g c tells some d is le =
-    let s = c.args.self.now in (
-      raw_onward s.length s.size c.after.result.block d.block le,
-      raw_first s.length s.blocks s.size c.after.result d s.some s.covers s.last (search rules) le,
-    )

@@ -1,204 +1,451 @@
-use Rattle.std.proofs.Common.{◌≡◌, ℕ, ◌+◌, ◌<◌, true, List, take, drop, refl, sym, ap, subst, ◌∙◌, arith}
+use Rattle.std.proofs.Common.{◌≡◌, ℕ, ◌+◌, ◌<◌, true, false, List, take, drop, refl, sym, ap, subst, ◌∙◌, arith, Bool, IsTrue}
+use Rattle.std.specs.Prelude.{is_some, Option, None}
+use Rattle.std.proofs.lemmas.Bool.{true≢false}
 use Rattle.abt_sparse.specs.View.{view}
 use Rattle.abt_runs.specs.Head.{has_word, part_of_chunk}
+use Rattle.abt_runs.specs.Part.{is_end}
 use Rattle.abt_runs.specs.Sparse.{sparse_charge}
 use Rattle.abt_runs.specs.SparseLaws.{sparse_long}
 use Rattle.abt_sparse.specs.declared.chunk_header.ChunkHeader.{ChunkHeader}
 use Rattle.abt_runs.specs.declared.part.Cursor.{Cursor}
 use Rattle.abt_runs.specs.declared.part.Run.{Run}
+use Rattle.abt_runs.specs.declared.part.RunFault.{RunFault}
 use Rattle.abt_runs.proofs.Classes.{if_none}
 use Rattle.abt_runs.proofs.Chunked.{Parts, parts, standing, standing_as, part_is, next_place, here_place, stand_together, at_last, not_telling}
-use Rattle.abt_runs.proofs.Passing.{next_within, here_within, here_block, here_used, here_charge, raw_reach, adds, read_charged, takes, here_next, raw_copies}
+use Rattle.abt_runs.proofs.Passing.{next_within, here_within, here_block, here_used, here_charge, raw_reach, adds, read_charged, takes, here_next, raw_copies, not_end, nowhere_else, next_block, raw_few, left_less, stops_full, goes_raw}
 use Rattle.abt_runs.proofs.Ordered.{next_first, not_past}
 use Rattle.abt_runs.proofs.sparse_parts.SparseRunsBlockRuns.next_part.Goals as goal
 
-pub returns-then-from-self-2-clause-cause : goal.returns-then-from-self-2-clause-cause
-returns-then-from-self-2-clause-cause g c =
-    let s = c.args.self.now in
-    not_telling g.S.Source.tells (λ t. c.if-from-self-2.true (at_last (view s.header) (g.S.Source.content c.args.source.now) c.args.from (c.requires.told t).1 c.if-from-self.true))
-
-pub returns-then-from-self-clause-part : goal.returns-then-from-self-clause-part
-returns-then-from-self-clause-part g c tells =
-    let s = c.args.self.now in
-    let long = sparse_long (view s.header) s.length s.image (g.S.Source.content c.args.source.now) (c.requires.told tells).0 in
+-- the chunks end before the blocks do
+pub returns-then-from-self-2 : goal.returns-then-from-self-2
+returns-then-from-self-2 g c =
+    let self = c.args.self.now in
+    let s = c.close_step.ensures in
     record {
-      within = omega (arith, long, c.if-from-self-2.false);
-      next = omega arith;
-      all = refl;
-      ended = λ _. omega (arith, long, c.if-from-self-2.false);
+      same = refl;
+      content = λ tells. refl;
+      frame = refl;
+      part = λ tells. tt;
+      place = λ tells. tt;
+      here_place = λ tells. tt;
+      stands = λ tells. tt;
+      within = tt;
+      here = tt;
+      inside = tt;
+      reached = tt;
+      nowhere = tt;
+      length = tt;
+      first = λ tells. tt;
+      anew = tt;
+      not_past = λ tells. tt;
+      moved = tt;
+      capped = tt;
+      on = tt;
+      stops = tt;
+      goes_on = λ used. tt;
+      at_end = tt;
+      charged = tt;
+      takes = tt;
+      copies = tt;
+      onward = tt;
+      given = omega arith;
+      fetched = tt;
+      ended = tt;
+      most = omega arith;
+      received = omega arith;
+      calls = omega arith;
+      turns = omega (arith, s.turns);
+      filled_up = tt;
+      steps = s.steps;
+      greatest = omega (arith, s.greatest);
+      faults = omega arith;
+      clean = tt;
+      cause = not_telling g.S.Source.tells (λ t. c.if-from-self-2.true (at_last (view self.header) (g.S.Source.content c.args.source.now) c.args.from (c.requires.told t).1 c.if-from-self.true));
     }
 
-pub returns-then-length-self-clause-cause : goal.returns-then-length-self-clause-cause
-returns-then-length-self-clause-cause g c =
-    let s = c.args.self.now in
-    not_telling g.S.Source.tells (λ t. c.if-length-self.true (c.length.ensures.told t ∙ (c.requires.told t).0.long_is))
+-- there is no chunk more
+pub returns-then-from-self : goal.returns-then-from-self
+returns-then-from-self g c =
+    let self = c.args.self.now in
+    let s = c.close_step.ensures in
+    let w = c.requires.within in
+    let fresh : 0 < c.args.from.used → ⊥ = λ used. let z = w.going used in omega (arith, z, c.if-from-self.true) in
+    let none : true ≡ false → ⊥ = true≢false in
+    record {
+      same = refl;
+      content = λ tells. refl;
+      frame = refl;
+      part = λ tells.
+          let long = sparse_long (view self.header) self.length self.image (g.S.Source.content c.args.source.now) (c.requires.told tells).0 in
+          record {
+            within = omega (arith, long, c.if-from-self-2.false);
+            next = omega arith;
+            all = refl;
+            ended = λ _. omega (arith, long, c.if-from-self-2.false);
+          };
+      place = λ tells. (c.requires.told tells).1;
+      here_place = λ tells. (c.requires.told tells).1;
+      stands = λ tells kind. absurd cc;
+      within = w;
+      here = (refl, w, omega arith);
+      inside = omega arith;
+      reached = λ kind. absurd cc;
+      nowhere = λ _. refl;
+      length = λ going. absurd (none going);
+      first = λ tells some. absurd (omega (arith, some));
+      anew = omega arith;
+      not_past = λ tells d within place at. omega arith;
+      moved = omega arith;
+      capped = record { raw = λ kind. omega arith };
+      on = λ going. absurd (none going);
+      stops = λ used. absurd (fresh used);
+      goes_on = λ used. absurd (fresh used);
+      at_end = λ end. (c.if-from-self-2.false, refl);
+      charged = omega arith;
+      takes = omega arith;
+      copies = λ kind. absurd cc;
+      onward = (omega arith, omega arith);
+      given = omega arith;
+      fetched = λ going. absurd (none going);
+      ended = λ end. refl;
+      most = omega arith;
+      received = omega arith;
+      calls = omega arith;
+      turns = omega (arith, s.turns);
+      filled_up = λ some. absurd (omega (arith, some));
+      steps = s.steps;
+      greatest = omega (arith, s.greatest);
+      faults = omega arith;
+      clean = refl;
+      cause = tt;
+    }
 
-pub returns-then-self-from-clause-cause : goal.returns-then-self-from-clause-cause
-returns-then-self-from-clause-cause g c =
-    let s = c.args.self.now in
-    let lt : c.args.from.chunk < s.header.total_chunks = omega (arith, c.if-from-self.false, c.requires.within.chunk) in
-    not_telling g.S.Source.tells (λ t.
-    let x = g.S.Source.content c.args.source.now in
-    let o = (c.requires.told t).0 in
-    let r = standing (view s.header) s.length s.image x (take 12 (drop c.args.from.at x)) c.args.from o (c.requires.told t).1 lt refl in
-    omega (arith, r.2.fits.whole, r.2.fits.total, s.chunk_header, c.if-self-from.true))
+-- the source has another length
+pub returns-then-length-self : goal.returns-then-length-self
+returns-then-length-self g c =
+    let s = c.close_step-then-length-self.ensures in
+    record {
+      same = refl;
+      content = λ tells. refl;
+      frame = refl;
+      part = λ tells. tt;
+      place = λ tells. tt;
+      here_place = λ tells. tt;
+      stands = λ tells. tt;
+      within = tt;
+      here = tt;
+      inside = tt;
+      reached = tt;
+      nowhere = tt;
+      length = tt;
+      first = λ tells. tt;
+      anew = tt;
+      not_past = λ tells. tt;
+      moved = tt;
+      capped = tt;
+      on = tt;
+      stops = tt;
+      goes_on = λ used. tt;
+      at_end = tt;
+      charged = tt;
+      takes = tt;
+      copies = tt;
+      onward = tt;
+      given = omega arith;
+      fetched = tt;
+      ended = tt;
+      most = omega arith;
+      received = omega arith;
+      calls = omega arith;
+      turns = omega (arith, s.turns);
+      filled_up = tt;
+      steps = s.steps;
+      greatest = omega (arith, s.greatest);
+      faults = omega arith;
+      clean = tt;
+      cause = not_telling g.S.Source.tells (λ t. c.if-length-self.true (c.length.ensures.told t ∙ (c.requires.told t).0.long_is));
+    }
 
-pub load_word-word-requires-clause-below : goal.load_word-word-requires-clause-below
-load_word-word-requires-clause-below g c = let s = c.args.self.now in let w = c.requires.within.charge in omega (arith, c.from.ensures, s.low, w)
+-- the image has no room for a header
+pub returns-then-self-from : goal.returns-then-self-from
+returns-then-self-from g c =
+    let self = c.args.self.now in
+    let s = c.close_step-then-self-from.ensures in
+    let lt : c.args.from.chunk < self.header.total_chunks = omega (arith, c.if-from-self.false, c.requires.within.chunk) in
+    record {
+      same = refl;
+      content = λ tells. refl;
+      frame = refl;
+      part = λ tells. tt;
+      place = λ tells. tt;
+      here_place = λ tells. tt;
+      stands = λ tells. tt;
+      within = tt;
+      here = tt;
+      inside = tt;
+      reached = tt;
+      nowhere = tt;
+      length = tt;
+      first = λ tells. tt;
+      anew = tt;
+      not_past = λ tells. tt;
+      moved = tt;
+      capped = tt;
+      on = tt;
+      stops = tt;
+      goes_on = λ used. tt;
+      at_end = tt;
+      charged = tt;
+      takes = tt;
+      copies = tt;
+      onward = tt;
+      given = omega arith;
+      fetched = tt;
+      ended = tt;
+      most = omega arith;
+      received = omega arith;
+      calls = omega arith;
+      turns = omega (arith, s.turns);
+      filled_up = tt;
+      steps = s.steps;
+      greatest = omega (arith, s.greatest);
+      faults = omega arith;
+      clean = tt;
+      cause = not_telling g.S.Source.tells (λ t.
+          let x = g.S.Source.content c.args.source.now in
+          let o = (c.requires.told t).0 in
+          let r = standing (view self.header) self.length self.image x (take 12 (drop c.args.from.at x)) c.args.from o (c.requires.told t).1 lt refl in
+          omega (arith, r.2.fits.whole, r.2.fits.total, self.chunk_header, c.if-self-from.true));
+    }
 
-pub returns-in-None-clause-cause : goal.returns-in-None-clause-cause
-returns-in-None-clause-cause g c =
-    let s = c.args.self.now in
-    let lt : c.args.from.chunk < s.header.total_chunks = omega (arith, c.if-from-self.false, c.requires.within.chunk) in
-    not_telling g.S.Source.tells (λ t.
-    let x = g.S.Source.content c.args.source.now in
-    let is = c.part.ensures.value ∙ if_none c.load-head.result.fault c.in_default.is (c.load-head.ensures.bytes t) in
-    let r = standing (view s.header) s.length s.image x c.part.result.now c.args.from (c.requires.told t).0 (c.requires.told t).1 lt is in
-    let found = c.chunk_here.ensures.found r.0 r.1 r.2.fits in
-    let none = c.in-None.is in
-    cc)
+-- the header is not read
+pub returns-in-Some : goal.returns-in-Some
+returns-in-Some g c =
+    let h = c.load-head.ensures in
+    let s = c.close_step-in-Some.ensures in
+    record {
+      same = refl;
+      content = h.content;
+      frame = h.frame;
+      part = λ tells. tt;
+      place = λ tells. tt;
+      here_place = λ tells. tt;
+      stands = λ tells. tt;
+      within = tt;
+      here = tt;
+      inside = tt;
+      reached = tt;
+      nowhere = tt;
+      length = tt;
+      first = λ tells. tt;
+      anew = tt;
+      not_past = λ tells. tt;
+      moved = tt;
+      capped = tt;
+      on = tt;
+      stops = tt;
+      goes_on = λ used. tt;
+      at_end = tt;
+      charged = tt;
+      takes = tt;
+      copies = tt;
+      onward = tt;
+      given = omega (arith, h.given);
+      fetched = tt;
+      ended = tt;
+      most = omega (arith, h.given, h.few);
+      received = omega (arith, h.given, h.few);
+      calls = omega (arith, h.calls, h.given);
+      turns = omega (arith, h.turns, h.given, s.turns);
+      filled_up = tt;
+      steps = omega (arith, s.steps, h.steps);
+      greatest = omega (arith, s.greatest, h.greatest, h.given);
+      faults = h.faults;
+      clean = tt;
+      cause = rw c.in-Some.is at h.cause;
+    }
+
+-- it is another header
+pub returns-in-None : goal.returns-in-None
+returns-in-None g c =
+    let self = c.args.self.now in
+    let h = c.load-head.ensures in
+    let s = c.close_step-in-None.ensures in
+    let lt : c.args.from.chunk < self.header.total_chunks = omega (arith, c.if-from-self.false, c.requires.within.chunk) in
+    record {
+      same = refl;
+      content = h.content;
+      frame = h.frame;
+      part = λ tells. tt;
+      place = λ tells. tt;
+      here_place = λ tells. tt;
+      stands = λ tells. tt;
+      within = tt;
+      here = tt;
+      inside = tt;
+      reached = tt;
+      nowhere = tt;
+      length = tt;
+      first = λ tells. tt;
+      anew = tt;
+      not_past = λ tells. tt;
+      moved = tt;
+      capped = tt;
+      on = tt;
+      stops = tt;
+      goes_on = λ used. tt;
+      at_end = tt;
+      charged = tt;
+      takes = tt;
+      copies = tt;
+      onward = tt;
+      given = omega (arith, h.given);
+      fetched = tt;
+      ended = tt;
+      most = omega (arith, h.given, h.few);
+      received = omega (arith, h.given, h.few);
+      calls = omega (arith, h.calls, h.given);
+      turns = omega (arith, h.turns, h.given, s.turns);
+      filled_up = tt;
+      steps = omega (arith, s.steps, h.steps);
+      greatest = omega (arith, s.greatest, h.greatest, h.given);
+      faults = h.faults;
+      clean = tt;
+      cause = not_telling g.S.Source.tells (λ t.
+          let x = g.S.Source.content c.args.source.now in
+          let is = c.part.ensures.value ∙ if_none c.load-head.result.fault c.in_default.is (h.bytes t) in
+          let r = standing (view self.header) self.length self.image x c.part.result.now c.args.from (c.requires.told t).0 (c.requires.told t).1 lt is in
+          let found = c.chunk_here.ensures.found r.0 r.1 r.2.fits in
+          let none = c.in-None.is in
+          cc);
+    }
+
+none_is : (o : Option RunFault) → o ≡ None → is_some o ≡ false
+none_is o e = rw e refl
+
+-- its word is not read
+pub returns-in-Some-fault : goal.returns-in-Some-fault
+returns-in-Some-fault g c =
+    let h = c.load-head.ensures in
+    let w = c.load_word-word.ensures in
+    let s = c.close_step-in-Some-chunk_here.ensures in
+    record {
+      same = refl;
+      content = λ tells. w.content tells ∙ h.content tells;
+      frame = w.frame ∙ h.frame;
+      part = λ tells. tt;
+      place = λ tells. tt;
+      here_place = λ tells. tt;
+      stands = λ tells. tt;
+      within = tt;
+      here = tt;
+      inside = tt;
+      reached = tt;
+      nowhere = tt;
+      length = tt;
+      first = λ tells. tt;
+      anew = tt;
+      not_past = λ tells. tt;
+      moved = tt;
+      capped = tt;
+      on = tt;
+      stops = tt;
+      goes_on = λ used. tt;
+      at_end = tt;
+      charged = tt;
+      takes = tt;
+      copies = tt;
+      onward = tt;
+      given = omega (arith, h.given, w.given);
+      fetched = tt;
+      ended = tt;
+      most = omega (arith, h.given, h.few, w.given, w.few);
+      received = omega (arith, h.given, h.few, w.given, w.few);
+      calls = omega (arith, h.calls, h.given, w.calls, w.given);
+      turns = omega (arith, h.turns, h.given, w.turns, w.given, s.turns);
+      filled_up = tt;
+      steps = omega (arith, s.steps, h.steps, w.steps);
+      greatest = omega (arith, s.greatest, h.greatest, w.greatest, h.given, w.given);
+      faults = omega (arith, h.faults, w.faults);
+      clean = tt;
+      cause = rw (h.clean (none_is _ c.in_default.is), c.in-Some-fault.is) at w.cause;
+    }
 
 -- the part, by its cases
 cases : (k : ChunkHeader) (word : List ℕ) (c : Cursor) (cap : ℕ) (r : Run) → r ≡ part_of_chunk k word c cap → Parts k word c cap r
 cases k word c cap r e = subst (λ (q : Run). Parts k word c cap q) (sym e) (parts k word c cap)
 
-pub returns-in-None-fault-clause-part : goal.returns-in-None-fault-clause-part
-returns-in-None-fault-clause-part g c tells =
-    let s = c.args.self.now in
-    let x = g.S.Source.content c.args.source.now in
-    let k = c.in-Some-chunk_here.chunk in
-    let lt : c.args.from.chunk < s.header.total_chunks = omega (arith, c.if-from-self.false, c.requires.within.chunk) in
-    let is = c.part.ensures.value ∙ if_none c.load-head.result.fault c.in_default.is (c.load-head.ensures.bytes tells) in
-    let st = standing_as (view s.header) s.length s.image x c.part.result.now c.args.from k (c.requires.told tells).0 (c.requires.told tells).1 lt is c.in-Some-chunk_here.ensures.read in
-    let word : has_word k.kind k.blocks ≡ true → c.load_word-word.result.bytes ≡ take 4 (drop (c.args.from.at + s.header.chunk_hdr_sz) x) =
-    λ e. if_none c.load_word-word.result.fault c.in-None-fault.is (c.load_word-word.ensures.bytes tells) e ∙ ap (λ (y : List ℕ). take 4 (drop (c.args.from.at + c.from.result) y)) (c.load-head.ensures.content tells) ∙ ap (λ (n : ℕ). take 4 (drop (c.args.from.at + n) x)) c.from.ensures in
-    part_is (view s.header) x s.image c.args.from k c.load_word-word.result.bytes c.args.cap c.part_of.result st c.requires.within.used c.requires.some word (cases k c.load_word-word.result.bytes c.args.from c.args.cap c.part_of.result c.part_of.ensures)
-
-pub returns-in-None-fault-clause-place : goal.returns-in-None-fault-clause-place
-returns-in-None-fault-clause-place g c tells =
-    let s = c.args.self.now in
-    let x = g.S.Source.content c.args.source.now in
-    let k = c.in-Some-chunk_here.chunk in
-    let lt : c.args.from.chunk < s.header.total_chunks = omega (arith, c.if-from-self.false, c.requires.within.chunk) in
-    let is = c.part.ensures.value ∙ if_none c.load-head.result.fault c.in_default.is (c.load-head.ensures.bytes tells) in
-    let st = standing_as (view s.header) s.length s.image x c.part.result.now c.args.from k (c.requires.told tells).0 (c.requires.told tells).1 lt is c.in-Some-chunk_here.ensures.read in
-    next_place (view s.header) x s.image c.args.from k c.load_word-word.result.bytes c.args.cap c.part_of.result st (cases k c.load_word-word.result.bytes c.args.from c.args.cap c.part_of.result c.part_of.ensures)
-
-pub returns-in-None-fault-clause-here_place : goal.returns-in-None-fault-clause-here_place
-returns-in-None-fault-clause-here_place g c tells =
-    let s = c.args.self.now in
-    let x = g.S.Source.content c.args.source.now in
-    let k = c.in-Some-chunk_here.chunk in
-    let lt : c.args.from.chunk < s.header.total_chunks = omega (arith, c.if-from-self.false, c.requires.within.chunk) in
-    let is = c.part.ensures.value ∙ if_none c.load-head.result.fault c.in_default.is (c.load-head.ensures.bytes tells) in
-    let st = standing_as (view s.header) s.length s.image x c.part.result.now c.args.from k (c.requires.told tells).0 (c.requires.told tells).1 lt is c.in-Some-chunk_here.ensures.read in
-    here_place (view s.header) x s.image c.args.from k c.load_word-word.result.bytes c.args.cap c.part_of.result st (c.requires.told tells).1 (cases k c.load_word-word.result.bytes c.args.from c.args.cap c.part_of.result c.part_of.ensures)
-
-pub returns-in-None-fault-clause-stands : goal.returns-in-None-fault-clause-stands
-returns-in-None-fault-clause-stands g c tells =
-    let s = c.args.self.now in
-    let x = g.S.Source.content c.args.source.now in
-    let k = c.in-Some-chunk_here.chunk in
-    let lt : c.args.from.chunk < s.header.total_chunks = omega (arith, c.if-from-self.false, c.requires.within.chunk) in
-    let is = c.part.ensures.value ∙ if_none c.load-head.result.fault c.in_default.is (c.load-head.ensures.bytes tells) in
-    let st = standing_as (view s.header) s.length s.image x c.part.result.now c.args.from k (c.requires.told tells).0 (c.requires.told tells).1 lt is c.in-Some-chunk_here.ensures.read in
-    stand_together (view s.header) x s.image c.args.from k c.load_word-word.result.bytes c.args.cap c.part_of.result st (cases k c.load_word-word.result.bytes c.args.from c.args.cap c.part_of.result c.part_of.ensures)
-
-pub returns-in-None-fault-clause-within : goal.returns-in-None-fault-clause-within
-returns-in-None-fault-clause-within g c =
-    let s = c.args.self.now in
-    let k = c.in-Some-chunk_here.chunk in
-    let lt : c.args.from.chunk < s.header.total_chunks = omega (arith, c.if-from-self.false, c.requires.within.chunk) in
-    next_within (view s.header) s.image c.args.from k c.load_word-word.result.bytes c.args.cap c.part_of.result c.requires.within c.in-Some-chunk_here.ensures.fits lt c.requires.some (cases k c.load_word-word.result.bytes c.args.from c.args.cap c.part_of.result c.part_of.ensures)
-
-pub returns-in-None-fault-clause-here : goal.returns-in-None-fault-clause-here
-returns-in-None-fault-clause-here g c =
-    let s = c.args.self.now in
-    let k = c.in-Some-chunk_here.chunk in
-    let word = c.load_word-word.result.bytes in
-    let lt : c.args.from.chunk < s.header.total_chunks = omega (arith, c.if-from-self.false, c.requires.within.chunk) in
-    let p = cases k word c.args.from c.args.cap c.part_of.result c.part_of.ensures in (
-      here_block (view s.header) s.image c.args.from k word c.args.cap c.part_of.result c.requires.within c.in-Some-chunk_here.ensures.fits p,
-      here_within (view s.header) s.image c.args.from k word c.args.cap c.part_of.result c.requires.within c.in-Some-chunk_here.ensures.fits lt p,
-      here_charge (view s.header) s.image c.args.from k word c.args.cap c.part_of.result s.chunk_header c.in-Some-chunk_here.ensures.fits p,
-    )
-
-pub returns-in-None-fault-clause-inside : goal.returns-in-None-fault-clause-inside
-returns-in-None-fault-clause-inside g c =
-    let k = c.in-Some-chunk_here.chunk in
-    let word = c.load_word-word.result.bytes in
-    here_used c.args.from k word c.args.cap c.part_of.result (cases k word c.args.from c.args.cap c.part_of.result c.part_of.ensures)
-
-pub returns-in-None-fault-clause-reached : goal.returns-in-None-fault-clause-reached
-returns-in-None-fault-clause-reached g c =
-    let s = c.args.self.now in
-    let k = c.in-Some-chunk_here.chunk in
-    raw_reach (view s.header) s.image k c.load_word-word.result.bytes c.args.from c.args.cap c.part_of.result c.in-Some-chunk_here.ensures.fits (cases k c.load_word-word.result.bytes c.args.from c.args.cap c.part_of.result c.part_of.ensures)
-
-pub returns-in-None-fault-clause-charged : goal.returns-in-None-fault-clause-charged
-returns-in-None-fault-clause-charged g c =
-    let s = c.args.self.now in
-    let h = view s.header in
+-- the part of the chunk
+pub returns-in-None-fault : goal.returns-in-None-fault
+returns-in-None-fault g c =
+    let self = c.args.self.now in
+    let v = view self.header in
+    let from = c.args.from in
+    let h = c.load-head.ensures in
+    let w = c.load_word-word.ensures in
+    let s = c.close_step-in-Some-chunk_here.ensures in
     let k = c.in-Some-chunk_here.chunk in
     let word = c.load_word-word.result.bytes in
     let f = c.in-Some-chunk_here.ensures.fits in
-    let p = cases k word c.args.from c.args.cap c.part_of.result c.part_of.ensures in
-    let e = c.load_word-word.ensures in
-    let few = c.load-head.ensures.few in
-    let read = read_charged h s.image c.args.from k (c.load-head.result.received + c.load_word-word.result.received) (sparse_charge h c.args.from) (sparse_charge h c.part_of.result.next) c.part_of.result s.chunk_header f (λ t. omega (arith, few, e.few)) (λ t. omega (arith, few, e.none t)) (adds h s.image c.args.from k word c.args.cap c.part_of.result f c.requires.some p) in
-    omega (arith, read, e.given, c.load-head.ensures.given)
+    let r = c.part_of.result in
+    let p = cases k word from c.args.cap r c.part_of.ensures in
+    let lt : from.chunk < self.header.total_chunks = omega (arith, c.if-from-self.false, c.requires.within.chunk) in
+    let more = adds v self.image from k word c.args.cap r f c.requires.some p in
+    let going = not_end k word from c.args.cap r p in
+    let not_over : is_end r.kind ≡ true → ⊥ = λ end. true≢false (sym end ∙ going) in
+    let stands = λ (tells : IsTrue g.S.Source.tells).
+    let is = c.part.ensures.value ∙ if_none c.load-head.result.fault c.in_default.is (h.bytes tells) in
+    standing_as v self.length self.image (g.S.Source.content c.args.source.now) c.part.result.now from k (c.requires.told tells).0 (c.requires.told tells).1 lt is c.in-Some-chunk_here.ensures.read in
+    record {
+      same = refl;
+      content = λ tells. w.content tells ∙ h.content tells;
+      frame = w.frame ∙ h.frame;
+      part = λ tells.
+          let x = g.S.Source.content c.args.source.now in
+          let bytes : has_word k.kind k.blocks ≡ true → word ≡ take 4 (drop (from.at + self.header.chunk_hdr_sz) x) =
+          λ q. if_none c.load_word-word.result.fault c.in-None-fault.is (w.bytes tells) q ∙ ap (λ (y : List ℕ). take 4 (drop (from.at + c.from.result) y)) (h.content tells) ∙ ap (λ (n : ℕ). take 4 (drop (from.at + n) x)) c.from.ensures in
+          part_is v x self.image from k word c.args.cap r (stands tells) c.requires.within.used c.requires.some bytes p;
+      place = λ tells. next_place v (g.S.Source.content c.args.source.now) self.image from k word c.args.cap r (stands tells) p;
+      here_place = λ tells. here_place v (g.S.Source.content c.args.source.now) self.image from k word c.args.cap r (stands tells) (c.requires.told tells).1 p;
+      stands = λ tells. stand_together v (g.S.Source.content c.args.source.now) self.image from k word c.args.cap r (stands tells) p;
+      within = next_within v self.image from k word c.args.cap r c.requires.within f lt c.requires.some p;
+      here = (here_block v self.image from k word c.args.cap r c.requires.within f p, here_within v self.image from k word c.args.cap r c.requires.within f lt p, here_charge v self.image from k word c.args.cap r self.chunk_header f p);
+      inside = here_used from k word c.args.cap r p;
+      reached = raw_reach v self.image k word from c.args.cap r f p;
+      nowhere = nowhere_else k word from c.args.cap r c.requires.some p;
+      length = λ _. sym c.length.ensures.size ∙ c.if-length-self.false;
+      first = λ tells some d is le.
+          let one = next_first v self.length self.image (g.S.Source.content c.args.source.now) from k word c.args.cap r (c.requires.told tells).0 (stands tells) c.requires.some p some d is.0 is.1 le in
+          (one, one);
+      anew = omega arith;
+      not_past = λ tells d within place at. not_past v self.length self.image (g.S.Source.content c.args.source.now) from k word c.args.cap r (c.requires.told tells).0 (stands tells) c.requires.some p d within place at;
+      moved = next_block v self.image from k word c.args.cap r c.requires.within f p;
+      capped = record { raw = raw_few k word from c.args.cap r p };
+      on = λ _. left_less v self.image from k word c.args.cap r c.requires.within f lt c.requires.some p;
+      stops = stops_full k word from c.args.cap r p;
+      goes_on = goes_raw v self.image k word from c.args.cap r f c.requires.some p;
+      at_end = λ end. absurd (not_over end);
+      charged = let read = read_charged v self.image from k (c.load-head.result.received + c.load_word-word.result.received) (sparse_charge v from) (sparse_charge v r.next) r self.chunk_header f (λ t. omega (arith, h.few, w.few)) (λ t. omega (arith, h.few, w.none t)) more in
+          omega (arith, read, w.given, h.given);
+      takes = takes v self.image from k word c.args.cap r (sparse_charge v from) (sparse_charge v r.next) self.chunk_header f p more;
+      copies = raw_copies v self.image from k word c.args.cap r self.chunk_header f c.requires.some p;
+      onward = (here_charge v self.image from k word c.args.cap r self.chunk_header f p, here_next v self.image from k word c.args.cap r f c.requires.some p);
+      given = omega (arith, h.given, w.given);
+      fetched = λ _.
+          let whole = if_none c.load-head.result.fault c.in_default.is h.whole in
+          omega (arith, whole, h.given, w.given);
+      ended = λ end. absurd (not_over end);
+      most = omega (arith, h.given, h.few, w.given, w.few);
+      received = omega (arith, h.given, h.few, w.given, w.few);
+      calls = omega (arith, h.calls, h.given, w.calls, w.given);
+      turns = omega (arith, h.turns, h.given, w.turns, w.given, s.turns);
+      filled_up = λ some. absurd (omega (arith, some));
+      steps = omega (arith, s.steps, h.steps, w.steps);
+      greatest = omega (arith, s.greatest, h.greatest, w.greatest, h.given, w.given);
+      faults = omega (arith, h.faults, w.faults);
+      clean = w.clean (none_is _ c.in-None-fault.is) ∙ h.clean (none_is _ c.in_default.is);
+      cause = tt;
+    }
 
-pub returns-in-None-fault-clause-takes : goal.returns-in-None-fault-clause-takes
-returns-in-None-fault-clause-takes g c =
-    let s = c.args.self.now in
-    let h = view s.header in
-    let k = c.in-Some-chunk_here.chunk in
-    let word = c.load_word-word.result.bytes in
-    let f = c.in-Some-chunk_here.ensures.fits in
-    let p = cases k word c.args.from c.args.cap c.part_of.result c.part_of.ensures in
-    takes h s.image c.args.from k word c.args.cap c.part_of.result (sparse_charge h c.args.from) (sparse_charge h c.part_of.result.next) s.chunk_header f p (adds h s.image c.args.from k word c.args.cap c.part_of.result f c.requires.some p)
-
-pub returns-in-None-fault-clause-copies : goal.returns-in-None-fault-clause-copies
-returns-in-None-fault-clause-copies g c kind =
-    let s = c.args.self.now in
-    let k = c.in-Some-chunk_here.chunk in
-    let word = c.load_word-word.result.bytes in
-    raw_copies (view s.header) s.image c.args.from k word c.args.cap c.part_of.result s.chunk_header c.in-Some-chunk_here.ensures.fits c.requires.some (cases k word c.args.from c.args.cap c.part_of.result c.part_of.ensures) kind
-
-pub returns-in-None-fault-clause-onward : goal.returns-in-None-fault-clause-onward
-returns-in-None-fault-clause-onward g c =
-    let s = c.args.self.now in
-    let k = c.in-Some-chunk_here.chunk in
-    let word = c.load_word-word.result.bytes in
-    let f = c.in-Some-chunk_here.ensures.fits in
-    let p = cases k word c.args.from c.args.cap c.part_of.result c.part_of.ensures in (
-      here_charge (view s.header) s.image c.args.from k word c.args.cap c.part_of.result s.chunk_header f p,
-      here_next (view s.header) s.image c.args.from k word c.args.cap c.part_of.result f c.requires.some p,
-    )
-
-pub returns-in-None-fault-clause-first : goal.returns-in-None-fault-clause-first
-returns-in-None-fault-clause-first g c tells some d is le =
-    let s = c.args.self.now in
-    let h = view s.header in
-    let x = g.S.Source.content c.args.source.now in
-    let k = c.in-Some-chunk_here.chunk in
-    let word = c.load_word-word.result.bytes in
-    let o = (c.requires.told tells).0 in
-    let lt : c.args.from.chunk < s.header.total_chunks = omega (arith, c.if-from-self.false, c.requires.within.chunk) in
-    let read = c.part.ensures.value ∙ if_none c.load-head.result.fault c.in_default.is (c.load-head.ensures.bytes tells) in
-    let st = standing_as h s.length s.image x c.part.result.now c.args.from k o (c.requires.told tells).1 lt read c.in-Some-chunk_here.ensures.read in
-    let first = next_first h s.length s.image x c.args.from k word c.args.cap c.part_of.result o st c.requires.some (cases k word c.args.from c.args.cap c.part_of.result c.part_of.ensures) some d is.0 is.1 le in
-    (first, first)
-
-pub returns-in-None-fault-clause-not_past : goal.returns-in-None-fault-clause-not_past
-returns-in-None-fault-clause-not_past g c tells d within place at =
-    let s = c.args.self.now in
-    let h = view s.header in
-    let x = g.S.Source.content c.args.source.now in
-    let k = c.in-Some-chunk_here.chunk in
-    let word = c.load_word-word.result.bytes in
-    let o = (c.requires.told tells).0 in
-    let lt : c.args.from.chunk < s.header.total_chunks = omega (arith, c.if-from-self.false, c.requires.within.chunk) in
-    let read = c.part.ensures.value ∙ if_none c.load-head.result.fault c.in_default.is (c.load-head.ensures.bytes tells) in
-    let st = standing_as h s.length s.image x c.part.result.now c.args.from k o (c.requires.told tells).1 lt read c.in-Some-chunk_here.ensures.read in
-    not_past h s.length s.image x c.args.from k word c.args.cap c.part_of.result o st c.requires.some (cases k word c.args.from c.args.cap c.part_of.result c.part_of.ensures) d within place at
+pub load_word-word-requires-clause-below : goal.load_word-word-requires-clause-below
+load_word-word-requires-clause-below g c = let s = c.args.self.now in let w = c.requires.within.charge in omega (arith, c.from.ensures, s.low, w)
