@@ -8,7 +8,7 @@ ghost use Rattle.abt_runs.specs.Part.{PartOf, AllOf, MovesOn, Capped, Caused, Ea
 ghost use Rattle.abt_runs.specs.Part.{is_end, raw_of, piece_bytes};
 ghost use Rattle.abt_runs.specs.Whole.{RunOf};
 
-use crate::whole::{joined, room};
+use crate::whole::{joined, none_yet, room};
 use crate::{Cursor, Run, RunFault, RunKind};
 use abt_io::{Meter, Source, Window};
 
@@ -255,12 +255,7 @@ pub trait BlockRuns {
         ensures clean { OnOk result (S.read_faults source.new ≡ S.read_faults source.old) }
         ensures cause { IfErr result (λ e. Caused e S.tells (S.read_faults source.old) (S.read_faults source.new)) }
     {
-        let mut run = Run {
-            kind: RunKind::End,
-            blocks: 0,
-            here: from,
-            next: from,
-        };
+        let mut run = none_yet(from);
         'parts: loop {
             m.tick();
             let room = room(&run, cap);

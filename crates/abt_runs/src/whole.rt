@@ -1,9 +1,10 @@
 //! Parts of one class put together to runs.
 ghost use Rattle.std.specs.Prelude.{◌≡◌, ◌<◌, ◌+◌, ◌^◌};
 ghost use Rattle.abt_runs.specs.Part.{is_end as ends};
+ghost use Rattle.abt_runs.specs.declared.part.RunKind.{RunKind};
 ghost use Rattle.abt_runs.specs.Whole.{alike_kinds, and_part, room_in};
 
-use crate::{Run, RunKind};
+use crate::{Cursor, Run, RunKind};
 
 /// Whether blocks of these classes make one run.
 pub fn are_alike(one: RunKind, other: RunKind) -> bool
@@ -22,6 +23,20 @@ fn is_end(kind: RunKind) -> bool
     match kind {
         RunKind::End => true,
         RunKind::Raw | RunKind::Fill(_) | RunKind::Skip => false,
+    }
+}
+
+/// No block yet, as a run of the end.
+pub(crate) fn none_yet(from: Cursor) -> Run
+    ensures kind { result.kind ≡ RunKind.End }
+    ensures blocks { result.blocks ≡ 0 }
+    ensures places { (result.here ≡ from) × (result.next ≡ from) }
+{
+    Run {
+        kind: RunKind::End,
+        blocks: 0,
+        here: from,
+        next: from,
     }
 }
 
