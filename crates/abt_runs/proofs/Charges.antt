@@ -1,5 +1,5 @@
 -- What a pass over a raw image reads.
-use Rattle.std.proofs.Common.{◌≡◌, ℕ, ◌+◌, ◌-◌, ◌*◌, ◌<◌, ◌≤◌, true, false, ◌&&◌, ◌==◌, nat_lt, nat_le, min, ap, ◌∙◌, arith, inl, inr, ltb-true, ltb-false, mul-le-mul_right, if◌then◌else◌, eqb-true, eq-eqb, leb-true, leb-false, ◌/◌, ◌%◌}
+use Rattle.std.proofs.Common.{◌≡◌, ℕ, ◌+◌, ◌-◌, ◌*◌, ◌<◌, ◌≤◌, true, false, ◌&&◌, ◌==◌, nat_lt, nat_le, min, max, ap, ◌∙◌, arith, inl, inr, ltb-true, ltb-false, mul-le-mul_right, if◌then◌else◌, eqb-true, eq-eqb, leb-true, leb-false, ◌/◌, ◌%◌}
 use Rattle.std.proofs.lemmas.Bool.{cases_Bool, lt-ltb, and_parts}
 use Rattle.abt_runs.specs.Part.{next_ask, piece_bytes, afresh}
 use Rattle.abt_runs.specs.declared.part.RunKind.{RunKind}
@@ -7,6 +7,28 @@ use Rattle.abt_runs.specs.declared.part.RunKind.TheVariants as kinds
 use Rattle.abt_runs.specs.Raw.{raw_charge, RawPlace}
 use Rattle.abt_runs.specs.RawLaws.{raw_passed}
 use Rattle.abt_runs.specs.declared.part.Cursor.{Cursor}
+
+-- ---- what is not read costs nothing
+
+pub no_more : (n k : ℕ) → n ≤ n + k
+no_more n k = omega arith
+
+pub no_more_than : (n j k : ℕ) → n ≤ n + j + k
+no_more_than n j k = omega arith
+
+pub none_added : (n : ℕ) → 0 + n ≤ n
+none_added n = omega arith
+
+pub none_behind : (n : ℕ) → n ≡ n + 0
+none_behind n = omega arith
+
+pub few_turns : (t t' g j k : ℕ) → t' ≡ t → t' ≤ t + 2 * (g - g) + j + k
+few_turns t t' g j k e = omega (arith, e)
+
+pub none_greatest : (m m' g : ℕ) → m' ≡ max m 0 → m' ≡ max m (g - g)
+none_greatest m m' g e = omega (arith, e)
+
+-- ---- what is read of a raw image
 
 -- the next ask is one, or what was asked again, or twice that where all of it was alike
 data Asks (ask a q : ℕ) : ℕ → Type 0 where

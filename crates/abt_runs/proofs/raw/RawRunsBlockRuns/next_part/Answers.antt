@@ -8,7 +8,7 @@ use Rattle.abt_runs.specs.declared.part.RunFault.{RunFault}
 use Rattle.abt_runs.specs.declared.part.Cursor.{Cursor}
 use Rattle.abt_runs.proofs.Chunked.{not_telling}
 use Rattle.abt_runs.proofs.Classes.{raw_all, never, if_none}
-use Rattle.abt_runs.proofs.Charges.{raw_charged, charge_fresh, charge_end, raw_turns, raw_takes, raw_copies, raw_onward, raw_first, minus_zero, raw_next}
+use Rattle.abt_runs.proofs.Charges.{raw_charged, charge_fresh, charge_end, raw_turns, raw_takes, raw_copies, raw_onward, raw_first, minus_zero, raw_next, no_more, no_more_than, none_added, none_behind, few_turns, none_greatest}
 use Rattle.abt_runs.proofs.raw.RawRunsBlockRuns.next_part.Goals as goal
 
 -- no block is left
@@ -43,26 +43,26 @@ returns-then-from-self g c =
       first = λ tells some. absurd (omega (arith, some));
       anew = charge_end self.length self.blocks self.size c.args.from c.if-from-self.true;
       not_past = λ tells d within place at. omega arith;
-      moved = omega arith;
+      moved = none_behind _;
       capped = record { raw = λ kind. omega arith };
       on = λ going. absurd (none going);
       stops = λ used. absurd (fresh used);
       goes_on = λ used. absurd (fresh used);
       at_end = λ end. (c.if-from-self.true, refl);
-      charged = omega arith;
-      takes = omega arith;
+      charged = no_more _ _;
+      takes = none_added _;
       copies = λ kind. absurd cc;
       onward = (own_size _, own_size _);
       given = own_size _;
       fetched = λ going. absurd (none going);
       ended = λ end. refl;
-      most = omega arith;
-      received = omega arith;
-      calls = omega arith;
-      turns = omega (arith, s.turns);
+      most = no_more_than _ _ _;
+      received = no_more _ _;
+      calls = no_more_than _ _ _;
+      turns = few_turns _ _ _ _ _ s.turns;
       filled_up = λ some. absurd (let last = (raw_padded self.blocks self.size c.args.from).1 some in omega (arith, last, c.if-from-self.true));
       steps = s.steps;
-      greatest = omega (arith, s.greatest);
+      greatest = none_greatest _ _ _ s.greatest;
       faults = own_size _;
       clean = refl;
       cause = tt;
@@ -102,13 +102,13 @@ returns-then-length-self g c =
       given = own_size _;
       fetched = tt;
       ended = tt;
-      most = omega arith;
-      received = omega arith;
-      calls = omega arith;
-      turns = omega (arith, s.turns);
+      most = no_more_than _ _ _;
+      received = no_more _ _;
+      calls = no_more_than _ _ _;
+      turns = few_turns _ _ _ _ _ s.turns;
       filled_up = tt;
       steps = s.steps;
-      greatest = omega (arith, s.greatest);
+      greatest = none_greatest _ _ _ s.greatest;
       faults = own_size _;
       clean = tt;
       cause = not_telling g.S.Source.tells (λ t. c.if-length-self.true (c.length.ensures.told t ∙ sym (c.requires.told t).0));

@@ -1,5 +1,5 @@
 use Rattle.std.proofs.Common.{◌≡◌, ℕ, ◌+◌, ◌<◌, true, false, List, take, drop, refl, sym, ap, subst, ◌∙◌, arith, Bool, IsTrue}
-use Rattle.std.specs.Prelude.{is_some, Option, None}
+use Rattle.std.specs.Prelude.{is_some, Option, Some, None}
 use Rattle.std.proofs.lemmas.Bool.{true≢false}
 use Rattle.abt_sparse.specs.View.{view}
 use Rattle.abt_runs.specs.Head.{has_word, part_of_chunk}
@@ -13,8 +13,13 @@ use Rattle.abt_runs.specs.declared.part.RunFault.{RunFault}
 use Rattle.abt_runs.proofs.Classes.{if_none}
 use Rattle.abt_runs.proofs.Chunked.{Parts, parts, standing, standing_as, part_is, next_place, here_place, stand_together, at_last, not_telling}
 use Rattle.abt_runs.proofs.Passing.{next_within, here_within, here_block, here_used, here_charge, raw_reach, adds, read_charged, takes, here_next, raw_copies, not_end, nowhere_else, next_block, raw_few, left_less, stops_full, goes_raw}
+use Rattle.abt_runs.specs.RawLaws.{own_size}
+use Rattle.abt_runs.proofs.Charges.{no_more, no_more_than, none_added, none_behind, few_turns, none_greatest}
 use Rattle.abt_runs.proofs.Ordered.{next_first, not_past}
 use Rattle.abt_runs.proofs.sparse_parts.SparseRunsBlockRuns.next_part.Goals as goal
+
+not_both : (o : Option ChunkHeader) (k : ChunkHeader) → o ≡ Some k → o ≡ None → ⊥
+not_both o k some none = let z : Some k ≡ None = sym some ∙ none in absurd cc
 
 -- the chunks end before the blocks do
 pub returns-then-from-self-2 : goal.returns-then-from-self-2
@@ -48,17 +53,17 @@ returns-then-from-self-2 g c =
       takes = tt;
       copies = tt;
       onward = tt;
-      given = omega arith;
+      given = own_size _;
       fetched = tt;
       ended = tt;
-      most = omega arith;
-      received = omega arith;
-      calls = omega arith;
-      turns = omega (arith, s.turns);
+      most = no_more_than _ _ _;
+      received = no_more _ _;
+      calls = no_more_than _ _ _;
+      turns = few_turns _ _ _ _ _ s.turns;
       filled_up = tt;
       steps = s.steps;
-      greatest = omega (arith, s.greatest);
-      faults = omega arith;
+      greatest = none_greatest _ _ _ s.greatest;
+      faults = own_size _;
       clean = tt;
       cause = not_telling g.S.Source.tells (λ t. c.if-from-self-2.true (at_last (view self.header) (g.S.Source.content c.args.source.now) c.args.from (c.requires.told t).1 c.if-from-self.true));
     }
@@ -87,35 +92,35 @@ returns-then-from-self g c =
       here_place = λ tells. (c.requires.told tells).1;
       stands = λ tells kind. absurd cc;
       within = w;
-      here = (refl, w, omega arith);
-      inside = omega arith;
+      here = (refl, w, own_size _);
+      inside = own_size _;
       reached = λ kind. absurd cc;
       nowhere = λ _. refl;
       length = λ going. absurd (none going);
       first = λ tells some. absurd (omega (arith, some));
-      anew = omega arith;
+      anew = own_size _;
       not_past = λ tells d within place at. omega arith;
-      moved = omega arith;
+      moved = none_behind _;
       capped = record { raw = λ kind. omega arith };
       on = λ going. absurd (none going);
       stops = λ used. absurd (fresh used);
       goes_on = λ used. absurd (fresh used);
       at_end = λ end. (c.if-from-self-2.false, refl);
-      charged = omega arith;
-      takes = omega arith;
+      charged = no_more _ _;
+      takes = none_added _;
       copies = λ kind. absurd cc;
-      onward = (omega arith, omega arith);
-      given = omega arith;
+      onward = (own_size _, own_size _);
+      given = own_size _;
       fetched = λ going. absurd (none going);
       ended = λ end. refl;
-      most = omega arith;
-      received = omega arith;
-      calls = omega arith;
-      turns = omega (arith, s.turns);
+      most = no_more_than _ _ _;
+      received = no_more _ _;
+      calls = no_more_than _ _ _;
+      turns = few_turns _ _ _ _ _ s.turns;
       filled_up = λ some. absurd (omega (arith, some));
       steps = s.steps;
-      greatest = omega (arith, s.greatest);
-      faults = omega arith;
+      greatest = none_greatest _ _ _ s.greatest;
+      faults = own_size _;
       clean = refl;
       cause = tt;
     }
@@ -151,17 +156,17 @@ returns-then-length-self g c =
       takes = tt;
       copies = tt;
       onward = tt;
-      given = omega arith;
+      given = own_size _;
       fetched = tt;
       ended = tt;
-      most = omega arith;
-      received = omega arith;
-      calls = omega arith;
-      turns = omega (arith, s.turns);
+      most = no_more_than _ _ _;
+      received = no_more _ _;
+      calls = no_more_than _ _ _;
+      turns = few_turns _ _ _ _ _ s.turns;
       filled_up = tt;
       steps = s.steps;
-      greatest = omega (arith, s.greatest);
-      faults = omega arith;
+      greatest = none_greatest _ _ _ s.greatest;
+      faults = own_size _;
       clean = tt;
       cause = not_telling g.S.Source.tells (λ t. c.if-length-self.true (c.length.ensures.told t ∙ (c.requires.told t).0.long_is));
     }
@@ -199,17 +204,17 @@ returns-then-self-from g c =
       takes = tt;
       copies = tt;
       onward = tt;
-      given = omega arith;
+      given = own_size _;
       fetched = tt;
       ended = tt;
-      most = omega arith;
-      received = omega arith;
-      calls = omega arith;
-      turns = omega (arith, s.turns);
+      most = no_more_than _ _ _;
+      received = no_more _ _;
+      calls = no_more_than _ _ _;
+      turns = few_turns _ _ _ _ _ s.turns;
       filled_up = tt;
       steps = s.steps;
-      greatest = omega (arith, s.greatest);
-      faults = omega arith;
+      greatest = none_greatest _ _ _ s.greatest;
+      faults = own_size _;
       clean = tt;
       cause = not_telling g.S.Source.tells (λ t.
           let x = g.S.Source.content c.args.source.now in
@@ -316,8 +321,7 @@ returns-in-None g c =
           let is = c.part.ensures.value ∙ if_none c.load-head.result.fault c.in_default.is (h.bytes t) in
           let r = standing (view self.header) self.length self.image x c.part.result.now c.args.from (c.requires.told t).0 (c.requires.told t).1 lt is in
           let found = c.chunk_here.ensures.found r.0 r.1 r.2.fits in
-          let none = c.in-None.is in
-          cc);
+          absurd (not_both _ _ found c.in-None.is));
     }
 
 none_is : (o : Option RunFault) → o ≡ None → is_some o ≡ false
@@ -417,7 +421,7 @@ returns-in-None-fault g c =
       first = λ tells some d is le.
           let one = next_first v self.length self.image (g.S.Source.content c.args.source.now) from k word c.args.cap r (c.requires.told tells).0 (stands tells) c.requires.some p some d is.0 is.1 le in
           (one, one);
-      anew = omega arith;
+      anew = own_size _;
       not_past = λ tells d within place at. not_past v self.length self.image (g.S.Source.content c.args.source.now) from k word c.args.cap r (c.requires.told tells).0 (stands tells) c.requires.some p d within place at;
       moved = next_block v self.image from k word c.args.cap r c.requires.within f p;
       capped = record { raw = raw_few k word from c.args.cap r p };
