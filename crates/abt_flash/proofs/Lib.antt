@@ -1,6 +1,7 @@
 pub mod Cells
 pub mod Moments
 pub mod Steps
+pub mod Answering
 pub mod Tasks
 pub mod Places
 pub mod Heads

@@ -3,6 +3,7 @@ use Rattle.abt_chunks.specs.declared.walk.Walk.{Walk}
 use Rattle.abt_flash.specs.Stepping.{is_short_of, need_of, passed}
 use Rattle.abt_flash.proofs.Steps.{answer_cause, laid_part, nothing_laid, refused_cause, refused_heads, refused_laid, refused_leaves, refused_measures}
 use Rattle.abt_flash.proofs.Places.{fresh_goes, room_for}
+use Rattle.abt_flash.proofs.Answering.{on_more, never_short, answer_leaves, begins_of, faults_rise}
 use Rattle.abt_flash.proofs.Heads.{heads}
 use Rattle.abt_flash.proofs.Come.{going_phase}
 use Rattle.abt_flash.proofs.flasher.Flasher.go_on.Goals as goal
@@ -97,3 +98,55 @@ pub returns-in-Ok-clause-fresh : goal.returns-in-Ok-clause-fresh
 returns-in-Ok-clause-fresh g c goes =
     let p = c.part_within-taken.ensures in
     rw c.answer-answer.ensures (fresh_goes c.part_within-taken.result.part c.args.self.now.walk c.part_within-taken.new.self c.part_within-taken.result.received c.max-all.result _ (going_phase c.args.self.now.stage c.args.self.now.walk.phase goes) p.numbers p.leaves p.moved p.within p.inside c.in-Ok.ensures.still)
+
+pub lay_part-done-requires-clause-below : goal.lay_part-done-requires-clause-below
+lay_part-done-requires-clause-below g c =
+    let s = c.args.self.now.walk in
+    let size = g.P.Source.size c.args.partition.now in
+    let short : is_short_of s size ≡ false = ap (λ (k : ℕ). is_short_of s k) (sym c.length.ensures.size) ∙ sym c.is_short.ensures ∙ c.if-is_short.false in
+    let small : need_of s < 2 ^ 64 = omega (arith, c.need-need.ensures) in
+    rw c.place-at.ensures (room_for s c.part_within-taken.result.part size short c.part_within-taken.ensures.inside small).1
+
+put_small : (at put : ℕ) → at + put < 2 ^ 64 → put < 2 ^ 64
+put_small at put h = omega (arith, h)
+
+pub bytes_put-requires : goal.bytes_put-requires
+bytes_put-requires g c =
+    let s = c.args.self.now.walk in
+    let size = g.P.Source.size c.args.partition.now in
+    let short : is_short_of s size ≡ false = ap (λ (k : ℕ). is_short_of s k) (sym c.length.ensures.size) ∙ sym c.is_short.ensures ∙ c.if-is_short.false in
+    let small : need_of s < 2 ^ 64 = omega (arith, c.need-need.ensures) in
+    put_small _ _ (room_for s c.part_within-taken.result.part size short c.part_within-taken.ensures.inside small).1
+
+received : (n n' r k : ℕ) → n' ≡ n + r → r ≤ k → n' - n ≤ k
+received n n' r k e le = omega (arith, e, le)
+
+pub returns-in-Ok-clause-present : goal.returns-in-Ok-clause-present
+returns-in-Ok-clause-present g c tells = let p = c.part_within-taken.ensures in received _ _ _ _ p.received (p.present tells)
+
+pub returns-in-Err-clause-present : goal.returns-in-Err-clause-present
+returns-in-Err-clause-present g c tells = let p = c.part_within-taken.ensures in received _ _ _ _ p.received (p.present tells)
+
+pub returns-in-Err-clause-put_faults : goal.returns-in-Err-clause-put_faults
+returns-in-Err-clause-put_faults g c = faults_rise c.in-Err.fault _ _ c.in-Err.ensures.cause
+
+pub returns-in-Ok-clause-begins : goal.returns-in-Ok-clause-begins
+returns-in-Ok-clause-begins g c =
+    let p = c.part_within-taken.ensures in
+    rw c.answer-answer.ensures (begins_of c.part_within-taken.result.part c.args.self.now.walk c.part_within-taken.new.self c.part_within-taken.result.received p.leaves p.numbers (λ over. ap (λ (s : Walk). s.phase) (p.over over).0))
+
+pub returns-in-Ok-clause-header : goal.returns-in-Ok-clause-header
+returns-in-Ok-clause-header g c =
+    let p = c.part_within-taken.ensures in
+    rw c.answer-answer.ensures (on_more c.part_within-taken.result.part _ (λ goes. p.header))
+
+pub returns-in-Ok-clause-fewer : goal.returns-in-Ok-clause-fewer
+returns-in-Ok-clause-fewer g c =
+    let p = c.part_within-taken.ensures in
+    rw c.answer-answer.ensures (on_more c.part_within-taken.result.part _ p.fewer)
+
+pub returns-in-Ok-clause-leaves : goal.returns-in-Ok-clause-leaves
+returns-in-Ok-clause-leaves g c goes = rw c.answer-answer.ensures (answer_leaves c.part_within-taken.result.part _ c.part_within-taken.ensures.leaves)
+
+pub returns-in-Ok-clause-short : goal.returns-in-Ok-clause-short
+returns-in-Ok-clause-short g c = rw c.answer-answer.ensures (never_short c.part_within-taken.result.part _)

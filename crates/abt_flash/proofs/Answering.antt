@@ -1,0 +1,78 @@
+-- What a step answers to a part that is laid, clause by clause.
+use Rattle.std.proofs.Common.{◌≡◌, ℕ, ◌≤◌, ◌<◌, ◌||◌, Bool, true, false, Err, refl, sym, ◌∙◌, arith, nat_lt, inl, inr}
+use Rattle.std.specs.Prelude.{IsTrue}
+use Rattle.std.proofs.lemmas.Bool.{cases_Bool, lt-ltb}
+use Rattle.abt_sparse.specs.declared.fault.SparseFault.TheVariants as faults
+use Rattle.abt_chunks.specs.declared.walk.Part.{Part}
+use Rattle.abt_chunks.specs.declared.walk.Part.TheVariants as parts
+use Rattle.abt_chunks.specs.declared.walk.Phase.{Phase}
+use Rattle.abt_chunks.specs.declared.walk.Phase.TheVariants as phases
+use Rattle.abt_chunks.specs.declared.walk.Walk.{Walk}
+use Rattle.abt_chunks.specs.Walking.{IsOver, Leaves as PartLeaves, Numbers, at_end, goes_on}
+use Rattle.abt_flash.specs.declared.fault.FlashFault.{FlashFault}
+use Rattle.abt_flash.specs.declared.fault.FlashFault.TheVariants as fails
+use Rattle.abt_flash.specs.Fault.{PutCause}
+use Rattle.abt_flash.specs.Stepping.{Leaves, OnMore, OnShort, answer_of, passed, passed_in}
+
+-- where the answer is more, the part goes on
+pub on_more : (q : Part) (P : Type 0) → (IsTrue (goes_on q) → P) → OnMore (answer_of q) P
+on_more (parts.Raw n) P h = h refl
+on_more (parts.Words word n) P h = h refl
+on_more (parts.Skip n) P h = h refl
+on_more parts.Nothing P h = h refl
+on_more parts.End P h = tt
+on_more (parts.Fault f) P h = tt
+
+-- no part says that the partition is too small
+pub never_short : (q : Part) (P : Type 0) → OnShort (answer_of q) P
+never_short (parts.Raw n) P = tt
+never_short (parts.Words word n) P = tt
+never_short (parts.Skip n) P = tt
+never_short parts.Nothing P = tt
+never_short parts.End P = tt
+never_short (parts.Fault (faults.Read d)) P = tt
+never_short (parts.Fault (faults.Write d)) P = tt
+never_short (parts.Fault f) P = tt
+
+pub answer_leaves : (q : Part) (p : Phase) → PartLeaves q p → Leaves (answer_of q) p
+answer_leaves (parts.Raw n) p h = h
+answer_leaves (parts.Words word n) p h = h
+answer_leaves (parts.Skip n) p h = h
+answer_leaves parts.Nothing p h = h
+answer_leaves parts.End p h = h
+answer_leaves (parts.Fault (faults.Read d)) p h = tt
+answer_leaves (parts.Fault (faults.Write d)) p h = tt
+answer_leaves (parts.Fault f) p h = h
+
+goes_body : (q : Part) (p : Phase) → IsTrue (goes_on q) → PartLeaves q p → p ≡ phases.Body
+goes_body (parts.Raw n) p goes h = h
+goes_body (parts.Words word n) p goes h = h
+goes_body (parts.Skip n) p goes h = h
+goes_body parts.Nothing p goes h = h
+goes_body parts.End p goes h = absurd (let z : false ≡ true = goes in cc)
+goes_body (parts.Fault f) p goes h = absurd (let z : false ≡ true = goes in cc)
+
+or_true : (b : Bool) → (b || true) ≡ true
+or_true true = refl
+or_true false = refl
+
+-- a chunk is begun only behind the header
+begins_in : (p : Phase) (s s' : Walk) (r : ℕ) → s'.phase ≡ phases.Body → Numbers p s s' r → (IsOver p → s'.phase ≡ p) → 0 < s'.index → passed_in p s ≡ true
+begins_in phases.Header s s' r body n over some = absurd (omega (arith, n, some))
+begins_in phases.Body s s' r body n over some = elim (cases_Bool (at_end s)) [
+  | inl t ↦ rw t (or_true (nat_lt 0 s.index))
+  | inr f ↦
+      let same : s'.index ≡ s.index = rw f at n.0 in
+      let lt : nat_lt 0 s.index ≡ true = lt-ltb 0 s.index (omega (arith, same, some)) in
+      rw lt refl
+]
+begins_in phases.Done s s' r body n over some = absurd (let z : phases.Body ≡ phases.Done = sym body ∙ over tt in cc)
+begins_in (phases.Failed f) s s' r body n over some = absurd (let z : phases.Body ≡ phases.Failed f = sym body ∙ over tt in cc)
+
+pub begins_of : (q : Part) (s s' : Walk) (r : ℕ) → PartLeaves q s'.phase → (IsTrue (goes_on q) → Numbers s.phase s s' r) → (IsOver s.phase → s'.phase ≡ s.phase) → OnMore (answer_of q) (0 < s'.index → passed s ≡ true)
+begins_of q s s' r leaves numbers over = on_more q _ (λ goes. begins_in s.phase s s' r (goes_body q s'.phase goes leaves) (numbers goes) over)
+
+pub faults_rise : (f : FlashFault) (p p' : ℕ) → PutCause {X = Unit {0}} (Err f) p p' → p ≤ p'
+faults_rise (fails.Write d) p p' h = omega (arith, h.0)
+faults_rise (fails.Sync d) p p' h = omega (arith, h.0)
+faults_rise f p p' h = absurd h
