@@ -1,4 +1,4 @@
-use Rattle.std.proofs.Common.{◌≡◌, ◌-◌, ◌≤◌, ◌<◌, ◌^◌, ◌++◌, ℕ, Bool, List, [], true, false, length, take, arith, refl, sym, ap, ◌∙◌, length-take, take-append-drop, nat_lt, ◌&&◌, ltb-false}
+use Rattle.std.proofs.Common.{◌≡◌, ◌+◌, ◌-◌, ◌≤◌, ◌<◌, ◌^◌, ◌++◌, ℕ, Bool, List, [], true, false, length, take, arith, refl, sym, ap, ◌∙◌, length-take, take-append-drop, nat_lt, max, ◌&&◌, ltb-false}
 use Rattle.abt_chunks.specs.declared.walk.Walk.{Walk}
 use Rattle.abt_flash.specs.Stepping.{is_short_of, need_of, passed}
 use Rattle.abt_flash.proofs.Steps.{answer_cause, laid_part, nothing_laid, refused_cause, refused_heads, refused_laid, refused_leaves, refused_measures}
@@ -150,3 +150,12 @@ returns-in-Ok-clause-leaves g c goes = rw c.answer-answer.ensures (answer_leaves
 
 pub returns-in-Ok-clause-short : goal.returns-in-Ok-clause-short
 returns-in-Ok-clause-short g c = rw c.answer-answer.ensures (never_short c.part_within-taken.result.part _)
+
+closed : (m m1 m2 m3 r n n' : ℕ) → m1 ≡ m → m2 ≡ m1 → m3 ≡ max m2 r → n' ≡ n + r → m3 ≡ max m (n' - n)
+closed m m1 m2 m3 r n n' a b e d = omega (arith, a, b, e, d)
+
+pub returns-in-Ok-clause-greatest : goal.returns-in-Ok-clause-greatest
+returns-in-Ok-clause-greatest g c = closed _ _ _ _ _ _ _ c.part_within-taken.ensures.greatest c.lay_part-done.ensures.greatest c.close_step-2.ensures.greatest c.part_within-taken.ensures.received
+
+pub returns-in-Err-clause-greatest : goal.returns-in-Err-clause-greatest
+returns-in-Err-clause-greatest g c = closed _ _ _ _ _ _ _ c.part_within-taken.ensures.greatest c.lay_part-done.ensures.greatest c.close_step-2.ensures.greatest c.part_within-taken.ensures.received
