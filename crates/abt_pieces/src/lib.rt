@@ -36,5 +36,5 @@ pub use gather::{Gatherer, framed_part};
 pub use outline::{Outline, Piece};
 pub use plan::{Planner, plan_piece};
 pub use stage::{PieceProgress, Stage};
-pub use tail::Tail;
+pub use tail::{Tail, added, raw_cap};
 pub use write::{Copying, Writer};

@@ -56,7 +56,7 @@ impl<R: BlockRuns + Drop> Cutter<R> {
     }
 
     /// Goes behind a piece that is whole.
-    pub(crate) fn pass(&mut self, outline: Outline) -> Piece
+    pub fn pass(&mut self, outline: Outline) -> Piece
         requires few { self.old.made ≤ self.old.start.block }
         requires outline { SoundOutline (R.within self.old.runs) (R.count self.old.runs) self.old.limit
             self.old.start.block outline }
@@ -80,7 +80,7 @@ impl<R: BlockRuns + Drop> Cutter<R> {
     }
 
     /// The fault, which is answered from now on.
-    pub(crate) fn fail(&mut self, fault: PieceFault) -> PieceFault
+    pub fn fail(&mut self, fault: PieceFault) -> PieceFault
         requires few { self.old.made ≤ self.old.start.block }
         ensures fault { result ≡ fault }
         ensures stage { self.new.stage ≡ Stage.Failed fault }

@@ -2,3 +2,5 @@ pub mod Placer
 pub mod Placed
 pub mod Whole
 pub mod Unfinished
+pub mod Segment
+pub mod Piece

@@ -1,6 +1,6 @@
 -- What a placer has laid of the blocks that it has taken.
 use Rattle.std.specs.Prelude.{◌≡◌, ℕ, ◌+◌, Bool, IsTrue, List, ◌++◌, length, take, drop, map, replicate}
-use Rattle.abt_sparse.specs.Block.{Block, AreBlocks, class_of, split, classify}
+use Rattle.abt_sparse.specs.Block.{Block, Skip, AreBlocks, class_of, split, classify}
 use Rattle.abt_sparse.specs.Chunk.{chunks_of}
 use Rattle.abt_runs.specs.Part.{AllOf, raw_of}
 use Rattle.abt_runs.specs.declared.part.RunKind.{RunKind}
@@ -11,6 +11,10 @@ use Rattle.abt_placed.specs.declared.placer.Placer.{Placer}
 -- the first n blocks of b bytes, by class
 abbrev pub classes : ℕ → ℕ → List ℕ → List Block
 classes b n x = map class_of (split b n x)
+
+-- so many blocks that are skipped
+abbrev pub skips : ℕ → List Block
+skips n = replicate n Skip
 
 -- what stands of the open chunk, whose header is not laid yet
 abbrev pub open_bytes : RunKind → List Block → List ℕ

@@ -5,6 +5,7 @@ use Rattle.abt_runs.specs.declared.part.RunKind.{RunKind}
 use Rattle.abt_runs.specs.declared.part.RunKind.TheVariants as kinds
 use Rattle.abt_runs.specs.Whole.{alike_kinds}
 use Rattle.abt_pieces.specs.Write.{front_bytes}
+use Rattle.abt_pieces.specs.Contents.{data_len}
 use Rattle.abt_io.specs.Moment.{put_at}
 use Rattle.abt_placed.specs.declared.placer.Placer.{Placer}
 
@@ -96,3 +97,17 @@ beginning s k b w = if goes_on s k then w else closing s b w ++ kept_for k
 
 abbrev pub taking : Placer → RunKind → ℕ → List ℕ → List ℕ → List ℕ
 taking s k b x w = beginning s k b w ++ data_for k x
+
+-- ---- how many bytes that adds at most
+
+abbrev pub closing_len : RunKind → ℕ
+closing_len kinds.Raw = 0
+closing_len (kinds.Fill v) = 16
+closing_len kinds.Skip = 12
+closing_len kinds.End = 0
+
+abbrev pub beginning_len : Placer → RunKind → ℕ
+beginning_len s k = if goes_on s k then 0 else closing_len s.kind + length (kept_for k)
+
+abbrev pub taking_len : Placer → RunKind → ℕ → ℕ → ℕ
+taking_len s k q b = beginning_len s k + data_len k q b

@@ -10,15 +10,20 @@
 //! - `headers`: headers that are laid over the place that was kept;
 //! - `taking`: blocks that are taken, class by class, as they stand in the window;
 //! - `steps`: one step, the next window of the source or the end;
-//! - `image`: a whole image.
+//! - `image`: a whole image;
+//! - `segment`, `cutting`: the segment of a piece, which takes what fits, and a whole piece.
 //!
-//! `specs/Placed` says what stands at each step, `specs/Whole` what the whole is, `proofs/` why.
+//! `specs/Placed` and `specs/Segment` say what stands at each step, `specs/Whole` and `specs/Piece` what the whole is,
+//! `proofs/` why.
 #![tactic(auto)]
 
+mod cutting;
 mod headers;
 mod image;
 mod placer;
+mod segment;
 mod steps;
 mod taking;
 
+pub use cutting::next_piece_at;
 pub use image::sparsify_at;

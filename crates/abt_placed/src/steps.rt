@@ -5,7 +5,7 @@ ghost use Rattle.abt_io.specs.Count.{full_of};
 ghost use Rattle.abt_io.specs.Moment.{put_at};
 ghost use Rattle.abt_sparse.specs.Chunk.{header_record, plain_header};
 ghost use Rattle.abt_pieces.specs.Fault.{HasCause, full_cut};
-ghost use Rattle.abt_placed.specs.Placer.{SoundPlacer, closed, closing};
+ghost use Rattle.abt_placed.specs.Placer.{SoundPlacer, closed, closing, closing_len};
 ghost use Rattle.abt_placed.specs.Placed.{Laid};
 ghost use Rattle.abt_placed.specs.Whole.{Whole, taken, read_of, padding};
 ghost use Rattle.abt_placed.specs.Unfinished.{IsUnfinished, KeepsFront};
@@ -17,7 +17,7 @@ use abt_pieces::{PieceFault, run_fault};
 use abt_runs::{RawRuns, load_filled};
 
 /// How many blocks a window has room for.
-fn in_window(size: u32) -> u32
+pub(crate) fn in_window(size: u32) -> u32
     requires some { 4 ≤ size }
     requires window { size ≤ 65536 }
     ensures some { 0 < result }
@@ -28,7 +28,7 @@ fn in_window(size: u32) -> u32
 
 impl Placer {
     /// Makes the last chunk whole, and then the image.
-    fn finish<O: Overwrite>(
+    pub(crate) fn finish<O: Overwrite>(
         &mut self,
         size: u32,
         output: &mut O,
@@ -48,6 +48,8 @@ impl Placer {
         ensures grown { length (O.written output.old) ≤ length (O.written output.new) }
         ensures within { length (O.written output.new)
             ≤ self.old.front + 28 + (self.old.blocks + self.old.count) * (size + 16) }
+        ensures adds { length (O.written output.new) + full_of result
+            ≤ length (O.written output.old) + closing_len self.old.kind }
         ensures frame { O.write_frame output.new ≡ O.write_frame output.old }
         ensures faults { O.write_faults output.old ≤ O.write_faults output.new }
         ensures clean { OnOk result (O.write_faults output.new ≡ O.write_faults output.old) }

@@ -7,8 +7,8 @@ ghost use Rattle.abt_sparse.specs.Chunk.{header_record, plain_header};
 ghost use Rattle.abt_io.specs.Moment.{put_at};
 ghost use Rattle.abt_runs.specs.Part.{AllOf, is_end};
 ghost use Rattle.abt_placed.specs.Placer.{SoundPlacer, open_len, closed, closing, beginning, taking, kept_for};
-ghost use Rattle.abt_placed.specs.Placer.{data_for, with_part, room_of};
-ghost use Rattle.abt_placed.specs.Placed.{Placed, classes};
+ghost use Rattle.abt_placed.specs.Placer.{data_for, with_part, room_of, closing_len, beginning_len, taking_len};
+ghost use Rattle.abt_placed.specs.Placed.{Placed, classes, skips};
 ghost use Rattle.abt_placed.specs.Unfinished.{KeepsFront};
 
 use crate::headers::lay_front;
@@ -36,6 +36,8 @@ impl Placer {
         ensures grown { length (O.written output.old) ≤ length (O.written output.new) }
         ensures within { length (O.written output.new) + open_len self.now.kind self.now.count size
             ≤ length (O.written output.old) + self.now.count * (size + 16) }
+        ensures adds { length (O.written output.new) + full_of result
+            ≤ length (O.written output.old) + closing_len self.now.kind }
         ensures frame { O.write_frame output.new ≡ O.write_frame output.old }
         ensures faults { O.write_faults output.old ≤ O.write_faults output.new }
         ensures clean { OnOk result (O.write_faults output.new ≡ O.write_faults output.old) }
@@ -80,6 +82,8 @@ impl Placer {
         ensures grown { length (O.written output.old) ≤ length (O.written output.new) }
         ensures within { length (O.written output.new) + open_len self.now.kind self.now.count size
             ≤ length (O.written output.old) + self.now.count * (size + 16) + length (kept_for kind) }
+        ensures adds { length (O.written output.new) + full_of result
+            ≤ length (O.written output.old) + beginning_len self.now kind }
         ensures frame { O.write_frame output.new ≡ O.write_frame output.old }
         ensures faults { O.write_faults output.old ≤ O.write_faults output.new }
         ensures clean { OnOk result (O.write_faults output.new ≡ O.write_faults output.old) }
@@ -107,7 +111,7 @@ impl Placer {
     }
 
     /// Takes blocks of one class that stand behind all that were taken: these are their bytes.
-    fn take<O: Overwrite>(
+    pub(crate) fn take<O: Overwrite>(
         &mut self,
         kind: RunKind,
         blocks: u32,
@@ -135,6 +139,8 @@ impl Placer {
         ensures grown { length (O.written output.old) ≤ length (O.written output.new) }
         ensures within { length (O.written output.new)
             ≤ self.old.front + 28 + (self.old.blocks + self.old.count + blocks) * (size + 16) }
+        ensures adds { length (O.written output.new) + full_of result
+            ≤ length (O.written output.old) + taking_len self.old kind blocks size }
         ensures frame { O.write_frame output.new ≡ O.write_frame output.old }
         ensures faults { O.write_faults output.old ≤ O.write_faults output.new }
         ensures clean { OnOk result (O.write_faults output.new ≡ O.write_faults output.old) }
@@ -157,6 +163,51 @@ impl Placer {
             Err(fault) => return Err(fault),
         }
         *self = self.and_blocks(kind, blocks);
+        Ok(())
+    }
+
+    /// Takes blocks that are skipped, if there are any.
+    pub(crate) fn skip<O: Overwrite>(
+        &mut self,
+        blocks: u32,
+        size: u32,
+        output: &mut O,
+        m: &mut Meter,
+    ) -> Result<(), DeviceFault>
+        requires within { self.old.blocks + self.old.count + blocks < 2 ^ 32 }
+        requires sound { SoundPlacer size (length (O.written output.old)) self.old }
+        ensures kept { KeepsFront (self.old.front + 28) (O.written output.old) (O.written output.new) }
+        ensures sound { OnOk result (SoundPlacer size (length (O.written output.new)) self.new) }
+        ensures laid { (g : List Block) → Placed size g (O.written output.old) self.old →
+            OnOk result (Placed size (g ++ skips blocks) (O.written output.new) self.new) }
+        ensures passed { OnOk result (self.new.blocks + self.new.count ≡ self.old.blocks + self.old.count + blocks) }
+        ensures same { (self.new.most ≡ self.old.most) × (self.new.front ≡ self.old.front) }
+        ensures grown { length (O.written output.old) ≤ length (O.written output.new) }
+        ensures adds { length (O.written output.new) + full_of result
+            ≤ length (O.written output.old) + beginning_len self.old RunKind.Skip }
+        ensures closes { OnOk result (length (O.written output.new) + closing_len self.new.kind
+            ≤ length (O.written output.old) + beginning_len self.old RunKind.Skip + 12) }
+        ensures frame { O.write_frame output.new ≡ O.write_frame output.old }
+        ensures faults { O.write_faults output.old ≤ O.write_faults output.new }
+        ensures clean { OnOk result (O.write_faults output.new ≡ O.write_faults output.old) }
+        ensures full_faults { O.full_faults output.new ≡ O.full_faults output.old + full_of result }
+        ensures full { IsErrOf result DeviceFault.Full → IsTrue (O.is_full output.new) }
+        ensures cause { OnErr result (O.write_faults output.old < O.write_faults output.new) }
+        ensures calls { O.writes output.new + length (O.written output.old) ≤ O.writes output.old + length
+            (O.written output.new) + 13 }
+        ensures turns { m.new.turns.number + length (O.written output.old) ≤ m.old.turns.number + length
+            (O.written output.new) + 13 }
+        ensures steps { m.new.steps.number ≡ m.old.steps.number }
+        ensures greatest { m.new.greatest.number ≡ m.old.greatest.number }
+    {
+        if blocks == 0 {
+            return Ok(());
+        }
+        match self.begin_chunk(RunKind::Skip, size, output, m) {
+            Ok(()) => {}
+            Err(fault) => return Err(fault),
+        }
+        *self = self.and_blocks(RunKind::Skip, blocks);
         Ok(())
     }
 
@@ -226,6 +277,8 @@ fn put_data<O: Overwrite>(
     ensures written { OnOk result (O.written output.new ≡ O.written output.old ++ data_for kind bytes.now) }
     ensures grown { length (O.written output.old) ≤ length (O.written output.new) }
     ensures within { length (O.written output.new) ≤ length (O.written output.old) + length (data_for kind bytes.now) }
+    ensures adds { length (O.written output.new) + full_of result
+        ≤ length (O.written output.old) + length (data_for kind bytes.now) }
     ensures frame { O.write_frame output.new ≡ O.write_frame output.old }
     ensures faults { O.write_faults output.old ≤ O.write_faults output.new }
     ensures clean { OnOk result (O.write_faults output.new ≡ O.write_faults output.old) }

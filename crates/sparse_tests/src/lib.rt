@@ -14,9 +14,12 @@
 //! | `raw_pieces.rt`, `sparse_pieces.rt` | cutting raw images, and sparse ones |
 //! | `sparsing.rt` | a raw image written as a sparse one |
 //! | `placing.rt` | the same in one pass, where written bytes can be written over |
+//! | `cutting_once.rt` | a raw image cut so |
 #![tactic(auto)]
 
 pub mod counting;
+#[cfg(test)]
+mod cutting_once;
 #[cfg(test)]
 mod expanding;
 #[cfg(test)]

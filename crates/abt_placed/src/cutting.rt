@@ -1,0 +1,209 @@
+//! Cutting a raw image into pieces, each in one pass over its segment.
+ghost use Rattle.std.specs.Prelude.{◌≡◌, ℕ, ◌<◌, ◌≤◌, ◌+◌, ◌-◌, ◌*◌, ◌^◌, ◌++◌, IsTrue, IfOk, IfErr, IfSome, IfNone};
+ghost use Rattle.std.specs.Prelude.{OnOk, OnErr, Err, length, take, drop, max, false, ◌⊎◌};
+ghost use Rattle.abt_sparse.specs.Block.{classify};
+ghost use Rattle.abt_sparse.specs.Chunk.{piece as piece_bytes};
+ghost use Rattle.abt_runs.specs.Raw.{RawPlace};
+ghost use Rattle.abt_pieces.specs.Cutter.{SoundOutline, ToldCutter, Passed, is_begun, has_failed};
+ghost use Rattle.abt_pieces.specs.Fault.{HasCause, full_cut};
+ghost use Rattle.abt_pieces.specs.Image.{Appended, IsImage};
+ghost use Rattle.abt_pieces.specs.Outline.{IsPiece, blocks_of, piece_at};
+ghost use Rattle.abt_pieces.specs.Plan.{FirstPiece};
+ghost use Rattle.abt_pieces.specs.declared.stage.Stage.{Stage};
+ghost use Rattle.abt_placed.specs.Piece.{WholePiece};
+ghost use Rattle.abt_placed.specs.Unfinished.{IsUnfinished, IsNoImage};
+ghost use Rattle.abt_placed.specs.Whole.{read_of};
+
+use crate::segment::Segment;
+use abt_io::{Meter, Overwrite, Source, Window, write_out};
+use abt_pieces::{Cutter, Outline, Piece, PieceFault, Stage};
+use abt_runs::{Cursor, RawRuns};
+
+/// Lays the piece of what begins at a block, behind what stands in the output.
+fn lay_piece<S: Source, O: Overwrite>(
+    runs: &RawRuns,
+    source: &mut S,
+    first: u32,
+    limit: u32,
+    output: &mut O,
+    w: &mut Window,
+    m: &mut Meter,
+) -> Result<Outline, PieceFault>
+    requires within { first ≤ runs.now.blocks }
+    requires limit { 64 + runs.now.size ≤ limit }
+    requires opened { IsTrue S.tells → runs.now.length ≡ length (S.content source.old) }
+    ensures content { IsTrue S.tells → S.content source.new ≡ S.content source.old }
+    ensures frame { S.read_frame source.new ≡ S.read_frame source.old }
+    ensures write_frame { O.write_frame output.new ≡ O.write_frame output.old }
+    ensures sound { IfOk result (λ o. SoundOutline (λ c. RawPlace runs.now.blocks runs.now.size c) runs.now.blocks limit
+        first o) }
+    ensures next { IfOk result (λ o. RawPlace runs.now.blocks runs.now.size o.next) }
+    ensures written { IfOk result (λ o. o.piece.written ≡ o.piece.past - o.piece.first) }
+    ensures bytes { IfOk result (λ o. length (O.written output.new)
+        ≡ length (O.written output.old) + o.piece.bytes) }
+    ensures whole { IfOk result (λ o. WholePiece S.tells (S.content source.old) runs.now.size runs.now.blocks limit first
+        o.piece.past o.chunks (O.written output.old) (O.written output.new)) }
+    ensures before { take (length (O.written output.old)) (O.written output.new) ≡ O.written output.old }
+    ensures unfinished { OnErr result ((O.written output.new ≡ O.written output.old) ⊎
+        IsUnfinished (drop (length (O.written output.old)) (O.written output.new))) }
+    ensures long { length (O.written output.new) + full_cut result ≤ length (O.written output.old) + limit }
+    ensures grown { length (O.written output.old) ≤ length (O.written output.new) }
+    ensures given { S.given source.old ≤ S.given source.new }
+    ensures received { S.given source.new + 65536 * m.old.steps.number
+        ≤ S.given source.old + 65536 * m.new.steps.number }
+    ensures economy { S.given source.new + read_of runs.now.length runs.now.size first
+        ≤ S.given source.old + runs.now.length }
+    ensures last { IfOk result (λ o. S.given source.new + read_of runs.now.length runs.now.size first
+        ≤ S.given source.old + read_of runs.now.length runs.now.size o.piece.past + 65536) }
+    ensures calls { S.reads source.new + O.writes output.new + length (O.written output.old)
+        ≤ S.reads source.old + O.writes output.old + length (O.written output.new) + 6 * (S.given source.new - S.given
+        source.old) + 4 * runs.now.size + 70 }
+    ensures turns { m.new.turns.number + length (O.written output.old) ≤ m.old.turns.number + length
+        (O.written output.new) + 8 * (S.given source.new - S.given source.old) + 5 * runs.now.size + 70 }
+    ensures greatest { m.new.greatest.number ≤ max m.old.greatest.number 65536 }
+    ensures faults { S.read_faults source.old ≤ S.read_faults source.new }
+    ensures write_faults { O.write_faults output.old ≤ O.write_faults output.new }
+    ensures clean { OnOk result ((S.read_faults source.new ≡ S.read_faults source.old) ×
+        (O.write_faults output.new ≡ O.write_faults output.old)) }
+    ensures full_faults { O.full_faults output.new ≡ O.full_faults output.old + full_cut result }
+    ensures full { full_cut result ≡ 1 → IsTrue (O.is_full output.new) }
+    ensures cause { IfErr result (λ e. HasCause e S.tells (S.read_faults source.old) (S.read_faults source.new)
+        (O.write_faults output.old) (O.write_faults output.new)) }
+{
+    let front = output.position();
+    match write_out(output, &[0; 28], m) {
+        Ok(()) => {}
+        Err(fault) => return Err(PieceFault::Write(fault)),
+    }
+    let mut segment = Segment::begin(front, first, limit, runs.size);
+    match segment.take_source(runs, source, output, w, m) {
+        Ok(()) => {}
+        Err(fault) => return Err(fault),
+    }
+    let past = segment.placer.blocks + segment.placer.count;
+    match segment.end(runs.blocks, runs.size, output, m) {
+        Ok(()) => {}
+        Err(fault) => return Err(PieceFault::Write(fault)),
+    }
+    Ok(Outline {
+        piece: Piece {
+            first,
+            past,
+            written: past - first,
+            bytes: output.position() - front,
+        },
+        chunks: segment.placer.chunks,
+        next: Cursor {
+            block: past,
+            at: 0,
+            chunk: 0,
+            used: 0,
+            ask: 1,
+        },
+    })
+}
+
+/// Writes the next piece of a raw image, the same bytes as `Cutter::next_piece` writes, to an output
+/// whose written bytes can be written over: in one pass over its segment. At most a window of the
+/// source is read again for each piece.
+///
+/// It answers and refuses as `next_piece` does, and a cutter may go from one of the calls to the other
+/// with each piece. Whatever the source gives, no piece passes the limit, and `Write(Full)` comes only
+/// of an output that is full, and took less than the limit.
+///
+/// Headers are laid behind what they tell of, and the magic number of the piece's last of all. So
+/// where it is not answered Ok, what stands behind the bytes of before is nothing, or no image,
+/// whatever follows it.
+pub fn next_piece_at<S: Source, O: Overwrite>(
+    cutter: &mut Cutter<RawRuns>,
+    source: &mut S,
+    output: &mut O,
+    w: &mut Window,
+    m: &mut Meter,
+) -> Result<Option<Piece>, PieceFault>
+    requires unbegun { is_begun cutter.old.stage ≡ false }
+    requires opened { IsTrue S.tells → cutter.old.runs.length ≡ length (S.content source.old) }
+    requires told { IsTrue S.tells → ToldCutter (λ c. RawPlace cutter.old.runs.blocks cutter.old.runs.size c)
+        (λ c. cutter.old.runs.blocks - c.block) cutter.old.runs.size
+        (classify cutter.old.runs.size (S.content source.old)) cutter.old.limit cutter.old.made cutter.old.start
+        cutter.old.stage }
+    ensures runs { cutter.new.runs ≡ cutter.old.runs }
+    ensures limit { cutter.new.limit ≡ cutter.old.limit }
+    ensures content { IsTrue S.tells → S.content source.new ≡ S.content source.old }
+    ensures frame { S.read_frame source.new ≡ S.read_frame source.old }
+    ensures write_frame { O.write_frame output.new ≡ O.write_frame output.old }
+    ensures told { IsTrue S.tells → ToldCutter (λ c. RawPlace cutter.old.runs.blocks cutter.old.runs.size c)
+        (λ c. cutter.old.runs.blocks - c.block) cutter.old.runs.size
+        (classify cutter.old.runs.size (S.content source.old)) cutter.new.limit cutter.new.made cutter.new.start
+        cutter.new.stage }
+    ensures unbegun { is_begun cutter.new.stage ≡ false }
+    ensures grown { length (O.written output.old) ≤ length (O.written output.new) }
+    ensures within { length (O.written output.new) ≤ length (O.written output.old) + cutter.old.limit }
+    ensures before { take (length (O.written output.old)) (O.written output.new) ≡ O.written output.old }
+    ensures unfinished { OnErr result ((O.written output.new ≡ O.written output.old) ⊎
+        IsNoImage (drop (length (O.written output.old)) (O.written output.new))) }
+    ensures image { IfOk result (λ o. IfSome o (λ p. Appended (IsImage cutter.old.runs.size cutter.old.runs.blocks)
+        (O.written output.old) (O.written output.new))) }
+    ensures passed { IfOk result (λ o. IfSome o (λ p. Passed cutter.old.runs.blocks p.first p.past
+        cutter.new.stage)) }
+    ensures least { IfOk result (λ o. IfSome o (λ p. 28 ≤ p.bytes)) }
+    ensures piece { IfOk
+        result (λ o. IfSome o (λ p. (p.first ≡ cutter.old.start.block) × (p.past ≡ cutter.new.start.block) ×
+        (p.bytes ≤ cutter.old.limit) × (length (O.written output.new) ≡ length (O.written output.old) + p.bytes) ×
+        (cutter.new.made ≡ cutter.old.made + 1))) }
+    ensures written { IsTrue S.tells →
+        IfOk result (λ o. IfSome o (λ p. O.written output.new ≡ O.written output.old ++ piece_bytes cutter.old.runs.size
+        (blocks_of (classify cutter.old.runs.size (S.content source.old)) p))) }
+    ensures coming { IsTrue S.tells →
+        IfOk result (λ o. IfSome o (λ p. O.written output.new ≡ O.written output.old ++ piece_at cutter.old.runs.size
+        cutter.old.limit (classify cutter.old.runs.size (S.content source.old)) cutter.old.start.block)) }
+    ensures exact { IsTrue S.tells →
+        IfOk result (λ o. IfSome o (λ p. IsPiece cutter.old.runs.size
+        (classify cutter.old.runs.size (S.content source.old)) p)) }
+    ensures greatest { IsTrue S.tells →
+        IfOk result (λ o. IfSome o (λ p. FirstPiece cutter.old.runs.size
+        (classify cutter.old.runs.size (S.content source.old)) cutter.old.limit p.first p.past)) }
+    ensures none { IfOk result (λ o. IfNone o ((cutter.old.stage ≡ Stage.Done) × (output.new ≡ output.old) ×
+        (source.new ≡ source.old) × (cutter.new ≡ cutter.old))) }
+    ensures after_last { cutter.old.stage ≡ Stage.Done → IfOk result (λ o. IfSome o (λ p. ⊥)) × OnErr result ⊥ }
+    ensures again { (f : PieceFault) → cutter.old.stage ≡ Stage.Failed f → (result ≡ Err f) ×
+        (output.new ≡ output.old) × (source.new ≡ source.old) }
+    ensures refused { IfErr result (λ e. cutter.new.stage ≡ Stage.Failed e) }
+    ensures given { S.given source.old ≤ S.given source.new }
+    ensures steps { S.given source.new + 65536 * m.old.steps.number
+        ≤ S.given source.old + 65536 * m.new.steps.number }
+    ensures received { m.new.greatest.number ≤ max m.old.greatest.number 65536 }
+    ensures economy { S.given source.new + read_of cutter.old.runs.length cutter.old.runs.size cutter.old.start.block
+        ≤ S.given source.old + cutter.old.runs.length }
+    ensures once { IfOk result (λ o. IfSome o (λ p. S.given source.new + read_of cutter.old.runs.length
+        cutter.old.runs.size p.first ≤ S.given source.old + read_of cutter.old.runs.length cutter.old.runs.size
+        p.past + 65536)) }
+    ensures calls { (S.reads source.new - S.reads source.old) + (O.writes output.new - O.writes output.old)
+        ≤ 8 * ((S.given source.new - S.given source.old) + (length (O.written output.new) - length
+        (O.written output.old)) + cutter.old.runs.size) + 512 }
+    ensures turns { m.new.turns.number
+        ≤ m.old.turns.number + 8 * ((S.given source.new - S.given source.old) + (length (O.written output.new) - length
+        (O.written output.old)) + cutter.old.runs.size) + 512 }
+    ensures faults { S.read_faults source.old ≤ S.read_faults source.new }
+    ensures write_faults { O.write_faults output.old ≤ O.write_faults output.new }
+    ensures clean { OnOk result ((S.read_faults source.new ≡ S.read_faults source.old) ×
+        (O.write_faults output.new ≡ O.write_faults output.old)) }
+    ensures full_faults { has_failed cutter.old.stage ≡ false → O.full_faults output.new
+        ≡ O.full_faults output.old + full_cut result }
+    ensures full { has_failed cutter.old.stage ≡ false → full_cut result ≡ 1 → IsTrue (O.is_full output.new) ×
+        (length (O.written output.new) < length (O.written output.old) + cutter.old.limit) }
+    ensures cause { IfErr result (λ e. (cutter.old.stage ≡ Stage.Failed e) ⊎
+        HasCause e S.tells (S.read_faults source.old) (S.read_faults source.new) (O.write_faults output.old)
+        (O.write_faults output.new)) }
+{
+    match cutter.stage {
+        Stage::Done => return Ok(None),
+        Stage::Failed(fault) => return Err(fault),
+        Stage::Between | Stage::Plan(_) | Stage::Begin(_) | Stage::Write(_, _) => {}
+    }
+    let first = cutter.start.block;
+    match lay_piece(&cutter.runs, source, first, cutter.limit, output, w, m) {
+        Ok(outline) => Ok(Some(cutter.pass(outline))),
+        Err(fault) => Err(cutter.fail(fault)),
+    }
+}

@@ -1,0 +1,428 @@
+//! The segment of a piece that is laid in one pass: it takes blocks as long as they fit within the limit.
+ghost use Rattle.std.specs.Prelude.{◌≡◌, ℕ, ◌<◌, ◌≤◌, ◌+◌, ◌-◌, ◌*◌, ◌%◌, ◌^◌, ◌++◌, IsTrue, IfOk, IfErr, OnOk, OnErr};
+ghost use Rattle.std.specs.Prelude.{IsErrOf, List, [], length, take, drop, replicate, max, true, false};
+ghost use Rattle.abt_io.specs.Count.{full_of};
+ghost use Rattle.abt_sparse.specs.Block.{Block};
+ghost use Rattle.abt_sparse.specs.Runs.{framed};
+ghost use Rattle.abt_runs.specs.Part.{AllOf, is_end};
+ghost use Rattle.abt_pieces.specs.Fault.{HasCause, full_cut};
+ghost use Rattle.abt_pieces.specs.Plan.{cap_of, gain_of};
+ghost use Rattle.abt_placed.specs.Placer.{room_of};
+ghost use Rattle.abt_placed.specs.Placed.{classes};
+ghost use Rattle.abt_placed.specs.Whole.{taken, read_of, padding};
+ghost use Rattle.abt_placed.specs.Segment.{SoundSegment, LaidSegment, ToldSegment, EndedSegment, IsOver};
+ghost use Rattle.abt_placed.specs.Segment.{tail_of_open};
+ghost use Rattle.abt_placed.specs.Piece.{LaidPiece};
+ghost use Rattle.abt_placed.specs.Unfinished.{IsUnfinished, KeepsFront};
+
+use crate::placer::Placer;
+use crate::steps::in_window;
+use abt_io::{DeviceFault, Meter, Overwrite, Source, Window};
+use abt_pieces::{PieceFault, Tail, added, raw_cap, run_fault};
+use abt_runs::{RawRuns, RunKind, leading, load_filled};
+
+/// The segment of a piece that is being laid, and what it weighs.
+#[derive(Clone, Copy, Drop)]
+pub struct Segment {
+    /// Lays the piece.
+    pub placer: Placer,
+    /// The first block.
+    pub first: u32,
+    /// What all of it weighs.
+    pub weight: u64,
+    /// How many bytes the piece has at most.
+    pub limit: u32,
+}
+
+/// How many blocks a raw chunk may have where no piece within the limit has to cut one.
+pub(crate) fn most_raw(limit: u32, size: u32) -> u32
+    requires some { 4 ≤ size }
+    requires limit { 64 + size ≤ limit }
+    ensures some { 0 < result }
+    ensures small { 12 + result * size < 2 ^ 32 }
+    ensures uncut { limit < 12 + (result + 1) * size }
+{
+    (limit - 12) / size
+}
+
+impl Segment {
+    /// Before its first block, where the place of the piece's header is kept.
+    pub(crate) fn begin(front: u64, first: u32, limit: u32, size: u32) -> Segment
+        requires some { 4 ≤ size }
+        requires limit { 64 + size ≤ limit }
+        ensures first { result.first ≡ first }
+        ensures limit { result.limit ≡ limit }
+        ensures front { result.placer.front ≡ front }
+        ensures taken { taken result.placer ≡ first }
+        ensures sound { (long : ℕ) → long ≡ front + 28 → SoundSegment size long result }
+        ensures laid { (old now : List ℕ) → front ≡ length old → now ≡ old ++ replicate 28 0 →
+            LaidSegment size [] now result }
+    {
+        let most = most_raw(limit, size);
+        let kind = match first {
+            0 => RunKind::End,
+            _ => RunKind::Skip,
+        };
+        Segment {
+            placer: Placer {
+                kind,
+                count: first,
+                ..Placer::begin(front, most)
+            },
+            first,
+            weight: 52,
+            limit,
+        }
+    }
+
+    /// What it ends in.
+    fn tail(&self) -> Tail
+        ensures { result ≡ tail_of_open self.now.placer.kind }
+    {
+        match self.placer.kind {
+            RunKind::Raw => Tail::Raw,
+            RunKind::Fill(word) => Tail::Fill(word),
+            RunKind::Skip | RunKind::End => Tail::Fresh,
+        }
+    }
+
+    /// What blocks of one class would add to its weight.
+    fn gain(&self, kind: RunKind, blocks: u32, size: u32) -> u64
+        ensures { result ≡ gain_of (tail_of_open self.now.placer.kind) kind blocks size }
+    {
+        let (gain, _) = added(&self.tail(), kind, blocks, size);
+        gain
+    }
+
+    /// How many raw blocks may be taken next, but at least one.
+    fn cap(&self, size: u32) -> u32
+        requires some { 4 ≤ size }
+        requires room { self.now.weight ≤ self.now.limit }
+        requires most { 0 < self.now.placer.most }
+        ensures some { 0 < result }
+        ensures cap { result ≤ cap_of (tail_of_open self.now.placer.kind) (self.now.limit - self.now.weight) size }
+        ensures room { result ≤ room_of self.now.placer }
+    {
+        let room = self.limit as u64 - self.weight;
+        raw_cap(&self.tail(), room, size).min(self.placer.room())
+    }
+
+    /// Takes blocks of one class, whose bytes these are, where they fit. True where they don't: then
+    /// the segment ends before them.
+    fn take_part<O: Overwrite>(
+        &mut self,
+        kind: RunKind,
+        blocks: u32,
+        bytes: &[u8],
+        size: u32,
+        output: &mut O,
+        m: &mut Meter,
+    ) -> Result<bool, DeviceFault>
+        requires some { 0 < blocks }
+        requires goes { is_end kind ≡ false }
+        requires within { taken self.old.placer + blocks < 2 ^ 32 }
+        requires room { blocks ≤ room_of self.old.placer }
+        requires cap { blocks ≤ cap_of (tail_of_open self.old.placer.kind) (self.old.limit - self.old.weight) size }
+        requires bytes { length bytes.now ≡ blocks * size }
+        requires window { length bytes.now ≤ 65536 }
+        requires words { 4 ≤ size }
+        requires all { AllOf kind (classes size blocks bytes.now) }
+        requires sound { SoundSegment size (length (O.written output.old)) self.old }
+        ensures sound { OnOk result (SoundSegment size (length (O.written output.new)) self.new) }
+        ensures kept { KeepsFront (self.old.placer.front + 28) (O.written output.old) (O.written output.new) }
+        ensures laid { (g : List Block) → LaidSegment size g (O.written output.old) self.old →
+            IfOk result (λ d. d ≡ false → LaidSegment size (g ++ classes size blocks bytes.now)
+            (O.written output.new) self.new) }
+        ensures passed { IfOk result (λ d. d ≡ false → taken self.new.placer ≡ taken self.old.placer + blocks) }
+        ensures still { IfOk result (λ d. d ≡ true → (self.new ≡ self.old) × (output.new ≡ output.old)) }
+        ensures some { IfOk result (λ d. d ≡ true → self.old.first < taken self.old.placer) }
+        ensures over { IfOk result (λ d. d ≡ true → self.old.limit - self.old.weight
+            < gain_of (tail_of_open self.old.placer.kind) kind blocks size) }
+        ensures same { (self.new.placer.most ≡ self.old.placer.most) × (self.new.placer.front ≡ self.old.placer.front) ×
+            (self.new.first ≡ self.old.first) × (self.new.limit ≡ self.old.limit) }
+        ensures grown { length (O.written output.old) ≤ length (O.written output.new) }
+        ensures long { length (O.written output.new) + full_of result ≤ self.old.placer.front + self.old.limit }
+        ensures frame { O.write_frame output.new ≡ O.write_frame output.old }
+        ensures faults { O.write_faults output.old ≤ O.write_faults output.new }
+        ensures clean { OnOk result (O.write_faults output.new ≡ O.write_faults output.old) }
+        ensures full_faults { O.full_faults output.new ≡ O.full_faults output.old + full_of result }
+        ensures full { IsErrOf result DeviceFault.Full → IsTrue (O.is_full output.new) }
+        ensures cause { OnErr result (O.write_faults output.old < O.write_faults output.new) }
+        ensures calls { O.writes output.new + length (O.written output.old) ≤ O.writes output.old + length
+            (O.written output.new) + 14 }
+        ensures turns { m.new.turns.number + length (O.written output.old) ≤ m.old.turns.number + length
+            (O.written output.new) + 14 }
+        ensures steps { m.new.steps.number ≡ m.old.steps.number }
+        ensures greatest { m.new.greatest.number ≡ m.old.greatest.number }
+    {
+        let gain = self.gain(kind, blocks, size);
+        if gain > self.limit as u64 - self.weight {
+            return Ok(true);
+        }
+        match self.placer.take(kind, blocks, bytes, size, output, m) {
+            Ok(()) => {}
+            Err(fault) => return Err(fault),
+        }
+        self.weight += gain;
+        Ok(false)
+    }
+
+    /// Takes the first blocks of the window, as many as fit. True where not all do: then the segment
+    /// ends here.
+    pub(crate) fn take_fitting<O: Overwrite>(
+        &mut self,
+        blocks: u32,
+        size: u32,
+        output: &mut O,
+        w: &Window,
+        m: &mut Meter,
+    ) -> Result<bool, DeviceFault>
+        requires some { 4 ≤ size }
+        requires words { size % 4 ≡ 0 }
+        requires window { blocks * size ≤ 65536 }
+        requires within { taken self.old.placer + blocks < 2 ^ 32 }
+        requires sound { SoundSegment size (length (O.written output.old)) self.old }
+        ensures kept { KeepsFront (self.old.placer.front + 28) (O.written output.old) (O.written output.new) }
+        ensures sound { OnOk result (SoundSegment size (length (O.written output.new)) self.new) }
+        ensures laid { (g : List Block) → LaidSegment size g (O.written output.old) self.old →
+            OnOk result (LaidSegment size (g ++ classes size (taken self.new.placer - taken self.old.placer) w.now.bytes)
+            (O.written output.new) self.new) }
+        ensures order { OnOk result (taken self.old.placer ≤ taken self.new.placer) }
+        ensures all { IfOk result (λ d. d ≡ false → taken self.new.placer ≡ taken self.old.placer + blocks) }
+        ensures short { IfOk result (λ d. d ≡ true → taken self.new.placer < taken self.old.placer + blocks) }
+        ensures some { IfOk result (λ d. d ≡ true → self.old.first < taken self.new.placer) }
+        ensures over { (g : List Block) → LaidSegment size g (O.written output.old) self.old →
+            IfOk result (λ d. d ≡ true → IsOver self.old.limit size
+            (g ++ classes size (taken self.new.placer - taken self.old.placer) w.now.bytes)
+            (drop (taken self.new.placer - taken self.old.placer) (classes size blocks w.now.bytes))) }
+        ensures same { (self.new.placer.most ≡ self.old.placer.most) × (self.new.placer.front ≡ self.old.placer.front) ×
+            (self.new.first ≡ self.old.first) × (self.new.limit ≡ self.old.limit) }
+        ensures grown { length (O.written output.old) ≤ length (O.written output.new) }
+        ensures long { length (O.written output.new) + full_of result ≤ self.old.placer.front + self.old.limit }
+        ensures frame { O.write_frame output.new ≡ O.write_frame output.old }
+        ensures faults { O.write_faults output.old ≤ O.write_faults output.new }
+        ensures clean { OnOk result (O.write_faults output.new ≡ O.write_faults output.old) }
+        ensures full_faults { O.full_faults output.new ≡ O.full_faults output.old + full_of result }
+        ensures full { IsErrOf result DeviceFault.Full → IsTrue (O.is_full output.new) }
+        ensures cause { OnErr result (O.write_faults output.old < O.write_faults output.new) }
+        ensures calls { O.writes output.new + length (O.written output.old) ≤ O.writes output.old + length
+            (O.written output.new) + 4 * (blocks * size) }
+        ensures turns { m.new.turns.number + length (O.written output.old) ≤ m.old.turns.number + length
+            (O.written output.new) + 5 * (blocks * size) }
+        ensures steps { m.new.steps.number ≡ m.old.steps.number }
+        ensures greatest { m.new.greatest.number ≡ m.old.greatest.number }
+    {
+        let mut done = 0u32;
+        while done < blocks {
+            m.tick();
+            let cap = self.cap(size).min(blocks - done);
+            let from = done as usize * size as usize;
+            let to = from + cap as usize * size as usize;
+            let (kind, n) = leading(w.part(from, to), size as usize, cap, m);
+            let past = from + n as usize * size as usize;
+            match self.take_part(kind, n, w.part(from, past), size, output, m) {
+                Ok(ended) => {
+                    if ended {
+                        return Ok(true);
+                    }
+                }
+                Err(fault) => return Err(fault),
+            }
+            done += n;
+        }
+        Ok(false)
+    }
+
+    /// One step: the next window of the source. True where the segment goes no further.
+    fn step<S: Source, O: Overwrite>(
+        &mut self,
+        runs: &RawRuns,
+        source: &mut S,
+        output: &mut O,
+        w: &mut Window,
+        m: &mut Meter,
+    ) -> Result<bool, PieceFault>
+        requires sound { SoundSegment runs.now.size (length (O.written output.old)) self.old }
+        requires within { taken self.old.placer ≤ runs.now.blocks }
+        requires opened { IsTrue S.tells → runs.now.length ≡ length (S.content source.old) }
+        requires told { ToldSegment S.tells (S.content source.old) runs.now.size (O.written output.old) self.old }
+        ensures content { IsTrue S.tells → S.content source.new ≡ S.content source.old }
+        ensures read_frame { S.read_frame source.new ≡ S.read_frame source.old }
+        ensures write_frame { O.write_frame output.new ≡ O.write_frame output.old }
+        ensures told { OnOk result (ToldSegment S.tells (S.content source.old) runs.now.size (O.written output.new)
+            self.new) }
+        ensures ended { IfOk result (λ d. d ≡ true → EndedSegment S.tells (S.content source.old) runs.now.size
+            runs.now.blocks self.new) }
+        ensures kept { KeepsFront (self.old.placer.front + 28) (O.written output.old) (O.written output.new) }
+        ensures sound { OnOk result (SoundSegment runs.now.size (length (O.written output.new)) self.new) }
+        ensures on { IfOk result (λ d. d ≡ false → taken self.old.placer < taken self.new.placer) }
+        ensures inside { OnOk result (taken self.new.placer ≤ runs.now.blocks) }
+        ensures same { (self.new.placer.most ≡ self.old.placer.most) × (self.new.placer.front ≡ self.old.placer.front) ×
+            (self.new.first ≡ self.old.first) × (self.new.limit ≡ self.old.limit) }
+        ensures grown { length (O.written output.old) ≤ length (O.written output.new) }
+        ensures long { length (O.written output.new) + full_cut result ≤ self.old.placer.front + self.old.limit }
+        ensures given { S.given source.old ≤ S.given source.new }
+        ensures received { S.given source.new + 65536 * m.old.steps.number
+            ≤ S.given source.old + 65536 * m.new.steps.number }
+        ensures economy { S.given source.new + read_of runs.now.length runs.now.size (taken self.old.placer)
+            ≤ S.given source.old + runs.now.length }
+        ensures once { IfOk result (λ d. d ≡ false → S.given source.new + read_of runs.now.length runs.now.size
+            (taken self.old.placer) ≡ S.given source.old + read_of runs.now.length runs.now.size
+            (taken self.new.placer)) }
+        ensures last { OnOk result (S.given source.new + read_of runs.now.length runs.now.size (taken self.old.placer)
+            ≤ S.given source.old + read_of runs.now.length runs.now.size (taken self.new.placer) + 65536) }
+        ensures going_calls { IfOk result (λ d. d ≡ false → S.reads source.new + O.writes output.new + length
+            (O.written output.old) + 4 * padding runs.now.length runs.now.size (taken self.old.placer)
+            ≤ S.reads source.old + O.writes output.old + length
+            (O.written output.new) + 6 * (S.given source.new - S.given source.old) + 4 * padding runs.now.length
+            runs.now.size (taken self.new.placer)) }
+        ensures calls { S.reads source.new + O.writes output.new + length (O.written output.old) + 4 * padding
+            runs.now.length runs.now.size (taken self.old.placer) ≤ S.reads source.old + O.writes output.old + length
+            (O.written output.new) + 6 * (S.given source.new - S.given source.old) + 4 * runs.now.size + 1 }
+        ensures going_turns { IfOk result (λ d. d ≡ false →
+            m.new.turns.number + 1 + length (O.written output.old) + 5 * padding runs.now.length runs.now.size
+            (taken self.old.placer) ≤ m.old.turns.number + length (O.written output.new) + 8 * (S.given source.new - S.given
+            source.old) + 5 * padding runs.now.length runs.now.size (taken self.new.placer)) }
+        ensures turns { m.new.turns.number + length (O.written output.old) + 5 * padding runs.now.length runs.now.size
+            (taken self.old.placer) ≤ m.old.turns.number + length (O.written output.new) + 8 * (S.given source.new - S.given
+            source.old) + 5 * runs.now.size + 1 }
+        ensures greatest { m.new.greatest.number ≤ max m.old.greatest.number 65536 }
+        ensures faults { S.read_faults source.old ≤ S.read_faults source.new }
+        ensures write_faults { O.write_faults output.old ≤ O.write_faults output.new }
+        ensures clean { OnOk result ((S.read_faults source.new ≡ S.read_faults source.old) ×
+            (O.write_faults output.new ≡ O.write_faults output.old)) }
+        ensures full_faults { O.full_faults output.new ≡ O.full_faults output.old + full_cut result }
+        ensures full { full_cut result ≡ 1 → IsTrue (O.is_full output.new) }
+        ensures cause { IfErr result (λ e. HasCause e S.tells (S.read_faults source.old) (S.read_faults source.new)
+            (O.write_faults output.old) (O.write_faults output.new)) }
+    {
+        let from = self.placer.blocks + self.placer.count;
+        if from == runs.blocks {
+            m.close_step(0);
+            return Ok(true);
+        }
+        if source.length() != runs.length {
+            m.close_step(0);
+            return Err(PieceFault::SourceChanged);
+        }
+        let asked = in_window(runs.size).min(runs.blocks - from);
+        let at = runs.place_of(from);
+        let room = asked as usize * runs.size as usize;
+        let want = (runs.length - at).min(room as u64) as usize;
+        let loaded = load_filled(source, at, want, room, w, m);
+        m.close_step(loaded.received);
+        if let Some(fault) = loaded.fault {
+            return Err(run_fault(fault));
+        }
+        match self.take_fitting(asked, runs.size, output, w, m) {
+            Ok(ended) => Ok(ended),
+            Err(fault) => Err(PieceFault::Write(fault)),
+        }
+    }
+
+    /// Takes blocks of the source up to where the segment goes no further.
+    pub(crate) fn take_source<S: Source, O: Overwrite>(
+        &mut self,
+        runs: &RawRuns,
+        source: &mut S,
+        output: &mut O,
+        w: &mut Window,
+        m: &mut Meter,
+    ) -> Result<(), PieceFault>
+        requires sound { SoundSegment runs.now.size (length (O.written output.old)) self.old }
+        requires within { taken self.old.placer ≤ runs.now.blocks }
+        requires opened { IsTrue S.tells → runs.now.length ≡ length (S.content source.old) }
+        requires told { ToldSegment S.tells (S.content source.old) runs.now.size (O.written output.old) self.old }
+        ensures content { IsTrue S.tells → S.content source.new ≡ S.content source.old }
+        ensures read_frame { S.read_frame source.new ≡ S.read_frame source.old }
+        ensures write_frame { O.write_frame output.new ≡ O.write_frame output.old }
+        ensures told { OnOk result (ToldSegment S.tells (S.content source.old) runs.now.size (O.written output.new)
+            self.new) }
+        ensures ended { OnOk result (EndedSegment S.tells (S.content source.old) runs.now.size runs.now.blocks
+            self.new) }
+        ensures kept { KeepsFront (self.old.placer.front + 28) (O.written output.old) (O.written output.new) }
+        ensures sound { OnOk result (SoundSegment runs.now.size (length (O.written output.new)) self.new) }
+        ensures inside { OnOk result (taken self.new.placer ≤ runs.now.blocks) }
+        ensures same { (self.new.placer.most ≡ self.old.placer.most) × (self.new.placer.front ≡ self.old.placer.front) ×
+            (self.new.first ≡ self.old.first) × (self.new.limit ≡ self.old.limit) }
+        ensures grown { length (O.written output.old) ≤ length (O.written output.new) }
+        ensures long { length (O.written output.new) + full_cut result ≤ self.old.placer.front + self.old.limit }
+        ensures given { S.given source.old ≤ S.given source.new }
+        ensures received { S.given source.new + 65536 * m.old.steps.number
+            ≤ S.given source.old + 65536 * m.new.steps.number }
+        ensures economy { S.given source.new + read_of runs.now.length runs.now.size (taken self.old.placer)
+            ≤ S.given source.old + runs.now.length }
+        ensures last { OnOk result (S.given source.new + read_of runs.now.length runs.now.size (taken self.old.placer)
+            ≤ S.given source.old + read_of runs.now.length runs.now.size (taken self.new.placer) + 65536) }
+        ensures calls { S.reads source.new + O.writes output.new + length (O.written output.old)
+            ≤ S.reads source.old + O.writes output.old + length (O.written output.new) + 6
+            * (S.given source.new - S.given source.old) + 4 * runs.now.size + 1 }
+        ensures turns { m.new.turns.number + length (O.written output.old) ≤ m.old.turns.number + length
+            (O.written output.new) + 8 * (S.given source.new - S.given source.old) + 5 * runs.now.size + 1 }
+        ensures greatest { m.new.greatest.number ≤ max m.old.greatest.number 65536 }
+        ensures faults { S.read_faults source.old ≤ S.read_faults source.new }
+        ensures write_faults { O.write_faults output.old ≤ O.write_faults output.new }
+        ensures clean { OnOk result ((S.read_faults source.new ≡ S.read_faults source.old) ×
+            (O.write_faults output.new ≡ O.write_faults output.old)) }
+        ensures full_faults { O.full_faults output.new ≡ O.full_faults output.old + full_cut result }
+        ensures full { full_cut result ≡ 1 → IsTrue (O.is_full output.new) }
+        ensures cause { IfErr result (λ e. HasCause e S.tells (S.read_faults source.old) (S.read_faults source.new)
+            (O.write_faults output.old) (O.write_faults output.new)) }
+    {
+        loop {
+            match self.step(runs, source, output, w, m) {
+                Ok(ended) => {
+                    if ended {
+                        return Ok(());
+                    }
+                }
+                Err(fault) => return Err(fault),
+            }
+            m.tick();
+        }
+    }
+
+    /// Lays what is skipped behind the segment, and the headers that are left, the image's magic
+    /// number last.
+    pub(crate) fn end<O: Overwrite>(
+        &mut self,
+        blocks: u32,
+        size: u32,
+        output: &mut O,
+        m: &mut Meter,
+    ) -> Result<(), DeviceFault>
+        requires some { 4 ≤ size }
+        requires words { size % 4 ≡ 0 }
+        requires within { taken self.old.placer ≤ blocks }
+        requires sound { SoundSegment size (length (O.written output.old)) self.old }
+        requires zeros { take 28 (drop self.old.placer.front (O.written output.old)) ≡ replicate 28 0 }
+        ensures laid { (g : List Block) → LaidSegment size g (O.written output.old) self.old →
+            OnOk result (LaidPiece size blocks self.new.placer.chunks
+            (framed self.old.first g (blocks - taken self.old.placer))
+            (take self.old.placer.front (O.written output.old)) (O.written output.new)) }
+        ensures before { take self.old.placer.front (O.written output.new)
+            ≡ take self.old.placer.front (O.written output.old) }
+        ensures unfinished { OnErr result (IsUnfinished (drop self.old.placer.front (O.written output.new))) }
+        ensures grown { length (O.written output.old) ≤ length (O.written output.new) }
+        ensures long { length (O.written output.new) + full_of result ≤ self.old.placer.front + self.old.limit }
+        ensures frame { O.write_frame output.new ≡ O.write_frame output.old }
+        ensures faults { O.write_faults output.old ≤ O.write_faults output.new }
+        ensures clean { OnOk result (O.write_faults output.new ≡ O.write_faults output.old) }
+        ensures full_faults { O.full_faults output.new ≡ O.full_faults output.old + full_of result }
+        ensures full { IsErrOf result DeviceFault.Full → IsTrue (O.is_full output.new) }
+        ensures cause { OnErr result (O.write_faults output.old < O.write_faults output.new) }
+        ensures calls { O.writes output.new + length (O.written output.old) ≤ O.writes output.old + length
+            (O.written output.new) + 53 }
+        ensures turns { m.new.turns.number + length (O.written output.old) ≤ m.old.turns.number + length
+            (O.written output.new) + 53 }
+        ensures steps { m.new.steps.number ≡ m.old.steps.number }
+        ensures greatest { m.new.greatest.number ≡ m.old.greatest.number }
+    {
+        let behind = blocks - (self.placer.blocks + self.placer.count);
+        match self.placer.skip(behind, size, output, m) {
+            Ok(()) => {}
+            Err(fault) => return Err(fault),
+        }
+        self.placer.finish(size, output, m)
+    }
+}
