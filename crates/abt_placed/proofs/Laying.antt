@@ -1,12 +1,12 @@
 -- What a placer has laid, as it goes on.
 use Rattle.std.proofs.Common.{inl, inr, ◌⊎◌, Bool, nat_lt, if◌then◌else◌, ◌≡◌, ℕ, zero, suc, ◌+◌, ◌-◌, ◌*◌, ◌<◌, ◌≤◌, true, false, IsTrue, List, [], ◌∷◌, ◌++◌, length, take, drop, map, replicate, min, refl, sym, ap, subst, ◌∙◌, arith, append_assoc, append-nil, length-append, length-drop}
 use Rattle.std.specs.Prelude.{slice_range}
-use Rattle.std.proofs.lemmas.List.{take_all, drop-drop, drop-append-le, length-map}
+use Rattle.std.proofs.lemmas.List.{take_all, drop-drop, drop-append-le, length-map, length-replicate}
 use Rattle.std.proofs.Math.Seq.{drop-append-add, take-append_seam, drop-append_seam, take-add}
 use Rattle.std.proofs.lemmas.Bool.{cases_Bool, ltb-false}
 use Rattle.abt_io.specs.Moment.{put_at}
 use Rattle.abt_io.proofs.Overs.{put'_is}
-use Rattle.abt_sparse.specs.Block.{Block, AreBlocks, classify, block_count, split, class_of, filled_to}
+use Rattle.abt_sparse.specs.Block.{Block, Skip, AreBlocks, classify, block_count, split, class_of, filled_to}
 use Rattle.abt_sparse.specs.Chunk.{chunks_of, spelling, header_record, plain_header}
 use Rattle.abt_runs.specs.Part.{AllOf, raw_of, is_end}
 use Rattle.abt_runs.specs.RawLaws.{length-split, raw_count, raw_long, raw_are_blocks}
@@ -19,11 +19,12 @@ use Rattle.abt_runs.specs.declared.part.RunKind.TheVariants as kinds
 use Rattle.abt_pieces.specs.Write.{front_bytes, chunk_len}
 use Rattle.abt_pieces.proofs.Cutting.{header_long}
 use Rattle.abt_pieces.proofs.Framing.{ended_by}
-use Rattle.abt_pieces.proofs.Writing.{blocks_append, blocks_drop, length_raw, raw-append, run_data}
+use Rattle.abt_pieces.proofs.Counting.{skips_all}
+use Rattle.abt_pieces.proofs.Writing.{blocks_skips, blocks_append, blocks_drop, length_raw, raw-append, run_data}
 use Rattle.abt_sparsify.specs.Sparsify.{bytes_of}
 use Rattle.abt_sparsify.proofs.SparseSteps.{header_first}
-use Rattle.abt_placed.specs.Placer.{SoundPlacer, kept_for, data_for, closed, closed_as, closing, closing_as, goes_on, goes_on_as, longer, begun, with_part, taking}
-use Rattle.abt_placed.specs.Placed.{Placed, Laid, classes, open_bytes}
+use Rattle.abt_placed.specs.Placer.{SoundPlacer, kept_for, data_for, closed, closed_as, closing, closing_as, goes_on, goes_on_as, longer, begun, with_part, beginning, taking}
+use Rattle.abt_placed.specs.Placed.{Placed, Laid, classes, skips, open_bytes}
 use Rattle.abt_placed.specs.Whole.{Whole}
 use Rattle.abt_placed.specs.declared.placer.Placer.{Placer}
 use Rattle.abt_placed.proofs.Numbers.{goes}
@@ -247,7 +248,7 @@ classes_joined : (b d n : ℕ) (w : List ℕ) → classes b d w ++ classes b n (
 classes_joined b d n w = sym (map_append (split b d w) (split b n (drop (d * b) w))) ∙ ap (λ (l : List (List ℕ)). map class_of l) (split_joined b d n w)
 
 -- the classes of blocks of a part of the window
-classes_part : (b n from past : ℕ) (w : List ℕ) → from + n * b ≤ past → classes b n (slice_range w from past) ≡ classes b n (drop from w)
+pub classes_part : (b n from past : ℕ) (w : List ℕ) → from + n * b ≤ past → classes b n (slice_range w from past) ≡ classes b n (drop from w)
 classes_part b n from past w le = ap (λ (l : List (List ℕ)). map class_of l) (split-front b n (past - from) (drop from w) (omega (arith, le)))
 
 pub part_classes : (k : RunKind) (b n from to past : ℕ) (w x y : List ℕ) → from + n * b ≤ to → from + n * b ≤ past → x ≡ slice_range w from to → y ≡ slice_range w from past → AllOf k (classes b n x) → AllOf k (classes b n y)
@@ -333,3 +334,67 @@ whole_laid tells x b len n now now' s s' some covers last known sound l all e f 
       stands = laid ∙ ap (λ (y : List ℕ). p.before ++ (head ++ y)) (sym bytes) ∙ ap (λ (y : List ℕ). p.before ++ y) (sym (header_first b r g b t.blocks t.chunks refl c.blocks (sym chunks))) ∙ ap (λ (y : List ℕ). y ++ spelling b r g) same;
       told = λ y. l.told y ∙ take_all (s.blocks + s.count) (classify b x) (let z = raw_long len n b x some covers last (known y) in omega (arith, z, all));
     }
+
+-- the same of any blocks that were taken
+pub placed_whole : (b : ℕ) (g : List Block) (now now' : List ℕ) (s s' : Placer) → SoundPlacer b (length now) s → Placed b g now s → s' ≡ closed s → now' ≡ put_at (closing s b now) s.front (header_record (plain_header b (closed s).blocks (closed s).chunks))
+    → (now' ≡ take s.front now ++ spelling b s.most g) × (s'.chunks ≡ length (chunks_of s.most g))
+placed_whole b g now now' s s' sound p e f =
+    let c = shut_all b g now s sound p in
+    let t = closed s in
+    let r = s.most in
+    let bytes : bytes_of r g ≡ c.done = ap (bytes_of r) (sym (append-nil g)) ∙ c.bytes [] tt (λ on. inl tt) ∙ append-nil c.done in
+    let chunks : length (chunks_of r g) ≡ t.chunks = ap (λ (y : List Block). length (chunks_of r y)) (sym (append-nil g)) ∙ c.chunks [] tt (λ on. inl tt) ∙ (let z : t.chunks + 0 ≡ t.chunks = omega arith in z) in
+    let head = header_record (plain_header b t.blocks t.chunks) in
+    let laid : now' ≡ p.before ++ (head ++ c.done) = f ∙ ap (λ (m : ℕ). put_at (closing s b now) m head) (sym p.front) ∙ ap (λ (y : List ℕ). put_at y (length p.before) head) c.stands ∙ put_seam p.before (replicate 28 0) head c.done (header_long b t.blocks t.chunks) in
+    let rest = (replicate 28 0 ++ p.done) ++ open_bytes s.kind (drop s.blocks g) in
+    let same : p.before ≡ take s.front now = sym (ap (λ (m : ℕ). take m now) (sym p.front) ∙ ap (take (length p.before)) (p.stands ∙ append_assoc p.before (replicate 28 0 ++ p.done) (open_bytes s.kind (drop s.blocks g))) ∙ take-append_seam p.before rest) in
+    (
+      laid ∙ ap (λ (y : List ℕ). p.before ++ (head ++ y)) (sym bytes) ∙ ap (λ (y : List ℕ). p.before ++ y) (sym (header_first b r g b t.blocks t.chunks refl c.blocks (sym chunks))) ∙ ap (λ (y : List ℕ). y ++ spelling b r g) same,
+      ap (λ (y : Placer). y.chunks) e ∙ sym chunks,
+    )
+
+-- so many skipped blocks more
+pub skipped_placed : (b n : ℕ) (g : List Block) (w w' : List ℕ) (s s' : Placer) → 0 < n → SoundPlacer b (length w) s → s' ≡ with_part s kinds.Skip n → w' ≡ beginning s kinds.Skip b w → Placed b g w s → Placed b (g ++ skips n) w' s'
+skipped_placed b n g w w' s s' some sound e f p =
+    rw (e, f) (subst (λ (l : List ℕ). Placed b (g ++ skips n) l (with_part s kinds.Skip n)) (append-nil (beginning s kinds.Skip b w)) (taken_as (goes_on s kinds.Skip) b g (skips n) w [] s kinds.Skip n refl some (length-replicate n Skip) (skips_all n) (blocks_skips b n) refl sound p))
+
+-- before the first block of a segment
+pub begun_behind : (b at first r : ℕ) (k : RunKind) (old now : List ℕ) → at ≡ length old → now ≡ old ++ replicate 28 0 → (first ≡ 0 → k ≡ kinds.End) → (0 < first → k ≡ kinds.Skip) → Placed b (skips first ++ []) now (record { front = at; most = r; chunks = 0; blocks = 0; kind = k; count = first })
+begun_behind b at zero r k old now place e none some = rw none refl (record {
+  before = old;
+  done = [];
+  front = sym place;
+  stands = e ∙ sym (append-nil (old ++ (replicate 28 0 ++ [])));
+  bytes = λ t good. refl;
+  chunks = λ t good. (let z : length (chunks_of r t) ≡ 0 + length (chunks_of r t) = omega arith in z);
+  all = refl;
+  count = refl;
+  good = tt;
+})
+begun_behind b at (suc first) r k old now place e none some = rw (some (omega arith), append-nil (skips (suc first))) (record {
+  before = old;
+  done = [];
+  front = sym place;
+  stands = e ∙ sym (append-nil (old ++ (replicate 28 0 ++ [])));
+  bytes = λ t good. refl;
+  chunks = λ t good. (let z : length (chunks_of r (skips (suc first) ++ t)) ≡ 0 + length (chunks_of r (skips (suc first) ++ t)) = omega arith in z);
+  all = skips_all (suc first);
+  count = length-replicate (suc first) Skip;
+  good = blocks_skips b (suc first);
+})
+
+-- blocks of the window, and those of a part behind them
+pub classes_more : (b d n from past : ℕ) (g : List Block) (w x : List ℕ) → from ≡ d * b → from + n * b ≤ past → x ≡ slice_range w from past → (g ++ classes b d w) ++ classes b n x ≡ g ++ classes b (d + n) w
+classes_more b d n from past g w x at le e =
+    append_assoc g (classes b d w) (classes b n x) ∙ ap (λ (l : List Block). g ++ l) (ap (λ (l : List Block). classes b d w ++ l) (ap (classes b n) e ∙ classes_part b n from past w le ∙ ap (λ (m : ℕ). classes b n (drop m w)) at) ∙ classes_joined b d n w)
+
+-- the blocks of a part, of all in the window
+pub classes_next : (b d n a from past : ℕ) (w x : List ℕ) → d + n ≤ a → from ≡ d * b → from + n * b ≤ past → x ≡ slice_range w from past → take n (drop d (classes b a w)) ≡ classes b n x
+classes_next b d n a from past w x within at le e =
+    let k = a - d - n in
+    let two : classes b a w ≡ classes b d w ++ (classes b n (drop (d * b) w) ++ classes b k (drop (n * b) (drop (d * b) w))) =
+    ap (λ (m : ℕ). classes b m w) (let z : a ≡ d + (n + k) = omega (arith, within) in z) ∙ sym (classes_joined b d (n + k) w) ∙ ap (λ (l : List Block). classes b d w ++ l) (sym (classes_joined b n k (drop (d * b) w))) in
+    let rest = classes b n (drop (d * b) w) ++ classes b k (drop (n * b) (drop (d * b) w)) in
+    let back : drop d (classes b a w) ≡ rest = ap (drop d) two ∙ ap (λ (m : ℕ). drop m (classes b d w ++ rest)) (sym (classes_long b d w)) ∙ drop-append_seam (classes b d w) rest in
+    ap (take n) back ∙ ap (λ (m : ℕ). take m rest) (sym (classes_long b n (drop (d * b) w))) ∙ take-append_seam (classes b n (drop (d * b) w)) (classes b k (drop (n * b) (drop (d * b) w)))
+    ∙ ap (λ (m : ℕ). classes b n (drop m w)) (sym at) ∙ sym (classes_part b n from past w le) ∙ sym (ap (classes b n) e)

@@ -4,3 +4,7 @@ pub mod Laying
 pub mod Refusing
 pub mod Costs
 pub mod Images
+pub mod Segments
+pub mod Sourced
+pub mod Uncut
+pub mod Pieces

@@ -1,5 +1,5 @@
 -- The numbers of a placer that takes blocks.
-use Rattle.std.proofs.Common.{inl, inr, mul-le-mul_left, ◌≡◌, ℕ, ◌+◌, ◌-◌, ◌*◌, ◌<◌, ◌≤◌, nat_lt, Bool, true, false, List, ◌++◌, length, refl, sym, ap, ◌∙◌, arith, length-append, ◌&&◌, if◌then◌else◌}
+use Rattle.std.proofs.Common.{inl, inr, mul-le-mul_left, ◌≡◌, ℕ, ◌+◌, ◌-◌, ◌*◌, ◌<◌, ◌≤◌, nat_lt, Bool, true, false, List, [], ◌++◌, length, refl, sym, ap, ◌∙◌, arith, length-append, ◌&&◌, if◌then◌else◌}
 use Rattle.std.proofs.lemmas.Bool.{cases_Bool, ltb-true, ltb-false}
 use Rattle.std.proofs.Common.{Result, Ok, Err, OnOk, replicate}
 use Rattle.abt_io.specs.declared.device.DeviceFault.{DeviceFault}
@@ -157,3 +157,39 @@ begins_raw (Ok y) s k b w mid new is other e h =
     let z : beginning s k b w ≡ closing s b w ++ kept_for k = rw other refl in
     h ∙ ap (λ (l : List ℕ). l ++ replicate 12 0) e ∙ ap (λ (j : RunKind). closing s b w ++ kept_for j) (sym is) ∙ sym z
 begins_raw (Err f) s k b w mid new is other e h = tt
+
+-- with skipped blocks more, raw or not
+skip_sound_as : (t : Bool) (b q : ℕ) (w : List ℕ) (s : Placer) → goes_on s kinds.Skip ≡ t → 0 < q → length (if t then w else closing s b w ++ []) + open_len s.kind s.count b ≤ length w + s.count * (b + 16) + 0 → SoundPlacer b (length w) s
+    → SoundPlacer b (length (if t then w else closing s b w ++ [])) (if t then longer s q else begun (closed s) kinds.Skip q)
+skip_sound_as true b q w s e some wide h =
+    let g = goes s kinds.Skip e in
+    let o : open_len s.kind s.count b ≡ 0 = ap (λ (k : RunKind). open_len k s.count b) g.same in
+    let p : open_len s.kind (s.count + q) b ≡ 0 = ap (λ (k : RunKind). open_len k (s.count + q) b) g.same in
+    record {
+      chunks = h.chunks;
+      none = λ z. absurd (let z' : true ≡ is_end kinds.Skip = sym z ∙ ap is_end g.same in cc);
+      some = λ z. omega (arith, some);
+      raw = λ z. absurd (let z' : kinds.Skip ≡ kinds.Raw = sym g.same ∙ z in cc);
+      room = omega (arith, h.room, o, p);
+      few = omega (arith, h.few, o, p);
+      most = h.most;
+      small = h.small;
+    }
+skip_sound_as false b q w s e some wide h =
+    let c = closed_numbers s.kind s h.chunks h.none h.some in
+    let a : length w ≤ length (closing s b w) = closing_long s.kind s b w (omega (arith, h.room)) in
+    let l = length-append (closing s b w) [] in
+    let d = sums s.blocks s.count (closed s).blocks b (sym c.blocks) in
+    record {
+      chunks = c.chunks;
+      none = λ z. absurd cc;
+      some = λ z. some;
+      raw = λ z. absurd cc;
+      room = rw c.front (omega (arith, a, l, h.room));
+      few = rw c.front (omega (arith, l, d, wide, h.few));
+      most = rw c.most h.most;
+      small = rw c.most h.small;
+    }
+
+pub sound_skipped : (b q : ℕ) (w w' : List ℕ) (s s' : Placer) → 0 < q → length w' + open_len s.kind s.count b ≤ length w + s.count * (b + 16) + 0 → SoundPlacer b (length w) s → s' ≡ with_part s kinds.Skip q → w' ≡ beginning s kinds.Skip b w → SoundPlacer b (length w') s'
+sound_skipped b q w w' s s' some wide h e f = rw (e, f) (skip_sound_as (goes_on s kinds.Skip) b q w s refl some (rw f at wide) h)

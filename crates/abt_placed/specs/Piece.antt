@@ -1,9 +1,9 @@
 -- A piece that is laid in one pass, whole.
-use Rattle.std.specs.Prelude.{◌≡◌, ℕ, ◌-◌, Bool, IsTrue, List, ◌++◌, length}
+use Rattle.std.specs.Prelude.{◌≡◌, ℕ, ◌-◌, ◌≤◌, Bool, IsTrue, List, ◌++◌, length}
 use Rattle.std.specs.List.{AllByRecursion}
 use Rattle.abt_sparse.specs.Block.{Block, AreBlocks, classify}
 use Rattle.abt_sparse.specs.Chunk.{piece}
-use Rattle.abt_sparse.specs.Runs.{framed, runs}
+use Rattle.abt_sparse.specs.Runs.{framed, runs, weight}
 use Rattle.abt_pieces.specs.Plan.{between, FirstPiece}
 use Rattle.abt_placed.specs.Segment.{IsHeld}
 
@@ -20,4 +20,5 @@ pub record WholePiece (tells : Bool) (x : List ℕ) (b n limit first past chunks
   pub blocks : List Block
   pub laid : LaidPiece b n chunks (framed first blocks (n - past)) old now
   pub held : AllByRecursion IsHeld blocks
+  pub fits : weight b blocks ≤ limit
   pub told : IsTrue tells → (blocks ≡ between (classify b x) first past) × FirstPiece b (classify b x) limit first past

@@ -40,6 +40,7 @@ pub record SoundSegment (b long : ℕ) (s : Segment) : Type 0 where
   pub placer : SoundPlacer b long s.placer
   pub order : s.first ≤ taken s.placer
   pub fits : long + to_come s.placer.kind ≤ s.placer.front + s.weight
+  pub least : 52 ≤ s.weight
   pub room : s.weight ≤ s.limit
   pub granted : 64 + b ≤ s.limit
   pub raw : s.placer.kind ≡ kinds.Raw → 64 + s.placer.count * b ≤ s.weight

@@ -1,0 +1,129 @@
+-- A piece that is laid in one pass, whole.
+use Rattle.std.proofs.Common.{◌≡◌, ℕ, zero, suc, ◌+◌, ◌-◌, ◌*◌, ◌%◌, ◌^◌, ◌<◌, ◌≤◌, Bool, IsTrue, List, [], ◌∷◌, ◌++◌, length, take, drop, map, replicate, refl, sym, ap, subst, ◌∙◌, arith, append_assoc, append-nil, length-append, Result, Ok, Err, OnOk}
+use Rattle.std.proofs.lemmas.List.{length-map, length-take-le, length-drop}
+use Rattle.std.specs.List.{flat_map, AllByRecursion}
+use Rattle.abt_io.specs.Moment.{put_at}
+use Rattle.abt_sparse.specs.Block.{Block, Raw, Fill, Skip, AreBlocks, classify}
+use Rattle.abt_sparse.specs.Chunk.{header_record, plain_header, plain, chunk_of_run, chunks_of, spelling, piece}
+use Rattle.abt_sparse.specs.Fails.{Spells}
+use Rattle.abt_sparse.specs.Runs.{framed, runs, weight}
+use Rattle.abt_sparse.proofs.Lengths.{piece_le}
+use Rattle.abt_sparse.proofs.Spelling.{piece_spells}
+use Rattle.abt_runs.specs.RawLaws.{raw_long}
+use Rattle.abt_pieces.specs.Contents.{written_in}
+use Rattle.abt_pieces.specs.Gather.{frame}
+use Rattle.abt_pieces.specs.Image.{Appended, IsImage}
+use Rattle.abt_pieces.specs.Plan.{between, FirstPiece}
+use Rattle.abt_pieces.proofs.Counting.{written-append}
+use Rattle.abt_pieces.proofs.Cutting.{header_long}
+use Rattle.abt_pieces.proofs.Planning.{first_piece}
+use Rattle.abt_placed.specs.Placer.{SoundPlacer, closed, closing}
+use Rattle.abt_placed.specs.Placed.{Placed, skips}
+use Rattle.abt_placed.specs.Whole.{taken}
+use Rattle.abt_placed.specs.Segment.{SoundSegment, LaidSegment, ToldSegment, EndedSegment, IsHeld}
+use Rattle.abt_placed.specs.Piece.{LaidPiece, WholePiece}
+use Rattle.abt_placed.specs.declared.placer.Placer.{Placer}
+use Rattle.abt_placed.specs.declared.segment.Segment.{Segment}
+use Rattle.abt_placed.proofs.Laying.{placed_whole}
+use Rattle.abt_placed.proofs.Uncut.{uncut, uncut_spelling, uncut_count}
+
+-- ---- the end of a piece
+
+-- what holds of two answers holds of one
+pub on_both : {X E : Type 0} (res : Result X E) (P Q R : Type 0) → (P → Q → R) → OnOk res P → OnOk res Q → OnOk res R
+on_both (Ok x) P Q R f p q = f p q
+on_both (Err e) P Q R f p q = tt
+
+-- the blocks of a segment, of all that were placed
+blocks_of_segment : (b first : ℕ) (g h : List Block) → AreBlocks b ((skips first ++ g) ++ h) → AreBlocks b g
+blocks_of_segment b first g h good = middle (skips first) (front (skips first ++ g) good)
+  where
+    front : (xs : List Block) → AreBlocks b (xs ++ h) → AreBlocks b xs
+    front [] y = tt
+    front (x ∷ xs) y = (y.0, front xs y.1)
+
+    middle : (xs : List Block) → AreBlocks b (xs ++ g) → AreBlocks b g
+    middle [] y = y
+    middle (x ∷ xs) y = middle xs y.1
+
+pub end_laid : (b n k : ℕ) (g : List Block) (now mid new : List ℕ) (s : Segment) (p t : Placer) → SoundSegment b (length now) s → LaidSegment b g now s → taken s.placer + k ≡ n → SoundPlacer b (length mid) p → Placed b ((skips s.first ++ g) ++ skips k) mid p → p.blocks + p.count ≡ taken s.placer + k → p.most ≡ s.placer.most → p.front ≡ s.placer.front
+    → take s.placer.front mid ≡ take s.placer.front now → t ≡ closed p → new ≡ put_at (closing p b mid) p.front (header_record (plain_header b (closed p).blocks (closed p).chunks)) → LaidPiece b n t.chunks (framed s.first g (n - taken s.placer)) (take s.placer.front now) new
+end_laid b n k g now mid new s p t h l whole sound placed passed most front before is laid =
+    let f = (skips s.first ++ g) ++ skips k in
+    let r = s.placer.most in
+    let y = placed_whole b f mid new p t sound placed is laid in
+    let fits = piece_le b g s.first k (blocks_of_segment b s.first g (skips k) placed.good) in
+    let bytes = flat_map plain (map chunk_of_run (runs f)) in
+    let long : length (piece b f) ≡ 28 + length bytes = length-append (header_record (plain_header b (length f) (length (map chunk_of_run (runs f))))) bytes in
+    let u = uncut b r f placed.good (omega (arith, fits, long, l.heavy, h.room, h.uncut)) in
+    let e : k ≡ n - taken s.placer = omega (arith, whole) in
+    subst (λ (m : ℕ). LaidPiece b n t.chunks (framed s.first g m) (take s.placer.front now) new) e (record {
+      good = placed.good;
+      count = placed.count ∙ passed ∙ whole;
+      chunks_are = y.1 ∙ ap (λ (m : ℕ). length (chunks_of m f)) most ∙ uncut_count r f u;
+      stands = y.0 ∙ ap (λ (m : ℕ). take m mid ++ spelling b p.most f) front ∙ ap (λ (x : List ℕ). x ++ spelling b p.most f) before ∙ ap (λ (m : ℕ). take s.placer.front now ++ spelling b m f) most ∙ ap (λ (x : List ℕ). take s.placer.front now ++ x) (uncut_spelling b r f u);
+    })
+
+-- ---- a whole piece
+
+pub whole_piece : (tells : Bool) (x : List ℕ) (b len n limit first past chunks : ℕ) (old now old' new : List ℕ) (s : Segment) → 4 ≤ b → len ≤ n * b → n * b < len + b → (IsTrue tells → len ≡ length x) → SoundSegment b (length now) s → (t : ToldSegment tells x b now s) → EndedSegment tells x b n s → s.first ≡ first → taken s.placer ≡ past → s.limit ≡ limit → past ≤ n
+    → old' ≡ old → LaidPiece b n chunks (framed s.first t.blocks (n - taken s.placer)) old' new → WholePiece tells x b n limit first past chunks old new
+whole_piece tells x b len n limit first past chunks old now old' new s four covers last known h t e at to most within same l = rw (← at, ← to, ← most) (record {
+  blocks = t.blocks;
+  laid = rw same at l;
+  held = t.laid.held;
+  fits = omega (arith, t.laid.heavy, h.room);
+  told = λ y.
+      let c = classify b x in
+      let is = t.told y in
+      let long = raw_long len n b x four covers last (known y) in
+      (is, first_piece b s.limit c s.first (taken s.placer) four h.granted h.order (omega (arith, long, within, to)) (let w : s.weight ≡ weight b (between c s.first (taken s.placer)) = t.laid.heavy ∙ ap (weight b) is in omega (arith, w, h.room)) (e.over y));
+})
+
+-- the piece's length
+pub piece_least : (b n chunks : ℕ) (f : List Block) (old new : List ℕ) → LaidPiece b n chunks f old new → length old + 28 ≤ length new
+piece_least b n chunks f old new l =
+    let bytes = flat_map plain (map chunk_of_run (runs f)) in
+    let long : length (piece b f) ≡ 28 + length bytes = length-append (header_record (plain_header b (length f) (length (map chunk_of_run (runs f))))) bytes in
+    omega (arith, ap length l.stands, length-append old (piece b f), long)
+
+-- it reads as an image, whatever the source gave
+pub piece_image : (tells : Bool) (x : List ℕ) (b n limit first past chunks : ℕ) (old new : List ℕ) → (0 < b) × (b % 4 ≡ 0) × (b < 2 ^ 32) → n < 2 ^ 32 → limit < 2 ^ 32 → WholePiece tells x b n limit first past chunks old new → Appended (IsImage b n) old new
+piece_image tells x b n limit first past chunks old new good few small w =
+    let f = framed first w.blocks (n - past) in
+    let l = w.laid in
+    let le = piece_le b w.blocks first (n - past) (blocks_of_segment b first w.blocks (skips (n - past)) l.good) in
+    let p = piece_spells b f [] good l.good (omega (arith, l.count, few)) (omega (arith, le, w.fits, small)) in
+    let cs = map chunk_of_run (runs f) in
+    let q : Spells (piece b f) (plain_header b (length f) (length (runs f))) cs [] = subst (λ (y : List ℕ). Spells y (plain_header b (length f) (length (runs f))) cs []) (append-nil (piece b f)) p in
+    let r : Spells (piece b f) (plain_header b n (length (runs f))) cs [] = subst (λ (m : ℕ). Spells (piece b f) (plain_header b m (length (runs f))) cs []) l.count q in
+    let t : Spells (piece b f) (plain_header b n (length cs)) cs [] = subst (λ (m : ℕ). Spells (piece b f) (plain_header b n m) cs []) (sym (length-map (runs f) chunk_of_run)) r in
+    record { wrote = piece b f; behind = l.stands; is = record { chunks = cs; spelled = t } }
+
+-- ---- what it is where the source tells its bytes
+
+pub piece_told : (tells : Bool) (x : List ℕ) (b n limit first past chunks : ℕ) (old new : List ℕ) → IsTrue tells → n ≡ length (classify b x) → WholePiece tells x b n limit first past chunks old new → new ≡ old ++ piece b (frame (classify b x) first past)
+piece_told tells x b n limit first past chunks old new t long w =
+    w.laid.stands ∙ ap (λ (g : List Block). old ++ piece b (framed first g (n - past))) (w.told t).0 ∙ ap (λ (m : ℕ). old ++ piece b (framed first (between (classify b x) first past) (m - past))) long
+
+all_held : (g : List Block) → AllByRecursion IsHeld g → written_in g ≡ length g
+all_held [] h = refl
+all_held (Raw x ∷ g) h = let y = all_held g h.1 in omega (arith, y)
+all_held (Fill w ∷ g) h = let y = all_held g h.1 in omega (arith, y)
+all_held (Skip ∷ g) h = absurd h.0
+
+none_held : (n : ℕ) → written_in (skips n) ≡ 0
+none_held zero = refl
+none_held (suc n) = none_held n
+
+pub piece_held : (tells : Bool) (x : List ℕ) (b n limit first past chunks : ℕ) (old new : List ℕ) → IsTrue tells → n ≡ length (classify b x) → first ≤ past → past ≤ n → WholePiece tells x b n limit first past chunks old new → past - first ≡ written_in (frame (classify b x) first past)
+piece_held tells x b n limit first past chunks old new t long order within w =
+    let l = classify b x in
+    let g = between l first past in
+    let held : AllByRecursion IsHeld g = subst (λ (y : List Block). AllByRecursion IsHeld y) (w.told t).0 w.held in
+    let a = written-append (skips first ++ g) (skips (length l - past)) in
+    let c = written-append (skips first) g in
+    omega (arith, a, c, none_held first, none_held (length l - past), all_held g held, length-between l refl)
+  where
+    length-between : (l : List Block) → l ≡ classify b x → length (between l first past) ≡ past - first
+    length-between l e = length-take-le (past - first) (drop first l) (omega (arith, length-drop first l, ap length e, long, within, order))

@@ -1,0 +1,57 @@
+-- The blocks of a segment, as the source tells them.
+use Rattle.std.proofs.Common.{◌≡◌, ℕ, zero, suc, ◌+◌, ◌-◌, ◌*◌, ◌<◌, ◌≤◌, Bool, IsTrue, List, [], ◌∷◌, ◌++◌, length, take, drop, replicate, min, refl, sym, ap, ◌∙◌, arith, mul-le-mul_right}
+use Rattle.std.specs.Prelude.{slice_range}
+use Rattle.std.proofs.lemmas.List.{drop-drop, drop-take}
+use Rattle.abt_sparse.specs.Block.{Block, classify}
+use Rattle.abt_runs.specs.RawLaws.{raw_count}
+use Rattle.abt_runs.proofs.Classes.{raw_part}
+use Rattle.abt_pieces.specs.Plan.{between}
+use Rattle.abt_pieces.proofs.Planning.{between_more}
+use Rattle.abt_placed.specs.Placed.{classes}
+use Rattle.abt_placed.specs.Whole.{taken}
+use Rattle.abt_placed.specs.Segment.{LaidSegment, ToldSegment, IsOver}
+use Rattle.abt_placed.specs.declared.segment.Segment.{Segment}
+use Rattle.abt_placed.proofs.Laying.{classes_part}
+
+-- what was read to the window's front, from block i on
+pub record Loaded (b len i want room : ℕ) (x w : List ℕ) : Type 0 where
+  pub long : len ≡ length x
+  pub there : i * b ≤ len
+  pub want : want ≡ min (len - i * b) room
+  pub bytes : slice_range w 0 room ≡ take want (drop (i * b) x) ++ replicate (room - want) 0
+
+pub window_blocks : (b len n i a j want room : ℕ) (x w : List ℕ) → 4 ≤ b → len ≤ n * b → n * b < len + b → i + a ≤ n → j ≤ a → room ≡ a * b → Loaded b len i want room x w → classes b j w ≡ take j (drop i (classify b x))
+window_blocks b len n i a j want room x w some covers last within few wide h =
+    let c = raw_count len n b x some covers last h.long in
+    let m : j * b ≤ a * b = mul-le-mul_right b few in
+    let part : take j (drop i (classify b x)) ≡ classes b j (take want (drop (i * b) x) ++ replicate (a * b - want) 0) =
+    raw_part b i j a n want x c within few (omega (arith, h.long, h.there)) (omega (arith, h.long, covers)) (omega (arith, h.long, h.want, wide)) in
+    sym (classes_part b j 0 room w (omega (arith, wide, m))) ∙ ap (classes b j) (h.bytes ∙ ap (λ (k : ℕ). take want (drop (i * b) x) ++ replicate (k - want) 0) wide) ∙ sym part
+
+-- with the next blocks
+pub told_on : (tells : Bool) (x : List ℕ) (b len n a j want room : ℕ) (now now' w : List ℕ) (s s' : Segment) → 4 ≤ b → len ≤ n * b → n * b < len + b → taken s.placer + a ≤ n → j ≤ a → taken s'.placer ≡ taken s.placer + j → s'.first ≡ s.first → s.first ≤ taken s.placer → room ≡ a * b
+    → (t : ToldSegment tells x b now s) → LaidSegment b (t.blocks ++ classes b j w) now' s' → (IsTrue tells → Loaded b len (taken s.placer) want room x w) → ToldSegment tells x b now' s'
+told_on tells x b len n a j want room now now' w s s' some covers last within few passed same order wide t laid read = record {
+  blocks = t.blocks ++ classes b j w;
+  laid = laid;
+  told = λ y.
+      let i = taken s.placer in
+      let l = classify b x in
+      ap (λ (f : List Block). f ++ classes b j w) (t.told y) ∙ ap (λ (f : List Block). between l s.first i ++ f) (window_blocks b len n i a j want room x w some covers last within few wide (read y))
+      ∙ sym (between_more l s.first i j order) ∙ ap (λ (m : ℕ). between l m (i + j)) (sym same) ∙ ap (λ (m : ℕ). between l s'.first m) (sym passed);
+}
+
+first_of_more : (k : ℕ) (y : Block) (more : List Block) → 0 < k → take k (y ∷ more) ≡ y ∷ take (k - 1) more
+first_of_more zero y more some = absurd (omega (arith, some))
+first_of_more (suc k) y more some = ap (λ (m : ℕ). y ∷ take m more) (let z : k ≡ suc k - 1 = omega arith in z)
+
+-- the block that has no room is the source's next
+pub over_on : (b len n limit i a j want room : ℕ) (x w : List ℕ) (g : List Block) → 4 ≤ b → len ≤ n * b → n * b < len + b → i + a ≤ n → j < a → room ≡ a * b → Loaded b len i want room x w
+    → IsOver limit b g (drop j (classes b a w)) → IsOver limit b g (drop (i + j) (classify b x))
+over_on b len n limit i a j want room x w g some covers last within few wide h o y more e =
+    let l = classify b x in
+    let there : drop j (drop i l) ≡ y ∷ more = drop-drop j i l ∙ ap (λ (m : ℕ). drop m l) (omega arith) ∙ e in
+    let mine : drop j (classes b a w) ≡ y ∷ take (a - j - 1) more =
+    ap (drop j) (window_blocks b len n i a a want room x w some covers last within (omega arith) wide h) ∙ ap (λ (m : ℕ). drop j (take m (drop i l))) (let z : a ≡ j + (a - j) = omega (arith, few) in z)
+    ∙ drop-take j (a - j) (drop i l) ∙ ap (take (a - j)) there ∙ first_of_more (a - j) y more (omega (arith, few)) in
+    o y (take (a - j - 1) more) mine
