@@ -72,3 +72,7 @@ fits_window a n b le fits = let m : a * b ≤ n * b = mul-le-mul_right b le in o
 
 pub no_wider : (i n b x y : ℕ) → i ≤ n → y ≤ x + i * (b + 16) → y ≤ x + n * (b + 16)
 no_wider i n b x y le h = let m : i * (b + 16) ≤ n * (b + 16) = mul-le-mul_right (b + 16) le in omega (arith, m, h)
+
+-- what was read up to a block, and up to a later one
+pub read_more : (i j b len : ℕ) → i ≤ j → min (i * b) len ≤ min (j * b) len
+read_more i j b len le = let m : i * b ≤ j * b = mul-le-mul_right b le in omega (arith, m)

@@ -1,15 +1,15 @@
 -- The blocks of a segment, as the source tells them.
-use Rattle.std.proofs.Common.{◌≡◌, ℕ, zero, suc, ◌+◌, ◌-◌, ◌*◌, ◌<◌, ◌≤◌, Bool, IsTrue, List, [], ◌∷◌, ◌++◌, length, take, drop, replicate, min, refl, sym, ap, ◌∙◌, arith, mul-le-mul_right}
+use Rattle.std.proofs.Common.{◌≡◌, ℕ, zero, suc, ◌+◌, ◌-◌, ◌*◌, ◌<◌, ◌≤◌, Bool, true, false, IsTrue, length-drop, List, [], ◌∷◌, ◌++◌, length, take, drop, replicate, min, refl, sym, ap, ◌∙◌, arith, mul-le-mul_right}
 use Rattle.std.specs.Prelude.{slice_range}
 use Rattle.std.proofs.lemmas.List.{drop-drop, drop-take}
 use Rattle.abt_sparse.specs.Block.{Block, classify}
-use Rattle.abt_runs.specs.RawLaws.{raw_count}
+use Rattle.abt_runs.specs.RawLaws.{raw_count, raw_long}
 use Rattle.abt_runs.proofs.Classes.{raw_part}
 use Rattle.abt_pieces.specs.Plan.{between}
 use Rattle.abt_pieces.proofs.Planning.{between_more}
 use Rattle.abt_placed.specs.Placed.{classes}
 use Rattle.abt_placed.specs.Whole.{taken}
-use Rattle.abt_placed.specs.Segment.{LaidSegment, ToldSegment, IsOver}
+use Rattle.abt_placed.specs.Segment.{LaidSegment, ToldSegment, EndedSegment, IsOver}
 use Rattle.abt_placed.specs.declared.segment.Segment.{Segment}
 use Rattle.abt_placed.proofs.Laying.{classes_part}
 
@@ -55,3 +55,29 @@ over_on b len n limit i a j want room x w g some covers last within few wide h o
     ap (drop j) (window_blocks b len n i a a want room x w some covers last within (omega arith) wide h) ∙ ap (λ (m : ℕ). drop j (take m (drop i l))) (let z : a ≡ j + (a - j) = omega (arith, few) in z)
     ∙ drop-take j (a - j) (drop i l) ∙ ap (take (a - j)) there ∙ first_of_more (a - j) y more (omega (arith, few)) in
     o y (take (a - j - 1) more) mine
+
+pub no_more_than : (d : Bool) (x y a : ℕ) → (d ≡ false → y ≡ x + a) → (d ≡ true → y < x + a) → y ≤ x + a
+no_more_than true x y a all short = let z = short refl in omega (arith, z)
+no_more_than false x y a all short = let z = all refl in omega (arith, z)
+
+-- the segment ends before a block that has no room
+pub ended_on : (tells : Bool) (x : List ℕ) (b len n a j want room : ℕ) (now now' w : List ℕ) (s s' : Segment) → 4 ≤ b → len ≤ n * b → n * b < len + b → taken s.placer + a ≤ n → j < a → taken s'.placer ≡ taken s.placer + j → s'.first ≡ s.first → s'.limit ≡ s.limit → s.first ≤ taken s.placer → s.first < taken s'.placer → room ≡ a * b
+    → (t : ToldSegment tells x b now s) → LaidSegment b (t.blocks ++ classes b j w) now' s' → (IsTrue tells → Loaded b len (taken s.placer) want room x w) → IsOver s.limit b (t.blocks ++ classes b j w) (drop j (classes b a w)) → EndedSegment tells x b n s'
+ended_on tells x b len n a j want room now now' w s s' some covers last within few passed same cap order more wide t laid read o = record {
+  moves = λ _. rw same more;
+  over = λ y.
+      let g = t.blocks ++ classes b j w in
+      let l = classify b x in
+      let e : g ≡ between l s'.first (taken s'.placer) = (told_on tells x b len n a j want room now now' w s s' some covers last within (omega (arith, few)) passed same order wide t laid read).told y in
+      let p : IsOver s.limit b g (drop (taken s.placer + j) l) = over_on b len n s.limit (taken s.placer) a j want room x w g some covers last within few wide (read y) o in
+      let q : IsOver s.limit b g (drop (taken s'.placer) l) = rw passed p in
+      let r : IsOver s'.limit b g (drop (taken s'.placer) l) = rw cap q in
+      rw e at r;
+}
+
+-- where no block is left
+pub none_over : (tells : Bool) (x : List ℕ) (b len n : ℕ) (s : Segment) → 4 ≤ b → len ≤ n * b → n * b < len + b → (IsTrue tells → len ≡ length x) → taken s.placer ≡ n → EndedSegment tells x b n s
+none_over tells x b len n s some covers last known all = record {
+  moves = λ less. absurd (omega (arith, less, all));
+  over = λ t y more e. absurd (let l = raw_long len n b x some covers last (known t) in let z : length (drop (taken s.placer) (classify b x)) ≡ suc (length more) = ap length e in omega (arith, z, l, all, length-drop (taken s.placer) (classify b x)));
+}

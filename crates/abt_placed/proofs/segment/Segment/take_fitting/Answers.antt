@@ -24,3 +24,86 @@ take_part-requires-clause-all g c =
     let b = c.args.size in
     let m = more_blocks 0 n c.min-cap.result b (omega (arith, c.leading-kind.ensures.within)) in
     part_classes c.leading-kind.result.0 b n from (from + c.min-cap.result * b) (from + n * b) c.args.w.now.bytes c.part.result.now c.part-in-loop-done.result.now (omega (arith, m)) (omega arith) c.part.ensures.value c.part-in-loop-done.ensures.value c.leading-kind.ensures.all
+
+pub loop-done-preserved : goal.loop-done-preserved
+loop-done-preserved g c =
+    let i = c.loop-done.invariant in
+    let e = c.in-Ok.ensures in
+    let t = c.take_part.ensures in
+    let on = c.if-ended.false in
+    let n = c.leading-kind.result.1 in
+    let d = c.loop-done.done in
+    let b = c.args.size in
+    let k = look_costs n b c.tick.new.self.turns.number c.leading-kind.new.m.turns.number c.leading-kind.ensures.some c.requires.some c.leading-kind.ensures.looked in
+    let y = take_costs n b c.leading-kind.ensures.some c.requires.some in
+    let z : (d + n) * b ≡ d * b + n * b = omega arith in
+    record {
+      within = omega arith;
+      sound = e.sound;
+      laid = λ f p. more_laid b d n (d * b) (d * b + n * b) f c.args.w.now.bytes c.part-in-loop-done.result.now (g.O.Output.written c.take_part.new.output) c.take_part.new.self refl (omega arith) c.part-in-loop-done.ensures.value (e.laid (f ++ classes b d c.args.w.now.bytes) (i.laid f p) on);
+      passed = omega (arith, e.passed on, i.passed);
+      same = (t.same.0 ∙ i.same.0, t.same.1 ∙ i.same.1, t.same.2 ∙ i.same.2, t.same.3 ∙ i.same.3);
+      grown = omega (arith, t.grown, i.grown);
+      kept = keeps_then (c.args.self.now.placer.front + 28) (g.O.Output.written c.args.output.now) (g.O.Output.written c.loop-done.output) (g.O.Output.written c.take_part.new.output) i.kept (subst (λ (j : ℕ). KeepsFront (j + 28) (g.O.Output.written c.loop-done.output) (g.O.Output.written c.take_part.new.output)) i.same.1 t.kept);
+      frame = t.frame ∙ i.frame;
+      faults = e.clean ∙ i.faults;
+      full_faults = omega (arith, t.full_faults, e.full_faults, i.full_faults);
+      calls = omega (arith, i.calls, t.calls, y, z);
+      turns = omega (arith, i.turns, t.turns, k, z, c.tick.ensures.turns);
+      steps = omega arith;
+      greatest = omega arith;
+    }
+
+pub returns-then-ended-clause-laid : goal.returns-then-ended-clause-laid
+returns-then-ended-clause-laid g c f p =
+    let i = c.loop-done.invariant in
+    let st = c.in-Ok.ensures.still c.if-ended.true in
+    let z : c.loop-done.done ≡ taken c.loop-done.self.placer - taken c.args.self.now.placer = omega (arith, i.passed) in
+    rw (st.0, st.1) (subst (λ (n : ℕ). LaidSegment c.args.size (f ++ classes c.args.size n c.args.w.now.bytes) (g.O.Output.written c.loop-done.output) c.loop-done.self) z (i.laid f p))
+
+pub returns-then-ended-clause-over : goal.returns-then-ended-clause-over
+returns-then-ended-clause-over g c f p on =
+    let i = c.loop-done.invariant in
+    let e = c.in-Ok.ensures in
+    let st = e.still c.if-ended.true in
+    let s = c.loop-done.self in
+    let w = c.args.w.now.bytes in
+    let b = c.args.size in
+    let d = c.loop-done.done in
+    let n = c.leading-kind.result.1 in
+    let a = c.args.blocks in
+    let all = part_classes c.leading-kind.result.0 b n (d * b) (d * b + c.min-cap.result * b) (d * b + n * b) w c.part.result.now c.part-in-loop-done.result.now (let m = more_blocks 0 n c.min-cap.result b (omega (arith, c.leading-kind.ensures.within)) in omega (arith, m)) (omega arith) c.part.ensures.value c.part-in-loop-done.ensures.value c.leading-kind.ensures.all in
+    let o = window_over b d n a (d * b) (d * b + n * b) f w c.part-in-loop-done.result.now (g.O.Output.written c.loop-done.output) s _ c.leading-kind.result.0 c.requires.some c.leading-kind.ensures.some (omega arith) refl (omega arith) c.part-in-loop-done.ensures.value i.sound (i.laid f p) all (omega (arith, c.leading-kind.ensures.within, c.min-cap.ensures, c.cap.ensures.cap)) (e.over c.if-ended.true) in
+    let o' = subst (λ (m : ℕ). IsOver m b (f ++ classes b d w) (drop d (classes b a w))) i.same.3 o in
+    let z : d ≡ taken s.placer - taken c.args.self.now.placer = omega (arith, i.passed) in
+    rw st.0 (subst (λ (m : ℕ). IsOver c.args.self.now.limit b (f ++ classes b m w) (drop m (classes b a w))) z o')
+
+pub returns-then-ended-clause-calls : goal.returns-then-ended-clause-calls
+returns-then-ended-clause-calls g c =
+    let i = c.loop-done.invariant in
+    let st = c.in-Ok.ensures.still c.if-ended.true in
+    let m = more_blocks c.loop-done.done c.leading-kind.result.1 c.args.blocks c.args.size (omega arith) in
+    rw st.1 (omega (arith, i.calls, m))
+
+pub returns-then-ended-clause-turns : goal.returns-then-ended-clause-turns
+returns-then-ended-clause-turns g c =
+    let i = c.loop-done.invariant in
+    let st = c.in-Ok.ensures.still c.if-ended.true in
+    let n = c.leading-kind.result.1 in
+    let k = look_costs n c.args.size c.tick.new.self.turns.number c.leading-kind.new.m.turns.number c.leading-kind.ensures.some c.requires.some c.leading-kind.ensures.looked in
+    let m = more_blocks c.loop-done.done n c.args.blocks c.args.size (omega arith) in
+    omega (arith, i.turns, k, m, c.take_part.ensures.turns, c.tick.ensures.turns)
+
+pub returns-in-Err-clause-turns : goal.returns-in-Err-clause-turns
+returns-in-Err-clause-turns g c =
+    let i = c.loop-done.invariant in
+    let n = c.leading-kind.result.1 in
+    let k = look_costs n c.args.size c.tick.new.self.turns.number c.leading-kind.new.m.turns.number c.leading-kind.ensures.some c.requires.some c.leading-kind.ensures.looked in
+    let m = more_blocks c.loop-done.done n c.args.blocks c.args.size (omega arith) in
+    omega (arith, i.turns, k, m, c.take_part.ensures.turns, c.tick.ensures.turns)
+
+pub returns-clause-laid : goal.returns-clause-laid
+returns-clause-laid g c f p =
+    let i = c.loop-done.invariant in
+    let z : c.loop-done.done ≡ taken c.loop-done.self.placer - taken c.args.self.now.placer = omega (arith, i.passed) in
+    subst (λ (n : ℕ). LaidSegment c.args.size (f ++ classes c.args.size n c.args.w.now.bytes) (g.O.Output.written c.loop-done.output) c.loop-done.self) z (i.laid f p)
