@@ -360,7 +360,7 @@ skipped_placed b n g w w' s s' some sound e f p =
 
 -- before the first block of a segment
 pub begun_behind : (b at first r : ℕ) (k : RunKind) (old now : List ℕ) → at ≡ length old → now ≡ old ++ replicate 28 0 → (first ≡ 0 → k ≡ kinds.End) → (0 < first → k ≡ kinds.Skip) → Placed b (skips first ++ []) now (record { front = at; most = r; chunks = 0; blocks = 0; kind = k; count = first })
-begun_behind b at zero r k old now place e none some = rw none refl (record {
+begun_behind b at zero r k old now place e none some = rw (none refl) (record {
   before = old;
   done = [];
   front = sym place;
@@ -379,7 +379,7 @@ begun_behind b at (suc first) r k old now place e none some = rw (some (omega ar
   bytes = λ t good. refl;
   chunks = λ t good. (let z : length (chunks_of r (skips (suc first) ++ t)) ≡ 0 + length (chunks_of r (skips (suc first) ++ t)) = omega arith in z);
   all = skips_all (suc first);
-  count = length-replicate (suc first) Skip;
+  count = length-replicate (suc first) Skip ∙ (let z : suc first ≡ 0 + suc first = omega arith in z);
   good = blocks_skips b (suc first);
 })
 

@@ -17,7 +17,7 @@ use Rattle.abt_placed.proofs.Laying.{classes_part}
 pub record Loaded (b len i want room : ℕ) (x w : List ℕ) : Type 0 where
   pub long : len ≡ length x
   pub there : i * b ≤ len
-  pub want : want ≡ min (len - i * b) room
+  pub asked : want ≡ min (len - i * b) room
   pub bytes : slice_range w 0 room ≡ take want (drop (i * b) x) ++ replicate (room - want) 0
 
 pub window_blocks : (b len n i a j want room : ℕ) (x w : List ℕ) → 4 ≤ b → len ≤ n * b → n * b < len + b → i + a ≤ n → j ≤ a → room ≡ a * b → Loaded b len i want room x w → classes b j w ≡ take j (drop i (classify b x))
@@ -25,8 +25,16 @@ window_blocks b len n i a j want room x w some covers last within few wide h =
     let c = raw_count len n b x some covers last h.long in
     let m : j * b ≤ a * b = mul-le-mul_right b few in
     let part : take j (drop i (classify b x)) ≡ classes b j (take want (drop (i * b) x) ++ replicate (a * b - want) 0) =
-    raw_part b i j a n want x c within few (omega (arith, h.long, h.there)) (omega (arith, h.long, covers)) (omega (arith, h.long, h.want, wide)) in
+    raw_part b i j a n want x c within few (omega (arith, h.long, h.there)) (omega (arith, h.long, covers)) (omega (arith, h.long, h.asked, wide)) in
     sym (classes_part b j 0 room w (omega (arith, wide, m))) ∙ ap (classes b j) (h.bytes ∙ ap (λ (k : ℕ). take want (drop (i * b) x) ++ replicate (k - want) 0) wide) ∙ sym part
+
+more_told : (x : List ℕ) (b len n a j want room : ℕ) (w : List ℕ) (g : List Block) (s s' : Segment) → 4 ≤ b → len ≤ n * b → n * b < len + b → taken s.placer + a ≤ n → j ≤ a → taken s'.placer ≡ taken s.placer + j → s'.first ≡ s.first → s.first ≤ taken s.placer → room ≡ a * b
+    → g ≡ between (classify b x) s.first (taken s.placer) → Loaded b len (taken s.placer) want room x w → g ++ classes b j w ≡ between (classify b x) s'.first (taken s'.placer)
+more_told x b len n a j want room w g s s' some covers last within few passed same order wide told read =
+    let i = taken s.placer in
+    let l = classify b x in
+    ap (λ (f : List Block). f ++ classes b j w) told ∙ ap (λ (f : List Block). between l s.first i ++ f) (window_blocks b len n i a j want room x w some covers last within few wide read)
+    ∙ sym (between_more l s.first i j order) ∙ ap (λ (m : ℕ). between l m (i + j)) (sym same) ∙ ap (λ (m : ℕ). between l s'.first m) (sym passed)
 
 -- with the next blocks
 pub told_on : (tells : Bool) (x : List ℕ) (b len n a j want room : ℕ) (now now' w : List ℕ) (s s' : Segment) → 4 ≤ b → len ≤ n * b → n * b < len + b → taken s.placer + a ≤ n → j ≤ a → taken s'.placer ≡ taken s.placer + j → s'.first ≡ s.first → s.first ≤ taken s.placer → room ≡ a * b
@@ -34,11 +42,7 @@ pub told_on : (tells : Bool) (x : List ℕ) (b len n a j want room : ℕ) (now n
 told_on tells x b len n a j want room now now' w s s' some covers last within few passed same order wide t laid read = record {
   blocks = t.blocks ++ classes b j w;
   laid = laid;
-  told = λ y.
-      let i = taken s.placer in
-      let l = classify b x in
-      ap (λ (f : List Block). f ++ classes b j w) (t.told y) ∙ ap (λ (f : List Block). between l s.first i ++ f) (window_blocks b len n i a j want room x w some covers last within few wide (read y))
-      ∙ sym (between_more l s.first i j order) ∙ ap (λ (m : ℕ). between l m (i + j)) (sym same) ∙ ap (λ (m : ℕ). between l s'.first m) (sym passed);
+  told = λ y. more_told x b len n a j want room w t.blocks s s' some covers last within few passed same order wide (t.told y) (read y);
 }
 
 first_of_more : (k : ℕ) (y : Block) (more : List Block) → 0 < k → take k (y ∷ more) ≡ y ∷ take (k - 1) more
@@ -68,7 +72,7 @@ ended_on tells x b len n a j want room now now' w s s' some covers last within f
   over = λ y.
       let g = t.blocks ++ classes b j w in
       let l = classify b x in
-      let e : g ≡ between l s'.first (taken s'.placer) = (told_on tells x b len n a j want room now now' w s s' some covers last within (omega (arith, few)) passed same order wide t laid read).told y in
+      let e : g ≡ between l s'.first (taken s'.placer) = more_told x b len n a j want room w t.blocks s s' some covers last within (omega (arith, few)) passed same order wide (t.told y) (read y) in
       let p : IsOver s.limit b g (drop (taken s.placer + j) l) = over_on b len n s.limit (taken s.placer) a j want room x w g some covers last within few wide (read y) o in
       let q : IsOver s.limit b g (drop (taken s'.placer) l) = rw passed p in
       let r : IsOver s'.limit b g (drop (taken s'.placer) l) = rw cap q in

@@ -30,34 +30,34 @@ returns-in-Some-clause-greatest g c =
     let f = fits_window c.min-asked.result c.in_window.result r.size (omega arith) c.in_window.ensures.fits in
     omega (arith, f)
 
-pub returns-in-Ok-take_fitting-clause-received : goal.returns-in-Ok-take_fitting-clause-received
-returns-in-Ok-take_fitting-clause-received g c =
+pub returns-in-Ok-clause-received : goal.returns-in-Ok-clause-received
+returns-in-Ok-clause-received g c =
     let r = c.args.runs.now in
     let f = fits_window c.min-asked.result c.in_window.result r.size (omega arith) c.in_window.ensures.fits in
     omega (arith, f)
 
-pub returns-in-Ok-take_fitting-clause-once : goal.returns-in-Ok-take_fitting-clause-once
-returns-in-Ok-take_fitting-clause-once g c is =
+pub returns-in-Ok-clause-once : goal.returns-in-Ok-clause-once
+returns-in-Ok-clause-once g c is =
     let r = c.args.runs.now in
     let i = taken c.args.self.now.placer in
     let f = few_zeros (i + c.min-asked.result) r.blocks r.size r.length (omega arith) r.last in
     let read : c.load_filled-loaded.result.received ≡ c.min-want.result = if_none c.load_filled-loaded.result.fault c.in_default.is c.load_filled-loaded.ensures.whole in
     let x = window i c.min-asked.result r.size r.length c.min-want.result (omega (arith, c.place_of-at.ensures.place, c.place_of-at.ensures.within)) (omega arith) r.some (omega (arith, c.place_of-at.ensures.place, c.min-want.ensures)) in
-    let p : (c.take_fitting.new.self.placer.blocks + c.take_fitting.new.self.placer.count) * r.size ≡ (i + c.min-asked.result) * r.size = ap (λ (n : ℕ). n * r.size) (c.in-Ok-take_fitting.ensures.all is) in
+    let p : (c.take_fitting.new.self.placer.blocks + c.take_fitting.new.self.placer.count) * r.size ≡ (i + c.min-asked.result) * r.size = ap (λ (n : ℕ). n * r.size) (c.in-Ok.ensures.all is) in
     omega (arith, p, f, read, x.taken, x.some, x.none, x.read, x.within)
 
-pub returns-in-Ok-take_fitting-clause-going_calls : goal.returns-in-Ok-take_fitting-clause-going_calls
-returns-in-Ok-take_fitting-clause-going_calls g c is =
+pub returns-in-Ok-clause-going_calls : goal.returns-in-Ok-clause-going_calls
+returns-in-Ok-clause-going_calls g c is =
     let r = c.args.runs.now in
     let i = taken c.args.self.now.placer in
     let f = few_zeros (i + c.min-asked.result) r.blocks r.size r.length (omega arith) r.last in
     let read : c.load_filled-loaded.result.received ≡ c.min-want.result = if_none c.load_filled-loaded.result.fault c.in_default.is c.load_filled-loaded.ensures.whole in
     let x = window i c.min-asked.result r.size r.length c.min-want.result (omega (arith, c.place_of-at.ensures.place, c.place_of-at.ensures.within)) (omega arith) r.some (omega (arith, c.place_of-at.ensures.place, c.min-want.ensures)) in
-    let p : (c.take_fitting.new.self.placer.blocks + c.take_fitting.new.self.placer.count) * r.size ≡ (i + c.min-asked.result) * r.size = ap (λ (n : ℕ). n * r.size) (c.in-Ok-take_fitting.ensures.all is) in
+    let p : (c.take_fitting.new.self.placer.blocks + c.take_fitting.new.self.placer.count) * r.size ≡ (i + c.min-asked.result) * r.size = ap (λ (n : ℕ). n * r.size) (c.in-Ok.ensures.all is) in
     omega (arith, p, f, read, x.taken, x.some, x.none, x.read, x.within)
 
-pub returns-in-Ok-take_fitting-clause-calls : goal.returns-in-Ok-take_fitting-clause-calls
-returns-in-Ok-take_fitting-clause-calls g c =
+pub returns-in-Ok-clause-calls : goal.returns-in-Ok-clause-calls
+returns-in-Ok-clause-calls g c =
     let r = c.args.runs.now in
     let i = taken c.args.self.now.placer in
     let f = few_zeros (i + c.min-asked.result) r.blocks r.size r.length (omega arith) r.last in
@@ -65,18 +65,18 @@ returns-in-Ok-take_fitting-clause-calls g c =
     let x = window i c.min-asked.result r.size r.length c.min-want.result (omega (arith, c.place_of-at.ensures.place, c.place_of-at.ensures.within)) (omega arith) r.some (omega (arith, c.place_of-at.ensures.place, c.min-want.ensures)) in
     omega (arith, f, read, x.taken, x.some, x.none, x.read, x.within)
 
-pub returns-in-Ok-take_fitting-clause-going_turns : goal.returns-in-Ok-take_fitting-clause-going_turns
-returns-in-Ok-take_fitting-clause-going_turns g c is =
+pub returns-in-Ok-clause-going_turns : goal.returns-in-Ok-clause-going_turns
+returns-in-Ok-clause-going_turns g c is =
     let r = c.args.runs.now in
     let i = taken c.args.self.now.placer in
     let f = few_zeros (i + c.min-asked.result) r.blocks r.size r.length (omega arith) r.last in
     let read : c.load_filled-loaded.result.received ≡ c.min-want.result = if_none c.load_filled-loaded.result.fault c.in_default.is c.load_filled-loaded.ensures.whole in
     let x = window i c.min-asked.result r.size r.length c.min-want.result (omega (arith, c.place_of-at.ensures.place, c.place_of-at.ensures.within)) (omega arith) r.some (omega (arith, c.place_of-at.ensures.place, c.min-want.ensures)) in
-    let p : (c.take_fitting.new.self.placer.blocks + c.take_fitting.new.self.placer.count) * r.size ≡ (i + c.min-asked.result) * r.size = ap (λ (n : ℕ). n * r.size) (c.in-Ok-take_fitting.ensures.all is) in
+    let p : (c.take_fitting.new.self.placer.blocks + c.take_fitting.new.self.placer.count) * r.size ≡ (i + c.min-asked.result) * r.size = ap (λ (n : ℕ). n * r.size) (c.in-Ok.ensures.all is) in
     omega (arith, p, f, read, x.taken, x.some, x.none, x.read, x.within)
 
-pub returns-in-Ok-take_fitting-clause-turns : goal.returns-in-Ok-take_fitting-clause-turns
-returns-in-Ok-take_fitting-clause-turns g c =
+pub returns-in-Ok-clause-turns : goal.returns-in-Ok-clause-turns
+returns-in-Ok-clause-turns g c =
     let r = c.args.runs.now in
     let i = taken c.args.self.now.placer in
     let f = few_zeros (i + c.min-asked.result) r.blocks r.size r.length (omega arith) r.last in
@@ -84,20 +84,20 @@ returns-in-Ok-take_fitting-clause-turns g c =
     let x = window i c.min-asked.result r.size r.length c.min-want.result (omega (arith, c.place_of-at.ensures.place, c.place_of-at.ensures.within)) (omega arith) r.some (omega (arith, c.place_of-at.ensures.place, c.min-want.ensures)) in
     omega (arith, f, read, x.taken, x.some, x.none, x.read, x.within)
 
-pub returns-in-Ok-take_fitting-clause-greatest : goal.returns-in-Ok-take_fitting-clause-greatest
-returns-in-Ok-take_fitting-clause-greatest g c =
+pub returns-in-Ok-clause-greatest : goal.returns-in-Ok-clause-greatest
+returns-in-Ok-clause-greatest g c =
     let r = c.args.runs.now in
     let f = fits_window c.min-asked.result c.in_window.result r.size (omega arith) c.in_window.ensures.fits in
     omega (arith, f)
 
-pub returns-in-Err-take_fitting-clause-received : goal.returns-in-Err-take_fitting-clause-received
-returns-in-Err-take_fitting-clause-received g c =
+pub returns-in-Err-clause-received : goal.returns-in-Err-clause-received
+returns-in-Err-clause-received g c =
     let r = c.args.runs.now in
     let f = fits_window c.min-asked.result c.in_window.result r.size (omega arith) c.in_window.ensures.fits in
     omega (arith, f)
 
-pub returns-in-Err-take_fitting-clause-calls : goal.returns-in-Err-take_fitting-clause-calls
-returns-in-Err-take_fitting-clause-calls g c =
+pub returns-in-Err-clause-calls : goal.returns-in-Err-clause-calls
+returns-in-Err-clause-calls g c =
     let r = c.args.runs.now in
     let i = taken c.args.self.now.placer in
     let f = few_zeros (i + c.min-asked.result) r.blocks r.size r.length (omega arith) r.last in
@@ -105,8 +105,8 @@ returns-in-Err-take_fitting-clause-calls g c =
     let x = window i c.min-asked.result r.size r.length c.min-want.result (omega (arith, c.place_of-at.ensures.place, c.place_of-at.ensures.within)) (omega arith) r.some (omega (arith, c.place_of-at.ensures.place, c.min-want.ensures)) in
     omega (arith, f, read, x.taken, x.some, x.none, x.read, x.within)
 
-pub returns-in-Err-take_fitting-clause-turns : goal.returns-in-Err-take_fitting-clause-turns
-returns-in-Err-take_fitting-clause-turns g c =
+pub returns-in-Err-clause-turns : goal.returns-in-Err-clause-turns
+returns-in-Err-clause-turns g c =
     let r = c.args.runs.now in
     let i = taken c.args.self.now.placer in
     let f = few_zeros (i + c.min-asked.result) r.blocks r.size r.length (omega arith) r.last in
@@ -114,8 +114,8 @@ returns-in-Err-take_fitting-clause-turns g c =
     let x = window i c.min-asked.result r.size r.length c.min-want.result (omega (arith, c.place_of-at.ensures.place, c.place_of-at.ensures.within)) (omega arith) r.some (omega (arith, c.place_of-at.ensures.place, c.min-want.ensures)) in
     omega (arith, f, read, x.taken, x.some, x.none, x.read, x.within)
 
-pub returns-in-Err-take_fitting-clause-greatest : goal.returns-in-Err-take_fitting-clause-greatest
-returns-in-Err-take_fitting-clause-greatest g c =
+pub returns-in-Err-clause-greatest : goal.returns-in-Err-clause-greatest
+returns-in-Err-clause-greatest g c =
     let r = c.args.runs.now in
     let f = fits_window c.min-asked.result c.in_window.result r.size (omega arith) c.in_window.ensures.fits in
     omega (arith, f)
@@ -125,41 +125,41 @@ returns-then-length-runs-clause-cause g c =
     not_told g.S.Source.tells (λ tells. let other = c.if-length-runs.true in absurd (omega (arith, c.length.ensures.told tells, c.requires.opened tells)))
 
 
-pub returns-in-Ok-take_fitting-clause-last : goal.returns-in-Ok-take_fitting-clause-last
-returns-in-Ok-take_fitting-clause-last g c =
+pub returns-in-Ok-clause-last : goal.returns-in-Ok-clause-last
+returns-in-Ok-clause-last g c =
     let r = c.args.runs.now in
-    let e = c.in-Ok-take_fitting.ensures in
+    let e = c.in-Ok.ensures in
     let i = taken c.args.self.now.placer in
     let f = fits_window c.min-asked.result c.in_window.result r.size (omega arith) c.in_window.ensures.fits in
     let y = read_more i (taken c.take_fitting.new.self.placer) r.size r.length e.order in
     omega (arith, f, y)
 
-pub returns-in-Ok-take_fitting-clause-told : goal.returns-in-Ok-take_fitting-clause-told
-returns-in-Ok-take_fitting-clause-told g c =
+pub returns-in-Ok-clause-told : goal.returns-in-Ok-clause-told
+returns-in-Ok-clause-told g c =
     let r = c.args.runs.now in
     let s = c.args.self.now in
     let s' = c.take_fitting.new.self in
     let x = g.S.Source.content c.args.source.now in
     let a = c.min-asked.result in
     let l = c.requires.told in
-    let e = c.in-Ok-take_fitting.ensures in
-    let few = no_more_than c.in-Ok-take_fitting.ended (taken s.placer) (taken s'.placer) a e.all e.short in
+    let e = c.in-Ok.ensures in
+    let few = no_more_than c.in-Ok.ended (taken s.placer) (taken s'.placer) a e.all e.short in
     told_on g.S.Source.tells x r.size r.length r.blocks a (taken s'.placer - taken s.placer) c.min-want.result (a * r.size) (g.O.Output.written c.args.output.now) (g.O.Output.written c.take_fitting.new.output) c.load_filled-loaded.new.w.bytes s s' r.some r.covers r.last (omega arith) (omega (arith, few, e.order)) (omega (arith, e.order)) c.take_fitting.ensures.same.2 c.requires.sound.order refl l (e.laid l.blocks l.laid)
-    (λ tells. record { long = c.requires.opened tells; there = omega (arith, c.place_of-at.ensures.place, c.place_of-at.ensures.within); want = omega (arith, c.place_of-at.ensures.place, c.min-want.ensures); bytes = rw c.place_of-at.ensures.place at (if_none c.load_filled-loaded.result.fault c.in_default.is (c.load_filled-loaded.ensures.bytes tells)) })
+    (λ tells. record { long = c.requires.opened tells; there = omega (arith, c.place_of-at.ensures.place, c.place_of-at.ensures.within); asked = omega (arith, c.place_of-at.ensures.place, c.min-want.ensures); bytes = rw c.place_of-at.ensures.place at (if_none c.load_filled-loaded.result.fault c.in_default.is (c.load_filled-loaded.ensures.bytes tells)) })
 
-pub returns-in-Ok-take_fitting-clause-ended : goal.returns-in-Ok-take_fitting-clause-ended
-returns-in-Ok-take_fitting-clause-ended g c is =
+pub returns-in-Ok-clause-ended : goal.returns-in-Ok-clause-ended
+returns-in-Ok-clause-ended g c is =
     let r = c.args.runs.now in
     let s = c.args.self.now in
     let s' = c.take_fitting.new.self in
     let x = g.S.Source.content c.args.source.now in
     let a = c.min-asked.result in
     let l = c.requires.told in
-    let e = c.in-Ok-take_fitting.ensures in
+    let e = c.in-Ok.ensures in
     let t = c.take_fitting.ensures in
     let short = e.short is in
     ended_on g.S.Source.tells x r.size r.length r.blocks a (taken s'.placer - taken s.placer) c.min-want.result (a * r.size) (g.O.Output.written c.args.output.now) (g.O.Output.written c.take_fitting.new.output) c.load_filled-loaded.new.w.bytes s s' r.some r.covers r.last (omega arith) (omega (arith, short, e.order)) (omega (arith, e.order)) t.same.2 t.same.3 c.requires.sound.order (e.some is) refl l (e.laid l.blocks l.laid)
-    (λ tells. record { long = c.requires.opened tells; there = omega (arith, c.place_of-at.ensures.place, c.place_of-at.ensures.within); want = omega (arith, c.place_of-at.ensures.place, c.min-want.ensures); bytes = rw c.place_of-at.ensures.place at (if_none c.load_filled-loaded.result.fault c.in_default.is (c.load_filled-loaded.ensures.bytes tells)) })
+    (λ tells. record { long = c.requires.opened tells; there = omega (arith, c.place_of-at.ensures.place, c.place_of-at.ensures.within); asked = omega (arith, c.place_of-at.ensures.place, c.min-want.ensures); bytes = rw c.place_of-at.ensures.place at (if_none c.load_filled-loaded.result.fault c.in_default.is (c.load_filled-loaded.ensures.bytes tells)) })
     (e.over l.blocks l.laid is)
 
 pub returns-then-from-runs-clause-ended : goal.returns-then-from-runs-clause-ended
