@@ -1,6 +1,7 @@
 -- A piece that is laid in one pass, whole.
 use Rattle.std.proofs.Common.{◌≡◌, ℕ, zero, suc, ◌+◌, ◌-◌, ◌*◌, ◌%◌, ◌^◌, ◌<◌, ◌≤◌, Bool, IsTrue, List, [], ◌∷◌, ◌++◌, length, take, drop, map, replicate, refl, sym, ap, subst, ◌∙◌, arith, append_assoc, append-nil, length-append, Result, Ok, Err, OnOk}
 use Rattle.std.proofs.lemmas.List.{length-map, length-take-le, length-drop}
+use Rattle.std.proofs.Math.Seq.{take-append_seam, drop-append_seam}
 use Rattle.std.specs.List.{flat_map, AllByRecursion}
 use Rattle.abt_io.specs.Moment.{put_at}
 use Rattle.abt_sparse.specs.Block.{Block, Raw, Fill, Skip, AreBlocks, classify}
@@ -24,6 +25,8 @@ use Rattle.abt_placed.specs.Segment.{SoundSegment, LaidSegment, ToldSegment, End
 use Rattle.abt_placed.specs.Piece.{LaidPiece, WholePiece}
 use Rattle.abt_placed.specs.declared.placer.Placer.{Placer}
 use Rattle.abt_placed.specs.declared.segment.Segment.{Segment}
+use Rattle.abt_placed.specs.Unfinished.{IsUnfinished, KeepsFront}
+use Rattle.abt_placed.proofs.Refusing.{keeps_less, zeros_kept}
 use Rattle.abt_placed.proofs.Laying.{placed_whole}
 use Rattle.abt_placed.proofs.Uncut.{uncut, uncut_spelling, uncut_count}
 
@@ -127,3 +130,26 @@ piece_held tells x b n limit first past chunks old new t long order within w =
   where
     length-between : (l : List Block) → l ≡ classify b x → length (between l first past) ≡ past - first
     length-between l e = length-take-le (past - first) (drop first l) (omega (arith, length-drop first l, ap length e, long, within, order))
+
+-- ---- the beginning of a piece
+
+pub first_told : (tells : Bool) (x : List ℕ) (b first : ℕ) (now : List ℕ) (s : Segment) → s.first ≡ first → taken s.placer ≡ first → LaidSegment b [] now s → ToldSegment tells x b now s
+first_told tells x b first now s at all l = record {
+  blocks = [];
+  laid = l;
+  told = λ t. (let z : taken s.placer - s.first ≡ 0 = omega (arith, at, all) in sym (ap (λ (n : ℕ). take n (drop s.first (classify b x))) z));
+}
+
+zeros_first : (f : ℕ) (old mid : List ℕ) → f ≡ length old → mid ≡ old ++ replicate 28 0 → take 28 (drop f mid) ≡ replicate 28 0
+zeros_first f old mid at e = ap (λ (n : ℕ). take 28 (drop n mid)) at ∙ ap (λ (l : List ℕ). take 28 (drop (length old) l)) e ∙ ap (take 28) (drop-append_seam old (replicate 28 0))
+
+-- what stood before, and the zeros for the header, stand still
+pub front_kept : (f f' : ℕ) (old mid new : List ℕ) → f ≡ length old → f' ≡ f → mid ≡ old ++ replicate 28 0 → KeepsFront (f' + 28) mid new → take f new ≡ old
+front_kept f f' old mid new at same e k =
+    (keeps_less f (f' + 28) mid new (omega (arith, same)) k).front ∙ ap (λ (n : ℕ). take n mid) at ∙ ap (take (length old)) e ∙ take-append_seam old (replicate 28 0)
+
+pub zeros_stay : (f f' : ℕ) (old mid new : List ℕ) → f ≡ length old → f' ≡ f → mid ≡ old ++ replicate 28 0 → KeepsFront (f' + 28) mid new → take 28 (drop f new) ≡ replicate 28 0
+zeros_stay f f' old mid new at same e k = zeros_kept f mid new (subst (λ (n : ℕ). KeepsFront (n + 28) mid new) same k) (zeros_first f old mid at e)
+
+pub unfinished_at : (f : ℕ) (old new : List ℕ) → f ≡ length old → IsUnfinished (drop f new) → IsUnfinished (drop (length old) new)
+unfinished_at f old new at h = subst (λ (n : ℕ). IsUnfinished (drop n new)) at h

@@ -1,5 +1,5 @@
 -- The blocks of a segment, as the source tells them.
-use Rattle.std.proofs.Common.{◌≡◌, ℕ, zero, suc, ◌+◌, ◌-◌, ◌*◌, ◌<◌, ◌≤◌, Bool, true, false, IsTrue, length-drop, List, [], ◌∷◌, ◌++◌, length, take, drop, replicate, min, refl, sym, ap, ◌∙◌, arith, mul-le-mul_right}
+use Rattle.std.proofs.Common.{◌≡◌, ℕ, zero, suc, ◌+◌, ◌-◌, ◌*◌, ◌<◌, ◌≤◌, Bool, true, false, IsTrue, length-drop, List, [], ◌∷◌, ◌++◌, length, take, drop, replicate, min, refl, sym, ap, subst, ◌∙◌, arith, mul-le-mul_right}
 use Rattle.std.specs.Prelude.{slice_range}
 use Rattle.std.proofs.lemmas.List.{drop-drop, drop-take}
 use Rattle.abt_sparse.specs.Block.{Block, classify}
@@ -84,4 +84,18 @@ pub none_over : (tells : Bool) (x : List ℕ) (b len n : ℕ) (s : Segment) → 
 none_over tells x b len n s some covers last known all = record {
   moves = λ less. absurd (omega (arith, less, all));
   over = λ t y more e. absurd (let l = raw_long len n b x some covers last (known t) in let z : length (drop (taken s.placer) (classify b x)) ≡ suc (length more) = ap length e in omega (arith, z, l, all, length-drop (taken s.placer) (classify b x)));
+}
+
+-- a source that tells the same
+pub same_told : (tells : Bool) (x x' : List ℕ) (b : ℕ) (now : List ℕ) (s : Segment) → (IsTrue tells → x ≡ x') → ToldSegment tells x b now s → ToldSegment tells x' b now s
+same_told tells x x' b now s e h = record {
+  blocks = h.blocks;
+  laid = h.laid;
+  told = λ t. h.told t ∙ ap (λ (y : List ℕ). between (classify b y) s.first (taken s.placer)) (e t);
+}
+
+pub same_ended : (tells : Bool) (x x' : List ℕ) (b n : ℕ) (s : Segment) → (IsTrue tells → x ≡ x') → EndedSegment tells x b n s → EndedSegment tells x' b n s
+same_ended tells x x' b n s e h = record {
+  moves = h.moves;
+  over = λ t. subst (λ (y : List ℕ). IsOver s.limit b (between (classify b y) s.first (taken s.placer)) (drop (taken s.placer) (classify b y))) (e t) (h.over t);
 }
