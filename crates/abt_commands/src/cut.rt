@@ -8,8 +8,9 @@ use crate::numbers::{number, number_if};
 use crate::progress::RAW_PASSES;
 use crate::session::{Session, identity_at};
 use crate::watched::Watched;
-use abt_io::{FileSource, Meter, Output, Window};
+use abt_io::{FileSource, Meter, Output, Overwrite, Window};
 use abt_pieces::{Cutter, Piece};
+use abt_placed::next_piece_at;
 use abt_runs::{BlockRuns, RawRuns, SparseRuns};
 use abt_texts::{CommandFault, ShownPath, write_fault};
 use std::alloc::Global;
@@ -46,9 +47,8 @@ pub(crate) fn cut_file<R: Files<File = File> + Clock, I, O: Output, E: Output>(
     let mut source = session.open_source("IN", order.input)?;
     let pieces = match raw {
         Some(size) => {
-            session.progress.repeat(RAW_PASSES);
             let runs = RawRuns::open(&source, size).map_err(CommandFault::Run)?;
-            cut_runs(session, runs, &mut source, order, limit, w, m)?
+            cut_raw(session, runs, &mut source, order, limit, w, m)?
         }
         None => {
             let runs = SparseRuns::open(&mut source, w, m).map_err(CommandFault::Run)?;
@@ -81,20 +81,59 @@ fn cut_runs<R: Files<File = File> + Clock, B: BlockRuns + Drop, I, O: Output, E:
         }
         let path = piece_path(session.alloc, order.prefix, number)?;
         if let Some(piece) = write_piece(session, &mut cutter, source, path.as_str(), w, m)? {
-            let Piece {
-                first,
-                past,
-                bytes,
-                ..
-            } = piece;
-            // At once: no piece is begun before it is known that the line of the last one is out.
-            session
-                .report(format_args!("piece {number} blocks {first} {past} bytes {bytes}"))
-                .map_err(write_fault)?;
+            report_piece(session, number, piece)?;
         }
         pieces = number;
     }
     Ok(pieces)
+}
+
+// The same of a raw image, which is read once where its pieces go to regular files.
+fn cut_raw<R: Files<File = File> + Clock, I, O: Output, E: Output>(
+    session: &mut Session<'_, R, I, O, E>,
+    runs: RawRuns,
+    source: &mut FileSource,
+    order: CutOrder<'_>,
+    limit: u32,
+    w: &mut Window,
+    m: &mut Meter,
+) -> Result<u32, CommandFault> {
+    let mut cutter = Cutter::open(runs, limit).map_err(CommandFault::Piece)?;
+    refuse_input_as_piece(session, order)?;
+    let mut pieces = 0;
+    for number in 1..=u32::MAX {
+        m.tick();
+        if !cutter.more() {
+            break;
+        }
+        let path = piece_path(session.alloc, order.prefix, number)?;
+        let output = session.create_image("PIECE", path.as_str())?;
+        if number == 1 && matches!(&output, ImageOutput::Stream(_)) {
+            session.progress.repeat(RAW_PASSES);
+        }
+        if let Some(piece) = write_raw_piece(session, &mut cutter, source, output, w, m)? {
+            report_piece(session, number, piece)?;
+        }
+        pieces = number;
+    }
+    Ok(pieces)
+}
+
+// Says what a piece is, at once: none is begun before it is known that the line of the last one is out.
+fn report_piece<R: Clock, I, O: Output, E: Output>(
+    session: &mut Session<'_, R, I, O, E>,
+    number: u32,
+    piece: Piece,
+) -> Result<(), CommandFault> {
+    let Piece {
+        first,
+        past,
+        bytes,
+        ..
+    } = piece;
+    session
+        .report(format_args!("piece {number} blocks {first} {past} bytes {bytes}"))
+        .map_err(write_fault)
 }
 
 // Writes the next piece to the file of this path, which is created or emptied, and holds all of the piece then.
@@ -123,6 +162,55 @@ fn write_piece<R: Files<File = File> + Clock, B: BlockRuns + Drop, I, O: Output,
     };
     session.is_unfinished = false;
     Ok(piece)
+}
+
+// Writes the next piece of a raw image to its file, in one pass where that is a regular one: the magic is laid last.
+fn write_raw_piece<R: Clock, I, O: Output, E: Output>(
+    session: &mut Session<'_, R, I, O, E>,
+    cutter: &mut Cutter<RawRuns>,
+    source: &mut FileSource,
+    output: ImageOutput<'_>,
+    w: &mut Window,
+    m: &mut Meter,
+) -> Result<Option<Piece>, CommandFault>
+    requires unbegun { is_begun cutter.old.stage ≡ false }
+    ensures unbegun { is_begun cutter.new.stage ≡ false }
+    ensures runs { cutter.new.runs ≡ cutter.old.runs }
+{
+    let piece = match output {
+        ImageOutput::File(image) => {
+            let mut file = image.output;
+            let piece = next_watched_at(session, cutter, source, &mut file, w, m);
+            file.sent(piece)?
+        }
+        ImageOutput::Stream(mut stream) => {
+            let piece = next_watched(session, cutter, source, &mut stream, w, m);
+            sent(&mut stream, piece, session.reason)?
+        }
+    };
+    session.is_unfinished = false;
+    Ok(piece)
+}
+
+fn next_watched_at<R: Clock, I, O: Output, E: Output, T: Overwrite>(
+    session: &mut Session<'_, R, I, O, E>,
+    cutter: &mut Cutter<RawRuns>,
+    source: &mut FileSource,
+    output: &mut T,
+    w: &mut Window,
+    m: &mut Meter,
+) -> Result<Option<Piece>, CommandFault>
+    requires unbegun { is_begun cutter.old.stage ≡ false }
+    ensures unbegun { is_begun cutter.new.stage ≡ false }
+    ensures runs { cutter.new.runs ≡ cutter.old.runs }
+{
+    let mut watched = Watched::new(
+        &mut *source,
+        &mut session.progress,
+        session.rt,
+        &mut *session.err,
+    );
+    next_piece_at(cutter, &mut watched, output, w, m).map_err(CommandFault::Piece)
 }
 
 fn next_watched<R: Clock, B: BlockRuns + Drop, I, O: Output, E: Output, T: Output>(

@@ -1,5 +1,5 @@
 -- A piece that is laid in one pass, whole.
-use Rattle.std.proofs.Common.{◌≡◌, ℕ, zero, suc, ◌+◌, ◌-◌, ◌*◌, ◌%◌, ◌^◌, ◌<◌, ◌≤◌, Bool, IsTrue, List, [], ◌∷◌, ◌++◌, length, take, drop, map, replicate, refl, sym, ap, subst, ◌∙◌, arith, append_assoc, append-nil, length-append, Result, Ok, Err, OnOk}
+use Rattle.std.proofs.Common.{inl, inr, ◌⊎◌, ◌≡◌, ℕ, zero, suc, ◌+◌, ◌-◌, ◌*◌, ◌%◌, ◌^◌, ◌<◌, ◌≤◌, Bool, IsTrue, List, [], ◌∷◌, ◌++◌, length, take, drop, map, replicate, refl, sym, ap, subst, ◌∙◌, arith, append_assoc, append-nil, length-append, Result, Ok, Err, OnOk}
 use Rattle.std.proofs.lemmas.List.{length-map, length-take-le, length-drop}
 use Rattle.std.proofs.Math.Seq.{take-append_seam, drop-append_seam}
 use Rattle.std.specs.List.{flat_map, AllByRecursion}
@@ -14,6 +14,8 @@ use Rattle.abt_runs.specs.RawLaws.{raw_long}
 use Rattle.abt_pieces.specs.Contents.{written_in}
 use Rattle.abt_pieces.specs.Gather.{frame}
 use Rattle.abt_pieces.specs.Image.{Appended, IsImage}
+use Rattle.abt_pieces.specs.Outline.{IsPiece}
+use Rattle.abt_pieces.specs.declared.outline.Piece.{Piece}
 use Rattle.abt_pieces.specs.Plan.{between, FirstPiece}
 use Rattle.abt_pieces.proofs.Counting.{written-append}
 use Rattle.abt_pieces.proofs.Cutting.{header_long}
@@ -25,8 +27,8 @@ use Rattle.abt_placed.specs.Segment.{SoundSegment, LaidSegment, ToldSegment, End
 use Rattle.abt_placed.specs.Piece.{LaidPiece, WholePiece}
 use Rattle.abt_placed.specs.declared.placer.Placer.{Placer}
 use Rattle.abt_placed.specs.declared.segment.Segment.{Segment}
-use Rattle.abt_placed.specs.Unfinished.{IsUnfinished, KeepsFront}
-use Rattle.abt_placed.proofs.Refusing.{keeps_less, zeros_kept}
+use Rattle.abt_placed.specs.Unfinished.{IsUnfinished, IsNoImage, KeepsFront}
+use Rattle.abt_placed.proofs.Refusing.{refused, keeps_less, zeros_kept}
 use Rattle.abt_placed.proofs.Laying.{placed_whole}
 use Rattle.abt_placed.proofs.Uncut.{uncut, uncut_spelling, uncut_count}
 
@@ -117,7 +119,7 @@ all_held (Skip ∷ g) h = absurd h.0
 
 none_held : (n : ℕ) → written_in (skips n) ≡ 0
 none_held zero = refl
-none_held (suc n) = none_held n
+none_held (suc n) = let z = none_held n in omega (arith, z)
 
 pub piece_held : (tells : Bool) (x : List ℕ) (b n limit first past chunks : ℕ) (old new : List ℕ) → IsTrue tells → n ≡ length (classify b x) → first ≤ past → past ≤ n → WholePiece tells x b n limit first past chunks old new → past - first ≡ written_in (frame (classify b x) first past)
 piece_held tells x b n limit first past chunks old new t long order within w =
@@ -153,3 +155,23 @@ zeros_stay f f' old mid new at same e k = zeros_kept f mid new (subst (λ (n : �
 
 pub unfinished_at : (f : ℕ) (old new : List ℕ) → f ≡ length old → IsUnfinished (drop f new) → IsUnfinished (drop (length old) new)
 unfinished_at f old new at h = subst (λ (n : ℕ). IsUnfinished (drop n new)) at h
+
+-- ---- what is answered
+
+pub piece_exact : (tells : Bool) (x : List ℕ) (b n limit first chunks : ℕ) (old new : List ℕ) (p : Piece) → IsTrue tells → n ≡ length (classify b x) → p.first ≡ first → p.first ≤ p.past → p.past ≤ n → p.written ≡ p.past - p.first → length new ≡ length old + p.bytes → WholePiece tells x b n limit first p.past chunks old new → IsPiece b (classify b x) p
+piece_exact tells x b n limit first chunks old new p t long at order within held bytes w =
+    let l = classify b x in
+    let q : WholePiece tells x b n limit p.first p.past chunks old new = rw at w in
+    let e = piece_told tells x b n limit p.first p.past chunks old new t long q in
+    record {
+      order = order;
+      within = omega (arith, within, long);
+      held = held ∙ piece_held tells x b n limit p.first p.past chunks old new t long order within q;
+      long = omega (arith, bytes, ap length e, length-append old (piece b (frame l p.first p.past)));
+    }
+
+pub unfinished_refused : (old new : List ℕ) → (new ≡ old) ⊎ IsUnfinished (drop (length old) new) → (new ≡ old) ⊎ IsNoImage (drop (length old) new)
+unfinished_refused old new h = elim h [ inl e ↦ inl e | inr e ↦ inr (refused (drop (length old) new) e) ]
+
+pub all_kept : (f f' : ℕ) (old mid now new : List ℕ) → f ≡ length old → f' ≡ f → mid ≡ old ++ replicate 28 0 → KeepsFront (f' + 28) mid now → take f new ≡ take f now → take (length old) new ≡ old
+all_kept f f' old mid now new at same e k h = ap (λ (n : ℕ). take n new) (sym at) ∙ h ∙ front_kept f f' old mid now at same e k
