@@ -347,8 +347,7 @@ placed_whole b g now now' s s' sound p e f =
     let head = header_record (plain_header b t.blocks t.chunks) in
     let laid : now' ≡ p.before ++ (head ++ c.done) = f ∙ ap (λ (m : ℕ). put_at (closing s b now) m head) (sym p.front) ∙ ap (λ (y : List ℕ). put_at y (length p.before) head) c.stands ∙ put_seam p.before (replicate 28 0) head c.done (header_long b t.blocks t.chunks) in
     let rest = (replicate 28 0 ++ p.done) ++ open_bytes s.kind (drop s.blocks g) in
-    let same : p.before ≡ take s.front now = sym (ap (λ (m : ℕ). take m now) (sym p.front) ∙ ap (take (length p.before)) (p.stands ∙ append_assoc p.before (replicate 28 0 ++ p.done) (open_bytes s.kind (drop s.blocks g))) ∙ take-append_seam p.before rest) in
-    (
+    let same : p.before ≡ take s.front now = sym (ap (λ (m : ℕ). take m now) (sym p.front) ∙ ap (take (length p.before)) (p.stands ∙ append_assoc p.before (replicate 28 0 ++ p.done) (open_bytes s.kind (drop s.blocks g))) ∙ take-append_seam p.before rest) in (
       laid ∙ ap (λ (y : List ℕ). p.before ++ (head ++ y)) (sym bytes) ∙ ap (λ (y : List ℕ). p.before ++ y) (sym (header_first b r g b t.blocks t.chunks refl c.blocks (sym chunks))) ∙ ap (λ (y : List ℕ). y ++ spelling b r g) same,
       ap (λ (y : Placer). y.chunks) e ∙ sym chunks,
     )

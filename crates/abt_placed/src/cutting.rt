@@ -178,8 +178,8 @@ pub fn next_piece_at<S: Source, O: Overwrite>(
     ensures once { IfOk result (λ o. IfSome o (λ p. S.given source.new + read_of cutter.old.runs.length
         cutter.old.runs.size p.first ≤ S.given source.old + read_of cutter.old.runs.length cutter.old.runs.size
         p.past + 65536)) }
-    ensures calls { (S.reads source.new - S.reads source.old) + (O.writes output.new - O.writes output.old)
-        ≤ 8 * ((S.given source.new - S.given source.old) + (length (O.written output.new) - length
+    ensures calls { S.reads source.new + O.writes output.new ≤ S.reads source.old + O.writes
+        output.old + 8 * ((S.given source.new - S.given source.old) + (length (O.written output.new) - length
         (O.written output.old)) + cutter.old.runs.size) + 512 }
     ensures turns { m.new.turns.number
         ≤ m.old.turns.number + 8 * ((S.given source.new - S.given source.old) + (length (O.written output.new) - length

@@ -1,5 +1,5 @@
-//! Writing a raw image as a sparse image in one pass over it, to an output whose written bytes can be
-//! written over.
+//! Writing a raw image as a sparse image, or as its pieces, in one pass over it, to an output whose
+//! written bytes can be written over.
 //!
 //! A chunk's header stands before its data and says how long it is, and the image's header says how
 //! many chunks there are. So the place of each is kept with zeros, and it is laid there when what it

@@ -91,38 +91,38 @@ fn same_pieces<R: Abort>(
     Err(Fail::new("the image has more than 200 pieces"))
 }
 
-/// Blocks of classes in any order, for each limit from the least one up to one that holds all.
+/// Blocks of classes in any order, for limits from the least one up to one that holds all.
 #[test]
 fn every_order_of_classes_is_cut_the_same(rt: HostRuntime) -> Result<(), Fail> {
     let mut w = Window::new();
     let words = [[0u8, 0, 0, 0, 0, 0, 0, 0], [1; 8], [1, 2, 3, 4, 5, 6, 7, 8]];
-    for order in 0..729u32 {
-        let mut bytes = [0u8; 48];
+    for order in 0..243u32 {
+        let mut bytes = [0u8; 40];
         let mut rest = order;
-        for i in 0..6usize {
+        for i in 0..5usize {
             let word = words[(rest % 3) as usize];
             bytes[8 * i..8 * i + 8].copy_from_slice(&word);
             rest /= 3;
         }
-        for limit in 72..170 {
+        for limit in [72, 79, 80, 88, 95, 96, 104, 112, 128, 150] {
             same_pieces(&rt, &bytes, 8, limit, &mut w)?;
         }
     }
     Ok(())
 }
 
-/// Images of any length up to eighteen bytes: the last block is filled up with zeros.
+/// Images of any length up to nine bytes: the last block is filled up with zeros.
 #[test]
 fn every_small_image_is_cut_the_same(rt: HostRuntime) -> Result<(), Fail> {
     let mut w = Window::new();
-    for n in 0..12u32 {
+    for n in 0..10u32 {
         for bits in 0..(1u32 << n) {
-            let mut bytes = [0u8; 12];
-            for i in 0..12u32 {
+            let mut bytes = [0u8; 9];
+            for i in 0..9u32 {
                 bytes[i as usize] = ((bits >> i) & 1) as u8;
             }
             let image = &bytes[..n as usize];
-            for limit in [68, 69, 72, 76, 80, 84, 96, 120] {
+            for limit in [68, 71, 72, 80, 96] {
                 same_pieces(&rt, image, 4, limit, &mut w)?;
             }
         }

@@ -26,7 +26,7 @@ returns-in-Ok g c =
     let old = g.O.Output.written c.args.output.now in
     let new = g.O.Output.written c.lay_piece.new.output in
     let u = c.in-Ok.outline in
-    let behind : Behind r.blocks u.piece.past c.pass.new.cutter.stage = record { end = o.sound.end; done = p.done; between = p.between } in
+    let behind : Behind r.blocks u.piece.past c.pass.new.self.stage = record { end = o.sound.end; done = p.done; between = p.between } in
     let more : has_more c.args.cutter.now.stage ≡ true = search rules in
     let long : IsTrue g.S.Source.tells → r.blocks ≡ length l = λ tells. sym (raw_long r.length r.blocks r.size x r.some r.covers r.last (c.requires.opened tells)) in
     let order = o.sound.order in
@@ -36,7 +36,7 @@ returns-in-Ok g c =
       content = q.content;
       frame = q.frame;
       write_frame = q.write_frame;
-      told = λ tells. rw (p.limit, p.made, p.start) (told_more _ _ (λ (d : Cursor). RawPlace r.blocks r.size d) _ r.blocks _ _ _ start u _ _ more (c.requires.told tells) o.sound (long tells) (rw o.sound.past at ((o.whole.told tells).1)) o.next behind.done behind.between);
+      told = λ tells. rw (p.limit, p.made, p.start) (told_more _ _ (λ (d : Cursor). RawPlace r.blocks r.size d) _ r.blocks _ _ _ start u _ _ more (c.requires.told tells) o.sound (long tells) (o.whole.told tells).1 o.next behind.done behind.between);
       unbegun = behind_unbegun _ _ _ behind;
       grown = q.grown;
       within = omega (arith, q.long);
@@ -64,7 +64,7 @@ returns-in-Ok g c =
       faults = q.faults;
       write_faults = q.write_faults;
       clean = o.clean;
-      full_faults = λ h. q.full_faults;
+      full_faults = λ h. o.full_faults;
       full = λ h e. absurd cc;
       cause = tt;
     }

@@ -124,7 +124,6 @@ pub returns-then-length-runs-clause-cause : goal.returns-then-length-runs-clause
 returns-then-length-runs-clause-cause g c =
     not_told g.S.Source.tells (λ tells. let other = c.if-length-runs.true in absurd (omega (arith, c.length.ensures.told tells, c.requires.opened tells)))
 
-
 pub returns-in-Ok-clause-last : goal.returns-in-Ok-clause-last
 returns-in-Ok-clause-last g c =
     let r = c.args.runs.now in
