@@ -1,5 +1,5 @@
 -- A piece that is laid in one pass, whole.
-use Rattle.std.proofs.Common.{inl, inr, ◌⊎◌, ◌≡◌, ℕ, zero, suc, ◌+◌, ◌-◌, ◌*◌, ◌%◌, ◌^◌, ◌<◌, ◌≤◌, Bool, IsTrue, List, [], ◌∷◌, ◌++◌, length, take, drop, map, replicate, refl, sym, ap, subst, ◌∙◌, arith, append_assoc, append-nil, length-append, Result, Ok, Err, OnOk}
+use Rattle.std.proofs.Common.{inl, inr, ◌⊎◌, ◌≡◌, ℕ, zero, suc, ◌+◌, ◌-◌, ◌*◌, ◌%◌, ◌^◌, ◌<◌, ◌≤◌, Bool, IsTrue, List, [], ◌∷◌, ◌++◌, length, take, drop, map, replicate, refl, sym, ap, subst, ◌∙◌, arith, append-nil, length-append, Result, Ok, Err, OnOk}
 use Rattle.std.proofs.lemmas.List.{length-map, length-take-le, length-drop}
 use Rattle.std.proofs.Math.Seq.{take-append_seam, drop-append_seam}
 use Rattle.std.specs.List.{flat_map, AllByRecursion}
@@ -16,9 +16,8 @@ use Rattle.abt_pieces.specs.Gather.{frame}
 use Rattle.abt_pieces.specs.Image.{Appended, IsImage}
 use Rattle.abt_pieces.specs.Outline.{IsPiece}
 use Rattle.abt_pieces.specs.declared.outline.Piece.{Piece}
-use Rattle.abt_pieces.specs.Plan.{between, FirstPiece}
+use Rattle.abt_pieces.specs.Plan.{between}
 use Rattle.abt_pieces.proofs.Counting.{written-append}
-use Rattle.abt_pieces.proofs.Cutting.{header_long}
 use Rattle.abt_pieces.proofs.Planning.{first_piece}
 use Rattle.abt_placed.specs.Placer.{SoundPlacer, closed, closing}
 use Rattle.abt_placed.specs.Placed.{Placed, skips}

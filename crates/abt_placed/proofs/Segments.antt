@@ -1,26 +1,24 @@
 -- A segment that takes blocks: its numbers, and what it has laid.
-use Rattle.std.proofs.Common.{inl, inr, ◌⊎◌, ◌≡◌, ℕ, zero, suc, ◌+◌, ◌-◌, ◌*◌, ◌/◌, ◌%◌, ◌<◌, ◌≤◌, nat_lt, Bool, true, false, List, [], ◌∷◌, ◌++◌, length, take, drop, map, replicate, refl, sym, ap, subst, ◌∙◌, arith, append_assoc, ◌&&◌, if◌then◌else◌, bytes_eq, mul-le-mul_right}
+use Rattle.std.proofs.Common.{inl, inr, ◌⊎◌, ◌≡◌, ℕ, ◌+◌, ◌-◌, ◌*◌, ◌/◌, ◌%◌, ◌<◌, ◌≤◌, nat_lt, Bool, true, false, List, [], ◌∷◌, ◌++◌, length, take, drop, map, refl, sym, ap, subst, ◌∙◌, arith, append_assoc, ◌&&◌, if◌then◌else◌, bytes_eq, mul-le-mul_right}
 use Rattle.std.proofs.lemmas.Bool.{cases_Bool, ltb-true, ltb-false}
 use Rattle.std.proofs.lemmas.List.{length-map}
 use Rattle.std.proofs.Math.Seq.{take-append_seam, drop-append_seam}
 use Rattle.std.specs.List.{AllByRecursion, list_all}
-use Rattle.abt_sparse.specs.Block.{Block, Raw, Fill, Skip, split, class_of}
+use Rattle.abt_sparse.specs.Block.{Block, Skip, split, class_of}
 use Rattle.abt_sparse.specs.Runs.{weight}
-use Rattle.abt_sparse.specs.Gains.{Behind, Fresh, After, moved, gains, behind_all}
+use Rattle.abt_sparse.specs.Gains.{Behind, Fresh, moved, gains, behind_all}
 use Rattle.abt_sparse.proofs.Gains.{gains-append, weight_gains}
-use Rattle.abt_runs.specs.Part.{AllOf, is_end}
+use Rattle.abt_runs.specs.Part.{AllOf}
 use Rattle.abt_runs.specs.RawLaws.{length-split}
 use Rattle.abt_runs.specs.Whole.{alike_kinds}
 use Rattle.abt_runs.specs.declared.part.RunKind.{RunKind}
 use Rattle.abt_runs.specs.declared.part.RunKind.TheVariants as kinds
-use Rattle.abt_pieces.specs.Contents.{data_len}
 use Rattle.abt_pieces.specs.Plan.{between, head_of, fill_gain_of, cap_of, gain_of, tail_after, tail_of}
 use Rattle.abt_pieces.proofs.Planning.{part_gains, over}
 use Rattle.abt_pieces.specs.declared.tail.Tail.{Tail}
 use Rattle.abt_pieces.specs.declared.tail.Tail.TheVariants as tails
-use Rattle.abt_placed.specs.Placer.{SoundPlacer, goes_on, goes_on_as, with_part, longer, begun, closed, kept_for, closing_len, beginning_len, taking_len, room_of}
+use Rattle.abt_placed.specs.Placer.{SoundPlacer, goes_on, with_part, longer, begun, closed, closing_len, beginning_len, taking_len}
 use Rattle.abt_placed.specs.Placed.{Placed, classes, skips}
-use Rattle.abt_placed.specs.Whole.{taken}
 use Rattle.abt_placed.specs.Segment.{tail_of_open, is_fresh, to_come, SoundSegment, IsHeld, LaidSegment, IsOver}
 use Rattle.abt_placed.specs.declared.placer.Placer.{Placer}
 use Rattle.abt_placed.specs.declared.segment.Segment.{Segment}

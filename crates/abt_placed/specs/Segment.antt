@@ -1,5 +1,5 @@
 -- The segment of a piece that is laid in one pass: its numbers, and what stands of it.
-use Rattle.std.specs.Prelude.{◌≡◌, ℕ, ◌+◌, ◌-◌, ◌*◌, ◌≤◌, ◌<◌, Bool, true, false, IsTrue, List, [], ◌∷◌, ◌++◌, length, drop, ⊤}
+use Rattle.std.specs.Prelude.{◌≡◌, ℕ, ◌+◌, ◌*◌, ◌≤◌, ◌<◌, Bool, true, false, IsTrue, List, [], ◌∷◌, ◌++◌, drop, ⊤}
 use Rattle.std.specs.List.{AllByRecursion}
 use Rattle.abt_sparse.specs.Block.{Block, Raw, Fill, Skip, classify}
 use Rattle.abt_sparse.specs.Runs.{weight}

@@ -1,7 +1,7 @@
-use Rattle.std.proofs.Common.{◌≡◌, ◌+◌, ◌-◌, ◌∙◌, ℕ, ap, sym, refl, subst, inl, inr, arith, length, take, drop, replicate}
+use Rattle.std.proofs.Common.{◌≡◌, ◌∙◌, ℕ, sym, refl, subst, inr, arith, length, take}
 use Rattle.abt_placed.specs.Whole.{taken}
 use Rattle.abt_placed.proofs.Refusing.{broken_off, zeros_refused}
-use Rattle.abt_placed.proofs.Pieces.{first_told, front_kept, all_kept, zeros_stay, unfinished_at, whole_piece, piece_least}
+use Rattle.abt_placed.proofs.Pieces.{first_told, front_kept, all_kept, zeros_stay, unfinished_at, whole_piece}
 use Rattle.abt_placed.proofs.cutting.lay_piece.Goals as goal
 
 pub returns-in-Err-clause-unfinished : goal.returns-in-Err-clause-unfinished

@@ -1,4 +1,4 @@
-use Rattle.std.proofs.Common.{rules, ap, sym, refl, arith, ◌∙◌, ◌≡◌, ◌+◌, ◌++◌, ◌*◌, ℕ, List, true, inl, inr, IsTrue, length}
+use Rattle.std.proofs.Common.{rules, ap, sym, refl, arith, ◌∙◌, ◌≡◌, ◌++◌, ℕ, List, true, inr, IsTrue, length}
 use Rattle.abt_sparse.specs.Block.{classify}
 use Rattle.abt_runs.specs.Raw.{RawPlace}
 use Rattle.abt_runs.specs.RawLaws.{raw_long}
@@ -8,7 +8,6 @@ use Rattle.abt_pieces.specs.declared.fault.PieceFault.{PieceFault}
 use Rattle.abt_pieces.specs.declared.stage.Stage.TheVariants.{Done, Failed}
 use Rattle.abt_pieces.proofs.Cutting.{piece_is, told_more, told_failed}
 use Rattle.abt_pieces.proofs.Stepping.{Behind, behind_unbegun, behind_passed}
-use Rattle.abt_placed.proofs.Refusing.{refused}
 use Rattle.abt_placed.proofs.Pieces.{piece_image, piece_told, piece_exact, unfinished_refused}
 use Rattle.abt_placed.proofs.cutting.next_piece_at.Goals as goal
 

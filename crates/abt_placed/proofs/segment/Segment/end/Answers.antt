@@ -1,4 +1,4 @@
-use Rattle.std.proofs.Common.{◌≡◌, ◌+◌, ◌-◌, ◌++◌, ◌∙◌, ℕ, List, arith, ap, sym, subst, take, drop, replicate, OnErr}
+use Rattle.std.proofs.Common.{◌≡◌, ◌+◌, ◌-◌, ◌++◌, ◌∙◌, ℕ, arith, sym, subst, take, drop, replicate, OnErr}
 use Rattle.abt_io.specs.Moment.{put_at}
 use Rattle.abt_sparse.specs.Chunk.{header_record, plain_header}
 use Rattle.abt_sparse.specs.Runs.{framed}

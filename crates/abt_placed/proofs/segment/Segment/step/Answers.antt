@@ -1,9 +1,9 @@
-use Rattle.std.proofs.Common.{◌≡◌, ◌+◌, ◌-◌, ◌*◌, ◌∙◌, IsTrue, arith, length, ap, sym, subst, refl, ℕ}
+use Rattle.std.proofs.Common.{◌≡◌, ◌+◌, ◌-◌, ◌*◌, arith, ap, refl, ℕ}
 use Rattle.abt_runs.proofs.Classes.{if_none}
 use Rattle.abt_pieces.proofs.Fronts.{not_told}
 use Rattle.abt_placed.specs.Whole.{taken}
 use Rattle.abt_placed.proofs.Costs.{few_zeros, fits_window, read_more, window}
-use Rattle.abt_placed.proofs.Sourced.{Loaded, told_on, ended_on, none_over, no_more_than}
+use Rattle.abt_placed.proofs.Sourced.{told_on, ended_on, none_over, no_more_than}
 use Rattle.abt_placed.proofs.segment.Segment.step.Goals as goal
 
 pub returns-then-length-runs-clause-calls : goal.returns-then-length-runs-clause-calls

@@ -1,5 +1,4 @@
-use Rattle.std.proofs.Common.{List, length, drop, ◌≡◌, ◌*◌, ◌+◌, ◌-◌, ◌++◌, ◌∙◌, arith, refl, sym, subst, ℕ}
-use Rattle.abt_sparse.specs.Block.{Block}
+use Rattle.std.proofs.Common.{drop, ◌≡◌, ◌*◌, ◌+◌, ◌-◌, ◌++◌, ◌∙◌, arith, refl, subst, ℕ}
 use Rattle.abt_placed.specs.Placed.{classes}
 use Rattle.abt_placed.specs.Segment.{LaidSegment, IsOver}
 use Rattle.abt_placed.specs.Unfinished.{KeepsFront}

@@ -1,4 +1,4 @@
-use Rattle.std.proofs.Common.{◌≡◌, ◌∙◌, ◌+◌, ℕ, arith, subst}
+use Rattle.std.proofs.Common.{◌∙◌, ◌+◌, ℕ, arith, subst}
 use Rattle.abt_placed.specs.Unfinished.{KeepsFront}
 use Rattle.abt_placed.proofs.Refusing.{keeps_then}
 use Rattle.abt_placed.proofs.Sourced.{same_told, same_ended}
