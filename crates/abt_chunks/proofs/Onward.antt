@@ -15,7 +15,7 @@ use Rattle.abt_sparse.specs.Reading.{number_at, header_at, checked_header, kind_
 use Rattle.abt_io.proofs.Words.{take_past, words_add}
 use Rattle.abt_sparse.proofs.Lay.{cells-append, cells-skips}
 use Rattle.abt_sparse.proofs.Exactly.{chunks-got, chunks-bad}
-use Rattle.abt_chunks.specs.Walking.{SpentBy}
+use Rattle.abt_chunks.specs.Turns.{SpentBy}
 use Rattle.abt_chunks.specs.Ahead.{Ahead, stopping, before, somes, fills, gaps, seen_chunks, seen, chunks_ahead, body_ahead, walk, raw_of, due_of, words_of, left_of}
 
 -- ---- lists
@@ -177,9 +177,6 @@ skip_cells : (b n : ℕ) → b % 4 ≡ 0 → cells b (replicate n Skip) ≡ gaps
 skip_cells b n four = cells-skips b n ∙ ap (λ (j : ℕ). replicate j None) (words_long b n four) where
   words_long : (b n : ℕ) → b % 4 ≡ 0 → n * b ≡ 4 * (n * (b / 4))
   words_long b n four = let e : b ≡ 4 * (b / 4) = omega arith in ap (λ (j : ℕ). n * j) e ∙ omega arith
-
-before_nothing : (a : Ahead) → before [] a ≡ a
-before_nothing a = refl
 
 -- what the chunk gives, by its kind
 made_cells : (h : Header) → h.blk_sz % 4 ≡ 0 → (k : ChunkKind) (n : ℕ) (d : List ℕ) → length d ≡ data_len h.blk_sz k n → (size i have : ℕ) (word rest : List ℕ)

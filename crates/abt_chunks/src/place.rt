@@ -1,7 +1,9 @@
 //! Where a walk stands: what it does next, how many bytes it asks for, and where the next block's byte lies.
 
 ghost use Rattle.std.specs.Prelude.{◌≡◌, ◌≤◌};
-ghost use Rattle.abt_chunks.specs.Walking.{at_end, AtTurn, ask_of, place_of};
+ghost use Rattle.abt_chunks.specs.Turns.{AtTurn, ask_of};
+ghost use Rattle.abt_chunks.specs.Places.{place_of};
+ghost use Rattle.abt_chunks.specs.ListingAhead.{at_end};
 
 use crate::kinds::{bytes_left, nothing_left};
 use crate::walk::{Part, Phase, Turn, Walk};
@@ -10,7 +12,7 @@ use abt_sparse::{ChunkKind, SparseFault, data_length};
 
 impl Walk {
     /// Stops the walk: from now on every step answers this fault.
-    pub fn fail(&mut self, fault: SparseFault) -> Part
+    pub(crate) fn fail(&mut self, fault: SparseFault) -> Part
         ensures part { result ≡ Part.Fault fault }
         ensures failed { self.new.phase ≡ Phase.Failed fault }
         ensures header { self.new.header ≡ self.old.header }

@@ -9,7 +9,9 @@ use Rattle.abt_chunks.specs.declared.walk.Phase.TheVariants as phases
 use Rattle.abt_chunks.specs.declared.walk.Walk.{Walk}
 use Rattle.abt_chunks.specs.Ahead.{before}
 use Rattle.abt_chunks.specs.Expanding.{IsGoing}
-use Rattle.abt_chunks.specs.Walking.{ahead, at_end, place_of}
+use Rattle.abt_chunks.specs.Parts.{ahead}
+use Rattle.abt_chunks.specs.Places.{place_of}
+use Rattle.abt_chunks.specs.ListingAhead.{at_end}
 use Rattle.abt_verify.specs.Fault.{fault_of_sparse}
 use Rattle.abt_verify.specs.Standing.{FirstDiffers, Stands, from_place, said_by}
 use Rattle.abt_verify.specs.declared.fault.VerifyFault.{VerifyFault}
@@ -97,9 +99,10 @@ idle_in p s = 0
 abbrev pub idle : Walk → ℕ
 idle s = idle_in s.phase s
 
--- What a step from walk s to walk s' compares with a partition that holds p, once the bytes c are read and rest is left;
--- what was given of the partition went from given to given'.
-pub record Compares (tells : Bool) (r : Result Progress VerifyFault) (s s' : Walk) (c rest p : List ℕ) (given given' : ℕ) : Type 0 where
+-- What a step from walk s to walk s' compares with a partition that holds p, once the bytes c are read and rest is
+-- left; what was given of the partition went from given to given'.
+pub record Compares (tells : Bool) (r : Result Progress VerifyFault) (s s' : Walk) (c rest p : List ℕ)
+    (given given' : ℕ) : Type 0 where
   -- the cells that it compares: what lay ahead is these, and then what lies ahead behind them, whatever t follows
   pub cells : List (Option ℕ)
   pub told : (t : List ℕ) → (IsTrue (is_err r) → t ≡ rest) → Unless r (ahead s (c ++ t) ≡ before cells (ahead s' t))
