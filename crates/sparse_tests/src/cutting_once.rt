@@ -22,8 +22,8 @@ use std::test::Fail;
 /// What the outputs hold before: it is to stay.
 const BEFORE: [u8; 3] = [7, 8, 9];
 
-/// The next piece of two cutters of one image: both calls answer the same and write the same bytes. True where there was
-/// one.
+/// The next piece of two cutters of one image: both calls answer the same and write the same bytes. True where there
+/// was one.
 fn same_piece<R: Abort, S: Source>(
     rt: &R,
     once: &mut Cutter<RawRuns>,
@@ -70,7 +70,7 @@ fn same_piece<R: Abort, S: Source>(
     matches!(answer, Ok(Some(_)))
 }
 
-/// All pieces of an image are the same, and the image is read once and at most a window more for each piece.
+/// All pieces of an image are the same.
 fn same_pieces<R: Abort>(
     rt: &R,
     bytes: &[u8],
@@ -224,8 +224,8 @@ fn no_image<R: Abort>(rt: &R, stands: &[u8], w: &mut Window) {
     }
 }
 
-/// Writes the first piece of `MIXED` behind three bytes, so many bytes in a call, where a call of each device fails, at 0
-/// none, and once more behind a fault, which is answered again and calls no device.
+/// Writes the first piece of `MIXED` behind three bytes, so many bytes in a call, where a call of each device fails, at
+/// 0 none, and once more behind a fault, which is answered again and calls no device.
 fn failing<R: Abort>(
     rt: &R,
     most: usize,
