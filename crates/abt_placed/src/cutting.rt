@@ -41,7 +41,8 @@ fn lay_piece<S: Source, O: Overwrite>(
     ensures written { IfOk result (λ o. o.piece.written ≡ o.piece.past - o.piece.first) }
     ensures bytes { IfOk result (λ o. length (O.written output.new)
         ≡ length (O.written output.old) + o.piece.bytes) }
-    ensures whole { IfOk result (λ o. WholePiece S.tells (S.content source.old) runs.now.size runs.now.blocks limit first
+    ensures whole { IfOk result (λ o. WholePiece S.tells (S.content source.old) runs.now.size runs.now.blocks limit
+        first
         o.piece.past o.chunks (O.written output.old) (O.written output.new)) }
     ensures before { take (length (O.written output.old)) (O.written output.new) ≡ O.written output.old }
     ensures unfinished { OnErr result ((O.written output.new ≡ O.written output.old) ⊎

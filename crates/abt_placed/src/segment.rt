@@ -185,8 +185,9 @@ impl Segment {
         ensures kept { KeepsFront (self.old.placer.front + 28) (O.written output.old) (O.written output.new) }
         ensures sound { OnOk result (SoundSegment size (length (O.written output.new)) self.new) }
         ensures laid { (g : List Block) → LaidSegment size g (O.written output.old) self.old →
-            OnOk result (LaidSegment size (g ++ classes size (taken self.new.placer - taken self.old.placer) w.now.bytes)
-            (O.written output.new) self.new) }
+            OnOk result (LaidSegment size
+            (g ++ classes size (taken self.new.placer - taken self.old.placer) w.now.bytes) (O.written output.new)
+            self.new) }
         ensures order { OnOk result (taken self.old.placer ≤ taken self.new.placer) }
         ensures all { IfOk result (λ d. d ≡ false → taken self.new.placer ≡ taken self.old.placer + blocks) }
         ensures short { IfOk result (λ d. d ≡ true → taken self.new.placer < taken self.old.placer + blocks) }
@@ -281,11 +282,12 @@ impl Segment {
             (O.written output.new) + 6 * (S.given source.new - S.given source.old) + 4 * runs.now.size + 1 }
         ensures going_turns { IfOk result (λ d. d ≡ false →
             m.new.turns.number + 1 + length (O.written output.old) + 5 * padding runs.now.length runs.now.size
-            (taken self.old.placer) ≤ m.old.turns.number + length (O.written output.new) + 8 * (S.given source.new - S.given
-            source.old) + 5 * padding runs.now.length runs.now.size (taken self.new.placer)) }
+            (taken self.old.placer) ≤ m.old.turns.number + length (O.written output.new) + 8
+            * (S.given source.new - S.given source.old) + 5 * padding runs.now.length runs.now.size
+            (taken self.new.placer)) }
         ensures turns { m.new.turns.number + length (O.written output.old) + 5 * padding runs.now.length runs.now.size
-            (taken self.old.placer) ≤ m.old.turns.number + length (O.written output.new) + 8 * (S.given source.new - S.given
-            source.old) + 5 * runs.now.size + 1 }
+            (taken self.old.placer) ≤ m.old.turns.number + length (O.written output.new) + 8
+            * (S.given source.new - S.given source.old) + 5 * runs.now.size + 1 }
         ensures greatest { m.new.greatest.number ≤ max m.old.greatest.number 65536 }
         ensures faults { S.read_faults source.old ≤ S.read_faults source.new }
         ensures write_faults { O.write_faults output.old ≤ O.write_faults output.new }

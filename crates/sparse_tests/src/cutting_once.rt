@@ -1,16 +1,13 @@
 //! A raw image cut in one pass over each segment, against the calls that read it three times.
 
-ghost use Rattle.std.specs.Prelude.{◌≡◌, ◌-◌, IsTrue, false};
-ghost use Rattle.abt_sparse.specs.Block.{classify};
-ghost use Rattle.abt_runs.specs.Raw.{RawPlace};
-ghost use Rattle.abt_pieces.specs.Cutter.{ToldCutter, is_begun};
+ghost use Rattle.std.specs.Prelude.{◌≡◌, ◌<◌, false};
+ghost use Rattle.abt_pieces.specs.Cutter.{is_begun};
 
 use crate::counting::Counting;
 use crate::vectors::{LETTERS, LETTERS_IMAGE, MIXED, MIXED_FIRST};
 use abt_chunks::expand;
 use abt_io::{
-    Cut, DeviceFault, Faulty, Forward, Long, Meter, SliceOutput, SliceSource, Source, SwitchSource,
-    Window,
+    Cut, DeviceFault, Faulty, Forward, Long, Meter, SliceOutput, SliceSource, SwitchSource, Window,
 };
 use abt_pieces::{Cutter, Piece, PieceFault};
 use abt_placed::next_piece_at;
@@ -22,71 +19,71 @@ use std::test::Fail;
 /// What the outputs hold before: it is to stay.
 const BEFORE: [u8; 3] = [7, 8, 9];
 
-/// The next piece of two cutters of one image: both calls answer the same and write the same bytes. True where there was
-/// one.
-fn same_piece<R: Abort, S: Source>(
+/// The next piece of two cutters of one image: both calls answer the same and write the same bytes. True where there
+/// was one.
+fn same_piece<R: Abort>(
     rt: &R,
     once: &mut Cutter<RawRuns>,
     thrice: &mut Cutter<RawRuns>,
-    source: &mut S,
+    source: &mut Counting<Long<SliceSource<'_>>>,
+    one: &mut [u8],
+    three: &mut [u8],
     w: &mut Window,
     m: &mut Meter,
-) -> bool
-    requires once_unbegun { is_begun once.old.stage ≡ false }
-    requires once_opened { IsTrue S.tells → once.old.runs.length ≡ length (S.content source.old) }
-    requires once_told { IsTrue S.tells → ToldCutter (λ c. RawPlace once.old.runs.blocks once.old.runs.size c)
-        (λ c. once.old.runs.blocks - c.block) once.old.runs.size
-        (classify once.old.runs.size (S.content source.old)) once.old.limit once.old.made once.old.start
-        once.old.stage }
-    requires unbegun { is_begun thrice.old.stage ≡ false }
-    requires opened { IsTrue S.tells → thrice.old.runs.length ≡ length (S.content source.old) }
-    requires told { IsTrue S.tells → ToldCutter (λ c. RawPlace thrice.old.runs.blocks thrice.old.runs.size c)
-        (λ c. thrice.old.runs.blocks - c.block) thrice.old.runs.size
-        (classify thrice.old.runs.size (S.content source.old)) thrice.old.limit thrice.old.made thrice.old.start
-        thrice.old.stage }
-    ensures content { IsTrue S.tells → S.content source.new ≡ S.content source.old }
-    ensures once_runs { once.new.runs ≡ once.old.runs }
-    ensures once_unbegun { is_begun once.new.stage ≡ false }
-    ensures once_told { IsTrue S.tells → ToldCutter (λ c. RawPlace once.old.runs.blocks once.old.runs.size c)
-        (λ c. once.old.runs.blocks - c.block) once.old.runs.size
-        (classify once.old.runs.size (S.content source.old)) once.new.limit once.new.made once.new.start
-        once.new.stage }
-    ensures runs { thrice.new.runs ≡ thrice.old.runs }
-    ensures unbegun { is_begun thrice.new.stage ≡ false }
-    ensures told { IsTrue S.tells → ToldCutter (λ c. RawPlace thrice.old.runs.blocks thrice.old.runs.size c)
-        (λ c. thrice.old.runs.blocks - c.block) thrice.old.runs.size
-        (classify thrice.old.runs.size (S.content source.old)) thrice.new.limit thrice.new.made thrice.new.start
-        thrice.new.stage }
+) -> (bool, u64)
+    requires once { is_begun once.old.stage ≡ false }
+    requires thrice { is_begun thrice.old.stage ≡ false }
+    ensures once { is_begun once.new.stage ≡ false }
+    ensures thrice { is_begun thrice.new.stage ≡ false }
 {
-    let mut one = [0u8; 400];
-    let mut three = [0u8; 400];
-    let mut first = SliceOutput::new(&mut one);
-    let mut second = SliceOutput::new(&mut three);
+    let mut first = SliceOutput::new(one);
+    let mut second = SliceOutput::new(three);
+    let before = source.handed;
     let answer = next_piece_at(once, source, &mut first, w, m);
+    let read = source.handed.saturating_sub(before);
     let wanted = thrice.next_piece(source, &mut second, w, m);
     assert!(rt; answer.is_ok());
     assert!(rt; answer == wanted);
     assert!(rt; first.written() == second.written());
-    matches!(answer, Ok(Some(_)))
+    (matches!(answer, Ok(Some(_))), read)
 }
 
-/// All pieces of an image are the same, and the image is read once and at most a window more for each piece.
+/// All pieces of an image are the same. The image is read once, and at most a window again for each piece.
 fn same_pieces<R: Abort>(
     rt: &R,
     bytes: &[u8],
     size: u32,
     limit: u32,
+    one: &mut [u8],
+    three: &mut [u8],
     w: &mut Window,
 ) -> Result<(), Fail> {
     let mut m = Meter::new();
-    let mut source = SliceSource::new(bytes);
+    let long = bytes.len() as u64;
+    let mut source = Counting::new(Long::new(SliceSource::new(bytes), long));
     let mut once = Cutter::open(RawRuns::open(&source, size)?, limit)?;
     let mut thrice = Cutter::open(RawRuns::open(&source, size)?, limit)?;
+    let mut all = 0u64;
+    let mut pieces = 0u64;
     'pieces: for _ in 0..200 {
-        if !same_piece(rt, &mut once, &mut thrice, &mut source, w, &mut m) {
+        let (more, read) = same_piece(
+            rt,
+            &mut once,
+            &mut thrice,
+            &mut source,
+            &mut *one,
+            &mut *three,
+            w,
+            &mut m,
+        );
+        all = all.saturating_add(read);
+        if !more {
             assert!(rt; !once.more());
+            assert!(rt; all >= long);
+            assert!(rt; all <= long.saturating_add(pieces.saturating_mul(65_536)));
             return Ok(());
         }
+        pieces = pieces.saturating_add(1);
     }
     Err(Fail::new("the image has more than 200 pieces"))
 }
@@ -95,6 +92,8 @@ fn same_pieces<R: Abort>(
 #[test]
 fn every_order_of_classes_is_cut_the_same(rt: HostRuntime) -> Result<(), Fail> {
     let mut w = Window::new();
+    let mut one = [0u8; 160];
+    let mut three = [0u8; 160];
     let words = [[0u8, 0, 0, 0, 0, 0, 0, 0], [1; 8], [1, 2, 3, 4, 5, 6, 7, 8]];
     for order in 0..243u32 {
         let mut bytes = [0u8; 40];
@@ -105,7 +104,7 @@ fn every_order_of_classes_is_cut_the_same(rt: HostRuntime) -> Result<(), Fail> {
             rest /= 3;
         }
         for limit in [72, 79, 80, 88, 95, 96, 104, 112, 128, 150] {
-            same_pieces(&rt, &bytes, 8, limit, &mut w)?;
+            same_pieces(&rt, &bytes, 8, limit, &mut one, &mut three, &mut w)?;
         }
     }
     Ok(())
@@ -115,6 +114,8 @@ fn every_order_of_classes_is_cut_the_same(rt: HostRuntime) -> Result<(), Fail> {
 #[test]
 fn every_small_image_is_cut_the_same(rt: HostRuntime) -> Result<(), Fail> {
     let mut w = Window::new();
+    let mut one = [0u8; 160];
+    let mut three = [0u8; 160];
     for n in 0..10u32 {
         for bits in 0..(1u32 << n) {
             let mut bytes = [0u8; 9];
@@ -123,7 +124,7 @@ fn every_small_image_is_cut_the_same(rt: HostRuntime) -> Result<(), Fail> {
             }
             let image = &bytes[..n as usize];
             for limit in [68, 71, 72, 80, 96] {
-                same_pieces(&rt, image, 4, limit, &mut w)?;
+                same_pieces(&rt, image, 4, limit, &mut one, &mut three, &mut w)?;
             }
         }
     }
@@ -140,28 +141,11 @@ fn a_piece_goes_on_across_windows(rt: HostRuntime) -> Result<(), Fail> {
     for i in 250_000..300_000usize {
         bytes[i] = (i % 241) as u8;
     }
-    let mut room = [0u8; 200_000];
-    let mut same = [0u8; 200_000];
+    let mut one = [0u8; 200_000];
+    let mut three = [0u8; 200_000];
     let mut w = Window::new();
-    let mut m = Meter::new();
-    let mut source = Counting::new(SliceSource::new(&bytes));
     for size in [4096u32, 60_000, 65_536, 1000] {
-        let mut once = Cutter::open(RawRuns::open(&source, size)?, 150_000)?;
-        let mut thrice = Cutter::open(RawRuns::open(&source, size)?, 150_000)?;
-        let mut read = 0u64;
-        for _ in 0..3 {
-            let mut first = SliceOutput::new(&mut room);
-            let mut second = SliceOutput::new(&mut same);
-            let before = source.handed;
-            let answer = next_piece_at(&mut once, &mut source, &mut first, &mut w, &mut m);
-            read = source.handed.saturating_sub(before).saturating_add(read);
-            let wanted = thrice.next_piece(&mut source, &mut second, &mut w, &mut m);
-            assert!(rt; answer.is_ok());
-            assert!(rt; answer == wanted);
-            assert!(rt; first.written() == second.written());
-        }
-        assert!(rt; !once.more());
-        assert!(rt; read >= 300_000 && read <= 431_072);
+        same_pieces(&rt, &bytes, size, 150_000, &mut one, &mut three, &mut w)?;
     }
     Ok(())
 }
@@ -169,7 +153,7 @@ fn a_piece_goes_on_across_windows(rt: HostRuntime) -> Result<(), Fail> {
 /// One cutter may go from one of the calls to the other.
 #[test]
 fn a_cutter_goes_from_call_to_call(rt: HostRuntime) -> Result<(), Fail> {
-    let mut source = SliceSource::new(&LETTERS);
+    let mut source = Long::new(SliceSource::new(&LETTERS), 40);
     let mut w = Window::new();
     let mut m = Meter::new();
     let mut cutter = Cutter::open(RawRuns::open(&source, 8)?, 80)?;
@@ -224,8 +208,8 @@ fn no_image<R: Abort>(rt: &R, stands: &[u8], w: &mut Window) {
     }
 }
 
-/// Writes the first piece of `MIXED` behind three bytes, so many bytes in a call, where a call of each device fails, at 0
-/// none, and once more behind a fault, which is answered again and calls no device.
+/// Writes the first piece of `MIXED` behind three bytes, so many bytes in a call, where a call of each device fails, at
+/// 0 none, and once more behind a fault, which is answered again and calls no device.
 fn failing<R: Abort>(
     rt: &R,
     most: usize,
