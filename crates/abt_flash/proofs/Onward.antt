@@ -82,3 +82,10 @@ spent_whole g0 g p0 p3 p made0 made d one pass image e h k =
     let z : made * (80 + one) ≡ (made0 + d) * (80 + one) = ap (λ (m : ℕ). m * (80 + one)) e in
     let y : (made0 + d) * (80 + one) ≡ made0 * (80 + one) + d * (80 + one) = omega arith in
     omega (arith, z, y, h, k)
+
+-- what one piece more costs
+pub calls_on : (x0 x x' y0 y y' k0 k k' : ℕ) → x' + 8 * y ≤ x + 8 * y' + 257 → x + 8 * y0 + 258 * k0 ≤ x0 + 8 * y + 258 * k → k' ≡ k + 1 → x' + 8 * y0 + 258 * k0 ≤ x0 + 8 * y' + 258 * k'
+calls_on x0 x x' y0 y y' k0 k k' h i e = omega (arith, h, i, e)
+
+pub turns_on : (t0 t t1 t' y0 y y' k0 k k' w w' p : ℕ) → t1 ≡ t + 1 → t' + 8 * y ≤ t1 + 8 * y' + 256 + p → w + p ≤ w' → t + 8 * y0 + 258 * k0 ≤ t0 + 8 * y + w + 258 * k → k' ≡ k + 1 → t' + 8 * y0 + 258 * k0 ≤ t0 + 8 * y' + w' + 258 * k'
+turns_on t0 t t1 t' y0 y y' k0 k k' w w' p tick h words i e = omega (arith, tick, h, words, i, e)

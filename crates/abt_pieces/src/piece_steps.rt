@@ -99,7 +99,7 @@ impl<R: BlockRuns + Drop> Cutter<R> {
         source: &mut S,
         w: &mut Window,
         m: &mut Meter,
-    ) -> Result<PieceProgress, PieceFault>
+    ) -> Result<(), PieceFault>
         requires few { self.old.made ≤ self.old.start.block }
         requires sound { SoundPlanner (R.within self.old.runs) self.old.limit self.old.start.block from }
         requires taken { TakenPlan (R.taken self.old.runs) (R.size self.old.runs) self.old.limit self.old.start from }
@@ -111,7 +111,6 @@ impl<R: BlockRuns + Drop> Cutter<R> {
             (self.new.made ≡ self.old.made) }
         ensures content { IsTrue S.tells → S.content source.new ≡ S.content source.old }
         ensures frame { S.read_frame source.new ≡ S.read_frame source.old }
-        ensures more { IfOk result (λ r. r ≡ PieceProgress.More) }
         ensures begun { OnOk result ((is_begun self.new.stage ≡ true) × (so_far self.new.stage ≡ 0)) }
         ensures sound { OnOk result (SoundStage (R.within self.old.runs) (R.reach self.old.runs) (R.count self.old.runs)
             (R.size self.old.runs) self.old.limit self.old.start.block self.new.stage) }
@@ -159,12 +158,12 @@ impl<R: BlockRuns + Drop> Cutter<R> {
         match planner.step(&mut self.runs, source, limit, w, m) {
             Ok(false) => {
                 self.stage = Stage::Plan(planner);
-                Ok(PieceProgress::More)
+                Ok(())
             }
             Ok(true) => match self.planned(&planner) {
                 Ok(outline) => {
                     self.stage = Stage::Begin(outline);
-                    Ok(PieceProgress::More)
+                    Ok(())
                 }
                 Err(fault) => Err(self.fail(fault)),
             },
@@ -474,8 +473,14 @@ impl<R: BlockRuns + Drop> Cutter<R> {
             (output.new ≡ output.old) × (source.new ≡ source.old) × (self.new ≡ self.old) }
     {
         match self.stage {
-            Stage::Between => self.plan(Planner::begin(self.start), source, w, m),
-            Stage::Plan(planner) => self.plan(planner, source, w, m),
+            Stage::Between => match self.plan(Planner::begin(self.start), source, w, m) {
+                Ok(()) => Ok(PieceProgress::More),
+                Err(fault) => Err(fault),
+            },
+            Stage::Plan(planner) => match self.plan(planner, source, w, m) {
+                Ok(()) => Ok(PieceProgress::More),
+                Err(fault) => Err(fault),
+            },
             Stage::Begin(outline) => match self.begin(outline, output, m) {
                 Ok(()) => Ok(PieceProgress::More),
                 Err(fault) => Err(fault),

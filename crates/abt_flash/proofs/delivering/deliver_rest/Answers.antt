@@ -12,7 +12,7 @@ use Rattle.abt_pieces.specs.declared.stage.Stage.TheVariants.{Between, Done}
 use Rattle.abt_flash.specs.Delivering.{blocks_in_first, blocks_up_to, with_cuts}
 use Rattle.abt_flash.specs.Going.{StandsAt, Unbroken, frames_left, pieces_left, words_so_far}
 use Rattle.abt_flash.proofs.Left.{behind, first_more, laid_first, laid_next, frames_more, pieces_more, written_more, pieces_behind_are, laid_left, stands_left, one_left, pieces_front}
-use Rattle.abt_flash.proofs.Onward.{unbroken_first, unbroken_more, still_between, now_done, few_more, words_more, spent_more, spent_last, spent_whole}
+use Rattle.abt_flash.proofs.Onward.{unbroken_first, unbroken_more, still_between, now_done, few_more, words_more, calls_on, turns_on, spent_more, spent_last, spent_whole}
 use Rattle.abt_flash.proofs.Spooled.{fits_none, fits_then, written_then, begins_then, cuts_then}
 use Rattle.abt_flash.specs.Delivering.{unsynced_by}
 use Rattle.abt_flash.specs.Fault.{refused_syncs}
@@ -173,11 +173,8 @@ pieces-preserved g c =
       back = λ tells spool. let z = o.back tells spool in let y = i.back tells spool in omega (arith, z, y);
       spent = λ tells d. spent_more (given c.args.source.now) (given c.pieces.source) (given c.deliver_piece.new.source) (passes c.args.cutter.now.start) (passes c.pieces.cutter.start) (passes c.deliver_piece.new.cutter.start) c.args.cutter.now.made c.pieces.cutter.made c.deliver_piece.new.cutter.made one o.made (rw i.runs at (o.spent tells)) (i.spent tells is);
       spent_end = λ tells d. spent_last (given c.args.source.now) (given c.pieces.source) (given c.deliver_piece.new.source) (passes c.args.cutter.now.start) (passes c.pieces.cutter.start) (passes c.deliver_piece.new.cutter.start) c.args.cutter.now.made c.pieces.cutter.made c.deliver_piece.new.cutter.made one o.made ((rw i.runs at (o.spent_end tells)) (unbroken.done d).1) (i.spent tells is);
-      calls = omega (arith, e.calls, i.calls, o.made);
-      turns =
-          let z = rw i.runs at o.words in
-          let y : words_so_far one n s c.pieces.cutter.stage ≡ words_so_far one n s Between = ap (λ (t : Stage). words_so_far one n s t) is in
-          omega (arith, z, y, words, i.turns, c.tick.ensures.turns, o.made);
+      calls = calls_on _ _ _ _ _ _ _ _ _ e.calls i.calls o.made;
+      turns = turns_on _ _ _ _ _ _ _ _ _ _ _ _ _ c.tick.ensures.turns (rw i.runs at o.words) words (rw is at i.turns) o.made;
       steps = omega (arith, e.steps, i.steps, c.tick.ensures.steps);
       greatest = omega (arith, e.greatest, i.greatest, c.tick.ensures.greatest);
       read_faults = o.clean.read ∙ i.read_faults;

@@ -1,4 +1,4 @@
-use Rattle.std.proofs.Common.{rules, ap, sym, refl, arith, ◌∙◌, ◌≡◌, ◌+◌, ℕ, true, inl, inr, IsTrue}
+use Rattle.std.proofs.Common.{rules, ap, sym, refl, arith, ◌∙◌, ◌≡◌, ◌+◌, ℕ, true, inr}
 use Rattle.abt_pieces.specs.Cutter.{has_more}
 use Rattle.abt_pieces.specs.declared.fault.PieceFault.{PieceFault}
 use Rattle.abt_pieces.specs.declared.stage.Stage.TheVariants.{Done, Failed}

@@ -1,11 +1,282 @@
-use Rattle.std.proofs.Common.{arith, sym, ◌≡◌, ◌∙◌}
-use Rattle.abt_pieces.specs.declared.stage.Stage.TheVariants.{Done, Failed, Write}
-use Rattle.abt_pieces.proofs.Fronts.{wrote_part}
+use Rattle.std.proofs.Common.{arith, ◌*◌, sym, ap, refl, inl, inr, Result, Err, ◌≡◌, ◌≤◌, ◌+◌, ◌∙◌, ◌-◌, ◌++◌, ℕ, List, true, false}
+use Rattle.abt_sparse.specs.Block.{Block}
+use Rattle.abt_runs.specs.declared.part.Cursor.{Cursor}
+use Rattle.abt_pieces.specs.Cutter.{ToldCutter, ToldStage, has_failed, is_begun, segments_left}
+use Rattle.abt_pieces.specs.declared.fault.PieceFault.{PieceFault}
+use Rattle.abt_pieces.specs.declared.stage.PieceProgress.{PieceProgress}
+use Rattle.abt_pieces.specs.declared.stage.Stage.{Stage}
+use Rattle.abt_pieces.specs.declared.stage.Stage.TheVariants.{Between, Plan, Begin, Done, Failed, Write}
+use Rattle.abt_pieces.proofs.Fronts.{wrote_part, as_many, no_more, no_more_than, nothing_more, nothing_less, none_more, not_full, unfilled_by, none_says, cause_unwritten}
 use Rattle.abt_pieces.proofs.Stepping.{begun_told, header_comes, first_left}
-use Rattle.abt_pieces.proofs.SpendingStages.{outline_writes, plan_begins_spent, nothing_read, more_of_ok, end_not}
+use Rattle.abt_pieces.proofs.SpendingStages.{outline_writes, plan_begins_spent, nothing_read, end_not}
 use Rattle.abt_sparse.specs.Chunk.{plain_header}
-use Rattle.abt_pieces.proofs.Image.{plan_leads, header_leads, whole_header}
+use Rattle.abt_pieces.proofs.Image.{leads_same, header_leads, whole_header}
 use Rattle.abt_pieces.proofs.cutter.Cutter.step.Goals as goal
+
+failed_goes_not : (st : Stage) (f : PieceFault) → st ≡ Failed f → has_failed st ≡ false → ⊥
+failed_goes_not st f is going = let z : true ≡ false = sym (ap has_failed is) ∙ going in absurd cc
+
+again_same : (st : Stage) (f e : PieceFault) → st ≡ Failed f → st ≡ Failed e → (let r : Result PieceProgress PieceFault = Err e in r) ≡ Err f
+again_same st f e is at = let z : Failed e ≡ Failed f = sym at ∙ is in cc
+
+-- nothing is written while a piece is planned
+no_bytes_yet : (b limit n : ℕ) → 64 + b ≤ limit → 0 + (n - n) ≤ limit
+no_bytes_yet b limit n granted = omega (arith, granted)
+
+words_unwritten : (t t' w w' g k : ℕ) → t' + w ≤ t + 2 * g + 3 + w' → t' + w ≤ t + 2 * g + (k - k) + 3 + w'
+words_unwritten t t' w w' g k h = omega (arith, h)
+
+-- the same segments are to come
+still_to_cut : (b limit : ℕ) (l : List Block) (s : ℕ) (st old : Stage) → is_begun st ≡ true → segments_left b limit l s old ≡ segments_left b limit l s Between → segments_left b limit l s st ≡ segments_left b limit l s old
+still_to_cut b limit l s Between old begun same = absurd cc
+still_to_cut b limit l s (Plan p) old begun same = sym same
+still_to_cut b limit l s (Begin o) old begun same = sym same
+still_to_cut b limit l s (Write o w) old begun same = sym same
+still_to_cut b limit l s Done old begun same = absurd cc
+still_to_cut b limit l s (Failed f) old begun same = absurd cc
+
+told_moves : (P : Cursor → Type 0) (T : Cursor → ℕ) (b : ℕ) (l : List Block) (limit made : ℕ) (start : Cursor) (st new : Stage) → ToldCutter P T b l limit made start st → segments_left b limit l start.block new ≡ segments_left b limit l start.block st → ToldStage P T b l limit start.block new → ToldCutter P T b l limit made start new
+told_moves P T b l limit made start st new told same stage = record {
+  place = told.place;
+  cuts = record { before = told.cuts.before; count = told.cuts.count; all = told.cuts.all ∙ ap (λ (x : List (List Block)). told.cuts.before ++ x) (sym same) };
+  stage = stage;
+}
+
+-- a piece is begun
+pub returns-in-Ok : goal.returns-in-Ok
+returns-in-Ok g c =
+    let self = c.args.self.now in
+    let p = c.plan.ensures in
+    let o = c.in-Ok.ensures in
+    let granted = self.sound.granted in
+    record {
+      runs = p.runs;
+      limit = p.rest.0;
+      content = p.content;
+      frame = p.frame;
+      write_frame = refl;
+      told = λ tells.
+          let l = g.R.BlockRuns.list self.runs (g.S.Source.content c.args.source.now) in
+          let b = g.R.BlockRuns.size self.runs in
+          let same : segments_left b self.limit l self.start.block self.stage ≡ segments_left b self.limit l self.start.block Between = rw c.in-Between.is refl in
+          rw (p.rest.0, p.rest.1, p.rest.2) (told_moves _ _ b l self.limit self.made self.start self.stage c.plan.new.self.stage (c.requires.told tells) (still_to_cut b self.limit l self.start.block c.plan.new.self.stage self.stage o.begun.0 same) (o.told tells));
+      begun = o.begun.0;
+      more = (p.rest.1, p.rest.2);
+      grown = as_many _;
+      within = rw c.in-Between.is (no_bytes_yet _ _ _ granted);
+      counted = rw c.in-Between.is (let z = o.begun.1 in omega (arith, z));
+      few = no_more_than _ _ _;
+      front = λ tells. nothing_more _ _;
+      rest = λ tells. rw c.in-Between.is (o.coming tells ∙ nothing_less (g.O.Output.written c.args.output.now) _);
+      whole = λ tells. tt;
+      leads = rw c.in-Between.is (leads_same _ _ _ _ refl o.comes);
+      all = tt;
+      passed = tt;
+      least = tt;
+      piece = tt;
+      exact = λ tells. tt;
+      left = let z = rw c.begin.ensures.at at o.left in rw c.in-Between.is (omega (arith, z));
+      refused = tt;
+      given = p.given;
+      received = p.received;
+      steps = p.steps;
+      greatest = p.greatest;
+      takes = tt;
+      paid = let z = o.paid in rw c.in-Between.is (omega (arith, z));
+      spends = λ tells t spent. let h = rw c.in-Between.is at spent in o.spends t (plan_begins_spent _ _ _ _ self.start t c.begin.result c.begin.ensures.at h);
+      spent = λ tells t spent. tt;
+      calls = p.calls;
+      write_calls = no_more _ _;
+      turns = let z = rw c.begin.ensures.at at p.turns in rw c.in-Between.is (omega (arith, z));
+      words = let z = rw c.begin.ensures.at at o.words in rw (c.in-Between.is, p.rest.1) (words_unwritten _ _ _ _ _ _ z);
+      piece_words = tt;
+      faults = p.faults;
+      write_faults = as_many _;
+      clean = (o.clean, refl);
+      full_faults = λ going. none_more _;
+      full = λ going says. absurd (not_full says);
+      cause = tt;
+      end = tt;
+      after_last = λ d. absurd (let z : Done ≡ Between = sym d ∙ c.in-Between.is in cc);
+      again = λ f d. absurd (let z : Failed f ≡ Between = sym d ∙ c.in-Between.is in cc);
+    }
+
+-- and the source has failed or changed
+pub returns-in-Err : goal.returns-in-Err
+returns-in-Err g c =
+    let self = c.args.self.now in
+    let p = c.plan.ensures in
+    let o = c.in-Err.ensures in
+    let granted = self.sound.granted in
+    record {
+      runs = p.runs;
+      limit = p.rest.0;
+      content = p.content;
+      frame = p.frame;
+      write_frame = refl;
+      told = λ tells.
+          let l = g.R.BlockRuns.list self.runs (g.S.Source.content c.args.source.now) in
+          let b = g.R.BlockRuns.size self.runs in
+          let same : segments_left b self.limit l self.start.block self.stage ≡ segments_left b self.limit l self.start.block Between = rw c.in-Between.is refl in
+          rw (o.refused, p.rest.0, p.rest.1, p.rest.2) (told_moves _ _ b l self.limit self.made self.start self.stage (Failed c.in-Err.fault) (c.requires.told tells) (sym same) tt);
+      begun = rw o.refused refl;
+      more = tt;
+      grown = as_many _;
+      within = rw c.in-Between.is (no_bytes_yet _ _ _ granted);
+      counted = tt;
+      few = no_more_than _ _ _;
+      front = λ tells. nothing_more _ _;
+      rest = λ tells. tt;
+      whole = λ tells. tt;
+      leads = tt;
+      all = tt;
+      passed = tt;
+      least = tt;
+      piece = tt;
+      exact = λ tells. tt;
+      left = tt;
+      refused = o.refused;
+      given = p.given;
+      received = p.received;
+      steps = p.steps;
+      greatest = p.greatest;
+      takes = tt;
+      paid = tt;
+      spends = λ tells t spent. tt;
+      spent = λ tells t spent. tt;
+      calls = p.calls;
+      write_calls = no_more _ _;
+      turns = let z = rw c.begin.ensures.at at p.turns in rw c.in-Between.is (omega (arith, z));
+      words = tt;
+      piece_words = tt;
+      faults = p.faults;
+      write_faults = as_many _;
+      clean = tt;
+      full_faults = λ going. unfilled_by _ _ o.unwritten;
+      full = λ going says. absurd (none_says _ o.unwritten says);
+      cause = inr (cause_unwritten c.in-Err.fault _ _ _ _ _ o.cause);
+      end = tt;
+      after_last = λ d. absurd (let z : Done ≡ Between = sym d ∙ c.in-Between.is in cc);
+      again = λ f d. absurd (let z : Failed f ≡ Between = sym d ∙ c.in-Between.is in cc);
+    }
+
+-- a part of the plan
+pub returns-in-Ok-plan : goal.returns-in-Ok-plan
+returns-in-Ok-plan g c =
+    let self = c.args.self.now in
+    let p = c.plan-in-Plan.ensures in
+    let o = c.in-Ok-plan.ensures in
+    let granted = self.sound.granted in
+    record {
+      runs = p.runs;
+      limit = p.rest.0;
+      content = p.content;
+      frame = p.frame;
+      write_frame = refl;
+      told = λ tells.
+          let l = g.R.BlockRuns.list self.runs (g.S.Source.content c.args.source.now) in
+          let b = g.R.BlockRuns.size self.runs in
+          let same : segments_left b self.limit l self.start.block self.stage ≡ segments_left b self.limit l self.start.block Between = rw c.in-Plan.is refl in
+          rw (p.rest.0, p.rest.1, p.rest.2) (told_moves _ _ b l self.limit self.made self.start self.stage c.plan-in-Plan.new.self.stage (c.requires.told tells) (still_to_cut b self.limit l self.start.block c.plan-in-Plan.new.self.stage self.stage o.begun.0 same) (o.told tells));
+      begun = o.begun.0;
+      more = (p.rest.1, p.rest.2);
+      grown = as_many _;
+      within = rw c.in-Plan.is (no_bytes_yet _ _ _ granted);
+      counted = rw c.in-Plan.is (let z = o.begun.1 in omega (arith, z));
+      few = no_more_than _ _ _;
+      front = λ tells. nothing_more _ _;
+      rest = λ tells. rw c.in-Plan.is (o.coming tells ∙ nothing_less (g.O.Output.written c.args.output.now) _);
+      whole = λ tells. tt;
+      leads = rw c.in-Plan.is (leads_same _ _ _ _ refl o.comes);
+      all = tt;
+      passed = tt;
+      least = tt;
+      piece = tt;
+      exact = λ tells. tt;
+      left = rw c.in-Plan.is o.left;
+      refused = tt;
+      given = p.given;
+      received = p.received;
+      steps = p.steps;
+      greatest = p.greatest;
+      takes = tt;
+      paid = let z = o.paid in rw c.in-Plan.is (omega (arith, z));
+      spends = λ tells t spent. let h = rw c.in-Plan.is at spent in o.spends t h;
+      spent = λ tells t spent. tt;
+      calls = p.calls;
+      write_calls = no_more _ _;
+      turns = let z = p.turns in rw c.in-Plan.is (omega (arith, z));
+      words = rw (c.in-Plan.is, p.rest.1) (words_unwritten _ _ _ _ _ _ o.words);
+      piece_words = tt;
+      faults = p.faults;
+      write_faults = as_many _;
+      clean = (o.clean, refl);
+      full_faults = λ going. none_more _;
+      full = λ going says. absurd (not_full says);
+      cause = tt;
+      end = tt;
+      after_last = λ d. absurd (let z : Done ≡ Plan c.in-Plan.planner = sym d ∙ c.in-Plan.is in cc);
+      again = λ f d. absurd (let z : Failed f ≡ Plan c.in-Plan.planner = sym d ∙ c.in-Plan.is in cc);
+    }
+
+-- and the source has failed or changed
+pub returns-in-Err-plan : goal.returns-in-Err-plan
+returns-in-Err-plan g c =
+    let self = c.args.self.now in
+    let p = c.plan-in-Plan.ensures in
+    let o = c.in-Err-plan.ensures in
+    let granted = self.sound.granted in
+    record {
+      runs = p.runs;
+      limit = p.rest.0;
+      content = p.content;
+      frame = p.frame;
+      write_frame = refl;
+      told = λ tells.
+          let l = g.R.BlockRuns.list self.runs (g.S.Source.content c.args.source.now) in
+          let b = g.R.BlockRuns.size self.runs in
+          let same : segments_left b self.limit l self.start.block self.stage ≡ segments_left b self.limit l self.start.block Between = rw c.in-Plan.is refl in
+          rw (o.refused, p.rest.0, p.rest.1, p.rest.2) (told_moves _ _ b l self.limit self.made self.start self.stage (Failed c.in-Err-plan.fault) (c.requires.told tells) (sym same) tt);
+      begun = rw o.refused refl;
+      more = tt;
+      grown = as_many _;
+      within = rw c.in-Plan.is (no_bytes_yet _ _ _ granted);
+      counted = tt;
+      few = no_more_than _ _ _;
+      front = λ tells. nothing_more _ _;
+      rest = λ tells. tt;
+      whole = λ tells. tt;
+      leads = tt;
+      all = tt;
+      passed = tt;
+      least = tt;
+      piece = tt;
+      exact = λ tells. tt;
+      left = tt;
+      refused = o.refused;
+      given = p.given;
+      received = p.received;
+      steps = p.steps;
+      greatest = p.greatest;
+      takes = tt;
+      paid = tt;
+      spends = λ tells t spent. tt;
+      spent = λ tells t spent. tt;
+      calls = p.calls;
+      write_calls = no_more _ _;
+      turns = let z = p.turns in rw c.in-Plan.is (omega (arith, z));
+      words = tt;
+      piece_words = tt;
+      faults = p.faults;
+      write_faults = as_many _;
+      clean = tt;
+      full_faults = λ going. unfilled_by _ _ o.unwritten;
+      full = λ going says. absurd (none_says _ o.unwritten says);
+      cause = inr (cause_unwritten c.in-Err-plan.fault _ _ _ _ _ o.cause);
+      end = tt;
+      after_last = λ d. absurd (let z : Done ≡ Plan c.in-Plan.planner = sym d ∙ c.in-Plan.is in cc);
+      again = λ f d. absurd (let z : Failed f ≡ Plan c.in-Plan.planner = sym d ∙ c.in-Plan.is in cc);
+    }
 
 pub plan-requires-clause-told : goal.plan-requires-clause-told
 plan-requires-clause-told g c tells =
@@ -17,59 +288,43 @@ plan-requires-clause-told g c tells =
       planned = e.planned _ _ (omega (arith, b, long));
     }
 
-pub returns-in-Ok-clause-told : goal.returns-in-Ok-clause-told
-returns-in-Ok-clause-told g c tells =
+pub returns-in-Ok-begin-clause-told : goal.returns-in-Ok-begin-clause-told
+returns-in-Ok-begin-clause-told g c tells =
     let e = c.begin-in-Begin.ensures in
     let long = g.met.R.BlockRuns.long c.args.self.now.runs _ (c.requires.opened tells) in
     let s = rw c.in-Begin.is at c.args.self.now.sound in
     let h = rw c.in-Begin.is at (c.requires.told tells) in
-    rw (e.rest.0, e.rest.1, e.rest.2, c.in-Ok.ensures.stage) (begun_told _ _ _ (g.R.BlockRuns.count c.args.self.now.runs) _ _ _ c.args.self.now.start c.in-Begin.outline (sym long) s.stage.first h)
+    rw (e.rest.0, e.rest.1, e.rest.2, c.in-Ok-begin.ensures.stage) (begun_told _ _ _ (g.R.BlockRuns.count c.args.self.now.runs) _ _ _ c.args.self.now.start c.in-Begin.outline (sym long) s.stage.first h)
 
-pub returns-in-Ok-clause-front : goal.returns-in-Ok-clause-front
-returns-in-Ok-clause-front g c tells =
+pub returns-in-Ok-begin-clause-front : goal.returns-in-Ok-begin-clause-front
+returns-in-Ok-begin-clause-front g c tells =
     let long = g.met.R.BlockRuns.long c.args.self.now.runs _ (c.requires.opened tells) in
     let s = rw c.in-Begin.is at c.args.self.now.sound in
     let h = rw c.in-Begin.is at (c.requires.told tells) in
     rw c.in-Begin.is (wrote_part _ _ _ _ _ c.begin-in-Begin.ensures.front (header_comes _ _ (g.R.BlockRuns.count c.args.self.now.runs) _ _ c.args.self.now.start c.in-Begin.outline (sym long) s.stage.first h.stage))
 
-pub returns-in-Ok-clause-left : goal.returns-in-Ok-clause-left
-returns-in-Ok-clause-left g c = rw (c.in-Ok.ensures.stage, c.in-Begin.is) (first_left (g.R.BlockRuns.left c.args.self.now.runs) (g.R.BlockRuns.count c.args.self.now.runs) c.args.self.now.start c.in-Begin.outline)
+pub returns-in-Ok-begin-clause-left : goal.returns-in-Ok-begin-clause-left
+returns-in-Ok-begin-clause-left g c = rw (c.in-Ok-begin.ensures.stage, c.in-Begin.is) (first_left (g.R.BlockRuns.left c.args.self.now.runs) (g.R.BlockRuns.count c.args.self.now.runs) c.args.self.now.start c.in-Begin.outline)
 
-pub returns-in-Err-clause-front : goal.returns-in-Err-clause-front
-returns-in-Err-clause-front g c tells =
+pub returns-in-Err-begin-clause-front : goal.returns-in-Err-begin-clause-front
+returns-in-Err-begin-clause-front g c tells =
     let long = g.met.R.BlockRuns.long c.args.self.now.runs _ (c.requires.opened tells) in
     let s = rw c.in-Begin.is at c.args.self.now.sound in
     let h = rw c.in-Begin.is at (c.requires.told tells) in
     rw c.in-Begin.is (wrote_part _ _ _ _ _ c.begin-in-Begin.ensures.front (header_comes _ _ (g.R.BlockRuns.count c.args.self.now.runs) _ _ c.args.self.now.start c.in-Begin.outline (sym long) s.stage.first h.stage))
 
-pub returns-in-Ok-clause-spends : goal.returns-in-Ok-clause-spends
-returns-in-Ok-clause-spends g c tells t spent =
+pub returns-in-Ok-begin-clause-spends : goal.returns-in-Ok-begin-clause-spends
+returns-in-Ok-begin-clause-spends g c tells t spent =
     let s = rw c.in-Begin.is at c.args.self.now.sound in
     let h = rw c.in-Begin.is at spent in
-    rw (c.in-Ok.ensures.stage) (nothing_read _ _ _ _ _ _ t _ c.in-Begin.outline _ (outline_writes _ _ _ _ _ _ c.args.self.now.start t c.in-Begin.outline s.stage.first h))
+    rw (c.in-Ok-begin.ensures.stage) (nothing_read _ _ _ _ _ _ t _ c.in-Begin.outline _ (outline_writes _ _ _ _ _ _ c.args.self.now.start t c.in-Begin.outline s.stage.first h))
 
-pub returns-in-Between-clause-spends : goal.returns-in-Between-clause-spends
-returns-in-Between-clause-spends g c tells t spent =
-    let h = rw c.in-Between.is at spent in
-    more_of_ok c.plan.result _ (c.plan.ensures.spends t (plan_begins_spent _ _ _ _ c.args.self.now.start t c.begin.result c.begin.ensures.at h))
-
-pub returns-in-Plan-clause-spends : goal.returns-in-Plan-clause-spends
-returns-in-Plan-clause-spends g c tells t spent =
-    let h = rw c.in-Plan.is at spent in
-    more_of_ok c.plan-in-Plan.result _ (c.plan-in-Plan.ensures.spends t h)
-
-pub returns-in-Between-clause-leads : goal.returns-in-Between-clause-leads
-returns-in-Between-clause-leads g c = rw c.in-Between.is (plan_leads c.plan.result _ _ _ c.plan.ensures.comes)
-
-pub returns-in-Plan-clause-leads : goal.returns-in-Plan-clause-leads
-returns-in-Plan-clause-leads g c = rw c.in-Plan.is (plan_leads c.plan-in-Plan.result _ _ _ c.plan-in-Plan.ensures.comes)
-
-pub returns-in-Ok-clause-leads : goal.returns-in-Ok-clause-leads
-returns-in-Ok-clause-leads g c =
+pub returns-in-Ok-begin-clause-leads : goal.returns-in-Ok-begin-clause-leads
+returns-in-Ok-begin-clause-leads g c =
     let e = c.begin-in-Begin.ensures in
     let size = g.met.R.BlockRuns.sized c.args.self.now.runs in
-    let whole = whole_header (plain_header (g.R.BlockRuns.size c.args.self.now.runs) (g.R.BlockRuns.count c.args.self.now.runs) c.in-Begin.outline.chunks) _ _ e.front c.in-Ok.ensures.whole in
-    rw (c.in-Ok.ensures.stage, c.in-Begin.is) (header_leads _ _ c.args.self.now.start c.in-Begin.outline _ _ (omega (arith, size.0), size.1, e.fits.0) e.fits.1 e.fits.2 whole)
+    let whole = whole_header (plain_header (g.R.BlockRuns.size c.args.self.now.runs) (g.R.BlockRuns.count c.args.self.now.runs) c.in-Begin.outline.chunks) _ _ e.front c.in-Ok-begin.ensures.whole in
+    rw (c.in-Ok-begin.ensures.stage, c.in-Begin.is) (header_leads _ _ c.args.self.now.start c.in-Begin.outline _ _ (omega (arith, size.0), size.1, e.fits.0) e.fits.1 e.fits.2 whole)
 
 -- a part of the chunks
 pub returns-in-Write : goal.returns-in-Write
@@ -121,4 +376,112 @@ returns-in-Write g c =
       end = end_not c.write.result _ w.unended;
       after_last = λ is. let z : Done ≡ Write c.in-Write.outline c.in-Write.writer = sym is ∙ c.in-Write.is in absurd cc;
       again = λ f is. let z : Failed f ≡ Write c.in-Write.outline c.in-Write.writer = sym is ∙ c.in-Write.is in absurd cc;
+    }
+
+-- behind the last piece
+pub returns-in-Done : goal.returns-in-Done
+returns-in-Done g c =
+    let self = c.args.self.now in
+    let s = c.close_step.ensures in
+    let granted = self.sound.granted in
+    record {
+      runs = refl;
+      limit = refl;
+      content = λ tells. refl;
+      frame = refl;
+      write_frame = refl;
+      told = c.requires.told;
+      begun = rw c.in-Done.is refl;
+      more = tt;
+      grown = as_many _;
+      within = rw c.in-Done.is (no_bytes_yet _ _ _ granted);
+      counted = tt;
+      few = no_more_than _ _ _;
+      front = λ tells. nothing_more _ _;
+      rest = λ tells. tt;
+      whole = λ tells. tt;
+      leads = tt;
+      all = tt;
+      passed = tt;
+      least = tt;
+      piece = tt;
+      exact = λ tells. tt;
+      left = tt;
+      refused = tt;
+      given = as_many _;
+      received = no_more _ _;
+      steps = s.steps;
+      greatest = let z = s.greatest in omega (arith, z);
+      takes = tt;
+      paid = tt;
+      spends = λ tells t spent. tt;
+      spent = λ tells t spent. tt;
+      calls = no_more_than _ _ _;
+      write_calls = no_more _ _;
+      turns = let z = s.turns in rw c.in-Done.is (omega (arith, z));
+      words = tt;
+      piece_words = tt;
+      faults = as_many _;
+      write_faults = as_many _;
+      clean = (refl, refl);
+      full_faults = λ going. none_more _;
+      full = λ going says. absurd (not_full says);
+      cause = tt;
+      end = (c.in-Done.is, refl, refl, refl);
+      after_last = λ d. refl;
+      again = λ f d. absurd (let z : Failed f ≡ Done = sym d ∙ c.in-Done.is in cc);
+    }
+
+-- behind a fault
+pub returns-in-Failed : goal.returns-in-Failed
+returns-in-Failed g c =
+    let self = c.args.self.now in
+    let s = c.close_step-in-Failed.ensures in
+    let granted = self.sound.granted in
+    record {
+      runs = refl;
+      limit = refl;
+      content = λ tells. refl;
+      frame = refl;
+      write_frame = refl;
+      told = c.requires.told;
+      begun = rw c.in-Failed.is refl;
+      more = tt;
+      grown = as_many _;
+      within = rw c.in-Failed.is (no_bytes_yet _ _ _ granted);
+      counted = tt;
+      few = no_more_than _ _ _;
+      front = λ tells. nothing_more _ _;
+      rest = λ tells. tt;
+      whole = λ tells. tt;
+      leads = tt;
+      all = tt;
+      passed = tt;
+      least = tt;
+      piece = tt;
+      exact = λ tells. tt;
+      left = tt;
+      refused = c.in-Failed.is;
+      given = as_many _;
+      received = no_more _ _;
+      steps = s.steps;
+      greatest = let z = s.greatest in omega (arith, z);
+      takes = tt;
+      paid = tt;
+      spends = λ tells t spent. tt;
+      spent = λ tells t spent. tt;
+      calls = no_more_than _ _ _;
+      write_calls = no_more _ _;
+      turns = let z = s.turns in rw c.in-Failed.is (omega (arith, z));
+      words = tt;
+      piece_words = tt;
+      faults = as_many _;
+      write_faults = as_many _;
+      clean = tt;
+      full_faults = λ going. absurd (failed_goes_not _ c.in-Failed.fault c.in-Failed.is going);
+      full = λ going says. absurd (failed_goes_not _ c.in-Failed.fault c.in-Failed.is going);
+      cause = inl c.in-Failed.is;
+      end = tt;
+      after_last = λ d. absurd (let z : Done ≡ Failed c.in-Failed.fault = sym d ∙ c.in-Failed.is in cc);
+      again = λ f d. (again_same _ f c.in-Failed.fault d c.in-Failed.is, refl, refl, refl);
     }

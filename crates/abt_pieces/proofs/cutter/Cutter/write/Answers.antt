@@ -1,4 +1,4 @@
-use Rattle.std.proofs.Common.{sym, ap, refl, arith, ◌∙◌, ◌≡◌, inr, IsTrue, length, ℕ, List}
+use Rattle.std.proofs.Common.{sym, ap, refl, arith, ◌∙◌, ◌≡◌, inr, length, ℕ, List}
 use Rattle.abt_pieces.specs.declared.fault.PieceFault.{PieceFault}
 use Rattle.abt_pieces.specs.declared.stage.Stage.TheVariants.{Failed}
 use Rattle.abt_pieces.proofs.Fronts.{not_full, nothing_left}

@@ -1,4 +1,4 @@
-use Rattle.std.proofs.Common.{rules, arith, ap, refl, sym, ◌-◌, ◌≡◌, ◌≤◌, ◌<◌, ◌+◌, ◌∙◌, true, false}
+use Rattle.std.proofs.Common.{rules, arith, ap, refl, ◌-◌, ◌≡◌, ◌<◌, ◌∙◌, true, false}
 use Rattle.std.proofs.lemmas.Bool.{true≢false, false≢true}
 use Rattle.abt_runs.specs.Part.{is_end}
 use Rattle.abt_pieces.proofs.Planning.{planned_on, planned_rests, planned_still, even_on, even_rests, even_still, ends_here, ends_last, ends_rests, last_ask, cap_some, fills_up, no_room}

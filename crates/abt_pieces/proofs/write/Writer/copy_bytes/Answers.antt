@@ -1,4 +1,4 @@
-use Rattle.std.proofs.Common.{arith, sym, ◌∙◌, ◌≡◌, ◌≤◌, ◌<◌, ◌+◌, ◌-◌, length, refl, IsTrue}
+use Rattle.std.proofs.Common.{arith, sym, ◌∙◌, ◌≡◌, ◌≤◌, ◌+◌, ◌-◌, length, refl, IsTrue}
 use Rattle.std.proofs.lemmas.List.{take-append-drop}
 use Rattle.abt_pieces.proofs.Fronts.{wrote_front, wrote_rest, wrote_part, nothing_more, as_many, no_more, no_more_than, run_causes, run_unfilled, run_unsaid, says_full, not_full}
 use Rattle.abt_pieces.proofs.Going.{is_copying, copied_writer, copied_sound, part_front, part_room, write_copies, copied_fewer, copied_passes}
@@ -162,3 +162,9 @@ returns g c =
       full_faults = w.full_faults;
       full = λ says. absurd (not_full says);
     }
+
+pub and_bytes-self-requires-clause-left : goal.and_bytes-self-requires-clause-left
+and_bytes-self-requires-clause-left g c =
+    let fits : c.args.copying.done + c.in-Ok.count ≤ c.args.copying.size = omega (arith, c.in-Ok.ensures.within, c.copy.auto.out, c.part_mut.ensures.long, c.min-ask.ensures, c.requires.more) in
+    let room = part_room _ _ _ _ _ _ _ c.args.copying (is_copying _ _ _ _ c.args.self.now c.args.copying c.requires.is c.requires.sound) in
+    omega (arith, room, fits)

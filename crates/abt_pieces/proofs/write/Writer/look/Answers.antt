@@ -1,4 +1,4 @@
-use Rattle.std.proofs.Common.{arith, refl, ◌∙◌, ◌≡◌, ◌≤◌, ◌+◌, ◌-◌, length, IsTrue}
+use Rattle.std.proofs.Common.{arith, refl, ◌∙◌, length, IsTrue}
 use Rattle.abt_pieces.proofs.Fronts.{wrote_part, nothing_more, nothing_less, as_many, no_more, no_more_than, none_more, ok_both, run_causes, run_unfilled, run_unsaid, not_full}
 use Rattle.abt_pieces.proofs.Writing.{frame_blocks}
 use Rattle.abt_pieces.proofs.Going.{begun, still_told, still_sound, chunk_sound, chunk_told, chunk_rest, chunk_counted, chunk_left, chunk_causes, write_looks, none_small}
