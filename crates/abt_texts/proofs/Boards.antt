@@ -1,5 +1,5 @@
 -- A word of `--board-id`, cut at its colon and its sign of equality.
-use Rattle.std.proofs.Common.{rules, ◌≡◌, ℕ, ◌<◌, true, List, ◌∷◌, ◌++◌, Option, Some, None, MatchOption, Bor, arith}
+use Rattle.std.proofs.Common.{rules, ◌≡◌, ℕ, ◌<◌, true, List, ◌∷◌, ◌++◌, Option, MatchOption, Bor, arith}
 use Rattle.std.proofs.lemmas.Str.Pattern.{IsSplitOnceResult, split_after}
 use Rattle.std.proofs.lemmas.Str.Parse.{IsNumeralModel, numerals_by_value, not_in_digits}
 use Rattle.std.specs.Int.{IsInRange}

@@ -1,36 +1,28 @@
 -- Several writes of text in a row.
-use Rattle.std.proofs.Common.{◌≡◌, ℕ, List, [], ◌∷◌, ◌++◌, Option, Some, None, IfSome, Result, Ok, Err, OnOk, refl, sym, ap, ◌∙◌, append_assoc, append-nil}
+use Rattle.std.proofs.Common.{ℕ, List, [], ◌∷◌, ◌++◌, Option, Some, None, IfSome, Result, Ok, Err, OnOk, subst, append-nil}
 use Rattle.std.specs.List.{FoldsTo, concat}
-use Rattle.std.specs.Fmt.{WritesInCalls, WritesText}
+use Rattle.std.specs.Fmt.{WritesText}
+use Rattle.abt_texts.specs.declared.text_output.Text.{Text}
+use Rattle.abt_texts.specs.Printed.{Prints}
+use Rattle.abt_texts.proofs.Printing.{both_printed, printed_as, printed_none}
 
--- a writer shows a text, and has a name that no write changes
-module _ {W X : Type 0} (shown : W → List ℕ) (name : W → X) where
-  after_calls : (w : W) (parts : List (List ℕ)) (v : W)
-      → FoldsTo (λ s bs t. (shown t ≡ shown s ++ bs) × (name t ≡ name s)) w parts v
-      → (shown v ≡ shown w ++ concat parts) × (name v ≡ name w)
-  after_calls w [] v p = (ap shown (sym p) ∙ sym (append-nil (shown w)), ap name (sym p))
-  after_calls w (x ∷ xs) v p =
-      let rest = after_calls p.0 xs v p.2 in
-      (rest.0 ∙ ap (λ (l : List ℕ). l ++ concat xs) p.1.0 ∙ append_assoc (shown w) x (concat xs), rest.1 ∙ p.1.1)
+module _ {O : Type 0} (written : O → List ℕ) (faults : O → ℕ) where
+  after_calls : (w : Text O) (parts : List (List ℕ)) (v : Text O) → FoldsTo (λ s bs t. Prints written faults s t bs) w parts v → Prints written faults w v (concat parts)
+  after_calls w [] v p = subst (λ (u : Text O). Prints written faults w u []) p (printed_none written faults w)
+  after_calls w (x ∷ xs) v p = both_printed written faults w p.0 v x (concat xs) p.1 (after_calls p.0 xs v p.2)
 
-  pub after_text : (w : W) (text : Option (List ℕ)) (v : W)
-      → WritesText (λ s bs t. (shown t ≡ shown s ++ bs) × (name t ≡ name s)) w text v
-      → IfSome text (λ bs. (shown v ≡ shown w ++ bs) × (name v ≡ name w))
+  pub after_text : (w : Text O) (text : Option (List ℕ)) (v : Text O)
+      → WritesText (λ s bs t. Prints written faults s t bs) w text v → IfSome text (Prints written faults w v)
   after_text w None v p = tt
-  after_text w (Some bs) v p =
-      let told = after_calls w p.parts v p.calls in
-      (told.0 ∙ ap (λ (l : List ℕ). shown w ++ l) p.whole, told.1)
+  after_text w (Some bs) v p = printed_as written faults w v (concat p.parts) bs p.whole (after_calls w p.parts v p.calls)
 
-  kept_text : (w v u : W) (text : Option (List ℕ)) → shown u ≡ shown v → name u ≡ name v
-      → IfSome text (λ bs. (shown v ≡ shown w ++ bs) × (name v ≡ name w))
-      → IfSome text (λ bs. (shown u ≡ shown w ++ bs) × (name u ≡ name w))
-  kept_text w v u None e f p = tt
-  kept_text w v u (Some bs) e f p = (e ∙ p.0, f ∙ p.1)
+  kept_text : (w v u : Text O) (text : Option (List ℕ)) → Prints written faults v u [] → IfSome text (Prints written faults w v) → IfSome text (Prints written faults w u)
+  kept_text w v u None e p = tt
+  kept_text w v u (Some bs) e p = printed_as written faults w u (bs ++ []) bs (append-nil bs) (both_printed written faults w v u bs [] p e)
 
-  -- and then something that keeps what is shown, where it succeeds
-  pub after_text_and : {A E : Type 0} (w : W) (text : Option (List ℕ)) (v u : W) (r : Result A E)
-      → WritesText (λ s bs t. (shown t ≡ shown s ++ bs) × (name t ≡ name s)) w text v
-      → OnOk r (shown u ≡ shown v) → name u ≡ name v
-      → OnOk r (IfSome text (λ bs. (shown u ≡ shown w ++ bs) × (name u ≡ name w)))
-  after_text_and w text v u (Ok x) p e f = kept_text w v u text e f (after_text w text v p)
-  after_text_and w text v u (Err x) p e f = tt
+  -- and then something that prints nothing
+  pub after_text_and : {A E : Type 0} (w : Text O) (text : Option (List ℕ)) (v u : Text O) (r : Result A E)
+      → WritesText (λ s bs t. Prints written faults s t bs) w text v → Prints written faults v u []
+      → OnOk r (IfSome text (Prints written faults w u))
+  after_text_and w text v u (Ok x) p e = kept_text w v u text e (after_text w text v p)
+  after_text_and w text v u (Err x) p e = tt

@@ -1,5 +1,5 @@
 -- The words of an image say the file of each part.
-use Rattle.std.proofs.Common.{◌≡◌, ℕ, suc, false, true, List, [], ◌∷◌, ◌++◌, Option, Some, None, codes, flat_map, refl, sym, ap, ◌∙◌, append_assoc}
+use Rattle.std.proofs.Common.{◌≡◌, ℕ, false, List, [], ◌∷◌, ◌++◌, Option, Some, None, codes, flat_map, refl, ap, ◌∙◌, append_assoc}
 use Rattle.std.proofs.lemmas.List.Concat.{flat_map-cons}
 use Rattle.abt_io.specs.Bytes.{AreBytes}
 use Rattle.abt_headers.specs.declared.boot.BootHeader.{BootHeader}

@@ -1,8 +1,8 @@
 -- The words of a vendor boot image say its fragments.
-use Rattle.std.proofs.Common.{◌≡◌, ◌≢◌, ℕ, zero, suc, ◌+◌, ◌-◌, ◌*◌, ◌/◌, ◌%◌, ◌<◌, ◌≤◌, ◌^◌, ◌==◌, ◌&&◌, nat_lt, not, Bool, true, false, cond, inl, inr, List, [], ◌∷◌, ◌++◌, Option, Some, None, codes, decimal, length, map, take, drop, replicate, flat_map, slice_index, slice_index_or, refl, sym, ap, subst, ◌∙◌, rules, arith, lit<, append_assoc, append-nil, length-append, eq-eqb, if◌then◌else◌}
-use Rattle.std.proofs.lemmas.Bool.{and_parts, and_right, cases_Bool, cases_lt, eqb-true, lt-ltb, true≢false}
+use Rattle.std.proofs.Common.{◌≡◌, ◌≢◌, ℕ, zero, suc, ◌+◌, ◌-◌, ◌*◌, ◌/◌, ◌%◌, ◌<◌, ◌≤◌, ◌^◌, ◌==◌, ◌&&◌, nat_lt, not, Bool, true, false, cond, inl, inr, List, [], ◌∷◌, ◌++◌, Option, Some, None, codes, decimal, length, take, drop, replicate, flat_map, slice_index, slice_index_or, refl, sym, ap, subst, ◌∙◌, rules, arith, append-nil, length-append, eq-eqb}
+use Rattle.std.proofs.lemmas.Bool.{and_parts, and_right, cases_Bool, eqb-true, lt-ltb, true≢false}
 use Rattle.std.proofs.lemmas.Fmt.{decimal_nonempty, digits_decimal, digits_value-decimal}
-use Rattle.std.proofs.lemmas.List.{length-drop, length-map, map-append}
+use Rattle.std.proofs.lemmas.List.{length-drop}
 use Rattle.std.proofs.lemmas.List.Concat.{flat_map-cons}
 use Rattle.std.proofs.lemmas.List.Sums.{take_while-cons}
 use Rattle.std.proofs.lemmas.Slice.Eq.{bytes_eq-Decides}
@@ -13,7 +13,6 @@ use Rattle.std.specs.Str.Parse.{digits_value}
 use Rattle.hex.specs.Hex.{encode_with, lower_digits}
 use Rattle.abt_io.specs.Bytes.{AreBytes}
 use Rattle.abt_io.specs.BytesLaws.{bytes_of_drop, bytes_of_take}
-use Rattle.abt_headers.specs.declared.entry.RamdiskEntry.{RamdiskEntry}
 use Rattle.abt_headers.specs.declared.vendor.VendorFront.{VendorFront}
 use Rattle.abt_headers.specs.Entry.{entry_at}
 use Rattle.abt_headers.specs.Vendor.{Tail, Vendor}
@@ -24,10 +23,9 @@ use Rattle.abt_sections.specs.Fields.{filled}
 use Rattle.abt_sections.specs.Header.{Header, OfVendor, entry_of, fragment_count, table_at}
 use Rattle.abt_sections.proofs.FieldTexts.{all_zero_is}
 use Rattle.abt_texts.specs.declared.board_word.BoardWord.{BoardWord}
-use Rattle.abt_texts.specs.Board.{BoardFits, IsBoardWord}
-use Rattle.abt_texts.specs.Fragment.{IsEscapedFragment, IsOfParts, number_of, type_number}
+use Rattle.abt_texts.specs.Fragment.{number_of, type_number}
 use Rattle.abt_texts.specs.Info.{escaped, is_plain}
-use Rattle.abt_texts.specs.Said.{AreBoards, SaysEach, SaysFragment, SaysFragments, behind, board_id_of, number_after, values_of, with_value, without_board}
+use Rattle.abt_texts.specs.Said.{AreBoards, SaysEach, SaysFragment, SaysFragments, behind, board_id_of, number_after, values_of, with_value}
 use Rattle.abt_texts.specs.Unescaped.{unescaped}
 use Rattle.abt_texts.specs.WayBack.{spec_of, specs_of}
 use Rattle.abt_texts.specs.Words.{board_option, board_word, board_words, entry_words, escaped_in_name, fragment_words, image_words, name_bytes, option_front, text_of}

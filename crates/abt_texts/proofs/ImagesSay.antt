@@ -1,5 +1,5 @@
 -- The words of a canonical image say all that packs it again.
-use Rattle.std.proofs.Common.{◌≡◌, ℕ, zero, suc, ◌+◌, ◌*◌, ◌<◌, ◌≤◌, ◌^◌, ◌||◌, Bool, true, false, inl, inr, List, [], ◌∷◌, ◌++◌, Option, Some, None, codes, decimal, length, map, slice_index, slice_index_or, refl, sym, ap, subst, ◌∙◌, arith, lit<, lit≤, length-append}
+use Rattle.std.proofs.Common.{◌≡◌, ℕ, zero, suc, ◌*◌, ◌<◌, ◌≤◌, ◌^◌, ◌||◌, true, false, inl, inr, List, [], ◌∷◌, ◌++◌, Option, Some, None, codes, decimal, length, slice_index, slice_index_or, refl, sym, ap, subst, ◌∙◌, arith, lit<, lit≤}
 use Rattle.std.specs.List.{All, concat}
 use Rattle.std.proofs.lemmas.Bool.{cases_Bool, cases_lt}
 use Rattle.std.proofs.lemmas.List.Elements.{All-get_or}
@@ -14,12 +14,12 @@ use Rattle.abt_headers.specs.Vendor.{Tail, Vendor}
 use Rattle.abt_sections.specs.declared.spec.FragmentSpec.{FragmentSpec}
 use Rattle.abt_sections.specs.Canonical.{FragmentFits, IsVendorInput}
 use Rattle.abt_sections.specs.Fields.{VendorFields}
-use Rattle.abt_sections.specs.Header.{Header, OfBoot, OfVendor, entry_of, fragment_count, places_of}
+use Rattle.abt_sections.specs.Header.{Header, OfBoot, OfVendor, entry_of, fragment_count}
 use Rattle.abt_sections.specs.Refusal.{size_refusal, vendor_names, vendor_refusal}
 use Rattle.abt_sections.specs.VendorCanon.{VendorParts, vendor_sizes_for}
 use Rattle.abt_sections.proofs.Accepting.{all_small, neither}
 use Rattle.abt_texts.specs.Said.{AreBoards, SaysEach, SaysFragments, SaysHeader, behind, board_id_of, number_after, is_said, is_whole, values_of, vendor_fields_of, with_value}
-use Rattle.abt_texts.specs.WayBack.{PacksAgain, SaysImage, is_vendor, spec_of, specs_of, vendor_parts_with}
+use Rattle.abt_texts.specs.WayBack.{PacksAgain, SaysImage, spec_of, specs_of, vendor_parts_with}
 use Rattle.abt_texts.specs.Words.{flag_word, image_words, is_month, option_front, os_option, os_text}
 use Rattle.abt_texts.proofs.FilesSay.{files_said}
 use Rattle.abt_texts.proofs.FragmentsSay.{fragments_said, no_board_at, none_at, specs_long}

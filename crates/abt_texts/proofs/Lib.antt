@@ -9,6 +9,7 @@ pub mod FragmentsSay
 pub mod NumberWords
 pub mod OsWords
 pub mod ImagesSay
+pub mod Informing
 pub mod Listed
 pub mod PackedAgain
 pub mod PackedFields

@@ -1,8 +1,8 @@
 -- Words that write a number, taken apart.
-use Rattle.std.proofs.Common.{rules, ◌≡◌, ℕ, ◌<◌, ◌*◌, ◌+◌, ◌^◌, List, [], ◌∷◌, ◌++◌, ◌⊎◌, inl, inr, Option, Some, None, MatchOption, Bor, refl, sym, ap, subst, ◌∙◌, arith, length, length-append}
+use Rattle.std.proofs.Common.{rules, ◌≡◌, ℕ, ◌<◌, ◌*◌, ◌^◌, List, [], ◌∷◌, ◌++◌, inl, inr, Option, Some, None, MatchOption, Bor, refl, sym, ap, subst, ◌∙◌, arith, length, length-append}
 use Rattle.std.specs.Char.{digit_value}
-use Rattle.std.specs.Str.Parse.{IsNumeral, AllDigits, digits_value}
-use Rattle.abt_texts.specs.NumberWord.{IsDigits, IsScale, IsScaled, IsDecimal, IsHexadecimal, IsNumber}
+use Rattle.std.specs.Str.Parse.{AllDigits}
+use Rattle.abt_texts.specs.NumberWord.{IsDigits, IsScale, IsDecimal}
 
 -- ---- letters
 

@@ -1,11 +1,10 @@
 -- A canonical image is packed again of the fields of its header and the parts in its sections.
-use Rattle.std.proofs.Common.{◌≡◌, ℕ, zero, suc, ◌+◌, ◌≤◌, ◌<◌, inl, inr, List, [], ◌∷◌, ◌++◌, length, take, drop, slice_index_or, map, refl, sym, ap, subst, ◌∙◌, arith, append-nil, Option, Some, None, Result, Ok, ◌⊎◌, rules}
-use Rattle.std.specs.Prelude.{◌↔◌}
-use Rattle.std.specs.List.{All, concat}
+use Rattle.std.proofs.Common.{◌≡◌, ℕ, zero, suc, ◌≤◌, ◌<◌, inl, inr, List, [], ◌∷◌, ◌++◌, length, take, drop, slice_index_or, map, refl, sym, ap, subst, ◌∙◌, arith, append-nil, Some, None, Result, Ok, rules}
+use Rattle.std.specs.List.{concat}
 use Rattle.std.proofs.lemmas.List.{take_all}
 use Rattle.abt_headers.specs.declared.boot.BootHeader.{BootHeader}
 use Rattle.abt_headers.specs.declared.fault.HeaderFault.{HeaderFault}
-use Rattle.abt_headers.specs.Vendor.{Tail, Vendor}
+use Rattle.abt_headers.specs.Vendor.{Vendor}
 use Rattle.abt_sections.specs.declared.spec.FragmentSpec.{FragmentSpec}
 use Rattle.abt_sections.specs.BootCanon.{boot_canon, boot_header_of, boot_image}
 use Rattle.abt_sections.specs.Canonical.{IsBootInput, IsVendorInput, StartsAsBoot, StartsAsPacked, StartsAsVendor, StartsWith}
@@ -18,7 +17,7 @@ use Rattle.abt_sections.specs.VendorCanon.{VendorParts, vendor_canon, vendor_hea
 use Rattle.abt_sections.proofs.Starting.{continues}
 use Rattle.abt_texts.specs.Said.{boot_fields_of, vendor_fields_of}
 use Rattle.abt_texts.specs.WayBack.{PacksAgain, PacksBoot, PacksVendor, boot_parts_of, ramdisks_of, spec_of, specs_of, vendor_part, vendor_parts_of, vendor_parts_with}
-use Rattle.abt_texts.proofs.PackedFields.{Makes, MakesVendor, boot_again, three_or_four, vendor_again}
+use Rattle.abt_texts.proofs.PackedFields.{MakesVendor, boot_again, three_or_four, vendor_again}
 
 -- ---- what the laws of packing say
 

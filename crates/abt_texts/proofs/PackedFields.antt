@@ -1,28 +1,22 @@
 -- The fields of a header that was made of fields pack the same header again.
-use Rattle.std.proofs.Common.{◌≡◌, ℕ, zero, suc, ◌+◌, ◌≤◌, ◌<◌, ◌^◌, inl, inr, Bool, true, false, cond, not, ◌&&◌, ◌==◌, List, [], ◌∷◌, ◌++◌, length, take, drop, map, replicate, refl, sym, ap, subst, ◌∙◌, rules, arith, lit<, lit≤, ◌⊎◌, Option, Some, None}
+use Rattle.std.proofs.Common.{◌≡◌, ℕ, zero, suc, ◌+◌, ◌≤◌, ◌<◌, ◌^◌, inl, inr, Bool, true, false, cond, not, ◌==◌, List, [], ◌∷◌, ◌++◌, length, take, drop, map, replicate, refl, sym, ap, subst, ◌∙◌, rules, arith, lit<, ◌⊎◌}
 use Rattle.std.proofs.lemmas.Bool.{and_parts, cases_lt}
 use Rattle.std.proofs.lemmas.List.Sums.{take_while-cons}
-use Rattle.abt_headers.specs.declared.os.OsVersion.{OsVersion}
 use Rattle.abt_headers.specs.declared.page.PageSize.{PageSize}
-use Rattle.abt_headers.specs.declared.boot.BootFront.{BootFront}
-use Rattle.abt_headers.specs.declared.boot.DtboFields.{DtboFields}
-use Rattle.abt_headers.specs.declared.boot.DtbFields.{DtbFields}
-use Rattle.abt_headers.specs.declared.boot.ShortFront.{ShortFront}
 use Rattle.abt_headers.specs.declared.boot.BootHeader.{BootHeader}
-use Rattle.abt_headers.specs.declared.boot.BootHeader.TheVariants.{V0, V1, V2, V3, V4}
+use Rattle.abt_headers.specs.declared.boot.BootHeader.TheVariants.{V0, V1, V2, V3}
 use Rattle.abt_headers.specs.Page.{page_bytes, page_from}
 use Rattle.abt_headers.specs.Vendor.{Vendor}
 use Rattle.abt_sections.specs.Fields.{BootFields, VendorFields, filled, is_text, no_zero}
 use Rattle.abt_sections.specs.Refusal.{boot_names, boot_refusal, size_refusal, vendor_names, vendor_refusal}
 use Rattle.abt_sections.specs.BootCanon.{boot_header_for, boot_header_of, boot_page_for, dtb_for, dtbo_for, front_for, id_for, page_or, short_for}
-use Rattle.abt_sections.specs.VendorCanon.{VendorParts, vendor_header_for, vendor_header_of, vendor_page_for, vendor_sizes_for, vendor_front_for, tail_for}
+use Rattle.abt_sections.specs.VendorCanon.{VendorParts, vendor_header_for, vendor_header_of, vendor_page_for, vendor_sizes_for}
 use Rattle.std.specs.List.{concat}
-use Rattle.abt_sections.specs.Canonical.{BootNumbers, IsBootInput, IsVendorInput, VendorNumbers}
+use Rattle.abt_sections.specs.Canonical.{IsBootInput, IsVendorInput}
 use Rattle.abt_sections.proofs.Accepting.{boot_accepted, boot_passes, neither, none_of, page_again, page_is_some, text_parts, vendor_accepted, vendor_passes}
 use Rattle.abt_sections.proofs.Canons.{five}
 use Rattle.abt_sections.proofs.FieldTexts.{two_fields}
-use Rattle.abt_texts.specs.Info as info
-use Rattle.abt_texts.specs.Said.{boot_fields_of, front_fields, short_fields, vendor_fields_of}
+use Rattle.abt_texts.specs.Said.{boot_fields_of, vendor_fields_of}
 use Rattle.abt_texts.specs.Words.{text_of, text_over}
 
 -- ---- texts

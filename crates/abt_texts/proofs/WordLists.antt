@@ -1,23 +1,22 @@
 -- Words printed one behind another.
-use Rattle.std.proofs.Common.{◌≡◌, ℕ, zero, suc, ◌+◌, ◌<◌, List, [], ◌∷◌, ◌++◌, Result, Ok, Err, OnOk, length, take, get_or, flat_map, subst, sym, ap, ◌∙◌, arith, append_assoc, append-nil}
+use Rattle.std.proofs.Common.{◌≡◌, ℕ, zero, suc, ◌+◌, ◌<◌, List, [], ◌∷◌, ◌++◌, Result, Ok, Err, OnOk, length, take, get_or, subst, sym, ap, ◌∙◌, arith, append_assoc, append-nil}
 use Rattle.std.proofs.lemmas.Grind.{flat_map-append}
 use Rattle.abt_texts.specs.declared.text_output.Text.{Text}
 use Rattle.abt_texts.specs.Info.{line}
 use Rattle.abt_texts.specs.Printed.{Prints}
 use Rattle.abt_texts.specs.Words.{words_text, board_word, board_words}
-use Rattle.abt_texts.proofs.Printing.{both_printed, then_printed}
-use Rattle.abt_texts.proofs.Turns.{one_more}
+use Rattle.abt_texts.proofs.Printing.{both_printed}
 
-abbrev pub PrintsWords : {O : Type 0} → (O → List ℕ) → Text O → Text O → List (List ℕ) → Type 0
-PrintsWords written s t ws = Prints written s t (words_text ws)
+abbrev pub PrintsWords : {O : Type 0} → (O → List ℕ) → (O → ℕ) → Text O → Text O → List (List ℕ) → Type 0
+PrintsWords written faults s t ws = Prints written faults s t (words_text ws)
 
-module _ {O : Type 0} (written : O → List ℕ) where
-  pub both_words : (s t u : Text O) (a b : List (List ℕ)) → PrintsWords written s t a → PrintsWords written t u b → PrintsWords written s u (a ++ b)
-  both_words s t u a b p q = subst (Prints written s u) (sym (flat_map-append line a b)) (both_printed written s t u (words_text a) (words_text b) p q)
+module _ {O : Type 0} (written : O → List ℕ) (faults : O → ℕ) where
+  pub both_words : (s t u : Text O) (a b : List (List ℕ)) → PrintsWords written faults s t a → PrintsWords written faults t u b → PrintsWords written faults s u (a ++ b)
+  both_words s t u a b p q = subst (Prints written faults s u) (sym (flat_map-append line a b)) (both_printed written faults s t u (words_text a) (words_text b) p q)
 
   -- the second may fail
   pub then_words : {A E : Type 0} (s t u : Text O) (a b : List (List ℕ)) (r : Result A E)
-      → PrintsWords written s t a → OnOk r (PrintsWords written t u b) → OnOk r (PrintsWords written s u (a ++ b))
+      → PrintsWords written faults s t a → OnOk r (PrintsWords written faults t u b) → OnOk r (PrintsWords written faults s u (a ++ b))
   then_words s t u a b (Ok x) p q = both_words s t u a b p q
   then_words s t u a b (Err e) p q = tt
 

@@ -1,5 +1,5 @@
 -- The words of a header say its fields.
-use Rattle.std.proofs.Common.{◌≡◌, ℕ, zero, suc, slice_index, ◌+◌, ◌*◌, ◌/◌, ◌%◌, ◌<◌, ◌≤◌, ◌^◌, ◌&&◌, nat_le, Bool, true, false, cond, inl, inr, List, [], ◌∷◌, ◌++◌, Option, Some, None, codes, decimal, length, refl, sym, ap, subst, ◌∙◌, rules, arith, append-nil, flat_map, length-append, lit<, lit≤}
+use Rattle.std.proofs.Common.{◌≡◌, ℕ, zero, suc, ◌+◌, ◌/◌, ◌%◌, ◌<◌, ◌≤◌, ◌^◌, nat_le, true, inl, inr, List, [], ◌∷◌, ◌++◌, Option, Some, None, codes, decimal, length, refl, sym, ap, subst, ◌∙◌, rules, arith, append-nil, flat_map, length-append, lit<}
 use Rattle.std.proofs.lemmas.Bool.{and_parts, cases_Bool, leb-true}
 use Rattle.std.proofs.lemmas.Fmt.{decimal_digit, decimal_nonempty, decimal_step, digits_decimal, digits_value-decimal}
 use Rattle.std.proofs.lemmas.Str.Parse.{IsNumeralModel, numerals_by_value}
@@ -13,7 +13,6 @@ use Rattle.abt_headers.specs.declared.boot.DtbFields.{DtbFields}
 use Rattle.abt_headers.specs.declared.boot.ShortFront.{ShortFront}
 use Rattle.abt_headers.specs.declared.boot.BootHeader.{BootHeader}
 use Rattle.abt_headers.specs.declared.boot.BootHeader.TheVariants.{V0, V1, V2, V3, V4}
-use Rattle.abt_headers.specs.declared.os.OsParts.{OsParts}
 use Rattle.abt_headers.specs.declared.page.PageSize.{PageSize}
 use Rattle.abt_headers.specs.declared.page.PageSize.TheVariants as pages
 use Rattle.abt_headers.specs.declared.vendor.VendorFront.{VendorFront}

@@ -1,6 +1,5 @@
 -- What the demonstration shows.
 use Rattle.std.specs.Prelude.{ℕ, List, [], ◌∷◌, ◌++◌, codes}
-use Rattle.hex.specs.Hex.{encode_lower}
 use Rattle.abt_sparse.specs.declared.fault.SparseFault.{SparseFault}
 use Rattle.abt_sparse.specs.declared.fault.SparseFault.TheVariants as faults
 

@@ -8,7 +8,10 @@ use Rattle.abt_texts.specs.Unescaped.{unescaped}
 
 -- the number that digits alone write, at least one, where 32 bits have room for it
 abbrev pub number_of : List ℕ → Option ℕ
-number_of text = if all_ascii_digits text && nat_lt 0 (length text) && nat_lt (digits_value 10 text) (2 ^ 32) then Some (digits_value 10 text) else None
+number_of text =
+    if all_ascii_digits text && nat_lt 0 (length text) && nat_lt (digits_value 10 text) (2 ^ 32)
+    then Some (digits_value 10 text)
+    else None
 
 -- the number of a TYPE: one of four names, or a number
 abbrev pub type_number : List ℕ → Option ℕ

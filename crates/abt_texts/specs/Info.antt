@@ -1,5 +1,5 @@
 -- The text of `info`: what the lines of an opened image are, and in which order.
-use Rattle.std.specs.Prelude.{◌≡◌, ◌↔◌, ℕ, zero, suc, ◌<◌, IsTrue, ◌/◌, ◌%◌, ◌==◌, ◌&&◌, ◌||◌, not, nat_le, Bool, if◌then◌else◌, List, [], ◌∷◌, ◌++◌, Option, Some, None, codes, decimal, map}
+use Rattle.std.specs.Prelude.{◌≡◌, ◌↔◌, ℕ, zero, suc, ◌<◌, IsTrue, ◌/◌, ◌%◌, ◌==◌, ◌&&◌, not, nat_le, Bool, if◌then◌else◌, List, [], ◌∷◌, ◌++◌, Option, Some, None, codes, decimal}
 use Rattle.std.specs.List.{flat_map, take_while}
 use Rattle.hex.specs.Hex.{encode_lower}
 use Rattle.abt_headers.specs.declared.boot.BootFront.{BootFront}
@@ -43,16 +43,22 @@ quoted x = codes "\"" ++ (flat_map escaped (text_of x) ++ codes "\"")
 
 -- ---- the lines
 
+-- a kind with its version and its page
+abbrev pub kind_words : List ℕ → ℕ → ℕ → List ℕ
+kind_words kind version page =
+    codes "kind " ++ (kind ++ (codes " version " ++ (decimal version ++ (codes " page " ++ decimal page))))
+
 abbrev pub kind_text : Header → List ℕ
-kind_text (OfBoot h) = codes "kind boot version " ++ (decimal (boot_version h) ++ (codes " page " ++ decimal (boot_page h)))
-kind_text (OfVendor v) = codes "kind vendor version " ++ (decimal (vendor_version v) ++ (codes " page " ++ decimal (vendor_page v)))
+kind_text (OfBoot h) = kind_words (codes "boot") (boot_version h) (boot_page h)
+kind_text (OfVendor v) = kind_words (codes "vendor") (vendor_version v) (vendor_page v)
 
 abbrev pub section_text : Place → List ℕ
-section_text p = codes "section " ++ (section_name p.kind ++ (codes " at " ++ (decimal p.at ++ (codes " size " ++ decimal p.size))))
+section_text p =
+    codes "section " ++ (section_name p.kind ++ (codes " at " ++ (decimal p.at ++ (codes " size " ++ decimal p.size))))
 
 abbrev pub fragment_text : ℕ → RamdiskEntry → List ℕ
-fragment_text i e = codes "fragment " ++ (decimal i ++ (codes " at " ++ (decimal e.ramdisk_offset ++ (codes " size " ++ (decimal e.ramdisk_size
-    ++ (codes " type " ++ (decimal e.ramdisk_type ++ (codes " name " ++ quoted e.name))))))))
+fragment_text i e = codes "fragment " ++ (decimal i ++ (codes " at " ++ (decimal e.ramdisk_offset
+    ++ (codes " size " ++ (decimal e.ramdisk_size ++ (codes " type " ++ (decimal e.ramdisk_type ++ (codes " name " ++ quoted e.name))))))))
 
 abbrev pub address_name : Address → List ℕ
 address_name addresses.Kernel = codes "kernel"
@@ -204,8 +210,8 @@ abbrev pub id_line : Header → List ℕ
 id_line h = line_if id_text (id_of h)
 
 abbrev pub address_lines : Header → List ℕ
-address_lines h = address_line h addresses.Kernel ++ (address_line h addresses.Ramdisk ++ (address_line h addresses.Second
-    ++ (address_line h addresses.Tags ++ address_line h addresses.Dtb)))
+address_lines h = address_line h addresses.Kernel ++ (address_line h addresses.Ramdisk
+    ++ (address_line h addresses.Second ++ (address_line h addresses.Tags ++ address_line h addresses.Dtb)))
 
 -- the fields behind the sections and the fragments
 abbrev pub header_lines : Header → List ℕ
@@ -241,6 +247,18 @@ IsWrite faults.Name = ⊥
 IsWrite faults.CommandLine = ⊥
 IsWrite (faults.SectionTruncated s) = ⊥
 IsWrite (faults.SectionTooLarge s) = ⊥
+
+-- Write comes just where the count of failed writes rose
+abbrev pub WriteTold : SectionFault → ℕ → ℕ → Type 0
+WriteTold (faults.Read d) w w' = w' ≡ w
+WriteTold (faults.Write d) w w' = w < w'
+WriteTold faults.SourceChanged w w' = w' ≡ w
+WriteTold (faults.Header f) w w' = w' ≡ w
+WriteTold (faults.Entry i) w w' = w' ≡ w
+WriteTold faults.Name w w' = w' ≡ w
+WriteTold faults.CommandLine w w' = w' ≡ w
+WriteTold (faults.SectionTruncated s) w w' = w' ≡ w
+WriteTold (faults.SectionTooLarge s) w w' = w' ≡ w
 
 -- of printing an image that opened: the output failed, or the source, whose count of faults rose
 abbrev pub PrintCause : SectionFault → ℕ → ℕ → Type 0

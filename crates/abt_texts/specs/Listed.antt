@@ -1,8 +1,10 @@
 -- What printing a listing does.
-use Rattle.std.specs.Prelude.{◌≡◌, ℕ, List, [], ◌∷◌, ◌++◌, flat_map, Some, Ok}
+use Rattle.std.specs.Prelude.{◌≡◌, ◌<◌, ℕ, List, [], ◌∷◌, ◌++◌, flat_map, Option, Some, None, Ok}
 use Rattle.abt_sparse.specs.Chunk.{Header}
 use Rattle.abt_chunks.specs.declared.progress.ChunkInfo.{ChunkInfo}
-use Rattle.abt_chunks.specs.Listing.{listing_of}
+use Rattle.abt_chunks.specs.Listing.{Listing, listing_of}
+use Rattle.abt_sparse.specs.declared.fault.SparseFault.{SparseFault}
+use Rattle.abt_sparse.specs.declared.fault.SparseFault.TheVariants as faults
 use Rattle.abt_texts.specs.Listing.{chunk_text, header_text}
 
 abbrev pub header_line : Header → List ℕ
@@ -17,3 +19,22 @@ pub record Listed (x y : List ℕ) (P : List ℕ → Type 0) : Type 0 where
   pub chunks : List ChunkInfo
   pub image : listing_of x ≡ record { head = Some header; shown = chunks; ending = Ok y }
   pub holds : P (header_line header ++ flat_map chunk_line chunks)
+
+-- what is printed of a listing: its header's line, where there is one, and a line for each chunk
+abbrev pub head_text : Option Header → List ℕ
+head_text None = []
+head_text (Some h) = header_line h
+
+abbrev pub listing_text : Listing → List ℕ
+listing_text l = head_text l.head ++ flat_map chunk_line l.shown
+
+-- ---- refusals
+
+abbrev pub IsWrite : SparseFault → Type 0
+IsWrite (faults.Write d) = Unit {0}
+IsWrite f = ⊥
+
+-- Write comes just where the count of failed writes rose
+abbrev pub WriteTold : SparseFault → ℕ → ℕ → Type 0
+WriteTold (faults.Write d) w w' = w < w'
+WriteTold f w w' = w' ≡ w

@@ -9,8 +9,10 @@ use Rattle.abt_sparse.specs.declared.kind.ChunkKind.TheVariants as kinds
 use Rattle.abt_chunks.specs.declared.progress.ChunkInfo.{ChunkInfo}
 
 abbrev pub header_text : Header → List ℕ
-header_text h = codes "sparse 1." ++ (decimal h.minor ++ (codes " header " ++ (decimal h.file_hdr_sz ++ (codes " chunk " ++ (decimal h.chunk_hdr_sz
-    ++ (codes " block " ++ (decimal h.blk_sz ++ (codes " blocks " ++ (decimal h.total_blks ++ (codes " chunks " ++ (decimal h.total_chunks
+header_text h = codes "sparse 1." ++ (decimal h.minor
+    ++ (codes " header " ++ (decimal h.file_hdr_sz ++ (codes " chunk " ++ (decimal h.chunk_hdr_sz
+    ++ (codes " block " ++ (decimal h.blk_sz ++ (codes " blocks " ++ (decimal h.total_blks
+    ++ (codes " chunks " ++ (decimal h.total_chunks
     ++ (codes " checksum " ++ encode_lower (to_be_bytes w32 h.image_checksum)))))))))))))
 
 -- the number in these four bytes as it is written down, from its highest byte on

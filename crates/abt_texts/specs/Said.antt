@@ -96,7 +96,8 @@ pub record SaysOsWord (words : List (List ℕ)) (n : ℕ) : Type 0 where
 
 -- the OS version and patch level: the number, or else the word
 abbrev pub SaysOs : List (List ℕ) → ℕ → Type 0
-SaysOs words n = SaysNumber words (codes "os-number") n ⊎ ((value_of (codes "os-number") words ≡ None) × SaysOsWord words n)
+SaysOs words n =
+    SaysNumber words (codes "os-number") n ⊎ ((value_of (codes "os-number") words ≡ None) × SaysOsWord words n)
 
 -- ---- what words say of an image
 

@@ -42,7 +42,8 @@ vendor_part x v i = slice_index_or (parts_of x (places_of (OfVendor v))) i []
 -- without a table the ramdisk is one part, and with one each fragment is
 abbrev pub vendor_parts_with : List ℕ → Vendor → Option Tail → VendorParts
 vendor_parts_with x v None = vendor_parts [] (vendor_part x v 0 ∷ []) (vendor_part x v 1) []
-vendor_parts_with x v (Some t) = vendor_parts (specs_of x (OfVendor v) t.entry_num) (ramdisks_of x (OfVendor v) t.entry_num)
+vendor_parts_with x v (Some t) =
+    vendor_parts (specs_of x (OfVendor v) t.entry_num) (ramdisks_of x (OfVendor v) t.entry_num)
     (vendor_part x v 1) (vendor_part x v 3)
 
 abbrev pub vendor_parts_of : List ℕ → Vendor → VendorParts

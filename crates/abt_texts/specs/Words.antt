@@ -1,5 +1,5 @@
 -- The words that pack an image again.
-use Rattle.std.specs.Prelude.{◌≡◌, ℕ, zero, suc, ◌/◌, ◌%◌, ◌==◌, ◌&&◌, nat_le, Bool, true, false, if◌then◌else◌, List, [], ◌∷◌, ◌++◌, Option, Some, None, codes, decimal, is_some, length, drop}
+use Rattle.std.specs.Prelude.{ℕ, zero, suc, ◌==◌, ◌&&◌, nat_le, Bool, true, false, if◌then◌else◌, List, [], ◌∷◌, ◌++◌, Option, Some, None, codes, decimal, is_some, length, drop}
 use Rattle.std.specs.List.{flat_map}
 use Rattle.abt_headers.specs.declared.entry.RamdiskEntry.{RamdiskEntry}
 use Rattle.abt_headers.specs.declared.os.OsParts.{OsParts}
@@ -11,7 +11,7 @@ use Rattle.abt_headers.specs.Os.{os_parts}
 use Rattle.abt_headers.specs.Places.{section_name}
 use Rattle.abt_headers.specs.Vendor.{vendor_page, vendor_version}
 use Rattle.abt_sections.specs.Check.{all_zero}
-use Rattle.abt_sections.specs.Header.{Header, OfBoot, OfVendor, page_of, places_of, fragment_count, entry_of}
+use Rattle.abt_sections.specs.Header.{Header, OfBoot, OfVendor, places_of, fragment_count, entry_of}
 use Rattle.abt_texts.specs.Info as info
 use Rattle.abt_texts.specs.declared.fields.Address.{Address}
 use Rattle.abt_texts.specs.declared.fields.Address.TheVariants as addresses
@@ -30,7 +30,8 @@ abbrev pub number_word : List ℕ → ℕ → List ℕ
 number_word name n = codes "--" ++ (name ++ (codes "=" ++ decimal n))
 
 abbrev pub part_word : List ℕ → List ℕ → List ℕ → List ℕ
-part_word name folder file = codes "--" ++ (name ++ (codes "=" ++ (flat_map info.escaped folder ++ (codes "/" ++ file))))
+part_word name folder file =
+    codes "--" ++ (name ++ (codes "=" ++ (flat_map info.escaped folder ++ (codes "/" ++ file))))
 
 abbrev pub text_of : List ℕ → List ℕ
 text_of x = info.text_of x
@@ -46,18 +47,22 @@ abbrev pub is_month : ℕ → Bool
 is_month n = nat_le 1 n && nat_le n 12
 
 abbrev pub os_text : OsParts → List ℕ
-os_text p = decimal p.a ++ (codes "." ++ (decimal p.b ++ (codes "." ++ (decimal p.c ++ (codes "-" ++ (decimal p.year ++ (codes "-" ++ info.two_digits p.month)))))))
+os_text p = decimal p.a ++ (codes "." ++ (decimal p.b ++ (codes "." ++ (decimal p.c
+    ++ (codes "-" ++ (decimal p.year ++ (codes "-" ++ info.two_digits p.month)))))))
 
 abbrev pub os_option : ℕ → List ℕ
-os_option n = if is_month (os_parts n).month then codes "--os=" ++ os_text (os_parts n) else codes "--os-number=" ++ decimal n
+os_option n =
+    if is_month (os_parts n).month
+    then codes "--os=" ++ os_text (os_parts n)
+    else codes "--os-number=" ++ decimal n
 
 -- a colon would end the name
 abbrev pub escaped_in_name : ℕ → List ℕ
 escaped_in_name b = if b == 58 then codes "\\x3a" else info.escaped b
 
 abbrev pub fragment_option : ℕ → ℕ → List ℕ → List ℕ → List ℕ
-fragment_option i kind name folder = codes "--fragment=" ++ (decimal kind ++ (codes ":" ++ (flat_map escaped_in_name name
-    ++ (codes ":" ++ (flat_map info.escaped folder ++ (codes "/fragment." ++ decimal i))))))
+fragment_option i kind name folder = codes "--fragment=" ++ (decimal kind ++ (codes ":"
+    ++ (flat_map escaped_in_name name ++ (codes ":" ++ (flat_map info.escaped folder ++ (codes "/fragment." ++ decimal i))))))
 
 abbrev pub board_option : ℕ → ℕ → ℕ → List ℕ
 board_option i k n = codes "--board-id=" ++ (decimal i ++ (codes ":" ++ (decimal k ++ (codes "=" ++ decimal n))))
@@ -70,10 +75,13 @@ words_if word (Some x) = word x ∷ []
 
 -- the kind of image, its version and its page
 abbrev pub kind_words : Header → List (List ℕ)
-kind_words (OfBoot h) = flag_word (codes "escaped") ∷ number_word (codes "version") (boot_version h) ∷ number_word (codes "page") (boot_page h) ∷ []
-kind_words (OfVendor v) = flag_word (codes "escaped") ∷ flag_word (codes "vendor") ∷ number_word (codes "version") (vendor_version v) ∷ number_word (codes "page") (vendor_page v) ∷ []
+kind_words (OfBoot h) = flag_word (codes "escaped")
+    ∷ number_word (codes "version") (boot_version h) ∷ number_word (codes "page") (boot_page h) ∷ []
+kind_words (OfVendor v) = flag_word (codes "escaped") ∷ flag_word (codes "vendor")
+    ∷ number_word (codes "version") (vendor_version v) ∷ number_word (codes "page") (vendor_page v) ∷ []
 
--- the option that a section is given by: a vendor ramdisk with a table is given by its fragments, and the table with them
+-- the option that a section is given by: a vendor ramdisk with a table is given by its fragments, and the table with
+-- them
 abbrev pub section_option : Bool → Section → Option (List ℕ)
 section_option table Kernel = Some (codes "kernel")
 section_option table Ramdisk = Some (codes "ramdisk")
@@ -87,7 +95,8 @@ section_option table Table = None
 section_option table Bootconfig = Some (codes "bootconfig")
 
 abbrev pub section_words : List ℕ → Bool → Place → List (List ℕ)
-section_words folder table p = words_if (λ name. part_word name folder (section_name p.kind)) (section_option table p.kind)
+section_words folder table p =
+    words_if (λ name. part_word name folder (section_name p.kind)) (section_option table p.kind)
 
 abbrev pub has_table : Header → Bool
 has_table (OfBoot h) = false
@@ -104,8 +113,8 @@ abbrev pub address_word : Header → Address → List (List ℕ)
 address_word h a = words_if (number_word (address_option a)) (info.address_of h a)
 
 abbrev pub address_words : Header → List (List ℕ)
-address_words h = address_word h addresses.Kernel ++ (address_word h addresses.Ramdisk ++ (address_word h addresses.Second
-    ++ (address_word h addresses.Tags ++ address_word h addresses.Dtb)))
+address_words h = address_word h addresses.Kernel ++ (address_word h addresses.Ramdisk
+    ++ (address_word h addresses.Second ++ (address_word h addresses.Tags ++ address_word h addresses.Dtb)))
 
 abbrev pub name_words : Header → List (List ℕ)
 name_words h = words_if (λ name. text_word (codes "name") name []) (info.field_of h texts.Name)
@@ -116,14 +125,15 @@ or_empty None = []
 or_empty (Some x) = x
 
 abbrev pub cmdline_word : Header → List ℕ
-cmdline_word h = text_word (codes "cmdline") (or_empty (info.field_of h texts.Cmdline)) (or_empty (info.field_of h texts.Extra))
+cmdline_word h =
+    text_word (codes "cmdline") (or_empty (info.field_of h texts.Cmdline)) (or_empty (info.field_of h texts.Extra))
 
 abbrev pub os_words : Header → List (List ℕ)
 os_words h = words_if os_option (info.os_number_of h)
 
 abbrev pub header_words : List ℕ → Header → List (List ℕ)
-header_words folder h = kind_words h ++ (flat_map (section_words folder (has_table h)) (places_of h) ++ (address_words h ++ (name_words h
-    ++ (cmdline_word h ∷ os_words h))))
+header_words folder h = kind_words h ++ (flat_map (section_words folder (has_table h)) (places_of h)
+    ++ (address_words h ++ (name_words h ++ (cmdline_word h ∷ os_words h))))
 
 -- ---- the words of the fragments
 

@@ -3,6 +3,8 @@
 ghost use Rattle.std.specs.Prelude.{◌≡◌, ◌≤◌, ◌-◌, ◌++◌, [], length, take, min};
 ghost use Rattle.abt_texts.specs.Shown.{text_in};
 
+use std::fmt;
+
 /// How many bytes are held at most.
 pub const ROOM: usize = 8192;
 
@@ -56,5 +58,13 @@ impl Held {
         self.bytes[from..from + n].copy_from_slice(&bytes[..n]);
         self.used = from + n;
         n
+    }
+}
+
+/// Keeps what has room.
+impl fmt::Write for Held {
+    fn write_str(&mut self, s: &str) -> fmt::Result {
+        self.put(s.as_bytes());
+        Ok(())
     }
 }

@@ -1,22 +1,21 @@
 //! The text of `info`: what the header of a boot image says, and whether the image is what the packer writes.
 
-ghost use Rattle.std.specs.Prelude.{◌≡◌, ◌≤◌, IsTrue, IfErr, IfOk, IfSome, OnOk, flat_map};
-ghost use Rattle.std.specs.Fmt.{with_newline};
-ghost use Rattle.abt_sections.specs.Open.{IsOpened};
-ghost use Rattle.abt_sections.specs.Header.{fragment_count, places_of, view_of};
+ghost use Rattle.std.specs.Prelude.{◌≡◌, ◌≤◌, IsSome, IsTrue, IfErr, IfOk, List, ℕ, OnOk, flat_map};
+ghost use Rattle.abt_sections.specs.Grown.{Begins};
+ghost use Rattle.abt_sections.specs.Open.{HasImage, IsOpened};
+ghost use Rattle.abt_sections.specs.Header.{Header, fragment_count, places_of, view_of};
 ghost use Rattle.abt_texts.specs.Info as spec;
-ghost use Rattle.abt_texts.specs.Printed.{Prints};
+ghost use Rattle.abt_texts.specs.Printed.{Prints, PrintsFront};
 
 use crate::fields::{Address, TextField, address_of, id_of, os_version_of, text_field_of};
 use crate::info_lines::{
-    AddressLine, CheckLine, FragmentLine, IdLine, KindLine, OsLine, SectionLine, TextLine,
+    put_address, put_check, put_field, put_fragment, put_id, put_kind, put_os, put_section,
 };
 use crate::text_output::Text;
 use abt_io::{Meter, Output, Source, Window};
 use abt_sections::{
     Image, ImageHeader, SectionFault, Verdict, check, fragment, fragments, open, section, sections,
 };
-use std::fmt;
 
 /// What was printed of an image.
 #[derive(Clone, Copy, Debug)]
@@ -44,6 +43,11 @@ pub fn report_info<S: Source, O: Output>(
     ensures refused { IsTrue S.tells →
         IfErr result (λ f. spec.InfoCause f (S.content source.old) (S.read_faults source.old) (S.read_faults source.new)
         (O.written out.new ≡ O.written out.old)) }
+    ensures begun { IsTrue S.tells → (h : Header) → HasImage (S.content source.old) h → (v : Verdict) →
+        spec.IsVerdict (S.content source.old) h v →
+        Begins (O.written out.old) (O.written out.new) (spec.info_text (S.content source.old) h v) }
+    ensures failed { IfErr result (λ f. spec.WriteTold f (O.write_faults out.old) (O.write_faults out.new)) }
+    ensures clean { OnOk result (O.write_faults out.new ≡ O.write_faults out.old) }
 {
     let image = match open(source, w, m) {
         Ok(image) => image,
@@ -69,42 +73,39 @@ fn image_lines<S: Source, O: Output>(
     ensures verdict { IsTrue S.tells → IfOk result (spec.IsVerdict (S.content source.old) (view_of image.now.header)) }
     ensures lines { IsTrue S.tells →
         OnOk result (spec.Checked (S.content source.old) (view_of image.now.header)
-        (Prints O.written text.old text.new)) }
+        (Prints O.written O.write_faults text.old text.new)) }
+    ensures begun { IsTrue S.tells → (v : Verdict) → spec.IsVerdict (S.content source.old) (view_of image.now.header) v →
+        PrintsFront O.written O.write_faults text.old text.new
+        (spec.info_text (S.content source.old) (view_of image.now.header) v) }
+    ensures prints { (done : List ℕ) × Prints O.written O.write_faults text.old text.new done }
+    ensures told { IfErr result (λ f. spec.IsWrite f → IsSome text.new.fault) }
     ensures refused { IsTrue S.tells → IsOpened (S.content source.old) image.now →
         IfErr result (λ f. spec.PrintCause f (S.read_faults source.old) (S.read_faults source.new)) }
 {
-    print(text, KindLine(&image.header))?;
-    section_lines(image, text, m)?;
+    put_kind(&image.header, text);
+    section_lines(image, text, m);
     match fragment_lines(image, source, text, w, m) {
         Ok(()) => {}
         Err(fault) => return Err(fault),
     }
-    header_lines(&image.header, text)?;
+    header_lines(&image.header, text);
     let verdict = match check(image, source, w, m) {
         Ok(verdict) => verdict,
         Err(fault) => return Err(fault),
     };
-    match print(text, CheckLine(verdict)) {
-        Ok(()) => Ok(verdict),
-        Err(fault) => Err(fault),
-    }
+    put_check(verdict, text);
+    Ok(verdict)
 }
 
-fn section_lines<O: Output>(
-    image: &Image,
-    text: &mut Text<'_, O>,
-    m: &mut Meter,
-) -> Result<(), SectionFault>
-    ensures lines { OnOk
-        result (Prints O.written text.old text.new
-        (flat_map spec.section_line (places_of (view_of image.now.header)))) }
-    ensures refused { IfErr result spec.IsWrite }
+fn section_lines<O: Output>(image: &Image, text: &mut Text<'_, O>, m: &mut Meter)
+    ensures { Prints
+        O.written O.write_faults text.old text.new
+        (flat_map spec.section_line (places_of (view_of image.now.header))) }
 {
     for i in 0..sections(image) {
         m.tick();
-        print(text, SectionLine(section(image, i)))?;
+        put_section(section(image, i), text);
     }
-    Ok(())
 }
 
 fn fragment_lines<S: Source, O: Output>(
@@ -117,9 +118,14 @@ fn fragment_lines<S: Source, O: Output>(
     ensures content { IsTrue S.tells → OnOk result (S.content source.new ≡ S.content source.old) }
     ensures lines { IsTrue S.tells →
         OnOk
-        result (Prints O.written text.old text.new
+        result (Prints O.written O.write_faults text.old text.new
         (spec.fragment_lines (S.content source.old) (view_of image.now.header)
         (fragment_count (view_of image.now.header)))) }
+    ensures begun { IsTrue S.tells → PrintsFront O.written O.write_faults text.old text.new
+        (spec.fragment_lines (S.content source.old) (view_of image.now.header)
+        (fragment_count (view_of image.now.header))) }
+    ensures prints { (done : List ℕ) × Prints O.written O.write_faults text.old text.new done }
+    ensures told { IfErr result (λ f. spec.IsWrite f → IsSome text.new.fault) }
     ensures faults { S.read_faults source.old ≤ S.read_faults source.new }
     ensures refused { IsTrue S.tells → IsOpened (S.content source.old) image.now →
         IfErr result (λ f. spec.PrintCause f (S.read_faults source.old) (S.read_faults source.new)) }
@@ -130,99 +136,69 @@ fn fragment_lines<S: Source, O: Output>(
             Ok(entry) => entry,
             Err(fault) => return Err(fault),
         };
-        match print(text, FragmentLine(i, entry)) {
+        put_fragment(i, &entry, text);
+        match text.is_whole() {
             Ok(()) => {}
-            Err(fault) => return Err(fault),
+            Err(fault) => return Err(SectionFault::Write(fault)),
         }
     }
     Ok(())
 }
 
 // The lines of the fields that this header has.
-fn header_lines<O: Output>(header: &ImageHeader, text: &mut Text<'_, O>) -> Result<(), SectionFault>
-    ensures lines { OnOk result (Prints O.written text.old text.new (spec.header_lines (view_of header.now))) }
-    ensures refused { IfErr result spec.IsWrite }
+fn header_lines<O: Output>(header: &ImageHeader, text: &mut Text<'_, O>)
+    ensures { Prints O.written O.write_faults text.old text.new (spec.header_lines (view_of header.now)) }
 {
-    address_lines(header, text)?;
-    os_line(header, text)?;
-    text_line(header, TextField::Name, text)?;
-    text_line(header, TextField::Cmdline, text)?;
-    text_line(header, TextField::Extra, text)?;
-    id_line(header, text)
+    address_lines(header, text);
+    os_line(header, text);
+    text_line(header, TextField::Name, text);
+    text_line(header, TextField::Cmdline, text);
+    text_line(header, TextField::Extra, text);
+    id_line(header, text);
 }
 
-fn address_lines<O: Output>(
-    header: &ImageHeader,
-    text: &mut Text<'_, O>,
-) -> Result<(), SectionFault>
-    ensures lines { OnOk result (Prints O.written text.old text.new (spec.address_lines (view_of header.now))) }
-    ensures refused { IfErr result spec.IsWrite }
+fn address_lines<O: Output>(header: &ImageHeader, text: &mut Text<'_, O>)
+    ensures { Prints O.written O.write_faults text.old text.new (spec.address_lines (view_of header.now)) }
 {
-    address_line(header, Address::Kernel, text)?;
-    address_line(header, Address::Ramdisk, text)?;
-    address_line(header, Address::Second, text)?;
-    address_line(header, Address::Tags, text)?;
-    address_line(header, Address::Dtb, text)
+    address_line(header, Address::Kernel, text);
+    address_line(header, Address::Ramdisk, text);
+    address_line(header, Address::Second, text);
+    address_line(header, Address::Tags, text);
+    address_line(header, Address::Dtb, text);
 }
 
-fn address_line<O: Output>(
-    header: &ImageHeader,
-    which: Address,
-    text: &mut Text<'_, O>,
-) -> Result<(), SectionFault>
-    ensures lines { OnOk result (Prints O.written text.old text.new (spec.address_line (view_of header.now) which)) }
-    ensures refused { IfErr result spec.IsWrite }
+fn address_line<O: Output>(header: &ImageHeader, which: Address, text: &mut Text<'_, O>)
+    ensures { Prints O.written O.write_faults text.old text.new (spec.address_line (view_of header.now) which) }
 {
     match address_of(header, which) {
-        Some(address) => print(text, AddressLine(which, address)),
-        None => Ok(()),
+        Some(address) => put_address(which, address, text),
+        None => {}
     }
 }
 
-fn os_line<O: Output>(header: &ImageHeader, text: &mut Text<'_, O>) -> Result<(), SectionFault>
-    ensures lines { OnOk result (Prints O.written text.old text.new (spec.os_line (view_of header.now))) }
-    ensures refused { IfErr result spec.IsWrite }
+fn os_line<O: Output>(header: &ImageHeader, text: &mut Text<'_, O>)
+    ensures { Prints O.written O.write_faults text.old text.new (spec.os_line (view_of header.now)) }
 {
     match os_version_of(header) {
-        Some(os) => print(text, OsLine(os)),
-        None => Ok(()),
+        Some(os) => put_os(os, text),
+        None => {}
     }
 }
 
-fn text_line<O: Output>(
-    header: &ImageHeader,
-    which: TextField,
-    text: &mut Text<'_, O>,
-) -> Result<(), SectionFault>
-    ensures lines { OnOk result (Prints O.written text.old text.new (spec.field_line (view_of header.now) which)) }
-    ensures refused { IfErr result spec.IsWrite }
+fn text_line<O: Output>(header: &ImageHeader, which: TextField, text: &mut Text<'_, O>)
+    ensures { Prints O.written O.write_faults text.old text.new (spec.field_line (view_of header.now) which) }
 {
     match text_field_of(header, which) {
-        Some(field) => print(text, TextLine(which, field)),
-        None => Ok(()),
+        Some(field) => put_field(which, field, text),
+        None => {}
     }
 }
 
-fn id_line<O: Output>(header: &ImageHeader, text: &mut Text<'_, O>) -> Result<(), SectionFault>
-    ensures lines { OnOk result (Prints O.written text.old text.new (spec.id_line (view_of header.now))) }
-    ensures refused { IfErr result spec.IsWrite }
+fn id_line<O: Output>(header: &ImageHeader, text: &mut Text<'_, O>)
+    ensures { Prints O.written O.write_faults text.old text.new (spec.id_line (view_of header.now)) }
 {
     match id_of(header) {
-        Some(id) => print(text, IdLine(id)),
-        None => Ok(()),
-    }
-}
-
-// Prints one line, whose fault is a write's.
-fn print<O: Output, D: fmt::Display + Drop>(
-    text: &mut Text<'_, O>,
-    line: D,
-) -> Result<(), SectionFault>
-    ensures line { OnOk result (IfSome (with_newline (D.output line)) (Prints O.written text.old text.new)) }
-    ensures refused { IfErr result spec.IsWrite }
-{
-    match text.line(line) {
-        Ok(()) => Ok(()),
-        Err(fault) => Err(SectionFault::Write(fault)),
+        Some(id) => put_id(&id, text),
+        None => {}
     }
 }

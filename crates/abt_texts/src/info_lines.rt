@@ -1,158 +1,155 @@
-//! The lines of `info`, each with the text that it prints.
+//! The lines of `info`.
 
-ghost use Rattle.std.specs.Prelude.{◌≡◌, Some};
+ghost use Rattle.std.specs.Prelude.{◌≡◌, ◌∷◌, []};
 ghost use Rattle.std.specs.List.{flat_map};
+ghost use Rattle.hex.specs.Hex.{encode_lower};
 ghost use Rattle.abt_headers.specs.Os.{os_parts};
 ghost use Rattle.abt_sections.specs.Header.{view_of};
 ghost use Rattle.abt_texts.specs.Info as info;
+ghost use Rattle.abt_texts.specs.Printed.{Prints};
 
 use crate::fields::{Address, TextField};
+use crate::text_output::Text;
 use abt_headers::{OsVersion, Place, RamdiskEntry};
+use abt_io::Output;
 use abt_sections::{ImageHeader, Verdict};
-use std::fmt;
 
-/// The line of an image's kind.
-#[derive(Clone, Copy, Drop)]
-pub struct KindLine<'a>(pub &'a ImageHeader);
-
-impl fmt::Display for KindLine<'_> {
-    ghost output = { λ line. Some (info.kind_text (view_of line.0.now)) };
-
-    fn fmt<W: fmt::Write>(&self, f: &mut fmt::Formatter<W>) -> fmt::Result {
-        match self.0 {
-            ImageHeader::Boot(header) => {
-                let version = header.version();
-                let page = header.page_size();
-                write!(f, "kind boot version {version} page {page}")
-            }
-            ImageHeader::Vendor(header) => {
-                let version = header.version();
-                let page = header.page_size();
-                write!(f, "kind vendor version {version} page {page}")
-            }
+/// Adds the line of an image's kind.
+pub fn put_kind<O: Output>(header: &ImageHeader, text: &mut Text<'_, O>)
+    ensures { Prints O.written O.write_faults text.old text.new (info.line (info.kind_text (view_of header.now))) }
+{
+    match header {
+        ImageHeader::Boot(header) => {
+            put_numbers("boot", header.version(), header.page_size(), text);
+        }
+        ImageHeader::Vendor(header) => {
+            put_numbers("vendor", header.version(), header.page_size(), text);
         }
     }
 }
 
-/// The line of a section.
-#[derive(Clone, Copy, Drop)]
-pub struct SectionLine(pub Place);
-
-impl fmt::Display for SectionLine {
-    ghost output = { λ line. Some (info.section_text line.0) };
-
-    fn fmt<W: fmt::Write>(&self, f: &mut fmt::Formatter<W>) -> fmt::Result {
-        let kind = self.0.kind;
-        let at = self.0.at;
-        let size = self.0.size;
-        write!(f, "section {kind} at {at} size {size}")
-    }
+// Adds the line of a kind with its version and page size.
+fn put_numbers<O: Output>(kind: &str, version: u32, page: u32, text: &mut Text<'_, O>)
+    ensures { Prints O.written O.write_faults text.old text.new (info.line (info.kind_words kind.now version page)) }
+{
+    text.word("kind ");
+    text.word(kind);
+    text.word(" version ");
+    text.number(version as u64);
+    text.word(" page ");
+    text.number(page as u64);
+    text.end_line();
 }
 
-/// The line of a ramdisk fragment, of which this is the entry at this index.
-#[derive(Clone, Copy, Drop)]
-pub struct FragmentLine(pub u32, pub RamdiskEntry);
-
-impl fmt::Display for FragmentLine {
-    ghost output = { λ line. Some (info.fragment_text line.0 line.1) };
-
-    fn fmt<W: fmt::Write>(&self, f: &mut fmt::Formatter<W>) -> fmt::Result {
-        let index = self.0;
-        let at = self.1.ramdisk_offset;
-        let size = self.1.ramdisk_size;
-        let kind = self.1.ramdisk_type;
-        let name = Quoted(&self.1.name);
-        write!(
-            f,
-            "fragment {index} at {at} size {size} type {kind} name {name}"
-        )
-    }
+/// Adds the line of a section.
+pub fn put_section<O: Output>(place: Place, text: &mut Text<'_, O>)
+    ensures { Prints O.written O.write_faults text.old text.new (info.section_line place) }
+{
+    text.word("section ");
+    text.word(place.kind.name());
+    text.word(" at ");
+    text.number(place.at);
+    text.word(" size ");
+    text.number(place.size as u64);
+    text.end_line();
 }
 
-/// The line of an address.
-#[derive(Clone, Copy, Drop)]
-pub struct AddressLine(pub Address, pub u64);
-
-impl fmt::Display for AddressLine {
-    ghost output = { λ line. Some (info.address_text line.0 line.1) };
-
-    fn fmt<W: fmt::Write>(&self, f: &mut fmt::Formatter<W>) -> fmt::Result {
-        let name = self.0.name();
-        let address = self.1;
-        write!(f, "address {name} {address}")
-    }
+/// Adds the line of a ramdisk fragment, of which this is the entry at this index.
+pub fn put_fragment<O: Output>(index: u32, entry: &RamdiskEntry, text: &mut Text<'_, O>)
+    ensures { Prints
+        O.written O.write_faults text.old text.new (info.line (info.fragment_text index entry.now)) }
+{
+    text.word("fragment ");
+    text.number(index as u64);
+    text.word(" at ");
+    text.number(entry.ramdisk_offset as u64);
+    text.word(" size ");
+    text.number(entry.ramdisk_size as u64);
+    text.word(" type ");
+    text.number(entry.ramdisk_type as u64);
+    text.word(" name ");
+    put_quoted(&entry.name, text);
+    text.end_line();
 }
 
-/// The line of an OS version and its patch level.
-#[derive(Clone, Copy, Drop)]
-pub struct OsLine(pub OsVersion);
-
-impl fmt::Display for OsLine {
-    ghost output = { λ line. Some (info.os_text (os_parts line.0.number)) };
-
-    fn fmt<W: fmt::Write>(&self, f: &mut fmt::Formatter<W>) -> fmt::Result {
-        let parts = self.0.parts();
-        let a = parts.a;
-        let b = parts.b;
-        let c = parts.c;
-        let year = parts.year;
-        let tens = parts.month / 10;
-        let ones = parts.month % 10;
-        write!(f, "os {a}.{b}.{c} {year}-{tens}{ones}")
-    }
+/// Adds the line of an address.
+pub fn put_address<O: Output>(which: Address, address: u64, text: &mut Text<'_, O>)
+    ensures { Prints O.written O.write_faults text.old text.new (info.line (info.address_text which address)) }
+{
+    text.word("address ");
+    text.word(which.name());
+    text.word(" ");
+    text.number(address);
+    text.end_line();
 }
 
-/// The line of a text field with these bytes.
-#[derive(Clone, Copy, Drop)]
-pub struct TextLine<'a>(pub TextField, pub &'a [u8]);
-
-impl fmt::Display for TextLine<'_> {
-    ghost output = { λ line. Some (info.field_text line.0 line.1.now) };
-
-    fn fmt<W: fmt::Write>(&self, f: &mut fmt::Formatter<W>) -> fmt::Result {
-        let name = self.0.name();
-        let text = Quoted(self.1);
-        write!(f, "{name} {text}")
-    }
+/// Adds the line of an OS version and its patch level.
+pub fn put_os<O: Output>(os: OsVersion, text: &mut Text<'_, O>)
+    ensures { Prints O.written O.write_faults text.old text.new (info.line (info.os_text (os_parts os.number))) }
+{
+    let parts = os.parts();
+    text.word("os ");
+    text.number(parts.a as u64);
+    text.word(".");
+    text.number(parts.b as u64);
+    text.word(".");
+    text.number(parts.c as u64);
+    text.word(" ");
+    text.number(parts.year as u64);
+    text.word("-");
+    put_two_digits(parts.month, text);
+    text.end_line();
 }
 
-/// The line of an id.
-#[derive(Clone, Copy, Drop)]
-pub struct IdLine(pub [u8; 32]);
-
-impl fmt::Display for IdLine {
-    ghost output = { λ line. Some (info.id_text line.0) };
-
-    fn fmt<W: fmt::Write>(&self, f: &mut fmt::Formatter<W>) -> fmt::Result {
-        let mut digits = [0u8; 64];
-        match hex::encode_to_slice(self.0.as_slice(), &mut digits) {
-            Ok(()) => {}
-            Err(_) => return Err(fmt::Error),
-        }
-        match str::from_utf8(&digits) {
-            Ok(text) => write!(f, "id {text}"),
-            Err(_) => Err(fmt::Error),
-        }
-    }
+/// Adds the two digits of a number below 100.
+pub fn put_two_digits<O: Output>(number: u32, text: &mut Text<'_, O>)
+    ensures { Prints O.written O.write_faults text.old text.new (info.two_digits number) }
+{
+    text.number((number / 10) as u64);
+    text.number((number % 10) as u64);
 }
 
-/// The line of what checking an image found.
-#[derive(Clone, Copy, Drop)]
-pub struct CheckLine(pub Verdict);
+/// Adds the line of a text field with these bytes.
+pub fn put_field<O: Output>(which: TextField, field: &[u8], text: &mut Text<'_, O>)
+    ensures { Prints O.written O.write_faults text.old text.new (info.line (info.field_text which field.now)) }
+{
+    text.word(which.name());
+    text.word(" ");
+    put_quoted(field, text);
+    text.end_line();
+}
 
-impl fmt::Display for CheckLine {
-    ghost output = { λ line. Some (info.check_text line.0) };
+/// Adds the line of an id.
+pub fn put_id<O: Output>(id: &[u8; 32], text: &mut Text<'_, O>)
+    ensures { Prints O.written O.write_faults text.old text.new (info.line (info.id_text id.now)) }
+{
+    text.word("id ");
+    text.put(&digits_of_id(id));
+    text.end_line();
+}
 
-    fn fmt<W: fmt::Write>(&self, f: &mut fmt::Formatter<W>) -> fmt::Result {
-        let canonical = yes_no(self.0.canonical);
-        let padding = yes_no(self.0.padding);
-        let id = yes_no(self.0.id);
-        let offset = yes_no(self.0.offset);
-        write!(
-            f,
-            "check canonical {canonical} padding {padding} id {id} offset {offset}"
-        )
-    }
+// An id as hexadecimal digits.
+fn digits_of_id(id: &[u8; 32]) -> [u8; 64]
+    ensures { result ≡ encode_lower id.now }
+{
+    let mut digits = [0u8; 64];
+    let _ = hex::encode_to_slice(id.as_slice(), &mut digits);
+    digits
+}
+
+/// Adds the line of what checking an image found.
+pub fn put_check<O: Output>(verdict: Verdict, text: &mut Text<'_, O>)
+    ensures { Prints O.written O.write_faults text.old text.new (info.line (info.check_text verdict)) }
+{
+    text.word("check canonical ");
+    text.word(yes_no(verdict.canonical));
+    text.word(" padding ");
+    text.word(yes_no(verdict.padding));
+    text.word(" id ");
+    text.word(yes_no(verdict.id));
+    text.word(" offset ");
+    text.word(yes_no(verdict.offset));
+    text.end_line();
 }
 
 fn yes_no(value: bool) -> &'static str
@@ -161,20 +158,16 @@ fn yes_no(value: bool) -> &'static str
     if value { "yes" } else { "no" }
 }
 
-/// The text of a field up to its first zero byte, in quotes.
-///
-/// The bytes from 20 to 7e (hexadecimal) stand as they are, but for the quote and the backslash; these and all others
-/// are `\x` and two digits.
-#[derive(Clone, Copy, Drop)]
-pub struct Quoted<'a>(pub &'a [u8]);
-
-impl fmt::Display for Quoted<'_> {
-    ghost output = { λ text. Some (info.quoted text.0.now) };
-
-    fn fmt<W: fmt::Write>(&self, f: &mut fmt::Formatter<W>) -> fmt::Result {
-        let text = EscapedText(front_text(self.0));
-        write!(f, "\"{text}\"")
-    }
+// Adds the text of a field up to its first zero byte, in quotes.
+//
+// The bytes from 20 to 7e (hexadecimal) stand as they are, but for the quote and the backslash; these and all others
+// are `\x` and two digits.
+fn put_quoted<O: Output>(field: &[u8], text: &mut Text<'_, O>)
+    ensures { Prints O.written O.write_faults text.old text.new (info.quoted field.now) }
+{
+    text.word("\"");
+    put_escaped(front_text(field), text);
+    text.word("\"");
 }
 
 // The bytes up to the first zero byte.
@@ -189,46 +182,38 @@ pub fn front_text(field: &[u8]) -> &[u8]
     field
 }
 
-/// The bytes of a text, each as it is or escaped.
-#[derive(Clone, Copy, Drop)]
-pub struct EscapedText<'a>(pub &'a [u8]);
-
-impl fmt::Display for EscapedText<'_> {
-    ghost output = { λ text. Some (flat_map info.escaped text.0.now) };
-
-    fn fmt<W: fmt::Write>(&self, f: &mut fmt::Formatter<W>) -> fmt::Result {
-        for byte in self.0 {
-            write!(f, "{}", Escaped(*byte))?;
-        }
-        Ok(())
+/// Adds the bytes of a text, each as it is or escaped.
+pub fn put_escaped<O: Output>(bytes: &[u8], text: &mut Text<'_, O>)
+    ensures { Prints O.written O.write_faults text.old text.new (flat_map info.escaped bytes.now) }
+{
+    for byte in bytes {
+        put_byte(*byte, text);
     }
 }
 
-/// A byte of a text, as it is or as `\x` and two digits.
-#[derive(Clone, Copy, Drop)]
-pub struct Escaped(pub u8);
-
-impl fmt::Display for Escaped {
-    ghost output = { λ byte. Some (info.escaped byte.0) };
-
-    fn fmt<W: fmt::Write>(&self, f: &mut fmt::Formatter<W>) -> fmt::Result {
-        if is_plain(self.0) {
-            return f.write_char(char::from(self.0));
-        }
-        let mut digits = [0u8; 2];
-        match hex::encode_to_slice([self.0].as_slice(), &mut digits) {
-            Ok(()) => {}
-            Err(_) => return Err(fmt::Error),
-        }
-        match str::from_utf8(&digits) {
-            Ok(text) => write!(f, "\\x{text}"),
-            Err(_) => Err(fmt::Error),
-        }
+/// Adds a byte of a text, as it is or as `\x` and two digits.
+pub fn put_byte<O: Output>(byte: u8, text: &mut Text<'_, O>)
+    ensures { Prints O.written O.write_faults text.old text.new (info.escaped byte) }
+{
+    if is_plain(byte) {
+        text.put(&[byte]);
+        return;
     }
+    text.word("\\x");
+    text.put(&digits_of(byte));
+}
+
+// A byte as two hexadecimal digits.
+fn digits_of(byte: u8) -> [u8; 2]
+    ensures { result ≡ encode_lower (byte ∷ []) }
+{
+    let mut digits = [0u8; 2];
+    let _ = hex::encode_to_slice([byte].as_slice(), &mut digits);
+    digits
 }
 
 // A byte stands as it is.
-fn is_plain(byte: u8) -> bool
+pub fn is_plain(byte: u8) -> bool
     ensures { result ≡ info.is_plain byte }
 {
     (0x20..=0x7e).contains(&byte) && byte != b'"' && byte != b'\\'

@@ -1,79 +1,79 @@
-//! The lines of a listing, each with the text that it prints.
+//! The lines of a listing.
 
-ghost use Rattle.std.specs.Prelude.{Some};
-ghost use Rattle.abt_sparse.specs.View.{view};
+ghost use Rattle.std.specs.Prelude.{◌≡◌};
 ghost use Rattle.hex.specs.Hex.{encode_lower};
-ghost use Rattle.abt_texts.specs.Listing.{chunk_text, header_text};
+ghost use Rattle.abt_sparse.specs.View.{view};
+ghost use Rattle.abt_texts.specs.Listed.{chunk_line, header_line};
+ghost use Rattle.abt_texts.specs.Listing.{kind_text};
+ghost use Rattle.abt_texts.specs.Printed.{Prints};
 
+use crate::text_output::Text;
 use abt_chunks::{ChunkInfo, ChunkKind};
+use abt_io::Output;
 use abt_sparse::SparseHeader;
-use std::fmt;
 
-/// The line of a header.
-#[derive(Clone, Copy, Drop)]
-pub struct HeaderLine(pub SparseHeader);
+/// Adds the line of a header.
+pub fn put_header<O: Output>(header: SparseHeader, text: &mut Text<'_, O>)
+    ensures { Prints O.written O.write_faults text.old text.new (header_line (view header)) }
+{
+    text.word("sparse 1.");
+    text.number(header.minor as u64);
+    text.word(" header ");
+    text.number(header.file_hdr_sz as u64);
+    text.word(" chunk ");
+    text.number(header.chunk_hdr_sz as u64);
+    text.word(" block ");
+    text.number(header.blk_sz as u64);
+    text.word(" blocks ");
+    text.number(header.total_blks as u64);
+    text.word(" chunks ");
+    text.number(header.total_chunks as u64);
+    text.word(" checksum ");
+    text.put(&digits_of(header.image_checksum.to_be_bytes()));
+    text.end_line();
+}
 
-impl fmt::Display for HeaderLine {
-    ghost output = { λ line. Some (header_text (view line.0)) };
+/// Adds the line of a chunk.
+pub fn put_chunk<O: Output>(chunk: ChunkInfo, text: &mut Text<'_, O>)
+    ensures { Prints O.written O.write_faults text.old text.new (chunk_line chunk) }
+{
+    text.number(chunk.index as u64);
+    put_kind(chunk.kind, chunk.blocks, chunk.word, text);
+    text.end_line();
+}
 
-    fn fmt<W: fmt::Write>(&self, f: &mut fmt::Formatter<W>) -> fmt::Result {
-        let minor = self.0.minor;
-        let header = self.0.file_hdr_sz;
-        let chunk = self.0.chunk_hdr_sz;
-        let block = self.0.blk_sz;
-        let blocks = self.0.total_blks;
-        let chunks = self.0.total_chunks;
-        let checksum = HexWord(self.0.image_checksum.to_be_bytes());
-        write!(
-            f,
-            "sparse 1.{minor} header {header} chunk {chunk} block {block} "
-        )?;
-        write!(f, "blocks {blocks} chunks {chunks} checksum {checksum}")
+// Adds what a chunk is, with its blocks or its word.
+fn put_kind<O: Output>(kind: ChunkKind, blocks: u32, word: [u8; 4], text: &mut Text<'_, O>)
+    ensures { Prints O.written O.write_faults text.old text.new (kind_text kind blocks word) }
+{
+    match kind {
+        ChunkKind::Raw => {
+            text.word(" raw ");
+            text.number(blocks as u64);
+        }
+        ChunkKind::Fill => {
+            text.word(" fill ");
+            text.number(blocks as u64);
+            text.word(" ");
+            text.put(&digits_of(word));
+        }
+        ChunkKind::Skip => {
+            text.word(" skip ");
+            text.number(blocks as u64);
+        }
+        ChunkKind::Crc => {
+            let [a, b, c, d] = word;
+            text.word(" crc32 ");
+            text.put(&digits_of([d, c, b, a]));
+        }
     }
 }
 
-/// The line of a chunk.
-#[derive(Clone, Copy, Drop)]
-pub struct ChunkLine(pub ChunkInfo);
-
-impl fmt::Display for ChunkLine {
-    ghost output = { λ line. Some (chunk_text line.0) };
-
-    fn fmt<W: fmt::Write>(&self, f: &mut fmt::Formatter<W>) -> fmt::Result {
-        let index = self.0.index;
-        let blocks = self.0.blocks;
-        match self.0.kind {
-            ChunkKind::Raw => write!(f, "{index} raw {blocks}"),
-            ChunkKind::Fill => {
-                let word = HexWord(self.0.word);
-                write!(f, "{index} fill {blocks} {word}")
-            }
-            ChunkKind::Skip => write!(f, "{index} skip {blocks}"),
-            ChunkKind::Crc => {
-                let [a, b, c, d] = self.0.word;
-                let number = HexWord([d, c, b, a]);
-                write!(f, "{index} crc32 {number}")
-            }
-        }
-    }
-}
-
-/// Four bytes in their order, as eight hexadecimal digits.
-#[derive(Clone, Copy, Drop)]
-pub struct HexWord(pub [u8; 4]);
-
-impl fmt::Display for HexWord {
-    ghost output = { λ word. Some (encode_lower word.0) };
-
-    fn fmt<W: fmt::Write>(&self, f: &mut fmt::Formatter<W>) -> fmt::Result {
-        let mut digits = [0u8; 8];
-        match hex::encode_to_slice(self.0.as_slice(), &mut digits) {
-            Ok(()) => {}
-            Err(_) => return Err(fmt::Error),
-        }
-        match str::from_utf8(&digits) {
-            Ok(text) => f.write_str(text),
-            Err(_) => Err(fmt::Error),
-        }
-    }
+// Four bytes in their order, as eight hexadecimal digits.
+fn digits_of(word: [u8; 4]) -> [u8; 8]
+    ensures { result ≡ encode_lower word }
+{
+    let mut digits = [0u8; 8];
+    let _ = hex::encode_to_slice(word.as_slice(), &mut digits);
+    digits
 }

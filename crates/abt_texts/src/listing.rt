@@ -1,11 +1,14 @@
 //! The text of `list`: the header and the chunks of a sparse image, a line each.
 
-ghost use Rattle.std.specs.Prelude.{◌≡◌, ◌++◌, ◌≤◌, IsTrue, OnOk, Ok, flat_map, length};
+ghost use Rattle.std.specs.Prelude.{◌≡◌, ◌++◌, ◌≤◌, IsSome, IsTrue, IfErr, OnOk, Ok, List, ℕ, flat_map, length};
+ghost use Rattle.abt_chunks.specs.Expanding.{IsGoing};
+ghost use Rattle.abt_chunks.specs.Listing.{listing_of};
 ghost use Rattle.abt_chunks.specs.ListingAhead.{upcoming};
-ghost use Rattle.abt_texts.specs.Listed.{Listed, chunk_line};
-ghost use Rattle.abt_texts.specs.Printed.{Prints};
+ghost use Rattle.abt_sections.specs.Grown.{Begins};
+ghost use Rattle.abt_texts.specs.Listed.{IsWrite, Listed, WriteTold, chunk_line, listing_text};
+ghost use Rattle.abt_texts.specs.Printed.{Prints, PrintsFront};
 
-use crate::lines::{ChunkLine, HeaderLine};
+use crate::lines::{put_chunk, put_header};
 use crate::text_output::Text;
 use abt_chunks::{Chunks, SparseFault};
 use abt_io::{Input, Meter, Output, Window};
@@ -20,9 +23,14 @@ pub fn report_list<I: Input, O: Output>(
     w: &mut Window,
     m: &mut Meter,
 ) -> Result<(), SparseFault>
-    ensures { IsTrue I.tells →
+    ensures printed { IsTrue I.tells →
         OnOk result (Listed (I.remaining input.old) (I.remaining input.new)
         (λ text. O.written out.new ≡ O.written out.old ++ text)) }
+    ensures begun { IsTrue I.tells →
+        Begins (O.written out.old) (O.written out.new) (listing_text (listing_of (I.remaining input.old))) }
+    ensures failed { IsTrue I.tells →
+        IfErr result (λ f. WriteTold f (O.write_faults out.old) (O.write_faults out.new)) }
+    ensures clean { OnOk result (O.write_faults out.new ≡ O.write_faults out.old) }
 {
     let mut text = Text::new(out);
     let listed = lines(input, &mut text, w, m);
@@ -38,12 +46,20 @@ fn lines<I: Input, O: Output>(
     w: &mut Window,
     m: &mut Meter,
 ) -> Result<(), SparseFault>
-    ensures { IsTrue I.tells →
-        OnOk result (Listed (I.remaining input.old) (I.remaining input.new) (Prints O.written text.old text.new)) }
+    ensures listed { IsTrue I.tells →
+        OnOk result (Listed (I.remaining input.old) (I.remaining input.new)
+        (Prints O.written O.write_faults text.old text.new)) }
+    ensures begun { IsTrue I.tells →
+        PrintsFront O.written O.write_faults text.old text.new (listing_text (listing_of (I.remaining input.old))) }
+    ensures prints { (done : List ℕ) × Prints O.written O.write_faults text.old text.new done }
+    ensures told { IsTrue I.tells → IfErr result (λ f. IsWrite f → IsSome text.new.fault) }
 {
-    let mut chunks = Chunks::open(input, w, m)?;
+    let mut chunks = match Chunks::open(input, w, m) {
+        Ok(chunks) => chunks,
+        Err(fault) => return Err(fault),
+    };
     let header = chunks.header();
-    text.line(HeaderLine(header)).map_err(SparseFault::Write)?;
+    put_header(header, text);
     chunk_lines(&mut chunks, header.total_chunks, input, text, w, m)
 }
 
@@ -56,15 +72,29 @@ fn chunk_lines<I: Input, O: Output>(
     w: &mut Window,
     m: &mut Meter,
 ) -> Result<(), SparseFault>
-    ensures { IsTrue I.tells → length (upcoming chunks.old.walk (I.remaining input.old)).shown ≤ most →
+    ensures listed { IsTrue I.tells → length (upcoming chunks.old.walk (I.remaining input.old)).shown ≤ most →
         OnOk result (((upcoming chunks.old.walk (I.remaining input.old)).ending ≡ Ok (I.remaining input.new)) ×
-        Prints O.written text.old text.new (flat_map chunk_line (upcoming chunks.old.walk (I.remaining input.old)).shown)) }
+        Prints O.written O.write_faults text.old text.new
+        (flat_map chunk_line (upcoming chunks.old.walk (I.remaining input.old)).shown)) }
+    ensures begun { IsTrue I.tells →
+        PrintsFront O.written O.write_faults text.old text.new
+        (flat_map chunk_line (upcoming chunks.old.walk (I.remaining input.old)).shown) }
+    ensures prints { (done : List ℕ) × Prints O.written O.write_faults text.old text.new done }
+    ensures told { IsGoing chunks.old.walk.phase → IfErr result (λ f. IsWrite f → IsSome text.new.fault) }
 {
     for _listed in 0..most as u64 + 1 {
         m.tick();
-        match chunks.next(input, w, m)? {
-            Some(chunk) => text.line(ChunkLine(chunk)).map_err(SparseFault::Write)?,
+        let next = match chunks.next(input, w, m) {
+            Ok(next) => next,
+            Err(fault) => return Err(fault),
+        };
+        match next {
+            Some(chunk) => put_chunk(chunk, text),
             None => return Ok(()),
+        }
+        match text.is_whole() {
+            Ok(()) => {}
+            Err(fault) => return Err(SparseFault::Write(fault)),
         }
     }
     Ok(())

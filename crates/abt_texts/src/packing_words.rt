@@ -58,7 +58,7 @@ fn image_words<S: Source, O: Output>(
     ensures content { IsTrue S.tells → OnOk result (S.content source.new ≡ S.content source.old) }
     ensures lines { IsTrue S.tells →
         OnOk
-        result (Prints O.written text.old text.new
+        result (Prints O.written O.write_faults text.old text.new
         (words.words_text (words.image_words folder.now (S.content source.old) (view_of image.now.header)))) }
     ensures refused { IsTrue S.tells → IsOpened (S.content source.old) image.now →
         IfErr result (λ f. info.PrintCause f (S.read_faults source.old) (S.read_faults source.new)) }
@@ -75,7 +75,7 @@ fn image_words<S: Source, O: Output>(
 
 fn kind_words<O: Output>(header: &ImageHeader, text: &mut Text<'_, O>) -> Result<(), SectionFault>
     ensures lines { OnOk
-        result (Prints O.written text.old text.new (words.words_text (words.kind_words (view_of header.now)))) }
+        result (Prints O.written O.write_faults text.old text.new (words.words_text (words.kind_words (view_of header.now)))) }
     ensures refused { IfErr result info.IsWrite }
 {
     print(text, FlagWord("escaped"))?;
@@ -99,7 +99,7 @@ fn section_words<O: Output>(
     m: &mut Meter,
 ) -> Result<(), SectionFault>
     ensures lines { OnOk
-        result (Prints O.written text.old text.new
+        result (Prints O.written O.write_faults text.old text.new
         (words.words_text (flat_map (words.section_words folder.now (words.has_table (view_of image.now.header)))
         (places_of (view_of image.now.header))))) }
     ensures refused { IfErr result info.IsWrite }
@@ -119,7 +119,7 @@ fn section_word<O: Output>(
     text: &mut Text<'_, O>,
 ) -> Result<(), SectionFault>
     ensures lines { OnOk
-        result (Prints O.written text.old text.new (words.words_text (words.section_words folder.now table place))) }
+        result (Prints O.written O.write_faults text.old text.new (words.words_text (words.section_words folder.now table place))) }
     ensures refused { IfErr result info.IsWrite }
 {
     match section_option(table, place.kind) {
@@ -166,7 +166,7 @@ fn address_words<O: Output>(
     text: &mut Text<'_, O>,
 ) -> Result<(), SectionFault>
     ensures lines { OnOk
-        result (Prints O.written text.old text.new (words.words_text (words.address_words (view_of header.now)))) }
+        result (Prints O.written O.write_faults text.old text.new (words.words_text (words.address_words (view_of header.now)))) }
     ensures refused { IfErr result info.IsWrite }
 {
     address_word(header, Address::Kernel, text)?;
@@ -182,7 +182,7 @@ fn address_word<O: Output>(
     text: &mut Text<'_, O>,
 ) -> Result<(), SectionFault>
     ensures lines { OnOk
-        result (Prints O.written text.old text.new (words.words_text (words.address_word (view_of header.now) which))) }
+        result (Prints O.written O.write_faults text.old text.new (words.words_text (words.address_word (view_of header.now) which))) }
     ensures refused { IfErr result info.IsWrite }
 {
     match address_of(header, which) {
@@ -205,7 +205,7 @@ fn address_option(which: Address) -> &'static str
 
 fn name_words<O: Output>(header: &ImageHeader, text: &mut Text<'_, O>) -> Result<(), SectionFault>
     ensures lines { OnOk
-        result (Prints O.written text.old text.new (words.words_text (words.name_words (view_of header.now)))) }
+        result (Prints O.written O.write_faults text.old text.new (words.words_text (words.name_words (view_of header.now)))) }
     ensures refused { IfErr result info.IsWrite }
 {
     match text_field_of(header, TextField::Name) {
@@ -220,7 +220,7 @@ fn name_words<O: Output>(header: &ImageHeader, text: &mut Text<'_, O>) -> Result
 
 fn cmdline_word<O: Output>(header: &ImageHeader, text: &mut Text<'_, O>) -> Result<(), SectionFault>
     ensures lines { OnOk
-        result (Prints O.written text.old text.new (words.words_text (words.cmdline_word (view_of header.now) ∷ []))) }
+        result (Prints O.written O.write_faults text.old text.new (words.words_text (words.cmdline_word (view_of header.now) ∷ []))) }
     ensures refused { IfErr result info.IsWrite }
 {
     let name = "cmdline";
@@ -231,7 +231,7 @@ fn cmdline_word<O: Output>(header: &ImageHeader, text: &mut Text<'_, O>) -> Resu
 
 fn os_words<O: Output>(header: &ImageHeader, text: &mut Text<'_, O>) -> Result<(), SectionFault>
     ensures lines { OnOk
-        result (Prints O.written text.old text.new (words.words_text (words.os_words (view_of header.now)))) }
+        result (Prints O.written O.write_faults text.old text.new (words.words_text (words.os_words (view_of header.now)))) }
     ensures refused { IfErr result info.IsWrite }
 {
     match os_version_of(header) {
@@ -251,7 +251,7 @@ fn fragment_words<S: Source, O: Output>(
     ensures content { IsTrue S.tells → OnOk result (S.content source.new ≡ S.content source.old) }
     ensures lines { IsTrue S.tells →
         OnOk
-        result (Prints O.written text.old text.new
+        result (Prints O.written O.write_faults text.old text.new
         (words.words_text (words.fragment_words folder.now (S.content source.old) (view_of image.now.header)
         (fragment_count (view_of image.now.header))))) }
     ensures faults { S.read_faults source.old ≤ S.read_faults source.new }
@@ -280,7 +280,7 @@ fn entry_words<O: Output>(
     m: &mut Meter,
 ) -> Result<(), SectionFault>
     ensures lines { OnOk
-        result (Prints O.written text.old text.new (words.words_text (words.entry_words folder.now index entry.now))) }
+        result (Prints O.written O.write_faults text.old text.new (words.words_text (words.entry_words folder.now index entry.now))) }
     ensures refused { IfErr result info.IsWrite }
 {
     let option = FragmentOption {
@@ -323,7 +323,7 @@ fn board_words<O: Output>(
     m: &mut Meter,
 ) -> Result<(), SectionFault>
     ensures lines { OnOk
-        result (Prints O.written text.old text.new (words.words_text (words.board_words fragment 0 board_id.now))) }
+        result (Prints O.written O.write_faults text.old text.new (words.words_text (words.board_words fragment 0 board_id.now))) }
     ensures refused { IfErr result info.IsWrite }
 {
     for place in 0..16 {
@@ -340,7 +340,7 @@ fn board_word<O: Output>(
     text: &mut Text<'_, O>,
 ) -> Result<(), SectionFault>
     ensures lines { OnOk
-        result (Prints O.written text.old text.new (words.words_text (words.board_word fragment place number))) }
+        result (Prints O.written O.write_faults text.old text.new (words.words_text (words.board_word fragment place number))) }
     ensures refused { IfErr result info.IsWrite }
 {
     if number == 0 {
@@ -360,7 +360,7 @@ fn print<O: Output, D: fmt::Display + Drop>(
     word: D,
 ) -> Result<(), SectionFault>
     ensures line { OnOk
-        result (IfSome (D.output word) (λ bs. Prints O.written text.old text.new (words.words_text (bs ∷ [])))) }
+        result (IfSome (D.output word) (λ bs. Prints O.written O.write_faults text.old text.new (words.words_text (bs ∷ [])))) }
     ensures refused { IfErr result info.IsWrite }
 {
     match text.line(word) {

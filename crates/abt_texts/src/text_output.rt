@@ -1,7 +1,9 @@
 //! Text into an output, without memory.
 
-ghost use Rattle.std.specs.Prelude.{◌≡◌, ◌≤◌, ◌<◌, ◌++◌, [], IfOk, IfSome, OnOk, length, take};
+ghost use Rattle.std.specs.Prelude.{◌≡◌, ◌≤◌, ◌<◌, ◌++◌, ◌∷◌, [], Some, IfErr, IfSome, IsNone, IsSome, OnErr, OnOk};
+ghost use Rattle.std.specs.Prelude.{decimal, length, take};
 ghost use Rattle.std.specs.Fmt.{with_newline};
+ghost use Rattle.abt_texts.specs.Printed.{Prints};
 ghost use Rattle.abt_texts.specs.Shown.{text_in};
 
 use crate::held::{Held, ROOM};
@@ -14,7 +16,8 @@ const ENOUGH: usize = ROOM / 2;
 
 /// Text that gathers in a small buffer and goes out in whole lines. A line of more than 4,096 bytes may go in parts.
 ///
-/// What is held goes out in `finish`, which must be called: a `Text` that is dropped loses it.
+/// Where a write fails, the output holds a beginning of the text, and what is added later goes nowhere: `finish` tells
+/// the fault. What is held goes out in `finish`, which must be called: a `Text` that is dropped loses it.
 #[derive(Drop)]
 pub struct Text<'a, O> {
     pub output: &'a mut O,
@@ -25,8 +28,10 @@ pub struct Text<'a, O> {
 impl<'a, O: Output> Text<'a, O> {
     pub fn new(output: &'a mut O) -> Text<'a, O>
         ensures same_reference { result.output.ghost_name ≡ output.entry.ghost_name }
-        ensures text { O.written result.output.now ++ text_in result.held.bytes result.held.used
-            ≡ O.written output.old }
+        ensures written { O.written result.output.now ≡ O.written output.old }
+        ensures faults { O.write_faults result.output.now ≡ O.write_faults output.old }
+        ensures nothing_held { text_in result.held.bytes result.held.used ≡ [] }
+        ensures whole { IsNone result.fault }
     {
         Text {
             output,
@@ -35,103 +40,138 @@ impl<'a, O: Output> Text<'a, O> {
         }
     }
 
-    /// Adds a line. After an error the output holds a beginning of the text, and nothing more is written.
+    /// Adds these bytes.
+    pub fn put(&mut self, bytes: &[u8])
+        ensures { Prints O.written O.write_faults self.old self.new bytes.now }
+    {
+        let mut at = 0;
+        while at < bytes.len() {
+            at += self.put_some(&bytes[at..]);
+        }
+    }
+
+    /// Adds a word.
+    pub fn word(&mut self, word: &str)
+        ensures { Prints O.written O.write_faults self.old self.new word.now }
+    {
+        self.put(word.as_bytes());
+    }
+
+    /// Adds a number, in decimal.
+    pub fn number(&mut self, n: u64)
+        ensures { Prints O.written O.write_faults self.old self.new (decimal n) }
+    {
+        let mut digits = itoa::Buffer::new();
+        self.word(digits.format(n));
+    }
+
+    /// Ends a line, and sends what is held where it is enough.
+    pub fn end_line(&mut self)
+        ensures { Prints O.written O.write_faults self.old self.new (10 ∷ []) }
+    {
+        self.put(b"\n");
+        if self.held.len() < ENOUGH {
+            return;
+        }
+        self.send();
+    }
+
+    /// Whether every write succeeded.
+    pub fn is_whole(&self) -> Result<(), DeviceFault>
+        ensures done { OnOk result (IsNone self.now.fault) }
+        ensures failed { OnErr result (IsSome self.now.fault) }
+    {
+        match self.fault {
+            None => Ok(()),
+            Some(fault) => Err(fault),
+        }
+    }
+
+    /// Sends what is held, and holds nothing any more, also where it can't be written.
+    pub fn finish(&mut self) -> Result<(), DeviceFault>
+        ensures prints { Prints O.written O.write_faults self.old self.new [] }
+        ensures emptied { text_in self.new.held.bytes self.new.held.used ≡ [] }
+        ensures done { OnOk result (IsNone self.new.fault) }
+        ensures failed { OnErr result (IsSome self.new.fault) }
+    {
+        self.send();
+        self.is_whole()
+    }
+
+    // Takes some of these bytes, and first sends what is held where nothing else has room.
+    fn put_some(&mut self, bytes: &[u8]) -> usize
+        ensures within { result ≤ length bytes.now }
+        ensures progress { 0 < length bytes.now → 0 < result }
+        ensures prints { Prints O.written O.write_faults self.old self.new (take result bytes.now) }
+    {
+        if self.held.len() < ROOM {
+            return self.held.put(bytes);
+        }
+        self.send();
+        self.held.put(bytes)
+    }
+
+    // Sends what is held, and holds nothing any more. Once a write has failed, none follows.
+    fn send(&mut self)
+        ensures prints { Prints O.written O.write_faults self.old self.new [] }
+        ensures used { self.new.held.used ≡ 0 }
+        ensures emptied { text_in self.new.held.bytes self.new.held.used ≡ [] }
+    {
+        if self.fault.is_some() {
+            self.held.clear();
+            return;
+        }
+        let mut m = Meter::new();
+        match write_out(self.output, self.held.all(), &mut m) {
+            Ok(()) => self.held.clear(),
+            Err(fault) => {
+                self.held.clear();
+                self.fault = Some(fault);
+            }
+        }
+    }
+
+    /// Adds a line that shows itself.
     pub fn line<D: fmt::Display + Drop>(&mut self, line: D) -> Result<(), DeviceFault>
         ensures { OnOk
-            result (IfSome (with_newline (D.output line))
-            (λ bs. (O.written self.new.output.now ++ text_in self.new.held.bytes self.new.held.used
-            ≡ (O.written self.old.output.now ++ text_in self.old.held.bytes self.old.held.used) ++ bs) ×
-            (self.new.output.ghost_name ≡ self.old.output.ghost_name))) }
+            result (IfSome (with_newline (D.output line)) (Prints O.written O.write_faults self.old self.new)) }
     {
         match self.writeln(line) {
-            Ok(()) => self.end_line(),
+            Ok(()) => self.end_shown_line(),
             Err(_) => Err(self.fault.unwrap_or(DeviceFault::Failed)),
         }
     }
 
     // Sends what is held where it is enough.
-    fn end_line(&mut self) -> Result<(), DeviceFault>
-        ensures same_reference { self.new.output.ghost_name ≡ self.old.output.ghost_name }
-        ensures text { OnOk result (O.written self.new.output.now ++ text_in self.new.held.bytes self.new.held.used
-            ≡ O.written self.old.output.now ++ text_in self.old.held.bytes self.old.held.used) }
+    fn end_shown_line(&mut self) -> Result<(), DeviceFault>
+        ensures { Prints O.written O.write_faults self.old self.new [] }
     {
         if self.held.len() < ENOUGH {
-            Ok(())
+            self.is_whole()
         } else {
             self.finish()
         }
     }
 
-    /// Adds text that need not end a line.
+    /// Adds text that shows itself and need not end a line.
     pub fn add<D: fmt::Display + Drop>(&mut self, text: D) -> Result<(), DeviceFault>
-        ensures { OnOk
-            result (IfSome (D.output text)
-            (λ bs. (O.written self.new.output.now ++ text_in self.new.held.bytes self.new.held.used
-            ≡ (O.written self.old.output.now ++ text_in self.old.held.bytes self.old.held.used) ++ bs) ×
-            (self.new.output.ghost_name ≡ self.old.output.ghost_name))) }
+        ensures { OnOk result (IfSome (D.output text) (Prints O.written O.write_faults self.old self.new)) }
     {
         match self.write(text) {
             Ok(()) => Ok(()),
             Err(_) => Err(self.fault.unwrap_or(DeviceFault::Failed)),
         }
     }
-
-    /// Sends what is held, and holds nothing any more, also where it can't be written.
-    pub fn finish(&mut self) -> Result<(), DeviceFault>
-        ensures same_reference { self.new.output.ghost_name ≡ self.old.output.ghost_name }
-        ensures written { OnOk result (O.written self.new.output.now ≡ O.written self.old.output.now ++ text_in
-            self.old.held.bytes self.old.held.used) }
-        ensures emptied { OnOk result (self.new.held.used ≡ 0) }
-        ensures nothing_held { OnOk result (text_in self.new.held.bytes self.new.held.used ≡ []) }
-    {
-        if let Some(fault) = self.fault {
-            return Err(fault);
-        }
-        let mut m = Meter::new();
-        let sent = write_out(self.output, self.held.all(), &mut m);
-        self.held.clear();
-        if let Err(fault) = sent {
-            self.fault = Some(fault);
-        }
-        sent
-    }
-
-    // Takes some of these bytes, and first sends what is held where nothing else has room.
-    fn put_some(&mut self, bytes: &[u8]) -> Result<usize, DeviceFault>
-        ensures same_reference { self.new.output.ghost_name ≡ self.old.output.ghost_name }
-        ensures within { IfOk result (λ n. n ≤ length bytes.now) }
-        ensures progress { IfOk result (λ n. 0 < length bytes.now → 0 < n) }
-        ensures text { IfOk result (λ n. O.written self.new.output.now ++ text_in self.new.held.bytes self.new.held.used
-            ≡ (O.written self.old.output.now ++ text_in self.old.held.bytes self.old.held.used) ++ take n bytes.now) }
-    {
-        if self.held.len() == ROOM {
-            self.finish()?;
-        }
-        Ok(self.held.put(bytes))
-    }
-
-    fn put(&mut self, bytes: &[u8]) -> Result<(), DeviceFault>
-        ensures same_reference { self.new.output.ghost_name ≡ self.old.output.ghost_name }
-        ensures text { OnOk result (O.written self.new.output.now ++ text_in self.new.held.bytes self.new.held.used
-            ≡ (O.written self.old.output.now ++ text_in self.old.held.bytes self.old.held.used) ++ bytes.now) }
-    {
-        let mut at = 0;
-        while at < bytes.len() {
-            at += self.put_some(&bytes[at..])?;
-        }
-        Ok(())
-    }
 }
 
 impl<O: Output> fmt::Write for Text<'_, O> {
-    ghost write_str_gives = { λ s bs t. (O.written t.output.now ++ text_in t.held.bytes t.held.used
-        ≡ (O.written s.output.now ++ text_in s.held.bytes s.held.used) ++ bs) ×
-        (t.output.ghost_name ≡ s.output.ghost_name) };
+    ghost write_str_gives = { λ s bs t. Prints O.written O.write_faults s t bs };
 
     fn write_str(&mut self, s: &str) -> fmt::Result {
-        match self.put(s.as_bytes()) {
-            Ok(()) => Ok(()),
-            Err(_) => Err(fmt::Error),
+        self.word(s);
+        match self.fault {
+            None => Ok(()),
+            Some(_) => Err(fmt::Error),
         }
     }
 }

@@ -3,9 +3,10 @@
 ghost use Rattle.std.specs.Prelude.{◌≡◌, ◌++◌, Some};
 ghost use Rattle.std.specs.List.{flat_map};
 ghost use Rattle.abt_headers.specs.Os.{os_parts};
+ghost use Rattle.abt_texts.specs.Info as info;
 ghost use Rattle.abt_texts.specs.Words as words;
 
-use crate::info_lines::{Escaped, EscapedText, front_text};
+use crate::info_lines::{front_text, is_plain};
 use abt_headers::OsVersion;
 use std::fmt;
 
@@ -177,5 +178,43 @@ impl fmt::Display for EscapedInName {
         }
         let escaped = Escaped(byte);
         write!(f, "{escaped}")
+    }
+}
+
+/// The bytes of a text, each as it is or escaped.
+#[derive(Clone, Copy, Drop)]
+pub struct EscapedText<'a>(pub &'a [u8]);
+
+impl fmt::Display for EscapedText<'_> {
+    ghost output = { λ text. Some (flat_map info.escaped text.0.now) };
+
+    fn fmt<W: fmt::Write>(&self, f: &mut fmt::Formatter<W>) -> fmt::Result {
+        for byte in self.0 {
+            write!(f, "{}", Escaped(*byte))?;
+        }
+        Ok(())
+    }
+}
+
+/// A byte of a text, as it is or as `\x` and two digits.
+#[derive(Clone, Copy, Drop)]
+pub struct Escaped(pub u8);
+
+impl fmt::Display for Escaped {
+    ghost output = { λ byte. Some (info.escaped byte.0) };
+
+    fn fmt<W: fmt::Write>(&self, f: &mut fmt::Formatter<W>) -> fmt::Result {
+        if is_plain(self.0) {
+            return f.write_char(char::from(self.0));
+        }
+        let mut digits = [0u8; 2];
+        match hex::encode_to_slice([self.0].as_slice(), &mut digits) {
+            Ok(()) => {}
+            Err(_) => return Err(fmt::Error),
+        }
+        match str::from_utf8(&digits) {
+            Ok(text) => write!(f, "\\x{text}"),
+            Err(_) => Err(fmt::Error),
+        }
     }
 }

@@ -1,4 +1,4 @@
-use Rattle.std.proofs.Common.{◌≡◌, ◌-◌, ◌++◌, List, ℕ, length, take, ap, ◌∙◌}
+use Rattle.std.proofs.Common.{◌-◌, ◌++◌, List, ℕ, length, take, ap, ◌∙◌}
 use Rattle.abt_texts.proofs.Demonstrated.{line_is}
 use Rattle.abt_texts.proofs.demonstration.demo.Goals as goal
 

@@ -1,13 +1,20 @@
-use Rattle.std.proofs.Common.{◌≡◌, ◌≤◌, suc, ◌+◌, subst, ap, ◌∙◌, sym, arith, rules}
-use Rattle.abt_sections.specs.Header.{entry_of, view_of}
+use Rattle.std.proofs.Common.{◌≡◌, ◌≤◌, suc, ◌+◌, [], ◌++◌, subst, refl, ap, ◌∙◌, arith, rules}
+use Rattle.abt_sections.specs.Header.{entry_of, fragment_count, view_of}
 use Rattle.abt_texts.specs.Info.{fragment_lines, fragment_text, line}
 use Rattle.abt_texts.specs.Printed.{Prints}
-use Rattle.abt_texts.proofs.Printing.{both_printed}
+use Rattle.abt_texts.proofs.Informing.{front_of_fragments}
+use Rattle.abt_texts.proofs.Printing.{◌▸◌, as_text, printed_none}
 use Rattle.abt_texts.proofs.info.fragment_lines.Goals as goal
+
+pub loop-i-init : goal.loop-i-init
+loop-i-init g c = record {
+  faults = omega arith;
+  prints = ([], printed_none _ _ _);
+  lines = λ tells. (refl, printed_none _ _ _);
+}
 
 pub loop-i-preserved : goal.loop-i-preserved
 loop-i-preserved g c =
-    let o = g.O.Output.written in
     let x = g.S.Source.content c.args.source.now in
     let h = view_of c.args.image.now.header in
     let i = c.loop-i.i in
@@ -15,12 +22,31 @@ loop-i-preserved g c =
     let risen = c.loop-i.invariant.faults in
     record {
       faults = omega (arith, found.faults, risen);
+      prints = (c.loop-i.invariant.prints.0 ++ line (fragment_text i c.in-Ok.entry), c.loop-i.invariant.prints.1 ▸ c.put_fragment.ensures);
       lines = λ tells.
           let before = c.loop-i.invariant.lines tells in
           let entry : c.in-Ok.entry ≡ entry_of x h i = found.entry tells ∙ ap (λ y. entry_of y h i) before.0 in
-          let printed : Prints o c.loop-i.text c.print.new.text (line (fragment_text i c.in-Ok.entry)) = search rules in
-          let this = subst (λ e. Prints o c.loop-i.text c.print.new.text (line (fragment_text i e))) entry printed in
           let next : suc i ≡ i + 1 = omega arith in
-          let all = both_printed o c.args.text.now c.loop-i.text c.print.new.text (fragment_lines x h i) _ before.1 this in
-          (found.content tells ∙ before.0, subst (λ k. Prints o c.args.text.now c.print.new.text (fragment_lines x h k)) next all);
+          let all : Prints g.O.Output.written g.O.Output.write_faults c.args.text.now c.put_fragment.new.text (fragment_lines x h (suc i))
+          = before.1 ▸ as_text (ap (λ e. line (fragment_text i e)) entry) c.put_fragment.ensures in
+          (found.content tells ∙ before.0, subst (λ k. Prints g.O.Output.written g.O.Output.write_faults c.args.text.now c.put_fragment.new.text (fragment_lines x h k)) next all);
     }
+
+pub returns-in-Err-clause-begun : goal.returns-in-Err-clause-begun
+returns-in-Err-clause-begun g c = λ tells.
+    let h = view_of c.args.image.now.header in
+    let within : c.loop-i.i ≤ fragment_count h = search (rules, arith) in
+    front_of_fragments (g.S.Source.content c.args.source.now) h c.loop-i.i (fragment_count h) within (c.loop-i.invariant.lines tells).1
+
+pub returns-in-Err-is_whole-clause-begun : goal.returns-in-Err-is_whole-clause-begun
+returns-in-Err-is_whole-clause-begun g c = λ tells.
+    let x = g.S.Source.content c.args.source.now in
+    let h = view_of c.args.image.now.header in
+    let i = c.loop-i.i in
+    let before = c.loop-i.invariant.lines tells in
+    let entry : c.in-Ok.entry ≡ entry_of x h i = c.in-Ok.ensures.entry tells ∙ ap (λ y. entry_of y h i) before.0 in
+    let within : suc i ≤ fragment_count h = search (rules, arith) in
+    front_of_fragments x h (suc i) (fragment_count h) within (before.1 ▸ as_text (ap (λ e. line (fragment_text i e)) entry) c.put_fragment.ensures)
+
+pub returns-in-Err-is_whole-clause-prints : goal.returns-in-Err-is_whole-clause-prints
+returns-in-Err-is_whole-clause-prints g c = (_, c.loop-i.invariant.prints.1 ▸ c.put_fragment.ensures)

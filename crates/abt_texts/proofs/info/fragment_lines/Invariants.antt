@@ -1,4 +1,4 @@
-use Rattle.std.proofs.Common.{◌≡◌, ◌≤◌, IsTrue}
+use Rattle.std.proofs.Common.{◌≡◌, ◌≤◌, IsTrue, List, ℕ}
 use Rattle.abt_sections.specs.Header.{view_of}
 use Rattle.abt_texts.specs.Info.{fragment_lines}
 use Rattle.abt_texts.specs.Printed.{Prints}
@@ -9,7 +9,8 @@ invariant-loop-i g l =
     let content = g.S.Source.content in
     record {
       faults : g.S.Source.read_faults l.initial.source ≤ g.S.Source.read_faults l.source;
+      prints : (done : List ℕ) × Prints g.O.Output.written g.O.Output.write_faults l.initial.text l.text done;
       lines : IsTrue g.S.Source.tells
           → (content l.source ≡ content l.initial.source)
-          × Prints g.O.Output.written l.initial.text l.text (fragment_lines (content l.initial.source) (view_of l.fn.image.header) l.i);
+          × Prints g.O.Output.written g.O.Output.write_faults l.initial.text l.text (fragment_lines (content l.initial.source) (view_of l.fn.image.header) l.i);
     }

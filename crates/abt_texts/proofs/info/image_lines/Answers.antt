@@ -1,17 +1,29 @@
-use Rattle.std.proofs.Common.{subst, rules}
+use Rattle.std.proofs.Common.{subst, ap}
 use Rattle.abt_sections.specs.Header.{view_of}
-use Rattle.abt_texts.specs.Info.{IsVerdict, check_text, kind_text, line}
-use Rattle.abt_texts.specs.Printed.{Prints}
-use Rattle.abt_texts.proofs.Printing.{whole_printed}
+use Rattle.abt_texts.specs.Info.{IsVerdict, check_text, line}
+use Rattle.abt_texts.proofs.Informing.{all_printed, as_far_as_fields, as_far_as_fragments, same_verdict}
+use Rattle.abt_texts.proofs.Printing.{◌▸◌, as_text, front_exactly}
 use Rattle.abt_texts.proofs.info.image_lines.Goals as goal
 
-pub returns-in-Ok-print-clause-verdict : goal.returns-in-Ok-print-clause-verdict
-returns-in-Ok-print-clause-verdict g c = λ tells.
-    let content = g.S.Source.content in
+pub returns-in-Err-clause-begun : goal.returns-in-Err-clause-begun
+returns-in-Err-clause-begun g c = λ tells v right. as_far_as_fragments _ _ _ c.put_kind.ensures c.section_lines.ensures (c.fragment_lines.ensures.begun tells)
+
+pub returns-in-Err-clause-prints : goal.returns-in-Err-clause-prints
+returns-in-Err-clause-prints g c = (_, c.put_kind.ensures ▸ c.section_lines.ensures ▸ c.fragment_lines.ensures.prints.1)
+
+pub returns-in-Err-check-clause-begun : goal.returns-in-Err-check-clause-begun
+returns-in-Err-check-clause-begun g c = λ tells v right.
+    as_far_as_fields _ _ _ c.put_kind.ensures c.section_lines.ensures (c.in-Ok.ensures.lines tells) c.header_lines.ensures
+
+pub returns-in-Err-check-clause-prints : goal.returns-in-Err-check-clause-prints
+returns-in-Err-check-clause-prints g c = (_, c.put_kind.ensures ▸ c.section_lines.ensures ▸ c.fragment_lines.ensures.prints.1 ▸ c.header_lines.ensures)
+
+pub returns-clause-verdict : goal.returns-clause-verdict
+returns-clause-verdict g c = λ tells.
     let h = view_of c.args.image.now.header in
     let v = c.in-Ok-check.verdict in
     let found = c.in-Ok-check.ensures in
-    let verdict : IsVerdict (content c.fragment_lines.new.source) h v = record {
+    let verdict : IsVerdict (g.S.Source.content c.fragment_lines.new.source) h v = record {
       padding = found.padding tells;
       id = found.id tells;
       offset = found.offset;
@@ -19,19 +31,21 @@ returns-in-Ok-print-clause-verdict g c = λ tells.
     } in
     subst (λ x. IsVerdict x h v) (c.in-Ok.ensures.content tells) verdict
 
-pub returns-in-Ok-print-clause-lines : goal.returns-in-Ok-print-clause-lines
-returns-in-Ok-print-clause-lines g c = λ tells.
-    let o = g.O.Output.written in
-    let content = g.S.Source.content in
+pub returns-clause-lines : goal.returns-clause-lines
+returns-clause-lines g c = λ tells. record {
+  verdict = c.in-Ok-check.verdict;
+  checked = returns-clause-verdict g c tells;
+  holds = all_printed _ _ _ c.put_kind.ensures c.section_lines.ensures (c.in-Ok.ensures.lines tells) c.header_lines.ensures c.put_check.ensures;
+}
+
+pub returns-clause-begun : goal.returns-clause-begun
+returns-clause-begun g c = λ tells v right.
     let h = view_of c.args.image.now.header in
-    let v = c.in-Ok-check.verdict in
-    let found = c.in-Ok-check.ensures in
-    let verdict : IsVerdict (content c.fragment_lines.new.source) h v = record {
-      padding = found.padding tells;
-      id = found.id tells;
-      offset = found.offset;
-      canonical = found.canonical tells;
-    } in
-    whole_printed o c.args.text.now c.print.new.text c.section_lines.new.text c.fragment_lines.new.text c.header_lines.new.text c.print-2.new.text
-    (content c.args.source.now) h v c.in_ok-print.ensures.line c.in_ok-section_lines.ensures.lines (c.in-Ok.ensures.lines tells)
-    c.in_ok-header_lines.ensures.lines (subst (λ x. IsVerdict x h v) (c.in-Ok.ensures.content tells) verdict) c.in-Ok-print.ensures.line
+    let x = g.S.Source.content c.args.source.now in
+    let same = same_verdict x h c.in-Ok-check.verdict v (returns-clause-verdict g c tells) right in
+    front_exactly _ _ _ _ _ (all_printed x h v c.put_kind.ensures c.section_lines.ensures (c.in-Ok.ensures.lines tells) c.header_lines.ensures
+    (as_text (ap (λ u. line (check_text u)) same) c.put_check.ensures))
+
+pub returns-clause-prints : goal.returns-clause-prints
+returns-clause-prints g c =
+    (_, c.put_kind.ensures ▸ c.section_lines.ensures ▸ c.fragment_lines.ensures.prints.1 ▸ c.header_lines.ensures ▸ c.put_check.ensures)

@@ -1,4 +1,4 @@
-use Rattle.std.proofs.Common.{rules, ◌≡◌, ◌*◌, ◌<◌, ◌^◌, ◌∙◌, sym, ap, Some, ◌⊎◌, inl, inr, arith, refl}
+use Rattle.std.proofs.Common.{rules, ◌≡◌, ◌*◌, ◌∙◌, ap, inl, inr, refl}
 use Rattle.abt_texts.proofs.NumberWords.{accepted_some, none_is_some, same_some}
 use Rattle.abt_texts.proofs.numbers.decimal.Goals as goal
 

@@ -1,4 +1,4 @@
-use Rattle.std.proofs.Common.{◌≡◌, List, ℕ, ◌∷◌, Some, None, arith}
+use Rattle.std.proofs.Common.{◌∷◌, Some, None, arith}
 use Rattle.std.proofs.lemmas.Str.Pattern.{strip_prefix_char}
 use Rattle.abt_texts.proofs.NumberWords.{none_behind, second_letter}
 use Rattle.abt_texts.proofs.numbers.hexadecimal.Goals as goal

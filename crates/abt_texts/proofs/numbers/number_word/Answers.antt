@@ -1,4 +1,4 @@
-use Rattle.std.proofs.Common.{◌≡◌, ◌⊎◌, inl, inr, refl}
+use Rattle.std.proofs.Common.{inl, inr, refl}
 use Rattle.abt_texts.proofs.NumberWords.{hex_is_no_decimal, hex_digits}
 use Rattle.abt_texts.proofs.numbers.number_word.Goals as goal
 

@@ -11,5 +11,5 @@ invariant-loop-i g l =
       faults : g.S.Source.read_faults l.initial.source ≤ g.S.Source.read_faults l.source;
       lines : IsTrue g.S.Source.tells
           → (content l.source ≡ content l.initial.source)
-          × Prints g.O.Output.written l.initial.text l.text (words_text (fragment_words l.fn.folder (content l.initial.source) (view_of l.fn.image.header) l.i));
+          × Prints g.O.Output.written g.O.Output.write_faults l.initial.text l.text (words_text (fragment_words l.fn.folder (content l.initial.source) (view_of l.fn.image.header) l.i));
     }

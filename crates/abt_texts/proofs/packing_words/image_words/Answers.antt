@@ -1,4 +1,4 @@
-use Rattle.std.proofs.Common.{List, [], ◌∷◌, ◌++◌, flat_map}
+use Rattle.std.proofs.Common.{[], ◌∷◌, ◌++◌, flat_map}
 use Rattle.abt_sections.specs.Header.{fragment_count, places_of, view_of}
 use Rattle.abt_texts.specs.Words.{address_words, cmdline_word, fragment_words, has_table, header_words, kind_words, name_words, os_words, section_words}
 use Rattle.abt_texts.proofs.WordLists.{PrintsWords, both_words, then_words}
@@ -16,9 +16,9 @@ returns-clause-lines g c = λ tells.
     let t4 = c.name_words.new.text in
     let t5 = c.cmdline_word.new.text in
     let t6 = c.os_words.new.text in
-    let last = both_words o t4 t5 t6 (cmdline_word h ∷ []) (os_words h) c.in_ok-cmdline_word.ensures.lines c.in_ok-os_words.ensures.lines in
-    let named = both_words o t3 t4 t6 (name_words h) (cmdline_word h ∷ os_words h) c.in_ok-name_words.ensures.lines last in
-    let addressed = both_words o t2 t3 t6 (address_words h) (name_words h ++ (cmdline_word h ∷ os_words h)) c.in_ok-address_words.ensures.lines named in
-    let placed = both_words o t1 t2 t6 (flat_map (section_words folder (has_table h)) (places_of h)) (address_words h ++ (name_words h ++ (cmdline_word h ∷ os_words h))) c.in_ok-section_words.ensures.lines addressed in
-    let whole : PrintsWords o start t6 (header_words folder h) = both_words o start t1 t6 (kind_words h) (flat_map (section_words folder (has_table h)) (places_of h) ++ (address_words h ++ (name_words h ++ (cmdline_word h ∷ os_words h)))) c.in_ok-kind_words.ensures.lines placed in
-    then_words o start t6 c.fragment_words.new.text (header_words folder h) (fragment_words folder (g.S.Source.content c.args.source.now) h (fragment_count h)) c.fragment_words.result whole (c.fragment_words.ensures.lines tells)
+    let last = both_words o g.O.Output.write_faults t4 t5 t6 (cmdline_word h ∷ []) (os_words h) c.in_ok-cmdline_word.ensures.lines c.in_ok-os_words.ensures.lines in
+    let named = both_words o g.O.Output.write_faults t3 t4 t6 (name_words h) (cmdline_word h ∷ os_words h) c.in_ok-name_words.ensures.lines last in
+    let addressed = both_words o g.O.Output.write_faults t2 t3 t6 (address_words h) (name_words h ++ (cmdline_word h ∷ os_words h)) c.in_ok-address_words.ensures.lines named in
+    let placed = both_words o g.O.Output.write_faults t1 t2 t6 (flat_map (section_words folder (has_table h)) (places_of h)) (address_words h ++ (name_words h ++ (cmdline_word h ∷ os_words h))) c.in_ok-section_words.ensures.lines addressed in
+    let whole : PrintsWords o g.O.Output.write_faults start t6 (header_words folder h) = both_words o g.O.Output.write_faults start t1 t6 (kind_words h) (flat_map (section_words folder (has_table h)) (places_of h) ++ (address_words h ++ (name_words h ++ (cmdline_word h ∷ os_words h)))) c.in_ok-kind_words.ensures.lines placed in
+    then_words o g.O.Output.write_faults start t6 c.fragment_words.new.text (header_words folder h) (fragment_words folder (g.S.Source.content c.args.source.now) h (fragment_count h)) c.fragment_words.result whole (c.fragment_words.ensures.lines tells)

@@ -1,4 +1,4 @@
-use Rattle.std.proofs.Common.{◌≡◌, ◌≢◌, ◌++◌, List, ℕ, [], length, rules, ap, ◌∙◌, sym}
+use Rattle.std.proofs.Common.{◌≡◌, ◌≢◌, ◌++◌, List, ℕ, length, rules, ap, ◌∙◌, sym}
 use Rattle.abt_texts.specs.Words.{text_of}
 use Rattle.abt_texts.proofs.TextsOver.{over_whole, over_part}
 use Rattle.abt_texts.proofs.word_lines.rest_of_text.Goals as goal

@@ -1,4 +1,3 @@
-use Rattle.std.proofs.Common.{ℕ, List}
 use Rattle.abt_texts.proofs.PackedAgain.{packs_again}
 use Rattle.abt_texts.proofs.words_laws.canonical_packs_again.Goals as goal
 

@@ -1,4 +1,3 @@
-use Rattle.std.proofs.Common.{ℕ, List}
 use Rattle.abt_sections.specs.Header.{view_of}
 use Rattle.abt_texts.proofs.ImagesSay.{image_said}
 use Rattle.abt_texts.proofs.words_laws.words_pack_again.Goals as goal

@@ -1,5 +1,4 @@
-use Rattle.std.proofs.Common.{◌≡◌, ◌<◌, ℕ, List, ◌∷◌, ◌++◌, Some, None, rules, arith, ap, ◌∙◌}
-use Rattle.std.proofs.lemmas.Str.Pattern.{split_parts}
+use Rattle.std.proofs.Common.{◌≡◌, ◌<◌, Some, None, rules, arith}
 use Rattle.abt_texts.proofs.Boards.{cut_fragment, cut_place}
 use Rattle.abt_texts.proofs.OsWords.{same_word, some_is, none_is}
 use Rattle.abt_texts.proofs.board_word.BoardWord.new.Goals as goal

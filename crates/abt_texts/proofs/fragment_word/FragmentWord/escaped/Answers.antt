@@ -1,6 +1,5 @@
-use Rattle.std.proofs.Common.{◌≡◌, ℕ, List, ◌∷◌, ◌++◌, Option, Some, None, rules, arith, sym, ap, subst, ◌∙◌}
+use Rattle.std.proofs.Common.{◌≡◌, ℕ, List, ◌∷◌, ◌++◌, Some, None, arith, ap, subst, ◌∙◌}
 use Rattle.std.proofs.lemmas.Str.Pattern.{split_parts}
-use Rattle.abt_sections.specs.declared.spec.FragmentSpec.{FragmentSpec}
 use Rattle.abt_texts.specs.Fragment.{IsOfParts}
 use Rattle.abt_texts.specs.Unescaped.{unescaped}
 use Rattle.abt_texts.proofs.Fragments.{cut_at, type_lacks, same_parts, none_some, some_some}

@@ -2,7 +2,7 @@ use Rattle.std.proofs.Common.{arith, rules}
 use Rattle.std.proofs.Output.{has_written_append, has_written_of_eq}
 use Rattle.abt_texts.specs.Info.{escaped}
 use Rattle.abt_texts.proofs.Turns.{one_more}
-use Rattle.abt_texts.proofs.info_lines.EscapedTextDisplay.fmt.Goals as goal
+use Rattle.abt_texts.proofs.word_lines.EscapedTextDisplay.fmt.Goals as goal
 
 pub loop-byte-preserved : goal.loop-byte-preserved
 loop-byte-preserved g c = λ plain.

@@ -1,0 +1,21 @@
+use Rattle.std.proofs.Common.{rules}
+use Rattle.abt_texts.proofs.Informing.{info_begins}
+use Rattle.abt_texts.proofs.info.report_info.Goals as goal
+
+pub returns-in-Ok-Ok-clause-begun : goal.returns-in-Ok-Ok-clause-begun
+returns-in-Ok-Ok-clause-begun g c = λ tells h image v right.
+    let opened = c.in-Ok.ensures in
+    info_begins g.O.Output.written g.O.Output.write_faults _ _ _ _ _ _ _ h _ v (opened.content tells) image (opened.opens tells).has right
+    (c.image_lines-told.ensures.begun tells) c.finish.ensures.prints c.new-text.ensures.nothing_held c.new-text.ensures.written (search rules)
+
+pub returns-in-Ok-Err-clause-begun : goal.returns-in-Ok-Err-clause-begun
+returns-in-Ok-Err-clause-begun g c = λ tells h image v right.
+    let opened = c.in-Ok.ensures in
+    info_begins g.O.Output.written g.O.Output.write_faults _ _ _ _ _ _ _ h _ v (opened.content tells) image (opened.opens tells).has right
+    (c.image_lines-told.ensures.begun tells) c.finish.ensures.prints c.new-text.ensures.nothing_held c.new-text.ensures.written (search rules)
+
+pub returns-in-Err-default-clause-begun : goal.returns-in-Err-default-clause-begun
+returns-in-Err-default-clause-begun g c = λ tells h image v right.
+    let opened = c.in-Ok.ensures in
+    info_begins g.O.Output.written g.O.Output.write_faults _ _ _ _ _ _ _ h _ v (opened.content tells) image (opened.opens tells).has right
+    (c.image_lines-told.ensures.begun tells) c.finish.ensures.prints c.new-text.ensures.nothing_held c.new-text.ensures.written (search rules)
