@@ -3,7 +3,7 @@ use Rattle.std.proofs.Common.{◌≡◌, ℕ, ◌<◌, ◌+◌, ◌*◌, ◌++�
 use Rattle.abt_sparse.specs.View.{view}
 use Rattle.abt_chunks.specs.Ahead.{before, somes, fills, gaps}
 use Rattle.std.specs.Prelude.{Ok}
-use Rattle.abt_chunks.specs.Walking.{ahead, ahead_in, Says, Leaves}
+use Rattle.abt_chunks.specs.Parts.{ahead, ahead_in, Says, Leaves}
 use Rattle.abt_chunks.specs.Pulling as pulling
 use Rattle.abt_chunks.specs.Pulling.{PullSays, PullLeaves, IsKept}
 use Rattle.abt_chunks.specs.declared.walk.Phase.{Phase}

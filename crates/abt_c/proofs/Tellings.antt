@@ -14,7 +14,7 @@ use Rattle.abt_chunks.specs.declared.feed.Puller.{Puller}
 use Rattle.abt_chunks.specs.declared.feed.Pull.{Pull}
 use Rattle.abt_chunks.specs.declared.feed.Pull.TheVariants as pulls
 use Rattle.abt_chunks.specs.Pulling.{IsLent}
-use Rattle.abt_chunks.specs.Walking as walking
+use Rattle.abt_chunks.specs.Places as places
 use Rattle.abt_c.specs.declared.state.AbtPart.{AbtPart}
 use Rattle.abt_c.specs.declared.state.AbtSparse.{AbtSparse}
 use Rattle.abt_c.specs.Standing.{Stands, IsLeft, kept_fault, kind_or, phase_number, place_in, place_of}
@@ -93,13 +93,13 @@ kept s l lt = kept_in l.puller.walk.phase s.fault (let e = l.stands.phase in ome
 pub not_kept : (n m : ℕ) → n ≡ m → m ≤ 12 → n ≡ 90 → ⊥
 not_kept n m e le q = absurd (omega (arith, e, le, q))
 
-place_at : (q : Phase) (w : Walk) → place_in (phase_number q) w.kind w.have w.header.blk_sz w.raw w.words ≡ walking.place_in q w
+place_at : (q : Phase) (w : Walk) → place_in (phase_number q) w.kind w.have w.header.blk_sz w.raw w.words ≡ places.place_in q w
 place_at phases.Header w = refl
 place_at phases.Body w = refl
 place_at phases.Done w = refl
 place_at (phases.Failed f) w = refl
 
-pub place_is : (s : AbtSparse) (p : Puller) → Stands s p → walking.place_of p.walk ≡ place_of s
+pub place_is : (s : AbtSparse) (p : Puller) → Stands s p → places.place_of p.walk ≡ place_of s
 place_is s p e =
     let size : s.blk_sz ≡ p.walk.header.blk_sz = ap (λ (h : Header). h.blk_sz) e.header in
     sym (rw (e.phase, e.kind, e.have, size, e.raw, e.words) (place_at p.walk.phase p.walk))

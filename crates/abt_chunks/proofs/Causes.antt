@@ -1,5 +1,5 @@
 -- Whose fault a part and an answer are, and how much is read at a turn.
-use Rattle.std.proofs.Common.{◌≡◌, ℕ, ◌<◌, ◌≤◌, ◌+◌, ◌-◌, ◌∙◌, Bool, true, false, List, refl, arith, ap, min, eq-eqb, ne_eqb, lt-ltb, le-ltb, ◌==◌, nat_lt, inl, inr, eqb-true, if◌then◌else◌, ◌&&◌, not}
+use Rattle.std.proofs.Common.{◌≡◌, ℕ, ◌<◌, ◌≤◌, ◌+◌, ◌-◌, ◌∙◌, Bool, true, false, refl, arith, ap, eq-eqb, ne_eqb, lt-ltb, le-ltb, ◌==◌, nat_lt, inl, inr, eqb-true, if◌then◌else◌, ◌&&◌}
 use Rattle.std.specs.Prelude.{IfErr}
 use Rattle.abt_sparse.specs.Cause.{full_in_fault, full_answered}
 use Rattle.abt_sparse.specs.declared.fault.SparseFault.{SparseFault}
@@ -16,7 +16,9 @@ use Rattle.abt_chunks.specs.declared.walk.Turn.{Turn}
 use Rattle.abt_chunks.specs.declared.walk.Turn.TheVariants as turns
 use Rattle.abt_chunks.specs.Cause.{Clean, CleanPart, full_in_part, UnlessCut, wanted, wanted_in, head_wanted, data_wanted}
 use Rattle.abt_chunks.specs.Expanding.{IsGoing, IsQuiet, answer_of}
-use Rattle.abt_chunks.specs.Walking.{Caused, Closes, AtTurn, ask_of, at_end, is_between, is_spent, IsOver, SpentBy}
+use Rattle.abt_chunks.specs.Turns.{AtTurn, ask_of, IsOver, SpentBy}
+use Rattle.abt_chunks.specs.Parts.{Caused}
+use Rattle.abt_chunks.specs.ListingAhead.{Closes, at_end, is_between, is_spent}
 use Rattle.abt_chunks.specs.Ahead.{due_of}
 use Rattle.std.proofs.lemmas.Bool.{cases_Bool}
 

@@ -10,7 +10,7 @@ use Rattle.abt_chunks.specs.declared.walk.Turn.TheVariants as turns
 use Rattle.abt_chunks.specs.Ahead.{due_of}
 use Rattle.abt_chunks.specs.Cause.{head_wanted}
 use Rattle.abt_chunks.specs.Feeding.{whole_in, whole_in_data, whole_next, whole_of}
-use Rattle.abt_chunks.specs.Walking.{AtTurn, IsOver, SpentBy}
+use Rattle.abt_chunks.specs.Turns.{AtTurn, IsOver, SpentBy}
 use Rattle.abt_chunks.proofs.Causes.{none_of, some_of, more_heads, no_heads}
 
 word_whole : (k : ChunkKind) (due : Bool) (raw words head : ℕ) → due_of k ≡ true → due ≡ true → whole_in_data k due raw words head ≡ 4

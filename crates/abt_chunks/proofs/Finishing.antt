@@ -14,7 +14,8 @@ use Rattle.abt_chunks.specs.declared.walk.Walk.{Walk}
 use Rattle.abt_chunks.specs.declared.walk.Part.{Part}
 use Rattle.abt_chunks.specs.declared.walk.Part.TheVariants as parts
 use Rattle.abt_chunks.specs.Ahead.{Ahead, before, somes, fills, gaps, finish, seen, seen_chunks, chunks_ahead, body_ahead, walk}
-use Rattle.abt_chunks.specs.Walking.{Told, Leaves, Moved, is_fault, ahead, ahead_in, owed, owed_in, owed_of}
+use Rattle.abt_chunks.specs.Parts.{Told, Leaves, Moved, is_fault, ahead, ahead_in}
+use Rattle.abt_chunks.specs.Places.{owed, owed_in, owed_of}
 use Rattle.abt_chunks.specs.Expanding.{laid_by, answer_of, Stands, Unless, UnlessDevice, Begins}
 use Rattle.abt_chunks.specs.declared.progress.Expanded.{Expanded}
 use Rattle.abt_io.proofs.Parts.{take_plus}

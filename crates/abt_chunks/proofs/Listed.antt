@@ -19,7 +19,8 @@ use Rattle.abt_chunks.specs.declared.walk.Part.{Part}
 use Rattle.abt_chunks.specs.declared.walk.Part.TheVariants as parts
 use Rattle.abt_chunks.specs.Ahead.{due_of, raw_of}
 use Rattle.abt_chunks.specs.Listing.{no_word, info_of, Listing, headless, listed, listing_from, listing_of}
-use Rattle.abt_chunks.specs.Walking.{SpentBy, lacking, word_shown, head_shown, shown_before, begun_listing, is_spent, at_end, with_begun, yet_begun, upcoming, upcoming_in, breaking, head_in, info_at, Shows, Lists}
+use Rattle.abt_chunks.specs.Turns.{SpentBy}
+use Rattle.abt_chunks.specs.ListingAhead.{lacking, word_shown, head_shown, shown_before, begun_listing, is_spent, at_end, with_begun, upcoming_ended, upcoming, upcoming_in, breaking, head_in, info_at, Shows, Lists}
 use Rattle.abt_chunks.proofs.Onward.{drop_past, shorter, GoodHead, good_at, header-front}
 
 -- ---- within a chunk
@@ -191,8 +192,8 @@ header_cut c l = let t : nat_lt (length c) 28 ≡ true = lt-ltb _ _ l in rw t re
 
 -- ---- of a walk
 
-pub upcoming_body : (s : Walk) (b : Bool) (y : List ℕ) → s.phase ≡ phases.Body → at_end s ≡ b → upcoming s y ≡ yet_begun b s y
-upcoming_body s b y p e = ap (λ (q : Phase). upcoming_in q s y) p ∙ ap (λ (v : Bool). yet_begun v s y) e
+pub upcoming_body : (s : Walk) (b : Bool) (y : List ℕ) → s.phase ≡ phases.Body → at_end s ≡ b → upcoming s y ≡ upcoming_ended b s y
+upcoming_body s b y p e = ap (λ (q : Phase). upcoming_in q s y) p ∙ ap (λ (v : Bool). upcoming_ended v s y) e
 
 abbrev breaking_at : Phase → Bool → Walk → SparseFault → Listing
 breaking_at q b s f = record { head = head_in q b s; shown = []; ending = Err f }

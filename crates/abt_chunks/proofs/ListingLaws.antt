@@ -10,7 +10,7 @@ use Rattle.abt_sparse.proofs.Fields.{checked-again}
 use Rattle.abt_sparse.proofs.ChunkLaws.{spells_got}
 use Rattle.abt_sparse.proofs.Failing.{header_failed, chunk_failed}
 use Rattle.abt_chunks.specs.Listing.{Listing, ListingsAreRight, headless, info_of, infos, listing_from, listing_of}
-use Rattle.abt_chunks.specs.Walking.{shown_before}
+use Rattle.abt_chunks.specs.ListingAhead.{shown_before}
 use Rattle.abt_chunks.proofs.Listed.{header_cut, listing_got, listing_bad, listing_done, listing_few}
 
 -- chunks that are spelled in a row are shown in a row

@@ -1,5 +1,5 @@
 -- Fewer bytes than a walk lacks end too soon, so no byte was read that was not needed.
-use Rattle.std.proofs.Common.{◌≡◌, ℕ, zero, suc, ◌+◌, ◌-◌, ◌<◌, ◌≤◌, ◌==◌, Bool, true, false, List, [], ◌++◌, length, take, drop, Result, Ok, Err, refl, sym, ap, subst, ◌∙◌, arith, inl, inr, lt-ltb, le-ltb, ltb-true, ltb-false, nat_lt, if◌then◌else◌, Option}
+use Rattle.std.proofs.Common.{◌≡◌, ℕ, zero, suc, ◌+◌, ◌-◌, ◌<◌, ◌≤◌, ◌==◌, Bool, true, false, List, [], ◌++◌, length, take, drop, Result, Ok, Err, refl, ap, subst, ◌∙◌, arith, inl, inr, lt-ltb, le-ltb, ltb-true, ltb-false, nat_lt, if◌then◌else◌, Option}
 use Rattle.std.specs.Prelude.{⊤}
 use Rattle.std.proofs.lemmas.Bool.{cases_Bool}
 use Rattle.std.proofs.lemmas.List.{length-take-le}
@@ -7,7 +7,6 @@ use Rattle.abt_io.specs.Bytes.{AreBytes}
 use Rattle.abt_io.specs.BytesLaws.{bytes_of_take}
 use Rattle.abt_io.proofs.Parts.{take_plus}
 use Rattle.abt_sparse.specs.declared.fault.SparseFault.{SparseFault}
-use Rattle.abt_sparse.specs.declared.fault.SparseFault.TheVariants as faults
 use Rattle.abt_sparse.specs.declared.fault.SparseFault.TheVariants.{Truncated}
 use Rattle.abt_sparse.specs.declared.kind.ChunkKind.{ChunkKind}
 use Rattle.abt_sparse.specs.declared.kind.ChunkKind.TheVariants as kinds
@@ -21,9 +20,9 @@ use Rattle.abt_chunks.specs.declared.walk.Phase.TheVariants as phases
 use Rattle.abt_chunks.specs.declared.walk.Walk.{Walk}
 use Rattle.abt_chunks.specs.Ahead.{Ahead, finish, seen, seen_chunks, chunks_ahead, body_ahead, walk}
 use Rattle.abt_chunks.specs.Cause.{wanted, wanted_in, data_wanted}
-use Rattle.abt_chunks.specs.Walking.{ahead, ahead_in}
+use Rattle.abt_chunks.specs.Parts.{ahead, ahead_in}
 use Rattle.abt_chunks.specs.Whole.{EndsTooSoon, AllNeeded}
-use Rattle.abt_chunks.proofs.Causes.{some_of, none_of}
+use Rattle.abt_chunks.proofs.Causes.{some_of}
 
 abbrev Ending : Type 0
 Ending = Result (Header × List ℕ) SparseFault

@@ -15,7 +15,7 @@ use Rattle.abt_sparse.specs.Reading.{number_at, header_at, checked_header, kind_
 use Rattle.abt_io.proofs.Words.{take_past, words_add}
 use Rattle.abt_sparse.proofs.Lay.{cells-append, cells-skips}
 use Rattle.abt_sparse.proofs.Exactly.{chunks-got, chunks-bad}
-use Rattle.abt_chunks.specs.Walking.{SpentBy}
+use Rattle.abt_chunks.specs.Turns.{SpentBy}
 use Rattle.abt_chunks.specs.Ahead.{Ahead, stopping, before, somes, fills, gaps, seen_chunks, seen, chunks_ahead, body_ahead, walk, raw_of, due_of, words_of, left_of}
 
 -- ---- lists

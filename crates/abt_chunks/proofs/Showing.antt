@@ -1,5 +1,5 @@
 -- From a step of the machine to the answers of a listing.
-use Rattle.std.proofs.Common.{◌≡◌, ℕ, ◌+◌, ◌<◌, ◌≤◌, Bool, true, false, List, [], ◌∷◌, ◌++◌, length, Err, refl, sym, ap, ◌∙◌, arith, ◌==◌, if◌then◌else◌, ne_eqb, eq-eqb}
+use Rattle.std.proofs.Common.{◌≡◌, ℕ, ◌+◌, ◌<◌, ◌≤◌, Bool, true, false, List, [], ◌∷◌, ◌++◌, length, Err, sym, ap, ◌∙◌, arith, ◌==◌, if◌then◌else◌, ne_eqb, eq-eqb}
 use Rattle.abt_sparse.specs.declared.fault.SparseFault.{SparseFault}
 use Rattle.abt_sparse.specs.declared.fault.SparseFault.TheVariants as faults
 use Rattle.abt_sparse.specs.View.{view}
@@ -11,9 +11,11 @@ use Rattle.abt_chunks.specs.declared.walk.Part.{Part}
 use Rattle.abt_chunks.specs.declared.walk.Part.TheVariants as parts
 use Rattle.abt_chunks.specs.Expanding.{answer_of, OnMore}
 use Rattle.abt_chunks.specs.Listing.{Listing, listing_from, listing_of}
-use Rattle.abt_chunks.specs.Walking.{IsOver, Numbers, Moved, is_between, yet_in, yet_begun, at_end, Empties, Lists, info_at, shown_before, upcoming, upcoming_in, with_begun, yet}
+use Rattle.abt_chunks.specs.Turns.{IsOver}
+use Rattle.abt_chunks.specs.Parts.{Moved}
+use Rattle.abt_chunks.specs.ListingAhead.{Numbers, is_between, at_end, Empties, Lists, info_at, shown_before, upcoming, with_begun}
 use Rattle.abt_chunks.specs.Showing.{ListsTo}
-use Rattle.abt_chunks.proofs.Listed.{ended_listing, upcoming_header}
+use Rattle.abt_chunks.proofs.Listed.{ended_listing, upcoming_body, upcoming_header}
 
 pub moves_on : (q : Part) (s s' : Walk) (r m : ℕ) → Moved q r → Empties q s s' m m → s.words ≤ m → OnMore (answer_of q) (at_end s' ≡ false → 0 < r)
 moves_on (parts.Raw n) s s' r m moved empties le = λ e. omega (arith, moved.0, moved.1)
@@ -38,15 +40,6 @@ lists_to (parts.Fault f) s s' c t x e h = lists_fault f s s' c t x e h
 
 -- ---- the calls
 
-upcoming_between : (p : Phase) (s : Walk) (y : List ℕ) → is_between p s ≡ true → upcoming_in p s y ≡ yet_in p s y
-upcoming_between phases.Header s y e = absurd cc
-upcoming_between phases.Body s y e = ap (λ (v : Bool). yet_begun v s y) e
-upcoming_between phases.Done s y e = refl
-upcoming_between (phases.Failed f) s y e = refl
-
-yet_body : (s : Walk) (y : List ℕ) → s.phase ≡ phases.Body → listing_from (view s.header) (s.position + length y) s.index s.have y ≡ yet s y
-yet_body s y p = sym (ap (λ (q : Phase). yet_in q s y) p)
-
 some_index : (s : Walk) (y : List ℕ) → 0 < s.index → (if s.index == 0 then [] else (info_at s ∷ [])) ≡ info_at s ∷ []
 some_index s y i = let e : (s.index == 0) ≡ false = ne_eqb _ _ (λ q. absurd (omega (arith, q))) in ap (λ (b : Bool). let l : List ChunkInfo = (if b then [] else (info_at s ∷ [])) in l) e
 
@@ -58,18 +51,20 @@ more_index phases.Done s s1 r b e again stands n = absurd (let q : phases.Body �
 more_index (phases.Failed f) s s1 r b e again stands n = absurd (let q : phases.Body ≡ phases.Failed f = sym stands ∙ ap (λ (w : Walk). w.phase) (again tt) ∙ e in cc)
 
 -- a chunk is shown
-pub shown_next : (s s1 s2 : Walk) (x x1 y : List ℕ) → is_between s.phase s ≡ true → upcoming s x ≡ with_begun s1 x1 → with_begun s1 x1 ≡ with_begun s2 y → at_end s2 ≡ true → s2.phase ≡ phases.Body → 0 < s2.index
-    → yet s x ≡ shown_before (info_at s2 ∷ []) (yet s2 y)
-shown_next s s1 s2 x x1 y b first next e p i =
-    sym (upcoming_between s.phase s x b) ∙ first ∙ next ∙ ended_listing s2 y e ∙ ap (λ (l : List ChunkInfo). shown_before l (listing_from (view s2.header) (s2.position + length y) s2.index s2.have y)) (some_index s2 y i)
-    ∙ ap (λ (a : Listing). shown_before (info_at s2 ∷ []) a) (yet_body s2 y p)
+pub shown_next : (s s1 s2 : Walk) (x x1 y : List ℕ) → upcoming s x ≡ with_begun s1 x1 → with_begun s1 x1 ≡ with_begun s2 y
+    → at_end s2 ≡ true → s2.phase ≡ phases.Body → 0 < s2.index → upcoming s x ≡ shown_before (info_at s2 ∷ []) (upcoming s2 y)
+shown_next s s1 s2 x x1 y first next e p i =
+    let rest = listing_from (view s2.header) (s2.position + length y) s2.index s2.have y in
+    first ∙ next ∙ ended_listing s2 y e ∙ ap (λ (l : List ChunkInfo). shown_before l rest) (some_index s2 y i)
+    ∙ ap (λ (a : Listing). shown_before (info_at s2 ∷ []) a) (sym (upcoming_body s2 true y p e))
 
 no_index : (s : Walk) → s.index ≡ 0 → (if s.index == 0 then [] else (info_at s ∷ [])) ≡ []
 no_index s i = let e : (s.index == 0) ≡ true = eq-eqb _ _ i in ap (λ (b : Bool). let l : List ChunkInfo = (if b then [] else (info_at s ∷ [])) in l) e
 
 -- the header is behind, and all chunks are still to come
-pub shown_open : (s s1 s2 : Walk) (x x1 y : List ℕ) → s.phase ≡ phases.Header → upcoming s x ≡ with_begun s1 x1 → with_begun s1 x1 ≡ with_begun s2 y → at_end s2 ≡ true → s2.phase ≡ phases.Body → s2.index ≡ 0
-    → listing_of x ≡ yet s2 y
+pub shown_open : (s s1 s2 : Walk) (x x1 y : List ℕ) → s.phase ≡ phases.Header → upcoming s x ≡ with_begun s1 x1
+    → with_begun s1 x1 ≡ with_begun s2 y → at_end s2 ≡ true → s2.phase ≡ phases.Body → s2.index ≡ 0 → listing_of x ≡ upcoming s2 y
 shown_open s s1 s2 x x1 y h first next e p i =
-    sym (upcoming_header s x h) ∙ first ∙ next ∙ ended_listing s2 y e ∙ ap (λ (l : List ChunkInfo). shown_before l (listing_from (view s2.header) (s2.position + length y) s2.index s2.have y)) (no_index s2 i)
-    ∙ yet_body s2 y p
+    let rest = listing_from (view s2.header) (s2.position + length y) s2.index s2.have y in
+    sym (upcoming_header s x h) ∙ first ∙ next ∙ ended_listing s2 y e
+    ∙ ap (λ (l : List ChunkInfo). shown_before l rest) (no_index s2 i) ∙ sym (upcoming_body s2 true y p e)

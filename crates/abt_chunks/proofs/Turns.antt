@@ -8,7 +8,8 @@ use Rattle.abt_chunks.specs.declared.walk.Part.{Part}
 use Rattle.abt_chunks.specs.declared.walk.Part.TheVariants as parts
 use Rattle.abt_chunks.specs.declared.walk.Turn.{Turn}
 use Rattle.abt_chunks.specs.declared.walk.Turn.TheVariants as turns
-use Rattle.abt_chunks.specs.Walking.{Says, Told, Caused, AtTurn, ask_of, needed_of}
+use Rattle.abt_chunks.specs.Turns.{AtTurn, ask_of, needed_of}
+use Rattle.abt_chunks.specs.Parts.{Says, Told, Caused}
 use Rattle.abt_chunks.proofs.Onward.{IsOwn}
 
 pub needed_asked : (turn : Turn) (s : Walk) → AtTurn turn s → needed_of turn ≤ ask_of turn s

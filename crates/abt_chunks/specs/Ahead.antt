@@ -54,8 +54,10 @@ word_then size y f = if nat_lt (length y) 4 then stopping (Truncated size) else 
 -- many words are left.
 unfoldable pub body_ahead : ChunkKind → Bool → Header → ℕ → ℕ → ℕ → ℕ → List ℕ → ℕ → List ℕ → Ahead
 body_ahead kinds.Raw due h i have raw words word size y =
-    if nat_lt (length y) raw then record { cells = somes y; ending = Err (Truncated size) } else before (somes (take raw y)) (chunks_ahead h size i have (drop raw y))
-body_ahead kinds.Fill true h i have raw words word size y = word_then size y (λ w rest. before (fills words w) (chunks_ahead h size i have rest))
+    if nat_lt (length y) raw then record { cells = somes y; ending = Err (Truncated size) }
+    else before (somes (take raw y)) (chunks_ahead h size i have (drop raw y))
+body_ahead kinds.Fill true h i have raw words word size y =
+    word_then size y (λ w rest. before (fills words w) (chunks_ahead h size i have rest))
 body_ahead kinds.Fill false h i have raw words word size y = before (fills words word) (chunks_ahead h size i have y)
 body_ahead kinds.Skip due h i have raw words word size y = before (gaps words) (chunks_ahead h size i have y)
 body_ahead kinds.Crc true h i have raw words word size y = word_then size y (λ w rest. chunks_ahead h size i have rest)
@@ -64,7 +66,8 @@ body_ahead kinds.Crc false h i have raw words word size y = chunks_ahead h size 
 -- and with so many extra bytes of a header before it
 unfoldable pub walk : ChunkKind → Bool → Header → ℕ → ℕ → ℕ → ℕ → ℕ → List ℕ → ℕ → List ℕ → Ahead
 walk k due h i have extra raw words word size y =
-    if nat_lt (length y) extra then stopping (Truncated size) else body_ahead k due h i have raw words word size (drop extra y)
+    if nat_lt (length y) extra then stopping (Truncated size)
+    else body_ahead k due h i have raw words word size (drop extra y)
 
 -- what the header of a chunk of n blocks of b bytes announces: raw bytes, a word, words to give
 abbrev pub raw_of : ChunkKind → ℕ → ℕ → ℕ

@@ -1,5 +1,5 @@
 -- Who is to blame where a call is refused, how much it may have read before it knew, and that nothing else failed.
-use Rattle.std.specs.Prelude.{◌≡◌, ℕ, ◌≤◌, ◌==◌, Bool, true, Result, Ok, Err, if◌then◌else◌, nat_lt}
+use Rattle.std.specs.Prelude.{◌≡◌, ℕ, ◌==◌, Bool, Result, Err, if◌then◌else◌, nat_lt}
 use Rattle.abt_sparse.specs.declared.fault.SparseFault.{SparseFault}
 use Rattle.abt_sparse.specs.declared.fault.SparseFault.TheVariants as faults
 use Rattle.abt_sparse.specs.declared.kind.ChunkKind.{ChunkKind}
@@ -11,7 +11,8 @@ use Rattle.abt_chunks.specs.declared.walk.Walk.{Walk}
 use Rattle.abt_chunks.specs.declared.walk.Part.{Part}
 use Rattle.abt_chunks.specs.declared.walk.Part.TheVariants as parts
 
--- No device has failed but the one whose fault is answered: the input's faults went from r to r', the output's from w to w'.
+-- No device has failed but the one whose fault is answered: the input's faults went from r to r', the output's from w
+-- to w'.
 abbrev pub Clean : {X : Type 0} → Result X SparseFault → ℕ → ℕ → ℕ → ℕ → Type 0
 Clean (Err (faults.Read d)) r r' w w' = w' ≡ w
 Clean (Err (faults.Write d)) r r' w w' = r' ≡ r

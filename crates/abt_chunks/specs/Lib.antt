@@ -1,6 +1,9 @@
 pub mod Ahead
 pub mod Listing
-pub mod Walking
+pub mod Turns
+pub mod Parts
+pub mod Places
+pub mod ListingAhead
 pub mod Taking
 pub mod Cause
 pub mod Expanding

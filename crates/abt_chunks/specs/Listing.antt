@@ -42,7 +42,9 @@ listing_from h size i have y = listed h i (chunks_at h size i have (h.total_chun
 
 abbrev pub listing_behind : List ℕ → Result Header SparseFault → Listing
 listing_behind x (Err f) = headless f
-listing_behind x (Ok h) = if nat_lt (length x) h.file_hdr_sz then headless (Truncated (length x)) else listing_from h (length x) 0 0 (drop h.file_hdr_sz x)
+listing_behind x (Ok h) =
+    if nat_lt (length x) h.file_hdr_sz then headless (Truncated (length x))
+    else listing_from h (length x) 0 0 (drop h.file_hdr_sz x)
 
 -- the listing of a whole input
 unfoldable pub listing_of : List ℕ → Listing
@@ -52,11 +54,16 @@ listing_of x = if nat_lt (length x) 28 then headless (Truncated (length x)) else
 
 -- A listing shows the chunks of an image in order, and of bytes with a fault the chunks before it, and the fault.
 pub record ListingsAreRight : Type 0 where
-  pub image : (x : List ℕ) (h : Header) (cs : List Chunk) (rest : List ℕ) → Spells x h cs rest → listing_of x ≡ record { head = Some h; shown = infos 0 cs; ending = Ok rest }
-  pub bad_chunk : (x : List ℕ) (h : Header) (cs : List Chunk) (y : List ℕ) (f : SparseFault) (came : List ℕ) → Front x h cs y → length cs < h.total_chunks
-      → ChunkFails h (length x) (length cs) (counted_in cs) y f came → listing_of x ≡ record { head = Some h; shown = infos 0 cs; ending = Err f }
-  pub too_few : (x : List ℕ) (h : Header) (cs : List Chunk) (y : List ℕ) → Front x h cs y → length cs ≡ h.total_chunks → counted_in cs < h.total_blks
+  pub image : (x : List ℕ) (h : Header) (cs : List Chunk) (rest : List ℕ) → Spells x h cs rest
+      → listing_of x ≡ record { head = Some h; shown = infos 0 cs; ending = Ok rest }
+  pub bad_chunk : (x : List ℕ) (h : Header) (cs : List Chunk) (y : List ℕ) (f : SparseFault) (came : List ℕ)
+      → Front x h cs y → length cs < h.total_chunks
+      → ChunkFails h (length x) (length cs) (counted_in cs) y f came
+      → listing_of x ≡ record { head = Some h; shown = infos 0 cs; ending = Err f }
+  pub too_few : (x : List ℕ) (h : Header) (cs : List Chunk) (y : List ℕ) → Front x h cs y → length cs ≡ h.total_chunks
+      → counted_in cs < h.total_blks
       → listing_of x ≡ record { head = Some h; shown = infos 0 cs; ending = Err (TooFewBlocks (counted_in cs)) }
   pub no_image : (x : List ℕ) → length x < 28 → listing_of x ≡ headless (Truncated (length x))
   pub bad_header : (x : List ℕ) (f : SparseFault) → 28 ≤ length x → HeaderFails x f → listing_of x ≡ headless f
-  pub cut_header : (x : List ℕ) (h : Header) (y : List ℕ) → IsHeader h → x ≡ header_record h ++ y → length x < h.file_hdr_sz → listing_of x ≡ headless (Truncated (length x))
+  pub cut_header : (x : List ℕ) (h : Header) (y : List ℕ) → IsHeader h → x ≡ header_record h ++ y
+      → length x < h.file_hdr_sz → listing_of x ≡ headless (Truncated (length x))

@@ -1,10 +1,10 @@
 -- The reading machine that is fed its input in pieces: what it holds, and what a pull says.
-use Rattle.std.specs.Prelude.{◌≡◌, ℕ, ◌<◌, ◌≤◌, ◌++◌, List, [], take}
+use Rattle.std.specs.Prelude.{◌≡◌, ℕ, ◌<◌, ◌≤◌, ◌++◌, List, take}
 use Rattle.abt_chunks.specs.declared.feed.Pull.{Pull}
 use Rattle.abt_chunks.specs.declared.feed.Pull.TheVariants as pulls
 use Rattle.abt_chunks.specs.declared.feed.Puller.{Puller}
 use Rattle.abt_chunks.specs.declared.walk.Part.TheVariants as parts
-use Rattle.abt_chunks.specs.Walking.{Says, Leaves, given_by}
+use Rattle.abt_chunks.specs.Parts.{Says, Leaves, given_by}
 
 -- the bytes that it holds
 abbrev pub front_of : Puller → List ℕ

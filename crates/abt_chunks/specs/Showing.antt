@@ -10,7 +10,7 @@ use Rattle.abt_chunks.specs.declared.walk.Phase.TheVariants as phases
 use Rattle.abt_chunks.specs.declared.walk.Walk.{Walk}
 use Rattle.abt_chunks.specs.Expanding.{UnlessDevice}
 use Rattle.abt_chunks.specs.Listing.{Listing, listing_of}
-use Rattle.abt_chunks.specs.Walking.{at_end, breaking, shown_before, upcoming, with_begun, yet}
+use Rattle.abt_chunks.specs.ListingAhead.{at_end, breaking, shown_before, upcoming, with_begun}
 
 -- one step, from the bytes x to the bytes y behind those that it read
 abbrev pub ListsTo : Result Progress SparseFault → Walk → Walk → List ℕ → List ℕ → Type 0
@@ -33,15 +33,16 @@ abbrev pub Settles : Result (Unit {0}) SparseFault → Walk → Type 0
 Settles (Ok u) s = (s.phase ≡ phases.Body) × (at_end s ≡ true)
 Settles (Err f) s = s.phase ≡ phases.Failed f
 
--- Opened on the bytes x, of which y are left: the header is good, and the rest of the listing is still to come.
+-- Opened on the bytes x, of which y are left: the header is good and behind, and the rest of the listing is still to
+-- come.
 abbrev pub Opens : Walk → List ℕ → List ℕ → Type 0
-Opens s x y = (listing_of x ≡ yet s y) × (s.phase ≡ phases.Body)
+Opens s x y = (listing_of x ≡ upcoming s y) × (s.phase ≡ phases.Body) × (at_end s ≡ true)
 
 -- The next chunk of a listing, and the rest of it still to come; or its end, or its fault.
 abbrev pub Lists_next : Result (Option ChunkInfo) SparseFault → Walk → Walk → List ℕ → List ℕ → Type 0
-Lists_next (Ok (Some info)) s s' x y = yet s x ≡ shown_before (info ∷ []) (yet s' y)
-Lists_next (Ok None) s s' x y = ((yet s x).shown ≡ []) × ((yet s x).ending ≡ Ok y)
-Lists_next (Err f) s s' x y = UnlessDevice f ((yet s x).shown ≡ []) × UnlessDevice f ((yet s x).ending ≡ Err f)
+Lists_next (Ok (Some info)) s s' x y = upcoming s x ≡ shown_before (info ∷ []) (upcoming s' y)
+Lists_next (Ok None) s s' x y = ((upcoming s x).shown ≡ []) × ((upcoming s x).ending ≡ Ok y)
+Lists_next (Err f) s s' x y = UnlessDevice f (((upcoming s x).shown ≡ []) × ((upcoming s x).ending ≡ Err f))
 
 -- the phase that an answer leaves
 abbrev pub Stands_next : Result (Option ChunkInfo) SparseFault → Phase → Type 0

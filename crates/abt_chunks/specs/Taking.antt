@@ -5,7 +5,10 @@ use Rattle.abt_io.specs.declared.device.Input as inputs
 use Rattle.abt_chunks.specs.declared.walk.Phase.TheVariants as phases
 use Rattle.abt_chunks.specs.declared.walk.Walk.{Walk}
 use Rattle.abt_chunks.specs.declared.walk.Part.{Part}
-use Rattle.abt_chunks.specs.Walking.{Leaves, Moved, Numbers, given_by, goes_on, place_of, todo, upto_of}
+use Rattle.abt_chunks.specs.Turns.{todo}
+use Rattle.abt_chunks.specs.Parts.{Leaves, Moved, given_by, goes_on}
+use Rattle.abt_chunks.specs.Places.{place_of, upto_of}
+use Rattle.abt_chunks.specs.ListingAhead.{Numbers}
 
 -- A turn that gave the part q: the phase is the one that q leaves; what came is what q gives, and lies within the
 -- blocks so far; the image's header stays once it has been read; and where the walk goes on, less is left to do and its

@@ -30,7 +30,8 @@ Expands (Err f) old new x rest = UnlessDevice f (Refusal f old new x)
 
 -- what bytes give where nothing was before, whether an image stands at their front or they have a fault
 pub data Gives (y : List ℕ) : List ℕ → Type 0 where
-  image : (h : Header) (cs : List Chunk) (rest : List ℕ) → Spells y h cs rest → Gives y (expansion h.blk_sz (classed cs))
+  image : (h : Header) (cs : List Chunk) (rest : List ℕ) → Spells y h cs rest
+      → Gives y (expansion h.blk_sz (classed cs))
   fault : (f : SparseFault) (given : List (Option ℕ)) → Fails y f given → Gives y (laid given)
 
 -- what was written is a beginning of what the bytes y give

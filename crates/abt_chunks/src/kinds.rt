@@ -2,7 +2,7 @@
 
 ghost use Rattle.std.specs.Prelude.{◌≡◌, ◌<◌, ◌^◌};
 ghost use Rattle.abt_chunks.specs.Ahead.{raw_of, due_of, words_of, left_of};
-ghost use Rattle.abt_chunks.specs.Walking.{is_spent};
+ghost use Rattle.abt_chunks.specs.ListingAhead.{is_spent};
 
 use abt_sparse::ChunkKind;
 

@@ -7,7 +7,8 @@ ghost use Rattle.abt_chunks.specs.Cause.{Clean, UnlessCut, wanted};
 ghost use Rattle.abt_chunks.specs.Expanding.{IsGoing, OnDone, OnMore, Rises, Stands, UnlessDevice};
 ghost use Rattle.abt_chunks.specs.Listing.{headless, listing_of};
 ghost use Rattle.abt_chunks.specs.Taking.{ReadsOn, input_state};
-ghost use Rattle.abt_chunks.specs.Walking.{IsOver, MayEnd, Numbers, at_end, info_at, is_between, todo};
+ghost use Rattle.abt_chunks.specs.Turns.{IsOver, todo};
+ghost use Rattle.abt_chunks.specs.ListingAhead.{MayEnd, Numbers, at_end, info_at, is_between};
 ghost use Rattle.abt_chunks.specs.Showing.{IsFew, ListsTo, Lists_next, Opens, Passes, Settles, Stands_next};
 
 use crate::expander::answer;

@@ -9,9 +9,10 @@ ghost use Rattle.std.specs.Prelude.{◌≡◌, ◌≤◌, ◌<◌, ◌+◌, ℕ,
 ghost use Rattle.abt_sparse.specs.Reading.{kind_at, number_at};
 ghost use Rattle.abt_chunks.specs.Cause.{CleanPart, full_in_part, wanted};
 ghost use Rattle.abt_chunks.specs.Expanding.{IsGoing};
-ghost use Rattle.abt_chunks.specs.Walking.{Says, Shows, Lists, Numbers, Empties, Closes, Leaves, Moved, Within};
-ghost use Rattle.abt_chunks.specs.Walking.{Caused, Told, AtTurn, IsOver, ask_of, needed_of, todo, place_of, upto_of};
-ghost use Rattle.abt_chunks.specs.Walking.{given_by, is_fault, goes_on};
+ghost use Rattle.abt_chunks.specs.Turns.{AtTurn, IsOver, ask_of, needed_of, todo};
+ghost use Rattle.abt_chunks.specs.Parts.{Says, Leaves, Moved, Within, Caused, Told, given_by, is_fault, goes_on};
+ghost use Rattle.abt_chunks.specs.Places.{place_of, upto_of};
+ghost use Rattle.abt_chunks.specs.ListingAhead.{Shows, Lists, Numbers, Empties, Closes};
 ghost use Rattle.abt_chunks.specs.Taking.{TurnTaken};
 ghost use Rattle.abt_chunks.specs.Feeding.{TakesWhole};
 

@@ -1,7 +1,9 @@
 //! Where a walk stands: what it does next, how many bytes it asks for, and where the next block's byte lies.
 
 ghost use Rattle.std.specs.Prelude.{◌≡◌, ◌≤◌};
-ghost use Rattle.abt_chunks.specs.Walking.{at_end, AtTurn, ask_of, place_of};
+ghost use Rattle.abt_chunks.specs.Turns.{AtTurn, ask_of};
+ghost use Rattle.abt_chunks.specs.Places.{place_of};
+ghost use Rattle.abt_chunks.specs.ListingAhead.{at_end};
 
 use crate::kinds::{bytes_left, nothing_left};
 use crate::walk::{Part, Phase, Turn, Walk};

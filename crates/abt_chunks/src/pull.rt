@@ -3,7 +3,9 @@
 
 ghost use Rattle.std.specs.Prelude.{◌≡◌, ◌≤◌, ◌<◌, ◌+◌, ◌++◌, ℕ, List, [], length, take};
 ghost use Rattle.abt_chunks.specs.Feeding.{TakesWhole, whole_next, whole_of};
-ghost use Rattle.abt_chunks.specs.Walking.{AtTurn, Leaves, Says, given_by, needed_of, place_of, upto_of};
+ghost use Rattle.abt_chunks.specs.Turns.{AtTurn, needed_of};
+ghost use Rattle.abt_chunks.specs.Parts.{Leaves, Says, given_by};
+ghost use Rattle.abt_chunks.specs.Places.{place_of, upto_of};
 ghost use Rattle.abt_chunks.specs.Pulling.{IsKept, IsLent, PullLeaves, PullSays, front_of, pulled_by};
 
 use crate::feed::{Pull, Pulled, Puller};

@@ -25,7 +25,9 @@ use Rattle.abt_chunks.specs.declared.walk.Walk.{Walk}
 use Rattle.abt_chunks.specs.Ahead.{Ahead, before, seen, stopping}
 use Rattle.abt_chunks.specs.Expanding.{IsGoing}
 use Rattle.abt_chunks.specs.Listing.{listing_of}
-use Rattle.abt_chunks.specs.Walking.{ahead, ahead_in, at_end, head_in, place_of, place_in, upcoming, upcoming_in}
+use Rattle.abt_chunks.specs.Parts.{ahead, ahead_in}
+use Rattle.abt_chunks.specs.Places.{place_of, place_in}
+use Rattle.abt_chunks.specs.ListingAhead.{at_end, head_in, upcoming, upcoming_in}
 use Rattle.abt_chunks.proofs.Onward.{before-append}
 use Rattle.abt_pieces.specs.Contents.{written_in}
 use Rattle.abt_flash.specs.declared.fault.FlashFault.{FlashFault}

@@ -16,7 +16,8 @@ use Rattle.abt_chunks.specs.declared.walk.Walk.{Walk}
 use Rattle.abt_chunks.specs.declared.walk.Part.{Part}
 use Rattle.abt_chunks.specs.declared.walk.Part.TheVariants as parts
 use Rattle.abt_chunks.specs.Listing.{Listing, listed, listing_behind, listing_from, listing_of}
-use Rattle.abt_chunks.specs.Walking.{Leaves as PartLeaves, Lists, at_end, begun_listing, lacking, upcoming, upcoming_in, with_begun, yet_begun}
+use Rattle.abt_chunks.specs.Parts.{Leaves as PartLeaves}
+use Rattle.abt_chunks.specs.ListingAhead.{Lists, at_end, begun_listing, lacking, upcoming, upcoming_in, with_begun, upcoming_ended}
 use Rattle.abt_chunks.proofs.Listed.{ended_listing}
 use Rattle.abt_chunks.proofs.ListingLaws.{listing_behind_header}
 use Rattle.abt_flash.specs.Fault.{fault_of_sparse}
@@ -73,7 +74,7 @@ begun_head k due h i have extra raw word blocks size y some =
     ]
 
 -- once the header is behind, what is still to be shown has it
-passed_body : (s : Walk) (y : List ℕ) (end : Bool) → at_end s ≡ end → (nat_lt 0 s.index || end) ≡ true → (yet_begun end s y).head ≡ Some (view s.header)
+passed_body : (s : Walk) (y : List ℕ) (end : Bool) → at_end s ≡ end → (nat_lt 0 s.index || end) ≡ true → (upcoming_ended end s y).head ≡ Some (view s.header)
 passed_body s y true e p = from_head (view s.header) (s.position + length y) s.index s.have y
 passed_body s y false e p = begun_head s.kind s.due (view s.header) s.index s.have s.extra s.raw s.word s.blocks (s.position + length y) y (ltb-true _ _ (or_left (nat_lt 0 s.index) p)) where
   or_left : (b : Bool) → (b || false) ≡ true → b ≡ true
@@ -88,8 +89,8 @@ passed_head s y body p =
 -- between a part and the next
 begun_upcoming : (s : Walk) (y : List ℕ) → s.phase ≡ phases.Body → (with_begun s y).head ≡ (upcoming s y).head
 begun_upcoming s y body = elim (cases_Bool (at_end s)) [
-  | inl t ↦ ap (λ (l : Listing). l.head) (ended_listing s y t) ∙ sym (ap (λ (ph : Phase). (upcoming_in ph s y).head) body ∙ ap (λ (b : Bool). (yet_begun b s y).head) t)
-  | inr t ↦ sym (ap (λ (ph : Phase). (upcoming_in ph s y).head) body ∙ ap (λ (b : Bool). (yet_begun b s y).head) t)
+  | inl t ↦ ap (λ (l : Listing). l.head) (ended_listing s y t) ∙ sym (ap (λ (ph : Phase). (upcoming_in ph s y).head) body ∙ ap (λ (b : Bool). (upcoming_ended b s y).head) t)
+  | inr t ↦ sym (ap (λ (ph : Phase). (upcoming_in ph s y).head) body ∙ ap (λ (b : Bool). (upcoming_ended b s y).head) t)
 ]
 
 on_more : (s s' : Walk) (x y : List ℕ) → s'.phase ≡ phases.Body → upcoming s x ≡ with_begun s' y → (upcoming s x).head ≡ (upcoming s' y).head

@@ -9,8 +9,9 @@ use Rattle.abt_chunks.specs.declared.walk.Walk.{Walk}
 use Rattle.abt_chunks.specs.declared.walk.Part.{Part}
 use Rattle.abt_chunks.specs.declared.walk.Part.TheVariants as parts
 use Rattle.abt_chunks.specs.Expanding.{IsGoing}
-use Rattle.abt_chunks.specs.Walking.{Moved, Numbers, Within, at_end, given_by, goes_on, place_in, place_of, upto_in, upto_of}
-use Rattle.abt_chunks.specs.Walking.{Leaves as PartLeaves}
+use Rattle.abt_chunks.specs.Parts.{Moved, Within, given_by, goes_on, Leaves as PartLeaves}
+use Rattle.abt_chunks.specs.Places.{place_in, place_of, upto_in, upto_of}
+use Rattle.abt_chunks.specs.ListingAhead.{Numbers, at_end}
 use Rattle.abt_flash.specs.Laying.{IsStill, put_by}
 use Rattle.abt_flash.specs.Stepping.{IsFresh, IsFresh_in, OnMore, answer_of, is_short_of, need_of, passed_in}
 

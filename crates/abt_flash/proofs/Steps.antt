@@ -17,7 +17,9 @@ use Rattle.abt_chunks.specs.declared.walk.Walk.{Walk}
 use Rattle.abt_chunks.specs.declared.walk.Part.{Part}
 use Rattle.abt_chunks.specs.declared.walk.Part.TheVariants as parts
 use Rattle.abt_chunks.specs.Ahead.{Ahead, before, somes}
-use Rattle.abt_chunks.specs.Walking.{Told, Leaves as PartLeaves, Caused, Closes, MayEnd, Moved, Within, at_end, is_fault, goes_on, given_by, ahead, place_of, owed}
+use Rattle.abt_chunks.specs.Parts.{Told, Leaves as PartLeaves, Caused, Moved, Within, is_fault, goes_on, given_by, ahead}
+use Rattle.abt_chunks.specs.Places.{place_of, owed}
+use Rattle.abt_chunks.specs.ListingAhead.{Closes, MayEnd, at_end}
 use Rattle.abt_chunks.proofs.Finishing.{owed_at}
 use Rattle.abt_flash.specs.declared.fault.FlashFault.{FlashFault}
 use Rattle.abt_flash.specs.declared.fault.FlashFault.TheVariants as fails

@@ -8,7 +8,7 @@ use Rattle.abt_chunks.specs.declared.walk.Part.{Part}
 use Rattle.abt_chunks.specs.declared.walk.Part.TheVariants as parts
 use Rattle.abt_chunks.specs.Ahead.{somes}
 use Rattle.abt_chunks.specs.Expanding.{IsWritable}
-use Rattle.abt_chunks.specs.Walking.{is_fault}
+use Rattle.abt_chunks.specs.Parts.{is_fault}
 use Rattle.abt_flash.specs.declared.fault.FlashFault.{FlashFault}
 use Rattle.abt_flash.specs.declared.laying.Task.{Task}
 use Rattle.abt_flash.specs.declared.laying.Task.TheVariants as tasks

@@ -12,7 +12,9 @@ use Rattle.abt_chunks.specs.declared.walk.Phase.TheVariants as phases
 use Rattle.abt_chunks.specs.declared.walk.Walk.{Walk}
 use Rattle.abt_chunks.specs.Ahead.{before}
 use Rattle.abt_chunks.specs.Expanding.{IsGoing}
-use Rattle.abt_chunks.specs.Walking.{ahead, at_end, head_in, owed, place_of, upcoming}
+use Rattle.abt_chunks.specs.Parts.{ahead}
+use Rattle.abt_chunks.specs.Places.{owed, place_of}
+use Rattle.abt_chunks.specs.ListingAhead.{at_end, head_in, upcoming}
 use Rattle.abt_io.specs.declared.meter.Meter.{Meter}
 use Rattle.abt_flash.specs.Devices.{Flow}
 use Rattle.abt_flash.specs.Fault.{fault_of_sparse, refused_syncs}

@@ -2,7 +2,8 @@
 
 ghost use Rattle.std.specs.Prelude.{◌≡◌, ◌<◌, ◌≤◌, ◌+◌, ◌-◌, ◌*◌, ◌/◌, ◌^◌, ℕ, List, [], true, IsTrue, OnOk, Err};
 ghost use Rattle.std.specs.Prelude.{length, take, drop, max, min, nat_lt, ◌||◌, if◌then◌else◌};
-ghost use Rattle.abt_chunks.specs.Walking.{at_end, todo};
+ghost use Rattle.abt_chunks.specs.Turns.{todo};
+ghost use Rattle.abt_chunks.specs.ListingAhead.{at_end};
 ghost use Rattle.abt_flash.specs.Devices.{Grows, Reads, flow};
 ghost use Rattle.abt_flash.specs.Fault.{Rises, refused_syncs};
 ghost use Rattle.abt_flash.specs.Laying.{put_by};

@@ -6,7 +6,7 @@ ghost use Rattle.abt_io.specs.Moment.{EachSince, Keeps, KeepsUnsynced, in_range,
 ghost use Rattle.abt_sparse.specs.Block.{over};
 ghost use Rattle.abt_chunks.specs.Ahead.{somes};
 ghost use Rattle.abt_chunks.specs.Expanding.{IsWritable};
-ghost use Rattle.abt_chunks.specs.Walking.{is_fault};
+ghost use Rattle.abt_chunks.specs.Parts.{is_fault};
 ghost use Rattle.abt_flash.specs.Fault.{OnUnsynced, PutCause, UnlessUnwritten, refused_syncs};
 ghost use Rattle.abt_flash.specs.Laying.{CanDo, During, IsIdle, IsStill, Settles, SettlesIn, UnlessUndone};
 ghost use Rattle.abt_flash.specs.Laying.{answered, bytes_by, cells_by, from_place, put_by, put_in, refused_in};

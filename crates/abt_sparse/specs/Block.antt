@@ -59,7 +59,8 @@ split b (suc n) bytes = take b bytes ∷ split b n (drop b bytes)
 
 -- a block whose words are all its first one is a fill, any other is raw
 abbrev pub class_of : List ℕ → Block
-class_of bytes = if list_all (bytes_eq (take 4 bytes)) (split 4 (length bytes / 4) bytes) then Fill (take 4 bytes) else Raw bytes
+class_of bytes =
+    if list_all (bytes_eq (take 4 bytes)) (split 4 (length bytes / 4) bytes) then Fill (take 4 bytes) else Raw bytes
 
 -- how many blocks hold the bytes, and a raw image as blocks: filled up with zeros to a whole block, and split
 abbrev pub block_count : ℕ → List ℕ → ℕ

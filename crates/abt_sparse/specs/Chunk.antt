@@ -20,8 +20,15 @@ pub record Header : Type 0 where
 -- the 28 bytes of a header
 abbrev pub header_record : Header → List ℕ
 header_record h =
-    to_le_bytes w32 0xED26FF3A ++ (to_le_bytes w16 1 ++ (to_le_bytes w16 h.minor ++ (to_le_bytes w16 h.file_hdr_sz ++ (to_le_bytes w16 h.chunk_hdr_sz
-    ++ (to_le_bytes w32 h.blk_sz ++ (to_le_bytes w32 h.total_blks ++ (to_le_bytes w32 h.total_chunks ++ to_le_bytes w32 h.image_checksum)))))))
+    to_le_bytes w32 0xED26FF3A
+    ++ (to_le_bytes w16 1
+    ++ (to_le_bytes w16 h.minor
+    ++ (to_le_bytes w16 h.file_hdr_sz
+    ++ (to_le_bytes w16 h.chunk_hdr_sz
+    ++ (to_le_bytes w32 h.blk_sz
+    ++ (to_le_bytes w32 h.total_blks
+    ++ (to_le_bytes w32 h.total_chunks
+    ++ to_le_bytes w32 h.image_checksum)))))))
 
 -- the fields fit their bytes, and the checks of a header pass
 pub record IsHeader (h : Header) : Type 0 where
@@ -103,7 +110,8 @@ classed cs = flat_map blocks_of cs
 
 -- a chunk's header with these fields and extra bytes, and its data
 abbrev pub chunk_bytes : ℕ → List ℕ → ℕ → ℕ → List ℕ → List ℕ → List ℕ
-chunk_bytes type reserved blocks total extra payload = to_le_bytes w16 type ++ (reserved ++ (to_le_bytes w32 blocks ++ (to_le_bytes w32 total ++ (extra ++ payload))))
+chunk_bytes type reserved blocks total extra payload =
+    to_le_bytes w16 type ++ (reserved ++ (to_le_bytes w32 blocks ++ (to_le_bytes w32 total ++ (extra ++ payload))))
 
 -- The bytes are a spelling of the chunk. The reserved field, the bytes past the twelfth of the header, and a
 -- checksum's block count may be anything.
@@ -116,12 +124,14 @@ pub record SpellsChunk (h : Header) (c : Chunk) (bytes : List ℕ) : Type 0 wher
   pub total_fits : h.chunk_hdr_sz + length (data_of c) < 2 ^ 32
   pub counted : (kind c ≡ kinds.Crc → ⊥) → blocks ≡ count c
   pub is_chunk : IsChunk h.blk_sz c
-  pub spelled : bytes ≡ chunk_bytes (code (kind c)) (to_le_bytes w16 reserved) blocks (h.chunk_hdr_sz + length (data_of c)) extra (data_of c)
+  pub spelled : bytes ≡ chunk_bytes (code (kind c)) (to_le_bytes w16 reserved) blocks
+      (h.chunk_hdr_sz + length (data_of c)) extra (data_of c)
 
 -- the chunks one after the other, and then the rest
 abbrev pub SpellsChunks : Header → List Chunk → List ℕ → List ℕ → Type 0
 SpellsChunks h [] bytes rest = bytes ≡ rest
-SpellsChunks h (c ∷ cs) bytes rest = (front : List ℕ) × (after : List ℕ) × SpellsChunk h c front × (bytes ≡ front ++ after) × SpellsChunks h cs after rest
+SpellsChunks h (c ∷ cs) bytes rest = (front : List ℕ) × (after : List ℕ) × SpellsChunk h c front
+    × (bytes ≡ front ++ after) × SpellsChunks h cs after rest
 
 -- ---- the one spelling that is written
 
@@ -130,7 +140,15 @@ abbrev pub plain : Chunk → List ℕ
 plain c = chunk_bytes (code (kind c)) (to_le_bytes w16 0) (count c) (12 + length (data_of c)) [] (data_of c)
 
 abbrev pub plain_header : ℕ → ℕ → ℕ → Header
-plain_header b n chunks = record { minor = 0; file_hdr_sz = 28; chunk_hdr_sz = 12; blk_sz = b; total_blks = n; total_chunks = chunks; image_checksum = 0 }
+plain_header b n chunks = record {
+  minor = 0;
+  file_hdr_sz = 28;
+  chunk_hdr_sz = 12;
+  blk_sz = b;
+  total_blks = n;
+  total_chunks = chunks;
+  image_checksum = 0;
+}
 
 -- the chunk of a run
 abbrev pub raw_bytes : Block → List ℕ

@@ -17,4 +17,5 @@ chunk_header_at bytes = header_of_kind (kind_at (number_at 0 2 bytes)) bytes
 
 -- the bytes of a header, with this number in the reserved field
 abbrev pub chunk_record : ChunkHeader → ℕ → List ℕ
-chunk_record h reserved = to_le_bytes w16 (code h.kind) ++ (to_le_bytes w16 reserved ++ (to_le_bytes w32 h.blocks ++ to_le_bytes w32 h.total))
+chunk_record h reserved = to_le_bytes w16 (code h.kind)
+    ++ (to_le_bytes w16 reserved ++ (to_le_bytes w32 h.blocks ++ to_le_bytes w32 h.total))

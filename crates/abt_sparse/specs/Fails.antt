@@ -48,8 +48,10 @@ pub data HeaderFails (x : List ℕ) : SparseFault → Type 0 where
   no_magic : (number_at 0 4 x ≡ 0xED26FF3A → ⊥) → HeaderFails x Magic
   other_major : number_at 0 4 x ≡ 0xED26FF3A → (number_at 4 2 x ≡ 1 → ⊥) → HeaderFails x (Major (number_at 4 2 x))
   short_header : IsSparse1 x → number_at 8 2 x < 28 → HeaderFails x (FileHeaderSize (number_at 8 2 x))
-  short_chunk_header : IsSparse1 x → 28 ≤ number_at 8 2 x → number_at 10 2 x < 12 → HeaderFails x (ChunkHeaderSize (number_at 10 2 x))
-  bad_block_size : IsSparse1 x → 28 ≤ number_at 8 2 x → 12 ≤ number_at 10 2 x → (number_at 12 4 x ≡ 0) ⊎ (number_at 12 4 x % 4 ≡ 0 → ⊥) → HeaderFails x (BlockSize (number_at 12 4 x))
+  short_chunk_header : IsSparse1 x → 28 ≤ number_at 8 2 x → number_at 10 2 x < 12
+      → HeaderFails x (ChunkHeaderSize (number_at 10 2 x))
+  bad_block_size : IsSparse1 x → 28 ≤ number_at 8 2 x → 12 ≤ number_at 10 2 x
+      → (number_at 12 4 x ≡ 0) ⊎ (number_at 12 4 x % 4 ≡ 0 → ⊥) → HeaderFails x (BlockSize (number_at 12 4 x))
 
 -- y begins with the header of a chunk of this kind, which counts n blocks and says that the chunk has total bytes
 pub record BeginsChunk (y : List ℕ) (k : ChunkKind) (n total : ℕ) : Type 0 where
@@ -62,10 +64,14 @@ pub record BeginsChunk (y : List ℕ) (k : ChunkKind) (n total : ℕ) : Type 0 w
 -- the whole input has size bytes; and the raw bytes that came of it.
 pub data ChunkFails (h : Header) (size i have : ℕ) (y : List ℕ) : SparseFault → List ℕ → Type 0 where
   no_header : length y < 12 → ChunkFails h size i have y (Truncated size) []
-  unknown_type : 12 ≤ length y → ((k : ChunkKind) → number_at 0 2 y ≡ code k → ⊥) → ChunkFails h size i have y (ChunkType i (number_at 0 2 y)) []
-  wrong_length : (k : ChunkKind) (n total : ℕ) → BeginsChunk y k n total → (total ≡ h.chunk_hdr_sz + data_len h.blk_sz k n → ⊥) → ChunkFails h size i have y (ChunkLength i) []
-  too_many : (k : ChunkKind) (n total : ℕ) → BeginsChunk y k n total → total ≡ h.chunk_hdr_sz + data_len h.blk_sz k n → h.total_blks < have + counted k n → ChunkFails h size i have y (TooManyBlocks i) []
-  cut_short : (k : ChunkKind) (n total : ℕ) → BeginsChunk y k n total → total ≡ h.chunk_hdr_sz + data_len h.blk_sz k n → have + counted k n ≤ h.total_blks → length y < total
+  unknown_type : 12 ≤ length y → ((k : ChunkKind) → number_at 0 2 y ≡ code k → ⊥)
+      → ChunkFails h size i have y (ChunkType i (number_at 0 2 y)) []
+  wrong_length : (k : ChunkKind) (n total : ℕ) → BeginsChunk y k n total
+      → (total ≡ h.chunk_hdr_sz + data_len h.blk_sz k n → ⊥) → ChunkFails h size i have y (ChunkLength i) []
+  too_many : (k : ChunkKind) (n total : ℕ) → BeginsChunk y k n total → total ≡ h.chunk_hdr_sz + data_len h.blk_sz k n
+      → h.total_blks < have + counted k n → ChunkFails h size i have y (TooManyBlocks i) []
+  cut_short : (k : ChunkKind) (n total : ℕ) → BeginsChunk y k n total → total ≡ h.chunk_hdr_sz + data_len h.blk_sz k n
+      → have + counted k n ≤ h.total_blks → length y < total
       → ChunkFails h size i have y (Truncated size) (partial_of k (drop h.chunk_hdr_sz y))
 
 -- x has this fault, behind these cells: those of the chunks before it, and the raw bytes that came of the chunk
@@ -73,10 +79,14 @@ pub data ChunkFails (h : Header) (size i have : ℕ) (y : List ℕ) : SparseFaul
 pub data Fails (x : List ℕ) : SparseFault → List (Option ℕ) → Type 0 where
   no_image : length x < 28 → Fails x (Truncated (length x)) []
   bad_header : (f : SparseFault) → 28 ≤ length x → HeaderFails x f → Fails x f []
-  cut_header : (h : Header) (y : List ℕ) → IsHeader h → x ≡ header_record h ++ y → length x < h.file_hdr_sz → Fails x (Truncated (length x)) []
-  bad_chunk : (h : Header) (cs : List Chunk) (y : List ℕ) (f : SparseFault) (came : List ℕ) → Front x h cs y → length cs < h.total_chunks
-      → ChunkFails h (length x) (length cs) (counted_in cs) y f came → Fails x f (cells h.blk_sz (classed cs) ++ map (λ b. Some b) came)
-  too_few : (h : Header) (cs : List Chunk) (y : List ℕ) → Front x h cs y → length cs ≡ h.total_chunks → counted_in cs < h.total_blks
+  cut_header : (h : Header) (y : List ℕ) → IsHeader h → x ≡ header_record h ++ y → length x < h.file_hdr_sz
+      → Fails x (Truncated (length x)) []
+  bad_chunk : (h : Header) (cs : List Chunk) (y : List ℕ) (f : SparseFault) (came : List ℕ) → Front x h cs y
+      → length cs < h.total_chunks
+      → ChunkFails h (length x) (length cs) (counted_in cs) y f came
+      → Fails x f (cells h.blk_sz (classed cs) ++ map (λ b. Some b) came)
+  too_few : (h : Header) (cs : List Chunk) (y : List ℕ) → Front x h cs y → length cs ≡ h.total_chunks
+      → counted_in cs < h.total_blks
       → Fails x (TooFewBlocks (counted_in cs)) (cells h.blk_sz (classed cs))
 
 -- the bytes have this outcome

@@ -6,5 +6,6 @@ use Rattle.abt_sparse.specs.Block.{Block, cells, over}
 -- every byte of its first so many blocks. What else the image writes may be anything.
 pub record Mendable (b : ℕ) (blocks : List Block) (p q : List ℕ) (first : ℕ) : Type 0 where
   pub long : length q ≡ length p
-  pub outside : (i : ℕ) → i < length p → slice_index_or (cells b blocks) i None ≡ None → slice_index q i ≡ slice_index p i
+  pub outside : (i : ℕ) → i < length p → slice_index_or (cells b blocks) i None ≡ None
+      → slice_index q i ≡ slice_index p i
   pub before : (i : ℕ) → i < length p → i < first * b → slice_index q i ≡ slice_index (over p (cells b blocks)) i

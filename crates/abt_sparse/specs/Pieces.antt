@@ -10,13 +10,15 @@ use Rattle.abt_sparse.specs.Reading.{Outcome, Image, Fault, outcome}
 
 -- the part stays within the limit, and no front of the blocks that does is longer
 abbrev pub IsGreatest : ℕ → ℕ → List Block → List Block → Type 0
-IsGreatest limit b blocks part = (weight b part ≤ limit) × ((e : ℕ) → e ≤ length blocks → weight b (take e blocks) ≤ limit → e ≤ length part)
+IsGreatest limit b blocks part = (weight b part ≤ limit)
+    × ((e : ℕ) → e ≤ length blocks → weight b (take e blocks) ≤ limit → e ≤ length part)
 
 -- Each part goes as far as the limit allows, and the last one to the end; no blocks make one part without any.
 abbrev pub AreCuts : ℕ → ℕ → List Block → List (List Block) → Type 0
 AreCuts limit b blocks [] = ⊥
 AreCuts limit b blocks (part ∷ []) = (part ≡ blocks) × (weight b part ≤ limit)
-AreCuts limit b blocks (part ∷ next ∷ parts) = (rest : List Block) × (part ++ rest ≡ blocks) × (rest ≡ [] → ⊥) × IsGreatest limit b blocks part × AreCuts limit b rest (next ∷ parts)
+AreCuts limit b blocks (part ∷ next ∷ parts) = (rest : List Block) × (part ++ rest ≡ blocks) × (rest ≡ [] → ⊥)
+    × IsGreatest limit b blocks part × AreCuts limit b rest (next ∷ parts)
 
 -- ---- pieces
 

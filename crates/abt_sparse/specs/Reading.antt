@@ -35,7 +35,12 @@ checked_header bytes =
 
 -- the kind with this type number
 abbrev pub kind_at : ℕ → Option ChunkKind
-kind_at n = if n == 0xCAC1 then Some kinds.Raw else if n == 0xCAC2 then Some kinds.Fill else if n == 0xCAC3 then Some kinds.Skip else if n == 0xCAC4 then Some kinds.Crc else None
+kind_at n =
+    if n == 0xCAC1 then Some kinds.Raw
+    else if n == 0xCAC2 then Some kinds.Fill
+    else if n == 0xCAC3 then Some kinds.Skip
+    else if n == 0xCAC4 then Some kinds.Crc
+    else None
 
 -- the chunk of this kind, with so many blocks in its header and these bytes behind it
 abbrev pub chunk_from : ℕ → ChunkKind → ℕ → List ℕ → Chunk

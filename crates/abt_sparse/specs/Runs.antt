@@ -78,7 +78,9 @@ weight b segment = 52 + sum_by (run_weight b) (without_last (without_first (runs
 -- A list in parts, each as long as the test allows. The first part is open and has what came before.
 abbrev pub greedy : {X : Type 0} → (List X → Bool) → List X → List X → List (List X)
 greedy fits open_part [] = open_part ∷ []
-greedy fits open_part (x ∷ l) = elim (fits (open_part ++ x ∷ [])) [ true ↦ greedy fits (open_part ++ x ∷ []) l | false ↦ open_part ∷ greedy fits (x ∷ []) l ]
+greedy fits open_part (x ∷ l) =
+    elim (fits (open_part ++ x ∷ []))
+    [ true ↦ greedy fits (open_part ++ x ∷ []) l | false ↦ open_part ∷ greedy fits (x ∷ []) l ]
 
 -- what is left of a list after a part, cut further: nothing where nothing is left
 abbrev pub tail_parts : {X : Type 0} → (List X → Bool) → List X → List (List X)

@@ -1,7 +1,7 @@
 //! The text of `list`: the header and the chunks of a sparse image, a line each.
 
 ghost use Rattle.std.specs.Prelude.{◌≡◌, ◌++◌, ◌≤◌, IsTrue, OnOk, Ok, flat_map, length};
-ghost use Rattle.abt_chunks.specs.Walking.{yet};
+ghost use Rattle.abt_chunks.specs.ListingAhead.{upcoming};
 ghost use Rattle.abt_texts.specs.Listed.{Listed, chunk_line};
 ghost use Rattle.abt_texts.specs.Printed.{Prints};
 
@@ -56,9 +56,9 @@ fn chunk_lines<I: Input, O: Output>(
     w: &mut Window,
     m: &mut Meter,
 ) -> Result<(), SparseFault>
-    ensures { IsTrue I.tells → length (yet chunks.old.walk (I.remaining input.old)).shown ≤ most →
-        OnOk result (((yet chunks.old.walk (I.remaining input.old)).ending ≡ Ok (I.remaining input.new)) ×
-        Prints O.written text.old text.new (flat_map chunk_line (yet chunks.old.walk (I.remaining input.old)).shown)) }
+    ensures { IsTrue I.tells → length (upcoming chunks.old.walk (I.remaining input.old)).shown ≤ most →
+        OnOk result (((upcoming chunks.old.walk (I.remaining input.old)).ending ≡ Ok (I.remaining input.new)) ×
+        Prints O.written text.old text.new (flat_map chunk_line (upcoming chunks.old.walk (I.remaining input.old)).shown)) }
 {
     for _listed in 0..most as u64 + 1 {
         m.tick();

@@ -20,7 +20,8 @@ use Rattle.abt_chunks.specs.declared.walk.Phase.{Phase}
 use Rattle.abt_chunks.specs.declared.walk.Phase.TheVariants as phases
 use Rattle.abt_chunks.specs.declared.walk.Walk.{Walk}
 use Rattle.abt_chunks.specs.Ahead.{Ahead, before, seen, stopping}
-use Rattle.abt_chunks.specs.Walking.{ahead, ahead_in, place_of, place_in}
+use Rattle.abt_chunks.specs.Parts.{ahead, ahead_in}
+use Rattle.abt_chunks.specs.Places.{place_of, place_in}
 use Rattle.abt_chunks.proofs.Onward.{before-append}
 use Rattle.abt_verify.specs.declared.fault.VerifyFault.{VerifyFault}
 use Rattle.abt_verify.specs.declared.fault.VerifyFault.TheVariants as fails

@@ -17,8 +17,8 @@ use Rattle.abt_chunks.specs.declared.walk.Part.{Part}
 use Rattle.abt_chunks.specs.declared.walk.Part.TheVariants as parts
 use Rattle.abt_chunks.specs.Ahead.{before, somes, stopping}
 use Rattle.abt_chunks.specs.Expanding.{IsGoing}
-use Rattle.abt_chunks.specs.Walking.{Told, Caused, Moved, Within, ahead, ahead_in, given_by, goes_on, is_fault, place_of, upto_in, upto_of}
-use Rattle.abt_chunks.specs.Walking.{Leaves as PartLeaves}
+use Rattle.abt_chunks.specs.Parts.{Told, Caused, Moved, Within, ahead, ahead_in, given_by, goes_on, is_fault, Leaves as PartLeaves}
+use Rattle.abt_chunks.specs.Places.{place_of, upto_in, upto_of}
 use Rattle.abt_verify.specs.declared.fault.VerifyFault.{VerifyFault}
 use Rattle.abt_verify.specs.declared.fault.VerifyFault.TheVariants as fails
 use Rattle.abt_verify.specs.declared.stage.Stage.{Stage}

@@ -9,7 +9,9 @@ use Rattle.abt_chunks.specs.declared.walk.Phase.TheVariants as phases
 use Rattle.abt_chunks.specs.declared.walk.Walk.{Walk}
 use Rattle.abt_chunks.specs.Ahead.{before}
 use Rattle.abt_chunks.specs.Expanding.{IsGoing}
-use Rattle.abt_chunks.specs.Walking.{ahead, at_end, place_of}
+use Rattle.abt_chunks.specs.Parts.{ahead}
+use Rattle.abt_chunks.specs.Places.{place_of}
+use Rattle.abt_chunks.specs.ListingAhead.{at_end}
 use Rattle.abt_verify.specs.Fault.{fault_of_sparse}
 use Rattle.abt_verify.specs.Standing.{FirstDiffers, Stands, from_place, said_by}
 use Rattle.abt_verify.specs.declared.fault.VerifyFault.{VerifyFault}

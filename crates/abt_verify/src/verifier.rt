@@ -1,7 +1,8 @@
 //! Verifying a sparse image in steps.
 
 ghost use Rattle.std.specs.Prelude.{◌≡◌, ◌<◌, ◌≤◌, ◌+◌, ◌-◌, ◌*◌, ◌/◌, ◌^◌, IsTrue, OnOk, length, take, drop, max, min};
-ghost use Rattle.abt_chunks.specs.Walking.{todo, upto_of};
+ghost use Rattle.abt_chunks.specs.Turns.{todo};
+ghost use Rattle.abt_chunks.specs.Places.{upto_of};
 ghost use Rattle.abt_verify.specs.Fault.{Rises};
 ghost use Rattle.abt_verify.specs.Stepping.{Compares, Goes, IsOver, Leaves, OnMore, answer_of, idle, stage_of};
 

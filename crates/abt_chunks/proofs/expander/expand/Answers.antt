@@ -9,7 +9,7 @@ use Rattle.abt_chunks.specs.Ahead.{Ahead, seen}
 use Rattle.abt_chunks.proofs.Finishing.{told_more, begun_more, image_ends, refusal, unless_map, expansion_found, refused_found, begun_found}
 use Rattle.abt_io.specs.BytesLaws.{bytes_of_take}
 use Rattle.abt_sparse.proofs.Exactly.{is_so}
-use Rattle.abt_chunks.proofs.Needed.{needed_more, needed_none}
+use Rattle.abt_chunks.proofs.Needed.{needed_more}
 use Rattle.abt_chunks.proofs.expander.expand.Goals as goal
 
 abbrev whole : List ℕ → Ahead

@@ -2,7 +2,8 @@ use Rattle.std.proofs.Common.{length, ◌-◌, ◌≡◌, ◌≤◌, ◌+◌, �
 use Rattle.std.specs.Prelude.{IsTrue}
 use Rattle.abt_sparse.specs.Reading.{outcome}
 use Rattle.abt_chunks.specs.Ahead.{finish, seen}
-use Rattle.abt_chunks.specs.Walking.{ahead, todo}
+use Rattle.abt_chunks.specs.Turns.{todo}
+use Rattle.abt_chunks.specs.Parts.{ahead}
 use Rattle.abt_chunks.specs.Expanding.{IsGoing}
 use Rattle.abt_chunks.specs.Whole.{AllNeeded}
 use Rattle.abt_chunks.proofs.expander.expand.Given as goal

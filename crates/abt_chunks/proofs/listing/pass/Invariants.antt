@@ -1,7 +1,8 @@
 use Rattle.std.proofs.Common.{length, ◌-◌, ◌≡◌, ◌≤◌, ◌+◌, ◌*◌, drop, max, false}
 use Rattle.std.specs.Prelude.{IsTrue}
 use Rattle.abt_chunks.specs.declared.walk.Phase.TheVariants as phases
-use Rattle.abt_chunks.specs.Walking.{at_end, todo, with_begun}
+use Rattle.abt_chunks.specs.Turns.{todo}
+use Rattle.abt_chunks.specs.ListingAhead.{at_end, with_begun}
 use Rattle.abt_chunks.proofs.listing.pass.Given as goal
 
 abbrev pub invariant-steps : goal.invariant-steps

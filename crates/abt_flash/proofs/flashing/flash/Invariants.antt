@@ -1,6 +1,6 @@
 use Rattle.std.proofs.Common.{length, ◌<◌, ◌-◌, ◌≡◌, ◌≤◌, ◌+◌, ◌*◌, drop, max}
 use Rattle.std.specs.Prelude.{IsTrue}
-use Rattle.abt_chunks.specs.Walking.{todo}
+use Rattle.abt_chunks.specs.Turns.{todo}
 use Rattle.abt_flash.specs.Stepping.{Goes, IsFresh, idle, need_of}
 use Rattle.abt_chunks.specs.declared.walk.Phase.TheVariants as phases
 use Rattle.abt_flash.proofs.Come.{Come}

@@ -3,7 +3,7 @@ use Rattle.std.proofs.lemmas.List.{flat_map_more, length-append}
 use Rattle.abt_chunks.specs.declared.progress.ChunkInfo.{ChunkInfo}
 use Rattle.abt_chunks.specs.Listing.{Listing}
 use Rattle.abt_chunks.specs.Showing.{Lists_next}
-use Rattle.abt_chunks.specs.Walking.{shown_before, yet}
+use Rattle.abt_chunks.specs.ListingAhead.{shown_before, upcoming}
 use Rattle.abt_texts.specs.Listed.{chunk_line}
 use Rattle.abt_texts.specs.Printed.{Prints}
 use Rattle.abt_texts.proofs.Counting.{shown_twice}
@@ -20,14 +20,14 @@ loop-listed-preserved g c = λ tells.
     let t = c.next.new.self.walk in
     let x = left c.loop-listed.input in
     let y = left c.next.new.input in
-    let lists : yet s x ≡ shown_before (info ∷ []) (yet t y)
+    let lists : upcoming s x ≡ shown_before (info ∷ []) (upcoming t y)
     = subst (λ (r : Option ChunkInfo). Lists_next (Ok r) s t x y) c.in-Some.is (c.in_ok-chunk.ensures.lists tells) in
     let line : Prints o c.loop-listed.text c.line.new.self (chunk_line info) = search rules in
     let more : flat_map chunk_line done ++ chunk_line info ≡ flat_map chunk_line (done ++ info ∷ []) = flat_map_more chunk_line [] done info in
     let all = both_printed o c.args.text.now c.loop-listed.text c.line.new.self (flat_map chunk_line done) (chunk_line info) printed line in (
       done ++ info ∷ [],
       length-append done (info ∷ []) ∙ ap (λ (n : ℕ). n + 1) long,
-      so_far ∙ ap (shown_before done) lists ∙ shown_twice done (info ∷ []) (yet t y),
+      so_far ∙ ap (shown_before done) lists ∙ shown_twice done (info ∷ []) (upcoming t y),
       subst (λ (l : List ℕ). Prints o c.args.text.now c.line.new.self l) more all,
     )
 
@@ -46,6 +46,6 @@ returns-in-None g c = λ tells few.
 pub returns : goal.returns
 returns g c = λ tells few.
     let (done, long, so_far, printed) = c.loop-listed.invariant tells in
-    let rest = (yet c.loop-listed.chunks.walk (g.I.Input.remaining c.loop-listed.input)).shown in
+    let rest = (upcoming c.loop-listed.chunks.walk (g.I.Input.remaining c.loop-listed.input)).shown in
     let whole = ap (λ (l : Listing). length l.shown) so_far in
     absurd (omega (arith, few, whole, length-append done rest, long, c.loop-listed-test.false))

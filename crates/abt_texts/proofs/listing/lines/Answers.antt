@@ -1,10 +1,10 @@
 use Rattle.std.proofs.Common.{◌≤◌, length, sym, subst, rules}
 use Rattle.abt_sparse.specs.declared.header.SparseHeader.{SparseHeader}
 use Rattle.abt_sparse.specs.View.{view}
-use Rattle.abt_chunks.specs.Walking.{yet}
+use Rattle.abt_chunks.specs.ListingAhead.{upcoming}
 use Rattle.abt_texts.specs.Listed.{header_line}
 use Rattle.abt_texts.specs.Printed.{Prints}
-use Rattle.abt_texts.proofs.Counting.{few_yet}
+use Rattle.abt_texts.proofs.Counting.{few_upcoming}
 use Rattle.abt_texts.proofs.Listed.{listed_printed}
 use Rattle.abt_texts.proofs.listing.lines.Goals as goal
 
@@ -16,8 +16,8 @@ returns g c = λ tells.
     let y = left c.open.new.input in
     let opened = c.in_ok-chunks.ensures.opens tells in
     let same = c.header-header.ensures in
-    let few = subst (λ (h : SparseHeader). length (yet s y).shown ≤ h.total_chunks) (sym same) (few_yet s y opened.1) in
+    let few = subst (λ (h : SparseHeader). length (upcoming s y).shown ≤ h.total_chunks) (sym same) (few_upcoming s y opened.1 opened.2) in
     let line : Prints o c.args.text.now c.line.new.self (header_line (view c.header-header.result)) = search rules in
     let first = subst (λ (h : SparseHeader). Prints o c.args.text.now c.line.new.self (header_line (view h))) same line in
     listed_printed o c.args.text.now c.line.new.self c.chunk_lines.new.text (left c.args.input.now) y (left c.chunk_lines.new.input) s c.chunk_lines.result
-    opened.0 opened.1 first (c.chunk_lines.ensures tells few)
+    opened.0 opened.1 opened.2 first (c.chunk_lines.ensures tells few)

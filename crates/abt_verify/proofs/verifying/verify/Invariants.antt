@@ -1,6 +1,6 @@
 use Rattle.std.proofs.Common.{length, ◌-◌, ◌≡◌, ◌≤◌, ◌+◌, ◌*◌, drop, max}
 use Rattle.std.specs.Prelude.{IsTrue}
-use Rattle.abt_chunks.specs.Walking.{todo}
+use Rattle.abt_chunks.specs.Turns.{todo}
 use Rattle.abt_verify.specs.Stepping.{Goes, idle}
 use Rattle.abt_verify.proofs.Come.{Come}
 use Rattle.abt_verify.proofs.verifying.verify.Given as goal

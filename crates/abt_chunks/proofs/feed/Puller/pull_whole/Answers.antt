@@ -1,5 +1,6 @@
-use Rattle.std.proofs.Common.{◌≡◌, ◌<◌, ◌+◌, ◌-◌, ◌++◌, ℕ, List, length, take, arith, ap, ◌∙◌, subst}
-use Rattle.abt_chunks.specs.Walking.{Says, needed_of}
+use Rattle.std.proofs.Common.{◌≡◌, ◌<◌, ◌+◌, ◌++◌, ℕ, List, length, take, arith, ap, ◌∙◌, subst}
+use Rattle.abt_chunks.specs.Turns.{needed_of}
+use Rattle.abt_chunks.specs.Parts.{Says}
 use Rattle.abt_chunks.specs.Pulling.{front_of}
 use Rattle.abt_chunks.proofs.feed.Puller.pull_whole.Goals as goal
 

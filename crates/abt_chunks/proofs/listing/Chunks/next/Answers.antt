@@ -14,7 +14,7 @@ returns-in-Ok-clause-lists g c tells =
     let stands = rw c.in-Ok-More.field-0-is at c.in-Ok-More.ensures.stands in
     let index = more_index s.phase s s1 _ c.args.self.now.between refl (λ o. (c.step.ensures.again o).0) stands numbers in
     let some : 0 < s2.index = omega (arith, c.in-Ok.ensures.index, index.0) in
-    rw c.info.ensures (shown_next s s1 s2 _ _ _ c.args.self.now.between first (c.in-Ok.ensures.passes tells) c.in-Ok.ensures.settles.1 c.in-Ok.ensures.settles.0 some)
+    rw c.info.ensures (shown_next s s1 s2 _ _ _ first (c.in-Ok.ensures.passes tells) c.in-Ok.ensures.settles.1 c.in-Ok.ensures.settles.0 some)
 
 pub returns-in-Err-clause-bounded : goal.returns-in-Err-clause-bounded
 returns-in-Err-clause-bounded g c =

@@ -1,10 +1,11 @@
 use Rattle.std.proofs.Common.{◌≡◌, ◌≤◌, ◌<◌, ℕ, List, length, ◌-◌, take, drop, ◌++◌, arith, ap, ◌∙◌, subst, refl, length-take, length-drop, min}
 use Rattle.std.proofs.lemmas.List.{drop_all, take-append-le}
-use Rattle.abt_chunks.specs.Walking.{Says, Shows, ask_of, needed_of}
+use Rattle.abt_chunks.specs.Turns.{ask_of, needed_of}
+use Rattle.abt_chunks.specs.Parts.{Says}
+use Rattle.abt_chunks.specs.ListingAhead.{Shows}
 use Rattle.abt_chunks.proofs.Turns.{told, needed_asked, needed_room}
 use Rattle.abt_chunks.proofs.Causes.{clean_part, own_part, read_closes, asked_wanted}
 use Rattle.abt_io.specs.Count.{full_in}
-use Rattle.abt_io.specs.declared.device.DeviceFault.{DeviceFault}
 use Rattle.abt_chunks.proofs.Listed.{lists}
 use Rattle.abt_chunks.proofs.walk.Walk.part_within.Goals as goal
 use Rattle.abt_chunks.proofs.walk.Walk.part_within.Goals.{in-Some, in-None}

@@ -3,7 +3,7 @@ use Rattle.abt_sparse.specs.View.{view}
 use Rattle.abt_chunks.proofs.Onward.{short_extra, past_extra}
 use Rattle.std.proofs.Common.{ℕ}
 use Rattle.abt_sparse.specs.declared.fault.SparseFault.TheVariants.{Truncated}
-use Rattle.abt_chunks.specs.Walking.{begun_listing}
+use Rattle.abt_chunks.specs.ListingAhead.{begun_listing}
 use Rattle.abt_chunks.proofs.Listed.{upcoming_body, short_listing, open_extra, extra_passed}
 use Rattle.abt_chunks.proofs.walk.Walk.take_extra.Goals as goal
 

@@ -4,7 +4,7 @@ use Rattle.abt_sparse.specs.View.{view}
 use Rattle.abt_chunks.proofs.Onward.{short_raw, past_raw}
 use Rattle.std.proofs.Common.{ℕ, false}
 use Rattle.abt_sparse.specs.declared.fault.SparseFault.TheVariants.{Truncated}
-use Rattle.abt_chunks.specs.Walking.{begun_listing, lacking}
+use Rattle.abt_chunks.specs.ListingAhead.{begun_listing, lacking}
 use Rattle.abt_chunks.proofs.Listed.{upcoming_body, short_listing, open_raw, raw_behind}
 use Rattle.abt_chunks.proofs.walk.Walk.take_raw.Goals as goal
 

@@ -3,7 +3,7 @@ use Rattle.abt_sparse.specs.View.{view}
 use Rattle.abt_chunks.proofs.Onward.{short_word, past_word}
 use Rattle.std.proofs.Common.{ℕ, false}
 use Rattle.abt_sparse.specs.declared.fault.SparseFault.TheVariants.{Truncated}
-use Rattle.abt_chunks.specs.Walking.{begun_listing, lacking}
+use Rattle.abt_chunks.specs.ListingAhead.{begun_listing, lacking}
 use Rattle.abt_chunks.proofs.Listed.{upcoming_body, short_listing, open_word, word_behind, lacks_word}
 use Rattle.abt_chunks.proofs.walk.Walk.take_word.Goals as goal
 
