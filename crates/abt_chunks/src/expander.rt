@@ -9,6 +9,7 @@ ghost use Rattle.abt_chunks.specs.Cause.{Clean, wanted};
 ghost use Rattle.abt_chunks.specs.Turns.{IsOver, todo};
 ghost use Rattle.abt_chunks.specs.Parts.{ahead};
 ghost use Rattle.abt_chunks.specs.Places.{owed};
+ghost use Rattle.abt_chunks.specs.Taking.{ReadsOn, input_state};
 ghost use Rattle.abt_chunks.specs.Expanding.{Begins, IsGoing, OnMore, Rises, Stands, Unless, answer_of};
 ghost use Rattle.abt_chunks.specs.Whole.{AllNeeded, Begun, Expands};
 ghost use Rattle.abt_chunks.specs.declared.progress.Progress.TheVariants.{More};
@@ -57,9 +58,7 @@ impl Expander {
     ) -> Result<Progress, SparseFault>
         ensures asked { I.given input.old ≤ I.given input.new × I.given input.new ≤ I.given input.old + 65536 }
         ensures wanted { I.given input.new - I.given input.old ≤ wanted self.old.walk }
-        ensures present { IsTrue I.tells → I.given input.new - I.given input.old ≤ length (I.remaining input.old) }
-        ensures rest { IsTrue I.tells → I.remaining input.new ≡ drop (I.given input.new - I.given input.old)
-            (I.remaining input.old) }
+        ensures input { ReadsOn I.tells (input_state I.Input input.old) (input_state I.Input input.new) }
         // What is written, finished by what is still to be read, is the whole.
         ensures told { IsTrue I.tells → (t : List ℕ) → (IsTrue (is_err result) → t ≡ I.remaining input.new) →
             Unless result (finish (O.written output.old) (ahead self.old.walk
@@ -85,9 +84,7 @@ impl Expander {
         ensures again { IsOver self.old.walk.phase → (self.new.walk ≡ self.old.walk) × (input.new ≡ input.old) ×
             (output.new ≡ output.old) }
         ensures fewer { OnMore result (todo self.new.walk < todo self.old.walk) }
-        ensures read_frame { I.read_frame input.new ≡ I.read_frame input.old }
         ensures write_frame { O.write_frame output.new ≡ O.write_frame output.old }
-        ensures read_faults { I.read_faults input.old ≤ I.read_faults input.new }
         ensures write_faults { O.write_faults output.old ≤ O.write_faults output.new }
         ensures reads { I.reads input.new ≤ I.reads input.old + (I.given input.new - I.given input.old) + 1 }
         ensures writes { O.writes output.new ≤ O.writes output.old + 2 *
@@ -126,9 +123,7 @@ pub fn expand<I: Input, O: Output>(
     w: &mut Window,
     m: &mut Meter,
 ) -> Result<Expanded, SparseFault>
-    ensures present { IsTrue I.tells → I.given input.new - I.given input.old ≤ length (I.remaining input.old) }
-    ensures rest { IsTrue I.tells → I.remaining input.new ≡ drop (I.given input.new - I.given input.old)
-        (I.remaining input.old) }
+    ensures input { ReadsOn I.tells (input_state I.Input input.old) (input_state I.Input input.new) }
     // An image is expanded, and anything else is refused with its own fault, behind what came before it.
     ensures expands { IsTrue I.tells → Expands result (O.written output.old) (O.written output.new)
         (I.remaining input.old) (I.remaining input.new) }
@@ -144,9 +139,7 @@ pub fn expand<I: Input, O: Output>(
     ensures full_faults { O.full_faults output.new ≡ O.full_faults output.old + full_answered result }
     ensures given { I.given input.old ≤ I.given input.new }
     ensures grown { length (O.written output.old) ≤ length (O.written output.new) }
-    ensures read_frame { I.read_frame input.new ≡ I.read_frame input.old }
     ensures write_frame { O.write_frame output.new ≡ O.write_frame output.old }
-    ensures read_faults { I.read_faults input.old ≤ I.read_faults input.new }
     ensures write_faults { O.write_faults output.old ≤ O.write_faults output.new }
     ensures calls { (I.reads input.new - I.reads input.old) + (O.writes output.new - O.writes output.old) ≤ 8 *
         ((I.given input.new - I.given input.old) + (length (O.written output.new) - length (O.written output.old))) +

@@ -118,9 +118,7 @@ impl Chunks {
         m: &mut Meter,
     ) -> Result<Chunks, SparseFault>
         ensures given { I.given input.old ≤ I.given input.new }
-        ensures present { IsTrue I.tells → I.given input.new - I.given input.old ≤ length (I.remaining input.old) }
-        ensures rest { IsTrue I.tells → I.remaining input.new ≡ drop (I.given input.new - I.given input.old)
-            (I.remaining input.old) }
+        ensures input { ReadsOn I.tells (input_state I.Input input.old) (input_state I.Input input.new) }
         ensures opens { IsTrue I.tells → MatchResult result (λ chunks. Opens chunks.walk (I.remaining input.old)
             (I.remaining input.new)) (λ fault. UnlessDevice fault
             (listing_of (I.remaining input.old) ≡ headless fault)) }
@@ -129,8 +127,6 @@ impl Chunks {
         ensures cause { Rises result (I.read_faults input.old) (I.read_faults input.new) 0 0 }
         ensures clean { Clean result (I.read_faults input.old) (I.read_faults input.new) 0 0 }
         ensures failed { full_answered result ≡ 0 }
-        ensures read_frame { I.read_frame input.new ≡ I.read_frame input.old }
-        ensures read_faults { I.read_faults input.old ≤ I.read_faults input.new }
         ensures calls { I.reads input.new ≤ I.reads input.old + 8 * (I.given input.new - I.given input.old) + 8 }
         ensures turns { m.new.turns.number ≤ m.old.turns.number + 8 * (I.given input.new - I.given input.old) + 8 }
         ensures steps { I.given input.new + 65536 * m.old.steps.number ≤ I.given input.old +
@@ -166,9 +162,7 @@ impl Chunks {
         m: &mut Meter,
     ) -> Result<Option<ChunkInfo>, SparseFault>
         ensures given { I.given input.old ≤ I.given input.new }
-        ensures present { IsTrue I.tells → I.given input.new - I.given input.old ≤ length (I.remaining input.old) }
-        ensures rest { IsTrue I.tells → I.remaining input.new ≡ drop (I.given input.new - I.given input.old)
-            (I.remaining input.old) }
+        ensures input { ReadsOn I.tells (input_state I.Input input.old) (input_state I.Input input.new) }
         ensures lists { IsTrue I.tells → Lists_next result self.old.walk self.new.walk (I.remaining input.old)
             (I.remaining input.new) }
         ensures stands { Stands_next result self.new.walk.phase }
@@ -180,8 +174,6 @@ impl Chunks {
         ensures clean { Clean result (I.read_faults input.old) (I.read_faults input.new) 0 0 }
         ensures failed { IsGoing self.old.walk.phase → full_answered result ≡ 0 }
         ensures again { IsOver self.old.walk.phase → (self.new.walk ≡ self.old.walk) × (input.new ≡ input.old) }
-        ensures read_frame { I.read_frame input.new ≡ I.read_frame input.old }
-        ensures read_faults { I.read_faults input.old ≤ I.read_faults input.new }
         ensures calls { I.reads input.new ≤ I.reads input.old + 8 * (I.given input.new - I.given input.old) + 8 }
         ensures turns { m.new.turns.number ≤ m.old.turns.number + 8 * (I.given input.new - I.given input.old) + 8 }
         ensures few { IsFew result (I.given input.new - I.given input.old) (I.reads input.new - I.reads input.old)

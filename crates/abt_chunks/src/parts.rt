@@ -13,13 +13,23 @@ ghost use Rattle.abt_chunks.specs.Turns.{AtTurn, IsOver, ask_of, needed_of, todo
 ghost use Rattle.abt_chunks.specs.Parts.{Says, Leaves, Moved, Within, Caused, Told, given_by, is_fault, goes_on};
 ghost use Rattle.abt_chunks.specs.Places.{place_of, upto_of};
 ghost use Rattle.abt_chunks.specs.ListingAhead.{Shows, Lists, Numbers, Empties, Closes};
-ghost use Rattle.abt_chunks.specs.Taking.{TurnTaken};
+ghost use Rattle.abt_chunks.specs.Taking.{ReadsOn, TurnTaken, input_state};
 ghost use Rattle.abt_chunks.specs.Feeding.{TakesWhole};
 
 use crate::kinds::{has_word, laid_words, raw_bytes};
 use crate::walk::{Part, Phase, Taken, Turn, Walk};
 use abt_io::{Input, Meter, WINDOW, Window, gather};
 use abt_sparse::{ChunkKind, SparseFault, counted_blocks, data_length, header_of, u16_at, u32_at};
+
+/// The fault of a chunk whose type the format doesn't know. It comes before every other fault of a chunk, whatever
+/// length its header states.
+fn unknown_type(chunk: u32, got: &[u8]) -> SparseFault
+    requires { length got.now ≡ 12 }
+    ensures { result ≡ SparseFault.ChunkType chunk (number_at 0 2 got.now) }
+{
+    let kind = u16_at(got, 0);
+    SparseFault::ChunkType { chunk, kind }
+}
 
 impl Walk {
     /// The header of the image, 28 bytes and its five checks.
@@ -153,13 +163,9 @@ impl Walk {
             let end = self.position + got.len() as u64;
             return self.fail(SparseFault::Truncated { at: end });
         }
-        let code = u16_at(got, 0);
-        match ChunkKind::from_code(code) {
+        match ChunkKind::from_code(u16_at(got, 0)) {
             Some(kind) => self.take_known(got, kind),
-            None => self.fail(SparseFault::ChunkType {
-                chunk: self.index,
-                kind: code,
-            }),
+            None => self.fail(unknown_type(self.index, got)),
         }
     }
 
@@ -330,8 +336,7 @@ impl Walk {
         ensures received { I.given input.new ≡ I.given input.old + result.received }
         ensures small { result.received ≤ 65536 }
         ensures wanted { result.received ≤ wanted self.old }
-        ensures present { IsTrue I.tells → result.received ≤ length (I.remaining input.old) }
-        ensures rest { IsTrue I.tells → I.remaining input.new ≡ drop result.received (I.remaining input.old) }
+        ensures input { ReadsOn I.tells (input_state I.Input input.old) (input_state I.Input input.new) }
         ensures window { IsTrue I.tells → take result.received w.new.bytes ≡ take result.received
             (I.remaining input.old) }
         // What it says of the image: for every continuation t, and at a fault for what is really left.
@@ -339,22 +344,15 @@ impl Walk {
             Told result.part self.old self.new (take result.received (I.remaining input.old)) t }
         ensures lists { IsTrue I.tells → (t : List ℕ) → (is_fault result.part ≡ true → t ≡ I.remaining input.new) →
             Lists result.part self.old self.new (take result.received (I.remaining input.old)) t }
-        ensures leaves { Leaves result.part self.new.phase }
-        ensures moved { Moved result.part result.received }
-        ensures inside { place_of self.old + given_by result.part ≤ upto_of self.old }
+        ensures turn { TurnTaken result.part self.old self.new result.received }
         ensures within { Within result.part fills skips }
         ensures empties { Empties result.part self.old self.new fills skips }
         ensures closes { Closes result.part self.old.phase self.old }
-        ensures header { self.old.phase ≡ Phase.Body → self.new.header ≡ self.old.header }
         ensures cause { Caused result.part self.old.phase (I.read_faults input.old) (I.read_faults input.new) }
         ensures clean { CleanPart result.part (I.read_faults input.old) (I.read_faults input.new) }
         ensures failed { IsGoing self.old.phase → full_in_part result.part ≡ 0 }
-        ensures fewer { IsTrue (goes_on result.part) → todo self.new < todo self.old }
-        ensures numbers { IsTrue (goes_on result.part) → Numbers self.old.phase self.old self.new result.received }
         ensures place { IsTrue (goes_on result.part) → place_of self.new ≡ place_of self.old + given_by result.part }
         ensures over { IsOver self.old.phase → (self.new ≡ self.old) × (input.new ≡ input.old) }
-        ensures frame { I.read_frame input.new ≡ I.read_frame input.old }
-        ensures faults { I.read_faults input.old ≤ I.read_faults input.new }
         ensures reads { I.reads input.new ≤ I.reads input.old + result.received + 1 }
         ensures turns { m.new.turns.number ≤ m.old.turns.number + result.received + 1 }
         ensures steps { m.new.steps.number ≡ m.old.steps.number }
@@ -381,8 +379,7 @@ impl Walk {
         ensures received { I.given input.new ≡ I.given input.old + result.received }
         ensures small { result.received ≤ most }
         ensures wanted { result.received ≤ wanted self.old }
-        ensures present { IsTrue I.tells → result.received ≤ length (I.remaining input.old) }
-        ensures rest { IsTrue I.tells → I.remaining input.new ≡ drop result.received (I.remaining input.old) }
+        ensures input { ReadsOn I.tells (input_state I.Input input.old) (input_state I.Input input.new) }
         ensures window { IsTrue I.tells → take result.received w.new.bytes
             ≡ take result.received (I.remaining input.old) }
         // What it says of the image: for every continuation t, and at a fault for what is really left.
@@ -390,22 +387,15 @@ impl Walk {
             Told result.part self.old self.new (take result.received (I.remaining input.old)) t }
         ensures lists { IsTrue I.tells → (t : List ℕ) → (is_fault result.part ≡ true → t ≡ I.remaining input.new) →
             Lists result.part self.old self.new (take result.received (I.remaining input.old)) t }
-        ensures leaves { Leaves result.part self.new.phase }
-        ensures moved { Moved result.part result.received }
-        ensures inside { place_of self.old + given_by result.part ≤ upto_of self.old }
+        ensures turn { TurnTaken result.part self.old self.new result.received }
         ensures within { Within result.part fills skips }
         ensures empties { Empties result.part self.old self.new fills skips }
         ensures closes { Closes result.part self.old.phase self.old }
-        ensures header { self.old.phase ≡ Phase.Body → self.new.header ≡ self.old.header }
         ensures cause { Caused result.part self.old.phase (I.read_faults input.old) (I.read_faults input.new) }
         ensures clean { CleanPart result.part (I.read_faults input.old) (I.read_faults input.new) }
         ensures failed { IsGoing self.old.phase → full_in_part result.part ≡ 0 }
-        ensures fewer { IsTrue (goes_on result.part) → todo self.new < todo self.old }
-        ensures numbers { IsTrue (goes_on result.part) → Numbers self.old.phase self.old self.new result.received }
         ensures place { IsTrue (goes_on result.part) → place_of self.new ≡ place_of self.old + given_by result.part }
         ensures over { IsOver self.old.phase → (self.new ≡ self.old) × (input.new ≡ input.old) }
-        ensures frame { I.read_frame input.new ≡ I.read_frame input.old }
-        ensures faults { I.read_faults input.old ≤ I.read_faults input.new }
         ensures reads { I.reads input.new ≤ I.reads input.old + result.received + 1 }
         ensures turns { m.new.turns.number ≤ m.old.turns.number + result.received + 1 }
         ensures steps { m.new.steps.number ≡ m.old.steps.number }

@@ -32,17 +32,17 @@ steps-preserved g c =
     record {
       read = omega arith;
       present = λ tells.
-          let here : g.I.Input.given c.step.new.input - g.I.Input.given c.steps.input ≤ length (g.I.Input.remaining c.steps.input) = e.present tells in
+          let here : g.I.Input.given c.step.new.input - g.I.Input.given c.steps.input ≤ length (g.I.Input.remaining c.steps.input) = e.input.present tells in
           let long : length (g.I.Input.remaining c.steps.input) ≡ length rem - k = ap length (i.rest tells) ∙ length-drop k rem in
           let before : k ≤ length rem = i.present tells in
           omega arith;
-      rest = λ tells. rest_more rem (g.I.Input.remaining c.steps.input) _ k n j (i.rest tells) (e.rest tells) (omega arith);
+      rest = λ tells. rest_more rem (g.I.Input.remaining c.steps.input) _ k n j (i.rest tells) (e.input.rest tells) (omega arith);
       told = λ tells t. told_more (g.O.Output.written c.args.output.now) (g.O.Output.written c.steps.output) (g.O.Output.written c.step.new.output) rem (g.I.Input.remaining c.steps.input)
           c.steps.machine.walk c.step.new.self.walk k n j t whole (i.rest tells) (omega arith) (i.told tells) (c.in-Ok-More.ensures.told tells t (λ z. absurd cc));
-      needed = λ tells. needed_more (g.O.Output.written c.args.output.now) (g.O.Output.written c.steps.output) (g.I.Input.remaining c.args.input.now) (g.I.Input.remaining c.steps.input) c.steps.machine.walk (g.I.Input.given c.steps.input - g.I.Input.given c.args.input.now) (g.I.Input.given c.step.new.input - g.I.Input.given c.steps.input) (g.I.Input.given c.step.new.input - g.I.Input.given c.args.input.now) (g.met.I.Input.are_bytes c.args.input.now tells) (i.rest tells) (omega arith) (e.present tells) e.wanted (i.told tells) (i.needed tells);
+      needed = λ tells. needed_more (g.O.Output.written c.args.output.now) (g.O.Output.written c.steps.output) (g.I.Input.remaining c.args.input.now) (g.I.Input.remaining c.steps.input) c.steps.machine.walk (g.I.Input.given c.steps.input - g.I.Input.given c.args.input.now) (g.I.Input.given c.step.new.input - g.I.Input.given c.steps.input) (g.I.Input.given c.step.new.input - g.I.Input.given c.args.input.now) (g.met.I.Input.are_bytes c.args.input.now tells) (i.rest tells) (omega arith) (e.input.present tells) e.wanted (i.told tells) (i.needed tells);
       grown = omega arith;
       going = rw stands tt;
-      read_frame = e.read_frame ∙ i.read_frame;
+      read_frame = e.input.frame ∙ i.read_frame;
       write_frame = e.write_frame ∙ i.write_frame;
       read_faults = clean.0 ∙ i.read_faults;
       write_faults = clean.1 ∙ i.write_faults;
@@ -58,13 +58,13 @@ pub returns-in-Ok-Done-clause-needed : goal.returns-in-Ok-Done-clause-needed
 returns-in-Ok-Done-clause-needed g c tells =
     let i = c.steps.invariant in
     let e = c.step.ensures in
-    needed_more (g.O.Output.written c.args.output.now) (g.O.Output.written c.steps.output) (g.I.Input.remaining c.args.input.now) (g.I.Input.remaining c.steps.input) c.steps.machine.walk (g.I.Input.given c.steps.input - g.I.Input.given c.args.input.now) (g.I.Input.given c.step.new.input - g.I.Input.given c.steps.input) (g.I.Input.given c.step.new.input - g.I.Input.given c.args.input.now) (g.met.I.Input.are_bytes c.args.input.now tells) (i.rest tells) (omega arith) (e.present tells) e.wanted (i.told tells) (i.needed tells)
+    needed_more (g.O.Output.written c.args.output.now) (g.O.Output.written c.steps.output) (g.I.Input.remaining c.args.input.now) (g.I.Input.remaining c.steps.input) c.steps.machine.walk (g.I.Input.given c.steps.input - g.I.Input.given c.args.input.now) (g.I.Input.given c.step.new.input - g.I.Input.given c.steps.input) (g.I.Input.given c.step.new.input - g.I.Input.given c.args.input.now) (g.met.I.Input.are_bytes c.args.input.now tells) (i.rest tells) (omega arith) (e.input.present tells) e.wanted (i.told tells) (i.needed tells)
 
 pub returns-in-Err-clause-needed : goal.returns-in-Err-clause-needed
 returns-in-Err-clause-needed g c tells =
     let i = c.steps.invariant in
     let e = c.step.ensures in
-    needed_more (g.O.Output.written c.args.output.now) (g.O.Output.written c.steps.output) (g.I.Input.remaining c.args.input.now) (g.I.Input.remaining c.steps.input) c.steps.machine.walk (g.I.Input.given c.steps.input - g.I.Input.given c.args.input.now) (g.I.Input.given c.step.new.input - g.I.Input.given c.steps.input) (g.I.Input.given c.step.new.input - g.I.Input.given c.args.input.now) (g.met.I.Input.are_bytes c.args.input.now tells) (i.rest tells) (omega arith) (e.present tells) e.wanted (i.told tells) (i.needed tells)
+    needed_more (g.O.Output.written c.args.output.now) (g.O.Output.written c.steps.output) (g.I.Input.remaining c.args.input.now) (g.I.Input.remaining c.steps.input) c.steps.machine.walk (g.I.Input.given c.steps.input - g.I.Input.given c.args.input.now) (g.I.Input.given c.step.new.input - g.I.Input.given c.steps.input) (g.I.Input.given c.step.new.input - g.I.Input.given c.args.input.now) (g.met.I.Input.are_bytes c.args.input.now tells) (i.rest tells) (omega arith) (e.input.present tells) e.wanted (i.told tells) (i.needed tells)
 
 pub returns-in-Ok-Done-clause-begun : goal.returns-in-Ok-Done-clause-begun
 returns-in-Ok-Done-clause-begun g c tells =
@@ -96,7 +96,7 @@ returns-in-Ok-Done-clause-expands g c tells =
     let j = g.I.Input.given c.step.new.input - g.I.Input.given c.args.input.now in
     let rem = g.I.Input.remaining c.args.input.now in
     let left = g.I.Input.remaining c.step.new.input in
-    let all = rest_more rem (g.I.Input.remaining c.steps.input) left k n j (i.rest tells) (e.rest tells) (omega arith) in
+    let all = rest_more rem (g.I.Input.remaining c.steps.input) left k n j (i.rest tells) (e.input.rest tells) (omega arith) in
     let told = told_more (g.O.Output.written c.args.output.now) (g.O.Output.written c.steps.output) (g.O.Output.written c.step.new.output) rem (g.I.Input.remaining c.steps.input)
     c.steps.machine.walk c.step.new.self.walk k n j left whole (i.rest tells) (omega arith) (i.told tells) (e.told tells left (λ z. refl)) in
     let joined : take j rem ++ left ≡ rem = ap (λ (l : List ℕ). take j rem ++ l) all ∙ take-append-drop j rem in
@@ -112,7 +112,7 @@ returns-in-Err-clause-expands g c tells =
     let j = g.I.Input.given c.step.new.input - g.I.Input.given c.args.input.now in
     let rem = g.I.Input.remaining c.args.input.now in
     let left = g.I.Input.remaining c.step.new.input in
-    let all = rest_more rem (g.I.Input.remaining c.steps.input) left k n j (i.rest tells) (e.rest tells) (omega arith) in
+    let all = rest_more rem (g.I.Input.remaining c.steps.input) left k n j (i.rest tells) (e.input.rest tells) (omega arith) in
     let joined : take j rem ++ left ≡ rem = ap (λ (l : List ℕ). take j rem ++ l) all ∙ take-append-drop j rem in
     refused_found rem (outcome rem) c.in-Err.fault (g.O.Output.written c.args.output.now) (g.O.Output.written c.step.new.output) (is_so rem (g.met.I.Input.are_bytes c.args.input.now tells)) (refusal (outcome rem) c.in-Err.fault (g.O.Output.written c.args.output.now) (g.O.Output.written c.step.new.output)
     (unless_map c.in-Err.fault _ _ (λ step. rw (joined, e.stands, append-nil) at (told_more (g.O.Output.written c.args.output.now) (g.O.Output.written c.steps.output) (g.O.Output.written c.step.new.output) rem (g.I.Input.remaining c.steps.input)

@@ -9,7 +9,8 @@ returns-clause-lists g c tells =
     let r = c.part-taken.result.received in
     let rem = g.I.Input.remaining c.args.input.now in
     let left = g.I.Input.remaining c.part-taken.new.input in
-    let joined : take r rem ++ left ≡ rem = ap (λ (l : List ℕ). take r rem ++ l) (p.rest tells) ∙ take-append-drop r rem in
+    let k : g.I.Input.given c.part-taken.new.input - g.I.Input.given c.args.input.now ≡ r = omega arith in
+    let joined : take r rem ++ left ≡ rem = ap (λ (l : List ℕ). take r rem ++ l) (rw k at (p.input.rest tells)) ∙ take-append-drop r rem in
     rw c.answer.ensures (lists_to c.part-taken.result.part c.args.walk.now c.part-taken.new.self (take r rem) left rem joined (p.lists tells left (λ f. refl)))
 
 pub returns-clause-moves : goal.returns-clause-moves
@@ -17,7 +18,7 @@ returns-clause-moves g c =
     let p = c.part-taken.ensures in
     let r = c.part-taken.result.received in
     let k : g.I.Input.given c.part-taken.new.input - g.I.Input.given c.args.input.now ≡ r = omega arith in
-    rw (k, c.answer.ensures) (moves_on c.part-taken.result.part c.args.walk.now c.part-taken.new.self r c.max-all.result p.moved p.empties (omega arith))
+    rw (k, c.answer.ensures) (moves_on c.part-taken.result.part c.args.walk.now c.part-taken.new.self r c.max-all.result p.turn.moved p.empties (omega arith))
 
 pub returns-clause-clean : goal.returns-clause-clean
 returns-clause-clean g c =

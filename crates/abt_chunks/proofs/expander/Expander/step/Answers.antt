@@ -13,7 +13,7 @@ returns-in-Ok-clause-told g c tells t e =
     let k : g.I.Input.given c.part-taken.new.input - g.I.Input.given c.args.input.now ≡ r = omega arith in
     rw (k, c.answer.ensures) (onward c.args.self.now.walk c.part-taken.new.self (g.I.Input.remaining c.part-taken.new.input) (take r rem) t c.part-taken.new.w.bytes
     (g.O.Output.written c.args.output.now) (g.O.Output.written c.write_part-done.new.output) r (p.window tells) q
-    (p.says tells t (λ f. e (rw c.answer.ensures (fault_errs q f)))) p.leaves p.moved c.in-Ok.ensures.ok)
+    (p.says tells t (λ f. e (rw c.answer.ensures (fault_errs q f)))) p.turn.leaves p.turn.moved c.in-Ok.ensures.ok)
 
 pub returns-in-Ok-clause-begun : goal.returns-in-Ok-clause-begun
 returns-in-Ok-clause-begun g c tells =
@@ -22,7 +22,7 @@ returns-in-Ok-clause-begun g c tells =
     let rem = g.I.Input.remaining c.args.input.now in
     let k : g.I.Input.given c.part-taken.new.input - g.I.Input.given c.args.input.now ≡ r = omega arith in
     rw k (begins c.args.self.now.walk c.part-taken.new.self (g.I.Input.remaining c.part-taken.new.input) (take r rem) c.part-taken.new.w.bytes
-    (g.O.Output.written c.args.output.now) (g.O.Output.written c.write_part-done.new.output) r _ (p.window tells) c.part-taken.result.part (p.says tells) p.moved c.write_part-done.ensures.front)
+    (g.O.Output.written c.args.output.now) (g.O.Output.written c.write_part-done.new.output) r _ (p.window tells) c.part-taken.result.part (p.says tells) p.turn.moved c.write_part-done.ensures.front)
 
 pub returns-in-Err-clause-begun : goal.returns-in-Err-clause-begun
 returns-in-Err-clause-begun g c tells =
@@ -31,7 +31,7 @@ returns-in-Err-clause-begun g c tells =
     let rem = g.I.Input.remaining c.args.input.now in
     let k : g.I.Input.given c.part-taken.new.input - g.I.Input.given c.args.input.now ≡ r = omega arith in
     rw k (begins c.args.self.now.walk c.part-taken.new.self (g.I.Input.remaining c.part-taken.new.input) (take r rem) c.part-taken.new.w.bytes
-    (g.O.Output.written c.args.output.now) (g.O.Output.written c.write_part-done.new.output) r _ (p.window tells) c.part-taken.result.part (p.says tells) p.moved c.write_part-done.ensures.front)
+    (g.O.Output.written c.args.output.now) (g.O.Output.written c.write_part-done.new.output) r _ (p.window tells) c.part-taken.result.part (p.says tells) p.turn.moved c.write_part-done.ensures.front)
 
 pub returns-in-Ok-clause-held : goal.returns-in-Ok-clause-held
 returns-in-Ok-clause-held g c tells =
@@ -41,7 +41,7 @@ returns-in-Ok-clause-held g c tells =
     let rem = g.I.Input.remaining c.args.input.now in
     let k : g.I.Input.given c.part-taken.new.input - g.I.Input.given c.args.input.now ≡ r = omega arith in
     rw (k, c.answer.ensures) (held_part c.args.self.now.walk c.part-taken.new.self (g.I.Input.remaining c.part-taken.new.input) (take r rem) c.part-taken.new.w.bytes
-    (g.O.Output.written c.args.output.now) (g.O.Output.written c.write_part-done.new.output) r (p.window tells) q (p.says tells) p.leaves p.moved c.in-Ok.ensures.ok)
+    (g.O.Output.written c.args.output.now) (g.O.Output.written c.write_part-done.new.output) r (p.window tells) q (p.says tells) p.turn.leaves p.turn.moved c.in-Ok.ensures.ok)
 
 pub returns-in-Ok-clause-clean : goal.returns-in-Ok-clause-clean
 returns-in-Ok-clause-clean g c =

@@ -14,7 +14,7 @@ lay_part-done-requires-clause-fits g c =
     let size = g.P.Source.size c.args.partition.now in
     let short : is_short_of s size ≡ false = ap (λ (k : ℕ). is_short_of s k) (sym c.length.ensures.size) ∙ sym c.is_short.ensures ∙ c.if-is_short.false in
     let small : need_of s < 2 ^ 64 = omega (arith, c.need-need.ensures) in
-    rw c.place-at.ensures (room_for s c.part_within-taken.result.part size short c.part_within-taken.ensures.inside small).0
+    rw c.place-at.ensures (room_for s c.part_within-taken.result.part size short c.part_within-taken.ensures.turn.inside small).0
 
 not_short : (s : Walk) (size : ℕ) → is_short_of s size ≡ false → passed s ≡ true → need_of s ≤ size
 not_short s size short q = ltb-false _ _ (ap (λ (b : Bool). b && nat_lt size (need_of s)) (sym q) ∙ short)
@@ -33,11 +33,11 @@ returns-in-Ok-clause-told g c tells =
     let rem = g.I.Input.remaining c.args.input.now in
     let win = c.part_within-taken.new.w.bytes in
     let k : g.I.Input.given c.part_within-taken.new.input - g.I.Input.given c.args.input.now ≡ r = omega arith in
-    let long : r ≤ length win = omega (arith, ap length (p.window tells), length-take r win, length-take r rem, p.present tells) in
+    let long : r ≤ length win = omega (arith, ap length (p.window tells), length-take r win, length-take r rem, p.input.present tells) in
     rw (k, c.answer-answer.ensures) (laid_part g.P.Source.tells c.args.self.now.stage c.args.self.now.walk c.part_within-taken.new.self (take r rem) (g.I.Input.remaining c.part_within-taken.new.input) win
     (g.P.Partition.past c.args.partition.now) (g.P.Partition.past c.lay_part-done.new.partition) (g.P.Source.content c.args.partition.now) (g.P.Source.content c.lay_part-done.new.partition)
     (g.P.Partition.taken c.args.partition.now) (g.P.Partition.taken c.lay_part-done.new.partition) r c.max-all.result (p.window tells) long
-    c.part_within-taken.result.part p.moved p.within p.leaves (p.says tells) p.place e.all
+    c.part_within-taken.result.part p.turn.moved p.within p.turn.leaves (p.says tells) p.place e.all
     (λ t. rw c.place-at.ensures at (e.laid t)) (λ t. rw c.place-at.ensures at (e.kept t)) (λ t. rw c.place-at.ensures at (e.moments t)))
 
 pub returns-in-Err-clause-told : goal.returns-in-Err-clause-told
@@ -48,11 +48,11 @@ returns-in-Err-clause-told g c tells =
     let rem = g.I.Input.remaining c.args.input.now in
     let win = c.part_within-taken.new.w.bytes in
     let k : g.I.Input.given c.part_within-taken.new.input - g.I.Input.given c.args.input.now ≡ r = omega arith in
-    let long : r ≤ length win = omega (arith, ap length (p.window tells), length-take r win, length-take r rem, p.present tells) in
+    let long : r ≤ length win = omega (arith, ap length (p.window tells), length-take r win, length-take r rem, p.input.present tells) in
     rw k (refused_laid g.P.Source.tells c.args.self.now.stage c.args.self.now.walk c.part_within-taken.new.self (take r rem) (g.I.Input.remaining c.part_within-taken.new.input) win
     (g.P.Partition.past c.args.partition.now) (g.P.Partition.past c.lay_part-done.new.partition) (g.P.Source.content c.args.partition.now) (g.P.Source.content c.lay_part-done.new.partition)
     (g.P.Partition.taken c.args.partition.now) (g.P.Partition.taken c.lay_part-done.new.partition) r c.max-all.result (p.window tells) long
-    c.part_within-taken.result.part c.in-Err.fault _ _ p.moved p.within p.leaves (p.says tells) e.cause e.ends e.all (λ t. rw c.place-at.ensures at (e.laid t))
+    c.part_within-taken.result.part c.in-Err.fault _ _ p.turn.moved p.within p.turn.leaves (p.says tells) e.cause e.ends e.all (λ t. rw c.place-at.ensures at (e.laid t))
     (λ t. rw c.place-at.ensures at (e.kept t)) (λ t. rw c.place-at.ensures at (e.moments t)))
 
 pub returns-in-Ok-clause-cause : goal.returns-in-Ok-clause-cause
@@ -65,7 +65,7 @@ pub returns-in-Err-clause-cause : goal.returns-in-Err-clause-cause
 returns-in-Err-clause-cause g c goes = refused_cause c.part_within-taken.result.part c.in-Err.fault _ _ _ _ c.in-Err.ensures.cause c.in-Err.ensures.sound c.part_within-taken.ensures.clean
 
 pub returns-in-Err-clause-leaves : goal.returns-in-Err-clause-leaves
-returns-in-Err-clause-leaves g c goes = refused_leaves c.part_within-taken.result.part c.in-Err.fault _ _ _ c.in-Err.ensures.cause c.in-Err.ensures.ends c.part_within-taken.ensures.leaves
+returns-in-Err-clause-leaves g c goes = refused_leaves c.part_within-taken.result.part c.in-Err.fault _ _ _ c.in-Err.ensures.cause c.in-Err.ensures.ends c.part_within-taken.ensures.turn.leaves
 
 pub returns-in-Err-clause-heads : goal.returns-in-Err-clause-heads
 returns-in-Err-clause-heads g c tells goes =
@@ -74,8 +74,9 @@ returns-in-Err-clause-heads g c tells goes =
     let r = c.part_within-taken.result.received in
     let rem = g.I.Input.remaining c.args.input.now in
     let rest = g.I.Input.remaining c.part_within-taken.new.input in
-    let joined : take r rem ++ rest ≡ rem = ap (λ (l : List ℕ). take r rem ++ l) (p.rest tells) ∙ take-append-drop r rem in
-    refused_heads c.part_within-taken.result.part c.in-Err.fault c.args.self.now.walk c.part_within-taken.new.self rem rest _ _ e.cause e.ends (heads c.part_within-taken.result.part c.args.self.now.walk c.part_within-taken.new.self (take r rem) rest rem joined p.leaves (p.lists tells rest (λ z. refl)))
+    let k : g.I.Input.given c.part_within-taken.new.input - g.I.Input.given c.args.input.now ≡ r = omega arith in
+    let joined : take r rem ++ rest ≡ rem = ap (λ (l : List ℕ). take r rem ++ l) (rw k at (p.input.rest tells)) ∙ take-append-drop r rem in
+    refused_heads c.part_within-taken.result.part c.in-Err.fault c.args.self.now.walk c.part_within-taken.new.self rem rest _ _ e.cause e.ends (heads c.part_within-taken.result.part c.args.self.now.walk c.part_within-taken.new.self (take r rem) rest rem joined p.turn.leaves (p.lists tells rest (λ z. refl)))
 
 pub returns-in-Err-clause-measures : goal.returns-in-Err-clause-measures
 returns-in-Err-clause-measures g c goes =
@@ -91,13 +92,14 @@ returns-in-Ok-clause-heads g c tells goes =
     let r = c.part_within-taken.result.received in
     let rem = g.I.Input.remaining c.args.input.now in
     let rest = g.I.Input.remaining c.part_within-taken.new.input in
-    let joined : take r rem ++ rest ≡ rem = ap (λ (l : List ℕ). take r rem ++ l) (p.rest tells) ∙ take-append-drop r rem in
-    rw c.answer-answer.ensures (heads c.part_within-taken.result.part c.args.self.now.walk c.part_within-taken.new.self (take r rem) rest rem joined p.leaves (p.lists tells rest (λ z. refl)))
+    let k : g.I.Input.given c.part_within-taken.new.input - g.I.Input.given c.args.input.now ≡ r = omega arith in
+    let joined : take r rem ++ rest ≡ rem = ap (λ (l : List ℕ). take r rem ++ l) (rw k at (p.input.rest tells)) ∙ take-append-drop r rem in
+    rw c.answer-answer.ensures (heads c.part_within-taken.result.part c.args.self.now.walk c.part_within-taken.new.self (take r rem) rest rem joined p.turn.leaves (p.lists tells rest (λ z. refl)))
 
 pub returns-in-Ok-clause-fresh : goal.returns-in-Ok-clause-fresh
 returns-in-Ok-clause-fresh g c goes =
     let p = c.part_within-taken.ensures in
-    rw c.answer-answer.ensures (fresh_goes c.part_within-taken.result.part c.args.self.now.walk c.part_within-taken.new.self c.part_within-taken.result.received c.max-all.result _ (going_phase c.args.self.now.stage c.args.self.now.walk.phase goes) p.numbers p.leaves p.moved p.within p.inside c.in-Ok.ensures.still)
+    rw c.answer-answer.ensures (fresh_goes c.part_within-taken.result.part c.args.self.now.walk c.part_within-taken.new.self c.part_within-taken.result.received c.max-all.result _ (going_phase c.args.self.now.stage c.args.self.now.walk.phase goes) p.turn.numbers p.turn.leaves p.turn.moved p.within p.turn.inside c.in-Ok.ensures.still)
 
 pub lay_part-done-requires-clause-below : goal.lay_part-done-requires-clause-below
 lay_part-done-requires-clause-below g c =
@@ -105,7 +107,7 @@ lay_part-done-requires-clause-below g c =
     let size = g.P.Source.size c.args.partition.now in
     let short : is_short_of s size ≡ false = ap (λ (k : ℕ). is_short_of s k) (sym c.length.ensures.size) ∙ sym c.is_short.ensures ∙ c.if-is_short.false in
     let small : need_of s < 2 ^ 64 = omega (arith, c.need-need.ensures) in
-    rw c.place-at.ensures (room_for s c.part_within-taken.result.part size short c.part_within-taken.ensures.inside small).1
+    rw c.place-at.ensures (room_for s c.part_within-taken.result.part size short c.part_within-taken.ensures.turn.inside small).1
 
 put_small : (at put : ℕ) → at + put < 2 ^ 64 → put < 2 ^ 64
 put_small at put h = omega (arith, h)
@@ -116,16 +118,13 @@ bytes_put-requires g c =
     let size = g.P.Source.size c.args.partition.now in
     let short : is_short_of s size ≡ false = ap (λ (k : ℕ). is_short_of s k) (sym c.length.ensures.size) ∙ sym c.is_short.ensures ∙ c.if-is_short.false in
     let small : need_of s < 2 ^ 64 = omega (arith, c.need-need.ensures) in
-    put_small _ _ (room_for s c.part_within-taken.result.part size short c.part_within-taken.ensures.inside small).1
-
-received : (n n' r k : ℕ) → n' ≡ n + r → r ≤ k → n' - n ≤ k
-received n n' r k e le = omega (arith, e, le)
+    put_small _ _ (room_for s c.part_within-taken.result.part size short c.part_within-taken.ensures.turn.inside small).1
 
 pub returns-in-Ok-clause-present : goal.returns-in-Ok-clause-present
-returns-in-Ok-clause-present g c tells = let p = c.part_within-taken.ensures in received _ _ _ _ p.received (p.present tells)
+returns-in-Ok-clause-present g c tells = let p = c.part_within-taken.ensures in p.input.present tells
 
 pub returns-in-Err-clause-present : goal.returns-in-Err-clause-present
-returns-in-Err-clause-present g c tells = let p = c.part_within-taken.ensures in received _ _ _ _ p.received (p.present tells)
+returns-in-Err-clause-present g c tells = let p = c.part_within-taken.ensures in p.input.present tells
 
 pub returns-in-Err-clause-put_faults : goal.returns-in-Err-clause-put_faults
 returns-in-Err-clause-put_faults g c = faults_rise c.in-Err.fault _ _ c.in-Err.ensures.cause
@@ -133,20 +132,20 @@ returns-in-Err-clause-put_faults g c = faults_rise c.in-Err.fault _ _ c.in-Err.e
 pub returns-in-Ok-clause-begins : goal.returns-in-Ok-clause-begins
 returns-in-Ok-clause-begins g c =
     let p = c.part_within-taken.ensures in
-    rw c.answer-answer.ensures (begins_of c.part_within-taken.result.part c.args.self.now.walk c.part_within-taken.new.self c.part_within-taken.result.received p.leaves p.numbers (λ over. ap (λ (s : Walk). s.phase) (p.over over).0))
+    rw c.answer-answer.ensures (begins_of c.part_within-taken.result.part c.args.self.now.walk c.part_within-taken.new.self c.part_within-taken.result.received p.turn.leaves p.turn.numbers (λ over. ap (λ (s : Walk). s.phase) (p.over over).0))
 
 pub returns-in-Ok-clause-header : goal.returns-in-Ok-clause-header
 returns-in-Ok-clause-header g c =
     let p = c.part_within-taken.ensures in
-    rw c.answer-answer.ensures (on_more c.part_within-taken.result.part _ (λ goes. p.header))
+    rw c.answer-answer.ensures (on_more c.part_within-taken.result.part _ (λ goes. p.turn.header))
 
 pub returns-in-Ok-clause-fewer : goal.returns-in-Ok-clause-fewer
 returns-in-Ok-clause-fewer g c =
     let p = c.part_within-taken.ensures in
-    rw c.answer-answer.ensures (on_more c.part_within-taken.result.part _ p.fewer)
+    rw c.answer-answer.ensures (on_more c.part_within-taken.result.part _ p.turn.fewer)
 
 pub returns-in-Ok-clause-leaves : goal.returns-in-Ok-clause-leaves
-returns-in-Ok-clause-leaves g c goes = rw c.answer-answer.ensures (answer_leaves c.part_within-taken.result.part _ c.part_within-taken.ensures.leaves)
+returns-in-Ok-clause-leaves g c goes = rw c.answer-answer.ensures (answer_leaves c.part_within-taken.result.part _ c.part_within-taken.ensures.turn.leaves)
 
 pub returns-in-Ok-clause-short : goal.returns-in-Ok-clause-short
 returns-in-Ok-clause-short g c = rw c.answer-answer.ensures (never_short c.part_within-taken.result.part _)

@@ -5,7 +5,7 @@ use Rattle.abt_verify.proofs.verifier.Verifier.step.Goals.{in-None, in-Some}
 
 pub compare_part-done-requires-clause-below : goal.compare_part-done-requires-clause-below
 compare_part-done-requires-clause-below g c =
-    omega (arith, c.place-at.ensures, c.part_within-taken.ensures.inside, said_le c.part_within-taken.result.part, c.is_in_range.ensures)
+    omega (arith, c.place-at.ensures, c.part_within-taken.ensures.turn.inside, said_le c.part_within-taken.result.part, c.is_in_range.ensures)
 
 pub returns-after-done-clause-told : goal.returns-after-done-clause-told
 returns-after-done-clause-told g c tells goes =
@@ -21,14 +21,14 @@ returns-after-done-clause-told g c tells goes =
     let given = g.P.Source.given c.args.partition.now in
     let given' = g.P.Source.given c.compare_part-done.new.partition in
     let k : g.I.Input.given c.part_within-taken.new.input - g.I.Input.given c.args.input.now ≡ r = omega arith in
-    let long : r ≤ length win = omega (arith, ap length (p.window tells), length-take r win, length-take r rem, p.present tells) in
+    let long : r ≤ length win = omega (arith, ap length (p.window tells), length-take r win, length-take r rem, p.input.present tells) in
     rw k (elim c.match-done.branch [
       | in-Some w ↦ rw w.answer-is (refused_part g.P.Source.tells s c.part_within-taken.new.self (take r rem) rest win there given given' r 8192 c.max-all.result (p.window tells) long
-          q w.in-Some.fault _ _ (rw w.in-Some.is at d.cause) (λ still. sym w.in-Some.is ∙ (d.still still).0) p.moved p.leaves (p.says tells)
+          q w.in-Some.fault _ _ (rw w.in-Some.is at d.cause) (λ still. sym w.in-Some.is ∙ (d.still still).0) p.turn.moved p.turn.leaves (p.says tells)
           (λ t. rw (c.place-at.ensures, w.in-Some.is) at (d.differs t)))
       | in-None w ↦
           let all = rw w.in-None.is at d.all in
           rw (w.answer-is, w.answer-answer.ensures) (compared_part g.P.Source.tells s c.part_within-taken.new.self (take r rem) rest win there given given' r 8192 c.max-all.result (p.window tells) long
-          q _ _ (going_phase c.args.self.now.stage s.phase goes) p.cause p.moved p.within p.leaves (p.says tells) p.place (omega (arith, d.given, all))
+          q _ _ (going_phase c.args.self.now.stage s.phase goes) p.cause p.turn.moved p.within p.turn.leaves (p.says tells) p.place (omega (arith, d.given, all))
           (λ t. rw (c.place-at.ensures, w.in-None.is) at (d.stands t)))
     ])
