@@ -13,8 +13,6 @@ use Rattle.abt_chunks.specs.declared.walk.Walk.{Walk}
 use Rattle.abt_chunks.specs.declared.feed.Puller.{Puller}
 use Rattle.abt_chunks.specs.declared.feed.Pull.{Pull}
 use Rattle.abt_chunks.specs.declared.feed.Pull.TheVariants as pulls
-use Rattle.abt_chunks.specs.Pulling.{IsLent}
-use Rattle.abt_chunks.specs.Places as places
 use Rattle.abt_c.specs.declared.state.AbtPart.{AbtPart}
 use Rattle.abt_c.specs.declared.state.AbtSparse.{AbtSparse}
 use Rattle.abt_c.specs.Standing.{Stands, IsLeft, kept_fault, kind_or, phase_number, place_in, place_of}
@@ -58,26 +56,6 @@ not_spoiled (pulls.Gives parts.Nothing) o is e = absurd (omega (arith, is.1, e))
 not_spoiled (pulls.Gives parts.End) o is e = absurd (omega (arith, is.1, e))
 not_spoiled (pulls.Gives (parts.Fault f)) o is e = absurd (omega (arith, is.1, e, number_low f))
 
--- only a refusal has a fault
-pub kind_fault : (q : Pull) (o : AbtPart) → PartIs q o → (o.kind ≡ 6) ↔ (0 < o.fault)
-kind_fault pulls.Need o is = (λ e. absurd (omega (arith, is.0, e)), λ e. absurd (omega (arith, is.1, e)))
-kind_fault (pulls.Gives (parts.Raw n)) o is = (λ e. absurd (omega (arith, is.0, e)), λ e. absurd (omega (arith, is.1, e)))
-kind_fault (pulls.Gives (parts.Words word n)) o is = (λ e. absurd (omega (arith, is.0, e)), λ e. absurd (omega (arith, is.1, e)))
-kind_fault (pulls.Gives (parts.Skip n)) o is = (λ e. absurd (omega (arith, is.0, e)), λ e. absurd (omega (arith, is.1, e)))
-kind_fault (pulls.Gives parts.Nothing) o is = (λ e. absurd (omega (arith, is.0, e)), λ e. absurd (omega (arith, is.1, e)))
-kind_fault (pulls.Gives parts.End) o is = (λ e. absurd (omega (arith, is.0, e)), λ e. absurd (omega (arith, is.1, e)))
-kind_fault (pulls.Gives (parts.Fault f)) o is = (λ e. omega (arith, is.1, number_some f), λ e. is.0)
-
--- raw bytes lie within what was used
-pub lent_within : (q : Pull) (used : ℕ) (o : AbtPart) → PartIs q o → IsLent q used → o.used ≡ used → o.offset ≡ 0 → o.kind ≡ 1 → o.offset + o.length ≤ o.used
-lent_within pulls.Need used o is lent u z e = absurd (omega (arith, is.0, e))
-lent_within (pulls.Gives (parts.Raw n)) used o is lent u z e = omega (arith, is.2, lent, u, z)
-lent_within (pulls.Gives (parts.Words word n)) used o is lent u z e = absurd (omega (arith, is.0, e))
-lent_within (pulls.Gives (parts.Skip n)) used o is lent u z e = absurd (omega (arith, is.0, e))
-lent_within (pulls.Gives parts.Nothing) used o is lent u z e = absurd (omega (arith, is.0, e))
-lent_within (pulls.Gives parts.End) used o is lent u z e = absurd (omega (arith, is.0, e))
-lent_within (pulls.Gives (parts.Fault f)) used o is lent u z e = absurd (omega (arith, is.0, e))
-
 -- ---- states that were left
 
 kept_in : (q : Phase) (n : ℕ) → 3 ≤ phase_number q → n ≡ kept_fault q → (0 < n) × (n ≤ 12)
@@ -89,17 +67,3 @@ kept_in (phases.Failed f) n lt e = (omega (arith, e, number_some f), omega (arit
 -- one that has failed keeps the fault of an image
 pub kept : (s : AbtSparse) → IsLeft s → 3 ≤ s.phase → (0 < s.fault) × (s.fault ≤ 12)
 kept s l lt = kept_in l.puller.walk.phase s.fault (let e = l.stands.phase in omega (arith, e, lt)) l.fault
-
-pub not_kept : (n m : ℕ) → n ≡ m → m ≤ 12 → n ≡ 90 → ⊥
-not_kept n m e le q = absurd (omega (arith, e, le, q))
-
-place_at : (q : Phase) (w : Walk) → place_in (phase_number q) w.kind w.have w.header.blk_sz w.raw w.words ≡ places.place_in q w
-place_at phases.Header w = refl
-place_at phases.Body w = refl
-place_at phases.Done w = refl
-place_at (phases.Failed f) w = refl
-
-pub place_is : (s : AbtSparse) (p : Puller) → Stands s p → places.place_of p.walk ≡ place_of s
-place_is s p e =
-    let size : s.blk_sz ≡ p.walk.header.blk_sz = ap (λ (h : Header). h.blk_sz) e.header in
-    sym (rw (e.phase, e.kind, e.have, size, e.raw, e.words) (place_at p.walk.phase p.walk))

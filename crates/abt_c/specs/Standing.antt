@@ -34,7 +34,15 @@ kept_detail (phases.Failed f) = detail_of f
 kept_detail p = 0
 
 abbrev pub header_of : AbtSparse → Header
-header_of s = record { minor = s.minor; file_hdr_sz = s.file_hdr_sz; chunk_hdr_sz = s.chunk_hdr_sz; blk_sz = s.blk_sz; total_blks = s.total_blks; total_chunks = s.total_chunks; image_checksum = s.image_checksum }
+header_of s = record {
+  minor = s.minor;
+  file_hdr_sz = s.file_hdr_sz;
+  chunk_hdr_sz = s.chunk_hdr_sz;
+  blk_sz = s.blk_sz;
+  total_blks = s.total_blks;
+  total_chunks = s.total_chunks;
+  image_checksum = s.image_checksum;
+}
 
 -- a state and the machine of the same numbers
 pub record Stands (s : AbtSparse) (p : Puller) : Type 0 where
@@ -81,18 +89,23 @@ front_of s = take s.count s.held
 
 abbrev pub coming_of : ℕ → ChunkKind → Bool → Header → ℕ → ℕ → ℕ → ℕ → ℕ → List ℕ → ℕ → List ℕ → Ahead
 coming_of phase k due h index have extra raw words word position y =
-    if phase == 0 then seen (outcome y) else if phase == 1 then walk k due h index have extra raw words word (position + length y) y else record { cells = []; ending = Ok (h, y) }
+    if phase == 0 then seen (outcome y)
+    else if phase == 1 then walk k due h index have extra raw words word (position + length y) y
+    else record { cells = []; ending = Ok (h, y) }
 
 -- what lies ahead of a state that has not failed, where these bytes are still to be given
 abbrev pub coming : AbtSparse → List ℕ → Ahead
-coming s y = coming_of s.phase (kind_of s) (s.due == 1) (header_of s) s.index s.have s.extra s.raw s.words s.word s.position (front_of s ++ y)
+coming s y =
+    coming_of s.phase (kind_of s) (s.due == 1) (header_of s) s.index s.have s.extra s.raw s.words s.word s.position
+    (front_of s ++ y)
 
 -- ---- what a call says
 
 -- of what lay ahead, whatever bytes t follow those that were used
 abbrev pub StateSays : Pull → AbtSparse → AbtSparse → List ℕ → List ℕ → Type 0
 StateSays pulls.Need s s' c t = coming s (c ++ t) ≡ coming s' t
-StateSays (pulls.Gives (parts.Raw n)) s s' c t = (length (front_of s ++ c) ≡ n) × (coming s (c ++ t) ≡ before (somes (front_of s ++ c)) (coming s' t))
+StateSays (pulls.Gives (parts.Raw n)) s s' c t = (length (front_of s ++ c) ≡ n)
+    × (coming s (c ++ t) ≡ before (somes (front_of s ++ c)) (coming s' t))
 StateSays (pulls.Gives (parts.Words word n)) s s' c t = coming s (c ++ t) ≡ before (fills n word) (coming s' t)
 StateSays (pulls.Gives (parts.Skip n)) s s' c t = coming s (c ++ t) ≡ before (gaps n) (coming s' t)
 StateSays (pulls.Gives parts.Nothing) s s' c t = coming s (c ++ t) ≡ coming s' t

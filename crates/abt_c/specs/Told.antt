@@ -38,7 +38,8 @@ section_at (q ∷ qs) (suc i) = section_at qs i
 -- the sections, in their order
 pub record Shows (ps : List Place) (o : AbtBoot) : Type 0 where
   pub count : o.count ≡ length ps
-  pub sections : o.sections ≡ section_at ps 0 ∷ section_at ps 1 ∷ section_at ps 2 ∷ section_at ps 3 ∷ section_at ps 4 ∷ []
+  pub sections : o.sections
+      ≡ section_at ps 0 ∷ section_at ps 1 ∷ section_at ps 2 ∷ section_at ps 3 ∷ section_at ps 4 ∷ []
 
 pub record TellsBoot (h : BootHeader) (o : AbtBoot) : Type 0 where
   pub fault : o.fault ≡ 0

@@ -9,6 +9,7 @@ use Rattle.abt_sparse.specs.declared.kind.ChunkKind.TheVariants as kinds
 use Rattle.abt_sparse.specs.Block.{split}
 use Rattle.abt_sparse.specs.Chunk.{Header, Chunk}
 use Rattle.abt_sparse.specs.Reading.{checked_header, data_len, counted, chunk_from, partial_of, Got, Bad, chunk_at, ChunksRead, Done, Failed, behind, chunks_at}
+use Rattle.abt_sparse.proofs.ChunkLaws.{length-split}
 use Rattle.abt_sparse.proofs.Exactly.{chunks-got, chunks-bad}
 use Rattle.abt_sparse.specs.View.{view}
 use Rattle.abt_chunks.specs.declared.progress.ChunkInfo.{ChunkInfo}
@@ -122,10 +123,6 @@ lacks_data kinds.Raw n b = refl
 lacks_data kinds.Fill n b = refl
 lacks_data kinds.Skip n b = refl
 lacks_data kinds.Crc n b = refl
-
-length-split : (b n : ℕ) (d : List ℕ) → length (split b n d) ≡ n
-length-split b zero d = refl
-length-split b (suc n) d = ap suc (length-split b n (drop b d))
 
 info_made : (i b : ℕ) (k : ChunkKind) (n : ℕ) (word y : List ℕ)
     → info_of i (chunk_from b k n (take (data_len b k n) y)) ≡ record { index = i; kind = k; blocks = counted k n; word = word_shown k (due_of k) word y }

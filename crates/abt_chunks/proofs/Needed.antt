@@ -140,6 +140,3 @@ needed_more w0 w rem rem' s k n j bytes rest same long few told before m lt = el
       let here : (seen (outcome (take m rem))).ending ≡ Err (Truncated c.at) = rw all at ending in
       ends (take m rem) (outcome (take m rem)) c.at (is_so (take m rem) (bytes_of_take m rem bytes)) here
 ]
-
-pub needed_none : (x : List ℕ) (n : ℕ) → n ≡ 0 → AllNeeded x n
-needed_none x n e m lt = absurd (omega arith)

@@ -178,9 +178,6 @@ skip_cells b n four = cells-skips b n ∙ ap (λ (j : ℕ). replicate j None) (w
   words_long : (b n : ℕ) → b % 4 ≡ 0 → n * b ≡ 4 * (n * (b / 4))
   words_long b n four = let e : b ≡ 4 * (b / 4) = omega arith in ap (λ (j : ℕ). n * j) e ∙ omega arith
 
-before_nothing : (a : Ahead) → before [] a ≡ a
-before_nothing a = refl
-
 -- what the chunk gives, by its kind
 made_cells : (h : Header) → h.blk_sz % 4 ≡ 0 → (k : ChunkKind) (n : ℕ) (d : List ℕ) → length d ≡ data_len h.blk_sz k n → (size i have : ℕ) (word rest : List ℕ)
     → before (cells h.blk_sz (blocks_of (chunk_from h.blk_sz k n d))) (chunks_ahead h size i have rest)

@@ -21,7 +21,7 @@ use abt_io::{Input, Meter, Output, Window};
 use abt_sparse::{ChunkKind, SparseFault, data_length};
 
 /// What a step answers once its part has been written.
-pub fn answer(part: Part) -> Result<Progress, SparseFault>
+pub(crate) fn answer(part: Part) -> Result<Progress, SparseFault>
     ensures { result ≡ answer_of part }
 {
     match part {

@@ -9,7 +9,7 @@ use crate::walk::Part;
 use abt_io::{DeviceFault, Meter, Output, WORDS, Window, lay_word, write_out};
 
 /// Writes what a part gives where nothing was before, which of a gap is zeros. Raw bytes are taken from the window.
-pub fn write_part<O: Output>(
+pub(crate) fn write_part<O: Output>(
     part: Part,
     output: &mut O,
     w: &mut Window,

@@ -7,7 +7,7 @@ ghost use Rattle.abt_chunks.specs.ListingAhead.{is_spent};
 use abt_sparse::ChunkKind;
 
 /// How many bytes of the chunk's blocks are still to be given.
-pub fn bytes_left(kind: ChunkKind, raw: u64, words: u64) -> u64
+pub(crate) fn bytes_left(kind: ChunkKind, raw: u64, words: u64) -> u64
     requires { left_of kind raw words < 2 ^ 64 }
     ensures { result ≡ left_of kind raw words }
 {
@@ -20,7 +20,7 @@ pub fn bytes_left(kind: ChunkKind, raw: u64, words: u64) -> u64
 }
 
 /// How many raw bytes are to be read of it.
-pub fn raw_bytes(kind: ChunkKind, blocks: u32, block_size: u32) -> u64
+pub(crate) fn raw_bytes(kind: ChunkKind, blocks: u32, block_size: u32) -> u64
     ensures { result ≡ raw_of kind blocks block_size }
 {
     match kind {
@@ -30,7 +30,7 @@ pub fn raw_bytes(kind: ChunkKind, blocks: u32, block_size: u32) -> u64
 }
 
 /// Whether its data is one word.
-pub fn has_word(kind: ChunkKind) -> bool
+pub(crate) fn has_word(kind: ChunkKind) -> bool
     ensures { result ≡ due_of kind }
 {
     match kind {
@@ -41,7 +41,7 @@ pub fn has_word(kind: ChunkKind) -> bool
 }
 
 /// How many words of four bytes it gives without reading them.
-pub fn laid_words(kind: ChunkKind, blocks: u32, block_size: u32) -> u64
+pub(crate) fn laid_words(kind: ChunkKind, blocks: u32, block_size: u32) -> u64
     ensures { result ≡ words_of kind blocks block_size }
 {
     match kind {
@@ -52,7 +52,7 @@ pub fn laid_words(kind: ChunkKind, blocks: u32, block_size: u32) -> u64
 }
 
 /// Whether nothing is left of such a chunk, neither of its data nor of the words that it gives.
-pub fn nothing_left(kind: ChunkKind, due: bool, raw: u64, words: u64) -> bool
+pub(crate) fn nothing_left(kind: ChunkKind, due: bool, raw: u64, words: u64) -> bool
     ensures { result ≡ is_spent kind due raw words }
 {
     match kind {

@@ -26,7 +26,7 @@
 //! | `Whole`, `Expanding` | what an expansion answers and writes, whole and in steps |
 //! | `Ahead`, `Parts` | what the rest of an input gives to a walk, and what a part says of that |
 //! | `Turns`, `Places` | what a walk does next, and where it stands in the expanded image |
-//! | `Listing`, `ListingAhead`, `Showing` | what a listing shows of an image, what it still shows, and what its calls answer |
+//! | `Listing`, `ListingAhead`, `Showing` | what a listing shows, what it still shows, and what its calls answer |
 //! | `Feeding`, `Pulling` | what a walk that is fed in pieces holds, and what a pull says |
 //! | `Taking` | what each turn and each call that reads leaves |
 //! | `Cause` | who is to blame for a refusal, and how much was read before it was known |

@@ -12,7 +12,7 @@ use abt_sparse::{ChunkKind, SparseFault, data_length};
 
 impl Walk {
     /// Stops the walk: from now on every step answers this fault.
-    pub fn fail(&mut self, fault: SparseFault) -> Part
+    pub(crate) fn fail(&mut self, fault: SparseFault) -> Part
         ensures part { result ≡ Part.Fault fault }
         ensures failed { self.new.phase ≡ Phase.Failed fault }
         ensures header { self.new.header ≡ self.old.header }

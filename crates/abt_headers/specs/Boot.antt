@@ -1,4 +1,5 @@
--- The boot header (`boot_img_hdr_v0` to `boot_img_hdr_v4` of AOSP's `bootimg.h`): its bytes, what reading them gives, and the sections behind it.
+-- The boot header (`boot_img_hdr_v0` to `boot_img_hdr_v4` of AOSP's `bootimg.h`): its bytes, what reading them gives,
+-- and the sections behind it.
 use Rattle.std.specs.Prelude.{ℕ, ◌==◌, not, if◌then◌else◌, List, [], ◌∷◌, ◌++◌, Result, Ok, Err}
 use Rattle.byteorder.specs.Endian.{little_bytes}
 use Rattle.abt_headers.specs.declared.fault.HeaderFault.{HeaderFault}
@@ -46,7 +47,8 @@ front_fields version f = front_numbers version f ++ (f.name ∷ f.cmdline ∷ f.
 
 -- versions 1 and 2, bytes 1,632 to 1,647
 abbrev pub dtbo_fields : DtboFields → List (List ℕ)
-dtbo_fields d = little_bytes 4 d.recovery_dtbo_size ∷ little_bytes 8 d.recovery_dtbo_offset ∷ little_bytes 4 d.header_size ∷ []
+dtbo_fields d =
+    little_bytes 4 d.recovery_dtbo_size ∷ little_bytes 8 d.recovery_dtbo_offset ∷ little_bytes 4 d.header_size ∷ []
 
 -- version 2, bytes 1,648 to 1,659
 abbrev pub dtb_fields : DtbFields → List (List ℕ)
@@ -110,7 +112,11 @@ front_at page x = record {
 }
 
 unfoldable pub dtbo_at : List ℕ → DtboFields
-dtbo_at x = record { recovery_dtbo_size = number_at 1632 4 x; recovery_dtbo_offset = number_at 1636 8 x; header_size = number_at 1644 4 x }
+dtbo_at x = record {
+  recovery_dtbo_size = number_at 1632 4 x;
+  recovery_dtbo_offset = number_at 1636 8 x;
+  header_size = number_at 1644 4 x;
+}
 
 unfoldable pub dtb_at : List ℕ → DtbFields
 dtb_at x = record { dtb_size = number_at 1648 4 x; dtb_addr = number_at 1652 8 x }
@@ -130,12 +136,14 @@ unfoldable pub boot_of : ℕ → List ℕ → Result BootHeader HeaderFault
 boot_of version x =
     if version == 0 then mapped (needing 1632 x (page_at 36 x)) (λ page. V0 (front_at page x))
     else if version == 1 then mapped (needing 1648 x (page_at 36 x)) (λ page. V1 (front_at page x) (dtbo_at x))
-    else if version == 2 then mapped (needing 1660 x (page_at 36 x)) (λ page. V2 (front_at page x) (dtbo_at x) (dtb_at x))
+    else if version == 2
+    then mapped (needing 1660 x (page_at 36 x)) (λ page. V2 (front_at page x) (dtbo_at x) (dtb_at x))
     else if version == 3 then needing 1580 x (Ok (V3 (short_at x)))
     else if version == 4 then needing 1584 x (Ok (V4 (short_at x) (number_at 1580 4 x)))
     else Err (faults.Version version)
 
--- the header at the front of x, or the first fault: the magic (`boot_magic` as a number), the version, and then what the version asks for
+-- the header at the front of x, or the first fault: the magic (`boot_magic` as a number), the version, and then what
+-- the version asks for
 unfoldable pub boot_at : List ℕ → Result BootHeader HeaderFault
 boot_at x =
     needing 8 x (if not (number_at 0 8 x == 0x2144494f52444e41) then Err faults.Magic
@@ -153,8 +161,10 @@ boot_page (V4 f signature) = 4096
 -- in their order, each with its size
 abbrev pub boot_sections : BootHeader → List (Section × ℕ)
 boot_sections (V0 f) = (Kernel, f.kernel_size) ∷ (Ramdisk, f.ramdisk_size) ∷ (Second, f.second_size) ∷ []
-boot_sections (V1 f d) = (Kernel, f.kernel_size) ∷ (Ramdisk, f.ramdisk_size) ∷ (Second, f.second_size) ∷ (RecoveryDtbo, d.recovery_dtbo_size) ∷ []
-boot_sections (V2 f d t) = (Kernel, f.kernel_size) ∷ (Ramdisk, f.ramdisk_size) ∷ (Second, f.second_size) ∷ (RecoveryDtbo, d.recovery_dtbo_size) ∷ (Dtb, t.dtb_size) ∷ []
+boot_sections (V1 f d) = (Kernel, f.kernel_size) ∷ (Ramdisk, f.ramdisk_size) ∷ (Second, f.second_size)
+    ∷ (RecoveryDtbo, d.recovery_dtbo_size) ∷ []
+boot_sections (V2 f d t) = (Kernel, f.kernel_size) ∷ (Ramdisk, f.ramdisk_size) ∷ (Second, f.second_size)
+    ∷ (RecoveryDtbo, d.recovery_dtbo_size) ∷ (Dtb, t.dtb_size) ∷ []
 boot_sections (V3 f) = (Kernel, f.kernel_size) ∷ (Ramdisk, f.ramdisk_size) ∷ []
 boot_sections (V4 f signature) = (Kernel, f.kernel_size) ∷ (Ramdisk, f.ramdisk_size) ∷ (Signature, signature) ∷ []
 

@@ -1,4 +1,5 @@
--- The vendor boot header (`vendor_boot_img_hdr_v3` and `vendor_boot_img_hdr_v4` of AOSP's `bootimg.h`): its bytes, what reading them gives, and the sections behind it.
+-- The vendor boot header (`vendor_boot_img_hdr_v3` and `vendor_boot_img_hdr_v4` of AOSP's `bootimg.h`): its bytes,
+-- what reading them gives, and the sections behind it.
 use Rattle.std.specs.Prelude.{ℕ, ◌*◌, ◌==◌, ◌||◌, not, if◌then◌else◌, List, [], ◌∷◌, ◌++◌, Option, Some, None, Result, Ok, Err}
 use Rattle.byteorder.specs.Endian.{little_bytes}
 use Rattle.abt_headers.specs.declared.fault.HeaderFault.{HeaderFault}
@@ -26,7 +27,12 @@ pub record Tail : Type 0 where
   pub bootconfig_size : ℕ
 
 abbrev pub tail_view : VendorTail → Tail
-tail_view t = record { table_size = t.table_size; entry_num = t.entry_num; entry_size = t.entry_size; bootconfig_size = t.bootconfig_size }
+tail_view t = record {
+  table_size = t.table_size;
+  entry_num = t.entry_num;
+  entry_size = t.entry_size;
+  bootconfig_size = t.bootconfig_size;
+}
 
 -- a header of version 3, or 4 where there is a tail
 pub record Vendor : Type 0 where
@@ -68,7 +74,8 @@ vendor_fields version f = vendor_head version f ++ (f.cmdline ∷ little_bytes 4
 
 -- version 4, bytes 2,112 to 2,127
 abbrev pub tail_fields : Tail → List (List ℕ)
-tail_fields t = little_bytes 4 t.table_size ∷ little_bytes 4 t.entry_num ∷ little_bytes 4 t.entry_size ∷ little_bytes 4 t.bootconfig_size ∷ []
+tail_fields t = little_bytes 4 t.table_size ∷ little_bytes 4 t.entry_num ∷ little_bytes 4 t.entry_size
+    ∷ little_bytes 4 t.bootconfig_size ∷ []
 
 abbrev pub all_fields : VendorFront → Option Tail → List (List ℕ)
 all_fields f None = vendor_fields 3 f
@@ -108,7 +115,12 @@ vendor_front_at page x = record {
 }
 
 unfoldable pub tail_at : List ℕ → Tail
-tail_at x = record { table_size = number_at 2112 4 x; entry_num = number_at 2116 4 x; entry_size = number_at 2120 4 x; bootconfig_size = number_at 2124 4 x }
+tail_at x = record {
+  table_size = number_at 2112 4 x;
+  entry_num = number_at 2116 4 x;
+  entry_size = number_at 2120 4 x;
+  bootconfig_size = number_at 2124 4 x;
+}
 
 -- what version 4 adds, where the table consists of whole entries of 108 bytes
 abbrev pub tail_checked : Tail → Result Tail HeaderFault
@@ -120,11 +132,15 @@ tail_of x = tail_checked (tail_at x)
 -- a header of this version, or the first fault: too few bytes for the record, the page size, and then the table
 unfoldable pub vendor_of : ℕ → List ℕ → Result Vendor HeaderFault
 vendor_of version x =
-    if version == 3 then mapped (needing 2112 x (page_at 12 x)) (λ page. record { front = vendor_front_at page x; tail = None })
-    else if version == 4 then mapped (both (needing 2128 x (page_at 12 x)) (tail_of x)) (λ p. record { front = vendor_front_at p.0 x; tail = Some p.1 })
+    if version == 3
+    then mapped (needing 2112 x (page_at 12 x)) (λ page. record { front = vendor_front_at page x; tail = None })
+    else if version == 4
+    then mapped (both (needing 2128 x (page_at 12 x)) (tail_of x))
+    (λ p. record { front = vendor_front_at p.0 x; tail = Some p.1 })
     else Err (faults.Version version)
 
--- the header at the front of x, or the first fault: the magic (`vendor_magic` as a number), the version, and then what the version asks for
+-- the header at the front of x, or the first fault: the magic (`vendor_magic` as a number), the version, and then what
+-- the version asks for
 unfoldable pub vendor_at : List ℕ → Result Vendor HeaderFault
 vendor_at x =
     needing 8 x (if not (number_at 0 8 x == 0x544f4f4252444e56) then Err faults.Magic
@@ -138,7 +154,8 @@ vendor_page h = page_bytes h.front.page_size
 -- in their order, each with its size
 abbrev pub sections_of : VendorFront → Option Tail → List (Section × ℕ)
 sections_of f None = (VendorRamdisk, f.vendor_ramdisk_size) ∷ (Dtb, f.dtb_size) ∷ []
-sections_of f (Some t) = (VendorRamdisk, f.vendor_ramdisk_size) ∷ (Dtb, f.dtb_size) ∷ (Table, t.table_size) ∷ (Bootconfig, t.bootconfig_size) ∷ []
+sections_of f (Some t) = (VendorRamdisk, f.vendor_ramdisk_size) ∷ (Dtb, f.dtb_size) ∷ (Table, t.table_size)
+    ∷ (Bootconfig, t.bootconfig_size) ∷ []
 
 abbrev pub vendor_sections : Vendor → List (Section × ℕ)
 vendor_sections h = sections_of h.front h.tail

@@ -48,12 +48,6 @@ slice_put c x new at n e le =
     ap (take n) (e ∙ sym (put'_is c at x)) ∙ take_put' c at x (at + length x) n refl le ∙ put'_is (take n c) at x
     ∙ sym (ap (λ (l : List ℕ). put_at (take n c) at l) (take_all (length x) x (omega arith)))
 
--- what stands before the place
-pub before_put : (c : List ℕ) (at : ℕ) (x : List ℕ) → at + length x ≤ length c → take at (put_at c at x) ≡ take at c
-before_put c at x le =
-    let t : length (take at c) ≡ at = length-take-le at c (omega (arith, le)) in
-    ap (take at) (sym (put'_is c at x)) ∙ take-append-le at (take at c) (x ++ drop (at + length x) c) (omega (arith, t)) ∙ take_all at (take at c) (omega (arith, t))
-
 pub before_on : (c new : List ℕ) (at place : ℕ) (x : List ℕ) → at ≤ place → place + length x ≤ length c → new ≡ put_at c place x → take at new ≡ take at c
 before_on c new at place x le fits e =
     let t : length (take place c) ≡ place = length-take-le place c (omega (arith, fits)) in

@@ -1,5 +1,5 @@
 -- The three lists of a partition that can crash.
-use Rattle.std.proofs.Common.{◌≡◌, ℕ, ◌+◌, ◌-◌, ◌<◌, ◌≤◌, Bool, true, false, List, [], ◌∷◌, ◌++◌, length, take, drop, get_or, replicate, refl, sym, ap, subst, ◌∙◌, arith, inl, inr, length-append, ◌||◌, nat_lt, ltb-true, ltb-false}
+use Rattle.std.proofs.Common.{◌≡◌, ℕ, ◌+◌, ◌-◌, ◌<◌, ◌≤◌, Bool, true, false, List, ◌∷◌, ◌++◌, length, take, drop, get_or, replicate, sym, ap, subst, ◌∙◌, arith, inl, inr, length-append, ◌||◌, nat_lt, ltb-true, ltb-false}
 use Rattle.std.proofs.lemmas.Bool.{cases_Bool}
 use Rattle.std.proofs.lemmas.Bool.Decides.{nat_tests}
 use Rattle.std.proofs.lemmas.List.{get_or_append_left, get_or-append_right, get_or-take, get_or-drop, get_or-replicate, length-take-le, length-replicate, length-drop}
@@ -50,16 +50,6 @@ unmarked t at n i fits z =
           let out : in_range at (length (replicate n 1)) i ≡ false = ap (λ (k : ℕ). in_range at k i) long ∙ s in
           (s, sym (put_outside t (replicate n 1) at i (omega arith) out) ∙ z)
     ]
-
--- all is stable
-pub tracked_all : (x : List ℕ) → IsTracked x x (replicate (length x) 0) []
-tracked_all x = record {
-  stable_long = refl;
-  touched_long = length-replicate (length x) 0;
-  agrees = λ i z. refl;
-  untouched = λ i z. refl;
-  only = λ i lt h. get_or-replicate (length x) i 0 0 lt;
-}
 
 -- after a write
 pub tracked_more : (x s t : List ℕ) (p : List (ℕ × ℕ)) (at : ℕ) (b : List ℕ) → IsTracked x s t p → at + length b ≤ length x

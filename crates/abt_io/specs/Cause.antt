@@ -4,7 +4,8 @@ use Rattle.abt_io.specs.Count.{full_in}
 use Rattle.abt_io.specs.declared.copying.CopyFault.{CopyFault}
 use Rattle.abt_io.specs.declared.copying.CopyFault.TheVariants.{Read, Write, Changed}
 
--- the device that it names has failed: the source's faults went from r to r', the output's from w to w'; `Changed` says that the source ended too soon
+-- the device that it names has failed: the source's faults went from r to r', the output's from w to w'; `Changed`
+-- says that the source ended too soon
 abbrev pub CopyCause : CopyFault → Type 0 → ℕ → ℕ → ℕ → ℕ → Type 0
 CopyCause (Read f) ended r r' w w' = r < r'
 CopyCause (Write f) ended r r' w w' = w < w'

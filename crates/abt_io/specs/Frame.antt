@@ -1,4 +1,6 @@
--- What a call leaves as it was. A device may be several things: a spool is read and written, a partition is read and written at places. A function that is generic over one of these alone would forget the others, so each call keeps a frame.
+-- What a call leaves as it was. A device may be several things: a spool is read and written, a partition is read and
+-- written at places. A function that is generic over one of these alone would forget the others, so each call keeps a
+-- frame.
 use Rattle.std.specs.Prelude.{ℕ, List, [], ◌∷◌, ◌++◌, length}
 use Rattle.abt_io.specs.Moment.{Past, no_past}
 
@@ -15,9 +17,19 @@ pub record ReadFrame : Type 0 where
 
 -- of an input that is nothing else
 abbrev pub reads_alone : ReadFrame
-reads_alone = record { written = []; cuts = []; capacity = 0; writes = 0; write_faults = 0; full_faults = 0; clears = 0; clear_faults = 0 }
+reads_alone = record {
+  written = [];
+  cuts = [];
+  capacity = 0;
+  writes = 0;
+  write_faults = 0;
+  full_faults = 0;
+  clears = 0;
+  clear_faults = 0;
+}
 
--- of an output, what no write changes: where it is a spool, how much of what was written is gone, and every count but those of writing
+-- of an output, what no write changes: where it is a spool, how much of what was written is gone, and every count but
+-- those of writing
 pub record WriteFrame : Type 0 where
   pub gone : ℕ
   pub cuts : List ℕ
@@ -30,9 +42,19 @@ pub record WriteFrame : Type 0 where
 
 -- of an output that is nothing else
 abbrev pub writes_alone : WriteFrame
-writes_alone = record { gone = 0; cuts = []; capacity = 0; reads = 0; given = 0; read_faults = 0; clears = 0; clear_faults = 0 }
+writes_alone = record {
+  gone = 0;
+  cuts = [];
+  capacity = 0;
+  reads = 0;
+  given = 0;
+  read_faults = 0;
+  clears = 0;
+  clear_faults = 0;
+}
 
--- of a source, what no read changes: where it is a partition, its length, what it was through and every count but those of reading
+-- of a source, what no read changes: where it is a partition, its length, what it was through and every count but
+-- those of reading
 pub record PartitionFrame : Type 0 where
   pub size : ℕ
   pub past : Past

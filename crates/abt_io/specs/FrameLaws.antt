@@ -5,14 +5,26 @@ use Rattle.abt_io.specs.Frame.{ReadFrame, WriteFrame, PartitionFrame}
 
 -- with w writes and o clears more, all failed
 abbrev pub more_reading : ReadFrame → ℕ → ℕ → ReadFrame
-more_reading f w o = record f { writes = f.writes + w; write_faults = f.write_faults + w; clears = f.clears + o; clear_faults = f.clear_faults + o }
+more_reading f w o =
+    record f {
+      writes = f.writes + w;
+      write_faults = f.write_faults + w;
+      clears = f.clears + o;
+      clear_faults = f.clear_faults + o;
+    }
 
 pub counted_reading : (f g : ReadFrame) → f ≡ g → (w o : ℕ) → more_reading f w o ≡ more_reading g w o
 counted_reading f g e w o = ap (λ (h : ReadFrame). more_reading h w o) e
 
 -- with r reads and o clears more, all failed
 abbrev pub more_writing : WriteFrame → ℕ → ℕ → WriteFrame
-more_writing f r o = record f { reads = f.reads + r; read_faults = f.read_faults + r; clears = f.clears + o; clear_faults = f.clear_faults + o }
+more_writing f r o =
+    record f {
+      reads = f.reads + r;
+      read_faults = f.read_faults + r;
+      clears = f.clears + o;
+      clear_faults = f.clear_faults + o;
+    }
 
 pub counted_writing : (f g : WriteFrame) → f ≡ g → (r o : ℕ) → more_writing f r o ≡ more_writing g r o
 counted_writing f g e r o = ap (λ (h : WriteFrame). more_writing h r o) e

@@ -9,7 +9,8 @@ pub held_is : (now all : List ℕ) (cut seen : ℕ) → now ≡ drop cut all →
 held_is now all cut seen e = ap (λ (l : List ℕ). drop seen l) e ∙ drop-drop seen cut all
 
 -- where it has no room left, it holds as much as it has room for
-pub filled_is : (room all : List ℕ) (cut used : ℕ) → take used room ≡ drop cut all → IsTrue (not (nat_lt used (length room))) → length room ≤ length all - cut
+pub filled_is : (room all : List ℕ) (cut used : ℕ) → take used room ≡ drop cut all
+    → IsTrue (not (nat_lt used (length room))) → length room ≤ length all - cut
 filled_is room all cut used e full =
     let past : length room ≤ used = grind (arith, nat_tests) in
     omega (arith, ap length (take_all used room past), ap length e, length-drop cut all)

@@ -2,13 +2,15 @@
 use Rattle.std.specs.Prelude.{◌≡◌, ℕ, ◌+◌, Bool, true, false, ◌&&◌, ◌||◌, nat_le, nat_lt, List, [], ◌∷◌, ◌++◌, length, take, drop, slice_get}
 use Rattle.std.specs.List.{AllByRecursion}
 
--- a partition between two calls: what a read gives, the ranges (place and length) that a crash may leave with any bytes, and how many syncs have succeeded
+-- a partition between two calls: what a read gives, the ranges (place and length) that a crash may leave with any
+-- bytes, and how many syncs have succeeded
 pub record Moment : Type 0 where
   pub content : List ℕ
   pub pending : List (ℕ × ℕ)
   pub synced : ℕ
 
--- what is known of a partition beside its content: the ranges that were written since the last sync that succeeded, the count of these syncs, and its moments, the newest first
+-- what is known of a partition beside its content: the ranges that were written since the last sync that succeeded,
+-- the count of these syncs, and its moments, the newest first
 pub record Past : Type 0 where
   pub pending : List (ℕ × ℕ)
   pub synced : ℕ

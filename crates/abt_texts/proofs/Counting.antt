@@ -11,7 +11,7 @@ use Rattle.abt_chunks.specs.declared.walk.Phase.{Phase}
 use Rattle.abt_chunks.specs.declared.walk.Phase.TheVariants as phases
 use Rattle.abt_chunks.specs.declared.walk.Walk.{Walk}
 use Rattle.abt_chunks.specs.Listing.{Listing, infos, listed, listing_from}
-use Rattle.abt_chunks.specs.ListingAhead.{shown_before, at_end, upcoming, upcoming_ended, upcoming_in}
+use Rattle.abt_chunks.specs.ListingAhead.{shown_before, at_end as has_ended, upcoming, upcoming_ended, upcoming_in}
 
 chunks_in : ChunksRead → List Chunk
 chunks_in (Done cs rest) = cs
@@ -67,12 +67,12 @@ unfolding listing_from
 head_shown h size i have y = has_head h i (chunks_at h size i have (h.total_chunks - i) y)
 
 -- the same of what is yet to come, behind the header
-pub few_upcoming : (s : Walk) (y : List ℕ) → s.phase ≡ phases.Body → at_end s ≡ true → length (upcoming s y).shown ≤ s.header.total_chunks
+pub few_upcoming : (s : Walk) (y : List ℕ) → s.phase ≡ phases.Body → has_ended s ≡ true → length (upcoming s y).shown ≤ s.header.total_chunks
 few_upcoming s y e a =
     subst (λ (p : Phase). length (upcoming_in p s y).shown ≤ s.header.total_chunks) (sym e)
     (subst (λ (b : Bool). length (upcoming_ended b s y).shown ≤ s.header.total_chunks) (sym a) (few_shown (view s.header) _ _ _ y))
 
-pub head_upcoming : (s : Walk) (y : List ℕ) → s.phase ≡ phases.Body → at_end s ≡ true → (upcoming s y).head ≡ Some (view s.header)
+pub head_upcoming : (s : Walk) (y : List ℕ) → s.phase ≡ phases.Body → has_ended s ≡ true → (upcoming s y).head ≡ Some (view s.header)
 head_upcoming s y e a =
     subst (λ (p : Phase). (upcoming_in p s y).head ≡ Some (view s.header)) (sym e)
     (subst (λ (b : Bool). (upcoming_ended b s y).head ≡ Some (view s.header)) (sym a) (head_shown (view s.header) _ _ _ y))

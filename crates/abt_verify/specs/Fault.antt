@@ -27,8 +27,8 @@ IsOwn (of_sparse.Read d) = ⊥
 IsOwn (of_sparse.Write d) = ⊥
 IsOwn f = Unit {0}
 
--- Of a sparse image: 11 comes where the input has failed, 37 where the partition has, and each count of faults is as before
--- where that device isn't named. The reason that it gave is handed on. 14 and 15 never come.
+-- Of a sparse image: 11 comes where the input has failed, 37 where the partition has, and each count of faults is as
+-- before where that device isn't named. The reason that it gave is handed on. 14 and 15 never come.
 abbrev pub HasCause : VerifyFault → ℕ → ℕ → ℕ → ℕ → Type 0
 HasCause (Sparse f) r r' p p' = IsOwn f × (r' ≡ r) × (p' ≡ p)
 HasCause (Read d) r r' p p' = (r < r') × (d ≡ Failed) × (p' ≡ p)
@@ -41,8 +41,8 @@ abbrev pub Rises : {X : Type 0} → Result X VerifyFault → ℕ → ℕ → ℕ
 Rises (Ok x) r r' p p' = (r' ≡ r) × (p' ≡ p)
 Rises (Err f) r r' p p' = HasCause f r r' p p'
 
--- Of the bytes of a raw image: the same, and 14 comes where a source that doesn't tell its bytes gives fewer than it has
--- said. 1 to 10 never come, nor 15.
+-- Of the bytes of a raw image: the same, and 14 comes where a source that doesn't tell its bytes gives fewer than it
+-- has said. 1 to 10 never come, nor 15.
 abbrev pub HasRawCause : VerifyFault → Bool → ℕ → ℕ → ℕ → ℕ → Type 0
 HasRawCause (Sparse f) tells r r' p p' = ⊥
 HasRawCause SourceChanged tells r r' p p' = (tells ≡ false) × (r' ≡ r) × (p' ≡ p)

@@ -99,9 +99,10 @@ idle_in p s = 0
 abbrev pub idle : Walk → ℕ
 idle s = idle_in s.phase s
 
--- What a step from walk s to walk s' compares with a partition that holds p, once the bytes c are read and rest is left;
--- what was given of the partition went from given to given'.
-pub record Compares (tells : Bool) (r : Result Progress VerifyFault) (s s' : Walk) (c rest p : List ℕ) (given given' : ℕ) : Type 0 where
+-- What a step from walk s to walk s' compares with a partition that holds p, once the bytes c are read and rest is
+-- left; what was given of the partition went from given to given'.
+pub record Compares (tells : Bool) (r : Result Progress VerifyFault) (s s' : Walk) (c rest p : List ℕ)
+    (given given' : ℕ) : Type 0 where
   -- the cells that it compares: what lay ahead is these, and then what lies ahead behind them, whatever t follows
   pub cells : List (Option ℕ)
   pub told : (t : List ℕ) → (IsTrue (is_err r) → t ≡ rest) → Unless r (ahead s (c ++ t) ≡ before cells (ahead s' t))

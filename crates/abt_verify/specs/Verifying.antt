@@ -1,4 +1,5 @@
--- What verifying a whole input against a partition answers, in the words of what it is to be an image and to have a fault.
+-- What verifying a whole input against a partition answers, in the words of what it is to be an image and to have a
+-- fault.
 use Rattle.std.specs.Prelude.{◌≡◌, ℕ, ◌+◌, ◌*◌, Bool, List, Option, Result, Ok, Err, IsTrue}
 use Rattle.abt_sparse.specs.declared.fault.SparseFault.{SparseFault}
 use Rattle.abt_sparse.specs.Block.{cells}
