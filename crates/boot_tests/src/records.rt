@@ -550,7 +550,7 @@ fn each_fault_and_section_has_its_text(rt: HostRuntime) -> Result<(), Fail> {
 
 // These say something and do nothing.
 #[test]
-fn the_laws_are_there() {
+fn each_law_is_called_and_does_nothing() {
     front_decides();
     vendor_front_decides();
     boot_again();

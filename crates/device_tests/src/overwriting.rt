@@ -80,7 +80,7 @@ fn each_call_fails_and_what_was_written_before_stands(rt: HostRuntime) {
 }
 
 #[test]
-fn a_file_is_written_over(rt: HostRuntime) -> Result<(), Fail> {
+fn bytes_of_a_file_are_written_over(rt: HostRuntime) -> Result<(), Fail> {
     let mut options = OpenOptions::new();
     options.read(true).write(true).create(true).truncate(true);
     {

@@ -299,7 +299,7 @@ fn a_machine_that_refused_refuses_again_and_reads_no_more(rt: HostRuntime) {
 }
 
 #[test]
-fn a_reader_is_flashed(rt: HostRuntime) {
+fn what_a_reader_gives_is_flashed(rt: HostRuntime) {
     let mut room = [255u8; 16];
     {
         let mut input = FromRead::new(THREE_KINDS.as_slice());

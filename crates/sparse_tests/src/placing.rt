@@ -57,7 +57,7 @@ fn published_images_are_written(rt: HostRuntime) {
 }
 
 #[test]
-fn a_raw_run_is_written_in_chunks(rt: HostRuntime) {
+fn a_long_raw_run_is_written_in_several_chunks(rt: HostRuntime) {
     let mut room = [0u8; 104];
     let written = Written {
         blocks: 5,
@@ -69,7 +69,7 @@ fn a_raw_run_is_written_in_chunks(rt: HostRuntime) {
 }
 
 #[test]
-fn no_bytes_are_a_header(rt: HostRuntime) {
+fn an_image_of_no_bytes_is_a_header_alone(rt: HostRuntime) {
     let mut room = [0u8; 28];
     let written = Written {
         blocks: 0,

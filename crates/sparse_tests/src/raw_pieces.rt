@@ -12,7 +12,7 @@ use std::process::Abort;
 use std::test::Fail;
 
 #[test]
-fn a_raw_image_in_two_pieces(rt: HostRuntime) -> Result<(), Fail> {
+fn a_raw_image_is_cut_into_two_pieces(rt: HostRuntime) -> Result<(), Fail> {
     let mut source = Cut::new(SliceSource::new(&MIXED), 3);
     let mut w = Window::new();
     let mut m = Meter::new();

@@ -30,7 +30,7 @@ fn header_with(place: usize, byte: u8, other_place: usize, other: u8) -> [u8; 28
 }
 
 #[test]
-fn a_header_and_its_bytes(rt: HostRuntime) -> Result<(), Fail> {
+fn a_header_is_encoded_and_decoded(rt: HostRuntime) -> Result<(), Fail> {
     let header = SparseHeader::decode(&HEADER)?;
     assert!(rt; (header.minor, header.file_hdr_sz, header.chunk_hdr_sz) == (0, 28, 12));
     assert!(rt;
@@ -77,7 +77,7 @@ fn the_first_check_that_fails_is_answered(rt: HostRuntime) {
 }
 
 #[test]
-fn a_chunk_header_and_its_bytes(rt: HostRuntime) {
+fn a_chunk_header_is_encoded_and_decoded(rt: HostRuntime) {
     let header = ChunkHeader {
         kind: ChunkKind::Raw,
         blocks: 16_385,
@@ -147,7 +147,7 @@ fn each_fault_has_its_number_and_text(rt: HostRuntime) -> Result<(), Fail> {
 }
 
 #[test]
-fn the_laws_are_there() {
+fn each_law_is_called_and_does_nothing() {
     one_outcome();
     one_code();
     has_blocks();

@@ -241,7 +241,7 @@ fn a_limit_that_no_piece_fits_is_refused(rt: HostRuntime) {
 }
 
 #[test]
-fn a_thousand_chunks_in_112_pieces(rt: HostRuntime) {
+fn a_thousand_chunks_are_cut_into_112_pieces(rt: HostRuntime) {
     let mut image = [0u8; 16_028];
     image[..28].copy_from_slice(&HEADER_OF_THOUSAND);
     for i in 0..1_000u32 {

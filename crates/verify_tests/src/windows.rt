@@ -83,7 +83,7 @@ fn each_step_counts_from_the_front(rt: HostRuntime) -> Result<(), Fail> {
 }
 
 #[test]
-fn so_does_a_raw_image(rt: HostRuntime) -> Result<(), Fail> {
+fn each_step_over_a_raw_image_counts_from_the_front(rt: HostRuntime) -> Result<(), Fail> {
     let image = room(rt.alloc(), 196_608)?;
     for other in [0, 32_767, 32_768, 65_536, 163_840, 196_607, 196_608] {
         let there = room(rt.alloc(), other)?;
