@@ -8,7 +8,9 @@ use Rattle.abt_chunks.specs.declared.walk.Part.TheVariants as parts
 use Rattle.abt_chunks.specs.declared.walk.Phase.{Phase}
 use Rattle.abt_chunks.specs.declared.walk.Phase.TheVariants as phases
 use Rattle.abt_chunks.specs.declared.walk.Walk.{Walk}
-use Rattle.abt_chunks.specs.Walking.{IsOver, Leaves as PartLeaves, Numbers, at_end, goes_on}
+use Rattle.abt_chunks.specs.Turns.{IsOver}
+use Rattle.abt_chunks.specs.Parts.{Leaves as PartLeaves, goes_on}
+use Rattle.abt_chunks.specs.ListingAhead.{Numbers, at_end}
 use Rattle.abt_flash.specs.declared.fault.FlashFault.{FlashFault}
 use Rattle.abt_flash.specs.declared.fault.FlashFault.TheVariants as fails
 use Rattle.abt_flash.specs.Fault.{PutCause}
