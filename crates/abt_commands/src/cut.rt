@@ -120,7 +120,7 @@ fn cut_raw<R: Files<File = File> + Clock, I, O: Output, E: Output>(
 }
 
 // Says what a piece is, at once: none is begun before it is known that the line of the last one is out.
-fn report_piece<R: Clock, I, O: Output, E: Output>(
+fn report_piece<R: Files<File = File> + Clock, I, O: Output, E: Output>(
     session: &mut Session<'_, R, I, O, E>,
     number: u32,
     piece: Piece,
