@@ -1,4 +1,4 @@
-use Rattle.std.proofs.Common.{◌≡◌, ◌≤◌, ◌+◌, ◌-◌, ◌*◌, Ok, Err, Result, length, arith, refl, ap, ◌∙◌, length-drop}
+use Rattle.std.proofs.Common.{◌≡◌, ℕ, List, drop, ◌≤◌, ◌+◌, ◌-◌, ◌*◌, Ok, Err, Result, length, arith, refl, ap, ◌∙◌, length-drop}
 use Rattle.std.specs.Prelude.{IsTrue}
 use Rattle.abt_io.proofs.Parts.{rest_more}
 use Rattle.abt_chunks.specs.declared.progress.Progress.{Progress}
@@ -107,3 +107,34 @@ returns-in-Ok-Done-clause-cause g c =
 
 pub returns-in-Err-clause-cause : goal.returns-in-Err-clause-cause
 returns-in-Err-clause-cause g c = let i = c.steps.invariant in rw (i.read_faults, i.partition_faults) at (c.in-Err.ensures.cause i.goes)
+
+-- what is read of an input that tells is there, step after step
+present_on : (n n1 n2 : ℕ) (rem r1 : List ℕ) → n ≤ n1 → n1 ≤ n2 → n1 - n ≤ length rem → r1 ≡ drop (n1 - n) rem → n2 - n1 ≤ length r1 → n2 - n ≤ length rem
+present_on n n1 n2 rem r1 a b before rest here = omega (arith, a, b, before, here, ap length rest, length-drop (n1 - n) rem)
+
+rest_on : (n n1 n2 : ℕ) (rem r1 r2 : List ℕ) → n ≤ n1 → n1 ≤ n2 → r1 ≡ drop (n1 - n) rem → r2 ≡ drop (n2 - n1) r1 → r2 ≡ drop (n2 - n) rem
+rest_on n n1 n2 rem r1 r2 a b rest more = rest_more rem r1 r2 (n1 - n) (n2 - n1) (n2 - n) rest more (let q : n2 - n ≡ (n1 - n) + (n2 - n1) = omega (arith, a, b) in q)
+
+pub returns-in-Ok-Done-clause-present : goal.returns-in-Ok-Done-clause-present
+returns-in-Ok-Done-clause-present g c tells =
+    let i = c.steps.invariant in
+    let e = c.step.ensures in
+    present_on _ _ _ _ _ i.read e.asked.0 (i.present tells) (i.rest tells) (e.present tells)
+
+pub returns-in-Ok-Done-clause-rest : goal.returns-in-Ok-Done-clause-rest
+returns-in-Ok-Done-clause-rest g c tells =
+    let i = c.steps.invariant in
+    let e = c.step.ensures in
+    rest_on _ _ _ _ _ _ i.read e.asked.0 (i.rest tells) (e.rest tells)
+
+pub returns-in-Err-clause-present : goal.returns-in-Err-clause-present
+returns-in-Err-clause-present g c tells =
+    let i = c.steps.invariant in
+    let e = c.step.ensures in
+    present_on _ _ _ _ _ i.read e.asked.0 (i.present tells) (i.rest tells) (e.present tells)
+
+pub returns-in-Err-clause-rest : goal.returns-in-Err-clause-rest
+returns-in-Err-clause-rest g c tells =
+    let i = c.steps.invariant in
+    let e = c.step.ensures in
+    rest_on _ _ _ _ _ _ i.read e.asked.0 (i.rest tells) (e.rest tells)
