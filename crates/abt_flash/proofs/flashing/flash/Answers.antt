@@ -1,9 +1,10 @@
-use Rattle.std.proofs.Common.{◌≡◌, ◌≤◌, ◌+◌, ◌-◌, ◌*◌, Ok, Result, length, arith, refl, sym, ap, ◌∙◌, length-drop, false, Err}
+use Rattle.std.proofs.Common.{◌≡◌, ℕ, Bool, List, drop, ◌≤◌, ◌+◌, ◌-◌, ◌*◌, Ok, Result, length, arith, refl, sym, ap, ◌∙◌, length-drop, false, Err}
 use Rattle.std.specs.Prelude.{IsTrue}
 use Rattle.abt_io.proofs.Parts.{rest_more}
 use Rattle.abt_chunks.specs.declared.progress.Progress.{Progress}
 use Rattle.abt_chunks.specs.declared.progress.Progress.TheVariants.{Done, More}
 use Rattle.abt_flash.specs.declared.fault.FlashFault.{FlashFault}
+use Rattle.abt_flash.specs.Devices.{Reads}
 use Rattle.abt_flash.specs.Stepping.{idle, is_done}
 use Rattle.abt_flash.specs.declared.stage.Stage.{Stage}
 use Rattle.abt_flash.specs.declared.stage.Stage.TheVariants as stages
@@ -221,3 +222,22 @@ returns-in-Ok-Done-clause-cause g c =
 
 pub returns-in-Err-clause-cause : goal.returns-in-Err-clause-cause
 returns-in-Err-clause-cause g c = let i = c.steps.invariant in rw (i.read_faults, i.put_faults) at (c.in-Err.ensures.cause i.goes)
+
+-- what is read of an input that tells is there, step after step
+read_on : (tells : Bool) (n n1 n2 : ℕ) (rem r1 r2 : List ℕ) → n ≤ n1 → n1 ≤ n2 → (IsTrue tells → n1 - n ≤ length rem) → (IsTrue tells → r1 ≡ drop (n1 - n) rem) → Reads tells n1 n2 r1 r2 → Reads tells n n2 rem r2
+read_on tells n n1 n2 rem r1 r2 a b before rest e = record {
+  present = λ t. let k = before t in let q = e.present t in omega (arith, a, b, k, q, ap length (rest t), length-drop (n1 - n) rem);
+  rest = λ t. rest_more rem r1 r2 (n1 - n) (n2 - n1) (n2 - n) (rest t) (e.rest t) (let q : n2 - n ≡ (n1 - n) + (n2 - n1) = omega (arith, a, b) in q);
+}
+
+pub returns-in-Ok-Done-clause-read : goal.returns-in-Ok-Done-clause-read
+returns-in-Ok-Done-clause-read g c =
+    let i = c.steps.invariant in
+    let e = c.step.ensures in
+    read_on _ _ _ _ _ _ _ i.read e.grows.given i.present i.rest e.read
+
+pub returns-in-Err-clause-read : goal.returns-in-Err-clause-read
+returns-in-Err-clause-read g c =
+    let i = c.steps.invariant in
+    let e = c.step.ensures in
+    read_on _ _ _ _ _ _ _ i.read e.grows.given i.present i.rest e.read
