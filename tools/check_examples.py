@@ -93,7 +93,7 @@ def main():
     parser = argparse.ArgumentParser(description=__doc__, formatter_class=argparse.RawDescriptionHelpFormatter)
     parser.add_argument("--show", action="store_true", help="print each example, also where it passes")
     words = parser.parse_args()
-    program = os.environ.get("ABOOTIMG", os.path.join(HERE, "crates", "abootimg", "out", "abootimg"))
+    program = os.environ.get("ABOOTIMG", os.path.join(HERE, "build", "abootimg"))
     if not os.access(program, os.X_OK):
         print(f"there is no program {program}: make builds it")
         print("0 passed, 1 failed")
