@@ -1,5 +1,6 @@
 -- What delivering an image piece by piece promises: of the spool, of the partition, and of every moment on the way.
-use Rattle.std.specs.Prelude.{◌≡◌, ℕ, ◌+◌, ◌-◌, ◌*◌, ◌≤◌, ◌<◌, List, [], ◌∷◌, ◌++◌, length, take, drop, replicate, max, Bool, false, IsTrue, Result, Ok, Err, OnOk}
+use Rattle.std.specs.Prelude.{◌≡◌, ℕ, ◌+◌, ◌-◌, ◌*◌, ◌≤◌, ◌<◌, List, [], ◌∷◌, ◌++◌, length, take, drop, replicate, max}
+use Rattle.std.specs.Prelude.{Bool, false, IsTrue, Result, Ok, Err, OnOk}
 use Rattle.std.specs.List.{concat}
 use Rattle.abt_io.specs.declared.device.DeviceFault.TheVariants.{Failed}
 use Rattle.abt_io.specs.declared.meter.Meter.{Meter}
@@ -15,7 +16,9 @@ use Rattle.abt_flash.specs.declared.fault.Cause.{Cause}
 use Rattle.abt_flash.specs.declared.fault.Cause.TheVariants as causes
 use Rattle.abt_flash.specs.declared.answer.Delivered.{Delivered}
 use Rattle.abt_flash.specs.declared.fault.FlashFault.{FlashFault}
-use Rattle.abt_flash.specs.declared.fault.FlashFault.TheVariants.{Sparse, Read, Write, TooLarge, SourceChanged, BadBlock, LimitTooSmall, PartitionTooSmall, Sync, Stopped, NoSuchPiece}
+use Rattle.abt_flash.specs.declared.fault.FlashFault.TheVariants.{Sparse, Read, Write, TooLarge, SourceChanged}
+use Rattle.abt_flash.specs.declared.fault.FlashFault.TheVariants.{BadBlock, LimitTooSmall, PartitionTooSmall, Sync}
+use Rattle.abt_flash.specs.declared.fault.FlashFault.TheVariants.{Stopped, NoSuchPiece}
 
 -- ---- an image behind its first pieces
 
@@ -42,7 +45,8 @@ pub record Begins (front whole : List ℕ) : Type 0 where
   pub more : List ℕ
   pub joined : front ++ more ≡ whole
 
--- where a spool was cleared, the newest first, once each piece was written behind a clear of its own, the first behind `at` bytes
+-- where a spool was cleared, the newest first, once each piece was written behind a clear of its own, the first behind
+-- `at` bytes
 abbrev pub with_cuts : List ℕ → ℕ → List (List ℕ) → List ℕ
 with_cuts cuts at [] = cuts
 with_cuts cuts at (x ∷ xs) = with_cuts (at ∷ cuts) (at + length x) xs
@@ -60,18 +64,24 @@ pub record PiecesFit (limit : ℕ) (old_cuts new_cuts : List ℕ) (old_length ne
 
 -- ---- what a stop may leave
 
--- whatever a crash leaves at this moment is mendable, with the first pieces whole: a delivery from the next piece on, or from any before it, leaves it as p under the image
+-- whatever a crash leaves at this moment is mendable, with the first pieces whole: a delivery from the next piece on,
+-- or from any before it, leaves it as p under the image
 abbrev pub LeavesMendable : ℕ → ℕ → List Block → List ℕ → ℕ → Moment → Type 0
 LeavesMendable limit b l p made m = (q : List ℕ) → MayLeave m q → Mendable b l p q (blocks_in_first limit b l made)
 
--- A call that began behind so many pieces, and so many syncs, is behind one piece more for each sync that succeeded since.
+-- A call that began behind so many pieces, and so many syncs, is behind one piece more for each sync that succeeded
+-- since.
 abbrev pub MendableThen : ℕ → ℕ → List Block → List ℕ → ℕ → ℕ → Moment → Type 0
 MendableThen limit b l p made synced m = LeavesMendable limit b l p (made + (m.synced - synced)) m
 
--- At every moment of a call that began behind so many pieces, and after it, a stop leaves what a delivery mends, where as much or more was whole before.
-pub record StaysMendable (limit b : ℕ) (l : List Block) (made : ℕ) (old new : Past) (before after : List ℕ) : Type 0 where
-  pub since : (p : List ℕ) (done : ℕ) → made ≤ done → LeavesMendable limit b l p done (moment_of old before) → EachSince old.moments new.moments (MendableThen limit b l p made old.synced)
-  pub now : (p : List ℕ) (done : ℕ) → made ≤ done → LeavesMendable limit b l p done (moment_of old before) → MendableThen limit b l p made old.synced (moment_of new after)
+-- At every moment of a call that began behind so many pieces, and after it, a stop leaves what a delivery mends, where
+-- as much or more was whole before.
+pub record StaysMendable (limit b : ℕ) (l : List Block) (made : ℕ) (old new : Past)
+    (before after : List ℕ) : Type 0 where
+  pub since : (p : List ℕ) (done : ℕ) → made ≤ done → LeavesMendable limit b l p done (moment_of old before)
+      → EachSince old.moments new.moments (MendableThen limit b l p made old.synced)
+  pub now : (p : List ℕ) (done : ℕ) → made ≤ done → LeavesMendable limit b l p done (moment_of old before)
+      → MendableThen limit b l p made old.synced (moment_of new after)
 
 -- ---- what is answered
 
@@ -107,7 +117,8 @@ OnEarly (Ok d) P = Unit {0}
 OnEarly (Err (Stopped j c)) P = Unit {0}
 OnEarly (Err f) P = P
 
--- Why a piece is not finished: the device that the cause names has failed in this call, and for no other reason than that; or a source whose bytes passed tells nothing, or a spool. A spool that has room for the limit is never full.
+-- Why a piece is not finished: the device that the cause names has failed in this call, and for no other reason than
+-- that; or a source whose bytes passed tells nothing, or a spool. A spool that has room for the limit is never full.
 abbrev pub StopsFor : Cause → Bool → Bool → Counts → Counts → Type 0
 StopsFor (causes.Read d) source spool a z = (a.read_faults < z.read_faults) × (d ≡ Failed)
 StopsFor (causes.Write d) source spool a z = (a.put_faults < z.put_faults) × (d ≡ Failed)
@@ -141,14 +152,18 @@ pub record Room (limit b n size : ℕ) : Type 0 where
   pub each : 64 + b ≤ limit
   pub all : n * b ≤ size
 
--- Why an opened image of n blocks of b bytes is not delivered behind its first pieces, in this order: the limit, the partition, planning, and then a stop alone.
+-- Why an opened image of n blocks of b bytes is not delivered behind its first pieces, in this order: the limit, the
+-- partition, planning, and then a stop alone.
 abbrev pub Refused : FlashFault → ℕ → ℕ → ℕ → ℕ → ℕ → Bool → Bool → Counts → Counts → Type 0
 Refused (LimitTooSmall least) limit b n size made source spool a z = (least ≡ 64 + b) × (limit < least)
-Refused (PartitionTooSmall need) limit b n size made source spool a z = (64 + b ≤ limit) × (need ≡ n * b) × (size < need)
-Refused (Read d) limit b n size made source spool a z = Room limit b n size × (a.read_faults < z.read_faults) × (d ≡ Failed)
+Refused (PartitionTooSmall need) limit b n size made source spool a z =
+    (64 + b ≤ limit) × (need ≡ n * b) × (size < need)
+Refused (Read d) limit b n size made source spool a z =
+    Room limit b n size × (a.read_faults < z.read_faults) × (d ≡ Failed)
 Refused SourceChanged limit b n size made source spool a z = Room limit b n size × (source ≡ false)
 Refused (NoSuchPiece k) limit b n size made source spool a z = Room limit b n size × (0 < k) × (k ≤ made)
-Refused (Stopped j c) limit b n size made source spool a z = Room limit b n size × (made < j) × StopsFor c source spool a z
+Refused (Stopped j c) limit b n size made source spool a z =
+    Room limit b n size × (made < j) × StopsFor c source spool a z
 Refused (Sparse f) limit b n size made source spool a z = ⊥
 Refused (Write d) limit b n size made source spool a z = ⊥
 Refused TooLarge limit b n size made source spool a z = ⊥
@@ -171,27 +186,36 @@ abbrev pub IsLeast : ℕ → ℕ → ImageBlocks → Type 0
 IsLeast limit k i = (parts : List (List Block)) → Division limit i.size i.blocks parts → k ≤ length parts
 
 -- What a spool was given by a call that delivers an image behind its first pieces.
-pub record GivesPieces (source spool : Bool) (i : ImageBlocks) (limit made : ℕ) (r : Result Delivered FlashFault) (old new : SpoolState) : Type 0 where
+pub record GivesPieces (source spool : Bool) (i : ImageBlocks) (limit made : ℕ) (r : Result Delivered FlashFault)
+    (old new : SpoolState) : Type 0 where
   -- its room stays, and behind each clear at most the limit was written, also of a piece that was only begun
   pub room : new.size ≡ old.size
   pub fits : PiecesFit limit old.cuts new.cuts (length old.written) (length new.written)
   -- exactly the pieces that are left, each behind a clear of its own, and where it was refused a beginning of them
   pub written : IsTrue source → OnOk r (new.written ≡ old.written ++ concat (pieces_behind limit i.size i.blocks made))
-  pub cuts : IsTrue source → OnOk r (new.cuts ≡ with_cuts old.cuts (length old.written) (pieces_behind limit i.size i.blocks made))
+  pub cuts : IsTrue source
+      → OnOk r (new.cuts ≡ with_cuts old.cuts (length old.written) (pieces_behind limit i.size i.blocks made))
   pub begins : IsTrue source → Begins new.written (old.written ++ concat (pieces_behind limit i.size i.blocks made))
   -- each byte of them was read back
   pub back : IsTrue source → IsTrue spool → OnOk r (new.given + length old.written ≡ old.given + length new.written)
 
 -- What it leaves on the partition.
-pub record LaysBlocks (source spool partition : Bool) (i : ImageBlocks) (limit made : ℕ) (r : Result Delivered FlashFault) (old new : PartitionState) : Type 0 where
+pub record LaysBlocks (source spool partition : Bool) (i : ImageBlocks) (limit made : ℕ)
+    (r : Result Delivered FlashFault) (old new : PartitionState) : Type 0 where
   -- its length stays, and nothing is read of it
   pub size : new.size ≡ old.size
   pub unread : (new.reads ≡ old.reads) × (new.given ≡ old.given)
   -- the raw and fill blocks behind the first pieces are laid over what it held, each byte of them written once
-  pub laid : IsTrue source → IsTrue spool → IsTrue partition → OnOk r (new.content ≡ over old.content (cells i.size (blocks_behind (blocks_in_first limit i.size i.blocks made) i.blocks)))
+  pub laid : IsTrue source → IsTrue spool → IsTrue partition
+      → OnOk r (new.content
+      ≡ over old.content (cells i.size (blocks_behind (blocks_in_first limit i.size i.blocks made) i.blocks)))
   -- so are those of the pieces up to one whose sync was refused, though a crash may leave less of that one
-  pub laid_up_to : IsTrue source → IsTrue spool → IsTrue partition → OnUnsyncedPiece r (λ j. new.content ≡ over old.content (cells i.size (blocks_up_to (blocks_in_first limit i.size i.blocks made) (blocks_in_first limit i.size i.blocks j) i.blocks)))
-  pub once : IsTrue source → IsTrue spool → OnOk r (new.taken ≡ old.taken + i.size * written_in (blocks_behind (blocks_in_first limit i.size i.blocks made) i.blocks))
+  pub laid_up_to : IsTrue source → IsTrue spool → IsTrue partition
+      → OnUnsyncedPiece r (λ j. new.content ≡ over old.content
+      (cells i.size (blocks_up_to (blocks_in_first limit i.size i.blocks made)
+      (blocks_in_first limit i.size i.blocks j) i.blocks)))
+  pub once : IsTrue source → IsTrue spool → OnOk r (new.taken
+          ≡ old.taken + i.size * written_in (blocks_behind (blocks_in_first limit i.size i.blocks made) i.blocks))
   -- each piece that was finished was synced, and every sync has succeeded but one that the answer names
   pub synced : new.past.synced ≡ old.past.synced + finished made r
   pub unsynced : new.syncs + old.past.synced ≡ old.syncs + new.past.synced + refused_syncs r
@@ -199,19 +223,26 @@ pub record LaysBlocks (source spool partition : Bool) (i : ImageBlocks) (limit m
   pub settled : IsTrue partition → OnOk r (new.past.pending ≡ [])
   pub lasts : IsTrue partition → OnOk r ((q : List ℕ) → MayLeave (moment_of new.past new.content) q → q ≡ new.content)
 
--- Of a whole delivery, over a partition of which nothing was pending: at every moment of it, and after it, a stop leaves what a delivery mends.
+-- Of a whole delivery, over a partition of which nothing was pending: at every moment of it, and after it, a stop
+-- leaves what a delivery mends.
 pub record AlwaysMendable (i : ImageBlocks) (limit : ℕ) (old new : PartitionState) : Type 0 where
-  pub since : EachSince old.past.moments new.past.moments (MendableThen limit i.size i.blocks old.content 0 old.past.synced)
+  pub since : EachSince old.past.moments new.past.moments
+      (MendableThen limit i.size i.blocks old.content 0 old.past.synced)
   pub now : MendableThen limit i.size i.blocks old.content 0 old.past.synced (moment_of new.past new.content)
 
--- What is whole of the image when a call begins behind its first pieces stays so at every moment, and an Ok mends all else.
-pub record MendsBlocks (i : ImageBlocks) (limit made : ℕ) (r : Result Delivered FlashFault) (old new : PartitionState) : Type 0 where
+-- What is whole of the image when a call begins behind its first pieces stays so at every moment, and an Ok mends all
+-- else.
+pub record MendsBlocks (i : ImageBlocks) (limit made : ℕ) (r : Result Delivered FlashFault)
+    (old new : PartitionState) : Type 0 where
   pub stays : StaysMendable limit i.size i.blocks made old.past new.past old.content new.content
-  pub mends : OnOk r ((p : List ℕ) (done : ℕ) → made ≤ done → Mendable i.size i.blocks p old.content (blocks_in_first limit i.size i.blocks done) → new.content ≡ over p (cells i.size i.blocks))
+  pub mends : OnOk r ((p : List ℕ) (done : ℕ) → made ≤ done
+          → Mendable i.size i.blocks p old.content (blocks_in_first limit i.size i.blocks done)
+          → new.content ≡ over p (cells i.size i.blocks))
 
 -- ---- what it costs
 
--- So many pieces were begun, of which the first ones, `made`, were only to be planned. Where planning was refused these are the pieces that were planned, of k that the image has; before that none was.
+-- So many pieces were begun, of which the first ones, `made`, were only to be planned. Where planning was refused
+-- these are the pieces that were planned, of k that the image has; before that none was.
 abbrev pub HasBegun : Bool → ℕ → Result Delivered FlashFault → ℕ → ℕ → Type 0
 HasBegun source k (Ok d) made n = n ≡ made + d.pieces
 HasBegun source k (Err (Stopped j c)) made n = n ≡ j
@@ -220,11 +251,15 @@ HasBegun source k (Err (Read d)) made n = (n ≤ made) × (IsTrue source → n �
 HasBegun source k (Err SourceChanged) made n = n ≤ made
 HasBegun source k (Err f) made n = n ≡ 0
 
--- The calls of all devices, and the turns of loops, are at most 8 for each byte that a device gave or took, and so many for each piece that was begun and once more; of a raw image some words may be compared that were not read. No step receives more than 65,580 bytes.
-pub record Costs (source : Bool) (i : ImageBlocks) (limit words each made : ℕ) (r : Result Delivered FlashFault) (old new : Counts) (m m' : Meter) : Type 0 where
+-- The calls of all devices, and the turns of loops, are at most 8 for each byte that a device gave or took, and so
+-- many for each piece that was begun and once more; of a raw image some words may be compared that were not read. No
+-- step receives more than 65,580 bytes.
+pub record Costs (source : Bool) (i : ImageBlocks) (limit words each made : ℕ) (r : Result Delivered FlashFault)
+    (old new : Counts) (m m' : Meter) : Type 0 where
   pub begun : ℕ
   pub counted : HasBegun source (pieces_in limit i) r made begun
   pub calls : all_calls new + 8 * all_bytes old ≤ all_calls old + 8 * all_bytes new + each * (begun + 1)
   pub turns : m'.turns.number + 8 * all_bytes old ≤ m.turns.number + 8 * all_bytes new + 8 * words + each * (begun + 1)
-  pub steps : new.given + new.spool_given + 65580 * m.steps.number ≤ old.given + old.spool_given + 65580 * m'.steps.number
+  pub steps : new.given + new.spool_given + 65580 * m.steps.number
+      ≤ old.given + old.spool_given + 65580 * m'.steps.number
   pub greatest : m'.greatest.number ≤ max m.greatest.number 65580

@@ -22,13 +22,15 @@ pub record Counts : Type 0 where
   pub puts : ℕ
   pub syncs : ℕ
   pub taken : ℕ
-  -- how often reading the source failed, writing or clearing the spool, reading it, and writing or syncing the partition
+  -- how often reading the source failed, writing or clearing the spool, reading it, and writing or syncing the
+  -- partition
   pub read_faults : ℕ
   pub write_faults : ℕ
   pub spool_faults : ℕ
   pub put_faults : ℕ
 
-abbrev pub counts : {A B C : Type 0} → sources.Ghosts A → inputs.Ghosts B → outputs.Ghosts B → spools.Ghosts B → partitions.Ghosts C → A → B → C → Counts
+abbrev pub counts : {A B C : Type 0} → sources.Ghosts A → inputs.Ghosts B → outputs.Ghosts B → spools.Ghosts B
+    → partitions.Ghosts C → A → B → C → Counts
 counts s i o l p source spool partition = record {
   reads = s.reads source;
   given = s.given source;
@@ -61,9 +63,12 @@ pub record SpoolState : Type 0 where
   pub given : ℕ
 
 abbrev pub spool_state : {B : Type 0} → inputs.Ghosts B → outputs.Ghosts B → spools.Ghosts B → B → SpoolState
-spool_state i o l spool = record { size = l.size spool; written = o.written spool; cuts = l.cuts spool; given = i.given spool }
+spool_state i o l spool = record {
+  size = l.size spool; written = o.written spool; cuts = l.cuts spool; given = i.given spool;
+}
 
--- a partition: its length, what it holds and was through, what was read of it, how many bytes it took, and how often it was synced
+-- a partition: its length, what it holds and was through, what was read of it, how many bytes it took, and how often
+-- it was synced
 pub record PartitionState : Type 0 where
   pub size : ℕ
   pub content : List ℕ

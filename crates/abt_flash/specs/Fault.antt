@@ -7,7 +7,9 @@ use Rattle.abt_sparse.specs.declared.fault.SparseFault.TheVariants as of_sparse
 use Rattle.abt_flash.specs.declared.fault.Cause.{Cause}
 use Rattle.abt_flash.specs.declared.fault.Cause.TheVariants as causes
 use Rattle.abt_flash.specs.declared.fault.FlashFault.{FlashFault}
-use Rattle.abt_flash.specs.declared.fault.FlashFault.TheVariants.{Sparse, Read, Write, TooLarge, SourceChanged, BadBlock, LimitTooSmall, PartitionTooSmall, Sync, Stopped, NoSuchPiece}
+use Rattle.abt_flash.specs.declared.fault.FlashFault.TheVariants.{Sparse, Read, Write, TooLarge, SourceChanged}
+use Rattle.abt_flash.specs.declared.fault.FlashFault.TheVariants.{BadBlock, LimitTooSmall, PartitionTooSmall, Sync}
+use Rattle.abt_flash.specs.declared.fault.FlashFault.TheVariants.{Stopped, NoSuchPiece}
 
 abbrev pub cause_number : Cause → ℕ
 cause_number (causes.Read f) = 11
@@ -43,9 +45,9 @@ IsOwn (of_sparse.Read d) = ⊥
 IsOwn (of_sparse.Write d) = ⊥
 IsOwn f = Unit {0}
 
--- Of a flash: 11 comes where the input has failed, 12 and 18 where the partition has, and each count of faults is as before
--- where that device isn't named. The reason that it gave is handed on, and is never that it is full. 13 to 16, 19 and 31
--- never come.
+-- Of a flash: 11 comes where the input has failed, 12 and 18 where the partition has, and each count of faults is as
+-- before where that device isn't named. The reason that it gave is handed on, and is never that it is full. 13 to 16,
+-- 19 and 31 never come.
 abbrev pub HasCause : FlashFault → ℕ → ℕ → ℕ → ℕ → Type 0
 HasCause (Sparse f) r r' p p' = IsOwn f × (r' ≡ r) × (p' ≡ p)
 HasCause (Read d) r r' p p' = (r < r') × (d ≡ Failed) × (p' ≡ p)

@@ -1,5 +1,6 @@
 -- What flashing a whole input answers, and what the partition holds then.
-use Rattle.std.specs.Prelude.{◌≡◌, ℕ, ◌+◌, ◌*◌, ◌<◌, ◌≤◌, Bool, IsTrue, List, [], Option, Result, Ok, Err, OnOk, is_ok, max, if◌then◌else◌}
+use Rattle.std.specs.Prelude.{◌≡◌, ℕ, ◌+◌, ◌*◌, ◌<◌, ◌≤◌, Bool, IsTrue, List, [], Option, Result, Ok, Err, OnOk, is_ok}
+use Rattle.std.specs.Prelude.{max, if◌then◌else◌}
 use Rattle.abt_io.specs.Moment.{EachSince, Keeps, Past, moment_of}
 use Rattle.abt_io.specs.declared.meter.Meter.{Meter}
 use Rattle.abt_sparse.specs.declared.fault.SparseFault.{SparseFault}
@@ -39,8 +40,8 @@ pub record Short (need size taken taken' : ℕ) (x : List ℕ) : Type 0 where
   pub short : size < need
   pub none : taken' ≡ taken
 
--- what is answered over an input x of which rest is left, and a partition of this size, save where bytes were not read or
--- not written. A sync is refused behind the whole image.
+-- what is answered over an input x of which rest is left, and a partition of this size, save where bytes were not read
+-- or not written. A sync is refused behind the whole image.
 abbrev pub Flashes : Result Flashed FlashFault → ℕ → ℕ → ℕ → List ℕ → List ℕ → Type 0
 Flashes (Ok e) size taken taken' x rest = Whole e size taken taken' x rest
 Flashes (Err (Sparse f)) size taken taken' x rest = Refused f size x
@@ -48,8 +49,9 @@ Flashes (Err (PartitionTooSmall need)) size taken taken' x rest = Short need siz
 Flashes (Err (Sync d)) size taken taken' x rest = (e : Flashed) × Whole e size taken taken' x rest
 Flashes (Err f) size taken taken' x rest = Unit {0}
 
--- What a partition that held p holds behind it: what x gives is laid over it, an image or what comes before a fault. One
--- that is too small is as it was, and one that was not synced holds all of the image, of which a crash may leave less.
+-- What a partition that held p holds behind it: what x gives is laid over it, an image or what comes before a fault.
+-- One that is too small is as it was, and one that was not synced holds all of the image, of which a crash may leave
+-- less.
 abbrev pub Holds : Result Flashed FlashFault → List ℕ → List ℕ → List ℕ → Type 0
 Holds (Ok e) p p' x = p' ≡ flashed p x
 Holds (Err (Sparse f)) p p' x = p' ≡ flashed p x
@@ -62,15 +64,18 @@ pub record TouchesOnly (cells : List (Option ℕ)) (past past' : Past) (p p' : L
   pub kept : Keeps (writes cells) (moment_of past p) (moment_of past' p')
   pub moments : EachSince past.moments past'.moments (During (writes cells) (moment_of past p) (moment_of past' p'))
 
--- A sync has succeeded where the answer is Ok, and then nothing is pending; every other one that was called was refused, as the answer says.
+-- A sync has succeeded where the answer is Ok, and then nothing is pending; every other one that was called was
+-- refused, as the answer says.
 pub record Syncs (tells : Bool) (r : Result Flashed FlashFault) (past past' : Past) (syncs syncs' : ℕ) : Type 0 where
   pub settled : IsTrue tells → OnOk r (past'.pending ≡ [])
   pub synced : past'.synced ≡ past.synced + (if is_ok r then 1 else 0)
   pub refused : syncs' + past.synced ≡ syncs + past'.synced + refused_syncs r
 
--- The calls of both devices, and the turns of loops, are at most 8 for each byte that was moved, and 64. No step receives more than 65,580 bytes.
+-- The calls of both devices, and the turns of loops, are at most 8 for each byte that was moved, and 64. No step
+-- receives more than 65,580 bytes.
 pub record FlashCosts (old new : Flow) (m m' : Meter) : Type 0 where
-  pub calls : new.reads + new.puts + new.syncs + 8 * old.given + 8 * old.taken ≤ old.reads + old.puts + old.syncs + 8 * new.given + 8 * new.taken + 64
+  pub calls : new.reads + new.puts + new.syncs + 8 * old.given + 8 * old.taken
+      ≤ old.reads + old.puts + old.syncs + 8 * new.given + 8 * new.taken + 64
   pub turns : m'.turns.number + 8 * old.given + 8 * old.taken ≤ m.turns.number + 8 * new.given + 8 * new.taken + 64
   pub steps : new.given + 65580 * m.steps.number ≤ old.given + 65580 * m'.steps.number
   pub greatest : m'.greatest.number ≤ max m.greatest.number 65580

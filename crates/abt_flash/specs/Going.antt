@@ -1,5 +1,6 @@
 -- Delivering between two pieces: what is still to come.
-use Rattle.std.specs.Prelude.{◌≡◌, ℕ, ◌+◌, ◌-◌, ◌*◌, ◌≤◌, ◌<◌, ◌⊎◌, Bool, false, Result, Ok, Err, List, length, map, if◌then◌else◌, nat_lt, None, slice_index_or}
+use Rattle.std.specs.Prelude.{◌≡◌, ℕ, ◌+◌, ◌-◌, ◌*◌, ◌≤◌, ◌<◌, ◌⊎◌, Bool, false, Result, Ok, Err, List, length, map}
+use Rattle.std.specs.Prelude.{if◌then◌else◌, nat_lt, None, slice_index_or}
 use Rattle.abt_io.specs.Moment.{Moment, Past, EachSince, moment_of, is_pending}
 use Rattle.abt_sparse.specs.Block.{Block, cells}
 use Rattle.abt_sparse.specs.Runs.{frames, framed}
@@ -51,13 +52,17 @@ pieces_left limit b l s st = map (piece b) (frames_left limit b l s st)
 abbrev pub blocks_at : ℕ → ℕ → List Block → ℕ → List Block
 blocks_at limit b l s = framed s (segment_at b limit l s) (length l - (s + length (segment_at b limit l s)))
 
--- A moment at which no byte that the image does not write, and none before block `done`, is pending, or other than it is to be.
+-- A moment at which no byte that the image does not write, and none before block `done`, is pending, or other than it
+-- is to be.
 pub record MendableAt (b : ℕ) (l : List Block) (p : List ℕ) (done : ℕ) (m : Moment) : Type 0 where
   pub content : Mendable b l p m.content done
-  pub settled : (i : ℕ) → i < length p → (i < done * b) ⊎ (slice_index_or (cells b l) i None ≡ None) → is_pending m.pending i ≡ false
+  pub settled : (i : ℕ) → i < length p → (i < done * b) ⊎ (slice_index_or (cells b l) i None ≡ None)
+      → is_pending m.pending i ≡ false
 
--- Since a call began, behind so many pieces and syncs and with these moments, every moment left what a delivery mends, and the present one does with the first s blocks whole.
-pub record Staying (limit b : ℕ) (l : List Block) (p : List ℕ) (made synced s : ℕ) (old : List Moment) (past : Past) (content : List ℕ) : Type 0 where
+-- Since a call began, behind so many pieces and syncs and with these moments, every moment left what a delivery mends,
+-- and the present one does with the first s blocks whole.
+pub record Staying (limit b : ℕ) (l : List Block) (p : List ℕ) (made synced s : ℕ) (old : List Moment) (past : Past)
+    (content : List ℕ) : Type 0 where
   pub since : EachSince old past.moments (MendableThen limit b l p made synced)
   pub now : MendableAt b l p s (moment_of past content)
 
@@ -83,7 +88,8 @@ HasPlanned tells k (Ok u) before n = n ≡ before
 HasPlanned tells k (Err f) before n = HasBegun tells k (Err f) before n
 
 -- what planning costs
-pub record PlanCosts (tells : Bool) (k before one : ℕ) (r : Result (Unit {0}) FlashFault) (reads given reads' given' : ℕ) (m m' : Meter) : Type 0 where
+pub record PlanCosts (tells : Bool) (k before one : ℕ) (r : Result (Unit {0}) FlashFault)
+    (reads given reads' given' : ℕ) (m m' : Meter) : Type 0 where
   pub begun : ℕ
   pub counted : HasPlanned tells k r before begun
   pub calls : reads' + 8 * given ≤ reads + 8 * given' + 128 * (begun + 1)

@@ -1,5 +1,6 @@
 -- What a part of an image lays over a partition, and what a call may touch of it.
-use Rattle.std.specs.Prelude.{◌≡◌, ℕ, ◌+◌, ◌*◌, ◌≤◌, ◌<◌, Bool, List, [], ◌∷◌, ◌++◌, take, replicate, Option, Some, None, is_some, slice_index_or, ◌⊎◌, Result, Ok, Err}
+use Rattle.std.specs.Prelude.{◌≡◌, ℕ, ◌+◌, ◌*◌, ◌≤◌, ◌<◌, Bool, List, [], ◌∷◌, ◌++◌, take, replicate, Option, Some}
+use Rattle.std.specs.Prelude.{None, is_some, slice_index_or, ◌⊎◌, Result, Ok, Err}
 use Rattle.std.specs.List.{concat}
 use Rattle.abt_io.specs.Moment.{Moment, Keeps}
 use Rattle.abt_chunks.specs.Ahead.{somes, fills, gaps}

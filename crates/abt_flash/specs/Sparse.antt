@@ -7,7 +7,9 @@ use Rattle.abt_io.specs.declared.device.DeviceFault.TheVariants.{Failed}
 use Rattle.abt_flash.specs.Devices.{Counts}
 use Rattle.abt_flash.specs.Delivering.{ImageBlocks, Room, StopsFor}
 use Rattle.abt_flash.specs.declared.fault.FlashFault.{FlashFault}
-use Rattle.abt_flash.specs.declared.fault.FlashFault.TheVariants.{Sparse, Read, Write, TooLarge, SourceChanged, BadBlock, LimitTooSmall, PartitionTooSmall, Sync, Stopped, NoSuchPiece}
+use Rattle.abt_flash.specs.declared.fault.FlashFault.TheVariants.{Sparse, Read, Write, TooLarge, SourceChanged}
+use Rattle.abt_flash.specs.declared.fault.FlashFault.TheVariants.{BadBlock, LimitTooSmall, PartitionTooSmall, Sync}
+use Rattle.abt_flash.specs.declared.fault.FlashFault.TheVariants.{Stopped, NoSuchPiece}
 
 -- the bytes begin with an image
 abbrev pub IsImage : Outcome → Type 0
@@ -36,15 +38,22 @@ pub record Fits (x : List ℕ) (limit size : ℕ) : Type 0 where
   pub image : IsImage (outcome x)
   pub room : Room limit (size_in (outcome x)) (length (blocks_in (outcome x))) size
 
--- Why the sparse image at the front of x is not delivered behind its first pieces, in order: its own fault, the limit, the partition, planning, and then a stop alone. A source that fails or has changed is told of at any time.
+-- Why the sparse image at the front of x is not delivered behind its first pieces, in order: its own fault, the limit,
+-- the partition, planning, and then a stop alone. A source that fails or has changed is told of at any time.
 abbrev pub SparseRefused : FlashFault → List ℕ → ℕ → ℕ → ℕ → Bool → Bool → Counts → Counts → Type 0
-SparseRefused (Sparse f) x limit size made source spool a z = (number_of f ≤ 10) × (IsTrue source → (cells : List (Option ℕ)) × (outcome x ≡ Fault f cells))
+SparseRefused (Sparse f) x limit size made source spool a z =
+    (number_of f ≤ 10) × (IsTrue source → (cells : List (Option ℕ)) × (outcome x ≡ Fault f cells))
 SparseRefused (Read d) x limit size made source spool a z = (a.read_faults < z.read_faults) × (d ≡ Failed)
 SparseRefused SourceChanged x limit size made source spool a z = source ≡ false
-SparseRefused (LimitTooSmall least) x limit size made source spool a z = (limit < least) × (IsTrue source → IsImage (outcome x) × (least ≡ 64 + size_in (outcome x)))
-SparseRefused (PartitionTooSmall need) x limit size made source spool a z = (size < need) × (IsTrue source → IsImage (outcome x) × (64 + size_in (outcome x) ≤ limit) × (need ≡ length (blocks_in (outcome x)) * size_in (outcome x)))
-SparseRefused (NoSuchPiece k) x limit size made source spool a z = (0 < k) × (k ≤ made) × (IsTrue source → Fits x limit size)
-SparseRefused (Stopped j c) x limit size made source spool a z = (made < j) × StopsFor c source spool a z × (IsTrue source → Fits x limit size)
+SparseRefused (LimitTooSmall least) x limit size made source spool a z =
+    (limit < least) × (IsTrue source → IsImage (outcome x) × (least ≡ 64 + size_in (outcome x)))
+SparseRefused (PartitionTooSmall need) x limit size made source spool a z =
+    (size < need) × (IsTrue source → IsImage (outcome x) × (64 + size_in (outcome x) ≤ limit)
+    × (need ≡ length (blocks_in (outcome x)) * size_in (outcome x)))
+SparseRefused (NoSuchPiece k) x limit size made source spool a z =
+    (0 < k) × (k ≤ made) × (IsTrue source → Fits x limit size)
+SparseRefused (Stopped j c) x limit size made source spool a z =
+    (made < j) × StopsFor c source spool a z × (IsTrue source → Fits x limit size)
 SparseRefused (Write d) x limit size made source spool a z = ⊥
 SparseRefused TooLarge x limit size made source spool a z = ⊥
 SparseRefused (BadBlock q) x limit size made source spool a z = ⊥

@@ -1,5 +1,6 @@
 -- One step of a flasher: what it lays, and where it stands behind it.
-use Rattle.std.specs.Prelude.{◌≡◌, ℕ, ◌+◌, ◌-◌, ◌*◌, ◌<◌, ◌≤◌, Bool, true, false, List, [], ◌++◌, length, Option, Some, Result, Ok, Err, IsTrue, is_err, OnOk, nat_lt, ◌&&◌, ◌||◌, if◌then◌else◌}
+use Rattle.std.specs.Prelude.{◌≡◌, ℕ, ◌+◌, ◌-◌, ◌*◌, ◌<◌, ◌≤◌, Bool, true, false, List, [], ◌++◌, length, Option, Some}
+use Rattle.std.specs.Prelude.{Result, Ok, Err, IsTrue, is_err, OnOk, nat_lt, ◌&&◌, ◌||◌, if◌then◌else◌}
 use Rattle.abt_io.specs.Moment.{Past, Keeps, EachSince, moment_of}
 use Rattle.abt_sparse.specs.Block.{over}
 use Rattle.abt_sparse.specs.View.{view}
@@ -119,7 +120,8 @@ abbrev pub idle : Walk → ℕ
 idle s = idle_in s.phase s
 
 -- What a step from walk s to walk s' lays over a partition that held p, once the bytes c are read and rest is left.
-pub record Laid (tells : Bool) (stage : Stage) (r : Result Progress FlashFault) (s s' : Walk) (c rest : List ℕ) (past past' : Past) (p p' : List ℕ) (taken taken' : ℕ) : Type 0 where
+pub record Laid (tells : Bool) (stage : Stage) (r : Result Progress FlashFault) (s s' : Walk) (c rest : List ℕ)
+    (past past' : Past) (p p' : List ℕ) (taken taken' : ℕ) : Type 0 where
   -- the cells that it lays, and what comes behind them where t follows
   pub cells : List (Option ℕ)
   pub more : List ℕ → List (Option ℕ)
@@ -132,7 +134,8 @@ pub record Laid (tells : Bool) (stage : Stage) (r : Result Progress FlashFault) 
   pub content : IsTrue tells → Unless r (p' ≡ over p (from_place (place_of s) cells))
   -- nothing else is touched
   pub kept : IsTrue tells → Keeps (writes (from_place (place_of s) cells)) (moment_of past p) (moment_of past' p')
-  pub moments : IsTrue tells → EachSince past.moments past'.moments (During (writes (from_place (place_of s) cells)) (moment_of past p) (moment_of past' p'))
+  pub moments : IsTrue tells → EachSince past.moments past'.moments
+      (During (writes (from_place (place_of s) cells)) (moment_of past p) (moment_of past' p'))
   -- nothing is held over but words of a fill, and a gap
   pub held : Goes stage s.phase → OnOk r (more [] ≡ owed s')
 
@@ -144,19 +147,22 @@ Heads (Err (Sparse f)) s s' x y = (upcoming s x).head ≡ head_in s.phase (at_en
 Heads (Err (Sync d)) s s' x y = (upcoming s x).head ≡ Some (view s'.header)
 Heads (Err f) s s' x y = Unit {0}
 
--- Where the flasher goes on: no chunk has been begun only where none had been and the partition was not called, the header stays, and the first chunk is begun behind the header.
+-- Where the flasher goes on: no chunk has been begun only where none had been and the partition was not called, the
+-- header stays, and the first chunk is begun behind the header.
 pub record GoesOn (r : Result Progress FlashFault) (stage : Stage) (s s' : Walk) (untouched : Type 0) : Type 0 where
   pub fresh : Goes stage s.phase → OnMore r (IsFresh s' → IsFresh s × untouched)
   pub header : OnMore r (s.phase ≡ phases.Body → s'.header ≡ s.header)
   pub begins : OnMore r (0 < s'.index → passed s ≡ true)
 
 -- A sync that was called has succeeded, save where the answer says that it was refused, and then nothing is pending.
-pub record StepSyncs (tells : Bool) (stage : Stage) (s : Walk) (r : Result Progress FlashFault) (past past' : Past) (syncs syncs' : ℕ) : Type 0 where
+pub record StepSyncs (tells : Bool) (stage : Stage) (s : Walk) (r : Result Progress FlashFault) (past past' : Past)
+    (syncs syncs' : ℕ) : Type 0 where
   pub settled : Goes stage s.phase → IsTrue tells → OnDone r (past'.pending ≡ [])
   pub synced : past'.synced ≡ past.synced + (if is_done stage r then 1 else 0)
   pub refused : Goes stage s.phase → syncs' + past.synced ≡ syncs + past'.synced + refused_syncs r
 
--- The calls of the devices, and the turns of loops, in the bytes that were moved. A step that moves none is followed by one that does.
+-- The calls of the devices, and the turns of loops, in the bytes that were moved. A step that moves none is followed
+-- by one that does.
 pub record StepCosts (r : Result Progress FlashFault) (s s' : Walk) (old new : Flow) (m m' : Meter) : Type 0 where
   pub reads : new.reads ≤ old.reads + (new.given - old.given) + 1
   pub puts : new.puts + new.syncs + 2 * old.taken ≤ old.puts + old.syncs + 2 * new.taken + 1

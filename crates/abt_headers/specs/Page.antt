@@ -3,7 +3,8 @@ use Rattle.std.specs.Prelude.{ℕ, ◌+◌, ◌-◌, ◌/◌, ◌==◌, if◌the
 use Rattle.abt_headers.specs.declared.fault.HeaderFault.{HeaderFault}
 use Rattle.abt_headers.specs.declared.fault.HeaderFault.TheVariants as faults
 use Rattle.abt_headers.specs.declared.page.PageSize.{PageSize}
-use Rattle.abt_headers.specs.declared.page.PageSize.TheVariants.{Of2048, Of4096, Of8192, Of16384, Of32768, Of65536, Of131072}
+use Rattle.abt_headers.specs.declared.page.PageSize.TheVariants.{Of2048, Of4096, Of8192, Of16384, Of32768, Of65536}
+use Rattle.abt_headers.specs.declared.page.PageSize.TheVariants.{Of131072}
 use Rattle.abt_headers.specs.Field.{number_at}
 
 -- how many bytes a page has

@@ -1,6 +1,7 @@
 -- The vendor boot header (`vendor_boot_img_hdr_v3` and `vendor_boot_img_hdr_v4` of AOSP's `bootimg.h`): its bytes,
 -- what reading them gives, and the sections behind it.
-use Rattle.std.specs.Prelude.{ℕ, ◌*◌, ◌==◌, ◌||◌, not, if◌then◌else◌, List, [], ◌∷◌, ◌++◌, Option, Some, None, Result, Ok, Err}
+use Rattle.std.specs.Prelude.{ℕ, ◌*◌, ◌==◌, ◌||◌, not, if◌then◌else◌, List, [], ◌∷◌, ◌++◌, Option, Some, None, Result}
+use Rattle.std.specs.Prelude.{Ok, Err}
 use Rattle.byteorder.specs.Endian.{little_bytes}
 use Rattle.abt_headers.specs.declared.fault.HeaderFault.{HeaderFault}
 use Rattle.abt_headers.specs.declared.fault.HeaderFault.TheVariants as faults

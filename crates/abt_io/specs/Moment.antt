@@ -1,5 +1,6 @@
 -- What a crash may leave on a partition.
-use Rattle.std.specs.Prelude.{◌≡◌, ℕ, ◌+◌, Bool, true, false, ◌&&◌, ◌||◌, nat_le, nat_lt, List, [], ◌∷◌, ◌++◌, length, take, drop, slice_get}
+use Rattle.std.specs.Prelude.{◌≡◌, ℕ, ◌+◌, Bool, true, false, ◌&&◌, ◌||◌, nat_le, nat_lt, List, [], ◌∷◌, ◌++◌, length}
+use Rattle.std.specs.Prelude.{take, drop, slice_get}
 use Rattle.std.specs.List.{AllByRecursion}
 
 -- a partition between two calls: what a read gives, the ranges (place and length) that a crash may leave with any

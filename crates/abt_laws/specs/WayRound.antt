@@ -2,7 +2,8 @@
 --
 -- Each step is what the contracts of its functions say: `pack_boot` and `pack_vendor` write the canonical image;
 -- `sparsify` writes the spelling of its blocks; `deliver` and `deliver_raw` leave what `LaysBlocks` says, `resume` and
--- `resume_raw` what `MendsBlocks` says; `open` finds an image, and `unpack` and `unpack_fragment` write what stands in it.
+-- `resume_raw` what `MendsBlocks` says; `open` finds an image, and `unpack` and `unpack_fragment` write what stands
+-- in it.
 use Rattle.std.specs.Prelude.{◌≡◌, ℕ, ◌+◌, ◌*◌, ◌^◌, ◌<◌, ◌≤◌, true, List, length, Ok}
 use Rattle.abt_sparse.specs.Block.{IsBlockSize, block_count, classify}
 use Rattle.abt_sparse.specs.Chunk.{spelling}
@@ -36,8 +37,10 @@ pub data SentAs (x : List ℕ) : ImageBlocks → Type 0 where
 -- An image arrives on a partition that held p before, which then holds the last list: delivered at once, or by going on
 -- from a piece that a stop left unfinished, or from any before it.
 pub data Arrives (i : ImageBlocks) (limit : ℕ) (p : List ℕ) : List ℕ → Type 0 where
-  at_once : (d : Delivered) (old new : PartitionState) → old.content ≡ p → LaysBlocks true true true i limit 0 (Ok d) old new → Arrives i limit p new.content
-  going_on : (d : Delivered) (old new : PartitionState) (made done : ℕ) → made ≤ done → Mendable i.size i.blocks p old.content (blocks_in_first limit i.size i.blocks done)
+  at_once : (d : Delivered) (old new : PartitionState) → old.content ≡ p
+      → LaysBlocks true true true i limit 0 (Ok d) old new → Arrives i limit p new.content
+  going_on : (d : Delivered) (old new : PartitionState) (made done : ℕ) → made ≤ done
+      → Mendable i.size i.blocks p old.content (blocks_in_first limit i.size i.blocks done)
       → MendsBlocks i limit made (Ok d) old new → Arrives i limit p new.content
 
 -- the bytes x were sent within a limit to a partition with room for all their blocks, which held p and now holds q
@@ -51,16 +54,20 @@ pub record Carried (x p q : List ℕ) : Type 0 where
 -- Whatever the partition held, it is an image of these fields and parts then: opened as their header, with the parts in
 -- its sections.
 abbrev pub BootWay : Type 0
-BootWay = (s : BootFields) (parts : List (List ℕ)) (p q : List ℕ) → IsBootInput s parts → Carried (boot_canon s parts) p q → HoldsBoot q s parts
+BootWay = (s : BootFields) (parts : List (List ℕ)) (p q : List ℕ) → IsBootInput s parts
+    → Carried (boot_canon s parts) p q → HoldsBoot q s parts
 
 abbrev pub VendorWay : Type 0
-VendorWay = (s : VendorFields) (v : VendorParts) (p q : List ℕ) → IsVendorInput s v → Carried (vendor_canon s v) p q → HoldsVendor q s v
+VendorWay = (s : VendorFields) (v : VendorParts) (p q : List ℕ) → IsVendorInput s v → Carried (vendor_canon s v) p q
+    → HoldsVendor q s v
 
 -- and in version 4 of a vendor boot image fragment k is ramdisk k
 abbrev pub FragmentWay : Type 0
-FragmentWay = (s : VendorFields) (v : VendorParts) (p q : List ℕ) (k : ℕ) → IsVendorInput s v → s.version ≡ 4 → k < length v.ramdisks → Carried (vendor_canon s v) p q
+FragmentWay = (s : VendorFields) (v : VendorParts) (p q : List ℕ) (k : ℕ) → IsVendorInput s v → s.version ≡ 4
+    → k < length v.ramdisks → Carried (vendor_canon s v) p q
     → HoldsFragment q (OfVendor (vendor_header_of s v)) v.fragments v.ramdisks k
 
 -- What opening finds there is that header and no other, so what is unpacked is the parts.
 abbrev pub FoundAgain : Type 0
-FoundAgain = (q : List ℕ) (h found : Header) (parts : List (List ℕ)) → Holds q h parts → HasImage q found → (found ≡ h) × (parts_of q (places_of found) ≡ parts)
+FoundAgain = (q : List ℕ) (h found : Header) (parts : List (List ℕ)) → Holds q h parts → HasImage q found
+    → (found ≡ h) × (parts_of q (places_of found) ≡ parts)

@@ -25,26 +25,34 @@ Slim-prop (tails.Fill w) at bytes weight = Prim.hlevel props
 Even-prop : (p : Planner) → IsProp (Even p)
 Even-prop p = Prim.hlevel (props, Slim-prop p.tail p.at.block p.contents.bytes p.weight)
 
-SoundPlanner-prop : (W : Cursor → Type 0) → ((c : Cursor) → IsProp (W c)) → (limit s : ℕ) (p : Planner) → IsProp (SoundPlanner W limit s p)
+SoundPlanner-prop : (W : Cursor → Type 0) → ((c : Cursor) → IsProp (W c)) → (limit s : ℕ) (p : Planner)
+    → IsProp (SoundPlanner W limit s p)
 SoundPlanner-prop W alike limit s p = Prim.hlevel (props, alike, Even-prop)
 
-SoundOutline-prop : (W : Cursor → Type 0) → ((c : Cursor) → IsProp (W c)) → (n limit s : ℕ) (o : Outline) → IsProp (SoundOutline W n limit s o)
+SoundOutline-prop : (W : Cursor → Type 0) → ((c : Cursor) → IsProp (W c)) → (n limit s : ℕ) (o : Outline)
+    → IsProp (SoundOutline W n limit s o)
 SoundOutline-prop W alike n limit s o = Prim.hlevel (props, alike)
 
-SoundGatherer-prop : (W : Cursor → Type 0) → ((c : Cursor) → IsProp (W c)) → (n s e : ℕ) (g : Gatherer) → IsProp (SoundGatherer W n s e g)
+SoundGatherer-prop : (W : Cursor → Type 0) → ((c : Cursor) → IsProp (W c)) → (n s e : ℕ) (g : Gatherer)
+    → IsProp (SoundGatherer W n s e g)
 SoundGatherer-prop W alike n s e g = Prim.hlevel (props, alike)
 
-SoundCopying-prop : (W : Cursor → Type 0) → ((c : Cursor) → IsProp (W c)) → (reach : Cursor → ℕ) (b s e u bytes : ℕ) (c : Option Copying) → IsProp (SoundCopying W reach b s e u bytes c)
+SoundCopying-prop : (W : Cursor → Type 0) → ((c : Cursor) → IsProp (W c))
+    → (reach : Cursor → ℕ) (b s e u bytes : ℕ) (c : Option Copying) → IsProp (SoundCopying W reach b s e u bytes c)
 SoundCopying-prop W alike reach b s e u bytes None = Prim.hlevel props
 SoundCopying-prop W alike reach b s e u bytes (Some c) = Prim.hlevel (props, alike)
 
-SoundWriter-prop : (W : Cursor → Type 0) → ((c : Cursor) → IsProp (W c)) → (reach : Cursor → ℕ) (n b : ℕ) (w : Writer) → IsProp (SoundWriter W reach n b w)
+SoundWriter-prop : (W : Cursor → Type 0) → ((c : Cursor) → IsProp (W c))
+    → (reach : Cursor → ℕ) (n b : ℕ) (w : Writer) → IsProp (SoundWriter W reach n b w)
 SoundWriter-prop W alike reach n b w = Prim.hlevel (props, SoundGatherer-prop W alike, SoundCopying-prop W alike)
 
-SoundWriting-prop : (W : Cursor → Type 0) → ((c : Cursor) → IsProp (W c)) → (reach : Cursor → ℕ) (n b limit s : ℕ) (o : Outline) (w : Writer) → IsProp (SoundWriting W reach n b limit s o w)
-SoundWriting-prop W alike reach n b limit s o w = Prim.hlevel (props, SoundOutline-prop W alike, SoundWriter-prop W alike)
+SoundWriting-prop : (W : Cursor → Type 0) → ((c : Cursor) → IsProp (W c))
+    → (reach : Cursor → ℕ) (n b limit s : ℕ) (o : Outline) (w : Writer) → IsProp (SoundWriting W reach n b limit s o w)
+SoundWriting-prop W alike reach n b limit s o w =
+    Prim.hlevel (props, SoundOutline-prop W alike, SoundWriter-prop W alike)
 
-SoundStage-prop : (W : Cursor → Type 0) → ((c : Cursor) → IsProp (W c)) → (reach : Cursor → ℕ) (n b limit s : ℕ) (st : Stage) → IsProp (SoundStage W reach n b limit s st)
+SoundStage-prop : (W : Cursor → Type 0) → ((c : Cursor) → IsProp (W c))
+    → (reach : Cursor → ℕ) (n b limit s : ℕ) (st : Stage) → IsProp (SoundStage W reach n b limit s st)
 SoundStage-prop W alike reach n b limit s Between = Prim.hlevel props
 SoundStage-prop W alike reach n b limit s (Plan p) = SoundPlanner-prop W alike limit s p
 SoundStage-prop W alike reach n b limit s (Begin o) = SoundOutline-prop W alike n limit s o
@@ -60,5 +68,8 @@ TakenStage-prop K b limit start (Write o w) = Prim.hlevel props
 TakenStage-prop K b limit start Done = Prim.hlevel props
 TakenStage-prop K b limit start (Failed f) = Prim.hlevel props
 
-pub SoundCutter-prop : (W : Cursor → Type 0) → ((c : Cursor) → IsProp (W c)) → (reach K : Cursor → ℕ) (n b limit made : ℕ) (start : Cursor) (st : Stage) → IsProp (SoundCutter W reach K n b limit made start st)
-SoundCutter-prop W alike reach K n b limit made start st = Prim.hlevel (props, alike, SoundStage-prop W alike, TakenStage-prop)
+pub SoundCutter-prop : (W : Cursor → Type 0) → ((c : Cursor) → IsProp (W c))
+    → (reach K : Cursor → ℕ) (n b limit made : ℕ) (start : Cursor) (st : Stage)
+    → IsProp (SoundCutter W reach K n b limit made start st)
+SoundCutter-prop W alike reach K n b limit made start st =
+    Prim.hlevel (props, alike, SoundStage-prop W alike, TakenStage-prop)

@@ -1,5 +1,6 @@
 -- Where a cutter stands, between pieces and within one.
-use Rattle.std.specs.Prelude.{◌≡◌, ℕ, ◌+◌, ◌-◌, ◌*◌, ◌^◌, ◌≤◌, ◌<◌, Bool, true, false, List, [], ◌++◌, length, drop, nat_le, None, ⊤, Result, Ok, Err, if◌then◌else◌, nat_lt}
+use Rattle.std.specs.Prelude.{◌≡◌, ℕ, ◌+◌, ◌-◌, ◌*◌, ◌^◌, ◌≤◌, ◌<◌, Bool, true, false, List, [], ◌++◌, length, drop}
+use Rattle.std.specs.Prelude.{nat_le, None, ⊤, Result, Ok, Err, if◌then◌else◌, nat_lt}
 use Rattle.abt_sparse.specs.Block.{Block}
 use Rattle.abt_sparse.specs.Runs.{weight, greedy, segments}
 use Rattle.abt_runs.specs.declared.part.Cursor.{Cursor}
@@ -20,7 +21,10 @@ use Rattle.abt_pieces.specs.declared.stage.PieceProgress.TheVariants as answers
 
 -- before the first chunk of a planned piece
 abbrev pub first_writer : Cursor → Outline → Writer
-first_writer c o = record { first = o.piece.first; past = o.piece.past; gatherer = first_gatherer c; copying = None; chunks = o.chunks; bytes = o.piece.bytes - 28 }
+first_writer c o = record {
+  first = o.piece.first; past = o.piece.past; gatherer = first_gatherer c; copying = None; chunks = o.chunks;
+  bytes = o.piece.bytes - 28;
+}
 
 -- a piece is begun or left, or a call has refused
 abbrev pub has_more : Stage → Bool
@@ -78,7 +82,8 @@ abbrev pub OnPiece : Result PieceProgress PieceFault → (Piece → Type 0) → 
 OnPiece (Ok (answers.Piece p)) P = P p
 OnPiece r P = ⊤
 
--- behind a piece from block s up to e, of an image of n blocks: only the last piece ends with the image, and each other one has a block
+-- behind a piece from block s up to e, of an image of n blocks: only the last piece ends with the image, and each
+-- other one has a block
 pub record Passed (n s e : ℕ) (st : Stage) : Type 0 where
   pub moves : e < n → s < e
   pub within : e ≤ n
@@ -106,7 +111,8 @@ pub record SoundOutline (W : Cursor → Type 0) (n limit s : ℕ) (o : Outline) 
   pub long : o.piece.bytes ≤ limit
 
 -- a planned piece that is being written
-pub record SoundWriting (W : Cursor → Type 0) (reach : Cursor → ℕ) (n b limit s : ℕ) (o : Outline) (w : Writer) : Type 0 where
+pub record SoundWriting (W : Cursor → Type 0) (reach : Cursor → ℕ) (n b limit s : ℕ) (o : Outline)
+    (w : Writer) : Type 0 where
   pub outline : SoundOutline W n limit s o
   pub writer : SoundWriter W reach n b w
   pub first : w.first ≡ o.piece.first
@@ -125,7 +131,8 @@ SoundStage W reach n b limit s (Failed f) = ⊤
 -- within a raw chunk is counted with a header, and then nothing more has room
 pub record TakenPlan (K : Cursor → ℕ) (b limit : ℕ) (start : Cursor) (p : Planner) : Type 0 where
   pub most : p.contents.bytes + K start ≤ 40 + K p.at + 16
-  pub inside : 0 < p.at.used → ((p.tail ≡ tails.Raw) × (limit - p.weight < b) → ⊥) → p.contents.bytes + K start ≤ 40 + K p.at
+  pub inside : 0 < p.at.used → ((p.tail ≡ tails.Raw) × (limit - p.weight < b) → ⊥)
+      → p.contents.bytes + K start ≤ 40 + K p.at
 
 -- how long the begun piece is
 abbrev pub TakenStage : (Cursor → ℕ) → ℕ → ℕ → Cursor → Stage → Type 0
@@ -137,7 +144,8 @@ TakenStage K b limit start Done = ⊤
 TakenStage K b limit start (Failed f) = ⊤
 
 -- the numbers of a cutter
-pub record SoundCutter (W : Cursor → Type 0) (reach K : Cursor → ℕ) (n b limit made : ℕ) (start : Cursor) (st : Stage) : Type 0 where
+pub record SoundCutter (W : Cursor → Type 0) (reach K : Cursor → ℕ) (n b limit made : ℕ) (start : Cursor)
+    (st : Stage) : Type 0 where
   pub granted : 64 + b ≤ limit
   pub within : W start
   pub few : made ≤ start.block + 1
@@ -183,7 +191,8 @@ pub record ToldOutline (P : Cursor → Type 0) (b : ℕ) (l : List Block) (limit
   pub place : P o.next
 
 -- and so much of it is still to be written
-pub record ToldWriting (P : Cursor → Type 0) (T : Cursor → ℕ) (b : ℕ) (l : List Block) (limit s : ℕ) (o : Outline) (w : Writer) : Type 0 where
+pub record ToldWriting (P : Cursor → Type 0) (T : Cursor → ℕ) (b : ℕ) (l : List Block) (limit s : ℕ) (o : Outline)
+    (w : Writer) : Type 0 where
   pub outline : ToldOutline P b l limit s o
   pub writer : ToldWriter P T l w
 
@@ -195,7 +204,8 @@ ToldStage P T b l limit s (Write o w) = ToldWriting P T b l limit s o w
 ToldStage P T b l limit s Done = ⊤
 ToldStage P T b l limit s (Failed f) = ⊤
 
-pub record ToldCutter (P : Cursor → Type 0) (T : Cursor → ℕ) (b : ℕ) (l : List Block) (limit made : ℕ) (start : Cursor) (st : Stage) : Type 0 where
+pub record ToldCutter (P : Cursor → Type 0) (T : Cursor → ℕ) (b : ℕ) (l : List Block) (limit made : ℕ)
+    (start : Cursor) (st : Stage) : Type 0 where
   pub place : P start
   pub cuts : Made b limit l made (segments_left b limit l start.block st)
   pub stage : ToldStage P T b l limit start.block st

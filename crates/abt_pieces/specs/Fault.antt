@@ -5,7 +5,8 @@ use Rattle.abt_io.specs.declared.device.DeviceFault.TheVariants.{Failed}
 use Rattle.abt_runs.specs.declared.part.RunFault.{RunFault}
 use Rattle.abt_runs.specs.declared.part.RunFault.TheVariants as of_runs
 use Rattle.abt_pieces.specs.declared.fault.PieceFault.{PieceFault}
-use Rattle.abt_pieces.specs.declared.fault.PieceFault.TheVariants.{Read, Write, TooLarge, SourceChanged, BadBlock, LimitTooSmall}
+use Rattle.abt_pieces.specs.declared.fault.PieceFault.TheVariants.{Read, Write, TooLarge, SourceChanged, BadBlock}
+use Rattle.abt_pieces.specs.declared.fault.PieceFault.TheVariants.{LimitTooSmall}
 
 abbrev pub fault_number : PieceFault → ℕ
 fault_number (Read f) = 11
@@ -22,7 +23,8 @@ fault_of_run of_runs.SourceChanged = SourceChanged
 fault_of_run (of_runs.Sparse f) = SourceChanged
 fault_of_run (of_runs.BadBlock n) = BadBlock n
 
--- While a piece is planned or written a device has failed, the source with the reason that is handed on, or a source that does not tell its bytes has changed.
+-- While a piece is planned or written a device has failed, the source with the reason that is handed on, or a source
+-- that does not tell its bytes has changed.
 abbrev pub HasCause : PieceFault → Bool → ℕ → ℕ → ℕ → ℕ → Type 0
 HasCause (Read f) tells reads reads' writes writes' = (reads < reads') × (f ≡ Failed)
 HasCause (Write f) tells reads reads' writes writes' = writes < writes'

@@ -1,5 +1,6 @@
 -- The runs of a piece, and a run that is being gathered.
-use Rattle.std.specs.Prelude.{◌≡◌, ℕ, ◌+◌, ◌-◌, ◌≤◌, ◌<◌, true, List, ◌∷◌, length, drop, nat_lt, ◌==◌, ◌&&◌, not, Option, Some, None, if◌then◌else◌}
+use Rattle.std.specs.Prelude.{◌≡◌, ℕ, ◌+◌, ◌-◌, ◌≤◌, ◌<◌, true, List, ◌∷◌, length, drop, nat_lt, ◌==◌, ◌&&◌, not}
+use Rattle.std.specs.Prelude.{Option, Some, None, if◌then◌else◌}
 use Rattle.abt_sparse.specs.Block.{Block}
 use Rattle.abt_sparse.specs.Runs.{framed, runs}
 use Rattle.abt_runs.specs.Part.{AllOf, is_end, entry}
@@ -22,7 +23,8 @@ pub record Gathered (l : List Block) (g : Gatherer) : Type 0 where
 
 -- The run r is the first of what was left, and the next one begins behind it, if there is one.
 pub record Closed (l : List Block) (old new : Gatherer) (r : Run) : Type 0 where
-  pub first : runs (drop (old.at.block - old.count) l) ≡ between l (old.at.block - old.count) old.at.block ∷ runs (drop old.at.block l)
+  pub first : runs (drop (old.at.block - old.count) l)
+      ≡ between l (old.at.block - old.count) old.at.block ∷ runs (drop old.at.block l)
   pub all : AllOf old.kind (between l (old.at.block - old.count) old.at.block)
 
 -- the same in numbers alone
@@ -69,20 +71,23 @@ begun_with r = record { kind = r.kind; count = r.blocks; from = r.here; at = r.n
 -- with a part more, and the run that has ended before it, if one has
 abbrev pub gathered_on : Gatherer → Run → Gatherer × Option Run
 gathered_on g r =
-    if (r.blocks == 0) && not (is_end r.kind) then (record { kind = g.kind; count = g.count; from = g.from; at = r.next }, None)
+    if (r.blocks == 0) && not (is_end r.kind)
+        then (record { kind = g.kind; count = g.count; from = g.from; at = r.next }, None)
     else if g.count == 0 then (begun_with r, None)
-    else if alike_kinds g.kind r.kind then (record { kind = g.kind; count = g.count + r.blocks; from = g.from; at = r.next }, None)
+    else if alike_kinds g.kind r.kind
+        then (record { kind = g.kind; count = g.count + r.blocks; from = g.from; at = r.next }, None)
     else (begun_with r, Some (record { kind = g.kind; blocks = g.count; here = g.from; next = g.at }))
 
 -- how many parts there can be before the end of a piece
 abbrev pub look_left : (Cursor → ℕ) → ℕ → ℕ → Gatherer → ℕ
-look_left left n past g = if nat_lt g.at.block past then left g.at + 3 else if nat_lt g.at.block n then 2 else if is_end g.kind then 0 else 1
+look_left left n past g =
+    if nat_lt g.at.block past then left g.at + 3 else if nat_lt g.at.block n then 2 else if is_end g.kind then 0 else 1
 
 -- how many of these may read nothing: the part behind the segment, and the end
 abbrev pub silent_left : ℕ → ℕ → Gatherer → ℕ
 silent_left n past g = look_left (λ c. 0) n past g
 
--- how many bytes a pass may have read before a place of a segment that ends at the place d: a segment that begins inside
--- a chunk has that chunk's header read again
+-- how many bytes a pass may have read before a place of a segment that ends at the place d: a segment that begins
+-- inside a chunk has that chunk's header read again
 abbrev pub gathered_to : (Cursor → ℕ) → ℕ → Cursor → Cursor → ℕ
 gathered_to charge past d c = if nat_lt c.block past then charge c + (16 - entry c) else charge d + 16

@@ -43,8 +43,8 @@ abbrev pub copy_to_come : Option Copying → ℕ
 copy_to_come None = 0
 copy_to_come (Some c) = c.left
 
--- t may come behind what is written: the rest of the raw run, and all chunks still to be begun, with all blocks from the
--- open run's first on
+-- t may come behind what is written: the rest of the raw run, and all chunks still to be begun, with all blocks from
+-- the open run's first on
 pub record MayCome (b n : ℕ) (w : Writer) (t : List ℕ) : Type 0 where
   pub raw : List ℕ
   pub rest : List ℕ

@@ -1,5 +1,6 @@
 -- Planning a piece from left to right, in numbers.
-use Rattle.std.specs.Prelude.{◌≡◌, ℕ, ◌+◌, ◌-◌, ◌*◌, ◌/◌, ◌≤◌, ◌<◌, nat_lt, nat_le, List, [], ◌∷◌, ◌++◌, length, take, drop, replicate, bytes_eq, zero, suc, if◌then◌else◌}
+use Rattle.std.specs.Prelude.{◌≡◌, ℕ, ◌+◌, ◌-◌, ◌*◌, ◌/◌, ◌≤◌, ◌<◌, nat_lt, nat_le, List, [], ◌∷◌, ◌++◌, length, take}
+use Rattle.std.specs.Prelude.{drop, replicate, bytes_eq, zero, suc, if◌then◌else◌}
 use Rattle.abt_sparse.specs.Block.{Block, Raw, Fill, Skip}
 use Rattle.abt_sparse.specs.Runs.{weight, greedy, tail_parts}
 use Rattle.abt_sparse.specs.Gains.{Behind, Fresh, After, behind_all}
@@ -92,14 +93,16 @@ pub record Planned (b : ℕ) (l : List Block) (p : Planner) : Type 0 where
 
 -- not one block more would be within the limit
 pub record Ends (b : ℕ) (l : List Block) (limit : ℕ) (p : Planner) : Type 0 where
-  pub over : (x : Block) (more : List Block) → drop p.at.block l ≡ x ∷ more → limit < weight b (between l p.first p.at.block ++ x ∷ [])
+  pub over : (x : Block) (more : List Block) → drop p.at.block l ≡ x ∷ more
+      → limit < weight b (between l p.first p.at.block ++ x ∷ [])
 
 -- The first piece of what begins at s ends at e.
 pub record FirstPiece (b : ℕ) (l : List Block) (limit s e : ℕ) : Type 0 where
   pub order : s ≤ e
   pub within : e ≤ length l
   pub fits : weight b (between l s e) ≤ limit
-  pub cut : greedy (λ part. nat_le (weight b part) limit) [] (drop s l) ≡ between l s e ∷ tail_parts (λ part. nat_le (weight b part) limit) (drop e l)
+  pub cut : greedy (λ part. nat_le (weight b part) limit) [] (drop s l)
+      ≡ between l s e ∷ tail_parts (λ part. nat_le (weight b part) limit) (drop e l)
 
 -- how many words of the last of n blocks may have been compared without being read before block i
 abbrev pub last_words : ℕ → ℕ → ℕ → ℕ

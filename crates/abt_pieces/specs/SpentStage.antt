@@ -18,7 +18,8 @@ pub record SpentPlan (charge copied : Cursor → ℕ) (b limit : ℕ) (start : C
   pub low : all_passes charge copied start ≤ t
   pub copies : copied start ≤ copied p.at
   pub most : t ≤ charge p.at + (2 * charge start + copied start) + 16
-  pub inside : 0 < p.at.used → ((p.tail ≡ tails.Raw) × (limit - p.weight < b)) ⊎ (t ≤ charge p.at + (2 * charge start + copied start))
+  pub inside : 0 < p.at.used
+      → ((p.tail ≡ tails.Raw) × (limit - p.weight < b)) ⊎ (t ≤ charge p.at + (2 * charge start + copied start))
 
 -- the piece is planned, of an image of n blocks where telling the class of one reads `one` bytes
 pub record SpentOutline (charge copied : Cursor → ℕ) (n one : ℕ) (start : Cursor) (t : ℕ) (o : Outline) : Type 0 where
@@ -29,7 +30,8 @@ pub record SpentOutline (charge copied : Cursor → ℕ) (n one : ℕ) (start : 
   pub end : n ≤ o.piece.past → t ≤ charge o.next + (2 * charge start + copied start) + 16
 
 -- its chunks are being written
-pub record SpentWriting (IsPlace : Cursor → Type 0) (charge copied : Cursor → ℕ) (held : Cursor → ℕ → ℕ) (n one t : ℕ) (o : Outline) (w : Writer) : Type 0 where
+pub record SpentWriting (IsPlace : Cursor → Type 0) (charge copied : Cursor → ℕ) (held : Cursor → ℕ → ℕ)
+    (n one t : ℕ) (o : Outline) (w : Writer) : Type 0 where
   pub begun : ℕ
   pub total : ℕ
   pub fresh : o.next.ask ≡ 1
@@ -37,11 +39,13 @@ pub record SpentWriting (IsPlace : Cursor → Type 0) (charge copied : Cursor �
   pub most : t ≤ charge o.next + total + 48 + one
   pub end : n ≤ o.piece.past → t ≤ charge o.next + total + 16
 
-abbrev pub SpentStage : (Cursor → Type 0) → (Cursor → ℕ) → (Cursor → ℕ) → (Cursor → ℕ → ℕ) → ℕ → ℕ → ℕ → ℕ → Cursor → ℕ → Stage → Type 0
+abbrev pub SpentStage : (Cursor → Type 0) → (Cursor → ℕ) → (Cursor → ℕ) → (Cursor → ℕ → ℕ) → ℕ → ℕ → ℕ → ℕ → Cursor
+    → ℕ → Stage → Type 0
 SpentStage IsPlace charge copied held b limit n one start t Between = t ≡ all_passes charge copied start
 SpentStage IsPlace charge copied held b limit n one start t (Plan p) = SpentPlan charge copied b limit start t p
 SpentStage IsPlace charge copied held b limit n one start t (Begin o) = SpentOutline charge copied n one start t o
-SpentStage IsPlace charge copied held b limit n one start t (Write o w) = SpentWriting IsPlace charge copied held n one t o w
+SpentStage IsPlace charge copied held b limit n one start t (Write o w) =
+    SpentWriting IsPlace charge copied held n one t o w
 SpentStage IsPlace charge copied held b limit n one start t Done = ⊤
 SpentStage IsPlace charge copied held b limit n one start t (Failed f) = ⊤
 

@@ -1,5 +1,6 @@
 -- A piece that is being written, and what of it is still to come.
-use Rattle.std.specs.Prelude.{◌≡◌, ℕ, ◌+◌, ◌-◌, ◌*◌, ◌^◌, ◌≤◌, ◌<◌, List, [], ◌++◌, length, drop, map, Option, Some, None, ⊤, ◌⊎◌, ◌==◌, ◌&&◌, not, min, if◌then◌else◌}
+use Rattle.std.specs.Prelude.{◌≡◌, ℕ, ◌+◌, ◌-◌, ◌*◌, ◌^◌, ◌≤◌, ◌<◌, List, [], ◌++◌, length, drop, map, Option, Some}
+use Rattle.std.specs.Prelude.{None, ⊤, ◌⊎◌, ◌==◌, ◌&&◌, not, min, if◌then◌else◌}
 use Rattle.std.specs.List.{flat_map}
 use Rattle.abt_sparse.specs.declared.kind.ChunkKind.TheVariants as chunks
 use Rattle.abt_sparse.specs.Block.{Block}
@@ -15,7 +16,8 @@ use Rattle.abt_pieces.specs.Plan.{between, last_words}
 use Rattle.abt_pieces.specs.Contents.{head_len, data_len}
 use Rattle.abt_pieces.specs.Gather.{frame, SoundGatherer, ToldGatherer, look_left}
 use Rattle.abt_pieces.specs.declared.fault.PieceFault.{PieceFault}
-use Rattle.abt_pieces.specs.declared.fault.PieceFault.TheVariants.{Read, Write, TooLarge, SourceChanged, BadBlock, LimitTooSmall}
+use Rattle.abt_pieces.specs.declared.fault.PieceFault.TheVariants.{Read, Write, TooLarge, SourceChanged, BadBlock}
+use Rattle.abt_pieces.specs.declared.fault.PieceFault.TheVariants.{LimitTooSmall}
 use Rattle.abt_pieces.specs.declared.gather.Gatherer.{Gatherer}
 use Rattle.abt_pieces.specs.declared.write.Copying.{Copying}
 use Rattle.abt_pieces.specs.declared.write.Writer.{Writer}
@@ -105,7 +107,10 @@ chunk_len k q b = head_len k + data_len k q b
 
 -- with the front of a run's chunk written
 abbrev pub chunk_begun : Writer → Run → ℕ → Writer
-chunk_begun w r b = record { first = w.first; past = w.past; gatherer = w.gatherer; copying = starts r.kind r.here (data_len r.kind r.blocks b); chunks = w.chunks - 1; bytes = w.bytes - head_len r.kind }
+chunk_begun w r b = record {
+  first = w.first; past = w.past; gatherer = w.gatherer; copying = starts r.kind r.here (data_len r.kind r.blocks b);
+  chunks = w.chunks - 1; bytes = w.bytes - head_len r.kind;
+}
 
 -- why the front of a chunk is not written
 abbrev pub ChunkCause : PieceFault → ℕ → ℕ → ℕ → ℕ → ℕ → Type 0
@@ -124,11 +129,14 @@ raw_part kinds.Skip c r b = None
 raw_part kinds.End c r b = None
 
 abbrev pub next_copying : Copying → Run → ℕ → Option Copying
-next_copying c r b = if (r.blocks == 0) && not (is_end r.kind) then Some (record { here = c.here; next = r.next; size = c.size; done = c.done; left = c.left }) else raw_part r.kind c r b
+next_copying c r b = if (r.blocks == 0) && not (is_end r.kind)
+    then Some (record { here = c.here; next = r.next; size = c.size; done = c.done; left = c.left })
+    else raw_part r.kind c r b
 
 -- with n bytes more copied
 abbrev pub copied_on : Copying → ℕ → Option Copying
-copied_on c n = if c.left == n then None else Some (record { here = c.here; next = c.next; size = c.size; done = c.done + n; left = c.left - n })
+copied_on c n = if c.left == n then None
+    else Some (record { here = c.here; next = c.next; size = c.size; done = c.done + n; left = c.left - n })
 
 -- how many steps there can be before the end of a piece
 abbrev pub copy_left : (Cursor → ℕ) → Option Copying → ℕ
@@ -147,7 +155,8 @@ passed_to u (Some c) = c.next.block
 
 -- how many words of the last of n blocks both passes may have compared without reading them
 unfoldable pub writer_words : ℕ → ℕ → Writer → ℕ
-writer_words one n w = last_words one n (min w.gatherer.at.block w.past) + last_words one n (min (passed_to (begins w.gatherer) w.copying) w.past)
+writer_words one n w = last_words one n (min w.gatherer.at.block w.past)
+    + last_words one n (min (passed_to (begins w.gatherer) w.copying) w.past)
 
 -- how many bytes a pass may have read before the next part of the raw run that is copied
 abbrev pub charge_of : (Cursor → ℕ) → Option Copying → ℕ

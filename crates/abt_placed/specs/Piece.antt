@@ -14,8 +14,8 @@ pub record LaidPiece (b n chunks : ℕ) (f : List Block) (old now : List ℕ) : 
   pub chunks_are : chunks ≡ length (runs f)
   pub stands : now ≡ old ++ piece b f
 
--- So does that of some segment from block `first` up to `past` of an image of n blocks; where the source tells its bytes
--- x, it is the first piece of what begins there.
+-- So does that of some segment from block `first` up to `past` of an image of n blocks; where the source tells its
+-- bytes x, it is the first piece of what begins there.
 pub record WholePiece (tells : Bool) (x : List ℕ) (b n limit first past chunks : ℕ) (old now : List ℕ) : Type 0 where
   pub blocks : List Block
   pub laid : LaidPiece b n chunks (framed first blocks (n - past)) old now

@@ -21,15 +21,17 @@ abbrev pub open_bytes : RunKind → List Block → List ℕ
 open_bytes k g = kept_for k ++ data_for k (raw_of g)
 
 -- Of the blocks g all were taken: behind the bytes of before stand zeros for the image's header, the chunks that are
--- whole, and of the open chunk what is written as its blocks come. Whatever blocks t follow, the chunks of all are those
--- that are whole, and then those of the open chunk's blocks and t.
+-- whole, and of the open chunk what is written as its blocks come. Whatever blocks t follow, the chunks of all are
+-- those that are whole, and then those of the open chunk's blocks and t.
 pub record Placed (b : ℕ) (g : List Block) (now : List ℕ) (s : Placer) : Type 0 where
   pub before : List ℕ
   pub done : List ℕ
   pub front : length before ≡ s.front
   pub stands : now ≡ (before ++ (replicate 28 0 ++ done)) ++ open_bytes s.kind (drop s.blocks g)
-  pub bytes : (t : List Block) → AreBlocks b t → bytes_of s.most (g ++ t) ≡ done ++ bytes_of s.most (drop s.blocks g ++ t)
-  pub chunks : (t : List Block) → AreBlocks b t → length (chunks_of s.most (g ++ t)) ≡ s.chunks + length (chunks_of s.most (drop s.blocks g ++ t))
+  pub bytes : (t : List Block) → AreBlocks b t
+      → bytes_of s.most (g ++ t) ≡ done ++ bytes_of s.most (drop s.blocks g ++ t)
+  pub chunks : (t : List Block) → AreBlocks b t
+      → length (chunks_of s.most (g ++ t)) ≡ s.chunks + length (chunks_of s.most (drop s.blocks g ++ t))
   pub all : AllOf s.kind (drop s.blocks g)
   pub count : length g ≡ s.blocks + s.count
   pub good : AreBlocks b g

@@ -1,5 +1,6 @@
 -- A placer in numbers, and the bytes that stand as it goes on.
-use Rattle.std.specs.Prelude.{◌≡◌, ℕ, ◌+◌, ◌-◌, ◌*◌, ◌^◌, ◌≤◌, ◌<◌, Bool, true, false, List, [], ◌++◌, length, replicate, ◌&&◌, nat_lt, if◌then◌else◌}
+use Rattle.std.specs.Prelude.{◌≡◌, ℕ, ◌+◌, ◌-◌, ◌*◌, ◌^◌, ◌≤◌, ◌<◌, Bool, true, false, List, [], ◌++◌, length}
+use Rattle.std.specs.Prelude.{replicate, ◌&&◌, nat_lt, if◌then◌else◌}
 use Rattle.abt_runs.specs.Part.{is_end}
 use Rattle.abt_runs.specs.declared.part.RunKind.{RunKind}
 use Rattle.abt_runs.specs.declared.part.RunKind.TheVariants as kinds
@@ -35,9 +36,15 @@ first_placer at r = record { front = at; most = r; chunks = 0; blocks = 0; kind 
 -- with the open chunk whole
 abbrev pub closed_as : RunKind → Placer → Placer
 closed_as kinds.End s = s
-closed_as kinds.Raw s = record { front = s.front; most = s.most; chunks = s.chunks + 1; blocks = s.blocks + s.count; kind = kinds.End; count = 0 }
-closed_as (kinds.Fill w) s = record { front = s.front; most = s.most; chunks = s.chunks + 1; blocks = s.blocks + s.count; kind = kinds.End; count = 0 }
-closed_as kinds.Skip s = record { front = s.front; most = s.most; chunks = s.chunks + 1; blocks = s.blocks + s.count; kind = kinds.End; count = 0 }
+closed_as kinds.Raw s = record {
+  front = s.front; most = s.most; chunks = s.chunks + 1; blocks = s.blocks + s.count; kind = kinds.End; count = 0;
+}
+closed_as (kinds.Fill w) s = record {
+  front = s.front; most = s.most; chunks = s.chunks + 1; blocks = s.blocks + s.count; kind = kinds.End; count = 0;
+}
+closed_as kinds.Skip s = record {
+  front = s.front; most = s.most; chunks = s.chunks + 1; blocks = s.blocks + s.count; kind = kinds.End; count = 0;
+}
 
 abbrev pub closed : Placer → Placer
 closed s = closed_as s.kind s
@@ -54,7 +61,9 @@ goes_on s k = goes_on_as k s
 
 -- with q blocks more in the open chunk, and with a chunk begun
 abbrev pub longer : Placer → ℕ → Placer
-longer s q = record { front = s.front; most = s.most; chunks = s.chunks; blocks = s.blocks; kind = s.kind; count = s.count + q }
+longer s q = record {
+  front = s.front; most = s.most; chunks = s.chunks; blocks = s.blocks; kind = s.kind; count = s.count + q;
+}
 
 abbrev pub begun : Placer → RunKind → ℕ → Placer
 begun s k q = record { front = s.front; most = s.most; chunks = s.chunks; blocks = s.blocks; kind = k; count = q }

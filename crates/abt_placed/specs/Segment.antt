@@ -28,7 +28,8 @@ is_fresh (kinds.Fill w) = false
 is_fresh kinds.Skip = true
 is_fresh kinds.End = true
 
--- how many bytes of its weight are not laid, where this chunk is open: that chunk's header, and those of what is skipped
+-- how many bytes of its weight are not laid, where this chunk is open: that chunk's header, and those of what is
+-- skipped
 abbrev pub to_come : RunKind → ℕ
 to_come kinds.Raw = 12
 to_come (kinds.Fill w) = 28
@@ -74,4 +75,5 @@ IsOver limit b g rest = (x : Block) (more : List Block) → rest ≡ x ∷ more 
 -- The segment goes no further: of n blocks all are taken, or one more would be beyond the limit.
 pub record EndedSegment (tells : Bool) (x : List ℕ) (b n : ℕ) (s : Segment) : Type 0 where
   pub moves : taken s.placer < n → s.first < taken s.placer
-  pub over : IsTrue tells → IsOver s.limit b (between (classify b x) s.first (taken s.placer)) (drop (taken s.placer) (classify b x))
+  pub over : IsTrue tells
+      → IsOver s.limit b (between (classify b x) s.first (taken s.placer)) (drop (taken s.placer) (classify b x))

@@ -1,5 +1,6 @@
 -- What a part of an image is.
-use Rattle.std.specs.Prelude.{◌≡◌, ℕ, ◌+◌, ◌*◌, ◌≤◌, ◌<◌, Bool, true, false, IsTrue, List, [], length, take, drop, replicate, ⊤, ◌==◌, nat_lt, nat_le, ◌&&◌, if◌then◌else◌}
+use Rattle.std.specs.Prelude.{◌≡◌, ℕ, ◌+◌, ◌*◌, ◌≤◌, ◌<◌, Bool, true, false, IsTrue, List, [], length, take, drop}
+use Rattle.std.specs.Prelude.{replicate, ⊤, ◌==◌, nat_lt, nat_le, ◌&&◌, if◌then◌else◌}
 use Rattle.std.specs.List.{AllByRecursion, flat_map}
 use Rattle.abt_io.specs.declared.device.DeviceFault.TheVariants.{Failed}
 use Rattle.abt_sparse.specs.Chunk.{raw_bytes}
@@ -58,9 +59,11 @@ entry c = if c.used == 0 then 0 else 16
 abbrev pub afresh : Cursor → Cursor
 afresh c = record c { ask = 1 }
 
--- of all places before this block or a later one it is the first: neither copying nor a pass has read less up to another
+-- of all places before this block or a later one it is the first: neither copying nor a pass has read less up to
+-- another
 abbrev pub Earliest : (Cursor → Type 0) → (Cursor → ℕ) → (Cursor → ℕ) → Cursor → Type 0
-Earliest IsPlace copied charge c = (d : Cursor) → IsPlace d → c.block ≤ d.block → (copied c ≤ copied d) × (charge c ≤ charge (afresh d))
+Earliest IsPlace copied charge c =
+    (d : Cursor) → IsPlace d → c.block ≤ d.block → (copied c ≤ copied d) × (charge c ≤ charge (afresh d))
 
 -- a place is one afresh: no less has been read before it, and no more is to pass
 pub record Afresh (W : Cursor → Type 0) (charges takes copies lefts : Cursor → ℕ) (c : Cursor) : Type 0 where
@@ -72,7 +75,8 @@ pub record Afresh (W : Cursor → Type 0) (charges takes copies lefts : Cursor �
 
 -- how many blocks of a raw image are asked for next, where so many of those that were asked for were alike
 abbrev pub next_ask : ℕ → ℕ → ℕ → ℕ → ℕ
-next_ask ask asked blocks size = if nat_lt blocks asked then 1 else if (asked == ask) && nat_le (2 * ask * size) 65536 then 2 * ask else ask
+next_ask ask asked blocks size =
+    if nat_lt blocks asked then 1 else if (asked == ask) && nat_le (2 * ask * size) 65536 then 2 * ask else ask
 
 -- the bytes of raw blocks
 abbrev pub raw_of : List Block → List ℕ

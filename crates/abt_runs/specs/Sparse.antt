@@ -1,5 +1,6 @@
 -- A sparse image that was opened, and places in it.
-use Rattle.std.specs.Prelude.{◌≡◌, ℕ, zero, suc, ◌+◌, ◌-◌, ◌*◌, ◌≤◌, ◌<◌, ◌==◌, List, [], ◌∷◌, ◌++◌, length, drop, if◌then◌else◌, ⊤}
+use Rattle.std.specs.Prelude.{◌≡◌, ℕ, zero, suc, ◌+◌, ◌-◌, ◌*◌, ◌≤◌, ◌<◌, ◌==◌, List, [], ◌∷◌, ◌++◌, length, drop}
+use Rattle.std.specs.Prelude.{if◌then◌else◌, ⊤}
 use Rattle.std.specs.Coded.{le_prop}
 use Rattle.abt_sparse.specs.Block.{Block}
 use Rattle.abt_sparse.specs.Chunk.{Header, Chunk, Raws, Fills, Skips, Crc, classed}
@@ -35,7 +36,8 @@ pub record SparsePlace (h : Header) (x : List ℕ) (c : Cursor) : Type 0 where
   pub after : List Chunk
   pub rest : List ℕ
   pub is_image : outcome x ≡ Image h (before ++ after) rest
-  pub ahead : chunks_at h (length x) c.chunk (counted_in before) (h.total_chunks - c.chunk) (drop c.at x) ≡ Done after rest
+  pub ahead : chunks_at h (length x) c.chunk (counted_in before) (h.total_chunks - c.chunk) (drop c.at x)
+      ≡ Done after rest
   pub chunk : c.chunk ≡ length before
   pub block : c.block ≡ counted_in before + c.used
   pub inside : Inside c.used after

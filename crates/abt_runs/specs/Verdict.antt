@@ -48,7 +48,8 @@ abbrev pub IsFormat : RunFault → Type 0
 IsFormat (Sparse f) = number_of f ≤ 10
 IsFormat f = ⊥
 
--- 1 to 10 alone come of the bytes: 11 where the source has failed in this call and answered so, 14 where it isn't the one whose length was found, and each where the opening had failed so
+-- 1 to 10 alone come of the bytes: 11 where the source has failed in this call and answered so, 14 where it isn't the
+-- one whose length was found, and each where the opening had failed so
 abbrev pub CausedAt : Stage → RunFault → ℕ → ℕ → Type 0 → Type 0
 CausedAt (stages.Failed f) e before after Same = f ≡ e
 CausedAt s (Sparse f) before after Same = number_of f ≤ 10

@@ -7,7 +7,8 @@ use Rattle.abt_runs.specs.declared.part.RunKind.TheVariants as kinds
 
 -- the first word, if all are equal to it
 abbrev pub word_of : List ℕ → Option (List ℕ)
-word_of bytes = if list_all (bytes_eq (take 4 bytes)) (split 4 (length bytes / 4) bytes) then Some (take 4 bytes) else None
+word_of bytes =
+    if list_all (bytes_eq (take 4 bytes)) (split 4 (length bytes / 4) bytes) then Some (take 4 bytes) else None
 
 -- what a block is whose words are so
 abbrev pub kind_of_word : Option (List ℕ) → RunKind

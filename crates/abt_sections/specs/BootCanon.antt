@@ -1,5 +1,6 @@
 -- The canonical boot image: the one that is packed of these fields and parts.
-use Rattle.std.specs.Prelude.{ℕ, ◌+◌, ◌*◌, ◌==◌, nat_lt, if◌then◌else◌, List, length, take, drop, replicate, map, slice_index, Option, Some, None}
+use Rattle.std.specs.Prelude.{ℕ, ◌+◌, ◌*◌, ◌==◌, nat_lt, if◌then◌else◌, List, length, take, drop, replicate, map}
+use Rattle.std.specs.Prelude.{slice_index, Option, Some, None}
 use Rattle.abt_headers.specs.declared.page.PageSize.{PageSize}
 use Rattle.abt_headers.specs.declared.page.PageSize.TheVariants.{Of4096}
 use Rattle.abt_headers.specs.declared.boot.BootFront.{BootFront}
@@ -36,13 +37,16 @@ front_for s page sizes id = record {
 
 -- where the recovery dtbo stands, or 0 where it is empty
 abbrev pub dtbo_offset : ℕ → ℕ → ℕ → ℕ → ℕ → ℕ
-dtbo_offset page kernel ramdisk second dtbo = if dtbo == 0 then 0 else page * (1 + pages kernel page + pages ramdisk page + pages second page)
+dtbo_offset page kernel ramdisk second dtbo =
+    if dtbo == 0 then 0 else page * (1 + pages kernel page + pages ramdisk page + pages second page)
 
 -- from version 1 on
 abbrev pub dtbo_for : PageSize → List ℕ → ℕ → DtboFields
 dtbo_for page sizes header_size = record {
   recovery_dtbo_size = slice_index sizes 3;
-  recovery_dtbo_offset = dtbo_offset (page_bytes page) (slice_index sizes 0) (slice_index sizes 1) (slice_index sizes 2) (slice_index sizes 3);
+  recovery_dtbo_offset =
+      dtbo_offset (page_bytes page) (slice_index sizes 0) (slice_index sizes 1) (slice_index sizes 2)
+      (slice_index sizes 3);
   header_size = header_size;
 }
 
@@ -99,7 +103,8 @@ abbrev pub image_size : ℕ → ℕ → List ℕ → ℕ
 image_size page header sizes = pages header page * page + laid_size page sizes
 
 abbrev pub boot_record_size : ℕ → ℕ
-boot_record_size version = if version == 0 then 1632 else if version == 1 then 1648 else if version == 2 then 1660 else if version == 3 then 1580 else 1584
+boot_record_size version = if version == 0 then 1632 else if version == 1 then 1648 else if version == 2 then 1660
+    else if version == 3 then 1580 else 1584
 
 -- how long the image of these fields and parts of these sizes is
 abbrev pub boot_image_size : BootFields → List ℕ → ℕ

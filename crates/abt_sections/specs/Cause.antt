@@ -4,7 +4,8 @@ use Rattle.abt_io.specs.Count.{full_in}
 use Rattle.abt_io.specs.declared.copying.CopyFault.{CopyFault}
 use Rattle.abt_io.specs.declared.copying.CopyFault.TheVariants as copies
 use Rattle.abt_sections.specs.declared.fault.SectionFault.{SectionFault}
-use Rattle.abt_sections.specs.declared.fault.SectionFault.TheVariants.{Read, Write, SourceChanged, Header, Entry, SectionTruncated}
+use Rattle.abt_sections.specs.declared.fault.SectionFault.TheVariants.{Read, Write, SourceChanged, Header, Entry}
+use Rattle.abt_sections.specs.declared.fault.SectionFault.TheVariants.{SectionTruncated}
 
 -- the fault of a copy, handed on
 abbrev pub copy_fault : CopyFault → SectionFault

@@ -1,5 +1,6 @@
 -- What checking an image tells.
-use Rattle.std.specs.Prelude.{◌≡◌, ℕ, zero, suc, IsSome, ◌+◌, ◌==◌, ◌&&◌, Bool, true, false, if◌then◌else◌, IsTrue, List, [], ◌∷◌, ◌++◌, length, take, drop, ◌<◌}
+use Rattle.std.specs.Prelude.{◌≡◌, ℕ, zero, suc, IsSome, ◌+◌, ◌==◌, ◌&&◌, Bool, true, false, if◌then◌else◌, IsTrue}
+use Rattle.std.specs.Prelude.{List, [], ◌∷◌, ◌++◌, length, take, drop, ◌<◌}
 use Rattle.abt_headers.specs.declared.sections.Place.{Place}
 use Rattle.abt_headers.specs.declared.boot.BootFront.{BootFront}
 use Rattle.abt_headers.specs.declared.boot.ShortFront.{ShortFront}
@@ -7,7 +8,8 @@ use Rattle.abt_headers.specs.declared.boot.BootHeader.{BootHeader}
 use Rattle.abt_headers.specs.declared.boot.BootHeader.TheVariants.{V0, V1, V2, V3, V4}
 use Rattle.abt_headers.specs.Page.{page_bytes}
 use Rattle.abt_headers.specs.Vendor.{vendor_size}
-use Rattle.abt_sections.specs.Header.{Header, OfBoot, OfVendor, size_of, page_of, places_of, entry_of, fragment_count, ramdisk_size}
+use Rattle.abt_sections.specs.Header.{Header, OfBoot, OfVendor, size_of, page_of, places_of, entry_of, fragment_count}
+use Rattle.abt_sections.specs.Header.{ramdisk_size}
 use Rattle.abt_sections.specs.Layout.{padding, parts_of}
 use Rattle.abt_sections.specs.Id.{id_of}
 use Rattle.abt_sections.specs.BootCanon.{dtbo_offset}
@@ -29,14 +31,19 @@ padded_places x page (p ∷ ps) = zeros_there x (p.at + p.size) (padding p.size 
 
 -- behind the header and behind each section
 abbrev pub padding_holds : List ℕ → Header → Bool
-padding_holds x h = zeros_there x (size_of h) (padding (size_of h) (page_of h)) && padded_places x (page_of h) (places_of h)
+padding_holds x h =
+    zeros_there x (size_of h) (padding (size_of h) (page_of h)) && padded_places x (page_of h) (places_of h)
 
 -- ---- offset: header_size and recovery_dtbo_offset are what the packer writes, where the version has them
 
 abbrev pub boot_offset_holds : BootHeader → Bool
 boot_offset_holds (V0 f) = true
-boot_offset_holds (V1 f d) = (d.header_size == 1648) && (d.recovery_dtbo_offset == dtbo_offset (page_bytes f.page_size) f.kernel_size f.ramdisk_size f.second_size d.recovery_dtbo_size)
-boot_offset_holds (V2 f d t) = (d.header_size == 1660) && (d.recovery_dtbo_offset == dtbo_offset (page_bytes f.page_size) f.kernel_size f.ramdisk_size f.second_size d.recovery_dtbo_size)
+boot_offset_holds (V1 f d) = (d.header_size == 1648)
+    && (d.recovery_dtbo_offset == dtbo_offset
+    (page_bytes f.page_size) f.kernel_size f.ramdisk_size f.second_size d.recovery_dtbo_size)
+boot_offset_holds (V2 f d t) = (d.header_size == 1660)
+    && (d.recovery_dtbo_offset == dtbo_offset
+    (page_bytes f.page_size) f.kernel_size f.ramdisk_size f.second_size d.recovery_dtbo_size)
 boot_offset_holds (V3 f) = f.header_size == 1580
 boot_offset_holds (V4 f signature) = f.header_size == 1584
 

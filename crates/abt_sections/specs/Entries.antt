@@ -3,7 +3,8 @@ use Rattle.std.specs.Prelude.{◌≡◌, ℕ, ◌+◌, ◌-◌, ◌*◌, ◌≤�
 
 -- bytes begin with the entries from `first` up to `end` of a table that begins at a place of x
 abbrev pub EntriesStand : List ℕ → List ℕ → ℕ → ℕ → ℕ → Type 0
-EntriesStand bytes x at first end = take (108 * (end - first)) bytes ≡ take (108 * (end - first)) (drop (at + 108 * first) x)
+EntriesStand bytes x at first end =
+    take (108 * (end - first)) bytes ≡ take (108 * (end - first)) (drop (at + 108 * first) x)
 
 -- entry i is one of them, and they fit a window
 pub record HoldsEntry (first end i count : ℕ) : Type 0 where

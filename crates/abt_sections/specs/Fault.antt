@@ -2,7 +2,8 @@
 use Rattle.std.specs.Prelude.{ℕ}
 use Rattle.abt_headers.specs.Fault as of_header
 use Rattle.abt_sections.specs.declared.fault.SectionFault.{SectionFault}
-use Rattle.abt_sections.specs.declared.fault.SectionFault.TheVariants.{Read, Write, SourceChanged, Header, Entry, Name, CommandLine, SectionTruncated, SectionTooLarge}
+use Rattle.abt_sections.specs.declared.fault.SectionFault.TheVariants.{Read, Write, SourceChanged, Header, Entry, Name}
+use Rattle.abt_sections.specs.declared.fault.SectionFault.TheVariants.{CommandLine, SectionTruncated, SectionTooLarge}
 
 abbrev pub fault_number : SectionFault → ℕ
 fault_number (Read f) = 11

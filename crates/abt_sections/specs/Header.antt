@@ -1,5 +1,6 @@
 -- The header of an image of either kind, and what it is for some bytes to be an image.
-use Rattle.std.specs.Prelude.{◌≡◌, ℕ, ◌+◌, ◌*◌, ◌≤◌, ◌<◌, ◌==◌, ◌&&◌, nat_le, Bool, if◌then◌else◌, List, length, take, drop, Option, Some, None, Result}
+use Rattle.std.specs.Prelude.{◌≡◌, ℕ, ◌+◌, ◌*◌, ◌≤◌, ◌<◌, ◌==◌, ◌&&◌, nat_le, Bool, if◌then◌else◌, List, length, take}
+use Rattle.std.specs.Prelude.{drop, Option, Some, None, Result}
 use Rattle.abt_headers.specs.declared.fault.HeaderFault.{HeaderFault}
 use Rattle.abt_headers.specs.declared.boot.BootHeader.{BootHeader}
 use Rattle.abt_headers.specs.declared.sections.Section.{Section}
@@ -11,7 +12,8 @@ use Rattle.abt_headers.specs.Places.{places_from}
 use Rattle.abt_headers.specs.Fault.{mapped}
 use Rattle.abt_headers.specs.Boot.{boot_at, boot_record, boot_size, boot_page, boot_sections}
 use Rattle.abt_headers.specs.Fits.{BootFits}
-use Rattle.abt_headers.specs.Vendor.{Tail, Vendor, view, vendor_at, vendor_record, vendor_size, vendor_page, vendor_sections}
+use Rattle.abt_headers.specs.Vendor.{Tail, Vendor, view, vendor_at, vendor_record, vendor_size, vendor_page}
+use Rattle.abt_headers.specs.Vendor.{vendor_sections}
 use Rattle.abt_headers.specs.VendorFits.{VendorFits}
 use Rattle.abt_headers.specs.Entry.{entry_at}
 use Rattle.abt_sections.specs.declared.image.ImageHeader.{ImageHeader}
@@ -57,7 +59,8 @@ HeaderFits (OfVendor v) = VendorFits v
 abbrev pub is_vendor : List ℕ → Bool
 is_vendor x = nat_le 8 (length x) && (number_at 0 8 x == 0x544f4f4252444e56)
 
--- the header at the front of x, or the first fault: of a vendor boot image where the magic says so, else of a boot image
+-- the header at the front of x, or the first fault: of a vendor boot image where the magic says so, else of a boot
+-- image
 abbrev pub header_at : List ℕ → Result Header HeaderFault
 header_at x = if is_vendor x then mapped (vendor_at x) (λ v. OfVendor v) else mapped (boot_at x) (λ h. OfBoot h)
 
@@ -93,7 +96,8 @@ ramdisk_size (OfVendor v) = v.front.vendor_ramdisk_size
 -- where the table begins: behind the vendor ramdisk and the dtb
 abbrev pub table_at : Header → ℕ
 table_at (OfBoot h) = 0
-table_at (OfVendor v) = vendor_page v * (pages (vendor_size v) (vendor_page v) + pages v.front.vendor_ramdisk_size (vendor_page v) + pages v.front.dtb_size (vendor_page v))
+table_at (OfVendor v) = vendor_page v * (pages (vendor_size v) (vendor_page v)
+        + pages v.front.vendor_ramdisk_size (vendor_page v) + pages v.front.dtb_size (vendor_page v))
 
 -- entry i of the table, of 108 bytes each
 abbrev pub entry_of : List ℕ → Header → ℕ → RamdiskEntry

@@ -1,11 +1,13 @@
 -- What opening an image finds.
-use Rattle.std.specs.Prelude.{◌≡◌, ℕ, ◌+◌, ◌<◌, ◌&&◌, nat_lt, Bool, if◌then◌else◌, List, [], ◌∷◌, length, Option, Some, None, Result, Ok, Err}
+use Rattle.std.specs.Prelude.{◌≡◌, ℕ, ◌+◌, ◌<◌, ◌&&◌, nat_lt, Bool, if◌then◌else◌, List, [], ◌∷◌, length, Option, Some}
+use Rattle.std.specs.Prelude.{None, Result, Ok, Err}
 use Rattle.abt_headers.specs.declared.sections.Place.{Place}
 use Rattle.abt_headers.specs.declared.sections.Section.{Section}
 use Rattle.abt_sections.specs.declared.fault.SectionFault.{SectionFault}
 use Rattle.abt_sections.specs.declared.fault.SectionFault.TheVariants as faults
 use Rattle.abt_sections.specs.declared.image.Image.{Image}
-use Rattle.abt_sections.specs.Header.{Header, view_of, header_at, places_of, fragment_count, entry_of, IsWithin, EachWithin, IsImage}
+use Rattle.abt_sections.specs.Header.{Header, view_of, header_at, places_of, fragment_count, entry_of, IsWithin}
+use Rattle.abt_sections.specs.Header.{EachWithin, IsImage}
 
 -- a place isn't empty and ends past n bytes
 abbrev pub ends_beyond : Place → ℕ → Bool
@@ -28,8 +30,8 @@ pub record HasImage (x : List ℕ) (h : Header) : Type 0 where
   pub there : beyond (places_of h) (length x) ≡ None
   pub within : EachWithin x h
 
--- the same without reading: x is an image of h and some parts, each whole at its place, and every fragment is within the
--- vendor ramdisk
+-- the same without reading: x is an image of h and some parts, each whole at its place, and every fragment is within
+-- the vendor ramdisk
 pub record IsWholeImage (x : List ℕ) (h : Header) : Type 0 where
   pub parts : List (List ℕ)
   pub image : IsImage x h parts

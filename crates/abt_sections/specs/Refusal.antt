@@ -1,8 +1,10 @@
 -- What packing refuses before it writes, the first in order.
-use Rattle.std.specs.Prelude.{ℕ, ◌&&◌, ◌||◌, nat_lt, not, if◌then◌else◌, List, [], ◌∷◌, ◌==◌, Option, Some, None, is_some}
+use Rattle.std.specs.Prelude.{ℕ, ◌&&◌, ◌||◌, nat_lt, not, if◌then◌else◌, List, [], ◌∷◌, ◌==◌, Option, Some, None}
+use Rattle.std.specs.Prelude.{is_some}
 use Rattle.abt_headers.specs.declared.fault.HeaderFault.TheVariants as header
 use Rattle.abt_headers.specs.declared.sections.Section.{Section}
-use Rattle.abt_headers.specs.declared.sections.Section.TheVariants.{Kernel, Ramdisk, Second, RecoveryDtbo, Dtb, Signature, VendorRamdisk, Table, Bootconfig}
+use Rattle.abt_headers.specs.declared.sections.Section.TheVariants.{Kernel, Ramdisk, Second, RecoveryDtbo, Dtb}
+use Rattle.abt_headers.specs.declared.sections.Section.TheVariants.{Signature, VendorRamdisk, Table, Bootconfig}
 use Rattle.abt_headers.specs.Page.{page_from}
 use Rattle.abt_sections.specs.declared.fault.SectionFault.{SectionFault}
 use Rattle.abt_sections.specs.declared.fault.SectionFault.TheVariants as faults
@@ -42,7 +44,8 @@ vendor_refusal s =
 unfoldable pub size_refusal : List Section → List ℕ → Option SectionFault
 size_refusal names [] = None
 size_refusal [] (n ∷ sizes) = None
-size_refusal (name ∷ names) (n ∷ sizes) = if nat_lt 4294967295 n then Some (faults.SectionTooLarge name) else size_refusal names sizes
+size_refusal (name ∷ names) (n ∷ sizes) =
+    if nat_lt 4294967295 n then Some (faults.SectionTooLarge name) else size_refusal names sizes
 
 abbrev pub or_else : Option SectionFault → Option SectionFault → Option SectionFault
 or_else (Some f) o = Some f

@@ -4,7 +4,8 @@ use Rattle.std.specs.List.{concat}
 use Rattle.abt_sections.specs.declared.spec.FragmentSpec.{FragmentSpec}
 use Rattle.abt_sections.specs.Fields.{BootFields, VendorFields}
 use Rattle.abt_sections.specs.Layout.{parts_of}
-use Rattle.abt_sections.specs.Header.{Header, OfBoot, OfVendor, IsImage, places_of, fragment_count, entry_of, fragment_of}
+use Rattle.abt_sections.specs.Header.{Header, OfBoot, OfVendor, IsImage, places_of, fragment_count, entry_of}
+use Rattle.abt_sections.specs.Header.{fragment_of}
 use Rattle.abt_sections.specs.Open.{HasImage}
 use Rattle.abt_sections.specs.BootCanon.{boot_header_of}
 use Rattle.abt_sections.specs.VendorCanon.{VendorParts, entry_for, vendor_header_of, vendor_sections_for}
@@ -25,7 +26,9 @@ HoldsVendor x s p = Holds x (OfVendor (vendor_header_of s p)) (vendor_sections_f
 
 -- fragment i of x is ramdisk i, and entry i of its table says of it what was given, its size, and how many bytes the
 -- ramdisks before it have
-pub record HoldsFragment (x : List ℕ) (h : Header) (fragments : List FragmentSpec) (ramdisks : List (List ℕ)) (i : ℕ) : Type 0 where
+pub record HoldsFragment (x : List ℕ) (h : Header) (fragments : List FragmentSpec) (ramdisks : List (List ℕ))
+    (i : ℕ) : Type 0 where
   pub there : i < fragment_count h
-  pub entry : (f : FragmentSpec) → f ≡ slice_index_or fragments i f → entry_of x h i ≡ entry_for f (length (slice_index_or ramdisks i [])) (length (concat (take i ramdisks)))
+  pub entry : (f : FragmentSpec) → f ≡ slice_index_or fragments i f
+      → entry_of x h i ≡ entry_for f (length (slice_index_or ramdisks i [])) (length (concat (take i ramdisks)))
   pub bytes : fragment_of x h i ≡ slice_index_or ramdisks i []

@@ -1,5 +1,6 @@
 -- The canonical vendor boot image: the one that is packed of these fields, fragments and parts.
-use Rattle.std.specs.Prelude.{ℕ, ◌+◌, ◌*◌, ◌==◌, if◌then◌else◌, List, [], ◌∷◌, ◌++◌, length, take, map, slice_index, Some, None}
+use Rattle.std.specs.Prelude.{ℕ, ◌+◌, ◌*◌, ◌==◌, if◌then◌else◌, List, [], ◌∷◌, ◌++◌, length, take, map, slice_index}
+use Rattle.std.specs.Prelude.{Some, None}
 use Rattle.std.specs.List.{concat}
 use Rattle.abt_headers.specs.declared.page.PageSize.{PageSize}
 use Rattle.abt_headers.specs.declared.vendor.VendorFront.{VendorFront}
@@ -16,7 +17,9 @@ use Rattle.abt_sections.specs.BootCanon.{page_or, image_size}
 
 -- the entry of a fragment of so many bytes at a place of the vendor ramdisk
 abbrev pub entry_for : FragmentSpec → ℕ → ℕ → RamdiskEntry
-entry_for f size offset = record { ramdisk_size = size; ramdisk_offset = offset; ramdisk_type = f.kind; name = f.name; board_id = f.board_id }
+entry_for f size offset = record {
+  ramdisk_size = size; ramdisk_offset = offset; ramdisk_type = f.kind; name = f.name; board_id = f.board_id;
+}
 
 -- of fragments of these sizes, the first at this offset
 abbrev pub table_for : List FragmentSpec → List ℕ → ℕ → List ℕ
@@ -41,7 +44,9 @@ vendor_front_for s page sizes header_size = record {
 }
 
 abbrev pub tail_for : List ℕ → ℕ → Tail
-tail_for sizes count = record { table_size = slice_index sizes 2; entry_num = count; entry_size = 108; bootconfig_size = slice_index sizes 3 }
+tail_for sizes count = record {
+  table_size = slice_index sizes 2; entry_num = count; entry_size = 108; bootconfig_size = slice_index sizes 3;
+}
 
 -- with so many fragments
 abbrev pub vendor_header_for : VendorFields → PageSize → List ℕ → ℕ → Vendor
@@ -74,7 +79,9 @@ abbrev pub vendor_sizes_for : ℕ → ℕ → ℕ → ℕ → List ℕ
 vendor_sizes_for ramdisk dtb count bootconfig = ramdisk ∷ dtb ∷ 108 * count ∷ bootconfig ∷ []
 
 abbrev pub vendor_header_of : VendorFields → VendorParts → Vendor
-vendor_header_of s p = vendor_header_for s (vendor_page_for s) (vendor_sizes_for (length (concat p.ramdisks)) (length p.dtb) (length p.fragments) (length p.bootconfig)) (length p.fragments)
+vendor_header_of s p = vendor_header_for s (vendor_page_for s)
+    (vendor_sizes_for (length (concat p.ramdisks)) (length p.dtb) (length p.fragments) (length p.bootconfig))
+    (length p.fragments)
 
 abbrev pub vendor_image : Vendor → List (List ℕ) → List ℕ
 vendor_image v sections = laid_out (vendor_page v) (vendor_record v) sections
@@ -84,11 +91,14 @@ unfoldable pub vendor_canon : VendorFields → VendorParts → List ℕ
 vendor_canon s p = vendor_image (vendor_header_of s p) (vendor_sections_for s.version p)
 
 abbrev pub vendor_parts : List FragmentSpec → List (List ℕ) → List ℕ → List ℕ → VendorParts
-vendor_parts fragments ramdisks dtb bootconfig = record { fragments = fragments; ramdisks = ramdisks; dtb = dtb; bootconfig = bootconfig }
+vendor_parts fragments ramdisks dtb bootconfig = record {
+  fragments = fragments; ramdisks = ramdisks; dtb = dtb; bootconfig = bootconfig;
+}
 
 -- how long the image of these fields and sections of these sizes is
 abbrev pub vendor_image_size : VendorFields → List ℕ → ℕ
-vendor_image_size s sizes = if s.version == 3 then image_size (page_bytes (vendor_page_for s)) 2112 (take 2 sizes) else image_size (page_bytes (vendor_page_for s)) 2128 sizes
+vendor_image_size s sizes = if s.version == 3 then image_size (page_bytes (vendor_page_for s)) 2112 (take 2 sizes)
+    else image_size (page_bytes (vendor_page_for s)) 2128 sizes
 
 -- where its table stands in version 4: behind its record, the vendor ramdisk and the dtb
 abbrev pub table_place : VendorFields → List ℕ → ℕ
@@ -96,7 +106,9 @@ table_place s sizes = image_size (page_bytes (vendor_page_for s)) 2128 (take 2 s
 
 -- the front of an image: its record, the vendor ramdisk and the dtb, and how long that is
 abbrev pub first_sections : Vendor → List ℕ → List ℕ → List ℕ
-first_sections v ramdisk dtb = padded (vendor_page v) (vendor_record v) ++ (padded (vendor_page v) ramdisk ++ padded (vendor_page v) dtb)
+first_sections v ramdisk dtb =
+    padded (vendor_page v) (vendor_record v) ++ (padded (vendor_page v) ramdisk ++ padded (vendor_page v) dtb)
 
 abbrev pub first_size : Vendor → ℕ → ℕ → ℕ
-first_size v ramdisk dtb = pages (vendor_size v) (vendor_page v) * vendor_page v + (pages ramdisk (vendor_page v) * vendor_page v + pages dtb (vendor_page v) * vendor_page v)
+first_size v ramdisk dtb = pages (vendor_size v) (vendor_page v) * vendor_page v
+    + (pages ramdisk (vendor_page v) * vendor_page v + pages dtb (vendor_page v) * vendor_page v)

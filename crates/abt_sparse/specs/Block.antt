@@ -1,5 +1,6 @@
 -- An image as a list of blocks of b bytes, what it lays over a device, and a raw image as such a list.
-use Rattle.std.specs.Prelude.{◌≡◌, ℕ, zero, suc, ◌+◌, ◌-◌, ◌*◌, ◌/◌, ◌%◌, ◌^◌, ◌<◌, List, [], ◌∷◌, ◌++◌, length, take, drop, map, replicate, Option, Some, None, bytes_eq, if◌then◌else◌, ⊤}
+use Rattle.std.specs.Prelude.{◌≡◌, ℕ, zero, suc, ◌+◌, ◌-◌, ◌*◌, ◌/◌, ◌%◌, ◌^◌, ◌<◌, List, [], ◌∷◌, ◌++◌, length, take}
+use Rattle.std.specs.Prelude.{drop, map, replicate, Option, Some, None, bytes_eq, if◌then◌else◌, ⊤}
 use Rattle.std.specs.List.{flat_map, concat, list_all, AllByRecursion}
 
 -- What stands in a block: bytes of its own, one word of four bytes all over, or nothing that counts.

@@ -1,5 +1,6 @@
 -- Sparse headers and chunks, and how they are spelled in bytes.
-use Rattle.std.specs.Prelude.{◌≡◌, ℕ, zero, suc, ◌+◌, ◌*◌, ◌<◌, ◌≤◌, ◌^◌, List, [], ◌∷◌, ◌++◌, length, take, drop, map, replicate, ⊤}
+use Rattle.std.specs.Prelude.{◌≡◌, ℕ, zero, suc, ◌+◌, ◌*◌, ◌<◌, ◌≤◌, ◌^◌, List, [], ◌∷◌, ◌++◌, length, take, drop, map}
+use Rattle.std.specs.Prelude.{replicate, ⊤}
 use Rattle.std.specs.List.{flat_map, concat, AllByRecursion}
 use Rattle.std.specs.Int.{w16, w32, to_le_bytes}
 use Rattle.abt_sparse.specs.declared.kind.ChunkKind.{ChunkKind}

@@ -1,11 +1,14 @@
 -- What it is to be a sparse image, and what it is to have a fault, apart from how either is found.
 use Rattle.std.specs.Prelude.{◌≡◌, ℕ, ◌+◌, ◌%◌, ◌≤◌, ◌<◌, ◌⊎◌, List, [], ◌∷◌, ◌++◌, length, map, drop, Option, Some}
 use Rattle.abt_sparse.specs.declared.fault.SparseFault.{SparseFault}
-use Rattle.abt_sparse.specs.declared.fault.SparseFault.TheVariants.{Magic, Major, FileHeaderSize, ChunkHeaderSize, BlockSize, ChunkType, ChunkLength, TooManyBlocks, TooFewBlocks, Truncated}
+use Rattle.abt_sparse.specs.declared.fault.SparseFault.TheVariants.{Magic, Major, FileHeaderSize, ChunkHeaderSize}
+use Rattle.abt_sparse.specs.declared.fault.SparseFault.TheVariants.{BlockSize, ChunkType, ChunkLength, TooManyBlocks}
+use Rattle.abt_sparse.specs.declared.fault.SparseFault.TheVariants.{TooFewBlocks, Truncated}
 use Rattle.abt_sparse.specs.declared.kind.ChunkKind.{ChunkKind}
 use Rattle.abt_sparse.specs.Field.{number_at}
 use Rattle.abt_sparse.specs.Block.{cells}
-use Rattle.abt_sparse.specs.Chunk.{Header, IsHeader, header_record, Chunk, code, count, classed, data_len, counted, partial_of, SpellsChunks}
+use Rattle.abt_sparse.specs.Chunk.{Header, IsHeader, header_record, Chunk, code, count, classed, data_len, counted}
+use Rattle.abt_sparse.specs.Chunk.{partial_of, SpellsChunks}
 use Rattle.abt_sparse.specs.Reading.{Outcome, Image, Fault}
 
 -- ---- an image

@@ -1,10 +1,12 @@
 -- What holds of all sparse images, each law the contract of a public function.
-use Rattle.std.specs.Prelude.{◌≡◌, ℕ, ◌+◌, ◌*◌, ◌/◌, ◌%◌, ◌^◌, ◌≤◌, ◌<◌, List, [], ◌∷◌, ◌++◌, ◌⊎◌, length, take, drop, map, replicate, Option, Some, None, slice_index, slice_index_or}
+use Rattle.std.specs.Prelude.{◌≡◌, ℕ, ◌+◌, ◌*◌, ◌/◌, ◌%◌, ◌^◌, ◌≤◌, ◌<◌, List, [], ◌∷◌, ◌++◌, ◌⊎◌, length, take, drop}
+use Rattle.std.specs.Prelude.{map, replicate, Option, Some, None, slice_index, slice_index_or}
 use Rattle.std.specs.List.{concat, AllByRecursion}
 use Rattle.abt_io.specs.Bytes.{AreBytes}
 use Rattle.abt_sparse.specs.declared.kind.ChunkKind.{ChunkKind}
 use Rattle.abt_sparse.specs.declared.fault.SparseFault.TheVariants.{Truncated}
-use Rattle.abt_sparse.specs.Block.{Block, Skip, IsBlockSize, AreBlocks, block_bytes, cells, over, laid, expansion, classify, block_count, filled_to}
+use Rattle.abt_sparse.specs.Block.{Block, Skip, IsBlockSize, AreBlocks, block_bytes, cells, over, laid, expansion}
+use Rattle.abt_sparse.specs.Block.{classify, block_count, filled_to}
 use Rattle.abt_sparse.specs.Runs.{IsRuns, runs, Division, segments, frames, framed, joined, weight}
 use Rattle.abt_sparse.specs.Gains.{Fresh, gains}
 use Rattle.abt_sparse.specs.Chunk.{Header, Chunk, code, classed, piece, spelling, chunks_of, chunk_of_run, plain_header}

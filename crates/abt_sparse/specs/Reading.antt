@@ -1,8 +1,11 @@
 -- What bytes are as a sparse image, as one function of all bytes: an image and the rest behind it, or the first fault
 -- from left to right, with what came before it. `Fails.antt` says the same without reading.
-use Rattle.std.specs.Prelude.{ℕ, zero, suc, ◌+◌, ◌%◌, List, [], ◌∷◌, ◌++◌, length, take, drop, map, Option, Some, None, Result, Ok, Err, ◌==◌, nat_lt, ◌||◌, not, if◌then◌else◌}
+use Rattle.std.specs.Prelude.{ℕ, zero, suc, ◌+◌, ◌%◌, List, [], ◌∷◌, ◌++◌, length, take, drop, map, Option, Some, None}
+use Rattle.std.specs.Prelude.{Result, Ok, Err, ◌==◌, nat_lt, ◌||◌, not, if◌then◌else◌}
 use Rattle.abt_sparse.specs.declared.fault.SparseFault.{SparseFault}
-use Rattle.abt_sparse.specs.declared.fault.SparseFault.TheVariants.{Magic, Major, FileHeaderSize, ChunkHeaderSize, BlockSize, ChunkType, ChunkLength, TooManyBlocks, TooFewBlocks, Truncated}
+use Rattle.abt_sparse.specs.declared.fault.SparseFault.TheVariants.{Magic, Major, FileHeaderSize, ChunkHeaderSize}
+use Rattle.abt_sparse.specs.declared.fault.SparseFault.TheVariants.{BlockSize, ChunkType, ChunkLength, TooManyBlocks}
+use Rattle.abt_sparse.specs.declared.fault.SparseFault.TheVariants.{TooFewBlocks, Truncated}
 use Rattle.abt_sparse.specs.declared.kind.ChunkKind.{ChunkKind}
 use Rattle.abt_sparse.specs.declared.kind.ChunkKind.TheVariants as kinds
 use Rattle.abt_sparse.specs.Block.{split, cells}

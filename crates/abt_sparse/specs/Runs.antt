@@ -1,5 +1,6 @@
 -- The runs of a list of blocks, the weight of a segment, and cutting by weight for a download limit.
-use Rattle.std.specs.Prelude.{◌≡◌, ℕ, suc, ◌+◌, ◌*◌, ◌≤◌, Bool, true, false, List, [], ◌∷◌, ◌++◌, length, replicate, bytes_eq, nat_le, if◌then◌else◌, ⊤}
+use Rattle.std.specs.Prelude.{◌≡◌, ℕ, suc, ◌+◌, ◌*◌, ◌≤◌, Bool, true, false, List, [], ◌∷◌, ◌++◌, length, replicate}
+use Rattle.std.specs.Prelude.{bytes_eq, nat_le, if◌then◌else◌, ⊤}
 use Rattle.std.specs.List.{flat_map, AllByRecursion, sum_by}
 use Rattle.abt_sparse.specs.Block.{Block, Raw, Fill, Skip}
 

@@ -1,10 +1,14 @@
 -- Worked images: their bytes, and what the definitions make of them.
-use Rattle.std.specs.Prelude.{◌≡◌, ℕ, ◌+◌, ◌-◌, ◌*◌, nat_lt, ◌==◌, true, false, List, [], ◌∷◌, ◌++◌, length, take, map, replicate, Option, Some, None, codes, if◌then◌else◌}
-use Rattle.abt_sparse.specs.declared.fault.SparseFault.TheVariants.{Magic, Major, FileHeaderSize, ChunkHeaderSize, BlockSize, ChunkType, ChunkLength, TooManyBlocks, TooFewBlocks, Truncated}
+use Rattle.std.specs.Prelude.{◌≡◌, ℕ, ◌+◌, ◌-◌, ◌*◌, nat_lt, ◌==◌, true, false, List, [], ◌∷◌, ◌++◌, length, take, map}
+use Rattle.std.specs.Prelude.{replicate, Option, Some, None, codes, if◌then◌else◌}
+use Rattle.abt_sparse.specs.declared.fault.SparseFault.TheVariants.{Magic, Major, FileHeaderSize, ChunkHeaderSize}
+use Rattle.abt_sparse.specs.declared.fault.SparseFault.TheVariants.{BlockSize, ChunkType, ChunkLength, TooManyBlocks}
+use Rattle.abt_sparse.specs.declared.fault.SparseFault.TheVariants.{TooFewBlocks, Truncated}
 use Rattle.abt_sparse.specs.declared.kind.ChunkKind.TheVariants as kinds
 use Rattle.abt_sparse.specs.Block.{over, cells, expansion, classify}
 use Rattle.abt_sparse.specs.Runs.{weight, segments}
-use Rattle.abt_sparse.specs.Chunk.{Header, Chunk, Raws, Fills, Skips, Crc, classed, count, chunks_of, spelling, plain_header}
+use Rattle.abt_sparse.specs.Chunk.{Header, Chunk, Raws, Fills, Skips, Crc, classed, count, chunks_of, spelling}
+use Rattle.abt_sparse.specs.Chunk.{plain_header}
 use Rattle.abt_sparse.specs.Reading.{Outcome, Image, Fault, outcome}
 use Rattle.abt_sparse.specs.ChunkHead.{chunk_record}
 use Rattle.abt_sparse.specs.Pieces.{pieces, flashed_in_turn, flashed}

@@ -1,5 +1,6 @@
 -- A sparse image that is being written, and what of it is still to come.
-use Rattle.std.specs.Prelude.{◌≡◌, ℕ, ◌+◌, ◌-◌, ◌*◌, ◌/◌, ◌%◌, ◌^◌, ◌≤◌, ◌<◌, Bool, false, List, [], ◌++◌, length, drop, map, min, Option, Some, None, ⊤, ◌==◌, ◌&&◌, if◌then◌else◌}
+use Rattle.std.specs.Prelude.{◌≡◌, ℕ, ◌+◌, ◌-◌, ◌*◌, ◌/◌, ◌%◌, ◌^◌, ◌≤◌, ◌<◌, Bool, false, List, [], ◌++◌, length, drop}
+use Rattle.std.specs.Prelude.{map, min, Option, Some, None, ⊤, ◌==◌, ◌&&◌, if◌then◌else◌}
 use Rattle.std.specs.List.{flat_map}
 use Rattle.abt_sparse.specs.Block.{Block}
 use Rattle.abt_sparse.specs.Chunk.{Raws, plain, raw_bytes, cut_run, chunks_of}
@@ -16,7 +17,8 @@ use Rattle.abt_io.specs.declared.device.DeviceFault.TheVariants.{Failed}
 use Rattle.abt_pieces.specs.Image.{AreChunks}
 use Rattle.abt_pieces.specs.Write.{begins, front_bytes}
 use Rattle.abt_pieces.specs.declared.fault.PieceFault.{PieceFault}
-use Rattle.abt_pieces.specs.declared.fault.PieceFault.TheVariants.{Read, Write, TooLarge, SourceChanged, BadBlock, LimitTooSmall}
+use Rattle.abt_pieces.specs.declared.fault.PieceFault.TheVariants.{Read, Write, TooLarge, SourceChanged, BadBlock}
+use Rattle.abt_pieces.specs.declared.fault.PieceFault.TheVariants.{LimitTooSmall}
 use Rattle.abt_pieces.specs.declared.gather.Gatherer.{Gatherer}
 use Rattle.abt_sparsify.specs.declared.count.Written.{Written}
 use Rattle.abt_sparsify.specs.declared.write.Cutting.{Cutting}
@@ -36,7 +38,10 @@ no_runs n = record { blocks = n; chunks = 0; bytes = 28 }
 
 -- with the chunks of a run more, of blocks of b bytes
 abbrev pub with_run : Written → Run → ℕ → ℕ → Written
-with_run a x b r = record { blocks = a.blocks; chunks = a.chunks + chunks_in x.kind x.blocks r; bytes = a.bytes + (chunks_in x.kind x.blocks r * head_len x.kind + data_len x.kind x.blocks b) }
+with_run a x b r = record {
+  blocks = a.blocks; chunks = a.chunks + chunks_in x.kind x.blocks r;
+  bytes = a.bytes + (chunks_in x.kind x.blocks r * head_len x.kind + data_len x.kind x.blocks b);
+}
 
 -- the bytes of all chunks of these blocks
 abbrev pub bytes_of : ℕ → List Block → List ℕ
@@ -62,7 +67,8 @@ cut_bytes r g = flat_map plain (cut_run r (Raws (map raw_bytes g)))
 -- what is left of a raw run
 abbrev pub to_cut : ℕ → List Block → Option Cutting → List ℕ
 to_cut r f None = []
-to_cut r f (Some c) = drop c.done (raw_of (between f c.here.block (c.here.block + c.blocks))) ++ cut_bytes r (between f (c.here.block + c.blocks) (c.here.block + c.blocks + c.left))
+to_cut r f (Some c) = drop c.done (raw_of (between f c.here.block (c.here.block + c.blocks)))
+    ++ cut_bytes r (between f (c.here.block + c.blocks) (c.here.block + c.blocks + c.left))
 
 -- how many of its chunks are still to be begun
 abbrev pub to_begin : ℕ → Option Cutting → ℕ
@@ -134,11 +140,15 @@ sparse_left n s = look_left (λ c. n - c.block) n n s.gatherer + s.bytes
 -- ---- a sparser that goes on
 
 abbrev pub first_sparser : Cursor → Written → ℕ → Sparser
-first_sparser c a r = record { most = r; gatherer = first_gatherer c; cutting = None; chunks = a.chunks; bytes = a.bytes - 28 }
+first_sparser c a r = record {
+  most = r; gatherer = first_gatherer c; cutting = None; chunks = a.chunks; bytes = a.bytes - 28;
+}
 
 -- with the front of a chunk written
 abbrev pub front_begun : Sparser → RunKind → Sparser
-front_begun s k = record { most = s.most; gatherer = s.gatherer; cutting = s.cutting; chunks = s.chunks - 1; bytes = s.bytes - head_len k }
+front_begun s k = record {
+  most = s.most; gatherer = s.gatherer; cutting = s.cutting; chunks = s.chunks - 1; bytes = s.bytes - head_len k;
+}
 
 -- what of a run is written as soon as it has ended: all of a fill, nothing of a raw one
 abbrev pub run_front : RunKind → ℕ → List ℕ
@@ -154,7 +164,9 @@ run_head kinds.Skip = 12
 run_head kinds.End = 0
 
 abbrev pub raw_begun : Sparser → Run → Sparser
-raw_begun s x = record { most = s.most; gatherer = s.gatherer; cutting = Some (record { here = x.here; blocks = 0; done = 0; left = x.blocks }); chunks = s.chunks; bytes = s.bytes }
+raw_begun s x = record { most = s.most; gatherer = s.gatherer;
+        cutting = Some (record { here = x.here; blocks = 0; done = 0; left = x.blocks }); chunks = s.chunks; bytes =
+        s.bytes }
 
 abbrev pub begun_as : RunKind → Sparser → Run → Sparser
 begun_as kinds.Raw s x = raw_begun s x
@@ -170,14 +182,18 @@ abbrev pub next_blocks : Cutting → ℕ → ℕ
 next_blocks c r = min c.left r
 
 abbrev pub cut_on : Cutting → ℕ → Cutting
-cut_on c r = record { here = record { block = c.here.block + c.blocks; at = c.here.at; chunk = c.here.chunk; used = c.here.used; ask = c.here.ask }; blocks = next_blocks c r; done = 0; left = c.left - next_blocks c r }
+cut_on c r = record { here = record { block = c.here.block + c.blocks; at = c.here.at; chunk = c.here.chunk;
+        used = c.here.used; ask = c.here.ask }; blocks = next_blocks c r; done = 0; left = c.left - next_blocks c r }
 
 abbrev pub chunk_opened : Sparser → Cutting → Sparser
-chunk_opened s c = record { most = s.most; gatherer = s.gatherer; cutting = Some (cut_on c s.most); chunks = s.chunks - 1; bytes = s.bytes - 12 }
+chunk_opened s c = record {
+  most = s.most; gatherer = s.gatherer; cutting = Some (cut_on c s.most); chunks = s.chunks - 1; bytes = s.bytes - 12;
+}
 
 -- with n bytes more copied, of blocks of b bytes
 abbrev pub copied_cutting : Cutting → ℕ → ℕ → Option Cutting
-copied_cutting c n b = if (c.left == 0) && (c.done + n == c.blocks * b) then None else Some (record { here = c.here; blocks = c.blocks; done = c.done + n; left = c.left })
+copied_cutting c n b = if (c.left == 0) && (c.done + n == c.blocks * b) then None
+    else Some (record { here = c.here; blocks = c.blocks; done = c.done + n; left = c.left })
 
 -- ---- what is read
 

@@ -1,5 +1,6 @@
 -- FRAGMENT words of `pack`.
-use Rattle.std.specs.Prelude.{◌≡◌, ◌≢◌, ◌<◌, ◌≤◌, ◌^◌, ◌&&◌, nat_lt, ℕ, if◌then◌else◌, List, ◌∷◌, ◌++◌, Option, Some, None, codes, length, replicate, slice_index}
+use Rattle.std.specs.Prelude.{◌≡◌, ◌≢◌, ◌<◌, ◌≤◌, ◌^◌, ◌&&◌, nat_lt, ℕ, if◌then◌else◌, List, ◌∷◌, ◌++◌, Option, Some}
+use Rattle.std.specs.Prelude.{None, codes, length, replicate, slice_index}
 use Rattle.std.specs.Str.{all_ascii_digits, bytes_eq}
 use Rattle.std.specs.Str.Parse.{digits_value}
 use Rattle.abt_sections.specs.Fields.{filled}

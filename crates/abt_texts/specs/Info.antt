@@ -1,5 +1,6 @@
 -- The text of `info`: what the lines of an opened image are, and in which order.
-use Rattle.std.specs.Prelude.{◌≡◌, ◌↔◌, ℕ, zero, suc, ◌<◌, IsTrue, ◌/◌, ◌%◌, ◌==◌, ◌&&◌, not, nat_le, Bool, if◌then◌else◌, List, [], ◌∷◌, ◌++◌, Option, Some, None, codes, decimal}
+use Rattle.std.specs.Prelude.{◌≡◌, ◌↔◌, ℕ, zero, suc, ◌<◌, IsTrue, ◌/◌, ◌%◌, ◌==◌, ◌&&◌, not, nat_le, Bool}
+use Rattle.std.specs.Prelude.{if◌then◌else◌, List, [], ◌∷◌, ◌++◌, Option, Some, None, codes, decimal}
 use Rattle.std.specs.List.{flat_map, take_while}
 use Rattle.hex.specs.Hex.{encode_lower}
 use Rattle.abt_headers.specs.declared.boot.BootFront.{BootFront}
@@ -58,7 +59,9 @@ section_text p =
 
 abbrev pub fragment_text : ℕ → RamdiskEntry → List ℕ
 fragment_text i e = codes "fragment " ++ (decimal i ++ (codes " at " ++ (decimal e.ramdisk_offset
-    ++ (codes " size " ++ (decimal e.ramdisk_size ++ (codes " type " ++ (decimal e.ramdisk_type ++ (codes " name " ++ quoted e.name))))))))
+    ++ (codes " size "
+            ++ (decimal e.ramdisk_size
+            ++ (codes " type " ++ (decimal e.ramdisk_type ++ (codes " name " ++ quoted e.name))))))))
 
 abbrev pub address_name : Address → List ℕ
 address_name addresses.Kernel = codes "kernel"

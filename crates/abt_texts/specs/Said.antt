@@ -1,5 +1,7 @@
 -- What the words of `pack` say of an image.
-use Rattle.std.specs.Prelude.{◌≡◌, ◌<◌, ◌^◌, ℕ, suc, ◌==◌, ◌&&◌, ◌||◌, ◌⊎◌, if◌then◌else◌, Bool, true, false, List, [], ◌∷◌, ◌++◌, Option, Some, None, codes, decimal, length, map, replicate, slice_index, slice_index_or}
+use Rattle.std.specs.Prelude.{◌≡◌, ◌<◌, ◌^◌, ℕ, suc, ◌==◌, ◌&&◌, ◌||◌, ◌⊎◌, if◌then◌else◌, Bool, true, false, List, []}
+use Rattle.std.specs.Prelude.{◌∷◌, ◌++◌, Option, Some, None, codes, decimal, length, map, replicate, slice_index}
+use Rattle.std.specs.Prelude.{slice_index_or}
 use Rattle.abt_headers.specs.declared.boot.BootFront.{BootFront}
 use Rattle.abt_headers.specs.declared.boot.ShortFront.{ShortFront}
 use Rattle.abt_headers.specs.declared.boot.BootHeader.{BootHeader}

@@ -1,11 +1,13 @@
 -- The words that pack an image again.
-use Rattle.std.specs.Prelude.{ℕ, zero, suc, ◌==◌, ◌&&◌, nat_le, Bool, true, false, if◌then◌else◌, List, [], ◌∷◌, ◌++◌, Option, Some, None, codes, decimal, is_some, length, drop}
+use Rattle.std.specs.Prelude.{ℕ, zero, suc, ◌==◌, ◌&&◌, nat_le, Bool, true, false, if◌then◌else◌, List, [], ◌∷◌, ◌++◌}
+use Rattle.std.specs.Prelude.{Option, Some, None, codes, decimal, is_some, length, drop}
 use Rattle.std.specs.List.{flat_map}
 use Rattle.abt_headers.specs.declared.entry.RamdiskEntry.{RamdiskEntry}
 use Rattle.abt_headers.specs.declared.os.OsParts.{OsParts}
 use Rattle.abt_headers.specs.declared.sections.Place.{Place}
 use Rattle.abt_headers.specs.declared.sections.Section.{Section}
-use Rattle.abt_headers.specs.declared.sections.Section.TheVariants.{Kernel, Ramdisk, Second, RecoveryDtbo, Dtb, Signature, VendorRamdisk, Table, Bootconfig}
+use Rattle.abt_headers.specs.declared.sections.Section.TheVariants.{Kernel, Ramdisk, Second, RecoveryDtbo, Dtb}
+use Rattle.abt_headers.specs.declared.sections.Section.TheVariants.{Signature, VendorRamdisk, Table, Bootconfig}
 use Rattle.abt_headers.specs.Boot.{boot_page, boot_version}
 use Rattle.abt_headers.specs.Os.{os_parts}
 use Rattle.abt_headers.specs.Places.{section_name}
@@ -62,7 +64,8 @@ escaped_in_name b = if b == 58 then codes "\\x3a" else info.escaped b
 
 abbrev pub fragment_option : ℕ → ℕ → List ℕ → List ℕ → List ℕ
 fragment_option i kind name folder = codes "--fragment=" ++ (decimal kind ++ (codes ":"
-    ++ (flat_map escaped_in_name name ++ (codes ":" ++ (flat_map info.escaped folder ++ (codes "/fragment." ++ decimal i))))))
+    ++ (flat_map escaped_in_name name
+            ++ (codes ":" ++ (flat_map info.escaped folder ++ (codes "/fragment." ++ decimal i))))))
 
 abbrev pub board_option : ℕ → ℕ → ℕ → List ℕ
 board_option i k n = codes "--board-id=" ++ (decimal i ++ (codes ":" ++ (decimal k ++ (codes "=" ++ decimal n))))

@@ -6,7 +6,8 @@ use Rattle.abt_sparse.specs.Number.{number_of}
 use Rattle.abt_sparse.specs.declared.fault.SparseFault.{SparseFault}
 use Rattle.abt_sparse.specs.declared.fault.SparseFault.TheVariants as of_sparse
 use Rattle.abt_verify.specs.declared.fault.VerifyFault.{VerifyFault}
-use Rattle.abt_verify.specs.declared.fault.VerifyFault.TheVariants.{Sparse, Read, SourceChanged, BadBlock, Differs, PartitionRead}
+use Rattle.abt_verify.specs.declared.fault.VerifyFault.TheVariants.{Sparse, Read, SourceChanged, BadBlock, Differs}
+use Rattle.abt_verify.specs.declared.fault.VerifyFault.TheVariants.{PartitionRead}
 
 abbrev pub fault_number : VerifyFault → ℕ
 fault_number (Sparse f) = number_of f

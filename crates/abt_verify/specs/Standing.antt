@@ -1,5 +1,6 @@
 -- When an image stands on a partition, and which byte of it is the first that does not.
-use Rattle.std.specs.Prelude.{◌≡◌, ℕ, ◌+◌, ◌<◌, List, [], ◌∷◌, ◌++◌, replicate, Option, Some, None, slice_get, slice_index_or}
+use Rattle.std.specs.Prelude.{◌≡◌, ℕ, ◌+◌, ◌<◌, List, [], ◌∷◌, ◌++◌, replicate, Option, Some, None, slice_get}
+use Rattle.std.specs.Prelude.{slice_index_or}
 use Rattle.abt_sparse.specs.Block.{Block, Raw, Fill, Skip}
 
 -- Byte i of a partition that holds p is what the cells say of it, or they say nothing. Behind its end no byte is there.

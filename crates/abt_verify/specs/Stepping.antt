@@ -1,5 +1,6 @@
 -- One step of a verifier: what it compares, and where it stands behind it.
-use Rattle.std.specs.Prelude.{◌≡◌, ℕ, ◌+◌, Bool, List, ◌++◌, length, Option, Some, None, Result, Ok, Err, IsTrue, is_err, OnOk, ◌==◌, if◌then◌else◌}
+use Rattle.std.specs.Prelude.{◌≡◌, ℕ, ◌+◌, Bool, List, ◌++◌, length, Option, Some, None, Result, Ok, Err, IsTrue}
+use Rattle.std.specs.Prelude.{is_err, OnOk, ◌==◌, if◌then◌else◌}
 use Rattle.abt_chunks.specs.declared.progress.Progress.{Progress}
 use Rattle.abt_chunks.specs.declared.progress.Progress.TheVariants as answers
 use Rattle.abt_chunks.specs.declared.walk.Part.{Part}
