@@ -5,7 +5,7 @@
 
 Of the tables of docs/CLAIMS.md:
   - each definition that is to be believed stands in the file of specs/ that is named, and all of them together have fewer than
-    650 lines, beside the remarks above them;
+    700 lines, with the remarks above them;
   - each claim's function is public, its contract has a clause of each name, the definitions are there, and so is each
     must-fail edit.
 Of all documents: no line is longer than 120 columns, each file that a link or a path in backquotes names is there, and each
@@ -20,7 +20,7 @@ import subprocess
 import sys
 
 HERE = os.path.dirname(os.path.dirname(os.path.abspath(__file__)))
-MOST_LINES = 650
+MOST_LINES = 700
 DOCUMENTS = ("README.md", "CONTRIBUTING.md", "CHANGELOG.md", "docs/*.md")
 
 
@@ -85,7 +85,7 @@ def words_in(cell):
 
 
 def definition(crate, file, name):
-    """How many lines a definition has in a file of specs/, without the remark above it, or None."""
+    """How many lines a definition has in a file of specs/, with the remark above it, or None."""
     path = f"crates/{crate}/specs/{file}.antt"
     if not os.path.isfile(os.path.join(HERE, path)):
         return None
@@ -96,6 +96,8 @@ def definition(crate, file, name):
             last = at
             while last + 1 < len(text) and text[last + 1].strip():
                 last += 1
+            while at > 0 and text[at - 1].startswith("--"):
+                at -= 1
             return last - at + 1
     return None
 

@@ -30,17 +30,11 @@ boot_magic = 0x41 ∷ 0x4e ∷ 0x44 ∷ 0x52 ∷ 0x4f ∷ 0x49 ∷ 0x44 ∷ 0x21
 abbrev pub front_numbers : ℕ → BootFront → List (List ℕ)
 front_numbers version f =
     boot_magic
-    ∷ little_bytes 4 f.kernel_size
-    ∷ little_bytes 4 f.kernel_addr
-    ∷ little_bytes 4 f.ramdisk_size
-    ∷ little_bytes 4 f.ramdisk_addr
-    ∷ little_bytes 4 f.second_size
-    ∷ little_bytes 4 f.second_addr
-    ∷ little_bytes 4 f.tags_addr
-    ∷ little_bytes 4 (page_bytes f.page_size)
-    ∷ little_bytes 4 version
-    ∷ little_bytes 4 f.os_version.number
-    ∷ []
+    ∷ little_bytes 4 f.kernel_size ∷ little_bytes 4 f.kernel_addr
+    ∷ little_bytes 4 f.ramdisk_size ∷ little_bytes 4 f.ramdisk_addr
+    ∷ little_bytes 4 f.second_size ∷ little_bytes 4 f.second_addr
+    ∷ little_bytes 4 f.tags_addr ∷ little_bytes 4 (page_bytes f.page_size)
+    ∷ little_bytes 4 version ∷ little_bytes 4 f.os_version.number ∷ []
 
 -- versions 0 to 2, bytes 0 to 1,631
 abbrev pub front_fields : ℕ → BootFront → List (List ℕ)
@@ -59,11 +53,8 @@ dtb_fields d = little_bytes 4 d.dtb_size ∷ little_bytes 8 d.dtb_addr ∷ []
 abbrev pub short_numbers : ShortFront → List (List ℕ)
 short_numbers f =
     boot_magic
-    ∷ little_bytes 4 f.kernel_size
-    ∷ little_bytes 4 f.ramdisk_size
-    ∷ little_bytes 4 f.os_version.number
-    ∷ little_bytes 4 f.header_size
-    ∷ []
+    ∷ little_bytes 4 f.kernel_size ∷ little_bytes 4 f.ramdisk_size
+    ∷ little_bytes 4 f.os_version.number ∷ little_bytes 4 f.header_size ∷ []
 
 -- versions 3 and 4, bytes 0 to 1,579
 abbrev pub short_fields : ℕ → ShortFront → List (List ℕ)

@@ -54,20 +54,12 @@ vendor_magic = 0x56 ∷ 0x4e ∷ 0x44 ∷ 0x52 ∷ 0x42 ∷ 0x4f ∷ 0x4f ∷ 0x
 abbrev pub vendor_head : ℕ → VendorFront → List (List ℕ)
 vendor_head version f =
     vendor_magic
-    ∷ little_bytes 4 version
-    ∷ little_bytes 4 (page_bytes f.page_size)
-    ∷ little_bytes 4 f.kernel_addr
-    ∷ little_bytes 4 f.ramdisk_addr
-    ∷ little_bytes 4 f.vendor_ramdisk_size
-    ∷ []
+    ∷ little_bytes 4 version ∷ little_bytes 4 (page_bytes f.page_size)
+    ∷ little_bytes 4 f.kernel_addr ∷ little_bytes 4 f.ramdisk_addr ∷ little_bytes 4 f.vendor_ramdisk_size ∷ []
 
 -- bytes 2,096 to 2,111
 abbrev pub vendor_end : VendorFront → List (List ℕ)
-vendor_end f =
-    little_bytes 4 f.header_size
-    ∷ little_bytes 4 f.dtb_size
-    ∷ little_bytes 8 f.dtb_addr
-    ∷ []
+vendor_end f = little_bytes 4 f.header_size ∷ little_bytes 4 f.dtb_size ∷ little_bytes 8 f.dtb_addr ∷ []
 
 -- bytes 0 to 2,111
 abbrev pub vendor_fields : ℕ → VendorFront → List (List ℕ)

@@ -3,8 +3,7 @@ use Rattle.std.specs.Prelude.{◌≡◌, ℕ, ◌+◌, Bool, true, false, ◌&&�
 use Rattle.std.specs.Prelude.{take, drop, slice_get}
 use Rattle.std.specs.List.{AllByRecursion}
 
--- a partition between two calls: what a read gives, the ranges (place and length) that a crash may leave with any
--- bytes, and how many syncs have succeeded
+-- a partition between calls: its bytes, the ranges (place, length) that a crash may change, how many syncs succeeded
 pub record Moment : Type 0 where
   pub content : List ℕ
   pub pending : List (ℕ × ℕ)

@@ -20,19 +20,11 @@ use Rattle.abt_sections.specs.Layout.{laid_out, laid_size}
 -- versions 0 to 2; the command line lies over both of its fields
 abbrev pub front_for : BootFields → PageSize → List ℕ → List ℕ → BootFront
 front_for s page sizes id = record {
-  kernel_size = slice_index sizes 0;
-  kernel_addr = s.kernel_addr;
-  ramdisk_size = slice_index sizes 1;
-  ramdisk_addr = s.ramdisk_addr;
-  second_size = slice_index sizes 2;
-  second_addr = s.second_addr;
-  tags_addr = s.tags_addr;
-  page_size = page;
-  os_version = s.os;
-  name = filled 16 s.name;
-  cmdline = filled 512 (take 512 s.cmdline);
-  id = id;
-  extra_cmdline = filled 1024 (drop 512 s.cmdline);
+  kernel_size = slice_index sizes 0; kernel_addr = s.kernel_addr;
+  ramdisk_size = slice_index sizes 1; ramdisk_addr = s.ramdisk_addr;
+  second_size = slice_index sizes 2; second_addr = s.second_addr;
+  tags_addr = s.tags_addr; page_size = page; os_version = s.os; name = filled 16 s.name; id = id;
+  cmdline = filled 512 (take 512 s.cmdline); extra_cmdline = filled 1024 (drop 512 s.cmdline);
 }
 
 -- where the recovery dtbo stands, or 0 where it is empty
@@ -44,9 +36,8 @@ dtbo_offset page kernel ramdisk second dtbo =
 abbrev pub dtbo_for : PageSize → List ℕ → ℕ → DtboFields
 dtbo_for page sizes header_size = record {
   recovery_dtbo_size = slice_index sizes 3;
-  recovery_dtbo_offset =
-      dtbo_offset (page_bytes page) (slice_index sizes 0) (slice_index sizes 1) (slice_index sizes 2)
-      (slice_index sizes 3);
+  recovery_dtbo_offset = dtbo_offset (page_bytes page) (slice_index sizes 0) (slice_index sizes 1)
+      (slice_index sizes 2) (slice_index sizes 3);
   header_size = header_size;
 }
 
@@ -57,12 +48,8 @@ dtb_for s sizes = record { dtb_size = slice_index sizes 4; dtb_addr = s.dtb_addr
 -- versions 3 and 4
 abbrev pub short_for : BootFields → List ℕ → ℕ → ShortFront
 short_for s sizes header_size = record {
-  kernel_size = slice_index sizes 0;
-  ramdisk_size = slice_index sizes 1;
-  os_version = s.os;
-  header_size = header_size;
-  reserved = replicate 16 0;
-  cmdline = filled 1536 s.cmdline;
+  kernel_size = slice_index sizes 0; ramdisk_size = slice_index sizes 1; os_version = s.os;
+  header_size = header_size; reserved = replicate 16 0; cmdline = filled 1536 s.cmdline;
 }
 
 unfoldable pub boot_header_for : BootFields → PageSize → List ℕ → List ℕ → BootHeader

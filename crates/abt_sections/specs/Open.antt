@@ -30,8 +30,7 @@ pub record HasImage (x : List ℕ) (h : Header) : Type 0 where
   pub there : beyond (places_of h) (length x) ≡ None
   pub within : EachWithin x h
 
--- the same without reading: x is an image of h and some parts, each whole at its place, and every fragment is within
--- the vendor ramdisk
+-- x is an image of h and some parts, each whole at its place, and every fragment is within the vendor ramdisk
 pub record IsWholeImage (x : List ℕ) (h : Header) : Type 0 where
   pub parts : List (List ℕ)
   pub image : IsImage x h parts

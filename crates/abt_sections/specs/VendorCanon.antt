@@ -31,16 +31,10 @@ table_for (f ∷ fs) (n ∷ ns) offset = entry_record (entry_for f n offset) ++ 
 
 abbrev pub vendor_front_for : VendorFields → PageSize → List ℕ → ℕ → VendorFront
 vendor_front_for s page sizes header_size = record {
-  page_size = page;
-  kernel_addr = s.kernel_addr;
-  ramdisk_addr = s.ramdisk_addr;
-  vendor_ramdisk_size = slice_index sizes 0;
-  cmdline = filled 2048 s.cmdline;
-  tags_addr = s.tags_addr;
-  name = filled 16 s.name;
-  header_size = header_size;
-  dtb_size = slice_index sizes 1;
-  dtb_addr = s.dtb_addr;
+  page_size = page; kernel_addr = s.kernel_addr; ramdisk_addr = s.ramdisk_addr;
+  vendor_ramdisk_size = slice_index sizes 0; cmdline = filled 2048 s.cmdline;
+  tags_addr = s.tags_addr; name = filled 16 s.name; header_size = header_size;
+  dtb_size = slice_index sizes 1; dtb_addr = s.dtb_addr;
 }
 
 abbrev pub tail_for : List ℕ → ℕ → Tail

@@ -114,8 +114,7 @@ abbrev pub chunk_bytes : ℕ → List ℕ → ℕ → ℕ → List ℕ → List 
 chunk_bytes type reserved blocks total extra payload =
     to_le_bytes w16 type ++ (reserved ++ (to_le_bytes w32 blocks ++ (to_le_bytes w32 total ++ (extra ++ payload))))
 
--- The bytes are a spelling of the chunk. The reserved field, the bytes past the twelfth of the header, and a
--- checksum's block count may be anything.
+-- The bytes spell the chunk: its reserved field, its header past 12 bytes and a checksum's count may be anything.
 pub record SpellsChunk (h : Header) (c : Chunk) (bytes : List ℕ) : Type 0 where
   pub reserved : ℕ
   pub blocks : ℕ
@@ -142,13 +141,7 @@ plain c = chunk_bytes (code (kind c)) (to_le_bytes w16 0) (count c) (12 + length
 
 abbrev pub plain_header : ℕ → ℕ → ℕ → Header
 plain_header b n chunks = record {
-  minor = 0;
-  file_hdr_sz = 28;
-  chunk_hdr_sz = 12;
-  blk_sz = b;
-  total_blks = n;
-  total_chunks = chunks;
-  image_checksum = 0;
+  minor = 0; file_hdr_sz = 28; chunk_hdr_sz = 12; blk_sz = b; total_blks = n; total_chunks = chunks; image_checksum = 0;
 }
 
 -- the chunk of a run

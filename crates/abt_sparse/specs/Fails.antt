@@ -77,8 +77,7 @@ pub data ChunkFails (h : Header) (size i have : ℕ) (y : List ℕ) : SparseFaul
       → have + counted k n ≤ h.total_blks → length y < total
       → ChunkFails h size i have y (Truncated size) (partial_of k (drop h.chunk_hdr_sz y))
 
--- x has this fault, behind these cells: those of the chunks before it, and the raw bytes that came of the chunk
--- that has it.
+-- x has this fault, behind these cells: those of the chunks before it, and the raw bytes that came of that chunk.
 pub data Fails (x : List ℕ) : SparseFault → List (Option ℕ) → Type 0 where
   no_image : length x < 28 → Fails x (Truncated (length x)) []
   bad_header : (f : SparseFault) → 28 ≤ length x → HeaderFails x f → Fails x f []

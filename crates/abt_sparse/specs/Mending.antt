@@ -2,8 +2,8 @@
 use Rattle.std.specs.Prelude.{◌≡◌, ℕ, ◌*◌, ◌<◌, List, length, None, slice_index, slice_index_or}
 use Rattle.abt_sparse.specs.Block.{Block, cells, over}
 
--- A device that held p before holds q: as p at every byte that the image does not write, and as p under the image at
--- every byte of its first so many blocks. What else the image writes may be anything.
+-- q is p at each byte that the image does not write, and p under the image at those of its first so many blocks. What
+-- else the image writes may be anything.
 pub record Mendable (b : ℕ) (blocks : List Block) (p q : List ℕ) (first : ℕ) : Type 0 where
   pub long : length q ≡ length p
   pub outside : (i : ℕ) → i < length p → slice_index_or (cells b blocks) i None ≡ None

@@ -28,8 +28,7 @@ abbrev pub runs : List Block → List (List Block)
 runs [] = []
 runs (x ∷ l) = grouped x (runs l)
 
--- The same as a relation: groups that are the list when joined, none empty, each of blocks that are alike, no two
--- neighbours fit to be one.
+-- Groups that are the list when joined, none empty, each of blocks that are alike, no two neighbours fit to be one.
 abbrev pub IsRun : List Block → Type 0
 IsRun [] = ⊥
 IsRun (x ∷ g) = AllByRecursion (λ y. alike x y ≡ true) g
