@@ -101,11 +101,6 @@ pub written_nones : (n : ℕ) → written_by (nones n) ≡ 0
 written_nones zero = refl
 written_nones (suc n) = written_nones n
 
-pub written_le : (cs : List (Option ℕ)) → written_by cs ≤ length cs
-written_le [] = omega arith
-written_le (None ∷ cs) = omega (arith, written_le cs)
-written_le (Some x ∷ cs) = omega (arith, written_le cs)
-
 written_block : (b : ℕ) (x : Block) → b % 4 ≡ 0 → IsBlock b x → written_by (cells_of b (block_bytes b x)) ≡ b * written_in (x ∷ [])
 written_block b (Raw bytes) four h = written_somes bytes ∙ omega (arith, h)
 written_block b (Fill word) four h = let long = length_words (b / 4) word h in written_somes (concat (replicate (b / 4) word)) ∙ omega (arith, long)

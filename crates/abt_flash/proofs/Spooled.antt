@@ -22,10 +22,6 @@ fits_then limit c0 c1 c2 n0 n1 n2 h k = record {
 pub fits_one : (limit : ℕ) (cuts cuts' : List ℕ) (n n' : ℕ) → cuts' ≡ n ∷ cuts → n ≤ n' → n' ≤ n + limit → PiecesFit limit cuts cuts' n n'
 fits_one limit cuts cuts' n n' e grown within = record { clears = n ∷ []; joined = e; fit = (grown, within, refl) }
 
--- where no clear came nothing is written
-pub fits_same : (limit : ℕ) (cuts cuts' : List ℕ) (n n' : ℕ) → cuts' ≡ cuts → n' ≡ n → PiecesFit limit cuts cuts' n n'
-fits_same limit cuts cuts' n n' e same = record { clears = []; joined = e; fit = sym same }
-
 -- what is written, and what is still to come, is the whole
 pub written_then : (w w' whole x : List ℕ) (xs : List (List ℕ)) → w ++ concat (x ∷ xs) ≡ whole → w' ≡ w ++ x → w' ++ concat xs ≡ whole
 written_then w w' whole x xs e more = ap (λ (y : List ℕ). y ++ concat xs) more ∙ append_assoc w x (concat xs) ∙ e

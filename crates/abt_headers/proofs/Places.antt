@@ -1,6 +1,6 @@
 -- How sections are laid one after another.
-use Rattle.std.proofs.Common.{◌≡◌, ℕ, zero, suc, ◌+◌, ◌-◌, ◌*◌, ◌<◌, ◌≤◌, ◌^◌, List, [], ◌∷◌, ◌++◌, length, get_or, take, drop, set, refl, sym, ap, subst, ◌∙◌, append_assoc, arith, nat_lt, inl, inr}
-use Rattle.std.proofs.Math.Nat.{mul-le-mul_left, mul-le-mul_right, div-mul-le_self, lt-div-mul-add}
+use Rattle.std.proofs.Common.{◌≡◌, ℕ, zero, suc, ◌+◌, ◌-◌, ◌*◌, ◌<◌, ◌≤◌, ◌^◌, List, [], ◌∷◌, ◌++◌, length, get_or, take, drop, set, refl, sym, ap, ◌∙◌, append_assoc, arith, nat_lt, inl, inr}
+use Rattle.std.proofs.Math.Nat.{mul-le-mul_right, div-mul-le_self, lt-div-mul-add}
 use Rattle.std.proofs.lemmas.List.{take_more_set, drop_more}
 use Rattle.std.proofs.lemmas.Bool.{cases_Bool, ltb-true, ltb-false}
 use Rattle.std.proofs.lemmas.Grind.{div_ceil_times}
@@ -18,13 +18,6 @@ laid p k k' i ps ss d h l e =
     ∙ append_assoc (take i ps) (y ∷ []) (places_from p k' (drop (i + 1) ss))
     ∙ ap (λ (n : ℕ). take i ps ++ (y ∷ places_from p n (drop (i + 1) ss))) e
     ∙ ap (λ (t : List (Section × ℕ)). take i ps ++ places_from p k t) (sym (drop_more ss i d h))
-
-pub few_pages : (q page size : ℕ) → q * page < size + page → 2048 ≤ page → size < 2 ^ 32 → q ≤ 2097153
-few_pages zero page size h p s = omega arith
-few_pages (suc q) page size h p s =
-    let e : suc q * page ≡ q * page + page = omega arith in
-    let m = mul-le-mul_left q p in
-    omega (arith, m, e)
 
 pub enough_pages : (n p : ℕ) → 0 < p → n ≤ pages n p * p
 enough_pages n p h = omega (arith, lt-div-mul-add {a = n + (p - 1)} {b = p} h)
@@ -50,10 +43,6 @@ each_more [] y h low zero q lt is = let at : q.at ≡ y.at = ap (λ (r : Place).
 each_more [] y h low (suc i) q lt is = absurd (omega arith)
 each_more (p ∷ ps) y h low zero q lt is = h zero q (omega arith) is
 each_more (p ∷ ps) y h low (suc i) q lt is = each_more ps y (λ j r m e. h (suc j) r (omega arith) e) low i q (omega arith) is
-
--- one place more that isn't far
-pub low_more : (ps : List Place) (i : ℕ) (y : Place) → i < length ps → EachLow (take i ps) → y.at + y.size < 2 ^ 63 → EachLow (take (i + 1) (set ps i y))
-low_more ps i y l h low = subst (λ (qs : List Place). EachLow qs) (sym (take_more_set ps i y l)) (each_more (take i ps) y h low)
 
 -- nor is that of a section behind few pages
 pub near : (page k size : ℕ) → page ≤ 131072 → k ≤ 10485767 → size < 2 ^ 32 → page * k + size < 2 ^ 63

@@ -211,14 +211,6 @@ vendor_sizes x (Err f) k e = tt
 
 -- ---- by versions, from the parts
 
-pub in_3 : (x : List ℕ) (r : Result PageSize HeaderFault) → r ≡ needing 2112 x (page_at 12 x) → vendor_of 3 x ≡ mapped r (λ p. record { front = vendor_front_at p x; tail = None })
-unfolding vendor_of
-in_3 x r e = ap (λ (s : Result PageSize HeaderFault). mapped s (λ p. record { front = vendor_front_at p x; tail = None })) (sym e)
-
-pub in_4 : (x : List ℕ) (r : Result PageSize HeaderFault) (s : Result Tail HeaderFault) → r ≡ needing 2128 x (page_at 12 x) → s ≡ tail_of x → vendor_of 4 x ≡ mapped (both r s) (whole x)
-unfolding vendor_of
-in_4 x r s e d = ap (λ (t : Result PageSize HeaderFault). mapped (both t (tail_of x)) (whole x)) (sym e) ∙ ap (λ (t : Result Tail HeaderFault). mapped (both r t) (whole x)) (sym d)
-
 fields_are : (x : List ℕ) (a b c d : ℕ) → a ≡ number_at 2112 4 x → b ≡ number_at 2116 4 x → c ≡ number_at 2120 4 x → d ≡ number_at 2124 4 x → tail_at x ≡ record { table_size = a; entry_num = b; entry_size = c; bootconfig_size = d }
 unfolding tail_at
 fields_are x a b c d e f g h = rw (e, f, g, h) refl

@@ -1,5 +1,5 @@
 -- A cutter from stage to stage.
-use Rattle.std.proofs.Common.{◌≡◌, ℕ, ◌+◌, ◌-◌, ◌<◌, ◌≤◌, nat_le, nat_lt, Bool, true, List, [], ◌∷◌, ◌++◌, length, map, take, drop, replicate, refl, sym, ap, ◌∙◌, append_assoc, arith, inl, inr, ◌⊎◌, length-append, length-drop, leb-true, ◌^◌, if◌then◌else◌}
+use Rattle.std.proofs.Common.{◌≡◌, ℕ, ◌+◌, ◌-◌, ◌<◌, ◌≤◌, nat_le, nat_lt, Bool, true, List, [], ◌∷◌, ◌++◌, length, map, take, drop, replicate, refl, sym, ap, ◌∙◌, append_assoc, arith, inl, inr, ◌⊎◌, length-append, length-drop, leb-true, if◌then◌else◌}
 use Rattle.std.proofs.lemmas.Bool.{cases_Bool, ltb-true, ltb-false}
 use Rattle.std.proofs.lemmas.List.{length-take-le, length-replicate}
 use Rattle.std.proofs.Math.Seq.{take-append_seam}
@@ -13,11 +13,11 @@ use Rattle.abt_runs.specs.declared.part.RunKind.TheVariants as kinds
 use Rattle.abt_pieces.specs.Plan.{between, FirstPiece, Ends}
 use Rattle.abt_pieces.specs.Gather.{frame, first_gatherer, Gathered, SoundGatherer}
 use Rattle.abt_pieces.specs.Outline.{IsOutline, blocks_of, segment_at, piece_at, first_part}
-use Rattle.abt_pieces.specs.Write.{chunks_of, rest_of, frame_of, SoundWriter, ToldWriter}
+use Rattle.abt_pieces.specs.Write.{chunks_of, rest_of, frame_of, ToldWriter}
 use Rattle.abt_pieces.specs.declared.outline.Outline.{Outline}
 use Rattle.abt_pieces.specs.declared.plan.Planner.{Planner}
 use Rattle.std.proofs.lemmas.List.{length-map}
-use Rattle.abt_pieces.specs.Cutter.{first_writer, has_more, is_begun, SoundOutline, ToldCutter, ToldStage, Made, segments_left}
+use Rattle.abt_pieces.specs.Cutter.{first_writer, has_more, SoundOutline, ToldCutter, ToldStage, Made, segments_left}
 use Rattle.abt_pieces.specs.declared.stage.Stage.{Stage}
 use Rattle.abt_pieces.specs.declared.fault.PieceFault.{PieceFault}
 use Rattle.abt_pieces.specs.declared.stage.Stage.TheVariants.{Between, Plan, Begin, Write, Done, Failed}
@@ -72,13 +72,6 @@ sound_first W n e c order within place = record {
   raw = λ h s. absurd cc;
 }
 
-pub writer_sound : (W : Cursor → Type 0) (reach : Cursor → ℕ) (n b limit : ℕ) (c : Cursor) (o : Outline) → W c → limit < 2 ^ 32 → SoundOutline W n limit c.block o → SoundWriter W reach n b (first_writer c o)
-writer_sound W reach n b limit c o place small h = record {
-  gathering = rw h.first (sound_first W n o.piece.past c (omega (arith, h.first, h.order)) h.end place);
-  copies = tt;
-  small = omega (arith, h.long, small);
-}
-
 -- the piece is its header and its chunks
 pub header_first : (b n : ℕ) (l : List Block) (c : Cursor) (o : Outline) → n ≡ length l → c.block ≡ o.piece.first → IsOutline b l o → piece b (blocks_of l o.piece) ≡ header_record (plain_header b n o.chunks) ++ rest_of (frame_of l (first_writer c o)) (first_writer c o)
 header_first b n l c o same first h =
@@ -112,9 +105,6 @@ writer_told P T b n l c o place same first h =
     }
 
 -- ---- a piece more
-
-pub made_first : (b limit : ℕ) (l : List Block) (s : ℕ) → s ≡ 0 → Made b limit l 0 (segments_left b limit l s Between)
-made_first b limit l s e = record { before = []; count = refl; all = rw e refl }
 
 pub made_more : (b limit : ℕ) (l : List Block) (made s e : ℕ) (st : Stage) → Made b limit l made (segments_left b limit l s Between) → FirstPiece b l limit s e → (e ≡ length l → st ≡ Done) → (e < length l → st ≡ Between) → Made b limit l (made + 1) (segments_left b limit l e st)
 made_more b limit l made s e st m h done more =
@@ -175,15 +165,3 @@ told_more P T W b n limit made l start o old st more h sound same first place do
 -- one that has refused
 pub told_failed : (P : Cursor → Type 0) (T : Cursor → ℕ) (b limit made : ℕ) (l : List Block) (start : Cursor) (old : Stage) (f : PieceFault) → has_more old ≡ true → ToldCutter P T b l limit made start old → ToldCutter P T b l limit made start (Failed f)
 told_failed P T b limit made l start old f more h = record { place = h.place; cuts = rw (left_same b limit l start.block old more) at h.cuts; stage = tt }
-
--- one whose piece is begun
-pub told_begun : (P : Cursor → Type 0) (T : Cursor → ℕ) (b limit made : ℕ) (l : List Block) (start : Cursor) (old st : Stage) → has_more old ≡ true → is_begun st ≡ true → ToldCutter P T b l limit made start old → ToldStage P T b l limit start.block st → ToldCutter P T b l limit made start st
-told_begun P T b limit made l start old st more begun h stage = record { place = h.place; cuts = rw (left_same b limit l start.block st (begun_more st begun)) (rw (left_same b limit l start.block old more) at h.cuts); stage = stage }
-  where
-    begun_more : (st : Stage) → is_begun st ≡ true → has_more st ≡ true
-    begun_more Between e = refl
-    begun_more (Plan p) e = refl
-    begun_more (Begin o) e = refl
-    begun_more (Write o w) e = refl
-    begun_more Done e = absurd cc
-    begun_more (Failed f) e = refl

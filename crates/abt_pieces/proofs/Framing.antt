@@ -4,7 +4,7 @@ use Rattle.std.proofs.lemmas.List.{drop-drop, length-take-le, take-take, length-
 use Rattle.std.proofs.Math.Seq.{drop-append-add}
 use Rattle.abt_sparse.specs.Block.{Block, Skip}
 use Rattle.abt_sparse.specs.Runs.{runs}
-use Rattle.abt_runs.specs.Part.{AllOf, PartOf, is_end}
+use Rattle.abt_runs.specs.Part.{AllOf, PartOf}
 use Rattle.abt_runs.specs.declared.part.Run.{Run}
 use Rattle.abt_runs.specs.declared.part.RunKind.{RunKind}
 use Rattle.abt_runs.specs.declared.part.RunKind.TheVariants as kinds
@@ -46,20 +46,6 @@ frame_take l s e i q order within le =
     ∙ ap (λ (r : List Block). take q r) there
     ∙ take-take q (e - s - (i - s)) (drop i l) (omega arith)
 
-pub frame_tail : (l : List Block) (s e i : ℕ) → s ≤ e → e ≤ i → i ≤ length l → drop i (frame l s e) ≡ replicate (length l - i) Skip
-frame_tail l s e i order behind le =
-    let front = replicate s Skip ++ between l s e in
-    let long : length front ≡ e = omega (arith, length-append (replicate s Skip) (between l s e), length-replicate {A = Block} s Skip, length-between l s e (omega arith)) in
-    ap (λ (n : ℕ). drop n (front ++ replicate (length l - e) Skip)) (let z : i ≡ length front + (i - e) = omega arith in z)
-    ∙ drop-append-add front (replicate (length l - e) Skip) (i - e)
-    ∙ drop-reps (i - e) (length l - e) (omega arith)
-    ∙ ap (λ (n : ℕ). replicate n Skip) (let z : length l - e - (i - e) ≡ length l - i = omega arith in z)
-  where
-    drop-reps : (i n : ℕ) → i ≤ n → drop i (replicate n Skip) ≡ replicate (n - i) Skip
-    drop-reps zero n le = ap (λ (k : ℕ). replicate k Skip) (let z : n ≡ n - 0 = omega arith in z)
-    drop-reps (suc i) zero le = absurd (omega arith)
-    drop-reps (suc i) (suc n) le = drop-reps i n (omega arith) ∙ ap (λ (k : ℕ). replicate k Skip) (let z : n - i ≡ suc n - suc i = omega arith in z)
-
 -- ---- parts of it
 
 pub frame_part : (l : List Block) (s e i q : ℕ) (r r' : Run) → s ≤ i → i + q ≤ e → i < e → e ≤ length l → PartOf l i r → q ≤ r.blocks → r'.blocks ≡ q → r'.kind ≡ r.kind → r'.next.block ≡ i + q → PartOf (frame l s e) i r'
@@ -71,25 +57,6 @@ frame_part l s e i q r r' order within here le part less blocks same next =
       next = rw blocks next;
       all = rw (same, blocks) all;
       ended = λ h. absurd (let stop : i ≡ length l = part.ended (rw same at h) in omega arith);
-    }
-
-pub frame_end : (l : List Block) (s e i : ℕ) (r : Run) → s ≤ e → e ≤ i → i ≤ length l → r.blocks ≡ length l - i → r.next.block ≡ length l → (r.kind ≡ kinds.Skip) ⊎ ((r.kind ≡ kinds.End) × (i ≡ length l)) → PartOf (frame l s e) i r
-frame_end l s e i r order behind le blocks next (inl k) =
-    let rest : take (length l - i) (drop i (frame l s e)) ≡ replicate (length l - i) Skip = ap (λ (xs : List Block). take (length l - i) xs) (frame_tail l s e i order behind le) ∙ take_all (length l - i) (replicate (length l - i) Skip) (omega (arith, length-replicate {A = Block} (length l - i) Skip)) in
-    let all : AllOf kinds.Skip (take (length l - i) (drop i (frame l s e))) = rest ∙ ap (λ (n : ℕ). replicate n Skip) (sym (ap length rest ∙ length-replicate (length l - i) Skip)) in
-    record {
-      within = omega (arith, length-frame l s e order (omega arith));
-      next = omega arith;
-      all = rw (k, blocks) all;
-      ended = λ h. absurd (let t : is_end r.kind ≡ false = ap is_end k in let u : is_end r.kind ≡ true = h in cc);
-    }
-frame_end l s e i r order behind le blocks next (inr k) =
-    let none : r.blocks ≡ 0 = omega arith in
-    record {
-      within = omega (arith, length-frame l s e order (omega arith));
-      next = omega arith;
-      all = rw (k.0, none) refl;
-      ended = λ h. omega (arith, length-frame l s e order (omega arith));
     }
 
 -- ---- the gatherer

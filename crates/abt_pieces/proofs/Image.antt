@@ -16,7 +16,7 @@ use Rattle.abt_runs.specs.declared.part.RunKind.TheVariants as kinds
 use Rattle.abt_pieces.specs.Contents.{head_len, data_len}
 use Rattle.abt_pieces.specs.Gather.{ClosedRun, SoundGatherer}
 use Rattle.abt_pieces.specs.Write.{begins, front_bytes, chunk_len, chunk_begun, starts, copied_on, next_copying, raw_part, SoundWriter}
-use Rattle.abt_pieces.specs.Cutter.{first_writer, is_begun, has_failed, OnMore}
+use Rattle.abt_pieces.specs.Cutter.{first_writer, is_begun, has_failed}
 use Rattle.abt_pieces.specs.Image.{Appended, Leads, IsImage, IsPlain, AreChunks, MayCome, StageMayCome, copy_to_come}
 use Rattle.abt_pieces.specs.declared.fault.PieceFault.{PieceFault}
 use Rattle.abt_pieces.specs.declared.gather.Gatherer.{Gatherer}
@@ -25,7 +25,6 @@ use Rattle.abt_pieces.specs.declared.write.Copying.{Copying}
 use Rattle.abt_pieces.specs.declared.write.Writer.{Writer}
 use Rattle.abt_pieces.specs.declared.stage.Stage.{Stage}
 use Rattle.abt_pieces.specs.declared.stage.Stage.TheVariants.{Between, Plan, Begin, Write, Done, Failed}
-use Rattle.abt_pieces.specs.declared.stage.PieceProgress.{PieceProgress}
 use Rattle.abt_pieces.specs.declared.stage.PieceProgress.TheVariants as answers
 use Rattle.abt_pieces.proofs.Writing.{raw_chunk, fill_chunk}
 use Rattle.abt_pieces.proofs.Going.{gathering, copying_on}
@@ -260,12 +259,6 @@ whole_header h old new front whole =
     front ∙ ap (λ (y : List ℕ). old ++ y) all
 
 -- ---- stages
-
-pub plan_leads : (r : Result PieceProgress PieceFault) (P Q : List ℕ → Type 0) (old : List ℕ) → OnOk r ((t : List ℕ) → Q t → P t) → OnMore r (Leads P Q old old)
-plan_leads (Ok answers.More) P Q old h = leads_same P Q old old refl h
-plan_leads (Ok (answers.Piece p)) P Q old h = tt
-plan_leads (Ok answers.End) P Q old h = tt
-plan_leads (Err f) P Q old h = tt
 
 begun_unfailed : (st : Stage) → is_begun st ≡ true → has_failed st ≡ false
 begun_unfailed Between h = refl

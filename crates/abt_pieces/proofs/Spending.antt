@@ -222,9 +222,6 @@ spent_copies Is charge copied held W reach b first past u bytes s t e given give
 pub spent_same : (Is : Cursor → Type 0) (charge copied : Cursor → ℕ) (held : Cursor → ℕ → ℕ) (d : Cursor) (s t given : ℕ) (w : Writer) → Spent Is charge copied held d s t w → Spent Is charge copied held d s (t + (given - given)) w
 spent_same Is charge copied held d s t given w h = let z : t + (given - given) ≡ t = omega arith in rw z h
 
-pub spent_joins : (Is : Cursor → Type 0) (charge copied : Cursor → ℕ) (held : Cursor → ℕ → ℕ) (d : Cursor) (s t a b c : ℕ) (w : Writer) → a ≤ b → b ≤ c → Spent Is charge copied held d s (t + (b - a) + (c - b)) w → Spent Is charge copied held d s (t + (c - a)) w
-spent_joins Is charge copied held d s t a b c w le more' h = let z : t + (b - a) + (c - b) ≡ t + (c - a) = omega (arith, le, more') in rw z at h
-
 pub always_ok : {A E : Type 0} (r : Result A E) (P : A → Type 0) → ((x : A) → P x) → IfOk r P
 always_ok (Ok x) P h = h x
 always_ok (Err f) P h = tt

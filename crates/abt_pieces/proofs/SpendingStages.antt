@@ -1,10 +1,10 @@
 -- What cutting a piece reads, stage by stage.
-use Rattle.std.proofs.Common.{Result, Ok, Err, OnOk, ◌≡◌, ℕ, ◌+◌, ◌-◌, ◌*◌, ◌<◌, ◌≤◌, nat_lt, false, refl, arith, inl, inr}
+use Rattle.std.proofs.Common.{Result, Ok, Err, ◌≡◌, ℕ, ◌+◌, ◌-◌, ◌*◌, ◌<◌, ◌≤◌, nat_lt, false, refl, arith, inl, inr}
 use Rattle.std.proofs.lemmas.Bool.{cases_Bool, ltb-true, ltb-false}
 use Rattle.abt_runs.specs.Part.{entry}
 use Rattle.abt_runs.specs.declared.part.Cursor.{Cursor}
 use Rattle.abt_pieces.specs.Gather.{gathered_to}
-use Rattle.abt_pieces.specs.Cutter.{first_writer, is_begun, TakenPlan, OnMore, OnEnd}
+use Rattle.abt_pieces.specs.Cutter.{first_writer, is_begun, TakenPlan, OnEnd}
 use Rattle.abt_pieces.specs.Spent.{both, Spent}
 use Rattle.abt_pieces.specs.SpentStage.{all_passes, SpentPlan, SpentOutline, SpentWriting, SpentStage, SpentPiece}
 use Rattle.abt_pieces.specs.declared.fault.PieceFault.{PieceFault}
@@ -117,12 +117,6 @@ end_not (Ok answers.More) P h = tt
 end_not (Ok (answers.Piece p)) P h = tt
 end_not (Ok answers.End) P h = absurd h
 end_not (Err f) P h = tt
-
-pub more_of_ok : (r : Result PieceProgress PieceFault) (P : Type 0) → OnOk r P → OnMore r P
-more_of_ok (Ok answers.More) P h = h
-more_of_ok (Ok (answers.Piece p)) P h = tt
-more_of_ok (Ok answers.End) P h = tt
-more_of_ok (Err f) P h = tt
 
 -- ---- a piece from its first step on
 

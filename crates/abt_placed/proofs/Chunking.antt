@@ -26,9 +26,6 @@ raw_front (Raw x ∷ l) = let r = raw_front l in record { front = Raw x ∷ r.fr
 raw_front (Fill w ∷ l) = record { front = []; rest = Fill w ∷ l; whole = refl; raws = tt; ended = refl }
 raw_front (Skip ∷ l) = record { front = []; rest = Skip ∷ l; whole = refl; raws = tt; ended = refl }
 
-none_ended : (l m : List Block) → Ended kinds.Raw l → l ≡ [] ++ m → Ended kinds.Raw m
-none_ended l m h e = rw e at h
-
 raws_both : (xs ys : List Block) → AllByRecursion IsRaw xs → AllByRecursion IsRaw ys → AllByRecursion IsRaw (xs ++ ys)
 raws_both [] ys h k = k
 raws_both (x ∷ xs) ys h k = (h.0, raws_both xs ys h.1 k)

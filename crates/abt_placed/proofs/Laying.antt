@@ -262,9 +262,6 @@ more_taken b d n from past g w x now s at le e p =
     append_assoc g (classes b d w) (classes b n x) ∙ ap (λ (l : List Block). g ++ l) (ap (λ (l : List Block). classes b d w ++ l) (ap (classes b n) e ∙ classes_part b n from past w le ∙ ap (λ (m : ℕ). classes b n (drop m w)) at) ∙ classes_joined b d n w) in
     subst (λ (l : List Block). Placed b l now s) z p
 
-pub none_taken : (b : ℕ) (g : List Block) (w now : List ℕ) (s : Placer) → Placed b g now s → Placed b (g ++ classes b 0 w) now s
-none_taken b g w now s p = rw (append-nil g) p
-
 -- ---- the first and the last
 
 pub first_laid : (tells : Bool) (x : List ℕ) (b at r : ℕ) (old now : List ℕ) (s : Placer) → at ≡ length old → now ≡ old ++ replicate 28 0 → s ≡ record { front = at; most = r; chunks = 0; blocks = 0; kind = kinds.End; count = 0 } → Laid tells x b now s

@@ -39,13 +39,6 @@ closing_long kinds.Raw s b w le =
 closing_long (kinds.Fill v) s b w le = omega (arith, length-append w (front_bytes (kinds.Fill v) s.count 16))
 closing_long kinds.Skip s b w le = omega (arith, length-append w (front_bytes kinds.Skip s.count 12))
 
--- how much the open chunk may still take
-pub closing_room : (k : RunKind) (q b n m h : ℕ) → (is_end k ≡ false → 0 < q) → (k ≡ kinds.Raw → n ≡ m) → n ≤ m + 16 → (is_end k ≡ true → n ≡ m) → n + open_len k q b ≤ m + q * (b + 16)
-closing_room kinds.End q b n m h some raw le none = let z = none refl in omega (arith, z)
-closing_room kinds.Raw q b n m h some raw le none = let z = raw refl in let y = some refl in let d : q * (b + 16) ≡ q * b + 16 * q = omega arith in omega (arith, z, y, d)
-closing_room (kinds.Fill v) q b n m h some raw le none = let y = some refl in let d : q * (b + 16) ≡ q * b + 16 * q = omega arith in omega (arith, le, y, d)
-closing_room kinds.Skip q b n m h some raw le none = let y = some refl in let d : q * (b + 16) ≡ q * b + 16 * q = omega arith in omega (arith, le, y, d)
-
 open_room : (k : RunKind) (q b : ℕ) (x : List ℕ) → length x ≡ q * b → open_len k q b ≡ length (kept_for k) + length (data_for k x)
 open_room kinds.Raw q b x e = omega (arith, e)
 open_room (kinds.Fill v) q b x e = refl
@@ -57,13 +50,6 @@ open_more kinds.Raw p q b x e = let d : (p + q) * b ≡ p * b + q * b = omega ar
 open_more (kinds.Fill v) p q b x e = refl
 open_more kinds.Skip p q b x e = refl
 open_more kinds.End p q b x e = refl
-
--- what blocks of a class may take at most
-pub open_most : (k : RunKind) (q b : ℕ) (x : List ℕ) → 0 < q → length x ≡ q * b → length (kept_for k) + length (data_for k x) ≤ q * (b + 16)
-open_most kinds.Raw q b x some e = let d : q * (b + 16) ≡ q * b + 16 * q = omega arith in omega (arith, e, d, some)
-open_most (kinds.Fill v) q b x some e = omega arith
-open_most kinds.Skip q b x some e = omega arith
-open_most kinds.End q b x some e = omega arith
 
 -- what goes on is of one class, and a raw chunk has room for it
 pub record GoesOn (s : Placer) (k : RunKind) : Type 0 where

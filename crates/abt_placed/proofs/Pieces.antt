@@ -84,13 +84,6 @@ whole_piece tells x b len n limit first past chunks old now old' new s four cove
       (is, first_piece b s.limit c s.first (taken s.placer) four h.granted h.order (omega (arith, long, within, to)) (let w : s.weight ≡ weight b (between c s.first (taken s.placer)) = t.laid.heavy ∙ ap (weight b) is in omega (arith, w, h.room)) (e.over y));
 })
 
--- the piece's length
-pub piece_least : (b n chunks : ℕ) (f : List Block) (old new : List ℕ) → LaidPiece b n chunks f old new → length old + 28 ≤ length new
-piece_least b n chunks f old new l =
-    let bytes = flat_map plain (map chunk_of_run (runs f)) in
-    let long : length (piece b f) ≡ 28 + length bytes = length-append (header_record (plain_header b (length f) (length (map chunk_of_run (runs f))))) bytes in
-    omega (arith, ap length l.stands, length-append old (piece b f), long)
-
 -- it reads as an image, whatever the source gave
 pub piece_image : (tells : Bool) (x : List ℕ) (b n limit first past chunks : ℕ) (old new : List ℕ) → (0 < b) × (b % 4 ≡ 0) × (b < 2 ^ 32) → n < 2 ^ 32 → limit < 2 ^ 32 → WholePiece tells x b n limit first past chunks old new → Appended (IsImage b n) old new
 piece_image tells x b n limit first past chunks old new good few small w =

@@ -1,7 +1,7 @@
 -- What is no image is refused, and what stays as it was.
 use Rattle.std.proofs.Common.{inl, inr, ◌⊎◌, ◌≡◌, ℕ, zero, suc, ◌+◌, ◌-◌, ◌*◌, ◌<◌, ◌≤◌, nat_lt, ◌==◌, not, true, List, ◌∷◌, ◌++◌, length, take, drop, replicate, refl, sym, ap, ◌∙◌, arith, append_assoc, append-nil, length-append, length-drop}
 use Rattle.std.proofs.lemmas.Bool.{cases_Bool, eqb-true}
-use Rattle.std.proofs.lemmas.List.{length-take-le, take_all, take-append-le, take-append-drop, take-take, drop-take, drop-drop}
+use Rattle.std.proofs.lemmas.List.{length-take-le, take_all, take-append-drop, take-take, drop-take, drop-drop}
 use Rattle.abt_sparse.specs.declared.fault.SparseFault.TheVariants.{Magic, Truncated}
 use Rattle.abt_sparse.specs.Reading.{outcome, checked_header}
 use Rattle.abt_sparse.specs.Field.{number_at}
@@ -60,14 +60,8 @@ keeps_same n w = record { front = refl; long = omega arith }
 pub keeps_then : (n : ℕ) (a b c : List ℕ) → KeepsFront n a b → KeepsFront n b c → KeepsFront n a c
 keeps_then n a b c h k = record { front = k.front ∙ h.front; long = omega (arith, h.long, k.long) }
 
-pub keeps_append : (n : ℕ) (w w' x : List ℕ) → n ≤ length w → w' ≡ w ++ x → KeepsFront n w w'
-keeps_append n w w' x le e = record { front = ap (take n) e ∙ take-append-le n w x le; long = omega (arith, ap length e, length-append w x) }
-
 take_less : (n at : ℕ) (w : List ℕ) → n ≤ at → take n w ≡ take n (take at w)
 take_less n at w le = sym (take-take n at w le)
-
-pub keeps_over : (n at : ℕ) (w w' : List ℕ) → n ≤ at → take at w' ≡ take at w → length w' ≡ length w → KeepsFront n w w'
-keeps_over n at w w' le e long = record { front = take_less n at w' le ∙ ap (take n) e ∙ sym (take_less n at w le); long = omega (arith, long) }
 
 pub keeps_less : (n k : ℕ) (w w' : List ℕ) → n ≤ k → KeepsFront k w w' → KeepsFront n w w'
 keeps_less n k w w' le h = record { front = take_less n k w' le ∙ ap (take n) h.front ∙ sym (take_less n k w le); long = h.long }

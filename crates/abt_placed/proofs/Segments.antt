@@ -17,7 +17,7 @@ use Rattle.abt_pieces.specs.Plan.{between, head_of, fill_gain_of, cap_of, gain_o
 use Rattle.abt_pieces.proofs.Planning.{part_gains, over}
 use Rattle.abt_pieces.specs.declared.tail.Tail.{Tail}
 use Rattle.abt_pieces.specs.declared.tail.Tail.TheVariants as tails
-use Rattle.abt_placed.specs.Placer.{SoundPlacer, goes_on, with_part, longer, begun, closed, closing_len, beginning_len, taking_len}
+use Rattle.abt_placed.specs.Placer.{SoundPlacer, goes_on, with_part, longer, begun, closed, closing_len, taking_len}
 use Rattle.abt_placed.specs.Placed.{Placed, classes, skips}
 use Rattle.abt_placed.specs.Segment.{tail_of_open, is_fresh, to_come, SoundSegment, IsHeld, LaidSegment, IsOver}
 use Rattle.abt_placed.specs.declared.placer.Placer.{Placer}
@@ -51,16 +51,6 @@ taking_fits s kinds.Raw q b e room = raw_adds s.kind (nat_lt s.count s.most) q b
 taking_fits s (kinds.Fill w) q b e room = fill_adds s.kind w
 taking_fits s kinds.Skip q b e room = absurd cc
 taking_fits s kinds.End q b e room = absurd cc
-
--- what is skipped behind, and then the last header
-pub skipping_fits : (s : Placer) → beginning_len s kinds.Skip + 12 ≤ to_come s.kind
-skipping_fits s = by_kind s.kind
-  where
-    by_kind : (j : RunKind) → (if alike_kinds j kinds.Skip then 0 else closing_len j + 0) + 12 ≤ to_come j
-    by_kind kinds.Raw = omega arith
-    by_kind (kinds.Fill w) = omega arith
-    by_kind kinds.Skip = omega arith
-    by_kind kinds.End = omega arith
 
 -- ---- the numbers
 

@@ -286,11 +286,6 @@ no_end kinds.Fill word = refl
 no_end kinds.Skip word = refl
 no_end kinds.Crc word = refl
 
-pub not_ended : (k : ChunkHeader) (word : List ℕ) (c : Cursor) (cap : ℕ) (r : Run) → Parts k word c cap r → is_end r.kind ≡ false
-not_ended k word c cap _ (passes none) = refl
-not_ended k word c cap _ (stops raw less) = refl
-not_ended k word c cap _ (ends some few) = no_end k.kind word
-
 never : (b : Bool) (n m : ℕ) → b ≡ false → IsTrue b → n ≡ m
 never b n m e h = absurd cc
 

@@ -9,14 +9,10 @@ use Rattle.abt_sparse.specs.Number.{number_of}
 use Rattle.abt_sparse.specs.Chunk.{Header, Chunk}
 use Rattle.abt_sparse.specs.Reading.{number_at, header_at, checked_header, kind_at, data_len, counted, chunk_from, partial_of, Got, Bad, chunk_body, chunk_at, ChunksRead, Done, Failed, behind, chunks_at, body_at, outcome_of, outcome}
 use Rattle.abt_sparse.proofs.Exactly.{chunks-got, chunks-bad}
-use Rattle.std.specs.Prelude.{IsTrue}
-use Rattle.abt_io.specs.declared.device.DeviceFault.{DeviceFault}
 use Rattle.abt_sparse.specs.declared.chunk_header.ChunkHeader.{ChunkHeader}
-use Rattle.abt_runs.specs.declared.part.RunFault.{RunFault}
-use Rattle.abt_runs.specs.declared.part.RunFault.TheVariants.{Sparse, Read, TooLarge, SourceChanged, BadBlock}
+use Rattle.abt_runs.specs.declared.part.RunFault.TheVariants.{Sparse}
 use Rattle.abt_runs.specs.declared.stage.Stage.{Stage}
 use Rattle.abt_runs.specs.declared.stage.Stage.TheVariants as stages
-use Rattle.abt_runs.specs.Part.{Caused}
 use Rattle.abt_runs.specs.Head.{head_of, head_of_kind}
 use Rattle.abt_runs.specs.Verdict.{ends, chunks_end, rest_ends, Verdict}
 
@@ -230,25 +226,11 @@ few_ends h i have at x le e =
 pub failed_is : (s : Stage) (f : SparseFault) (h : Header) (long i have at : ℕ) (x : List ℕ) (v : Result (Header × ℕ) SparseFault) → s ≡ stages.Failed (Sparse f) → Err f ≡ v → Verdict s h long i have at x v
 failed_is s f h long i have at x v e k = rw e k
 
-pub read_failed : (s : Stage) (d : DeviceFault) (h : Header) (long i have at : ℕ) (x : List ℕ) (v : Result (Header × ℕ) SparseFault) → s ≡ stages.Failed (Read d) → Verdict s h long i have at x v
-read_failed s d h long i have at x v e = rw e tt
-
 pub from_chunks : (s : Stage) (h : Header) (long i have at : ℕ) (x : List ℕ) (v : Result (Header × ℕ) SparseFault) → s ≡ stages.Chunks → Verdict s h long i have at x v → (long ≡ length x) × (rest_ends h i have at x ≡ v)
 from_chunks s h long i have at x v e k = rw e at k
 
 pub from_header : (s : Stage) (h : Header) (long i have at : ℕ) (x : List ℕ) (v : Result (Header × ℕ) SparseFault) → s ≡ stages.Header → Verdict s h long i have at x v → ends (outcome x) ≡ v
 from_header s h long i have at x v e k = rw e at k
-
--- a fault that came of loading
-pub load_failed : (s : Stage) (e : RunFault) (tells : Bool) (before after : ℕ) (h : Header) (long i have at : ℕ) (x : List ℕ) (v : Result (Header × ℕ) SparseFault) → IsTrue tells → Caused e tells before after → s ≡ stages.Failed e → Verdict s h long i have at x v
-load_failed s (Sparse f) tells before after h long i have at x v t c e = absurd c
-load_failed s (Read d) tells before after h long i have at x v t c e = rw e tt
-load_failed s TooLarge tells before after h long i have at x v t c e = absurd c
-load_failed s SourceChanged tells before after h long i have at x v t c e = absurd (let k : tells ≡ true = t in cc)
-load_failed s (BadBlock n) tells before after h long i have at x v t c e = absurd c
-
-pub not_length : {P : Type 0} (a b : ℕ) → (a ≡ b → ⊥) → a ≡ b → P
-not_length a b ne e = absurd (ne e)
 
 some_is : {a b : ChunkHeader} → Some a ≡ Some b → a ≡ b
 some_is {a} {b} e = cc

@@ -25,17 +25,6 @@ move_on (SectionTooLarge s) r0 r r' r1 w0 w w' w1 C D a b c d h x = absurd x
 pub read_on : (e : SectionFault) (r0 r r' r1 : ℕ) (C D : Type 0) → r0 ≤ r → r' ≤ r1 → (C → D) → ReadCause e r r' C → ReadCause e r0 r1 D
 read_on e r0 r r' r1 C D a b h x = let z : 0 ≤ 0 = omega arith in move_on e r0 r r' r1 0 0 0 0 C D a b z z h x
 
-pub read_moves : (e : SectionFault) (r r' w w' : ℕ) (C : Type 0) → w ≤ w' → ReadCause e r r' C → MoveCause e r r' w w' C
-read_moves (Read f) r r' w w' C h x = x
-read_moves (Write f) r r' w w' C h x = absurd (omega arith)
-read_moves SourceChanged r r' w w' C h x = x
-read_moves (Header f) r r' w w' C h x = absurd x
-read_moves (Entry i) r r' w w' C h x = absurd x
-read_moves Name r r' w w' C h x = absurd x
-read_moves CommandLine r r' w w' C h x = absurd x
-read_moves (SectionTruncated s) r r' w w' C h x = absurd x
-read_moves (SectionTooLarge s) r r' w w' C h x = absurd x
-
 -- of a copy
 pub copy_moves : (e : CopyFault) (r r' w w' : ℕ) (C D : Type 0) → (C → D) → CopyCause e C r r' w w' → MoveCause (copy_fault e) r r' w w' D
 copy_moves (copies.Read f) r r' w w' C D h x = x

@@ -27,12 +27,6 @@ begins_then a b c x y all e le =
 pub begins_none : (a x : List ℕ) → Begins a a x
 begins_none a x = let z : length a - length a ≡ 0 = omega arith in sym (ap (λ (n : ℕ). a ++ take n x) z ∙ simp (append-nil))
 
--- all came
-pub begins_all : (a b x : List ℕ) → b ≡ a ++ x → Begins a b x
-begins_all a b x e =
-    let k : length x ≤ length b - length a = omega (arith, ap length e, length-append a x) in
-    e ∙ ap (λ (l : List ℕ). a ++ l) (sym (take_all (length b - length a) x k))
-
 pub begins_is : (a b x y : List ℕ) → x ≡ y → Begins a b x → Begins a b y
 begins_is a b x y same e = e ∙ ap (λ (l : List ℕ). a ++ take (length b - length a) l) same
 

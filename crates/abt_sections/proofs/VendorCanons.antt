@@ -6,7 +6,7 @@ use Rattle.std.proofs.lemmas.Bool.{cases_Bool, ne_eqb}
 use Rattle.std.proofs.lemmas.List.Sums.{sum_by-cons, sum-map}
 use Rattle.abt_headers.specs.declared.page.PageSize.{PageSize}
 use Rattle.abt_headers.specs.Page.{page_bytes, pages}
-use Rattle.abt_headers.specs.Vendor.{Vendor, vendor_page, vendor_record, vendor_size}
+use Rattle.abt_headers.specs.Vendor.{Vendor, vendor_page, vendor_record}
 use Rattle.abt_sections.specs.Cause.{total}
 use Rattle.abt_sections.specs.Fields.{VendorFields}
 use Rattle.abt_sections.specs.Layout.{padded, laid}
@@ -62,12 +62,6 @@ rest_4 s p e = ap (λ (t : Bool). cond t [] (laid (vendor_page (vendor_header_of
 
 pub page_is : (s : VendorFields) (page : PageSize) (sizes : List ℕ) (count : ℕ) → vendor_page (vendor_header_for s page sizes count) ≡ page_bytes page
 page_is s page sizes count = elim (cases_Bool (s.version == 3)) [ inl e ↦ rw e refl | inr e ↦ rw e refl ]
-
-pub size_3 : (s : VendorFields) (page : PageSize) (sizes : List ℕ) (count : ℕ) → s.version ≡ 3 → vendor_size (vendor_header_for s page sizes count) ≡ 2112
-size_3 s page sizes count e = rw e refl
-
-pub size_4 : (s : VendorFields) (page : PageSize) (sizes : List ℕ) (count : ℕ) → (s.version ≡ 3 → ⊥) → vendor_size (vendor_header_for s page sizes count) ≡ 2128
-size_4 s page sizes count e = rw (ne_eqb s.version 3 e) refl
 
 -- sizes that all keep add up to the same
 pub total_same : {S : Type 0} (f : S → ℕ) (ps ps0 : List S) → map f ps ≡ map f ps0 → total f ps ≡ total f ps0

@@ -1,7 +1,7 @@
 -- Zeros that are there.
 use Rattle.std.proofs.Common.{◌≡◌, ℕ, ◌+◌, ◌-◌, ◌≤◌, Bool, true, false, ◌&&◌, List, [], ◌∷◌, ◌++◌, length, take, drop, refl, sym, ap, ◌∙◌, arith, drop-drop, ◌==◌, ◌<◌, get_or}
 use Rattle.abt_io.proofs.Parts.{take_plus}
-use Rattle.std.proofs.lemmas.List.{drop_more, drop_all}
+use Rattle.std.proofs.lemmas.List.{drop_more}
 use Rattle.abt_headers.specs.declared.sections.Place.{Place}
 use Rattle.abt_sections.specs.Layout.{padding}
 use Rattle.abt_sections.specs.Check.{all_zero, zeros_there, padded_places}
@@ -13,9 +13,6 @@ and_assoc false b c = refl
 and_false : (a : Bool) → (a && false) ≡ false
 and_false true = refl
 and_false false = refl
-
-false_and : (a : Bool) → (false && a) ≡ false
-false_and a = refl
 
 pub all_zero-append : (a b : List ℕ) → all_zero (a ++ b) ≡ (all_zero a && all_zero b)
 all_zero-append [] b = refl
@@ -48,12 +45,3 @@ place_at x page i ps p t h is e =
     ap (padded_places x page) (drop_more ps i p h)
     ∙ ap (λ (q : Place). zeros_there x (q.at + q.size) (padding q.size page) && padded_places x page (drop (i + 1) ps)) (sym is)
     ∙ ap (λ (b : Bool). b && padded_places x page (drop (i + 1) ps)) e
-
-pub place_padded : (x : List ℕ) (page i : ℕ) (ps : List Place) (p : Place) → i < length ps → p ≡ get_or ps i p → zeros_there x (p.at + p.size) (padding p.size page) ≡ true → padded_places x page (drop (i + 1) ps) ≡ padded_places x page (drop i ps)
-place_padded x page i ps p h is e = sym (place_at x page i ps p true h is e)
-
-pub place_bare : (x : List ℕ) (page i : ℕ) (ps : List Place) (p : Place) → i < length ps → p ≡ get_or ps i p → zeros_there x (p.at + p.size) (padding p.size page) ≡ false → padded_places x page (drop i ps) ≡ false
-place_bare x page i ps p h is e = place_at x page i ps p false h is e
-
-pub all_padded : (x : List ℕ) (page i : ℕ) (ps : List Place) → length ps ≤ i → padded_places x page (drop i ps) ≡ true
-all_padded x page i ps h = ap (padded_places x page) (drop_all i ps h)

@@ -1,5 +1,5 @@
 -- Laying cells over a device, one list after the other, and flashing the pieces of an image in turn.
-use Rattle.std.proofs.Common.{◌≡◌, ℕ, suc, zero, ◌+◌, ◌*◌, ◌/◌, ◌%◌, ◌<◌, List, [], ◌∷◌, ◌++◌, length, replicate, map, get_or, take, drop, refl, sym, ap, ◌∙◌, nat_le, append_assoc, append-nil, arith, length-append, zero-mul, Some, None, Option}
+use Rattle.std.proofs.Common.{◌≡◌, ℕ, suc, zero, ◌+◌, ◌*◌, ◌/◌, ◌%◌, ◌<◌, List, [], ◌∷◌, ◌++◌, length, replicate, map, get_or, refl, sym, ap, ◌∙◌, nat_le, append_assoc, append-nil, arith, length-append, zero-mul, Some, None, Option}
 use Rattle.std.specs.Prelude.{unwrap_or}
 use Rattle.std.specs.List.{AllByRecursion, concat}
 use Rattle.std.proofs.lemmas.List.{map-append, length-map, length-replicate, replicate-append-replicate}
@@ -56,14 +56,6 @@ over_behind [] cs ds = refl
 over_behind (y ∷ p) [] ds = refl
 over_behind (y ∷ p) (None ∷ cs) ds = ap (λ (r : List ℕ). y ∷ r) (over_behind p cs ds)
 over_behind (y ∷ p) (Some x ∷ cs) ds = ap (λ (r : List ℕ). x ∷ r) (over_behind p cs ds)
-
--- front and back of a device apart
-pub over-append : (p : List ℕ) (cs ds : List (Option ℕ)) → over p (cs ++ ds) ≡ over (take (length cs) p) cs ++ over (drop (length cs) p) ds
-over-append [] [] ds = refl
-over-append [] (c ∷ cs) ds = refl
-over-append (y ∷ p) [] ds = refl
-over-append (y ∷ p) (None ∷ cs) ds = ap (λ (r : List ℕ). y ∷ r) (over-append p cs ds)
-over-append (y ∷ p) (Some x ∷ cs) ds = ap (λ (r : List ℕ). x ∷ r) (over-append p cs ds)
 
 -- ---- blocks as cells
 

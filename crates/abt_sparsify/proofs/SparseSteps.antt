@@ -28,7 +28,7 @@ use Rattle.abt_runs.specs.declared.part.RunFault.{RunFault}
 use Rattle.abt_runs.specs.declared.part.RunFault.TheVariants as of_runs
 use Rattle.abt_pieces.specs.declared.fault.PieceFault.{PieceFault}
 use Rattle.abt_pieces.specs.declared.fault.PieceFault.TheVariants.{Read, Write, TooLarge, SourceChanged, BadBlock, LimitTooSmall}
-use Rattle.abt_pieces.proofs.Fronts.{wrote_rest, not_told}
+use Rattle.abt_pieces.proofs.Fronts.{wrote_rest}
 use Rattle.abt_pieces.proofs.Cutting.{sound_first, gathered_first}
 use Rattle.abt_pieces.proofs.Writing.{blocks_take, blocks_drop, between_two, raw_back, raw_front, raw_long, front_long}
 use Rattle.abt_sparsify.proofs.Sparsing.{no_cut, one_cut, few_cuts, FirstCut, first_cut, cut_next}
@@ -503,10 +503,6 @@ nothing_left n b l s none e sound told end =
     let bytes : left_of l s ≡ [] = ap (λ (o : Option Cutting). to_cut s.most l o ++ bytes_of s.most (drop (begins s.gatherer) l)) none ∙ ap (λ (y : List Block). bytes_of s.most y) gone in
     let begun : to_begin s.most s.cutting ≡ 0 = ap (λ (o : Option Cutting). to_begin s.most o) none in
     (omega (arith, told.long, ap length bytes), omega (arith, told.count, begun, ap (λ (y : List Block). length (chunks_of s.most y)) gone))
-
-pub end_cause : (res : Result Bool PieceFault) (tells : Bool) (bytes chunks r w : ℕ) → IfErr res (λ e. (e ≡ SourceChanged) × ((bytes ≡ 0) × (chunks ≡ 0) → ⊥)) → (IsTrue tells → (bytes ≡ 0) × (chunks ≡ 0)) → IfErr res (λ e. HasCause e tells r r w w)
-end_cause (Ok x) tells bytes chunks r w h none = tt
-end_cause (Err e) tells bytes chunks r w h none = rw h.0 (not_told tells (λ t. h.1 (none t)))
 
 -- ---- an image that is counted whole
 

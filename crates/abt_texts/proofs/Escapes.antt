@@ -1,5 +1,5 @@
 -- Escaped bytes stand for themselves.
-use Rattle.std.proofs.Common.{◌≡◌, ◌≢◌, ◌<◌, ◌≤◌, ℕ, suc, ◌+◌, ◌-◌, ◌*◌, ◌/◌, ◌%◌, ◌==◌, ◌&&◌, nat_le, not, Bool, true, false, cond, inl, inr, List, [], ◌∷◌, ◌++◌, Option, Some, None, slice_index, slice_index_or, length, take, drop, flat_map, refl, sym, ap, ◌∙◌, rules, arith}
+use Rattle.std.proofs.Common.{◌≡◌, ◌≢◌, ◌<◌, ℕ, suc, ◌+◌, ◌-◌, ◌*◌, ◌/◌, ◌%◌, ◌==◌, ◌&&◌, nat_le, not, Bool, true, false, cond, inl, inr, List, [], ◌∷◌, ◌++◌, Option, Some, None, slice_index, slice_index_or, length, take, drop, flat_map, refl, sym, ap, ◌∙◌, rules, arith}
 use Rattle.std.proofs.Math.Seq.{drop-cons}
 use Rattle.std.proofs.lemmas.Bool.{cases_Bool, true≢false, eqb-true}
 use Rattle.std.proofs.lemmas.List.{drop-drop, length-drop, take_all}
@@ -80,14 +80,6 @@ name_back (b ∷ x) h = ap unescaped (flat_map-cons escaped_in_name b x) ∙ one
 
 -- ---- a text from a place on
 
--- a text of four letters and more
-at_four : (y : List ℕ) → 4 ≤ length y → escape_in y ≡ escaped_byte (slice_index y 0) (slice_index y 1) (slice_index y 2) (slice_index y 3)
-at_four [] h = absurd (let q : 4 ≤ 0 = h in omega arith)
-at_four (a ∷ []) h = absurd (let q : 4 ≤ 1 = h in omega arith)
-at_four (a ∷ b ∷ []) h = absurd (let q : 4 ≤ 2 = h in omega arith)
-at_four (a ∷ b ∷ c ∷ []) h = absurd (let q : 4 ≤ 3 = h in omega arith)
-at_four (a ∷ b ∷ c ∷ d ∷ x) h = refl
-
 few : (y : List ℕ) → length y < 4 → escape_in y ≡ None
 few [] h = refl
 few (a ∷ []) h = refl
@@ -100,26 +92,6 @@ is_not a b h = elim (cases_Bool (a == b)) [
   | inl e ↦ absurd (h (eqb-true a b e))
   | inr e ↦ e
 ]
-
--- what escape_in answers
-pub answers_few : (y : List ℕ) → length y < 4 → None ≡ escape_in y
-answers_few y h = sym (few y h)
-
-pub answers_other : (y : List ℕ) → 4 ≤ length y → slice_index y 0 ≢ 92 → None ≡ escape_in y
-answers_other y h n = sym (at_four y h ∙ ap (λ (t : Bool). cond (t && (slice_index y 1 == 120)) (byte_of (slice_index y 2) (slice_index y 3)) None) (is_not (slice_index y 0) 92 n))
-
-both_needed : (s t : Bool) (o : Option ℕ) → t ≡ false → cond (s && t) o None ≡ None
-both_needed true t o e = rw e refl
-both_needed false t o e = refl
-
-pub answers_second : (y : List ℕ) → 4 ≤ length y → slice_index y 1 ≢ 120 → None ≡ escape_in y
-answers_second y h n = sym (at_four y h ∙ both_needed (slice_index y 0 == 92) (slice_index y 1 == 120) (byte_of (slice_index y 2) (slice_index y 3)) (is_not (slice_index y 1) 120 n))
-
-pub answers_digits : (y : List ℕ) (o : Option ℕ) → 4 ≤ length y → slice_index y 0 ≡ 92 → slice_index y 1 ≡ 120 → o ≡ byte_of (slice_index y 2) (slice_index y 3) → o ≡ escape_in y
-answers_digits y o h a b e =
-    let all : escaped_byte (slice_index y 0) (slice_index y 1) (slice_index y 2) (slice_index y 3) ≡ byte_of (slice_index y 2) (slice_index y 3) =
-    ap (λ (k : ℕ). escaped_byte k (slice_index y 1) (slice_index y 2) (slice_index y 3)) a ∙ ap (λ (k : ℕ). escaped_byte 92 k (slice_index y 2) (slice_index y 3)) b in
-    e ∙ sym (at_four y h ∙ all)
 
 none_some : (byte : ℕ) → None ≡ Some byte → ⊥
 none_some byte e = search (rules, e)

@@ -1,12 +1,10 @@
 -- A raw image: what stands so far, and the next bytes of it.
-use Rattle.std.proofs.Common.{◌≡◌, ℕ, ◌+◌, ◌≤◌, List, ◌++◌, length, take, drop, Option, Some, None, Err, sym, ap, subst, ◌∙◌, arith, take-append-drop, ◌==◌, nat_lt, ltb-false, Bool, inl, inr}
-use Rattle.std.specs.Prelude.{IsTrue, OnOk, IfNone}
+use Rattle.std.proofs.Common.{◌≡◌, ℕ, ◌+◌, ◌≤◌, List, ◌++◌, length, take, drop, Option, Some, None, Err, sym, ap, subst, ◌∙◌, arith, take-append-drop, ◌==◌, nat_lt, ltb-false, inl, inr}
+use Rattle.std.specs.Prelude.{OnOk, IfNone}
 use Rattle.std.proofs.lemmas.List.{length-map, length-take-le, map-append, take_all}
 use Rattle.std.proofs.lemmas.Bool.{cases_Bool}
 use Rattle.abt_io.specs.declared.device.DeviceFault.{DeviceFault}
-use Rattle.abt_verify.specs.declared.stage.Verified.{Verified}
-use Rattle.abt_verify.specs.Fault.{HasRawCause, RawCause, short_fault}
-use Rattle.abt_verify.specs.Raw.{IsRawBlock, Sized, VerifiesRaw}
+use Rattle.abt_verify.specs.Fault.{short_fault}
 use Rattle.abt_io.proofs.Parts.{take_plus}
 use Rattle.abt_chunks.specs.declared.progress.Progress.{Progress}
 use Rattle.abt_chunks.specs.Ahead.{somes}
@@ -68,15 +66,3 @@ all_came None came wanted e = elim (cases_Bool (nat_lt came wanted)) [
 ]
 
 -- ---- refusals
-
-pub raw_sized : (f : VerifyFault) (b : ℕ) (tells : Bool) (r r' p p' : ℕ) → HasRawCause f tells r r' p p' → IsRawBlock b → Sized (Err f) b
-raw_sized (fails.BadBlock n) b tells r r' p p' cause good = absurd cause
-raw_sized f b tells r r' p p' cause good = good
-
-pub raw_cause : (f : VerifyFault) (tells : Bool) (r r' p p' : ℕ) → HasRawCause f tells r r' p p' → RawCause {X = Verified} (Err f) tells r r' p p'
-raw_cause (fails.BadBlock n) tells r r' p p' cause = absurd cause
-raw_cause f tells r r' p p' cause = cause
-
-pub raw_fault_verifies : (tells : Bool) (f : VerifyFault) (b : ℕ) (p x : List ℕ) (given given' : ℕ) → (IsTrue tells → OnDiffers {X = Progress} (Err f) (λ n. FirstDiffers p (somes x) n)) → VerifiesRaw tells (Err f) b p x given given'
-raw_fault_verifies tells (fails.Differs n) b p x given given' h = h
-raw_fault_verifies tells f b p x given given' h = tt
