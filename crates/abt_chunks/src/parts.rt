@@ -18,7 +18,7 @@ ghost use Rattle.abt_chunks.specs.Feeding.{TakesWhole};
 
 use crate::kinds::{has_word, laid_words, raw_bytes};
 use crate::walk::{Part, Phase, Taken, Turn, Walk};
-use abt_io::{Input, Meter, WINDOW, Window, gather};
+use abt_io::{Input, Meter, WINDOW, Window, read_full};
 use abt_sparse::{ChunkKind, SparseFault, counted_blocks, data_length, header_of, u16_at, u32_at};
 
 /// The fault of a chunk whose type the format doesn't know. It comes before every other fault of a chunk, whatever
@@ -405,7 +405,7 @@ impl Walk {
         let wish = self.ask(turn);
         let ask = wish.min(most);
         w.is_whole();
-        let got = gather(input, w.part_mut(0, ask), m);
+        let got = read_full(input, w.part_mut(0, ask), m);
         let part = match got.fault {
             Some(fault) => self.fail(SparseFault::Read(fault)),
             None => self.take(turn, w.part(0, got.count), fills, skips),

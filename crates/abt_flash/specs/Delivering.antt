@@ -215,7 +215,7 @@ pub record LaysBlocks (source spool partition : Bool) (i : ImageBlocks) (limit m
       (cells i.size (blocks_up_to (blocks_in_first limit i.size i.blocks made)
       (blocks_in_first limit i.size i.blocks j) i.blocks)))
   pub once : IsTrue source → IsTrue spool → OnOk r (new.taken
-          ≡ old.taken + i.size * written_in (blocks_behind (blocks_in_first limit i.size i.blocks made) i.blocks))
+      ≡ old.taken + i.size * written_in (blocks_behind (blocks_in_first limit i.size i.blocks made) i.blocks))
   -- each piece that was finished was synced, and every sync has succeeded but one that the answer names
   pub synced : new.past.synced ≡ old.past.synced + finished made r
   pub unsynced : new.syncs + old.past.synced ≡ old.syncs + new.past.synced + refused_syncs r
@@ -236,8 +236,8 @@ pub record MendsBlocks (i : ImageBlocks) (limit made : ℕ) (r : Result Delivere
     (old new : PartitionState) : Type 0 where
   pub stays : StaysMendable limit i.size i.blocks made old.past new.past old.content new.content
   pub mends : OnOk r ((p : List ℕ) (done : ℕ) → made ≤ done
-          → Mendable i.size i.blocks p old.content (blocks_in_first limit i.size i.blocks done)
-          → new.content ≡ over p (cells i.size i.blocks))
+      → Mendable i.size i.blocks p old.content (blocks_in_first limit i.size i.blocks done)
+      → new.content ≡ over p (cells i.size i.blocks))
 
 -- ---- what it costs
 

@@ -64,7 +64,10 @@ pub record SpoolState : Type 0 where
 
 abbrev pub spool_state : {B : Type 0} → inputs.Ghosts B → outputs.Ghosts B → spools.Ghosts B → B → SpoolState
 spool_state i o l spool = record {
-  size = l.size spool; written = o.written spool; cuts = l.cuts spool; given = i.given spool;
+  size = l.size spool;
+  written = o.written spool;
+  cuts = l.cuts spool;
+  given = i.given spool;
 }
 
 -- a partition: its length, what it holds and was through, what was read of it, how many bytes it took, and how often

@@ -7,7 +7,7 @@ use Rattle.abt_headers.specs.declared.fault.HeaderFault.{HeaderFault}
 use Rattle.abt_headers.specs.declared.fault.HeaderFault.TheVariants as faults
 use Rattle.abt_headers.specs.declared.page.PageSize.{PageSize}
 use Rattle.abt_headers.specs.declared.vendor.VendorFront.{VendorFront}
-use Rattle.abt_headers.specs.declared.tail.VendorTail.{VendorTail}
+use Rattle.abt_headers.specs.declared.vendor_tail.VendorTail.{VendorTail}
 use Rattle.abt_headers.specs.declared.vendor.VendorHeader.{VendorHeader}
 use Rattle.abt_headers.specs.declared.vendor.VendorHeader.TheVariants.{V3, V4}
 use Rattle.abt_headers.specs.declared.sections.Section.{Section}

@@ -10,7 +10,7 @@
 //! - `boot.rt`: the boot header, its parts by version, and its public calls; `boot_reading.rt`
 //!   and `boot_writing.rt` go between its record and its fields.
 //! - `vendor.rt`, `vendor_reading.rt`, `vendor_writing.rt`: the same for the vendor boot header;
-//!   `tail.rt` has what its version 4 adds.
+//!   `vendor_tail.rt` has what its version 4 adds.
 //! - `entry.rt`: an entry of the vendor ramdisk table.
 //! - `os.rt`: the OS version and patch level in one number.
 //! - `page.rt`: the page sizes that a header may give.
@@ -32,9 +32,9 @@ mod field;
 mod os;
 mod page;
 mod sections;
-mod tail;
 mod vendor;
 mod vendor_reading;
+mod vendor_tail;
 mod vendor_writing;
 
 pub use boot::{
@@ -45,7 +45,7 @@ pub use fault::HeaderFault;
 pub use os::{OsParts, OsVersion};
 pub use page::PageSize;
 pub use sections::{Place, Section, Sections, pages};
-pub use tail::VendorTail;
 pub use vendor::{
     VENDOR_MAGIC, VendorFront, VendorHeader, vendor_again, vendor_front_decides, vendor_long,
 };
+pub use vendor_tail::VendorTail;

@@ -11,8 +11,8 @@ ghost use Rattle.abt_headers.specs.VendorFits.{VendorFits};
 use crate::fault::HeaderFault;
 use crate::page::PageSize;
 use crate::sections::{Section, Sections, lay, pages};
-use crate::tail::VendorTail;
 use crate::vendor_reading::read_vendor_header;
+use crate::vendor_tail::VendorTail;
 use crate::vendor_writing::{vendor_header_fits, write_vendor_header};
 
 /// The magic `VNDRBOOT`, read as a little-endian number.

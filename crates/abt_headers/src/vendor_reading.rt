@@ -10,8 +10,8 @@ use crate::boot_reading::check_length;
 use crate::fault::HeaderFault;
 use crate::field::{bytes_at, u32_at, u64_at};
 use crate::page::{PageSize, page_size_at};
-use crate::tail::VendorTail;
 use crate::vendor::{VENDOR_MAGIC, VendorFront, VendorHeader};
+use crate::vendor_tail::VendorTail;
 
 /// How many bytes an entry of the vendor ramdisk table has.
 const ENTRY_SIZE: u32 = 108;

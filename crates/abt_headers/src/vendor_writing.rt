@@ -8,8 +8,8 @@ ghost use Rattle.abt_headers.specs.Vendor.{vendor_record, vendor_size, view};
 ghost use Rattle.abt_headers.specs.VendorFits.{TailFits, VendorFits, VendorFrontFits};
 
 use crate::field::{array_fits, long_number_fits, number_fits, put};
-use crate::tail::VendorTail;
 use crate::vendor::{VENDOR_MAGIC, VendorFront, VendorHeader};
+use crate::vendor_tail::VendorTail;
 use byteorder::{ByteOrder, LittleEndian};
 
 /// The 28 bytes before the command line.

@@ -9,8 +9,7 @@ pub record Moment : Type 0 where
   pub pending : List (ℕ × ℕ)
   pub synced : ℕ
 
--- what is known of a partition beside its content: the ranges that were written since the last sync that succeeded,
--- the count of these syncs, and its moments, the newest first
+-- beside a partition's content: what was written since the last good sync, the good syncs, its moments, newest first
 pub record Past : Type 0 where
   pub pending : List (ℕ × ℕ)
   pub synced : ℕ

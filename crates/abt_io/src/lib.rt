@@ -18,7 +18,7 @@
 //! - `device`: the five traits, and `overwrite`, an output that can be written over; `front_last`: one whose first
 //!   bytes are laid last. Their words stand in `specs/`: `Count`, `Bytes`, `Frame` (what a read or a write leaves as it
 //!   was), `Moment` (what a crash may leave), `Over` (what writing over leaves), `Cause` (who failed).
-//! - `gathering`, `writing`, `copying`: the movers, generic over the traits.
+//! - `full_reads`, `writing`, `copying`: the movers, generic over the traits.
 //! - `slices`, `partition`, `spool`: devices over lent memory, which tell their bytes; `bytes` and
 //!   `cells` serve them. `forward`: a source read from its front.
 //! - `files`, `file_output`, `streams` (with `tries`): files, readers and writers, which tell nothing.
@@ -35,7 +35,7 @@ mod file_output;
 mod files;
 mod forward;
 mod front_last;
-mod gathering;
+mod full_reads;
 mod history;
 mod laws;
 mod laying;
@@ -60,7 +60,7 @@ pub use file_output::FileOutput;
 pub use files::{FilePartition, FileSource, FileSpool};
 pub use forward::Forward;
 pub use front_last::{FRONT, FrontLast};
-pub use gathering::{Gathered, gather, gather_at};
+pub use full_reads::{FullRead, read_full, read_full_at};
 pub use history::History;
 pub use laws::{moments_join, runs_join, untouched_bytes_last};
 pub use laying::{WORDS, lay_word};

@@ -13,7 +13,7 @@ use Rattle.abt_runs.specs.Whole.{alike_kinds}
 use Rattle.abt_pieces.specs.declared.contents.Contents.{Contents}
 use Rattle.abt_pieces.specs.Contents.{kind_of, opens, opens_len, data_len, held, with_part, contents_before, counts, sizes, written_in, last_of, IsContents}
 use Rattle.abt_pieces.specs.Plan.{last_kind}
-use Rattle.abt_pieces.specs.declared.tail.Tail.TheVariants as tails
+use Rattle.abt_pieces.specs.declared.segment_tail.Tail.TheVariants as tails
 use Rattle.abt_runs.proofs.Alike.{kind_is, alike_is, self_alike, tail_of_all}
 
 -- ---- two lists in a row

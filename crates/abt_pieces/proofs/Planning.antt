@@ -25,8 +25,8 @@ use Rattle.abt_pieces.proofs.Counting.{contents_on, skips_contents, skips_last, 
 use Rattle.abt_pieces.proofs.Writing.{blocks_take, blocks_drop, blocks_append, blocks_skips}
 use Rattle.abt_sparse.specs.Chunk.{piece}
 use Rattle.abt_pieces.specs.Plan.{last_kind, front, Slim, Even, head_of, fill_gain_of, skip_tail, cap_of, gain_of, tail_after, tail_of, between, FirstPiece, Planned, Ends, rested}
-use Rattle.abt_pieces.specs.declared.tail.Tail.{Tail}
-use Rattle.abt_pieces.specs.declared.tail.Tail.TheVariants as tails
+use Rattle.abt_pieces.specs.declared.segment_tail.Tail.{Tail}
+use Rattle.abt_pieces.specs.declared.segment_tail.Tail.TheVariants as tails
 
 -- ---- one block
 

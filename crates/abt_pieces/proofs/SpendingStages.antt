@@ -12,7 +12,7 @@ use Rattle.abt_pieces.specs.declared.stage.Stage.{Stage}
 use Rattle.abt_pieces.specs.declared.stage.Stage.TheVariants.{Between, Plan, Begin, Write, Done, Failed}
 use Rattle.abt_pieces.specs.declared.stage.PieceProgress.{PieceProgress}
 use Rattle.abt_pieces.specs.declared.stage.PieceProgress.TheVariants as answers
-use Rattle.abt_pieces.specs.declared.tail.Tail.TheVariants as tails
+use Rattle.abt_pieces.specs.declared.segment_tail.Tail.TheVariants as tails
 use Rattle.abt_pieces.specs.declared.outline.Outline.{Outline}
 use Rattle.abt_pieces.specs.declared.plan.Planner.{Planner}
 use Rattle.abt_pieces.specs.declared.write.Writer.{Writer}

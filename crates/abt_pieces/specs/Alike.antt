@@ -6,8 +6,8 @@ use Rattle.abt_pieces.specs.Plan.{Slim, Even}
 use Rattle.abt_pieces.specs.Gather.{SoundGatherer}
 use Rattle.abt_pieces.specs.Write.{SoundCopying, SoundWriter}
 use Rattle.abt_pieces.specs.Cutter.{SoundPlanner, SoundOutline, SoundWriting, SoundStage, TakenStage, SoundCutter}
-use Rattle.abt_pieces.specs.declared.tail.Tail.{Tail}
-use Rattle.abt_pieces.specs.declared.tail.Tail.TheVariants as tails
+use Rattle.abt_pieces.specs.declared.segment_tail.Tail.{Tail}
+use Rattle.abt_pieces.specs.declared.segment_tail.Tail.TheVariants as tails
 use Rattle.abt_pieces.specs.declared.gather.Gatherer.{Gatherer}
 use Rattle.abt_pieces.specs.declared.outline.Outline.{Outline}
 use Rattle.abt_pieces.specs.declared.plan.Planner.{Planner}

@@ -42,7 +42,9 @@ held kinds.End q = 0
 -- with q blocks of class k more, behind class j
 abbrev pub with_part : Contents → RunKind → RunKind → ℕ → ℕ → Contents
 with_part c j k q b = record {
-  chunks = c.chunks + opens j k; written = c.written + held k q; bytes = c.bytes + (opens_len j k + data_len k q b);
+  chunks = c.chunks + opens j k;
+  written = c.written + held k q;
+  bytes = c.bytes + (opens_len j k + data_len k q b);
 }
 
 -- with nothing but n skipped blocks

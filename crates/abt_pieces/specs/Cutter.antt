@@ -9,7 +9,7 @@ use Rattle.abt_pieces.specs.Gather.{first_gatherer, silent_left}
 use Rattle.abt_pieces.specs.Outline.{IsOutline, piece_at}
 use Rattle.abt_pieces.specs.Write.{SoundWriter, ToldWriter, rest_of, frame_of, write_left, writer_words}
 use Rattle.abt_pieces.specs.declared.fault.PieceFault.{PieceFault}
-use Rattle.abt_pieces.specs.declared.tail.Tail.TheVariants as tails
+use Rattle.abt_pieces.specs.declared.segment_tail.Tail.TheVariants as tails
 use Rattle.abt_pieces.specs.declared.outline.Piece.{Piece}
 use Rattle.abt_pieces.specs.declared.outline.Outline.{Outline}
 use Rattle.abt_pieces.specs.declared.plan.Planner.{Planner}
@@ -22,7 +22,11 @@ use Rattle.abt_pieces.specs.declared.stage.PieceProgress.TheVariants as answers
 -- before the first chunk of a planned piece
 abbrev pub first_writer : Cursor → Outline → Writer
 first_writer c o = record {
-  first = o.piece.first; past = o.piece.past; gatherer = first_gatherer c; copying = None; chunks = o.chunks;
+  first = o.piece.first;
+  past = o.piece.past;
+  gatherer = first_gatherer c;
+  copying = None;
+  chunks = o.chunks;
   bytes = o.piece.bytes - 28;
 }
 

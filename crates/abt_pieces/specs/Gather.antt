@@ -72,10 +72,10 @@ begun_with r = record { kind = r.kind; count = r.blocks; from = r.here; at = r.n
 abbrev pub gathered_on : Gatherer → Run → Gatherer × Option Run
 gathered_on g r =
     if (r.blocks == 0) && not (is_end r.kind)
-        then (record { kind = g.kind; count = g.count; from = g.from; at = r.next }, None)
+    then (record { kind = g.kind; count = g.count; from = g.from; at = r.next }, None)
     else if g.count == 0 then (begun_with r, None)
     else if alike_kinds g.kind r.kind
-        then (record { kind = g.kind; count = g.count + r.blocks; from = g.from; at = r.next }, None)
+    then (record { kind = g.kind; count = g.count + r.blocks; from = g.from; at = r.next }, None)
     else (begun_with r, Some (record { kind = g.kind; blocks = g.count; here = g.from; next = g.at }))
 
 -- how many parts there can be before the end of a piece

@@ -6,8 +6,8 @@ use Rattle.abt_sparse.specs.Runs.{weight, greedy, tail_parts}
 use Rattle.abt_sparse.specs.Gains.{Behind, Fresh, After, behind_all}
 use Rattle.abt_runs.specs.declared.part.RunKind.{RunKind}
 use Rattle.abt_runs.specs.declared.part.RunKind.TheVariants as kinds
-use Rattle.abt_pieces.specs.declared.tail.Tail.{Tail}
-use Rattle.abt_pieces.specs.declared.tail.Tail.TheVariants as tails
+use Rattle.abt_pieces.specs.declared.segment_tail.Tail.{Tail}
+use Rattle.abt_pieces.specs.declared.segment_tail.Tail.TheVariants as tails
 use Rattle.abt_pieces.specs.Contents.{IsContents, last_of}
 use Rattle.abt_runs.specs.Part.{afresh}
 use Rattle.abt_pieces.specs.declared.plan.Planner.{Planner}

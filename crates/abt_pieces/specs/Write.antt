@@ -108,8 +108,12 @@ chunk_len k q b = head_len k + data_len k q b
 -- with the front of a run's chunk written
 abbrev pub chunk_begun : Writer → Run → ℕ → Writer
 chunk_begun w r b = record {
-  first = w.first; past = w.past; gatherer = w.gatherer; copying = starts r.kind r.here (data_len r.kind r.blocks b);
-  chunks = w.chunks - 1; bytes = w.bytes - head_len r.kind;
+  first = w.first;
+  past = w.past;
+  gatherer = w.gatherer;
+  copying = starts r.kind r.here (data_len r.kind r.blocks b);
+  chunks = w.chunks - 1;
+  bytes = w.bytes - head_len r.kind;
 }
 
 -- why the front of a chunk is not written

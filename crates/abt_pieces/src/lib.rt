@@ -5,7 +5,7 @@
 //! between, each maximal run one chunk. It weighs at most the limit, and its segment is the longest
 //! that does.
 //!
-//! - `tail`, `plan`: weighing a segment part by part, and how far a piece goes;
+//! - `segment_tail`, `plan`: weighing a segment part by part, and how far a piece goes;
 //! - `contents`, `outline`: the numbers of a piece, which its header needs first;
 //! - `gather`: the runs of a piece, each known whole before it is written;
 //! - `chunk`, `write`: headers, and writing a piece in steps that hold numbers alone;
@@ -24,8 +24,8 @@ mod gather;
 mod outline;
 mod piece_steps;
 mod plan;
+mod segment_tail;
 mod stage;
-mod tail;
 mod write;
 
 pub use chunk::{chunk_front, image_header, write_front, write_header};
@@ -35,6 +35,6 @@ pub use fault::{PieceFault, run_fault};
 pub use gather::{Gatherer, framed_part};
 pub use outline::{Outline, Piece};
 pub use plan::{Planner, plan_piece};
+pub use segment_tail::{Tail, added, raw_cap};
 pub use stage::{PieceProgress, Stage};
-pub use tail::{Tail, added, raw_cap};
 pub use write::{Copying, Writer};

@@ -7,7 +7,7 @@ ghost use Rattle.abt_pieces.specs.Outline.{IsOutline};
 
 use crate::contents::Contents;
 use crate::plan::Planner;
-use crate::tail::last;
+use crate::segment_tail::last;
 use abt_runs::{Cursor, RunKind};
 
 /// A piece of an image.

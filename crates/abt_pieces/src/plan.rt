@@ -7,7 +7,7 @@ ghost use Rattle.abt_pieces.specs.Contents.{contents_before};
 ghost use Rattle.abt_pieces.specs.Plan.{Planned, Even, Ends, FirstPiece, last_words, rested};
 
 use crate::contents::Contents;
-use crate::tail::{Tail, added, last, raw_cap};
+use crate::segment_tail::{Tail, added, last, raw_cap};
 use abt_io::{Meter, Source, Window};
 use abt_runs::{BlockRuns, Cursor, RunFault, RunKind};
 

@@ -15,8 +15,8 @@ use Rattle.abt_runs.specs.declared.part.RunKind.{RunKind}
 use Rattle.abt_runs.specs.declared.part.RunKind.TheVariants as kinds
 use Rattle.abt_pieces.specs.Plan.{between, head_of, fill_gain_of, cap_of, gain_of, tail_after, tail_of}
 use Rattle.abt_pieces.proofs.Planning.{part_gains, over}
-use Rattle.abt_pieces.specs.declared.tail.Tail.{Tail}
-use Rattle.abt_pieces.specs.declared.tail.Tail.TheVariants as tails
+use Rattle.abt_pieces.specs.declared.segment_tail.Tail.{Tail}
+use Rattle.abt_pieces.specs.declared.segment_tail.Tail.TheVariants as tails
 use Rattle.abt_placed.specs.Placer.{SoundPlacer, goes_on, with_part, longer, begun, closed, closing_len, taking_len}
 use Rattle.abt_placed.specs.Placed.{Placed, classes, skips}
 use Rattle.abt_placed.specs.Segment.{tail_of_open, is_fresh, to_come, SoundSegment, IsHeld, LaidSegment, IsOver}

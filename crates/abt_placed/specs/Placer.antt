@@ -37,13 +37,28 @@ first_placer at r = record { front = at; most = r; chunks = 0; blocks = 0; kind 
 abbrev pub closed_as : RunKind → Placer → Placer
 closed_as kinds.End s = s
 closed_as kinds.Raw s = record {
-  front = s.front; most = s.most; chunks = s.chunks + 1; blocks = s.blocks + s.count; kind = kinds.End; count = 0;
+  front = s.front;
+  most = s.most;
+  chunks = s.chunks + 1;
+  blocks = s.blocks + s.count;
+  kind = kinds.End;
+  count = 0;
 }
 closed_as (kinds.Fill w) s = record {
-  front = s.front; most = s.most; chunks = s.chunks + 1; blocks = s.blocks + s.count; kind = kinds.End; count = 0;
+  front = s.front;
+  most = s.most;
+  chunks = s.chunks + 1;
+  blocks = s.blocks + s.count;
+  kind = kinds.End;
+  count = 0;
 }
 closed_as kinds.Skip s = record {
-  front = s.front; most = s.most; chunks = s.chunks + 1; blocks = s.blocks + s.count; kind = kinds.End; count = 0;
+  front = s.front;
+  most = s.most;
+  chunks = s.chunks + 1;
+  blocks = s.blocks + s.count;
+  kind = kinds.End;
+  count = 0;
 }
 
 abbrev pub closed : Placer → Placer
@@ -62,7 +77,12 @@ goes_on s k = goes_on_as k s
 -- with q blocks more in the open chunk, and with a chunk begun
 abbrev pub longer : Placer → ℕ → Placer
 longer s q = record {
-  front = s.front; most = s.most; chunks = s.chunks; blocks = s.blocks; kind = s.kind; count = s.count + q;
+  front = s.front;
+  most = s.most;
+  chunks = s.chunks;
+  blocks = s.blocks;
+  kind = s.kind;
+  count = s.count + q;
 }
 
 abbrev pub begun : Placer → RunKind → ℕ → Placer

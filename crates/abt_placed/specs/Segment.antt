@@ -7,8 +7,8 @@ use Rattle.abt_sparse.specs.Gains.{Fresh, behind_all}
 use Rattle.abt_runs.specs.declared.part.RunKind.{RunKind}
 use Rattle.abt_runs.specs.declared.part.RunKind.TheVariants as kinds
 use Rattle.abt_pieces.specs.Plan.{between, tail_of}
-use Rattle.abt_pieces.specs.declared.tail.Tail.{Tail}
-use Rattle.abt_pieces.specs.declared.tail.Tail.TheVariants as tails
+use Rattle.abt_pieces.specs.declared.segment_tail.Tail.{Tail}
+use Rattle.abt_pieces.specs.declared.segment_tail.Tail.TheVariants as tails
 use Rattle.abt_placed.specs.Placer.{SoundPlacer}
 use Rattle.abt_placed.specs.Placed.{Placed, skips}
 use Rattle.abt_placed.specs.Whole.{taken}

@@ -44,7 +44,11 @@ class_of_kind kinds.Crc word = classes.Skip
 -- the place behind a chunk
 abbrev pub behind_chunk : ChunkHeader → Cursor → Cursor
 behind_chunk k c = record {
-  block = c.block - c.used + counted k.kind k.blocks; at = c.at + k.total; chunk = c.chunk + 1; used = 0; ask = c.ask;
+  block = c.block - c.used + counted k.kind k.blocks;
+  at = c.at + k.total;
+  chunk = c.chunk + 1;
+  used = 0;
+  ask = c.ask;
 }
 
 -- the part of a chunk from a place in it on
@@ -52,6 +56,10 @@ abbrev pub part_of_chunk : ChunkHeader → List ℕ → Cursor → ℕ → Run
 part_of_chunk k word c cap =
     let left = counted k.kind k.blocks - c.used in
     if left == 0 then record { kind = classes.Skip; blocks = 0; here = behind_chunk k c; next = behind_chunk k c }
-    else if is_raw k.kind && nat_lt cap left then record { kind = classes.Raw; blocks = cap; here = c;
-            next = record c { block = c.block + cap; used = c.used + cap } }
+    else if is_raw k.kind && nat_lt cap left then record {
+      kind = classes.Raw;
+      blocks = cap;
+      here = c;
+      next = record c { block = c.block + cap; used = c.used + cap };
+    }
     else record { kind = class_of_kind k.kind word; blocks = left; here = c; next = behind_chunk k c }

@@ -40,20 +40,22 @@ pub raw_long : (len blocks size : ℕ) (x : List ℕ) → 4 ≤ size → len ≤
     → len ≡ length x → length (classify size x) ≡ blocks
 raw_long len blocks size x some covers last e =
     length-map (split size (block_count size x) (filled_to
-            (size * block_count size x) x)) class_of ∙ length-split size (block_count size x)
-            (filled_to (size * block_count size x) x) ∙ raw_count len blocks size x some covers last e
+    (size * block_count size x) x)) class_of ∙ length-split size (block_count size x)
+    (filled_to (size * block_count size x) x) ∙ raw_count len blocks size x some covers last e
 
 class_is_block : (b : ℕ) (bytes : List ℕ) → 4 ≤ b → length bytes ≡ b → IsBlock b (class_of bytes)
 class_is_block b bytes some e =
     elim (cases_Bool (list_all (bytes_eq (take 4 bytes)) (split 4 (length bytes / 4) bytes))) [
-  | inl h ↦ rw h (length-take-le 4 bytes (omega arith))
-  | inr h ↦ rw h e
-]
+      | inl h ↦ rw h (length-take-le 4 bytes (omega arith))
+      | inr h ↦ rw h e
+    ]
 
 are_blocks : (b n : ℕ) (y : List ℕ) → 4 ≤ b → n * b ≤ length y → AllByRecursion (IsBlock b) (map class_of (split b n y))
 are_blocks b zero y some long = tt
-are_blocks b (suc n) y some long = (class_is_block b (take b y) some (length-take-le b y (omega arith)),
-        are_blocks b n (drop b y) some (omega (arith, length-drop b y)))
+are_blocks b (suc n) y some long = (
+  class_is_block b (take b y) some (length-take-le b y (omega arith)),
+  are_blocks b n (drop b y) some (omega (arith, length-drop b y)),
+)
 
 pub raw_are_blocks : (len blocks size : ℕ) (x : List ℕ) → 4 ≤ size → len ≤ blocks * size → blocks * size < len + size
     → len ≡ length x → AreBlocks size (classify size x)
@@ -61,8 +63,11 @@ raw_are_blocks len blocks size x some covers last e =
     let n = block_count size x in
     let same = raw_count len blocks size x some covers last e in
     let total : size * n ≡ blocks * size = rw same (omega arith) in
-    are_blocks size n (filled_to (size * n) x) some (omega (arith,
-            length-append x (replicate (size * n - length x) 0), length-replicate {A = ℕ} (size * n - length x) 0))
+    are_blocks size n (filled_to (size * n) x) some (omega (
+      arith,
+      length-append x (replicate (size * n - length x) 0),
+      length-replicate {A = ℕ} (size * n - length x) 0,
+    ))
 
 pub own_size : (n : ℕ) → n ≤ n
 own_size n = omega arith
@@ -74,9 +79,9 @@ raw_passed len blocks size c some covers last h = (
     | inl e ↦
         let lt = ltb-true c.block blocks e in
         let m : (2 * c.block + 1 - c.ask) * size ≤ 2 * c.block * size =
-            mul-le-mul_right size (let z : 2 * c.block + 1 - c.ask ≤ 2 * c.block = omega (arith, h.some) in z) in
+        mul-le-mul_right size (let z : 2 * c.block + 1 - c.ask ≤ 2 * c.block = omega (arith, h.some) in z) in
         let k : (c.block + 1) * size ≤ blocks * size =
-            mul-le-mul_right size (let z : c.block + 1 ≤ blocks = omega arith in z) in
+        mul-le-mul_right size (let z : c.block + 1 ≤ blocks = omega arith in z) in
         rw e (omega arith)
     | inr e ↦ rw e (omega arith)
   ],
@@ -93,12 +98,17 @@ raw_held_grows len size c m n le = (omega arith, omega arith)
 pub raw_place_afresh : (blocks size : ℕ) (c : Cursor) → RawPlace blocks size c → RawPlace blocks size (afresh c)
 raw_place_afresh blocks size c h =
     let m : 1 * size ≤ c.ask * size = mul-le-mul_right size (let z : 1 ≤ c.ask = omega (arith, h.some) in z) in
-    record { within = h.within; some = omega arith; window = omega (arith, m, h.window); passed = omega arith;
-            used = h.used }
+    record {
+      within = h.within;
+      some = omega arith;
+      window = omega (arith, m, h.window);
+      passed = omega arith;
+      used = h.used;
+    }
 
 pub raw_afresh : (len blocks size : ℕ) (c : Cursor) → RawPlace blocks size c
     → Afresh (λ d. RawPlace blocks size d) (λ d. raw_charge len blocks size d) (λ d. d.block * (size + 16))
-        (λ d. raw_before len size d) (λ d. blocks - d.block) c
+    (λ d. raw_before len size d) (λ d. blocks - d.block) c
 raw_afresh len blocks size c h = record {
   within = raw_place_afresh blocks size c h;
   charge = elim (cases_Bool (nat_lt c.block blocks)) [

@@ -98,8 +98,11 @@ through h size zero i have y cs rest e = elim (cases_Bool (have == h.total_blks)
       let none : [] ≡ cs = done_list f in
       let same : y ≡ rest = done_rest f in
       subst (λ (ds : List Chunk). Through h have y ds rest) none
-          (record { total = omega (arith, eqb-true have h.total_blks t); good = tt;
-          long = omega (arith, ap length same) })
+      (record {
+        total = omega (arith, eqb-true have h.total_blks t);
+        good = tt;
+        long = omega (arith, ap length same);
+      })
   | inr t ↦ absurd (let f : Failed _ [] [] ≡ Done cs rest = rw (t, chunks_at) at e in cc)
 ]
 through h size (suc left) i have y cs rest e =
@@ -108,27 +111,32 @@ through h size (suc left) i have y cs rest e =
     inner : (c : Chunk) (n : ℕ) (more : List ℕ) → chunk_at h size i have y ≡ Got c n more → (s : ChunksRead)
         → chunks_at h size (i + 1) (have + n) left more ≡ s
         → ((ds : List Chunk) (end : List ℕ) → chunks_at h size (i + 1) (have + n) left more ≡ Done ds end
-                → Through h (have + n) more ds end) → Through h have y cs rest
+        → Through h (have + n) more ds end) → Through h have y cs rest
     inner c n more r (Failed f ds came) s ih = absurd (let g : Failed f (c ∷ ds) came ≡ Done cs rest =
-            ap (λ (t : ChunksRead). behind c t) (sym s) ∙ sym (chunks-got h size i have left y c n more r) ∙ e in cc)
+        ap (λ (t : ChunksRead). behind c t) (sym s) ∙ sym (chunks-got h size i have left y c n more r) ∙ e in cc)
     inner c n more r (Done ds end) s ih =
         let g : Done (c ∷ ds) end ≡ Done cs rest =
-            ap (λ (t : ChunksRead). behind c t) (sym s) ∙ sym (chunks-got h size i have left y c n more r) ∙ e in
+        ap (λ (t : ChunksRead). behind c t) (sym s) ∙ sym (chunks-got h size i have left y c n more r) ∙ e in
         let t = ih ds end s in
         let made = got_made h size i have y c n more r in
         let more_long : length y ≡ made.total + length more =
-            omega (arith, ap length made.good.rest_is, length-drop made.total y, made.good.whole) in
+        omega (arith, ap length made.good.rest_is, length-drop made.total y, made.good.whole) in
         let mine_long : chunk_length h c ≡ made.total =
-            ap (λ (d : Chunk). chunk_length h d)
-            (sym made.c_is) ∙ length_is h made.k made.n made.d ∙ sym made.good.total_right in
+        ap (λ (d : Chunk). chunk_length h d)
+        (sym made.c_is) ∙ length_is h made.k made.n made.d ∙ sym made.good.total_right in
         let counts : count c ≡ n = ap count (sym made.c_is) ∙ count_is h.blk_sz made.k made.n made.d ∙ made.m_is in
         let room : length (take made.total y) ≡ made.total = length-take-le made.total y made.good.whole in
         let data_long : length made.d ≡ data_len h.blk_sz made.k made.n =
-            omega (arith, ap length made.good.data_is, length-drop h.chunk_hdr_sz (take made.total y), room,
-            made.good.total_right) in
+        omega (
+          arith,
+          ap length made.good.data_is,
+          length-drop h.chunk_hdr_sz (take made.total y),
+          room,
+          made.good.total_right,
+        ) in
         let mine : AllByRecursion (IsBlock h.blk_sz) (blocks_of c) =
-            subst (λ (d : Chunk). AllByRecursion (IsBlock h.blk_sz) (blocks_of d)) made.c_is
-            (blocks_good h.blk_sz made.k made.n made.d data_long) in
+        subst (λ (d : Chunk). AllByRecursion (IsBlock h.blk_sz) (blocks_of d)) made.c_is
+        (blocks_good h.blk_sz made.k made.n made.d data_long) in
         subst (λ (ds' : List Chunk). Through h have y ds' rest) (done_list g) (record {
           total = omega (arith, t.total, counts);
           good = both_good h.blk_sz (blocks_of c) (classed ds) mine t.good;
@@ -137,8 +145,8 @@ through h size (suc left) i have y cs rest e =
 
     step : (r : ChunkRead) → chunk_at h size i have y ≡ r
         → ((n : ℕ) (more : List ℕ) (ds : List Chunk) (end : List ℕ)
-                → chunks_at h size (i + 1) (have + n) left more ≡ Done ds end → Through h (have + n) more ds end)
-                → Through h have y cs rest
+        → chunks_at h size (i + 1) (have + n) left more ≡ Done ds end → Through h (have + n) more ds end)
+        → Through h have y cs rest
     step (Bad f came) r ih =
         absurd (let g : Failed f [] came ≡ Done cs rest = sym (chunks-bad h size i have left y f came r) ∙ e in cc)
     step (Got c n more) r ih = inner c n more r (chunks_at h size (i + 1) (have + n) left more) refl (ih n more)
@@ -165,7 +173,7 @@ parted_done : (x : List ℕ) (h h' : Header) (cs : List Chunk) (rest : List ℕ)
 parted_done x h h' cs rest le (Failed f ds came) r e = absurd cc
 parted_done x h h' cs rest le (Done ds end) r e =
     let chunks : chunks_at h' (length x) 0 0 h'.total_chunks (drop h'.file_hdr_sz x) ≡ Done cs rest =
-        r ∙ ap (λ (l : List Chunk). Done l end) (image_chunks e) ∙ ap (λ (l : List ℕ). Done cs l) (image_rest e) in
+    r ∙ ap (λ (l : List Chunk). Done l end) (image_chunks e) ∙ ap (λ (l : List ℕ). Done cs l) (image_rest e) in
     subst (λ (k : Header). Parted x k cs rest) (image_header e) (record { file = le; chunks = chunks })
 
 parted_body : (x : List ℕ) (h h' : Header) (cs : List Chunk) (rest : List ℕ)
@@ -175,9 +183,9 @@ parted_body x h h' cs rest e = elim (cases_Bool (nat_lt (length x) h'.file_hdr_s
   | inl t ↦ absurd (let f : outcome_of h' (Failed _ [] []) ≡ Image h cs rest = rw t at e in cc)
   | inr t ↦
       let f : outcome_of h' (chunks_at h' (length x) 0 0 h'.total_chunks (drop h'.file_hdr_sz x)) ≡ Image h cs rest =
-          rw t at e in
+      rw t at e in
       parted_done x h h' cs rest (ltb-false _ _ t) (chunks_at h' (length x) 0 0 h'.total_chunks
-              (drop h'.file_hdr_sz x)) refl f
+      (drop h'.file_hdr_sz x)) refl f
 ]
 
 parted_checked : (x : List ℕ) (h : Header) (cs : List Chunk) (rest : List ℕ) (r : Result Header SparseFault)
@@ -223,13 +231,19 @@ sparse_held_grows m n le = (le, omega arith)
 
 pub sparse_place_afresh : (h : Header) (x : List ℕ) (c : Cursor) → SparsePlace h x c → SparsePlace h x (afresh c)
 sparse_place_afresh h x c p = record {
-  before = p.before; after = p.after; rest = p.rest; is_image = p.is_image; ahead = p.ahead; chunk = p.chunk;
-  block = p.block; inside = p.inside;
+  before = p.before;
+  after = p.after;
+  rest = p.rest;
+  is_image = p.is_image;
+  ahead = p.ahead;
+  chunk = p.chunk;
+  block = p.block;
+  inside = p.inside;
 }
 
 pub sparse_afresh : (h : Header) (image : ℕ) (c : Cursor) → SparseWithin h image c
     → Afresh (λ d. SparseWithin h image d) (λ d. sparse_charge h d) (λ d. sparse_charge h d) (λ d. sparse_charge h d)
-        (λ d. (h.total_blks - d.block) + (h.total_chunks - d.chunk)) c
+    (λ d. (h.total_blks - d.block) + (h.total_chunks - d.chunk)) c
 sparse_afresh h image c w = record {
   within = record { chunk = w.chunk; block = w.block; used = w.used; charge = w.charge; going = w.going };
   charge = omega arith;

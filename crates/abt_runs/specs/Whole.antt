@@ -41,11 +41,16 @@ pub record RunOf (cap : ℕ) (l : List Block) (i : ℕ) (r : Run) : Type 0 where
 abbrev pub and_part : Run → Run → Option Run
 and_part r p =
     if is_end p.kind then None
-    else if p.blocks == 0 then Some (record { kind = r.kind; blocks = r.blocks; here = if r.blocks == 0 then p.next
-            else r.here; next = p.next })
+    else if p.blocks == 0 then Some (record {
+      kind = r.kind;
+      blocks = r.blocks;
+      here = if r.blocks == 0 then p.next
+          else r.here;
+      next = p.next;
+    })
     else if r.blocks == 0 then Some p
     else if alike_kinds r.kind p.kind
-        then Some (record { kind = r.kind; blocks = r.blocks + p.blocks; here = r.here; next = p.next })
+    then Some (record { kind = r.kind; blocks = r.blocks + p.blocks; here = r.here; next = p.next })
     else None
 
 -- how many more raw blocks a run of this class may have

@@ -3,7 +3,7 @@ ghost use Rattle.std.specs.Prelude.{◌≡◌, ◌<◌, ◌≤◌, ◌+◌, ◌^
 ghost use Rattle.abt_runs.specs.Part.{Caused};
 
 use crate::RunFault;
-use abt_io::{Meter, Source, Window, gather_at};
+use abt_io::{Meter, Source, Window, read_full_at};
 
 /// How many bytes came, and why not all that were wanted.
 #[derive(Clone, Copy, Debug, PartialEq, Eq, Drop)]
@@ -40,7 +40,7 @@ pub fn load<S: Source>(
     ensures cause { IfSome result.fault (λ e. Caused e S.tells (S.read_faults source.old) (S.read_faults source.new)) }
 {
     w.is_whole();
-    let got = gather_at(source, at, w.part_mut(0, want), m);
+    let got = read_full_at(source, at, w.part_mut(0, want), m);
     let received = got.count as u32;
     if let Some(fault) = got.fault {
         return Loaded {

@@ -20,11 +20,19 @@ use Rattle.abt_sections.specs.Layout.{laid_out, laid_size}
 -- versions 0 to 2; the command line lies over both of its fields
 abbrev pub front_for : BootFields → PageSize → List ℕ → List ℕ → BootFront
 front_for s page sizes id = record {
-  kernel_size = slice_index sizes 0; kernel_addr = s.kernel_addr;
-  ramdisk_size = slice_index sizes 1; ramdisk_addr = s.ramdisk_addr;
-  second_size = slice_index sizes 2; second_addr = s.second_addr;
-  tags_addr = s.tags_addr; page_size = page; os_version = s.os; name = filled 16 s.name; id = id;
-  cmdline = filled 512 (take 512 s.cmdline); extra_cmdline = filled 1024 (drop 512 s.cmdline);
+  kernel_size = slice_index sizes 0;
+  kernel_addr = s.kernel_addr;
+  ramdisk_size = slice_index sizes 1;
+  ramdisk_addr = s.ramdisk_addr;
+  second_size = slice_index sizes 2;
+  second_addr = s.second_addr;
+  tags_addr = s.tags_addr;
+  page_size = page;
+  os_version = s.os;
+  name = filled 16 s.name;
+  id = id;
+  cmdline = filled 512 (take 512 s.cmdline);
+  extra_cmdline = filled 1024 (drop 512 s.cmdline);
 }
 
 -- where the recovery dtbo stands, or 0 where it is empty
@@ -48,8 +56,12 @@ dtb_for s sizes = record { dtb_size = slice_index sizes 4; dtb_addr = s.dtb_addr
 -- versions 3 and 4
 abbrev pub short_for : BootFields → List ℕ → ℕ → ShortFront
 short_for s sizes header_size = record {
-  kernel_size = slice_index sizes 0; ramdisk_size = slice_index sizes 1; os_version = s.os;
-  header_size = header_size; reserved = replicate 16 0; cmdline = filled 1536 s.cmdline;
+  kernel_size = slice_index sizes 0;
+  ramdisk_size = slice_index sizes 1;
+  os_version = s.os;
+  header_size = header_size;
+  reserved = replicate 16 0;
+  cmdline = filled 1536 s.cmdline;
 }
 
 unfoldable pub boot_header_for : BootFields → PageSize → List ℕ → List ℕ → BootHeader

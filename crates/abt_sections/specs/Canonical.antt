@@ -58,7 +58,7 @@ pub record IsVendorInput (s : VendorFields) (p : VendorParts) : Type 0 where
   pub three : s.version ≡ 3 → (length p.fragments ≡ 0) × (length p.ramdisks ≡ 1) × (length p.bootconfig ≡ 0)
   pub four : s.version ≡ 4 → length p.fragments ≡ length p.ramdisks
   pub accepted : pack_vendor_refusal s (vendor_sizes_for (length (concat p.ramdisks)) (length p.dtb)
-          (length p.fragments) (length p.bootconfig)) ≡ None
+      (length p.fragments) (length p.bootconfig)) ≡ None
 
 pub record StartsAsVendor (x : List ℕ) : Type 0 where
   pub fields : VendorFields

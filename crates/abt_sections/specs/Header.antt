@@ -97,7 +97,7 @@ ramdisk_size (OfVendor v) = v.front.vendor_ramdisk_size
 abbrev pub table_at : Header → ℕ
 table_at (OfBoot h) = 0
 table_at (OfVendor v) = vendor_page v * (pages (vendor_size v) (vendor_page v)
-        + pages v.front.vendor_ramdisk_size (vendor_page v) + pages v.front.dtb_size (vendor_page v))
+    + pages v.front.vendor_ramdisk_size (vendor_page v) + pages v.front.dtb_size (vendor_page v))
 
 -- entry i of the table, of 108 bytes each
 abbrev pub entry_of : List ℕ → Header → ℕ → RamdiskEntry

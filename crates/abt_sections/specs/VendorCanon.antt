@@ -17,9 +17,8 @@ use Rattle.abt_sections.specs.BootCanon.{page_or, image_size}
 
 -- the entry of a fragment of so many bytes at a place of the vendor ramdisk
 abbrev pub entry_for : FragmentSpec → ℕ → ℕ → RamdiskEntry
-entry_for f size offset = record {
-  ramdisk_size = size; ramdisk_offset = offset; ramdisk_type = f.kind; name = f.name; board_id = f.board_id;
-}
+entry_for f size offset =
+    record { ramdisk_size = size; ramdisk_offset = offset; ramdisk_type = f.kind; name = f.name; board_id = f.board_id }
 
 -- of fragments of these sizes, the first at this offset
 abbrev pub table_for : List FragmentSpec → List ℕ → ℕ → List ℕ
@@ -31,16 +30,21 @@ table_for (f ∷ fs) (n ∷ ns) offset = entry_record (entry_for f n offset) ++ 
 
 abbrev pub vendor_front_for : VendorFields → PageSize → List ℕ → ℕ → VendorFront
 vendor_front_for s page sizes header_size = record {
-  page_size = page; kernel_addr = s.kernel_addr; ramdisk_addr = s.ramdisk_addr;
-  vendor_ramdisk_size = slice_index sizes 0; cmdline = filled 2048 s.cmdline;
-  tags_addr = s.tags_addr; name = filled 16 s.name; header_size = header_size;
-  dtb_size = slice_index sizes 1; dtb_addr = s.dtb_addr;
+  page_size = page;
+  kernel_addr = s.kernel_addr;
+  ramdisk_addr = s.ramdisk_addr;
+  vendor_ramdisk_size = slice_index sizes 0;
+  cmdline = filled 2048 s.cmdline;
+  tags_addr = s.tags_addr;
+  name = filled 16 s.name;
+  header_size = header_size;
+  dtb_size = slice_index sizes 1;
+  dtb_addr = s.dtb_addr;
 }
 
 abbrev pub tail_for : List ℕ → ℕ → Tail
-tail_for sizes count = record {
-  table_size = slice_index sizes 2; entry_num = count; entry_size = 108; bootconfig_size = slice_index sizes 3;
-}
+tail_for sizes n =
+    record { table_size = slice_index sizes 2; entry_num = n; entry_size = 108; bootconfig_size = slice_index sizes 3 }
 
 -- with so many fragments
 abbrev pub vendor_header_for : VendorFields → PageSize → List ℕ → ℕ → Vendor
@@ -86,7 +90,10 @@ vendor_canon s p = vendor_image (vendor_header_of s p) (vendor_sections_for s.ve
 
 abbrev pub vendor_parts : List FragmentSpec → List (List ℕ) → List ℕ → List ℕ → VendorParts
 vendor_parts fragments ramdisks dtb bootconfig = record {
-  fragments = fragments; ramdisks = ramdisks; dtb = dtb; bootconfig = bootconfig;
+  fragments = fragments;
+  ramdisks = ramdisks;
+  dtb = dtb;
+  bootconfig = bootconfig;
 }
 
 -- how long the image of these fields and sections of these sizes is

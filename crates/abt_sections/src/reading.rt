@@ -5,7 +5,7 @@ ghost use Rattle.std.specs.Prelude.{slice_range};
 ghost use Rattle.abt_sections.specs.Cause.{ReadCause, full_handed};
 
 use crate::fault::SectionFault;
-use abt_io::{Meter, Source, Window, gather_at};
+use abt_io::{Meter, Source, Window, read_full_at};
 
 /// The front of a step: reads the `ask` bytes from a place on. The caller ends the step once it has used them; where
 /// they don't come it is ended here.
@@ -34,7 +34,7 @@ pub(crate) fn read_front<S: Source>(
     ensures ended { OnErr result (m.new.steps.number ≡ m.old.steps.number + 1) }
 {
     w.is_whole();
-    let gathered = gather_at(source, at, w.part_mut(0, ask), m);
+    let gathered = read_full_at(source, at, w.part_mut(0, ask), m);
     if let Some(fault) = gathered.fault {
         m.close_step(gathered.count as u32);
         return Err(SectionFault::Read(fault));

@@ -21,15 +21,9 @@ pub record Header : Type 0 where
 -- the 28 bytes of a header
 abbrev pub header_record : Header → List ℕ
 header_record h =
-    to_le_bytes w32 0xED26FF3A
-    ++ (to_le_bytes w16 1
-    ++ (to_le_bytes w16 h.minor
-    ++ (to_le_bytes w16 h.file_hdr_sz
-    ++ (to_le_bytes w16 h.chunk_hdr_sz
-    ++ (to_le_bytes w32 h.blk_sz
-    ++ (to_le_bytes w32 h.total_blks
-    ++ (to_le_bytes w32 h.total_chunks
-    ++ to_le_bytes w32 h.image_checksum)))))))
+    to_le_bytes w32 0xED26FF3A ++ (to_le_bytes w16 1 ++ (to_le_bytes w16 h.minor
+    ++ (to_le_bytes w16 h.file_hdr_sz ++ (to_le_bytes w16 h.chunk_hdr_sz ++ (to_le_bytes w32 h.blk_sz
+    ++ (to_le_bytes w32 h.total_blks ++ (to_le_bytes w32 h.total_chunks ++ to_le_bytes w32 h.image_checksum)))))))
 
 -- the fields fit their bytes, and the checks of a header pass
 pub record IsHeader (h : Header) : Type 0 where
@@ -140,9 +134,8 @@ abbrev pub plain : Chunk → List ℕ
 plain c = chunk_bytes (code (kind c)) (to_le_bytes w16 0) (count c) (12 + length (data_of c)) [] (data_of c)
 
 abbrev pub plain_header : ℕ → ℕ → ℕ → Header
-plain_header b n chunks = record {
-  minor = 0; file_hdr_sz = 28; chunk_hdr_sz = 12; blk_sz = b; total_blks = n; total_chunks = chunks; image_checksum = 0;
-}
+plain_header b n k = record
+    { minor = 0; file_hdr_sz = 28; chunk_hdr_sz = 12; blk_sz = b; total_blks = n; total_chunks = k; image_checksum = 0 }
 
 -- the chunk of a run
 abbrev pub raw_bytes : Block → List ℕ

@@ -63,8 +63,7 @@ pub record BeginsChunk (y : List ℕ) (k : ChunkKind) (n total : ℕ) : Type 0 w
   pub chunk_sz : number_at 4 4 y ≡ n
   pub total_sz : number_at 8 4 y ≡ total
 
--- The check of chunk i that fails first, where the chunks before it have so many blocks, y stands behind them, and
--- the whole input has size bytes; and the raw bytes that came of it.
+-- The first check of chunk i that fails, `have` blocks and then y behind them, in size bytes; the raw bytes that came.
 pub data ChunkFails (h : Header) (size i have : ℕ) (y : List ℕ) : SparseFault → List ℕ → Type 0 where
   no_header : length y < 12 → ChunkFails h size i have y (Truncated size) []
   unknown_type : 12 ≤ length y → ((k : ChunkKind) → number_at 0 2 y ≡ code k → ⊥)
@@ -84,12 +83,10 @@ pub data Fails (x : List ℕ) : SparseFault → List (Option ℕ) → Type 0 whe
   cut_header : (h : Header) (y : List ℕ) → IsHeader h → x ≡ header_record h ++ y → length x < h.file_hdr_sz
       → Fails x (Truncated (length x)) []
   bad_chunk : (h : Header) (cs : List Chunk) (y : List ℕ) (f : SparseFault) (came : List ℕ) → Front x h cs y
-      → length cs < h.total_chunks
-      → ChunkFails h (length x) (length cs) (counted_in cs) y f came
+      → length cs < h.total_chunks → ChunkFails h (length x) (length cs) (counted_in cs) y f came
       → Fails x f (cells h.blk_sz (classed cs) ++ map (λ b. Some b) came)
   too_few : (h : Header) (cs : List Chunk) (y : List ℕ) → Front x h cs y → length cs ≡ h.total_chunks
-      → counted_in cs < h.total_blks
-      → Fails x (TooFewBlocks (counted_in cs)) (cells h.blk_sz (classed cs))
+      → counted_in cs < h.total_blks → Fails x (TooFewBlocks (counted_in cs)) (cells h.blk_sz (classed cs))
 
 -- the bytes have this outcome
 abbrev pub IsOutcome : List ℕ → Outcome → Type 0

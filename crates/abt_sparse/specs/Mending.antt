@@ -2,8 +2,7 @@
 use Rattle.std.specs.Prelude.{◌≡◌, ℕ, ◌*◌, ◌<◌, List, length, None, slice_index, slice_index_or}
 use Rattle.abt_sparse.specs.Block.{Block, cells, over}
 
--- q is p at each byte that the image does not write, and p under the image at those of its first so many blocks. What
--- else the image writes may be anything.
+-- q is p where the image writes nothing, and p under the image in its first blocks; what else it writes may be anything
 pub record Mendable (b : ℕ) (blocks : List Block) (p q : List ℕ) (first : ℕ) : Type 0 where
   pub long : length q ≡ length p
   pub outside : (i : ℕ) → i < length p → slice_index_or (cells b blocks) i None ≡ None

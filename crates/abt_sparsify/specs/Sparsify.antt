@@ -39,7 +39,8 @@ no_runs n = record { blocks = n; chunks = 0; bytes = 28 }
 -- with the chunks of a run more, of blocks of b bytes
 abbrev pub with_run : Written → Run → ℕ → ℕ → Written
 with_run a x b r = record {
-  blocks = a.blocks; chunks = a.chunks + chunks_in x.kind x.blocks r;
+  blocks = a.blocks;
+  chunks = a.chunks + chunks_in x.kind x.blocks r;
   bytes = a.bytes + (chunks_in x.kind x.blocks r * head_len x.kind + data_len x.kind x.blocks b);
 }
 
@@ -141,13 +142,21 @@ sparse_left n s = look_left (λ c. n - c.block) n n s.gatherer + s.bytes
 
 abbrev pub first_sparser : Cursor → Written → ℕ → Sparser
 first_sparser c a r = record {
-  most = r; gatherer = first_gatherer c; cutting = None; chunks = a.chunks; bytes = a.bytes - 28;
+  most = r;
+  gatherer = first_gatherer c;
+  cutting = None;
+  chunks = a.chunks;
+  bytes = a.bytes - 28;
 }
 
 -- with the front of a chunk written
 abbrev pub front_begun : Sparser → RunKind → Sparser
 front_begun s k = record {
-  most = s.most; gatherer = s.gatherer; cutting = s.cutting; chunks = s.chunks - 1; bytes = s.bytes - head_len k;
+  most = s.most;
+  gatherer = s.gatherer;
+  cutting = s.cutting;
+  chunks = s.chunks - 1;
+  bytes = s.bytes - head_len k;
 }
 
 -- what of a run is written as soon as it has ended: all of a fill, nothing of a raw one
@@ -164,9 +173,14 @@ run_head kinds.Skip = 12
 run_head kinds.End = 0
 
 abbrev pub raw_begun : Sparser → Run → Sparser
-raw_begun s x = record { most = s.most; gatherer = s.gatherer;
-        cutting = Some (record { here = x.here; blocks = 0; done = 0; left = x.blocks }); chunks = s.chunks; bytes =
-        s.bytes }
+raw_begun s x = record {
+  most = s.most;
+  gatherer = s.gatherer;
+  cutting = Some (record { here = x.here; blocks = 0; done = 0; left = x.blocks });
+  chunks = s.chunks;
+  bytes =
+      s.bytes;
+}
 
 abbrev pub begun_as : RunKind → Sparser → Run → Sparser
 begun_as kinds.Raw s x = raw_begun s x
@@ -182,12 +196,26 @@ abbrev pub next_blocks : Cutting → ℕ → ℕ
 next_blocks c r = min c.left r
 
 abbrev pub cut_on : Cutting → ℕ → Cutting
-cut_on c r = record { here = record { block = c.here.block + c.blocks; at = c.here.at; chunk = c.here.chunk;
-        used = c.here.used; ask = c.here.ask }; blocks = next_blocks c r; done = 0; left = c.left - next_blocks c r }
+cut_on c r = record {
+  here = record {
+    block = c.here.block + c.blocks;
+    at = c.here.at;
+    chunk = c.here.chunk;
+    used = c.here.used;
+    ask = c.here.ask;
+  };
+  blocks = next_blocks c r;
+  done = 0;
+  left = c.left - next_blocks c r;
+}
 
 abbrev pub chunk_opened : Sparser → Cutting → Sparser
 chunk_opened s c = record {
-  most = s.most; gatherer = s.gatherer; cutting = Some (cut_on c s.most); chunks = s.chunks - 1; bytes = s.bytes - 12;
+  most = s.most;
+  gatherer = s.gatherer;
+  cutting = Some (cut_on c s.most);
+  chunks = s.chunks - 1;
+  bytes = s.bytes - 12;
 }
 
 -- with n bytes more copied, of blocks of b bytes

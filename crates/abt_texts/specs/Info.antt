@@ -60,8 +60,8 @@ section_text p =
 abbrev pub fragment_text : ℕ → RamdiskEntry → List ℕ
 fragment_text i e = codes "fragment " ++ (decimal i ++ (codes " at " ++ (decimal e.ramdisk_offset
     ++ (codes " size "
-            ++ (decimal e.ramdisk_size
-            ++ (codes " type " ++ (decimal e.ramdisk_type ++ (codes " name " ++ quoted e.name))))))))
+    ++ (decimal e.ramdisk_size
+    ++ (codes " type " ++ (decimal e.ramdisk_type ++ (codes " name " ++ quoted e.name))))))))
 
 abbrev pub address_name : Address → List ℕ
 address_name addresses.Kernel = codes "kernel"

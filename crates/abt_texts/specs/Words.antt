@@ -65,7 +65,7 @@ escaped_in_name b = if b == 58 then codes "\\x3a" else info.escaped b
 abbrev pub fragment_option : ℕ → ℕ → List ℕ → List ℕ → List ℕ
 fragment_option i kind name folder = codes "--fragment=" ++ (decimal kind ++ (codes ":"
     ++ (flat_map escaped_in_name name
-            ++ (codes ":" ++ (flat_map info.escaped folder ++ (codes "/fragment." ++ decimal i))))))
+    ++ (codes ":" ++ (flat_map info.escaped folder ++ (codes "/fragment." ++ decimal i))))))
 
 abbrev pub board_option : ℕ → ℕ → ℕ → List ℕ
 board_option i k n = codes "--board-id=" ++ (decimal i ++ (codes ":" ++ (decimal k ++ (codes "=" ++ decimal n))))

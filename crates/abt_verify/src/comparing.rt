@@ -9,7 +9,7 @@ ghost use Rattle.abt_verify.specs.Standing.{Stands, from_place};
 use crate::alike::alike;
 use crate::fault::VerifyFault;
 use abt_chunks::Part;
-use abt_io::{Meter, Source, Window, gather_at, lay_word};
+use abt_io::{Meter, Source, Window, lay_word, read_full_at};
 
 /// How many bytes of the window are the image's, from its front, and how many behind them the partition's.
 pub(crate) const HALF: usize = 32_768;
@@ -55,7 +55,7 @@ pub(crate) fn compare_at<P: Source>(
     ensures greatest { m.new.greatest.number ≡ m.old.greatest.number }
 {
     w.is_whole();
-    let got = gather_at(partition, at, w.part_mut(HALF, HALF + n), m);
+    let got = read_full_at(partition, at, w.part_mut(HALF, HALF + n), m);
     let received = got.count as u32;
     match got.fault {
         Some(fault) => {

@@ -14,7 +14,7 @@ use crate::fault::VerifyFault;
 use crate::stage::Stage;
 use crate::verifier::stage_behind;
 use abt_chunks::Progress;
-use abt_io::{Gathered, Meter, Source, Window, gather_at};
+use abt_io::{FullRead, Meter, Source, Window, read_full_at};
 
 /// Compares the bytes of a raw image with what stands at their places on a partition. It holds no bytes: each step
 /// compares what it read.
@@ -29,7 +29,7 @@ pub struct RawVerifier {
 }
 
 /// Why fewer bytes came than were asked for, if fewer came.
-fn fault_of(got: Gathered, n: usize) -> Option<VerifyFault>
+fn fault_of(got: FullRead, n: usize) -> Option<VerifyFault>
     ensures { result ≡ short_fault got.fault got.count n }
 {
     match got.fault {
@@ -84,7 +84,7 @@ fn compare_piece<S: Source, P: Source>(
     ensures greatest { m.new.greatest.number ≡ m.old.greatest.number }
 {
     w.is_whole();
-    let got = gather_at(source, at, w.part_mut(0, n), m);
+    let got = read_full_at(source, at, w.part_mut(0, n), m);
     match fault_of(got, n) {
         Some(fault) => Compared {
             received: got.count as u32,

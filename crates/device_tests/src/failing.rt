@@ -74,7 +74,7 @@ fn each_read_of_an_input_fails_and_what_came_before_stands(rt: HostRuntime) {
         let mut m = Meter::new();
         let input = Forward::new(SliceSource::new(b"abcd"));
         let mut input = Faulty::new(Cut::new(input, 2), n);
-        let found = gather(&mut input, &mut out, &mut m);
+        let found = read_full(&mut input, &mut out, &mut m);
         assert!(rt; found.count as u64 == (2 * (n - 1)).min(4), "call {n}");
         assert!(rt;
             found.fault == (if n == 3 { None } else { fault_at(n, n) }),

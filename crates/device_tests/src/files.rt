@@ -22,12 +22,12 @@ fn a_file_is_read_at_any_place(rt: HostRuntime) -> Result<(), Fail> {
         .ok()
         .ok_or("no length")?;
     assert!(rt; length_of(&source) == 6);
-    assert!(rt; gather_at(&mut source, 2, &mut out, &mut m).count == 4);
+    assert!(rt; read_full_at(&mut source, 2, &mut out, &mut m).count == 4);
     assert!(rt; out.as_slice() == b"cdef".as_slice());
-    assert!(rt; gather_at(&mut source, 5, &mut out, &mut m).count == 1);
+    assert!(rt; read_full_at(&mut source, 5, &mut out, &mut m).count == 1);
     let mut nothing = FileSource::empty();
     assert!(rt; length_of(&nothing) == 0);
-    assert!(rt; gather_at(&mut nothing, 0, &mut out, &mut m).count == 0);
+    assert!(rt; read_full_at(&mut nothing, 0, &mut out, &mut m).count == 0);
     fs::remove_file(&rt, "source.tmp")?;
     Ok(())
 }
@@ -63,7 +63,7 @@ fn a_spool_file_holds_its_capacity_and_is_emptied(rt: HostRuntime) -> Result<(),
         assert!(rt; spool_calls(&mut spool, b"abcdef", &mut out) == (None, None, None));
         assert!(rt; out.as_slice() == b"abcd\0\0".as_slice());
         assert!(rt; write_out(&mut spool, b"e", &mut m) == Err(DeviceFault::Full));
-        assert!(rt; gather(&mut spool, &mut out, &mut m).count == 0);
+        assert!(rt; read_full(&mut spool, &mut out, &mut m).count == 0);
         assert!(rt; spool_calls(&mut spool, b"xyz", &mut out) == (None, None, None));
         assert!(rt; out.as_slice() == b"xyzd\0\0".as_slice());
     }
@@ -81,7 +81,7 @@ fn a_file_is_read_forward_and_written_into_another(rt: HostRuntime) -> Result<()
     {
         let mut input = FromRead::new(File::open(&rt, "from.tmp")?);
         let mut output = ToWrite::new(fresh(&rt, "to.tmp")?);
-        let found = gather(&mut input, &mut held, &mut m);
+        let found = read_full(&mut input, &mut held, &mut m);
         assert!(rt; (found.count, found.fault) == (6, None));
         assert!(rt; write_out(&mut output, &held[..6], &mut m) == Ok(()));
     }

@@ -11,7 +11,7 @@ fn gathering_and_writing_move_as_much_as_was_asked(rt: HostRuntime) {
     let mut room = [0u8; 8];
     let mut m = Meter::new();
     let mut forward = Cut::new(Forward::new(SliceSource::new(b"abcdefgh")), 3);
-    assert!(rt; gather(&mut forward, &mut held, &mut m).count == 7);
+    assert!(rt; read_full(&mut forward, &mut held, &mut m).count == 7);
     assert!(rt; forward.device.position() == 7);
     {
         let mut output = Cut::new(SliceOutput::new(&mut room), 2);
@@ -70,11 +70,11 @@ fn gathering_reads_again_until_all_came_or_a_call_fails(rt: HostRuntime) {
     let mut out = [0u8; 4];
     let mut m = Meter::new();
     let mut source = Cut::new(SliceSource::new(b"abcdef"), 3);
-    assert!(rt; gather_at(&mut source, 1, &mut out, &mut m).count == 4);
+    assert!(rt; read_full_at(&mut source, 1, &mut out, &mut m).count == 4);
     assert!(rt; out.as_slice() == b"bcde".as_slice());
-    assert!(rt; gather_at(&mut source, 4, &mut out, &mut m).count == 2);
+    assert!(rt; read_full_at(&mut source, 4, &mut out, &mut m).count == 2);
     let mut input = Faulty::new(Cut::new(Forward::new(SliceSource::new(b"abcdef")), 3), 2);
-    let found = gather(&mut input, &mut out, &mut m);
+    let found = read_full(&mut input, &mut out, &mut m);
     assert!(rt; found.count == 3);
     assert!(rt; found.fault == Some(DeviceFault::Failed));
 }
@@ -112,10 +112,10 @@ fn a_spool_gives_back_what_it_took_and_is_emptied(rt: HostRuntime) {
     let mut spool = Cut::new(SliceSpool::new(&mut room), 3);
     assert!(rt; capacity_of(&spool) == 4);
     assert!(rt; write_out(&mut spool, b"abcdef", &mut m) == Err(DeviceFault::Full));
-    assert!(rt; gather(&mut spool, &mut out, &mut m).count == 4);
+    assert!(rt; read_full(&mut spool, &mut out, &mut m).count == 4);
     assert!(rt; out.as_slice() == b"abcd\0\0".as_slice());
     assert!(rt; spool_calls(&mut spool, b"xyz", &mut out) == (None, None, None));
-    assert!(rt; gather(&mut spool, &mut out[3..], &mut m).count == 0);
+    assert!(rt; read_full(&mut spool, &mut out[3..], &mut m).count == 0);
     assert!(rt; out.as_slice() == b"xyzd\0\0".as_slice());
 }
 
@@ -125,7 +125,7 @@ fn a_source_claims_more_than_it_has(rt: HostRuntime) {
     let mut m = Meter::new();
     let mut long = Long::new(SliceSource::new(b"abc"), 1 << 32);
     assert!(rt; length_of(&long) == 1 << 32);
-    assert!(rt; gather_at(&mut long, 0, &mut out, &mut m).count == 3);
+    assert!(rt; read_full_at(&mut long, 0, &mut out, &mut m).count == 3);
 }
 
 #[test]
@@ -135,8 +135,8 @@ fn a_source_is_another_after_some_calls(rt: HostRuntime) {
     let mut source = SwitchSource::new(b"abc", b"wxyz", 2);
     assert!(rt; length_of(&source) == 3);
     // Three bytes, and then the end.
-    assert!(rt; gather_at(&mut source, 0, &mut out, &mut m).count == 3);
+    assert!(rt; read_full_at(&mut source, 0, &mut out, &mut m).count == 3);
     assert!(rt; length_of(&source) == 4);
-    assert!(rt; gather_at(&mut source, 0, &mut out, &mut m).count == 4);
+    assert!(rt; read_full_at(&mut source, 0, &mut out, &mut m).count == 4);
     assert!(rt; out.as_slice() == b"wxyz".as_slice());
 }

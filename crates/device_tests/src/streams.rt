@@ -60,7 +60,7 @@ fn interrupted_calls_are_made_again(rt: HostRuntime) {
     let mut m = Meter::new();
     let bytes = b"abcd".as_slice();
     let mut input = FromRead::new(Halting::new(bytes, io::ErrorKind::Interrupted, 4));
-    assert!(rt; gather(&mut input, &mut out, &mut m).count == 4);
+    assert!(rt; read_full(&mut input, &mut out, &mut m).count == 4);
     assert!(rt; out.as_slice() == bytes);
     {
         let writer = Halting::new(room.as_mut_slice(), io::ErrorKind::Interrupted, 3);
@@ -76,8 +76,8 @@ fn a_failing_reader_or_writer_is_answered_once(rt: HostRuntime) {
     let mut m = Meter::new();
     let failed = DeviceFault::Failed;
     let mut input = FromRead::new(Halting::new(b"abcd".as_slice(), io::ErrorKind::BrokenPipe, 4));
-    assert!(rt; gather(&mut input, &mut out, &mut m).fault == Some(failed));
-    assert!(rt; gather(&mut input, &mut out, &mut m).count == 4);
+    assert!(rt; read_full(&mut input, &mut out, &mut m).fault == Some(failed));
+    assert!(rt; read_full(&mut input, &mut out, &mut m).count == 4);
     {
         let writer = Halting::new(room.as_mut_slice(), io::ErrorKind::BrokenPipe, 4);
         assert!(rt; write_out(&mut ToWrite::new(writer), b"a", &mut m) == Err(failed));

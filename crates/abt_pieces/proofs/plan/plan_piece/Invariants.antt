@@ -1,5 +1,5 @@
 use Rattle.std.proofs.Common.{◌≡◌, ◌≤◌, ◌<◌, ◌+◌, ◌-◌, ◌⊎◌, ◌*◌, max}
-use Rattle.abt_pieces.specs.declared.tail.Tail.TheVariants as tails
+use Rattle.abt_pieces.specs.declared.segment_tail.Tail.TheVariants as tails
 use Rattle.std.specs.Prelude.{IsTrue}
 use Rattle.abt_pieces.specs.Plan.{Planned, Even, last_words}
 use Rattle.abt_pieces.proofs.plan.plan_piece.Given as goal

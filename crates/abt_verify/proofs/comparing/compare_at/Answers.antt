@@ -7,12 +7,12 @@ pub returns-then-same-n-clause-differs : goal.returns-then-same-n-clause-differs
 returns-then-same-n-clause-differs g c tells =
     let w = c.args.w.now.bytes in
     let n = c.args.n in
-    let o = c.gather_at-got.ensures in
-    let out = c.gather_at-got.new.out in
-    let count = c.gather_at-got.result.count in
+    let o = c.read_full_at-got.ensures in
+    let out = c.read_full_at-got.new.out in
+    let count = c.read_full_at-got.result.count in
     let p = g.P.Source.content c.args.partition.now in
     let whole = c.is_whole.ensures in
-    let asked : length out ≡ n = let v = c.part_mut.ensures.long in let a = c.gather_at-got.auto.out in omega arith in
+    let asked : length out ≡ n = let v = c.part_mut.ensures.long in let a = c.read_full_at-got.auto.out in omega arith in
     let image : c.part.result.now ≡ take n w = c.part.ensures.value ∙ first_half n 32768 w out (drop (32768 + n) w) c.requires.half (omega arith) in
     let there : c.part-2.result.now ≡ take count (drop c.args.at p) = c.part-2.ensures.value ∙ second_half count 32768 w out (drop (32768 + n) w) o.within (omega arith) ∙ o.bytes tells in
     let long : length (take n w) ≡ n = length-take-le n w (omega arith) in
@@ -24,9 +24,9 @@ pub returns-clause-stands : goal.returns-clause-stands
 returns-clause-stands g c tells =
     let w = c.args.w.now.bytes in
     let n = c.args.n in
-    let o = c.gather_at-got.ensures in
-    let out = c.gather_at-got.new.out in
-    let count = c.gather_at-got.result.count in
+    let o = c.read_full_at-got.ensures in
+    let out = c.read_full_at-got.new.out in
+    let count = c.read_full_at-got.result.count in
     let p = g.P.Source.content c.args.partition.now in
     let whole = c.is_whole.ensures in
     let image : c.part.result.now ≡ take n w = c.part.ensures.value ∙ first_half n 32768 w out (drop (32768 + n) w) c.requires.half (omega arith) in

@@ -11,11 +11,11 @@ returns-in-None-clause-stands g c tells there =
     let n = c.args.n in
     let w = c.args.w.now.bytes in
     let x = drop c.args.at (g.S.Source.content c.args.source.now) in
-    let o = c.gather_at-got.ensures in
-    let out = c.gather_at-got.new.out in
-    let count = c.gather_at-got.result.count in
-    let asked : length out ≡ n = let v = c.part_mut.ensures.long in let a = c.gather_at-got.auto.out in omega arith in
-    let full : n ≡ count = let q = all_came c.gather_at-got.result.fault count n c.in-None.ensures in omega (arith, q, asked, o.within) in
+    let o = c.read_full_at-got.ensures in
+    let out = c.read_full_at-got.new.out in
+    let count = c.read_full_at-got.result.count in
+    let asked : length out ≡ n = let v = c.part_mut.ensures.long in let a = c.read_full_at-got.auto.out in omega arith in
+    let full : n ≡ count = let q = all_came c.read_full_at-got.result.fault count n c.in-None.ensures in omega (arith, q, asked, o.within) in
     let same : take n (out ++ drop n w) ≡ take n x =
     take-append-le n out (drop n w) (omega (arith, asked)) ∙ ap (λ (k : ℕ). take k out) full ∙ o.bytes tells ∙ ap (λ (k : ℕ). take k x) (sym full) in
     subst (λ (l : List ℕ). IfNone c.compare_at-done.result.fault (Stands (g.P.Source.content c.args.partition.now) (from_place c.args.at (somes l)))) same (c.compare_at-done.ensures.stands there)

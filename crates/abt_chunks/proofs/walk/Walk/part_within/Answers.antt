@@ -15,12 +15,12 @@ returns-clause-says g c tells t e = elim c.match-got.branch [
   | in-Some w ↦ rw (w.part-is, w.fail-part.ensures.part) tt
   | in-None w ↦
       let h = w.take-part.ensures in
-      let o = c.gather-got.ensures in
-      let n = c.gather-got.result.count in
+      let o = c.read_full-got.ensures in
+      let n = c.read_full-got.result.count in
       let rem = g.I.Input.remaining c.args.input.now in
-      let got_is : w.part.result.now ≡ take n rem = w.part.ensures.value ∙ ap (λ (j : ℕ). take j (c.gather-got.new.out ++ drop c.min-ask.result c.args.w.now.bytes)) (let z : n - 0 ≡ n = omega arith in z) ∙ take-append-le n c.gather-got.new.out (drop c.min-ask.result c.args.w.now.bytes) o.within ∙ o.bytes tells in
-      let all : n ≡ min (length c.gather-got.new.out) (length rem) = o.all tells (rw w.in-None.is refl) in
-      let asked : length c.gather-got.new.out ≡ min (ask_of c.turn-turn.result c.args.self.now) c.args.most = let a = c.gather-got.auto.out in let v = ap length c.part_mut.ensures.value in omega (arith, a, v, c.ask-wish.ensures.value, c.ask-wish.ensures.room, c.min-ask.ensures, length-take (c.min-ask.result - 0) (drop 0 c.args.w.now.bytes), length-drop 0 c.args.w.now.bytes, c.is_whole.ensures) in
+      let got_is : w.part.result.now ≡ take n rem = w.part.ensures.value ∙ ap (λ (j : ℕ). take j (c.read_full-got.new.out ++ drop c.min-ask.result c.args.w.now.bytes)) (let z : n - 0 ≡ n = omega arith in z) ∙ take-append-le n c.read_full-got.new.out (drop c.min-ask.result c.args.w.now.bytes) o.within ∙ o.bytes tells in
+      let all : n ≡ min (length c.read_full-got.new.out) (length rem) = o.all tells (rw w.in-None.is refl) in
+      let asked : length c.read_full-got.new.out ≡ min (ask_of c.turn-turn.result c.args.self.now) c.args.most = let a = c.read_full-got.auto.out in let v = ap length c.part_mut.ensures.value in omega (arith, a, v, c.ask-wish.ensures.value, c.ask-wish.ensures.room, c.min-ask.ensures, length-take (c.min-ask.result - 0) (drop 0 c.args.w.now.bytes), length-drop 0 c.args.w.now.bytes, c.is_whole.ensures) in
       let ended = λ (k : length w.part.result.now < needed_of c.turn-turn.result).
       let short : length rem ≤ n = omega (arith, all, asked, needed_room c.turn-turn.result, needed_asked c.turn-turn.result c.args.self.now c.turn-turn.ensures, ap length got_is, length-take n rem, o.present tells) in
       e (rw w.part-is (h.short k)) ∙ o.rest tells ∙ drop_all n rem short in
@@ -33,12 +33,12 @@ returns-clause-lists g c tells t e = elim c.match-got.branch [
   | in-Some w ↦ rw (w.part-is, w.fail-part.ensures.part) tt
   | in-None w ↦
       let h = w.take-part.ensures in
-      let o = c.gather-got.ensures in
-      let n = c.gather-got.result.count in
+      let o = c.read_full-got.ensures in
+      let n = c.read_full-got.result.count in
       let rem = g.I.Input.remaining c.args.input.now in
-      let got_is : w.part.result.now ≡ take n rem = w.part.ensures.value ∙ ap (λ (j : ℕ). take j (c.gather-got.new.out ++ drop c.min-ask.result c.args.w.now.bytes)) (let z : n - 0 ≡ n = omega arith in z) ∙ take-append-le n c.gather-got.new.out (drop c.min-ask.result c.args.w.now.bytes) o.within ∙ o.bytes tells in
-      let all : n ≡ min (length c.gather-got.new.out) (length rem) = o.all tells (rw w.in-None.is refl) in
-      let asked : length c.gather-got.new.out ≡ min (ask_of c.turn-turn.result c.args.self.now) c.args.most = let a = c.gather-got.auto.out in let v = ap length c.part_mut.ensures.value in omega (arith, a, v, c.ask-wish.ensures.value, c.ask-wish.ensures.room, c.min-ask.ensures, length-take (c.min-ask.result - 0) (drop 0 c.args.w.now.bytes), length-drop 0 c.args.w.now.bytes, c.is_whole.ensures) in
+      let got_is : w.part.result.now ≡ take n rem = w.part.ensures.value ∙ ap (λ (j : ℕ). take j (c.read_full-got.new.out ++ drop c.min-ask.result c.args.w.now.bytes)) (let z : n - 0 ≡ n = omega arith in z) ∙ take-append-le n c.read_full-got.new.out (drop c.min-ask.result c.args.w.now.bytes) o.within ∙ o.bytes tells in
+      let all : n ≡ min (length c.read_full-got.new.out) (length rem) = o.all tells (rw w.in-None.is refl) in
+      let asked : length c.read_full-got.new.out ≡ min (ask_of c.turn-turn.result c.args.self.now) c.args.most = let a = c.read_full-got.auto.out in let v = ap length c.part_mut.ensures.value in omega (arith, a, v, c.ask-wish.ensures.value, c.ask-wish.ensures.room, c.min-ask.ensures, length-take (c.min-ask.result - 0) (drop 0 c.args.w.now.bytes), length-drop 0 c.args.w.now.bytes, c.is_whole.ensures) in
       let ended = λ (k : length w.part.result.now < needed_of c.turn-turn.result).
       let short : length rem ≤ n = omega (arith, all, asked, needed_room c.turn-turn.result, needed_asked c.turn-turn.result c.args.self.now c.turn-turn.ensures, ap length got_is, length-take n rem, o.present tells) in
       e (rw w.part-is (h.short k)) ∙ o.rest tells ∙ drop_all n rem short in
@@ -49,12 +49,12 @@ returns-clause-lists g c tells t e = elim c.match-got.branch [
 pub returns-clause-clean : goal.returns-clause-clean
 returns-clause-clean g c = elim c.match-got.branch [
   | in-Some w ↦ rw (w.part-is, w.fail-part.ensures.part) tt
-  | in-None w ↦ rw w.part-is (clean_part w.take-part.result (g.I.Input.read_faults c.args.input.now) (g.I.Input.read_faults c.gather-got.new.input) (c.gather-got.ensures.clean (rw w.in-None.is refl)))
+  | in-None w ↦ rw w.part-is (clean_part w.take-part.result (g.I.Input.read_faults c.args.input.now) (g.I.Input.read_faults c.read_full-got.new.input) (c.read_full-got.ensures.clean (rw w.in-None.is refl)))
 ]
 
 pub returns-clause-failed : goal.returns-clause-failed
 returns-clause-failed g c going = elim c.match-got.branch [
-  | in-Some w ↦ rw (w.part-is, w.fail-part.ensures.part) (ap full_in (rw w.in-Some.is at c.gather-got.ensures.failed))
+  | in-Some w ↦ rw (w.part-is, w.fail-part.ensures.part) (ap full_in (rw w.in-Some.is at c.read_full-got.ensures.failed))
   | in-None w ↦ rw w.part-is (own_part w.take-part.result c.args.self.now.phase going w.take-part.ensures.cause)
 ]
 
@@ -66,6 +66,6 @@ returns-clause-closes g c = elim c.match-got.branch [
 
 pub returns-clause-wanted : goal.returns-clause-wanted
 returns-clause-wanted g c =
-    let n = c.gather-got.result.count in
-    let asked : length c.gather-got.new.out ≡ min (ask_of c.turn-turn.result c.args.self.now) c.args.most = let a = c.gather-got.auto.out in let v = ap length c.part_mut.ensures.value in omega (arith, a, v, c.ask-wish.ensures.value, c.ask-wish.ensures.room, c.min-ask.ensures, length-take (c.min-ask.result - 0) (drop 0 c.args.w.now.bytes), length-drop 0 c.args.w.now.bytes, c.is_whole.ensures) in
-    omega (arith, asked, c.gather-got.ensures.within, asked_wanted c.turn-turn.result c.args.self.now c.turn-turn.ensures)
+    let n = c.read_full-got.result.count in
+    let asked : length c.read_full-got.new.out ≡ min (ask_of c.turn-turn.result c.args.self.now) c.args.most = let a = c.read_full-got.auto.out in let v = ap length c.part_mut.ensures.value in omega (arith, a, v, c.ask-wish.ensures.value, c.ask-wish.ensures.room, c.min-ask.ensures, length-take (c.min-ask.result - 0) (drop 0 c.args.w.now.bytes), length-drop 0 c.args.w.now.bytes, c.is_whole.ensures) in
+    omega (arith, asked, c.read_full-got.ensures.within, asked_wanted c.turn-turn.result c.args.self.now c.turn-turn.ensures)

@@ -2,7 +2,7 @@ use Rattle.std.proofs.Common.{arith, ap, ◌∙◌, sym, length, drop, List, ℕ
 use Rattle.std.proofs.lemmas.List.{drop-drop}
 use Rattle.abt_io.proofs.Parts.{length_rest}
 use Rattle.abt_io.proofs.Filled.{length_filled, filled}
-use Rattle.abt_io.proofs.gathering.gather_at.Goals as goal
+use Rattle.abt_io.proofs.full_reads.read_full_at.Goals as goal
 
 pub loop-done-preserved : goal.loop-done-preserved
 loop-done-preserved g c =

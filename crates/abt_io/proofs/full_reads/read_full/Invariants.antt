@@ -1,6 +1,6 @@
 use Rattle.std.proofs.Common.{length, ◌-◌, ◌≡◌, ◌≤◌, ◌+◌, take, drop}
 use Rattle.std.specs.Prelude.{IsTrue}
-use Rattle.abt_io.proofs.gathering.gather.Given as goal
+use Rattle.abt_io.proofs.full_reads.read_full.Given as goal
 
 abbrev pub invariant-loop-at : goal.invariant-loop-at
 invariant-loop-at g l =

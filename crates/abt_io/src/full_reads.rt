@@ -6,7 +6,7 @@ use crate::{DeviceFault, Input, Meter, Source};
 
 /// How many bytes came, and the fault that the device answered behind them, if there was one.
 #[derive(Clone, Copy, Debug, PartialEq, Eq, Drop)]
-pub struct Gathered {
+pub struct FullRead {
     /// Bytes that came, from the front of the ask on.
     pub count: usize,
     /// `None` where the ask was filled or the device had no more.
@@ -14,7 +14,7 @@ pub struct Gathered {
 }
 
 /// Reads until `out` is full, the input has ended or it fails. An empty `out` asks for nothing.
-pub fn gather<I: Input>(input: &mut I, out: &mut [u8], m: &mut Meter) -> Gathered
+pub fn read_full<I: Input>(input: &mut I, out: &mut [u8], m: &mut Meter) -> FullRead
     requires { length out.old ≤ 65536 }
     ensures within { result.count ≤ length out.new }
     ensures given { I.given input.new ≡ I.given input.old + result.count }
@@ -40,7 +40,7 @@ pub fn gather<I: Input>(input: &mut I, out: &mut [u8], m: &mut Meter) -> Gathere
         match input.read(&mut out[at..]) {
             Ok(n) => {
                 if n == 0 {
-                    return Gathered {
+                    return FullRead {
                         count: at,
                         fault: None,
                     };
@@ -48,14 +48,14 @@ pub fn gather<I: Input>(input: &mut I, out: &mut [u8], m: &mut Meter) -> Gathere
                 at += n;
             }
             Err(fault) => {
-                return Gathered {
+                return FullRead {
                     count: at,
                     fault: Some(fault),
                 };
             }
         }
     }
-    Gathered {
+    FullRead {
         count: at,
         fault: None,
     }
@@ -63,7 +63,7 @@ pub fn gather<I: Input>(input: &mut I, out: &mut [u8], m: &mut Meter) -> Gathere
 
 /// Reads the bytes from a place on, until `out` is full, the source has ended or it fails. An
 /// empty `out` asks for nothing.
-pub fn gather_at<S: Source>(source: &mut S, at: u64, out: &mut [u8], m: &mut Meter) -> Gathered
+pub fn read_full_at<S: Source>(source: &mut S, at: u64, out: &mut [u8], m: &mut Meter) -> FullRead
     requires window { length out.old ≤ 65536 }
     requires below { at + length out.old < 2 ^ 64 }
     ensures within { result.count ≤ length out.new }
@@ -91,7 +91,7 @@ pub fn gather_at<S: Source>(source: &mut S, at: u64, out: &mut [u8], m: &mut Met
         match source.read_at(at + done as u64, &mut out[done..]) {
             Ok(got) => {
                 if got == 0 {
-                    return Gathered {
+                    return FullRead {
                         count: done,
                         fault: None,
                     };
@@ -99,14 +99,14 @@ pub fn gather_at<S: Source>(source: &mut S, at: u64, out: &mut [u8], m: &mut Met
                 done += got;
             }
             Err(fault) => {
-                return Gathered {
+                return FullRead {
                     count: done,
                     fault: Some(fault),
                 };
             }
         }
     }
-    Gathered {
+    FullRead {
         count: done,
         fault: None,
     }

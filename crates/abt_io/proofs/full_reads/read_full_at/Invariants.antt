@@ -1,6 +1,6 @@
 use Rattle.std.proofs.Common.{length, ◌-◌, ◌≡◌, ◌≤◌, ◌+◌, take, drop}
 use Rattle.std.specs.Prelude.{IsTrue}
-use Rattle.abt_io.proofs.gathering.gather_at.Given as goal
+use Rattle.abt_io.proofs.full_reads.read_full_at.Given as goal
 
 abbrev pub invariant-loop-done : goal.invariant-loop-done
 invariant-loop-done g l =

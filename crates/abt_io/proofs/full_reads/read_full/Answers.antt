@@ -1,7 +1,7 @@
 use Rattle.std.proofs.Common.{arith, ap, ◌∙◌, length, length-drop}
 use Rattle.abt_io.proofs.Parts.{length_rest, rest_more}
 use Rattle.abt_io.proofs.Filled.{length_filled, filled}
-use Rattle.abt_io.proofs.gathering.gather.Goals as goal
+use Rattle.abt_io.proofs.full_reads.read_full.Goals as goal
 
 pub loop-at-preserved : goal.loop-at-preserved
 loop-at-preserved g c =
