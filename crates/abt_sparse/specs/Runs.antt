@@ -68,8 +68,7 @@ abbrev pub without_first : List (List Block) → List (List Block)
 without_first [] = []
 without_first (g ∷ gs) = if begins_skip g then gs else g ∷ gs
 
--- The weight of a segment: the header of 28 bytes, a chunk of 12 bytes before it and one behind it, which may turn
--- out not to be needed, and the runs between. A run of skipped blocks at either end is part of an outer chunk.
+-- the weight of a segment: a header of 28 bytes, 12 for a chunk of Skip before it and behind it, the runs between
 abbrev pub weight : ℕ → List Block → ℕ
 weight b segment = 52 + sum_by (run_weight b) (without_last (without_first (runs segment)))
 
