@@ -9,8 +9,9 @@ which is moved there and back. What stands in `out` afterwards is what `rt lib` 
 since, neither they nor this script prove anything again.
 
 A crate is begun when all below it are built. The one with the most behind it gets every processor, since all the rest waits
-for it; what can be proved beside it has a job each, half as many in all, and a lower priority, and fills the gaps. --jobs says
-how many processors there are to use, --memory how many MiB one job is reckoned to take.
+for it. What can be proved beside it has as many jobs in all, at a lower priority, and fills the gaps: that it isn't slowed by
+them is worth more than the memory. --jobs says how many processors there are to use, --memory how many MiB one job is
+reckoned to take.
 """
 import argparse
 import fcntl
@@ -183,8 +184,7 @@ def jobs_for(running, ready, is_first, words, lanes):
     if is_first:
         idle = lanes
     else:
-        beside = lanes // 2 if any(it.is_first for it in running) else lanes
-        idle = beside - sum(it.jobs for it in running if not it.is_first)
+        idle = lanes - sum(it.jobs for it in running if not it.is_first)
     free = free_memory()
     if free is not None:
         # What has just begun has not taken its memory yet.

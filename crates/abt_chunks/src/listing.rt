@@ -1,6 +1,6 @@
 //! The chunks of a sparse image, one after the other.
 
-ghost use Rattle.std.specs.Prelude.{◌≡◌, ◌<◌, ◌≤◌, ◌+◌, ◌-◌, ◌*◌, IsTrue, IfErr, MatchResult, OnOk, true, false};
+ghost use Rattle.std.specs.Prelude.{◌≡◌, ◌<◌, ◌≤◌, ◌+◌, ◌-◌, ◌*◌, IsTrue, IfErr, IfOk, MatchResult, OnOk, true, false};
 ghost use Rattle.std.specs.Prelude.{length, drop, max};
 ghost use Rattle.abt_sparse.specs.Cause.{full_answered};
 ghost use Rattle.abt_chunks.specs.Cause.{Clean, UnlessCut, wanted};
@@ -122,6 +122,7 @@ impl Chunks {
         ensures opens { IsTrue I.tells → MatchResult result (λ chunks. Opens chunks.walk (I.remaining input.old)
             (I.remaining input.new)) (λ fault. UnlessDevice fault
             (listing_of (I.remaining input.old) ≡ headless fault)) }
+        ensures going { IfOk result (λ chunks. IsGoing chunks.walk.phase) }
         // A header that is refused for what it says is known once its 28 bytes have been read, and no more are.
         ensures bounded { IfErr result (λ f. UnlessCut f (I.given input.new ≤ I.given input.old + 28)) }
         ensures cause { Rises result (I.read_faults input.old) (I.read_faults input.new) 0 0 }

@@ -28,8 +28,7 @@ pub fn report_list<I: Input, O: Output>(
         (λ text. O.written out.new ≡ O.written out.old ++ text)) }
     ensures begun { IsTrue I.tells →
         Begins (O.written out.old) (O.written out.new) (listing_text (listing_of (I.remaining input.old))) }
-    ensures failed { IsTrue I.tells →
-        IfErr result (λ f. WriteTold f (O.write_faults out.old) (O.write_faults out.new)) }
+    ensures failed { IfErr result (λ f. WriteTold f (O.write_faults out.old) (O.write_faults out.new)) }
     ensures clean { OnOk result (O.write_faults out.new ≡ O.write_faults out.old) }
 {
     let mut text = Text::new(out);
@@ -52,7 +51,7 @@ fn lines<I: Input, O: Output>(
     ensures begun { IsTrue I.tells →
         PrintsFront O.written O.write_faults text.old text.new (listing_text (listing_of (I.remaining input.old))) }
     ensures prints { (done : List ℕ) × Prints O.written O.write_faults text.old text.new done }
-    ensures told { IsTrue I.tells → IfErr result (λ f. IsWrite f → IsSome text.new.fault) }
+    ensures told { IfErr result (λ f. IsWrite f → IsSome text.new.fault) }
 {
     let mut chunks = match Chunks::open(input, w, m) {
         Ok(chunks) => chunks,
