@@ -120,6 +120,9 @@ fn each_read_of_each_part_fails_and_no_image_stands(rt: HostRuntime) {
             assert!(rt; fault == Some(SectionFault::Read(DeviceFault::Failed)));
             assert!(rt; had == n);
         }
+        let (fault, had) = packing_fails(&rt, failing, calls.saturating_add(1), &whole);
+        assert!(rt; fault.is_none());
+        assert!(rt; had == calls);
     }
 }
 

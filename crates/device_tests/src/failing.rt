@@ -64,6 +64,7 @@ fn each_read_of_a_source_fails_and_what_came_before_stands(rt: HostRuntime) {
             output.written().len() as u64 == (2 * (n - 1)).min(4),
             "call {n}"
         );
+        assert!(rt; source.seen == n.min(2));
     }
 }
 

@@ -243,7 +243,8 @@ fn each_call_of_the_partition_fails_and_no_other_byte_is_touched(rt: HostRuntime
         assert!(rt; calls == 5);
         for n in 1..7 {
             let mut room = [255u8; 16];
-            let (answer, _) = stopped(n, pick, &mut room);
+            let (answer, had) = stopped(n, pick, &mut room);
+            assert!(rt; had == n.min(calls));
             if n == 6 {
                 assert!(rt; answer == DONE_A);
                 assert!(rt; holds(&room, 8));

@@ -253,6 +253,9 @@ fn each_read_fails_and_no_image_stands(rt: HostRuntime) -> Result<(), Fail> {
         assert!(rt; answer == Err(PieceFault::Read(DeviceFault::Failed)));
         assert!(rt; had == n);
     }
+    let (answer, had, _) = failing(&rt, 7, reads.saturating_add(1), 0)?;
+    assert!(rt; answer.is_ok());
+    assert!(rt; had == reads);
     Ok(())
 }
 
@@ -269,6 +272,9 @@ fn each_write_fails_and_no_image_stands(rt: HostRuntime) -> Result<(), Fail> {
             assert!(rt; answer == Err(PieceFault::Write(DeviceFault::Failed)));
             assert!(rt; had == n);
         }
+        let (answer, _, had) = failing(&rt, most, 0, writes.saturating_add(1))?;
+        assert!(rt; answer.is_ok());
+        assert!(rt; had == writes);
     }
     Ok(())
 }

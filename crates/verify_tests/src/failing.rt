@@ -39,6 +39,9 @@ fn each_failed_read_of_the_image_is_told(rt: HostRuntime) {
         assert!(rt; answer == Err(VerifyFault::Read(DeviceFault::Failed)));
         assert!(rt; seen == k + 1);
     }
+    let (answer, seen, _) = verified(image.saturating_add(1), 0);
+    assert!(rt; answer == Ok(Verified { blocks: 3 }));
+    assert!(rt; seen == image);
 }
 
 #[test]
@@ -49,6 +52,9 @@ fn each_failed_read_of_the_partition_is_told(rt: HostRuntime) {
         assert!(rt; answer == Err(VerifyFault::PartitionRead(DeviceFault::Failed)));
         assert!(rt; seen == k + 1);
     }
+    let (answer, _, seen) = verified(0, partition.saturating_add(1));
+    assert!(rt; answer == Ok(Verified { blocks: 3 }));
+    assert!(rt; seen == partition);
 }
 
 #[test]
@@ -65,4 +71,8 @@ fn each_failed_read_of_a_raw_image_is_told(rt: HostRuntime) {
         assert!(rt; answer == Err(VerifyFault::PartitionRead(DeviceFault::Failed)));
         assert!(rt; seen == k + 1);
     }
+    let (answer, had_image, had_partition) =
+        raw_verified(image.saturating_add(1), partition.saturating_add(1));
+    assert!(rt; answer == Ok(Verified { blocks: 5 }));
+    assert!(rt; (had_image, had_partition) == (image, partition));
 }
