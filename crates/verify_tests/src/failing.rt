@@ -71,8 +71,10 @@ fn each_failed_read_of_a_raw_image_is_told(rt: HostRuntime) {
         assert!(rt; answer == Err(VerifyFault::PartitionRead(DeviceFault::Failed)));
         assert!(rt; seen == k + 1);
     }
-    let (answer, had_image, had_partition) =
-        raw_verified(image.saturating_add(1), partition.saturating_add(1));
+    let (answer, had_image, had_partition) = raw_verified(
+        image.saturating_add(1),
+        partition.saturating_add(1),
+    );
     assert!(rt; answer == Ok(Verified { blocks: 5 }));
     assert!(rt; (had_image, had_partition) == (image, partition));
 }
