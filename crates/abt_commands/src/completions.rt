@@ -10,7 +10,7 @@ use std::fmt;
 use std::rt::Files;
 
 /// A shell that words are completed in.
-#[derive(Clone, Copy, Debug, PartialEq, Eq, Drop)]
+#[derive(Clone, Copy, Drop)]
 pub enum Shell {
     Bash,
     Zsh,

@@ -19,7 +19,7 @@ use std::rt::Files;
 use std::time::Clock;
 
 /// What to cut, and into which files.
-#[derive(Clone, Copy, Debug, PartialEq, Eq, Drop)]
+#[derive(Clone, Copy, Drop)]
 pub struct CutOrder<'a> {
     /// The path of the image.
     pub input: &'a str,

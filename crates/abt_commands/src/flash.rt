@@ -16,7 +16,7 @@ use std::rt::Files;
 use std::time::Clock;
 
 /// What to flash, and how.
-#[derive(Clone, Copy, Debug, PartialEq, Eq, Drop)]
+#[derive(Clone, Copy, Drop)]
 pub struct FlashOrder<'a> {
     /// The path of the image.
     pub input: &'a str,
@@ -27,7 +27,7 @@ pub struct FlashOrder<'a> {
 }
 
 /// How an image is flashed in pieces.
-#[derive(Clone, Copy, Debug, PartialEq, Eq, Drop)]
+#[derive(Clone, Copy, Drop)]
 pub struct PieceOrder<'a> {
     /// How many bytes a piece has at most.
     pub limit: &'a str,

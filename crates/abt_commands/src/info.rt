@@ -9,7 +9,7 @@ use std::fs::File;
 use std::rt::Files;
 
 /// What to print of an image.
-#[derive(Clone, Copy, Debug, PartialEq, Eq, Drop)]
+#[derive(Clone, Copy, Drop)]
 pub struct InfoOrder<'a> {
     /// The path of the image.
     pub input: &'a str,

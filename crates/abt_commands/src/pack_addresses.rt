@@ -6,7 +6,7 @@ use abt_texts::{AddressWords, CommandFault, base_of, load_address};
 use std::alloc::Global;
 
 /// The options of an address, and mkbootimg's offset from the base.
-#[derive(Clone, Copy, Debug)]
+#[derive(Clone, Copy)]
 pub struct Loaded {
     address: &'static str,
     offset: &'static str,

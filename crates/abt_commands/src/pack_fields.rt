@@ -12,7 +12,7 @@ use abt_texts::{
 use std::alloc::Global;
 
 /// What an image says beside its parts.
-#[derive(Debug, Drop)]
+#[derive(Drop)]
 pub struct Fields {
     page: u32,
     kernel_addr: u32,

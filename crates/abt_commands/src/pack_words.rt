@@ -10,7 +10,7 @@ use clap::{Arg, ArgAction, ArgMatches, Command, value_parser};
 use std::alloc::{AllocError, Global};
 
 /// What `pack` and `repack` are told of the image that they write, of which the parse has read the numbers.
-#[derive(Debug, Drop)]
+#[derive(Drop)]
 pub struct PackWords<'a> {
     pub output: &'a str,
     // Whether `\x` and two digits stand for a byte.

@@ -16,7 +16,7 @@ const ERASED: &[u8] = b"\r\x1b[K";
 pub const RAW_PASSES: u64 = 4;
 
 /// The commands that move bytes.
-#[derive(Clone, Copy, Debug, Drop)]
+#[derive(Clone, Copy, Drop)]
 pub enum Work {
     None,
     Expand,
@@ -33,7 +33,7 @@ pub enum Work {
 }
 
 /// How far a command is.
-#[derive(Clone, Copy, Debug, Drop)]
+#[derive(Clone, Copy, Drop)]
 pub struct Progress {
     work: Work,
     // How many bytes are to be moved, where that is known.

@@ -15,7 +15,7 @@ use std::rt::Files;
 const ID_PLACE: u64 = 576;
 
 /// A field that is no text with zeros behind it.
-#[derive(Clone, Copy, Debug, PartialEq, Eq)]
+#[derive(Clone, Copy)]
 enum Unended {
     Name,
     Cmdline,
@@ -23,7 +23,7 @@ enum Unended {
 }
 
 /// An answer of the check.
-#[derive(Clone, Copy, Debug, PartialEq, Eq)]
+#[derive(Clone, Copy)]
 enum Answer {
     Canonical,
     Padding,

@@ -23,7 +23,7 @@ const CHUNK_DATA: u32 = 67_108_864;
 const PASSES: u64 = 3;
 
 /// What to write as a sparse image.
-#[derive(Clone, Copy, Debug, PartialEq, Eq, Drop)]
+#[derive(Clone, Copy, Drop)]
 pub struct SparseOrder<'a> {
     /// The path of the raw image.
     pub input: &'a str,

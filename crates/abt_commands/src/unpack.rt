@@ -14,7 +14,7 @@ use std::rt::Files;
 use std::time::Clock;
 
 /// What to unpack, and where to.
-#[derive(Clone, Copy, Debug, PartialEq, Eq, Drop)]
+#[derive(Clone, Copy, Drop)]
 pub struct UnpackOrder<'a> {
     /// The path of the image.
     pub input: &'a str,

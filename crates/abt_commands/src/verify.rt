@@ -15,7 +15,7 @@ use std::rt::Files;
 use std::time::Clock;
 
 /// What to compare.
-#[derive(Clone, Copy, Debug, PartialEq, Eq, Drop)]
+#[derive(Clone, Copy, Drop)]
 pub struct VerifyOrder<'a> {
     /// The path of the image.
     pub input: &'a str,

@@ -16,7 +16,7 @@ use std::alloc::{AllocError, Global};
 use std::convert::AsStr;
 
 /// What the words ask for.
-#[derive(Debug, Drop)]
+#[derive(Drop)]
 pub struct Order<'a> {
     pub task: Task<'a>,
     /// Whether a refusal is to have its second line.
@@ -26,7 +26,7 @@ pub struct Order<'a> {
 }
 
 /// What is to be done. Paths and numbers stand as they were given.
-#[derive(Debug, Drop)]
+#[derive(Drop)]
 pub enum Task<'a> {
     /// Write the raw image that a sparse image stands for, or several laid over one another.
     Expand {
