@@ -11,7 +11,8 @@ end. The last line of all is the sum of what passed and failed. The exit status 
 
 `rt ci` reckons what memory each check may take from nothing, and leaves processors idle where the sum might not fit. Most of
 what it runs are checks over kept work, which take a third of that. So it is told here how many to run at once (RT_JOBS): one a
-processor, and one for each 4 GiB of free memory at most.
+processor, and one for each 4 GiB of free memory at most. The edits among them have a lower priority: crates wait for the crates
+below them, and nothing waits for an edit.
 """
 import argparse
 import os
@@ -20,6 +21,8 @@ import resource
 import shutil
 import subprocess
 import sys
+import tempfile
+import threading
 import time
 
 sys.dont_write_bytecode = True
@@ -51,6 +54,30 @@ def lanes():
     """How many checks to run side by side."""
     processors, free = len(os.sched_getaffinity(0)), free_memory()
     return max(1, min(processors, free // MEMORY) if free else processors)
+
+
+def edits_step_back(ends):
+    """Gives each check of a must-fail edit a lower priority, by the folder that it runs in, until all is tried."""
+    rooms = os.path.join(tempfile.gettempdir(), "rt-edit")
+    while not ends.wait(1):
+        for process in [it for it in os.listdir("/proc") if it.isdigit()]:
+            try:
+                if os.readlink(f"/proc/{process}/cwd").startswith(rooms) and os.getpriority(os.PRIO_PROCESS, int(process)) < 10:
+                    for thread in os.listdir(f"/proc/{process}/task"):
+                        os.setpriority(os.PRIO_PROCESS, int(thread), 10)
+            except OSError:
+                pass  # it has ended, or is another user's
+
+
+def proved_and_tried(rt, wrong):
+    """`rt ci`, with as many checks at once as there is room for, those of edits behind the others."""
+    ends = threading.Event()
+    if os.path.isdir("/proc/self/task"):
+        threading.Thread(target=edits_step_back, args=(ends,), daemon=True).start()
+    try:
+        return followed([rt, "ci"], "rt ci", wrong, env={"RT_JOBS": str(lanes()), **os.environ})
+    finally:
+        ends.set()
 
 
 def followed(words, name, wrong, **how):
@@ -115,7 +142,7 @@ def main():
     if not words.program:
         # What a killed build left: rt ci refuses sources that no crate of crates.txt has.
         put_back()
-        counts.append(followed([words.rt, "ci"], "rt ci", wrong, env={"RT_JOBS": str(lanes()), **os.environ}))
+        counts.append(proved_and_tried(words.rt, wrong))
         if os.path.exists(BUILT):
             os.remove(BUILT)
         subprocess.run([os.path.join(HERE, "tools/link.sh"), BUILT, "--rt", words.rt])
