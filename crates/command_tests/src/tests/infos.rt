@@ -326,8 +326,14 @@ fn a_failing_device_ends_the_text(rt: HostRuntime) {
             }
         }
     }
+    let mut room = [0u8; 1000];
+    let mut undisturbed = Faulty::new(SliceSource::new(&image), 0);
+    let mut output = SliceOutput::new(&mut room);
+    let whole = report_info(&mut undisturbed, &mut output, &mut w, &mut m);
+    assert!(rt; whole.is_ok());
     // The header, two ranges of padding and the kernel are read.
-    assert!(rt; clean == 5);
+    assert!(rt; undisturbed.seen == 4);
+    assert!(rt; clean == undisturbed.seen.saturating_add(1));
     let mut room = [0u8; 1000];
     let mut output = Faulty::new(SliceOutput::new(&mut room), 1);
     let failed = report_info(&mut SliceSource::new(&image), &mut output, &mut w, &mut m);
