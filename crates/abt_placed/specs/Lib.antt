@@ -2,5 +2,7 @@ pub mod Placer
 pub mod Placed
 pub mod Whole
 pub mod Unfinished
+pub mod Calls
+pub mod NextPiece
 pub mod Segment
 pub mod Piece

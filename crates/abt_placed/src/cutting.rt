@@ -1,17 +1,16 @@
 //! Cutting a raw image into pieces, each in one pass over its segment.
-ghost use Rattle.std.specs.Prelude.{◌≡◌, ℕ, ◌<◌, ◌≤◌, ◌+◌, ◌-◌, ◌*◌, ◌^◌, ◌++◌, IsTrue, IfOk, IfErr, IfSome, IfNone};
+ghost use Rattle.std.specs.Prelude.{◌≡◌, ◌<◌, ◌≤◌, ◌+◌, ◌-◌, ◌*◌, IsTrue, IfOk, IfErr, IfSome, IfNone};
 ghost use Rattle.std.specs.Prelude.{OnOk, OnErr, Err, length, take, drop, max, false, ◌⊎◌};
 ghost use Rattle.abt_sparse.specs.Block.{classify};
-ghost use Rattle.abt_sparse.specs.Chunk.{piece as piece_bytes};
 ghost use Rattle.abt_runs.specs.Raw.{RawPlace};
-ghost use Rattle.abt_pieces.specs.Cutter.{SoundOutline, ToldCutter, Passed, is_begun, has_failed};
+ghost use Rattle.abt_pieces.specs.Cutter.{SoundOutline, ToldCutter, is_begun, has_failed};
 ghost use Rattle.abt_pieces.specs.Fault.{HasCause, full_cut};
 ghost use Rattle.abt_pieces.specs.Image.{Appended, IsImage};
-ghost use Rattle.abt_pieces.specs.Outline.{IsPiece, blocks_of, piece_at};
-ghost use Rattle.abt_pieces.specs.Plan.{FirstPiece};
 ghost use Rattle.abt_pieces.specs.declared.stage.Stage.{Stage};
 ghost use Rattle.abt_placed.specs.Piece.{WholePiece};
-ghost use Rattle.abt_placed.specs.Unfinished.{IsUnfinished, IsNoImage};
+ghost use Rattle.abt_placed.specs.Calls.{Costs, Failing, Grows, devices};
+ghost use Rattle.abt_placed.specs.NextPiece.{IsNext, LaidNext, SameCutter};
+ghost use Rattle.abt_placed.specs.Unfinished.{IsUnfinished};
 ghost use Rattle.abt_placed.specs.Whole.{read_of};
 
 use crate::segment::Segment;
@@ -128,67 +127,41 @@ pub fn next_piece_at<S: Source, O: Overwrite>(
         (λ c. cutter.old.runs.blocks - c.block) cutter.old.runs.size
         (classify cutter.old.runs.size (S.content source.old)) cutter.old.limit cutter.old.made cutter.old.start
         cutter.old.stage }
-    ensures runs { cutter.new.runs ≡ cutter.old.runs }
-    ensures limit { cutter.new.limit ≡ cutter.old.limit }
-    ensures content { IsTrue S.tells → S.content source.new ≡ S.content source.old }
-    ensures frame { S.read_frame source.new ≡ S.read_frame source.old }
-    ensures write_frame { O.write_frame output.new ≡ O.write_frame output.old }
+    ensures cutter { SameCutter cutter.old.runs cutter.new.runs cutter.old.limit cutter.new.limit cutter.new.stage }
     ensures told { IsTrue S.tells → ToldCutter (λ c. RawPlace cutter.old.runs.blocks cutter.old.runs.size c)
         (λ c. cutter.old.runs.blocks - c.block) cutter.old.runs.size
         (classify cutter.old.runs.size (S.content source.old)) cutter.new.limit cutter.new.made cutter.new.start
         cutter.new.stage }
-    ensures unbegun { is_begun cutter.new.stage ≡ false }
-    ensures grown { length (O.written output.old) ≤ length (O.written output.new) }
+    ensures content { IsTrue S.tells → S.content source.new ≡ S.content source.old }
+    ensures frame { S.read_frame source.new ≡ S.read_frame source.old }
+    ensures write_frame { O.write_frame output.new ≡ O.write_frame output.old }
+    // What stands in the output, and the piece that it is told to be.
+    ensures grows { Grows result (O.written output.old) (O.written output.new) }
     ensures within { length (O.written output.new) ≤ length (O.written output.old) + cutter.old.limit }
-    ensures before { take (length (O.written output.old)) (O.written output.new) ≡ O.written output.old }
-    ensures unfinished { OnErr result ((O.written output.new ≡ O.written output.old) ⊎
-        IsNoImage (drop (length (O.written output.old)) (O.written output.new))) }
     ensures image { IfOk result (λ o. IfSome o (λ p. Appended (IsImage cutter.old.runs.size cutter.old.runs.blocks)
         (O.written output.old) (O.written output.new))) }
-    ensures passed { IfOk result (λ o. IfSome o (λ p. Passed cutter.old.runs.blocks p.first p.past
-        cutter.new.stage)) }
-    ensures least { IfOk result (λ o. IfSome o (λ p. 28 ≤ p.bytes)) }
-    ensures piece { IfOk
-        result (λ o. IfSome o (λ p. (p.first ≡ cutter.old.start.block) × (p.past ≡ cutter.new.start.block) ×
-        (p.bytes ≤ cutter.old.limit) × (length (O.written output.new) ≡ length (O.written output.old) + p.bytes) ×
-        (cutter.new.made ≡ cutter.old.made + 1))) }
-    ensures written { IsTrue S.tells →
-        IfOk result (λ o. IfSome o (λ p. O.written output.new ≡ O.written output.old ++ piece_bytes cutter.old.runs.size
-        (blocks_of (classify cutter.old.runs.size (S.content source.old)) p))) }
-    ensures coming { IsTrue S.tells →
-        IfOk result (λ o. IfSome o (λ p. O.written output.new ≡ O.written output.old ++ piece_at cutter.old.runs.size
-        cutter.old.limit (classify cutter.old.runs.size (S.content source.old)) cutter.old.start.block)) }
-    ensures exact { IsTrue S.tells →
-        IfOk result (λ o. IfSome o (λ p. IsPiece cutter.old.runs.size
-        (classify cutter.old.runs.size (S.content source.old)) p)) }
-    ensures greatest { IsTrue S.tells →
-        IfOk result (λ o. IfSome o (λ p. FirstPiece cutter.old.runs.size
-        (classify cutter.old.runs.size (S.content source.old)) cutter.old.limit p.first p.past)) }
+    ensures piece { IfOk result (λ o. IfSome o (λ p. IsNext cutter.old.runs.blocks cutter.old.limit
+        cutter.old.start.block cutter.new.start.block cutter.old.made cutter.new.made cutter.new.stage p
+        (length (O.written output.old)) (length (O.written output.new)))) }
+    ensures laid { IsTrue S.tells → IfOk result (λ o. IfSome o (λ p. LaidNext cutter.old.runs.size cutter.old.limit
+        (classify cutter.old.runs.size (S.content source.old)) cutter.old.start.block p (O.written output.old)
+        (O.written output.new))) }
     ensures none { IfOk result (λ o. IfNone o ((cutter.old.stage ≡ Stage.Done) × (output.new ≡ output.old) ×
         (source.new ≡ source.old) × (cutter.new ≡ cutter.old))) }
     ensures after_last { cutter.old.stage ≡ Stage.Done → IfOk result (λ o. IfSome o (λ p. ⊥)) × OnErr result ⊥ }
     ensures again { (f : PieceFault) → cutter.old.stage ≡ Stage.Failed f → (result ≡ Err f) ×
         (output.new ≡ output.old) × (source.new ≡ source.old) }
     ensures refused { IfErr result (λ e. cutter.new.stage ≡ Stage.Failed e) }
-    ensures given { S.given source.old ≤ S.given source.new }
-    ensures steps { S.given source.new + 65536 * m.old.steps.number
-        ≤ S.given source.old + 65536 * m.new.steps.number }
-    ensures received { m.new.greatest.number ≤ max m.old.greatest.number 65536 }
+    // What it costs, and what has failed.
+    ensures costs { Costs cutter.old.runs.size (devices S.Source O.Output source.old output.old)
+        (devices S.Source O.Output source.new output.new) m.old m.new }
     ensures economy { S.given source.new + read_of cutter.old.runs.length cutter.old.runs.size cutter.old.start.block
         ≤ S.given source.old + cutter.old.runs.length }
     ensures once { IfOk result (λ o. IfSome o (λ p. S.given source.new + read_of cutter.old.runs.length
         cutter.old.runs.size p.first ≤ S.given source.old + read_of cutter.old.runs.length cutter.old.runs.size
         p.past + 65536)) }
-    ensures calls { S.reads source.new + O.writes output.new ≤ S.reads source.old + O.writes
-        output.old + 8 * ((S.given source.new - S.given source.old) + (length (O.written output.new) - length
-        (O.written output.old)) + cutter.old.runs.size) + 512 }
-    ensures turns { m.new.turns.number
-        ≤ m.old.turns.number + 8 * ((S.given source.new - S.given source.old) + (length (O.written output.new) - length
-        (O.written output.old)) + cutter.old.runs.size) + 512 }
-    ensures faults { S.read_faults source.old ≤ S.read_faults source.new }
-    ensures write_faults { O.write_faults output.old ≤ O.write_faults output.new }
-    ensures clean { OnOk result ((S.read_faults source.new ≡ S.read_faults source.old) ×
-        (O.write_faults output.new ≡ O.write_faults output.old)) }
+    ensures failing { Failing result (devices S.Source O.Output source.old output.old)
+        (devices S.Source O.Output source.new output.new) }
     ensures full_faults { has_failed cutter.old.stage ≡ false → O.full_faults output.new
         ≡ O.full_faults output.old + full_cut result }
     ensures full { has_failed cutter.old.stage ≡ false → full_cut result ≡ 1 → IsTrue (O.is_full output.new) ×

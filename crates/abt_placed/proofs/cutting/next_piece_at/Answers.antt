@@ -30,39 +30,43 @@ returns-in-Ok g c =
     let long : IsTrue g.S.Source.tells → r.blocks ≡ length l = λ tells. sym (raw_long r.length r.blocks r.size x r.some r.covers r.last (c.requires.opened tells)) in
     let order = o.sound.order in
     record {
-      runs = p.runs;
-      limit = p.limit;
+      cutter = record { same_image = p.runs; same_limit = p.limit; unbegun = behind_unbegun _ _ _ behind };
+      grows = record { grown = q.grown; before = q.before; unfinished = tt };
+      piece = rw (p.piece, p.start) (record {
+        passed = (behind_passed _ _ _ _ o.sound.moves behind);
+        begins = o.sound.first;
+        ends = o.sound.past;
+        least = o.sound.least;
+        most = o.sound.long;
+        long = o.bytes;
+        one_more = p.made;
+      });
+      laid = λ tells. rw p.piece (record {
+        written = rw o.sound.first (piece_told g.S.Source.tells x r.size r.blocks limit start.block u.piece.past u.chunks old new tells (long tells) o.whole);
+        coming = piece_told g.S.Source.tells x r.size r.blocks limit start.block u.piece.past u.chunks old new tells (long tells) o.whole ∙ ap (λ (y : List ℕ). old ++ y) (piece_is r.size limit l start.block u.piece.past (o.whole.told tells).1);
+        exact = (piece_exact g.S.Source.tells x r.size r.blocks limit start.block u.chunks old new u.piece tells (long tells) o.sound.first order o.sound.end o.written o.bytes o.whole);
+        greatest = rw o.sound.first (o.whole.told tells).1;
+      });
+      costs = record {
+        given = q.given;
+        steps = q.received;
+        greatest = q.greatest;
+        calls = omega (arith, q.calls, q.given, q.grown);
+        turns = omega (arith, q.turns, q.given, q.grown);
+      };
+      failing = record { read = q.faults; write = q.write_faults; clean = o.clean };
       content = q.content;
       frame = q.frame;
       write_frame = q.write_frame;
       told = λ tells. rw (p.limit, p.made, p.start) (told_more _ _ (λ (d : Cursor). RawPlace r.blocks r.size d) _ r.blocks _ _ _ start u _ _ more (c.requires.told tells) o.sound (long tells) (o.whole.told tells).1 o.next behind.done behind.between);
-      unbegun = behind_unbegun _ _ _ behind;
-      grown = q.grown;
       within = omega (arith, q.long);
-      before = q.before;
-      unfinished = tt;
       image = piece_image g.S.Source.tells x r.size r.blocks limit start.block u.piece.past u.chunks old new (omega (arith, r.some), r.words, omega (arith, r.window)) r.fits (omega arith) o.whole;
-      passed = rw p.piece (behind_passed _ _ _ _ o.sound.moves behind);
-      least = rw p.piece o.sound.least;
-      piece = rw (p.piece, p.start) (o.sound.first, o.sound.past, o.sound.long, o.bytes, p.made);
-      written = λ tells. rw (p.piece, o.sound.first) (piece_told g.S.Source.tells x r.size r.blocks limit start.block u.piece.past u.chunks old new tells (long tells) o.whole);
-      coming = λ tells. piece_told g.S.Source.tells x r.size r.blocks limit start.block u.piece.past u.chunks old new tells (long tells) o.whole ∙ ap (λ (y : List ℕ). old ++ y) (piece_is r.size limit l start.block u.piece.past (o.whole.told tells).1);
-      exact = λ tells. rw p.piece (piece_exact g.S.Source.tells x r.size r.blocks limit start.block u.chunks old new u.piece tells (long tells) o.sound.first order o.sound.end o.written o.bytes o.whole);
-      greatest = λ tells. rw (p.piece, o.sound.first) (o.whole.told tells).1;
       none = tt;
       after_last = λ is. absurd (let z : has_more Done ≡ true = rw is at more in cc);
       again = λ f is. search rules;
       refused = tt;
-      given = q.given;
-      steps = q.received;
-      received = q.greatest;
       economy = q.economy;
       once = rw (p.piece, o.sound.first) o.last;
-      calls = omega (arith, q.calls, q.given, q.grown);
-      turns = omega (arith, q.turns, q.given, q.grown);
-      faults = q.faults;
-      write_faults = q.write_faults;
-      clean = o.clean;
       full_faults = λ h. o.full_faults;
       full = λ h e. absurd cc;
       cause = tt;
@@ -76,41 +80,32 @@ returns-in-Err g c =
     let old = g.O.Output.written c.args.output.now in
     let new = g.O.Output.written c.lay_piece.new.output in
     record {
-      runs = x.rest.0;
-      limit = x.rest.1;
+      cutter = record { same_image = x.rest.0; same_limit = x.rest.1; unbegun = rw x.stage refl };
+      grows = record { grown = q.grown; before = q.before; unfinished = unfinished_refused old new c.in-Err.ensures.unfinished };
+      piece = tt;
+      laid = λ tells. tt;
+      costs = record {
+        given = q.given;
+        steps = q.received;
+        greatest = q.greatest;
+        calls = omega (arith, q.calls, q.given, q.grown);
+        turns = omega (arith, q.turns, q.given, q.grown);
+      };
+      failing = record { read = q.faults; write = q.write_faults; clean = tt };
       content = q.content;
       frame = q.frame;
       write_frame = q.write_frame;
       told = λ tells.
           let more : has_more c.args.cutter.now.stage ≡ true = search rules in
           rw (x.rest.1, x.rest.3, x.rest.2, x.stage) (told_failed _ _ _ _ _ _ c.args.cutter.now.start _ _ more (c.requires.told tells));
-      unbegun = rw x.stage refl;
-      grown = q.grown;
       within = omega (arith, q.long);
-      before = q.before;
-      unfinished = unfinished_refused old new c.in-Err.ensures.unfinished;
       image = tt;
-      passed = tt;
-      least = tt;
-      piece = tt;
-      written = λ tells. tt;
-      coming = λ tells. tt;
-      exact = λ tells. tt;
-      greatest = λ tells. tt;
       none = tt;
       after_last = search rules;
       again = search rules;
       refused = x.stage ∙ ap (λ (f : PieceFault). Failed f) (sym x.fault);
-      given = q.given;
-      steps = q.received;
-      received = q.greatest;
       economy = q.economy;
       once = tt;
-      calls = omega (arith, q.calls, q.given, q.grown);
-      turns = omega (arith, q.turns, q.given, q.grown);
-      faults = q.faults;
-      write_faults = q.write_faults;
-      clean = tt;
       full_faults = λ h. rw x.fault c.in-Err.ensures.full_faults;
       full = λ h e. let z = rw x.fault at e in (c.in-Err.ensures.full z, omega (arith, c.in-Err.ensures.long, z));
       cause = inr (rw x.fault c.in-Err.ensures.cause);

@@ -12,8 +12,15 @@ returns-clause-within g c n fits =
     let z = rw e.size.0 at c.lay_image.ensures.within in
     omega (arith, q, z)
 
-pub returns-clause-unfinished : goal.returns-clause-unfinished
-returns-clause-unfinished g c = all_refused c.lay_image.result (g.O.Output.written c.args.output.now) (g.O.Output.written c.lay_image.new.output) c.lay_image.ensures.unfinished
+pub returns-clause-grows : goal.returns-clause-grows
+returns-clause-grows g c =
+    let old = g.O.Output.written c.args.output.now in
+    let new = g.O.Output.written c.lay_image.new.output in
+    record {
+      grown = c.lay_image.ensures.grown;
+      before = c.lay_image.ensures.before;
+      unfinished = all_refused c.lay_image.result old new c.lay_image.ensures.unfinished;
+    }
 
 pub returns-clause-whole : goal.returns-clause-whole
 returns-clause-whole g c tells =
