@@ -1,1 +1,2 @@
 pub mod Sparsify
+pub mod Calls

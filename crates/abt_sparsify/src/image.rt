@@ -5,6 +5,7 @@ ghost use Rattle.abt_sparse.specs.Block.{classify};
 ghost use Rattle.abt_sparse.specs.Chunk.{spelling, chunks_of};
 ghost use Rattle.abt_pieces.specs.Fault.{HasCause, full_cut};
 ghost use Rattle.abt_pieces.specs.Image.{Appended, IsImage};
+ghost use Rattle.abt_sparsify.specs.Calls.{Costs, Failing, devices};
 ghost use Rattle.abt_sparsify.specs.Sparsify.{SparsifyCause, IsRawSize};
 
 use crate::count::{Written, count_runs};
@@ -124,22 +125,12 @@ pub fn sparsify<S: Source, O: Output>(
         (classify block_size (S.content source.old))) }
     ensures image { IfOk result (λ a. Appended (IsImage block_size a.blocks) (O.written output.old)
         (O.written output.new)) }
-    ensures given { S.given source.old ≤ S.given source.new }
-    ensures received { S.given source.new + 65536 * m.old.steps.number
-        ≤ S.given source.old + 65536 * m.new.steps.number }
     ensures economy { IsTrue S.tells →
         IfOk result (λ a. S.given source.new ≤ S.given source.old + 8 * length (S.content source.old)) }
-    ensures calls { S.reads source.new + O.writes output.new ≤ S.reads source.old + O.writes
-        output.old + 8 * ((S.given source.new - S.given source.old) + (length (O.written output.new) - length
-        (O.written output.old)) + block_size) + 512 }
-    ensures turns { m.new.turns.number
-        ≤ m.old.turns.number + 8 * ((S.given source.new - S.given source.old) + (length (O.written output.new) - length
-        (O.written output.old)) + block_size) + 512 }
-    ensures greatest { m.new.greatest.number ≤ max m.old.greatest.number 65536 }
-    ensures faults { S.read_faults source.old ≤ S.read_faults source.new }
-    ensures write_faults { O.write_faults output.old ≤ O.write_faults output.new }
-    ensures clean { OnOk result ((S.read_faults source.new ≡ S.read_faults source.old) ×
-        (O.write_faults output.new ≡ O.write_faults output.old)) }
+    ensures costs { Costs block_size (devices S.Source O.Output source.old output.old)
+        (devices S.Source O.Output source.new output.new) m.old m.new }
+    ensures failing { Failing result (devices S.Source O.Output source.old output.old)
+        (devices S.Source O.Output source.new output.new) }
     ensures full_faults { O.full_faults output.new ≡ O.full_faults output.old + full_cut result }
     ensures full { full_cut result ≡ 1 → IsTrue (O.is_full output.new) }
     ensures cause { IfErr result (λ e. SparsifyCause e block_size (S.size source.old) S.tells (S.read_faults source.old)

@@ -1,0 +1,42 @@
+-- What a call that writes an image, or a piece of one, of a source has failed and costs.
+use Rattle.std.specs.Prelude.{◌≡◌, ℕ, ◌+◌, ◌-◌, ◌*◌, ◌≤◌, length, max, Result, OnOk}
+use Rattle.abt_io.specs.declared.device.Source as sources
+use Rattle.abt_io.specs.declared.device.Output as outputs
+use Rattle.abt_io.specs.declared.meter.Meter.{Meter}
+use Rattle.abt_pieces.specs.declared.fault.PieceFault.{PieceFault}
+
+-- what is counted of a source and of an output
+pub record Devices : Type 0 where
+  -- calls of the source, the bytes that it gave, and how often it failed
+  pub reads : ℕ
+  pub given : ℕ
+  pub read_faults : ℕ
+  -- calls of the output, the bytes that were written to it, and how often it failed
+  pub writes : ℕ
+  pub written : ℕ
+  pub write_faults : ℕ
+
+abbrev pub devices : {A B : Type 0} → sources.Ghosts A → outputs.Ghosts B → A → B → Devices
+devices s o source output = record {
+  reads = s.reads source;
+  given = s.given source;
+  read_faults = s.read_faults source;
+  writes = o.writes output;
+  written = length (o.written output);
+  write_faults = o.write_faults output;
+}
+
+-- no count of faults falls, and after an Ok none has risen
+pub record Failing {X : Type 0} (r : Result X PieceFault) (a z : Devices) : Type 0 where
+  pub read : a.read_faults ≤ z.read_faults
+  pub write : a.write_faults ≤ z.write_faults
+  pub clean : OnOk r ((z.read_faults ≡ a.read_faults) × (z.write_faults ≡ a.write_faults))
+
+-- The calls of both devices, and the turns of loops, are at most 8 for each byte that was moved and for each of n, the
+-- bytes of a block, and 512. No step receives more than a window.
+pub record Costs (n : ℕ) (a z : Devices) (m m' : Meter) : Type 0 where
+  pub given : a.given ≤ z.given
+  pub steps : z.given + 65536 * m.steps.number ≤ a.given + 65536 * m'.steps.number
+  pub greatest : m'.greatest.number ≤ max m.greatest.number 65536
+  pub calls : z.reads + z.writes ≤ a.reads + a.writes + 8 * ((z.given - a.given) + (z.written - a.written) + n) + 512
+  pub turns : m'.turns.number ≤ m.turns.number + 8 * ((z.given - a.given) + (z.written - a.written) + n) + 512
