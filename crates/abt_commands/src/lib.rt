@@ -6,17 +6,21 @@
 //!
 //! | file | has |
 //! |---|---|
-//! | `words.rt`, `pack_words.rt`, `word_files.rt`, `numbers.rt` | the words of the command line, with their help, the files of words, and the words that are numbers |
+//! | `words.rt`, `pack_words.rt` | the words of the command line, with their help |
+//! | `word_files.rt`, `numbers.rt` | the files of words, and the words that are numbers |
 //! | `running.rt`, `refusal.rt` | what the words ask for, the exit status, and the second line of a refusal |
 //! | `session.rt` | the streams of a run, what it has opened, and its report |
 //! | `files.rt`, `identity.rt` | every file that is opened, created, or brought to its end, and which file it is |
-//! | `input.rt`, `noting.rt`, `raw_file.rt`, `image_file.rt` | readers and writers: forward input, one that keeps why it failed, a raw image with holes for zeros, an image whose magic is laid last |
+//! | `input.rt`, `noting.rt` | forward input, and a reader or writer that keeps why it failed |
+//! | `raw_file.rt`, `image_file.rt` | a raw image with holes for zeros, and an image whose magic is laid last |
 //! | `progress.rt`, `watched.rt` | how far a command is, on a terminal |
-//! | `expand.rt`, `overlay.rt`, `list.rt`, `sparse.rt`, `cut.rt`, `flash.rt`, `verify.rt`, `info.rt`, `unpack.rt` | the command of that name; `overlay.rt` is `expand` of several images |
+//! | `expand.rt`, `overlay.rt` | the command `expand`, of one image and of several |
+//! | `list.rt`, `sparse.rt`, `cut.rt`, `flash.rt`, `verify.rt`, `info.rt`, `unpack.rt` | the command of that name |
 //! | `completions.rt` | the command `completions`, from the table of `words.rt` |
 //! | `reasons.rt` | why a check answers no |
-//! | `left_out.rt` | what `repack` leaves out |
-//! | `pack.rt`, `repack.rt`, `pack_fields.rt`, `pack_addresses.rt`, `pack_parts.rt`, `pack_ramdisks.rt`, `part_source.rt` | the commands `pack` and `repack`, and the fields and parts that an image is packed from |
+//! | `pack.rt`, `repack.rt`, `left_out.rt` | the commands `pack` and `repack`, and what `repack` leaves out |
+//! | `pack_fields.rt`, `pack_addresses.rt` | the fields that an image is packed from |
+//! | `pack_parts.rt`, `pack_ramdisks.rt`, `part_source.rt` | its parts |
 #![tactic(auto)]
 
 mod completions;

@@ -74,7 +74,8 @@ fn image_lines<S: Source, O: Output>(
     ensures lines { IsTrue S.tells →
         OnOk result (spec.Checked (S.content source.old) (view_of image.now.header)
         (Prints O.written O.write_faults text.old text.new)) }
-    ensures begun { IsTrue S.tells → (v : Verdict) → spec.IsVerdict (S.content source.old) (view_of image.now.header) v →
+    ensures begun { IsTrue S.tells → (v : Verdict) →
+        spec.IsVerdict (S.content source.old) (view_of image.now.header) v →
         PrintsFront O.written O.write_faults text.old text.new
         (spec.info_text (S.content source.old) (view_of image.now.header) v) }
     ensures prints { (done : List ℕ) × Prints O.written O.write_faults text.old text.new done }
