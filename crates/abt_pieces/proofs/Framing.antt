@@ -7,7 +7,6 @@ use Rattle.abt_sparse.specs.Runs.{runs}
 use Rattle.abt_runs.specs.Part.{AllOf, PartOf}
 use Rattle.abt_runs.specs.declared.part.Run.{Run}
 use Rattle.abt_runs.specs.declared.part.RunKind.{RunKind}
-use Rattle.abt_runs.specs.declared.part.RunKind.TheVariants as kinds
 use Rattle.abt_pieces.specs.Plan.{between}
 use Rattle.abt_runs.specs.Whole.{alike_kinds}
 use Rattle.abt_runs.proofs.Alike.{kind_of, kind_is, all_append, alike_same, Ended, runs_apart}

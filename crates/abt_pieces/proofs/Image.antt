@@ -25,7 +25,6 @@ use Rattle.abt_pieces.specs.declared.write.Copying.{Copying}
 use Rattle.abt_pieces.specs.declared.write.Writer.{Writer}
 use Rattle.abt_pieces.specs.declared.stage.Stage.{Stage}
 use Rattle.abt_pieces.specs.declared.stage.Stage.TheVariants.{Between, Plan, Begin, Write, Done, Failed}
-use Rattle.abt_pieces.specs.declared.stage.PieceProgress.TheVariants as answers
 use Rattle.abt_pieces.proofs.Writing.{raw_chunk, fill_chunk}
 use Rattle.abt_pieces.proofs.Going.{gathering, copying_on}
 

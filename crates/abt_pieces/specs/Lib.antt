@@ -10,3 +10,5 @@ pub mod SpentStage
 pub mod Alike
 pub mod Image
 pub mod Turn
+pub mod Calls
+pub mod NextPiece

@@ -4,15 +4,16 @@ ghost use Rattle.std.specs.Prelude.{IfSome, IfNone, OnOk, OnErr, Ok, Err, length
 ghost use Rattle.std.specs.Prelude.{if◌then◌else◌};
 ghost use Rattle.abt_sparse.specs.Block.{Block};
 ghost use Rattle.abt_sparse.specs.Runs.{Division};
-ghost use Rattle.abt_sparse.specs.Chunk.{piece as piece_bytes};
 ghost use Rattle.abt_pieces.specs.Fault.{HasCause, full_cut};
 ghost use Rattle.abt_pieces.specs.Plan.{FirstPiece};
-ghost use Rattle.abt_pieces.specs.Outline.{IsPiece, IsOutline, blocks_of};
+ghost use Rattle.abt_pieces.specs.Outline.{IsPiece, IsOutline};
 ghost use Rattle.abt_pieces.specs.Alike.{SoundCutter-prop};
-ghost use Rattle.abt_pieces.specs.Cutter.{SoundOutline, SoundCutter, ToldCutter, Made, Passed, segments_left, coming};
+ghost use Rattle.abt_pieces.specs.Cutter.{SoundOutline, SoundCutter, ToldCutter, Made, segments_left, coming};
 ghost use Rattle.abt_pieces.specs.Cutter.{has_more, is_begun, has_failed, piece_words};
 ghost use Rattle.abt_pieces.specs.Image.{Appended, IsImage};
-ghost use Rattle.abt_pieces.specs.SpentStage.{all_passes};
+ghost use Rattle.abt_pieces.specs.Calls.{Failing, PieceCosts, PlanCosts, devices};
+ghost use Rattle.abt_pieces.specs.NextPiece.{IsNext, LaidNext, SameCutter};
+ghost use Rattle.abt_pieces.specs.SpentStage.{SpentPiece, all_passes};
 ghost use Rattle.abt_pieces.specs.Turn.{NextInTurn};
 ghost use Rattle.abt_pieces.specs.declared.stage.Stage.{Stage};
 
@@ -122,13 +123,8 @@ impl<R: BlockRuns + Drop> Cutter<R> {
             o.next + 16) }
         ensures takes { IfOk result (λ o. o.piece.bytes + R.taken self.old.runs self.old.start
             ≤ R.taken self.old.runs o.next + 80) }
-        ensures given { S.given source.old ≤ S.given source.new }
-        ensures steps { S.given source.new + 65536 * m.old.steps.number
-            ≤ S.given source.old + 65536 * m.new.steps.number }
-        ensures received { m.new.greatest.number ≤ max m.old.greatest.number 65536 }
-        ensures calls { S.reads source.new ≤ S.reads source.old + 3 * (S.given source.new - S.given source.old) + 2 }
-        ensures turns { m.new.turns.number
-            ≤ m.old.turns.number + 5 * (S.given source.new - S.given source.old) + 2 + 2 * R.one self.old.runs }
+        ensures costs { PlanCosts (R.one self.old.runs) (S.reads source.old) (S.given source.old) (S.reads source.new)
+            (S.given source.new) m.old m.new }
         ensures words { IfOk result (λ o. m.new.turns.number
             ≤ m.old.turns.number + 5 * (S.given source.new - S.given source.old) + 2 + piece_words (R.one self.old.runs)
             (R.count self.old.runs) o.piece.past) }
@@ -167,15 +163,13 @@ impl<R: BlockRuns + Drop> Cutter<R> {
         requires told { IsTrue S.tells → ToldCutter (R.place self.old.runs (S.content source.old))
             (R.together self.old.runs (S.content source.old)) (R.size self.old.runs)
             (R.list self.old.runs (S.content source.old)) self.old.limit self.old.made self.old.start self.old.stage }
-        ensures runs { self.new.runs ≡ self.old.runs }
-        ensures limit { self.new.limit ≡ self.old.limit }
+        ensures cutter { SameCutter self.old.runs self.new.runs self.old.limit self.new.limit self.new.stage }
         ensures content { IsTrue S.tells → S.content source.new ≡ S.content source.old }
         ensures frame { S.read_frame source.new ≡ S.read_frame source.old }
         ensures write_frame { O.write_frame output.new ≡ O.write_frame output.old }
         ensures told { IsTrue S.tells → ToldCutter (R.place self.old.runs (S.content source.old))
             (R.together self.old.runs (S.content source.old)) (R.size self.old.runs)
             (R.list self.old.runs (S.content source.old)) self.new.limit self.new.made self.new.start self.new.stage }
-        ensures unbegun { is_begun self.new.stage ≡ false }
         ensures grown { length (O.written output.old) ≤ length (O.written output.new) }
         ensures within { length (O.written output.new) ≤ length (O.written output.old) + self.old.limit }
         ensures front { IsTrue S.tells → O.written output.new ≡ O.written output.old ++ take
@@ -185,65 +179,36 @@ impl<R: BlockRuns + Drop> Cutter<R> {
         ensures image { IfOk
             result (λ o. IfSome o (λ p. Appended (IsImage (R.size self.old.runs) (R.count self.old.runs))
             (O.written output.old) (O.written output.new))) }
-        ensures passed { IfOk
-            result (λ o. IfSome o (λ p. Passed (R.count self.old.runs) p.first p.past self.new.stage)) }
-        ensures least { IfOk result (λ o. IfSome o (λ p. 28 ≤ p.bytes)) }
-        ensures piece { IfOk
-            result (λ o. IfSome o (λ p. (p.first ≡ self.old.start.block) × (p.past ≡ self.new.start.block) ×
-            (p.bytes ≤ self.old.limit) × (length (O.written output.new) ≡ length (O.written output.old) + p.bytes) ×
-            (self.new.made ≡ self.old.made + 1))) }
-        ensures written { IsTrue S.tells →
-            IfOk
-            result (λ o. IfSome o (λ p. O.written output.new ≡ O.written output.old ++ piece_bytes
-            (R.size self.old.runs) (blocks_of (R.list self.old.runs (S.content source.old)) p))) }
-        ensures exact { IsTrue S.tells →
-            IfOk
-            result (λ o. IfSome o (λ p. IsPiece (R.size self.old.runs) (R.list self.old.runs (S.content source.old))
-            p)) }
-        ensures greatest { IsTrue S.tells →
-            IfOk
-            result (λ o. IfSome o (λ p. FirstPiece (R.size self.old.runs) (R.list self.old.runs (S.content source.old))
-            self.old.limit p.first p.past)) }
+        ensures piece { IfOk result (λ o. IfSome o (λ p. IsNext (R.count self.old.runs) self.old.limit
+            self.old.start.block self.new.start.block self.old.made self.new.made self.new.stage p)) }
+        ensures long { IfOk result (λ o. IfSome o (λ p.
+            length (O.written output.new) ≡ length (O.written output.old) + p.bytes)) }
+        ensures laid { IsTrue S.tells → IfOk result (λ o. IfSome o (λ p. LaidNext (R.size self.old.runs) self.old.limit
+            (R.list self.old.runs (S.content source.old)) self.old.start.block p (O.written output.old)
+            (O.written output.new))) }
         ensures none { IfOk result (λ o. IfNone o ((self.old.stage ≡ Stage.Done) × (output.new ≡ output.old) ×
             (source.new ≡ source.old) × (self.new ≡ self.old))) }
         ensures after_last { self.old.stage ≡ Stage.Done → IfOk result (λ o. IfSome o (λ p. ⊥)) × OnErr result ⊥ }
         ensures again { (f : PieceFault) → self.old.stage ≡ Stage.Failed f → (result ≡ Err f) ×
             (output.new ≡ output.old) × (source.new ≡ source.old) }
         ensures refused { IfErr result (λ e. self.new.stage ≡ Stage.Failed e) }
-        ensures given { S.given source.old ≤ S.given source.new }
-        ensures steps { S.given source.new + 65536 * m.old.steps.number
-            ≤ S.given source.old + 65536 * m.new.steps.number }
-        ensures received { m.new.greatest.number ≤ max m.old.greatest.number 65536 }
+        ensures costs { PieceCosts (R.one self.old.runs) (devices S.Source O.Output source.old output.old)
+            (devices S.Source O.Output source.new output.new) m.old m.new }
         ensures takes { IfOk
             result (λ o. IfSome o (λ p. p.bytes + R.taken self.old.runs self.old.start
             ≤ R.taken self.old.runs self.new.start + 80)) }
-        ensures spent { IsTrue S.tells →
-            IfOk
-            result (λ o. IfSome o (λ p. S.given source.new + all_passes (R.charge self.old.runs)
-            (R.copied self.old.runs) self.old.start ≤ S.given source.old + all_passes (R.charge self.old.runs)
-            (R.copied self.old.runs) self.new.start + 80 + R.one self.old.runs)) }
-        ensures spent_end { IsTrue S.tells →
-            IfOk
-            result (λ o. IfSome o (λ p. R.count self.old.runs ≤ p.past →
-            S.given source.new + all_passes (R.charge self.old.runs) (R.copied self.old.runs) self.old.start
-            ≤ S.given source.old + all_passes (R.charge self.old.runs) (R.copied self.old.runs) self.new.start + 48)) }
-        ensures calls { (S.reads source.new - S.reads source.old) + (O.writes output.new - O.writes output.old)
-            ≤ 4 * ((S.given source.new - S.given source.old) + (length (O.written output.new) - length
-            (O.written output.old))) + 24 }
-        ensures turns { m.new.turns.number
-            ≤ m.old.turns.number + 6
-            * ((S.given source.new - S.given source.old) + (length (O.written output.new) - length
-            (O.written output.old))) + 32 + 3 * R.one self.old.runs }
+        ensures spent { IsTrue S.tells → IfOk result (λ o. IfSome o (λ p. SpentPiece (R.charge self.old.runs)
+            (R.copied self.old.runs) (R.count self.old.runs) (R.one self.old.runs) p.past self.new.start
+            (all_passes (R.charge self.old.runs) (R.copied self.old.runs) self.old.start +
+            (S.given source.new - S.given source.old)))) }
         ensures words { IfOk
             result (λ o. IfSome o
             (λ p. m.new.turns.number
             ≤ m.old.turns.number + 6
             * ((S.given source.new - S.given source.old) + (length (O.written output.new) - length
             (O.written output.old))) + 32 + piece_words (R.one self.old.runs) (R.count self.old.runs) p.past)) }
-        ensures faults { S.read_faults source.old ≤ S.read_faults source.new }
-        ensures write_faults { O.write_faults output.old ≤ O.write_faults output.new }
-        ensures clean { OnOk result ((S.read_faults source.new ≡ S.read_faults source.old) ×
-            (O.write_faults output.new ≡ O.write_faults output.old)) }
+        ensures failing { Failing result (devices S.Source O.Output source.old output.old)
+            (devices S.Source O.Output source.new output.new) }
         ensures full_faults { has_failed self.old.stage ≡ false → O.full_faults output.new
             ≡ O.full_faults output.old + full_cut result }
         ensures full { has_failed self.old.stage ≡ false → full_cut result ≡ 1 → IsTrue (O.is_full output.new) ×
@@ -276,20 +241,14 @@ impl<R: BlockRuns + Drop> Cutter<R> {
         requires told { IsTrue S.tells → ToldCutter (R.place self.old.runs (S.content source.old))
             (R.together self.old.runs (S.content source.old)) (R.size self.old.runs)
             (R.list self.old.runs (S.content source.old)) self.old.limit self.old.made self.old.start self.old.stage }
-        ensures runs { self.new.runs ≡ self.old.runs }
-        ensures limit { self.new.limit ≡ self.old.limit }
+        ensures cutter { SameCutter self.old.runs self.new.runs self.old.limit self.new.limit self.new.stage }
         ensures content { IsTrue S.tells → S.content source.new ≡ S.content source.old }
         ensures frame { S.read_frame source.new ≡ S.read_frame source.old }
         ensures told { IsTrue S.tells → ToldCutter (R.place self.old.runs (S.content source.old))
             (R.together self.old.runs (S.content source.old)) (R.size self.old.runs)
             (R.list self.old.runs (S.content source.old)) self.new.limit self.new.made self.new.start self.new.stage }
-        ensures unbegun { is_begun self.new.stage ≡ false }
-        ensures passed { IfOk
-            result (λ o. IfSome o (λ p. Passed (R.count self.old.runs) p.first p.past self.new.stage)) }
-        ensures least { IfOk result (λ o. IfSome o (λ p. 28 ≤ p.bytes)) }
-        ensures piece { IfOk
-            result (λ o. IfSome o (λ p. (p.first ≡ self.old.start.block) × (p.past ≡ self.new.start.block) ×
-            (p.bytes ≤ self.old.limit) × (self.new.made ≡ self.old.made + 1))) }
+        ensures piece { IfOk result (λ o. IfSome o (λ p. IsNext (R.count self.old.runs) self.old.limit
+            self.old.start.block self.new.start.block self.old.made self.new.made self.new.stage p)) }
         ensures exact { IsTrue S.tells →
             IfOk
             result (λ o. IfSome o (λ p. IsPiece (R.size self.old.runs) (R.list self.old.runs (S.content source.old))
@@ -312,13 +271,8 @@ impl<R: BlockRuns + Drop> Cutter<R> {
         ensures takes { IfOk
             result (λ o. IfSome o (λ p. p.bytes + R.taken self.old.runs self.old.start
             ≤ R.taken self.old.runs self.new.start + 80)) }
-        ensures given { S.given source.old ≤ S.given source.new }
-        ensures steps { S.given source.new + 65536 * m.old.steps.number
-            ≤ S.given source.old + 65536 * m.new.steps.number }
-        ensures received { m.new.greatest.number ≤ max m.old.greatest.number 65536 }
-        ensures calls { S.reads source.new ≤ S.reads source.old + 3 * (S.given source.new - S.given source.old) + 2 }
-        ensures turns { m.new.turns.number
-            ≤ m.old.turns.number + 5 * (S.given source.new - S.given source.old) + 2 + 2 * R.one self.old.runs }
+        ensures costs { PlanCosts (R.one self.old.runs) (S.reads source.old) (S.given source.old) (S.reads source.new)
+            (S.given source.new) m.old m.new }
         ensures words { IfOk
             result (λ o. IfSome o
             (λ p. m.new.turns.number

@@ -3,6 +3,5 @@ pub mod Placed
 pub mod Whole
 pub mod Unfinished
 pub mod Calls
-pub mod NextPiece
 pub mod Segment
 pub mod Piece

@@ -8,9 +8,9 @@ ghost use Rattle.abt_pieces.specs.Fault.{HasCause, full_cut};
 ghost use Rattle.abt_pieces.specs.Image.{Appended, IsImage};
 ghost use Rattle.abt_pieces.specs.declared.stage.Stage.{Stage};
 ghost use Rattle.abt_placed.specs.Piece.{WholePiece};
-ghost use Rattle.abt_sparsify.specs.Calls.{Costs, Failing, devices};
+ghost use Rattle.abt_pieces.specs.Calls.{Costs, Failing, devices};
 ghost use Rattle.abt_placed.specs.Calls.{Grows};
-ghost use Rattle.abt_placed.specs.NextPiece.{IsNext, LaidNext, SameCutter};
+ghost use Rattle.abt_pieces.specs.NextPiece.{IsNext, LaidNext, SameCutter};
 ghost use Rattle.abt_placed.specs.Unfinished.{IsUnfinished};
 ghost use Rattle.abt_placed.specs.Whole.{read_of};
 
@@ -142,8 +142,9 @@ pub fn next_piece_at<S: Source, O: Overwrite>(
     ensures image { IfOk result (λ o. IfSome o (λ p. Appended (IsImage cutter.old.runs.size cutter.old.runs.blocks)
         (O.written output.old) (O.written output.new))) }
     ensures piece { IfOk result (λ o. IfSome o (λ p. IsNext cutter.old.runs.blocks cutter.old.limit
-        cutter.old.start.block cutter.new.start.block cutter.old.made cutter.new.made cutter.new.stage p
-        (length (O.written output.old)) (length (O.written output.new)))) }
+        cutter.old.start.block cutter.new.start.block cutter.old.made cutter.new.made cutter.new.stage p)) }
+    ensures long { IfOk result (λ o. IfSome o (λ p.
+        length (O.written output.new) ≡ length (O.written output.old) + p.bytes)) }
     ensures laid { IsTrue S.tells → IfOk result (λ o. IfSome o (λ p. LaidNext cutter.old.runs.size cutter.old.limit
         (classify cutter.old.runs.size (S.content source.old)) cutter.old.start.block p (O.written output.old)
         (O.written output.new))) }

@@ -1,2 +1,1 @@
 pub mod Sparsify
-pub mod Calls

@@ -5,7 +5,7 @@ ghost use Rattle.abt_sparse.specs.Block.{classify};
 ghost use Rattle.abt_sparse.specs.Chunk.{spelling, chunks_of};
 ghost use Rattle.abt_pieces.specs.Fault.{HasCause, full_cut};
 ghost use Rattle.abt_pieces.specs.Image.{Appended, IsImage};
-ghost use Rattle.abt_sparsify.specs.Calls.{Costs, Failing, devices};
+ghost use Rattle.abt_pieces.specs.Calls.{Costs, Failing, devices};
 ghost use Rattle.abt_sparsify.specs.Sparsify.{SparsifyCause, IsRawSize};
 
 use crate::count::{Written, count_runs};

@@ -21,33 +21,33 @@ pieces-preserved g c =
     let st = c.skip_piece.new.self.stage in
     let is : c.pieces.cutter.stage ≡ Between = still_between _ _ _ _ i.unbroken (sym c.more.ensures ∙ c.if-not-more.false) in
     let p = rw c.in-Ok-Some.field-0-is at o.piece in
-    let made : c.skip_piece.new.self.made ≡ c.pieces.cutter.made + 1 = p.3 in
-    let passed = rw (i.runs, p.0, p.1) at (rw c.in-Ok-Some.field-0-is at o.passed) in
+    let made : c.skip_piece.new.self.made ≡ c.pieces.cutter.made + 1 = p.one_more in
+    let passed = rw (i.runs, p.begins, p.ends) at p.passed in
     let at : StandsAt n next st = passed_stands n s next st passed in
     let left : c.pieces.cutter.made ≤ s = c.pieces.cutter.sound.left (ap has_more is) in
     let inside = i.unbroken.between is in
     let less : c.pieces.cutter.made < c.args.before = rw c.if-are_planned.false at c.are_planned.ensures in
     let words = words_more one n s next st passed.moves at in
     record {
-      runs = e.runs ∙ i.runs;
-      limit = e.limit ∙ i.limit;
+      runs = e.cutter.same_image ∙ i.runs;
+      limit = e.cutter.same_limit ∙ i.limit;
       told = λ tells. rw (i.runs, i.kept tells) at (e.told tells);
       kept = λ tells. e.content tells ∙ i.kept tells;
       frame = e.frame ∙ i.frame;
       unbroken = rw made (unbroken_more n c.pieces.cutter.made next st at);
       few = rw made (few_more n c.pieces.cutter.made s left inside);
       planned = omega (arith, made, less);
-      given = omega (arith, i.given, e.given);
+      given = omega (arith, i.given, e.costs.given);
       charged =
           let more = rw i.runs at (rw c.in-Ok-Some.field-0-is at o.charged) in
           charged_more (given c.args.source.now) (given c.pieces.source) (given c.skip_piece.new.source) (charge c.args.cutter.now.start) (charge c.pieces.cutter.start) (charge c.skip_piece.new.self.start) c.pieces.cutter.made c.skip_piece.new.self.made one made more i.charged;
-      calls = omega (arith, e.calls, e.given, i.calls, made);
+      calls = omega (arith, e.costs.calls, e.costs.given, i.calls, made);
       turns =
-          let more = rw (i.runs, p.1) at (rw c.in-Ok-Some.field-0-is at o.words) in
+          let more = rw (i.runs, p.ends) at (rw c.in-Ok-Some.field-0-is at o.words) in
           let before = rw is at i.turns in
-          omega (arith, more, words, before, e.given, c.tick.ensures.turns, made);
-      steps = omega (arith, e.steps, e.given, i.steps, c.tick.ensures.steps);
-      greatest = omega (arith, e.received, i.greatest, c.tick.ensures.greatest);
+          omega (arith, more, words, before, e.costs.given, c.tick.ensures.turns, made);
+      steps = omega (arith, e.costs.steps, e.costs.given, i.steps, c.tick.ensures.steps);
+      greatest = omega (arith, e.costs.greatest, i.greatest, c.tick.ensures.greatest);
       faults = o.clean ∙ i.faults;
     }
 
@@ -92,9 +92,9 @@ returns-in-Err-clause-costs g c =
     let words = words_one (g.R.BlockRuns.one c.args.cutter.now.runs) (g.R.BlockRuns.count c.args.cutter.now.runs) c.pieces.cutter.start.block c.pieces.cutter.stage is in
     let calls = i.calls in
     let turns = i.turns in
-    let more_calls = c.skip_piece.ensures.calls in
-    let more_turns = rw i.runs at c.skip_piece.ensures.turns in
-    let given = c.skip_piece.ensures.given in
+    let more_calls = c.skip_piece.ensures.costs.calls in
+    let more_turns = rw i.runs at c.skip_piece.ensures.costs.turns in
+    let given = c.skip_piece.ensures.costs.given in
     let tick = c.tick.ensures.turns in
     record {
       begun = c.pieces.cutter.made;

@@ -25,8 +25,8 @@ segment : (g : Over) (c : In-Ok-Some g) → IsTrue g.S.Source.tells → FirstPie
 segment g c tells =
     let o = c.in-Ok-Some.ensures in
     let p = rw c.in-Ok-Some.field-0-is at o.piece in
-    let h = rw c.in-Ok-Some.field-0-is at (o.greatest tells) in
-    rw (p.0, p.1) at h
+    let h = rw c.in-Ok-Some.field-0-is at (o.laid tells) in
+    rw (p.begins, p.ends) at h.greatest
 
 -- its bytes
 bytes : (g : Over) (c : In-Ok-Some g) → IsTrue g.S.Source.tells → g.L.Output.written c.next_piece.new.output ≡ g.L.Output.written c.args.spool.now ++ piece (g.R.BlockRuns.size c.args.cutter.now.runs) (frame (g.R.BlockRuns.list c.args.cutter.now.runs (g.S.Source.content c.args.source.now)) c.args.cutter.now.start.block c.next_piece.new.self.start.block)
@@ -35,11 +35,11 @@ bytes g c tells =
     let l = g.R.BlockRuns.list c.args.cutter.now.runs (g.S.Source.content c.args.source.now) in
     let o = c.in-Ok-Some.ensures in
     let p = rw c.in-Ok-Some.field-0-is at o.piece in
-    let h = rw c.in-Ok-Some.field-0-is at (o.written tells) in
-    h
+    let h = rw c.in-Ok-Some.field-0-is at (o.laid tells) in
+    h.written
     ∙ ap (λ (x : List ℕ). x ++ piece b (frame l c.in-Ok-Some.field-0-0.first c.in-Ok-Some.field-0-0.past)) c.clear.ensures.written
-    ∙ ap (λ (s : ℕ). g.L.Output.written c.args.spool.now ++ piece b (frame l s c.in-Ok-Some.field-0-0.past)) p.0
-    ∙ ap (λ (e : ℕ). g.L.Output.written c.args.spool.now ++ piece b (frame l c.args.cutter.now.start.block e)) p.1
+    ∙ ap (λ (s : ℕ). g.L.Output.written c.args.spool.now ++ piece b (frame l s c.in-Ok-Some.field-0-0.past)) p.begins
+    ∙ ap (λ (e : ℕ). g.L.Output.written c.args.spool.now ++ piece b (frame l c.args.cutter.now.start.block e)) p.ends
 
 -- what it reads as
 reads : (g : Over) (c : In-Ok-Some g) → IsTrue g.S.Source.tells → Reads (g.R.BlockRuns.size c.args.cutter.now.runs) (g.R.BlockRuns.count c.args.cutter.now.runs) (frame (g.R.BlockRuns.list c.args.cutter.now.runs (g.S.Source.content c.args.source.now)) c.args.cutter.now.start.block c.next_piece.new.self.start.block) (piece (g.R.BlockRuns.size c.args.cutter.now.runs) (frame (g.R.BlockRuns.list c.args.cutter.now.runs (g.S.Source.content c.args.source.now)) c.args.cutter.now.start.block c.next_piece.new.self.start.block))
@@ -231,7 +231,7 @@ returns-in-Err-flash-clause-cause g c =
 
 pub returns-in-Ok-flash-clause-clean : goal.returns-in-Ok-flash-clause-clean
 returns-in-Ok-flash-clause-clean g c =
-    let o = c.in-Ok-Some.ensures.clean in
+    let o = c.in-Ok-Some.ensures.failing.clean in
     let f = c.in-Ok-flash.ensures.cause in
     let writing = sym (g.met.L.Spool.writing c.next_piece.new.output) ∙ c.next_piece.ensures.write_frame ∙ g.met.L.Spool.writing c.clear.new.spool in
     let reading = sym (g.met.L.Spool.reading c.flash.new.input) ∙ c.flash.ensures.frame ∙ g.met.L.Spool.reading c.next_piece.new.output in
@@ -284,26 +284,26 @@ returns-in-Err-next_piece-clause-calls g c =
     let reads = ap (λ (f : WriteFrame). f.reads) writing in
     let clears = ap (λ (f : WriteFrame). f.clears) writing in
     let long = ap length c.clear.ensures.written in
-    omega (arith, gives, reads, clears, long, c.next_piece.ensures.calls, c.next_piece.ensures.given, c.next_piece.ensures.grown, c.clear.ensures.given, c.clear.ensures.reads, c.clear.ensures.writes, c.clear.ensures.calls)
+    omega (arith, gives, reads, clears, long, c.next_piece.ensures.costs.calls, c.next_piece.ensures.costs.given, c.next_piece.ensures.grown, c.clear.ensures.given, c.clear.ensures.reads, c.clear.ensures.writes, c.clear.ensures.calls)
 
 pub returns-in-Err-next_piece-clause-turns : goal.returns-in-Err-next_piece-clause-turns
 returns-in-Err-next_piece-clause-turns g c =
     let writing = sym (g.met.L.Spool.writing c.next_piece.new.output) ∙ c.next_piece.ensures.write_frame ∙ g.met.L.Spool.writing c.clear.new.spool in
     let gives = ap (λ (f : WriteFrame). f.given) writing in
     let long = ap length c.clear.ensures.written in
-    omega (arith, gives, long, c.next_piece.ensures.turns, c.next_piece.ensures.given, c.next_piece.ensures.grown, c.clear.ensures.given)
+    omega (arith, gives, long, c.next_piece.ensures.costs.turns, c.next_piece.ensures.costs.given, c.next_piece.ensures.grown, c.clear.ensures.given)
 
 pub returns-in-Err-next_piece-clause-steps : goal.returns-in-Err-next_piece-clause-steps
 returns-in-Err-next_piece-clause-steps g c =
     let writing = sym (g.met.L.Spool.writing c.next_piece.new.output) ∙ c.next_piece.ensures.write_frame ∙ g.met.L.Spool.writing c.clear.new.spool in
     let gives = ap (λ (f : WriteFrame). f.given) writing in
-    omega (arith, gives, c.next_piece.ensures.steps, c.next_piece.ensures.given, c.clear.ensures.given)
+    omega (arith, gives, c.next_piece.ensures.costs.steps, c.next_piece.ensures.costs.given, c.clear.ensures.given)
 
 pub returns-in-Err-next_piece-clause-write_faults : goal.returns-in-Err-next_piece-clause-write_faults
 returns-in-Err-next_piece-clause-write_faults g c =
     let writing = sym (g.met.L.Spool.writing c.next_piece.new.output) ∙ c.next_piece.ensures.write_frame ∙ g.met.L.Spool.writing c.clear.new.spool in
     let cleared = ap (λ (f : WriteFrame). f.clear_faults) writing in
-    omega (arith, cleared, c.next_piece.ensures.write_faults, c.clear.ensures.write_faults, c.clear.ensures.clear_faults)
+    omega (arith, cleared, c.next_piece.ensures.failing.write, c.clear.ensures.write_faults, c.clear.ensures.clear_faults)
 
 pub returns-in-Err-next_piece-clause-spool_faults : goal.returns-in-Err-next_piece-clause-spool_faults
 returns-in-Err-next_piece-clause-spool_faults g c =
@@ -342,7 +342,7 @@ returns-in-Ok-flash-clause-calls g c =
     let cleared = ap (λ (f : ReadFrame). f.clears) reading in
     let same = ap (λ (f : ReadFrame). length f.written) reading in
     let long = ap length c.clear.ensures.written in
-    omega (arith, gives, reads, clears, wrote, cleared, same, long, c.next_piece.ensures.calls, c.next_piece.ensures.given, c.next_piece.ensures.grown, c.clear.ensures.given, c.clear.ensures.reads, c.clear.ensures.writes, c.clear.ensures.calls, c.flash.ensures.costs.calls, c.flash.ensures.grows.given, c.flash.ensures.grows.taken)
+    omega (arith, gives, reads, clears, wrote, cleared, same, long, c.next_piece.ensures.costs.calls, c.next_piece.ensures.costs.given, c.next_piece.ensures.grown, c.clear.ensures.given, c.clear.ensures.reads, c.clear.ensures.writes, c.clear.ensures.calls, c.flash.ensures.costs.calls, c.flash.ensures.grows.given, c.flash.ensures.grows.taken)
 
 pub returns-in-Ok-flash-clause-turns : goal.returns-in-Ok-flash-clause-turns
 returns-in-Ok-flash-clause-turns g c =
@@ -351,17 +351,17 @@ returns-in-Ok-flash-clause-turns g c =
     let gives = ap (λ (f : WriteFrame). f.given) writing in
     let same = ap (λ (f : ReadFrame). length f.written) reading in
     let long = ap length c.clear.ensures.written in
-    omega (arith, gives, same, long, c.next_piece.ensures.turns, c.next_piece.ensures.given, c.next_piece.ensures.grown, c.clear.ensures.given, c.flash.ensures.costs.turns, c.flash.ensures.grows.given, c.flash.ensures.grows.taken)
+    omega (arith, gives, same, long, c.next_piece.ensures.costs.turns, c.next_piece.ensures.costs.given, c.next_piece.ensures.grown, c.clear.ensures.given, c.flash.ensures.costs.turns, c.flash.ensures.grows.given, c.flash.ensures.grows.taken)
 
 pub returns-in-Ok-flash-clause-steps : goal.returns-in-Ok-flash-clause-steps
 returns-in-Ok-flash-clause-steps g c =
     let writing = sym (g.met.L.Spool.writing c.next_piece.new.output) ∙ c.next_piece.ensures.write_frame ∙ g.met.L.Spool.writing c.clear.new.spool in
     let gives = ap (λ (f : WriteFrame). f.given) writing in
-    omega (arith, gives, c.next_piece.ensures.steps, c.next_piece.ensures.given, c.clear.ensures.given, c.flash.ensures.costs.steps, c.flash.ensures.grows.given)
+    omega (arith, gives, c.next_piece.ensures.costs.steps, c.next_piece.ensures.costs.given, c.clear.ensures.given, c.flash.ensures.costs.steps, c.flash.ensures.grows.given)
 
 pub returns-in-Ok-flash-clause-greatest : goal.returns-in-Ok-flash-clause-greatest
 returns-in-Ok-flash-clause-greatest g c =
-    omega (arith, c.next_piece.ensures.received, c.flash.ensures.costs.greatest)
+    omega (arith, c.next_piece.ensures.costs.greatest, c.flash.ensures.costs.greatest)
 
 pub returns-in-Ok-flash-clause-write_faults : goal.returns-in-Ok-flash-clause-write_faults
 returns-in-Ok-flash-clause-write_faults g c =
@@ -370,7 +370,7 @@ returns-in-Ok-flash-clause-write_faults g c =
     let cleared = ap (λ (f : WriteFrame). f.clear_faults) writing in
     let wrote = ap (λ (f : ReadFrame). f.write_faults) reading in
     let clears = ap (λ (f : ReadFrame). f.clear_faults) reading in
-    omega (arith, cleared, wrote, clears, c.next_piece.ensures.write_faults, c.clear.ensures.write_faults, c.clear.ensures.clear_faults)
+    omega (arith, cleared, wrote, clears, c.next_piece.ensures.failing.write, c.clear.ensures.write_faults, c.clear.ensures.clear_faults)
 
 pub returns-in-Ok-flash-clause-spool_faults : goal.returns-in-Ok-flash-clause-spool_faults
 returns-in-Ok-flash-clause-spool_faults g c =
@@ -409,7 +409,7 @@ returns-in-Err-flash-clause-calls g c =
     let cleared = ap (λ (f : ReadFrame). f.clears) reading in
     let same = ap (λ (f : ReadFrame). length f.written) reading in
     let long = ap length c.clear.ensures.written in
-    omega (arith, gives, reads, clears, wrote, cleared, same, long, c.next_piece.ensures.calls, c.next_piece.ensures.given, c.next_piece.ensures.grown, c.clear.ensures.given, c.clear.ensures.reads, c.clear.ensures.writes, c.clear.ensures.calls, c.flash.ensures.costs.calls, c.flash.ensures.grows.given, c.flash.ensures.grows.taken)
+    omega (arith, gives, reads, clears, wrote, cleared, same, long, c.next_piece.ensures.costs.calls, c.next_piece.ensures.costs.given, c.next_piece.ensures.grown, c.clear.ensures.given, c.clear.ensures.reads, c.clear.ensures.writes, c.clear.ensures.calls, c.flash.ensures.costs.calls, c.flash.ensures.grows.given, c.flash.ensures.grows.taken)
 
 pub returns-in-Err-flash-clause-turns : goal.returns-in-Err-flash-clause-turns
 returns-in-Err-flash-clause-turns g c =
@@ -418,17 +418,17 @@ returns-in-Err-flash-clause-turns g c =
     let gives = ap (λ (f : WriteFrame). f.given) writing in
     let same = ap (λ (f : ReadFrame). length f.written) reading in
     let long = ap length c.clear.ensures.written in
-    omega (arith, gives, same, long, c.next_piece.ensures.turns, c.next_piece.ensures.given, c.next_piece.ensures.grown, c.clear.ensures.given, c.flash.ensures.costs.turns, c.flash.ensures.grows.given, c.flash.ensures.grows.taken)
+    omega (arith, gives, same, long, c.next_piece.ensures.costs.turns, c.next_piece.ensures.costs.given, c.next_piece.ensures.grown, c.clear.ensures.given, c.flash.ensures.costs.turns, c.flash.ensures.grows.given, c.flash.ensures.grows.taken)
 
 pub returns-in-Err-flash-clause-steps : goal.returns-in-Err-flash-clause-steps
 returns-in-Err-flash-clause-steps g c =
     let writing = sym (g.met.L.Spool.writing c.next_piece.new.output) ∙ c.next_piece.ensures.write_frame ∙ g.met.L.Spool.writing c.clear.new.spool in
     let gives = ap (λ (f : WriteFrame). f.given) writing in
-    omega (arith, gives, c.next_piece.ensures.steps, c.next_piece.ensures.given, c.clear.ensures.given, c.flash.ensures.costs.steps, c.flash.ensures.grows.given)
+    omega (arith, gives, c.next_piece.ensures.costs.steps, c.next_piece.ensures.costs.given, c.clear.ensures.given, c.flash.ensures.costs.steps, c.flash.ensures.grows.given)
 
 pub returns-in-Err-flash-clause-greatest : goal.returns-in-Err-flash-clause-greatest
 returns-in-Err-flash-clause-greatest g c =
-    omega (arith, c.next_piece.ensures.received, c.flash.ensures.costs.greatest)
+    omega (arith, c.next_piece.ensures.costs.greatest, c.flash.ensures.costs.greatest)
 
 pub returns-in-Err-flash-clause-write_faults : goal.returns-in-Err-flash-clause-write_faults
 returns-in-Err-flash-clause-write_faults g c =
@@ -437,7 +437,7 @@ returns-in-Err-flash-clause-write_faults g c =
     let cleared = ap (λ (f : WriteFrame). f.clear_faults) writing in
     let wrote = ap (λ (f : ReadFrame). f.write_faults) reading in
     let clears = ap (λ (f : ReadFrame). f.clear_faults) reading in
-    omega (arith, cleared, wrote, clears, c.next_piece.ensures.write_faults, c.clear.ensures.write_faults, c.clear.ensures.clear_faults)
+    omega (arith, cleared, wrote, clears, c.next_piece.ensures.failing.write, c.clear.ensures.write_faults, c.clear.ensures.clear_faults)
 
 pub returns-in-Err-flash-clause-spool_faults : goal.returns-in-Err-flash-clause-spool_faults
 returns-in-Err-flash-clause-spool_faults g c =
@@ -457,6 +457,19 @@ returns-in-Ok-flash-clause-words g c =
     let same = ap (λ (f : ReadFrame). length f.written) reading in
     let long = ap length c.clear.ensures.written in
     let words = rw c.in-Ok-Some.field-0-is at c.in-Ok-Some.ensures.words in
-    let ends = (rw c.in-Ok-Some.field-0-is at c.in-Ok-Some.ensures.piece).1 in
+    let ends = (rw c.in-Ok-Some.field-0-is at c.in-Ok-Some.ensures.piece).ends in
     let few = rw ends at words in
-    omega (arith, gives, same, long, few, c.next_piece.ensures.given, c.next_piece.ensures.grown, c.clear.ensures.given, c.flash.ensures.costs.turns, c.flash.ensures.grows.given, c.flash.ensures.grows.taken)
+    omega (arith, gives, same, long, few, c.next_piece.ensures.costs.given, c.next_piece.ensures.grown, c.clear.ensures.given, c.flash.ensures.costs.turns, c.flash.ensures.grows.given, c.flash.ensures.grows.taken)
+
+pub returns-in-Ok-flash-clause-spent : goal.returns-in-Ok-flash-clause-spent
+returns-in-Ok-flash-clause-spent g c tells =
+    let z = rw c.in-Ok-Some.field-0-is at (c.in-Ok-Some.ensures.spent tells) in
+    omega (arith, z.most, c.next_piece.ensures.costs.given)
+
+pub returns-in-Ok-flash-clause-spent_end : goal.returns-in-Ok-flash-clause-spent_end
+returns-in-Ok-flash-clause-spent_end g c tells over =
+    let z = rw c.in-Ok-Some.field-0-is at (c.in-Ok-Some.ensures.spent tells) in
+    let ends = (rw c.in-Ok-Some.field-0-is at c.in-Ok-Some.ensures.piece).ends in
+    let end = rw ends at z.end in
+    let most = end over in
+    omega (arith, most, c.next_piece.ensures.costs.given)

@@ -38,9 +38,9 @@ returns-in-Ok g c =
         ends = o.sound.past;
         least = o.sound.least;
         most = o.sound.long;
-        long = o.bytes;
         one_more = p.made;
       });
+      long = rw p.piece o.bytes;
       laid = λ tells. rw p.piece (record {
         written = rw o.sound.first (piece_told g.S.Source.tells x r.size r.blocks limit start.block u.piece.past u.chunks old new tells (long tells) o.whole);
         coming = piece_told g.S.Source.tells x r.size r.blocks limit start.block u.piece.past u.chunks old new tells (long tells) o.whole ∙ ap (λ (y : List ℕ). old ++ y) (piece_is r.size limit l start.block u.piece.past (o.whole.told tells).1);
@@ -83,6 +83,7 @@ returns-in-Err g c =
       cutter = record { same_image = x.rest.0; same_limit = x.rest.1; unbegun = rw x.stage refl };
       grows = record { grown = q.grown; before = q.before; unfinished = unfinished_refused old new c.in-Err.ensures.unfinished };
       piece = tt;
+      long = tt;
       laid = λ tells. tt;
       costs = record {
         given = q.given;

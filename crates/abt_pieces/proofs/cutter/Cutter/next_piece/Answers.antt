@@ -1,4 +1,4 @@
-use Rattle.std.proofs.Common.{refl, arith, ap, ◌∙◌, ◌≡◌, ◌+◌, ◌++◌, ℕ, List, inl, inr}
+use Rattle.std.proofs.Common.{refl, rules, arith, ap, ◌∙◌, ◌≡◌, ◌+◌, ◌++◌, ℕ, List, inl, inr}
 use Rattle.abt_pieces.specs.declared.stage.Stage.TheVariants.{Between}
 use Rattle.abt_pieces.proofs.Fronts.{front_join, rest_join, nothing_more, nothing_less, as_many, max_most, not_full}
 use Rattle.abt_pieces.proofs.Stepping.{none_so_far, silent_unbegun, is_between, whole_front, piece_came}
@@ -88,60 +88,11 @@ steps-preserved g c =
       leads = leads_join (StageMayCome (g.R.BlockRuns.size c.args.self.now.runs) (g.R.BlockRuns.count c.args.self.now.runs) c.args.self.now.stage) (StageMayCome (g.R.BlockRuns.size c.args.self.now.runs) (g.R.BlockRuns.count c.args.self.now.runs) c.steps.self.stage) (StageMayCome (g.R.BlockRuns.size c.args.self.now.runs) (g.R.BlockRuns.count c.args.self.now.runs) c.step.new.self.stage) _ _ _ i.leads (rw i.runs at (rw is at o.leads));
     }
 
-pub returns-in-Ok-Piece-clause-calls : goal.returns-in-Ok-Piece-clause-calls
-returns-in-Ok-Piece-clause-calls g c =
+-- the piece is written
+pub returns-in-Ok-Piece : goal.returns-in-Ok-Piece
+returns-in-Ok-Piece g c =
     let i = c.steps.invariant in
     let e = c.step.ensures in
-    omega (arith, i.calls, i.write_calls, e.calls, e.write_calls, i.given, e.given, i.grown, e.grown)
-
-pub returns-in-Ok-End-clause-calls : goal.returns-in-Ok-End-clause-calls
-returns-in-Ok-End-clause-calls g c =
-    let i = c.steps.invariant in
-    let e = c.step.ensures in
-    omega (arith, i.calls, i.write_calls, e.calls, e.write_calls, i.given, e.given, i.grown, e.grown)
-
-pub returns-in-Err-clause-calls : goal.returns-in-Err-clause-calls
-returns-in-Err-clause-calls g c =
-    let i = c.steps.invariant in
-    let e = c.step.ensures in
-    omega (arith, i.calls, i.write_calls, e.calls, e.write_calls, i.given, e.given, i.grown, e.grown)
-
-pub returns-in-Ok-Piece-clause-turns : goal.returns-in-Ok-Piece-clause-turns
-returns-in-Ok-Piece-clause-turns g c =
-    let i = c.steps.invariant in
-    let e = c.step.ensures in
-    let t = rw i.runs at e.turns in
-    omega (arith, i.turns, t, c.tick.ensures.turns, i.given, e.given, i.grown, e.grown)
-
-pub returns-in-Ok-End-clause-turns : goal.returns-in-Ok-End-clause-turns
-returns-in-Ok-End-clause-turns g c =
-    let i = c.steps.invariant in
-    let e = c.step.ensures in
-    let t = rw i.runs at e.turns in
-    omega (arith, i.turns, t, c.tick.ensures.turns, i.given, e.given, i.grown, e.grown)
-
-pub returns-in-Err-clause-turns : goal.returns-in-Err-clause-turns
-returns-in-Err-clause-turns g c =
-    let i = c.steps.invariant in
-    let e = c.step.ensures in
-    let t = rw i.runs at e.turns in
-    omega (arith, i.turns, t, c.tick.ensures.turns, i.given, e.given, i.grown, e.grown)
-
-pub returns-in-Ok-Piece-clause-words : goal.returns-in-Ok-Piece-clause-words
-returns-in-Ok-Piece-clause-words g c =
-    let i = c.steps.invariant in
-    let e = c.step.ensures in
-    let t = rw i.runs at (rw c.in-Ok-Piece.field-0-is at c.in-Ok-Piece.ensures.piece_words) in
-    omega (arith, i.turns, t, c.tick.ensures.turns, i.given, e.given, i.grown, e.grown)
-
-pub returns-in-Ok-Piece-clause-takes : goal.returns-in-Ok-Piece-clause-takes
-returns-in-Ok-Piece-clause-takes g c =
-    let i = c.steps.invariant in
-    rw (i.runs, i.start) at (rw c.in-Ok-Piece.field-0-is at c.in-Ok-Piece.ensures.takes)
-
-pub returns-in-Ok-Piece-clause-written : goal.returns-in-Ok-Piece-clause-written
-returns-in-Ok-Piece-clause-written g c tells =
-    let i = c.steps.invariant in
     let o = c.in-Ok-Piece.ensures in
     let is = c.in-Ok-Piece.field-0-is in
     let between : c.args.self.now.stage ≡ Between = elim i.fresh [
@@ -149,458 +100,149 @@ returns-in-Ok-Piece-clause-written g c tells =
       | inr h ↦ is_between _ c.requires.unbegun (λ d. let z = rw is at (o.after_last (h.3 ∙ d)) in absurd cc) (λ f d. let z = rw is at (o.again f (h.3 ∙ d)).0 in absurd cc)
     ] in
     let piece = rw is at o.piece in
-    let exact = rw is at (o.exact tells) in
-    let whole = rw is at (o.whole tells) in
     let first = rw i.start at piece.0 in
-    whole_front _ _ _ _ _ _ (i.front tells) (i.rest tells) (rw (i.runs, i.kept tells, i.limit, i.start) at whole)
-    ∙ ap (λ (y : List ℕ). g.O.Output.written c.args.output.now ++ y) (piece_came _ _ _ _ c.in-Ok-Piece.piece _ between first (rw (i.runs, i.kept tells, i.limit) at exact.1))
+    record {
+      cutter = record { same_image = e.runs ∙ i.runs; same_limit = e.limit ∙ i.limit; unbegun = rw is at o.begun };
+      content = λ tells. e.content tells ∙ i.kept tells;
+      frame = e.frame ∙ i.frame;
+      write_frame = e.write_frame ∙ i.write_frame;
+      told = λ tells. rw (i.runs, i.kept tells) at (e.told tells);
+      grown = omega (arith, e.grown, i.grown);
+      within = let few = rw i.limit at e.within in omega (arith, few, i.counted, i.grown, e.grown);
+      front = λ tells. front_join _ _ _ _ _ i.grown e.grown (i.front tells) (i.rest tells) (rw (i.runs, i.kept tells, i.limit, i.start) at (e.front tells));
+      image = between_image _ _ _ _ _ between (leads_whole _ _ _ _ _ i.leads (rw i.runs at (rw is at o.all)));
+      piece = record {
+        passed = rw i.runs at (rw is at o.passed);
+        begins = first;
+        ends = piece.1;
+        least = rw is at o.least;
+        most = rw i.limit at piece.2;
+        one_more = piece.4 ∙ ap (λ (n : ℕ). n + 1) i.made;
+      };
+      long = omega (arith, piece.3, i.counted, i.grown, e.grown);
+      laid = λ tells.
+          let exact = rw is at (o.exact tells) in
+          let whole = whole_front _ _ _ _ _ _ (i.front tells) (i.rest tells) (rw (i.runs, i.kept tells, i.limit, i.start) at (rw is at (o.whole tells))) in
+          let greatest = rw (i.runs, i.kept tells, i.limit) at exact.1 in
+          record {
+            written = whole ∙ ap (λ (y : List ℕ). g.O.Output.written c.args.output.now ++ y) (piece_came _ _ _ _ c.in-Ok-Piece.piece _ between first greatest);
+            coming = rw between at whole;
+            exact = rw (i.runs, i.kept tells) at exact.0;
+            greatest = greatest;
+          };
+      none = tt;
+      after_last = search rules;
+      again = search rules;
+      refused = tt;
+      costs = record {
+        given = omega (arith, i.given, e.given);
+        steps = omega (arith, i.steps, e.steps, e.received, c.tick.ensures.steps);
+        greatest = omega (arith, i.greatest, e.greatest, e.received, c.tick.ensures.greatest);
+        calls = omega (arith, i.calls, i.write_calls, e.calls, e.write_calls, i.given, e.given, i.grown, e.grown);
+        turns = let t = rw i.runs at e.turns in omega (arith, i.turns, t, c.tick.ensures.turns, i.given, e.given, i.grown, e.grown);
+      };
+      takes = rw (i.runs, i.start) at (rw is at o.takes);
+      spent = λ tells.
+          let step = rw (i.runs, i.kept tells, i.limit, i.start) at (rw is at (o.spent tells)) in
+          let z = step _ (i.spent tells) in
+          record { most = omega (arith, z.most, i.given, e.given); end = λ over. let y = z.end over in omega (arith, y, i.given, e.given) };
+      words = let t = rw i.runs at (rw is at o.piece_words) in omega (arith, i.turns, t, c.tick.ensures.turns, i.given, e.given, i.grown, e.grown);
+      failing = record {
+        read = omega (arith, i.faults, e.faults);
+        write = omega (arith, i.write_faults, e.write_faults);
+        clean = (o.clean.0 ∙ i.clean.0, o.clean.1 ∙ i.clean.1);
+      };
+      full_faults = λ h. let z = o.full_faults (still_unfailed _ _ i.fresh h) in omega (arith, z, i.unfilled h);
+      full = λ h says. absurd (not_full says);
+      cause = tt;
+    }
 
-pub returns-in-Ok-Piece-clause-greatest : goal.returns-in-Ok-Piece-clause-greatest
-returns-in-Ok-Piece-clause-greatest g c tells =
-    let i = c.steps.invariant in
-    let exact = rw c.in-Ok-Piece.field-0-is at (c.in-Ok-Piece.ensures.exact tells) in
-    rw (i.runs, i.kept tells, i.limit) at exact.1
-
-pub returns-in-Err-clause-front : goal.returns-in-Err-clause-front
-returns-in-Err-clause-front g c tells =
+-- no piece is left
+pub returns-in-Ok-End : goal.returns-in-Ok-End
+returns-in-Ok-End g c =
     let i = c.steps.invariant in
     let e = c.step.ensures in
-    front_join _ _ _ _ _ i.grown e.grown (i.front tells) (i.rest tells) (rw (i.runs, i.kept tells, i.limit, i.start) at (e.front tells))
-
-pub returns-in-Ok-Piece-clause-spent : goal.returns-in-Ok-Piece-clause-spent
-returns-in-Ok-Piece-clause-spent g c tells =
-    let i = c.steps.invariant in
-    let step = rw (i.runs, i.kept tells, i.limit, i.start) at (rw c.in-Ok-Piece.field-0-is at (c.in-Ok-Piece.ensures.spent tells)) in
-    let z = step _ (i.spent tells) in
-    omega (arith, z.most, i.given, c.step.ensures.given)
-
-pub returns-in-Ok-Piece-clause-spent_end : goal.returns-in-Ok-Piece-clause-spent_end
-returns-in-Ok-Piece-clause-spent_end g c tells over =
-    let i = c.steps.invariant in
-    let step = rw (i.runs, i.kept tells, i.limit, i.start) at (rw c.in-Ok-Piece.field-0-is at (c.in-Ok-Piece.ensures.spent tells)) in
-    let z = step _ (i.spent tells) in
-    let y = z.end over in
-    omega (arith, y, i.given, c.step.ensures.given)
-
-pub returns-in-Ok-Piece-clause-image : goal.returns-in-Ok-Piece-clause-image
-returns-in-Ok-Piece-clause-image g c =
-    let i = c.steps.invariant in
-    let o = c.in-Ok-Piece.ensures in
-    let is = c.in-Ok-Piece.field-0-is in
-    let between : c.args.self.now.stage ≡ Between = elim i.fresh [
-      | inl h ↦ h.1
-      | inr h ↦ is_between _ c.requires.unbegun (λ d. let z = rw is at (o.after_last (h.3 ∙ d)) in absurd cc) (λ f d. let z = rw is at (o.again f (h.3 ∙ d)).0 in absurd cc)
-    ] in
-    between_image _ _ _ _ _ between (leads_whole _ _ _ _ _ i.leads (rw i.runs at (rw is at o.all)))
-
-pub returns-in-Ok-Piece-clause-clean : goal.returns-in-Ok-Piece-clause-clean
-returns-in-Ok-Piece-clause-clean g c =
-    let i = c.steps.invariant in
-    let o = c.in-Ok-Piece.ensures in
-    (o.clean.0 ∙ i.clean.0, o.clean.1 ∙ i.clean.1)
-
-pub returns-in-Ok-End-clause-clean : goal.returns-in-Ok-End-clause-clean
-returns-in-Ok-End-clause-clean g c =
-    let i = c.steps.invariant in
     let o = c.in-Ok-End.ensures in
-    (o.clean.0 ∙ i.clean.0, o.clean.1 ∙ i.clean.1)
+    let is = c.in-Ok-End.field-0-is in
+    record {
+      cutter = record { same_image = e.runs ∙ i.runs; same_limit = e.limit ∙ i.limit; unbegun = rw is at o.begun };
+      content = λ tells. e.content tells ∙ i.kept tells;
+      frame = e.frame ∙ i.frame;
+      write_frame = e.write_frame ∙ i.write_frame;
+      told = λ tells. rw (i.runs, i.kept tells) at (e.told tells);
+      grown = omega (arith, e.grown, i.grown);
+      within = let few = rw i.limit at e.within in omega (arith, few, i.counted, i.grown, e.grown);
+      front = λ tells. front_join _ _ _ _ _ i.grown e.grown (i.front tells) (i.rest tells) (rw (i.runs, i.kept tells, i.limit, i.start) at (e.front tells));
+      image = tt;
+      piece = tt;
+      long = tt;
+      laid = λ tells. tt;
+      none = search rules;
+      after_last = search rules;
+      again = search rules;
+      refused = tt;
+      costs = record {
+        given = omega (arith, i.given, e.given);
+        steps = omega (arith, i.steps, e.steps, e.received, c.tick.ensures.steps);
+        greatest = omega (arith, i.greatest, e.greatest, e.received, c.tick.ensures.greatest);
+        calls = omega (arith, i.calls, i.write_calls, e.calls, e.write_calls, i.given, e.given, i.grown, e.grown);
+        turns = let t = rw i.runs at e.turns in omega (arith, i.turns, t, c.tick.ensures.turns, i.given, e.given, i.grown, e.grown);
+      };
+      takes = tt;
+      spent = λ tells. tt;
+      words = tt;
+      failing = record {
+        read = omega (arith, i.faults, e.faults);
+        write = omega (arith, i.write_faults, e.write_faults);
+        clean = (o.clean.0 ∙ i.clean.0, o.clean.1 ∙ i.clean.1);
+      };
+      full_faults = λ h. let z = o.full_faults (still_unfailed _ _ i.fresh h) in omega (arith, z, i.unfilled h);
+      full = λ h says. absurd (not_full says);
+      cause = tt;
+    }
 
-pub returns-in-Ok-Piece-clause-full_faults : goal.returns-in-Ok-Piece-clause-full_faults
-returns-in-Ok-Piece-clause-full_faults g c h =
-    let i = c.steps.invariant in
-    let z = c.in-Ok-Piece.ensures.full_faults (still_unfailed _ _ i.fresh h) in
-    omega (arith, z, i.unfilled h)
-
-pub returns-in-Ok-End-clause-full_faults : goal.returns-in-Ok-End-clause-full_faults
-returns-in-Ok-End-clause-full_faults g c h =
-    let i = c.steps.invariant in
-    let z = c.in-Ok-End.ensures.full_faults (still_unfailed _ _ i.fresh h) in
-    omega (arith, z, i.unfilled h)
-
-pub returns-in-Err-clause-full_faults : goal.returns-in-Err-clause-full_faults
-returns-in-Err-clause-full_faults g c h =
-    let i = c.steps.invariant in
-    let z = c.in-Err.ensures.full_faults (still_unfailed _ _ i.fresh h) in
-    omega (arith, z, i.unfilled h)
-
-pub returns-in-Err-clause-full : goal.returns-in-Err-clause-full
-returns-in-Err-clause-full g c h says =
-    let i = c.steps.invariant in
-    let z = c.in-Err.ensures.full (still_unfailed _ _ i.fresh h) says in
-    let few = rw i.limit at z.1 in
-    (z.0, omega (arith, few, i.counted, i.grown, c.step.ensures.grown))
-
-pub returns-in-Ok-Piece-clause-runs : goal.returns-in-Ok-Piece-clause-runs
-returns-in-Ok-Piece-clause-runs g c =
-    let i = c.steps.invariant in
-    let e = c.step.ensures in
-    e.runs ∙ i.runs
-
-pub returns-in-Ok-Piece-clause-limit : goal.returns-in-Ok-Piece-clause-limit
-returns-in-Ok-Piece-clause-limit g c =
-    let i = c.steps.invariant in
-    let e = c.step.ensures in
-    e.limit ∙ i.limit
-
-pub returns-in-Ok-Piece-clause-frame : goal.returns-in-Ok-Piece-clause-frame
-returns-in-Ok-Piece-clause-frame g c =
-    let i = c.steps.invariant in
-    let e = c.step.ensures in
-    e.frame ∙ i.frame
-
-pub returns-in-Ok-Piece-clause-write_frame : goal.returns-in-Ok-Piece-clause-write_frame
-returns-in-Ok-Piece-clause-write_frame g c =
+-- a step is refused
+pub returns-in-Err : goal.returns-in-Err
+returns-in-Err g c =
     let i = c.steps.invariant in
     let e = c.step.ensures in
-    e.write_frame ∙ i.write_frame
-
-pub returns-in-Ok-Piece-clause-content : goal.returns-in-Ok-Piece-clause-content
-returns-in-Ok-Piece-clause-content g c tells =
-    let i = c.steps.invariant in
-    let e = c.step.ensures in
-    e.content tells ∙ i.kept tells
-
-pub returns-in-Ok-Piece-clause-told : goal.returns-in-Ok-Piece-clause-told
-returns-in-Ok-Piece-clause-told g c tells =
-    let i = c.steps.invariant in
-    let e = c.step.ensures in
-    rw (i.runs, i.kept tells) at (e.told tells)
-
-pub returns-in-Ok-Piece-clause-unbegun : goal.returns-in-Ok-Piece-clause-unbegun
-returns-in-Ok-Piece-clause-unbegun g c = rw c.in-Ok-Piece.field-0-is at c.in-Ok-Piece.ensures.begun
-
-pub returns-in-Ok-Piece-clause-grown : goal.returns-in-Ok-Piece-clause-grown
-returns-in-Ok-Piece-clause-grown g c =
-    let i = c.steps.invariant in
-    let e = c.step.ensures in
-    omega (arith, e.grown, i.grown)
-
-pub returns-in-Ok-Piece-clause-within : goal.returns-in-Ok-Piece-clause-within
-returns-in-Ok-Piece-clause-within g c =
-    let i = c.steps.invariant in
-    let e = c.step.ensures in
-    let few = rw i.limit at e.within in
-    omega (arith, few, i.counted, i.grown, e.grown)
-
-pub returns-in-Ok-Piece-clause-front : goal.returns-in-Ok-Piece-clause-front
-returns-in-Ok-Piece-clause-front g c tells =
-    let i = c.steps.invariant in
-    let e = c.step.ensures in
-    front_join _ _ _ _ _ i.grown e.grown (i.front tells) (i.rest tells) (rw (i.runs, i.kept tells, i.limit, i.start) at (e.front tells))
-
-pub returns-in-Ok-Piece-clause-given : goal.returns-in-Ok-Piece-clause-given
-returns-in-Ok-Piece-clause-given g c =
-    let i = c.steps.invariant in
-    let e = c.step.ensures in
-    omega (arith, i.given, e.given)
-
-pub returns-in-Ok-Piece-clause-steps : goal.returns-in-Ok-Piece-clause-steps
-returns-in-Ok-Piece-clause-steps g c =
-    let i = c.steps.invariant in
-    let e = c.step.ensures in
-    omega (arith, i.steps, e.steps, e.received, c.tick.ensures.steps)
-
-pub returns-in-Ok-Piece-clause-received : goal.returns-in-Ok-Piece-clause-received
-returns-in-Ok-Piece-clause-received g c =
-    let i = c.steps.invariant in
-    let e = c.step.ensures in
-    omega (arith, i.greatest, e.greatest, e.received, c.tick.ensures.greatest)
-
-pub returns-in-Ok-Piece-clause-faults : goal.returns-in-Ok-Piece-clause-faults
-returns-in-Ok-Piece-clause-faults g c =
-    let i = c.steps.invariant in
-    let e = c.step.ensures in
-    omega (arith, i.faults, e.faults)
-
-pub returns-in-Ok-Piece-clause-write_faults : goal.returns-in-Ok-Piece-clause-write_faults
-returns-in-Ok-Piece-clause-write_faults g c =
-    let i = c.steps.invariant in
-    let e = c.step.ensures in
-    omega (arith, i.write_faults, e.write_faults)
-
-pub returns-in-Ok-Piece-clause-refused : goal.returns-in-Ok-Piece-clause-refused
-returns-in-Ok-Piece-clause-refused g c = tt
-
-pub returns-in-Ok-Piece-clause-cause : goal.returns-in-Ok-Piece-clause-cause
-returns-in-Ok-Piece-clause-cause g c = tt
-
-pub returns-in-Ok-Piece-clause-full : goal.returns-in-Ok-Piece-clause-full
-returns-in-Ok-Piece-clause-full g c h says = absurd (not_full says)
-
-pub returns-in-Ok-Piece-clause-none : goal.returns-in-Ok-Piece-clause-none
-returns-in-Ok-Piece-clause-none g c = tt
-
-pub returns-in-Ok-End-clause-runs : goal.returns-in-Ok-End-clause-runs
-returns-in-Ok-End-clause-runs g c =
-    let i = c.steps.invariant in
-    let e = c.step.ensures in
-    e.runs ∙ i.runs
-
-pub returns-in-Ok-End-clause-limit : goal.returns-in-Ok-End-clause-limit
-returns-in-Ok-End-clause-limit g c =
-    let i = c.steps.invariant in
-    let e = c.step.ensures in
-    e.limit ∙ i.limit
-
-pub returns-in-Ok-End-clause-frame : goal.returns-in-Ok-End-clause-frame
-returns-in-Ok-End-clause-frame g c =
-    let i = c.steps.invariant in
-    let e = c.step.ensures in
-    e.frame ∙ i.frame
-
-pub returns-in-Ok-End-clause-write_frame : goal.returns-in-Ok-End-clause-write_frame
-returns-in-Ok-End-clause-write_frame g c =
-    let i = c.steps.invariant in
-    let e = c.step.ensures in
-    e.write_frame ∙ i.write_frame
-
-pub returns-in-Ok-End-clause-content : goal.returns-in-Ok-End-clause-content
-returns-in-Ok-End-clause-content g c tells =
-    let i = c.steps.invariant in
-    let e = c.step.ensures in
-    e.content tells ∙ i.kept tells
-
-pub returns-in-Ok-End-clause-told : goal.returns-in-Ok-End-clause-told
-returns-in-Ok-End-clause-told g c tells =
-    let i = c.steps.invariant in
-    let e = c.step.ensures in
-    rw (i.runs, i.kept tells) at (e.told tells)
-
-pub returns-in-Ok-End-clause-unbegun : goal.returns-in-Ok-End-clause-unbegun
-returns-in-Ok-End-clause-unbegun g c = rw c.in-Ok-End.field-0-is at c.in-Ok-End.ensures.begun
-
-pub returns-in-Ok-End-clause-grown : goal.returns-in-Ok-End-clause-grown
-returns-in-Ok-End-clause-grown g c =
-    let i = c.steps.invariant in
-    let e = c.step.ensures in
-    omega (arith, e.grown, i.grown)
-
-pub returns-in-Ok-End-clause-within : goal.returns-in-Ok-End-clause-within
-returns-in-Ok-End-clause-within g c =
-    let i = c.steps.invariant in
-    let e = c.step.ensures in
-    let few = rw i.limit at e.within in
-    omega (arith, few, i.counted, i.grown, e.grown)
-
-pub returns-in-Ok-End-clause-front : goal.returns-in-Ok-End-clause-front
-returns-in-Ok-End-clause-front g c tells =
-    let i = c.steps.invariant in
-    let e = c.step.ensures in
-    front_join _ _ _ _ _ i.grown e.grown (i.front tells) (i.rest tells) (rw (i.runs, i.kept tells, i.limit, i.start) at (e.front tells))
-
-pub returns-in-Ok-End-clause-given : goal.returns-in-Ok-End-clause-given
-returns-in-Ok-End-clause-given g c =
-    let i = c.steps.invariant in
-    let e = c.step.ensures in
-    omega (arith, i.given, e.given)
-
-pub returns-in-Ok-End-clause-steps : goal.returns-in-Ok-End-clause-steps
-returns-in-Ok-End-clause-steps g c =
-    let i = c.steps.invariant in
-    let e = c.step.ensures in
-    omega (arith, i.steps, e.steps, e.received, c.tick.ensures.steps)
-
-pub returns-in-Ok-End-clause-received : goal.returns-in-Ok-End-clause-received
-returns-in-Ok-End-clause-received g c =
-    let i = c.steps.invariant in
-    let e = c.step.ensures in
-    omega (arith, i.greatest, e.greatest, e.received, c.tick.ensures.greatest)
-
-pub returns-in-Ok-End-clause-faults : goal.returns-in-Ok-End-clause-faults
-returns-in-Ok-End-clause-faults g c =
-    let i = c.steps.invariant in
-    let e = c.step.ensures in
-    omega (arith, i.faults, e.faults)
-
-pub returns-in-Ok-End-clause-write_faults : goal.returns-in-Ok-End-clause-write_faults
-returns-in-Ok-End-clause-write_faults g c =
-    let i = c.steps.invariant in
-    let e = c.step.ensures in
-    omega (arith, i.write_faults, e.write_faults)
-
-pub returns-in-Ok-End-clause-refused : goal.returns-in-Ok-End-clause-refused
-returns-in-Ok-End-clause-refused g c = tt
-
-pub returns-in-Ok-End-clause-cause : goal.returns-in-Ok-End-clause-cause
-returns-in-Ok-End-clause-cause g c = tt
-
-pub returns-in-Ok-End-clause-full : goal.returns-in-Ok-End-clause-full
-returns-in-Ok-End-clause-full g c h says = absurd (not_full says)
-
-pub returns-in-Ok-End-clause-image : goal.returns-in-Ok-End-clause-image
-returns-in-Ok-End-clause-image g c = tt
-
-pub returns-in-Ok-End-clause-passed : goal.returns-in-Ok-End-clause-passed
-returns-in-Ok-End-clause-passed g c = tt
-
-pub returns-in-Ok-End-clause-least : goal.returns-in-Ok-End-clause-least
-returns-in-Ok-End-clause-least g c = tt
-
-pub returns-in-Ok-End-clause-piece : goal.returns-in-Ok-End-clause-piece
-returns-in-Ok-End-clause-piece g c = tt
-
-pub returns-in-Ok-End-clause-takes : goal.returns-in-Ok-End-clause-takes
-returns-in-Ok-End-clause-takes g c = tt
-
-pub returns-in-Ok-End-clause-words : goal.returns-in-Ok-End-clause-words
-returns-in-Ok-End-clause-words g c = tt
-
-pub returns-in-Ok-End-clause-written : goal.returns-in-Ok-End-clause-written
-returns-in-Ok-End-clause-written g c tells = tt
-
-pub returns-in-Ok-End-clause-exact : goal.returns-in-Ok-End-clause-exact
-returns-in-Ok-End-clause-exact g c tells = tt
-
-pub returns-in-Ok-End-clause-greatest : goal.returns-in-Ok-End-clause-greatest
-returns-in-Ok-End-clause-greatest g c tells = tt
-
-pub returns-in-Ok-End-clause-spent : goal.returns-in-Ok-End-clause-spent
-returns-in-Ok-End-clause-spent g c tells = tt
-
-pub returns-in-Ok-End-clause-spent_end : goal.returns-in-Ok-End-clause-spent_end
-returns-in-Ok-End-clause-spent_end g c tells = tt
-
-pub returns-in-Err-clause-runs : goal.returns-in-Err-clause-runs
-returns-in-Err-clause-runs g c =
-    let i = c.steps.invariant in
-    let e = c.step.ensures in
-    e.runs ∙ i.runs
-
-pub returns-in-Err-clause-limit : goal.returns-in-Err-clause-limit
-returns-in-Err-clause-limit g c =
-    let i = c.steps.invariant in
-    let e = c.step.ensures in
-    e.limit ∙ i.limit
-
-pub returns-in-Err-clause-frame : goal.returns-in-Err-clause-frame
-returns-in-Err-clause-frame g c =
-    let i = c.steps.invariant in
-    let e = c.step.ensures in
-    e.frame ∙ i.frame
-
-pub returns-in-Err-clause-write_frame : goal.returns-in-Err-clause-write_frame
-returns-in-Err-clause-write_frame g c =
-    let i = c.steps.invariant in
-    let e = c.step.ensures in
-    e.write_frame ∙ i.write_frame
-
-pub returns-in-Err-clause-content : goal.returns-in-Err-clause-content
-returns-in-Err-clause-content g c tells =
-    let i = c.steps.invariant in
-    let e = c.step.ensures in
-    e.content tells ∙ i.kept tells
-
-pub returns-in-Err-clause-told : goal.returns-in-Err-clause-told
-returns-in-Err-clause-told g c tells =
-    let i = c.steps.invariant in
-    let e = c.step.ensures in
-    rw (i.runs, i.kept tells) at (e.told tells)
-
-pub returns-in-Err-clause-unbegun : goal.returns-in-Err-clause-unbegun
-returns-in-Err-clause-unbegun g c = c.in-Err.ensures.begun
-
-pub returns-in-Err-clause-grown : goal.returns-in-Err-clause-grown
-returns-in-Err-clause-grown g c =
-    let i = c.steps.invariant in
-    let e = c.step.ensures in
-    omega (arith, e.grown, i.grown)
-
-pub returns-in-Err-clause-within : goal.returns-in-Err-clause-within
-returns-in-Err-clause-within g c =
-    let i = c.steps.invariant in
-    let e = c.step.ensures in
-    let few = rw i.limit at e.within in
-    omega (arith, few, i.counted, i.grown, e.grown)
-
-pub returns-in-Err-clause-given : goal.returns-in-Err-clause-given
-returns-in-Err-clause-given g c =
-    let i = c.steps.invariant in
-    let e = c.step.ensures in
-    omega (arith, i.given, e.given)
-
-pub returns-in-Err-clause-steps : goal.returns-in-Err-clause-steps
-returns-in-Err-clause-steps g c =
-    let i = c.steps.invariant in
-    let e = c.step.ensures in
-    omega (arith, i.steps, e.steps, e.received, c.tick.ensures.steps)
-
-pub returns-in-Err-clause-received : goal.returns-in-Err-clause-received
-returns-in-Err-clause-received g c =
-    let i = c.steps.invariant in
-    let e = c.step.ensures in
-    omega (arith, i.greatest, e.greatest, e.received, c.tick.ensures.greatest)
-
-pub returns-in-Err-clause-faults : goal.returns-in-Err-clause-faults
-returns-in-Err-clause-faults g c =
-    let i = c.steps.invariant in
-    let e = c.step.ensures in
-    omega (arith, i.faults, e.faults)
-
-pub returns-in-Err-clause-write_faults : goal.returns-in-Err-clause-write_faults
-returns-in-Err-clause-write_faults g c =
-    let i = c.steps.invariant in
-    let e = c.step.ensures in
-    omega (arith, i.write_faults, e.write_faults)
-
-pub returns-in-Err-clause-image : goal.returns-in-Err-clause-image
-returns-in-Err-clause-image g c = tt
-
-pub returns-in-Err-clause-passed : goal.returns-in-Err-clause-passed
-returns-in-Err-clause-passed g c = tt
-
-pub returns-in-Err-clause-least : goal.returns-in-Err-clause-least
-returns-in-Err-clause-least g c = tt
-
-pub returns-in-Err-clause-piece : goal.returns-in-Err-clause-piece
-returns-in-Err-clause-piece g c = tt
-
-pub returns-in-Err-clause-takes : goal.returns-in-Err-clause-takes
-returns-in-Err-clause-takes g c = tt
-
-pub returns-in-Err-clause-words : goal.returns-in-Err-clause-words
-returns-in-Err-clause-words g c = tt
-
-pub returns-in-Err-clause-written : goal.returns-in-Err-clause-written
-returns-in-Err-clause-written g c tells = tt
-
-pub returns-in-Err-clause-exact : goal.returns-in-Err-clause-exact
-returns-in-Err-clause-exact g c tells = tt
-
-pub returns-in-Err-clause-greatest : goal.returns-in-Err-clause-greatest
-returns-in-Err-clause-greatest g c tells = tt
-
-pub returns-in-Err-clause-spent : goal.returns-in-Err-clause-spent
-returns-in-Err-clause-spent g c tells = tt
-
-pub returns-in-Err-clause-spent_end : goal.returns-in-Err-clause-spent_end
-returns-in-Err-clause-spent_end g c tells = tt
-
-pub returns-in-Err-clause-none : goal.returns-in-Err-clause-none
-returns-in-Err-clause-none g c = tt
-
-pub returns-in-Ok-Piece-clause-passed : goal.returns-in-Ok-Piece-clause-passed
-returns-in-Ok-Piece-clause-passed g c =
-    let i = c.steps.invariant in
-    rw i.runs at (rw c.in-Ok-Piece.field-0-is at c.in-Ok-Piece.ensures.passed)
-
-pub returns-in-Ok-Piece-clause-least : goal.returns-in-Ok-Piece-clause-least
-returns-in-Ok-Piece-clause-least g c = rw c.in-Ok-Piece.field-0-is at c.in-Ok-Piece.ensures.least
-
-pub returns-in-Ok-Piece-clause-piece : goal.returns-in-Ok-Piece-clause-piece
-returns-in-Ok-Piece-clause-piece g c =
-    let i = c.steps.invariant in
-    let e = c.step.ensures in
-    let piece = rw c.in-Ok-Piece.field-0-is at c.in-Ok-Piece.ensures.piece in
-    (rw i.start at piece.0, piece.1, rw i.limit at piece.2, omega (arith, piece.3, i.counted, i.grown, e.grown), piece.4 ∙ ap (λ (n : ℕ). n + 1) i.made)
-
-pub returns-in-Ok-Piece-clause-exact : goal.returns-in-Ok-Piece-clause-exact
-returns-in-Ok-Piece-clause-exact g c tells =
-    let i = c.steps.invariant in
-    let exact = rw (i.runs, i.kept tells) at (rw c.in-Ok-Piece.field-0-is at (c.in-Ok-Piece.ensures.exact tells)) in
-    exact.0
-
-pub returns-in-Err-clause-clean : goal.returns-in-Err-clause-clean
-returns-in-Err-clause-clean g c = tt
-
-pub returns-in-Err-clause-refused : goal.returns-in-Err-clause-refused
-returns-in-Err-clause-refused g c = c.in-Err.ensures.refused
+    let o = c.in-Err.ensures in
+    record {
+      cutter = record { same_image = e.runs ∙ i.runs; same_limit = e.limit ∙ i.limit; unbegun = o.begun };
+      content = λ tells. e.content tells ∙ i.kept tells;
+      frame = e.frame ∙ i.frame;
+      write_frame = e.write_frame ∙ i.write_frame;
+      told = λ tells. rw (i.runs, i.kept tells) at (e.told tells);
+      grown = omega (arith, e.grown, i.grown);
+      within = let few = rw i.limit at e.within in omega (arith, few, i.counted, i.grown, e.grown);
+      front = λ tells. front_join _ _ _ _ _ i.grown e.grown (i.front tells) (i.rest tells) (rw (i.runs, i.kept tells, i.limit, i.start) at (e.front tells));
+      image = tt;
+      piece = tt;
+      long = tt;
+      laid = λ tells. tt;
+      none = tt;
+      after_last = search rules;
+      again = search rules;
+      refused = o.refused;
+      costs = record {
+        given = omega (arith, i.given, e.given);
+        steps = omega (arith, i.steps, e.steps, e.received, c.tick.ensures.steps);
+        greatest = omega (arith, i.greatest, e.greatest, e.received, c.tick.ensures.greatest);
+        calls = omega (arith, i.calls, i.write_calls, e.calls, e.write_calls, i.given, e.given, i.grown, e.grown);
+        turns = let t = rw i.runs at e.turns in omega (arith, i.turns, t, c.tick.ensures.turns, i.given, e.given, i.grown, e.grown);
+      };
+      takes = tt;
+      spent = λ tells. tt;
+      words = tt;
+      failing = record {
+        read = omega (arith, i.faults, e.faults);
+        write = omega (arith, i.write_faults, e.write_faults);
+        clean = tt;
+      };
+      full_faults = λ h. let z = o.full_faults (still_unfailed _ _ i.fresh h) in omega (arith, z, i.unfilled h);
+      full = λ h says.
+          let z = o.full (still_unfailed _ _ i.fresh h) says in
+          let few = rw i.limit at z.1 in
+          (z.0, omega (arith, few, i.counted, i.grown, e.grown));
+      cause = search rules;
+    }

@@ -20,11 +20,7 @@ returns-in-Err g c =
       charged = tt;
       charged_end = tt;
       takes = tt;
-      given = a.given;
-      steps = a.received;
-      received = a.most_received;
-      calls = a.calls;
-      turns = a.turns;
+      costs = record { given = a.given; steps = a.received; greatest = a.most_received; calls = a.calls; turns = a.turns };
       words = tt;
       faults = a.faults;
       clean = tt;
@@ -52,11 +48,7 @@ returns-in-Ok-planned g c =
       charged = rw o.next.0 e.charged;
       charged_end = λ over. let end = e.charged_end (rw o.next.1 at over) in rw o.next.0 end;
       takes = let next = ap (g.R.BlockRuns.taken c.args.self.now.runs) o.next.0 in omega (arith, next, o.longer, e.takes);
-      given = a.given;
-      steps = a.received;
-      received = a.most_received;
-      calls = a.calls;
-      turns = a.turns;
+      costs = record { given = a.given; steps = a.received; greatest = a.most_received; calls = a.calls; turns = a.turns };
       words =
           let z = piece_covers_plan (g.R.BlockRuns.one c.args.self.now.runs) (g.R.BlockRuns.count c.args.self.now.runs) c.in-Ok.planner.at.block in
           rw o.next.1 (omega (arith, e.words, z));
@@ -84,11 +76,7 @@ returns-in-Err-planned g c =
       charged = tt;
       charged_end = tt;
       takes = tt;
-      given = a.given;
-      steps = a.received;
-      received = a.most_received;
-      calls = a.calls;
-      turns = a.turns;
+      costs = record { given = a.given; steps = a.received; greatest = a.most_received; calls = a.calls; turns = a.turns };
       words = tt;
       faults = a.faults;
       clean = tt;

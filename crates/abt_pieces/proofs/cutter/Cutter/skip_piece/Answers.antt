@@ -10,14 +10,10 @@ use Rattle.abt_pieces.proofs.cutter.Cutter.skip_piece.Goals as goal
 -- no piece is left
 pub returns-in-Done : goal.returns-in-Done
 returns-in-Done g c = record {
-  runs = refl;
-  limit = refl;
+  cutter = record { same_image = refl; same_limit = refl; unbegun = c.requires.unbegun };
   content = λ tells. refl;
   frame = refl;
   told = c.requires.told;
-  unbegun = c.requires.unbegun;
-  passed = tt;
-  least = tt;
   piece = tt;
   exact = λ tells. tt;
   greatest = λ tells. tt;
@@ -27,11 +23,7 @@ returns-in-Done g c = record {
   charged = tt;
   charged_end = tt;
   takes = tt;
-  given = as_many _;
-  steps = as_many _;
-  received = omega arith;
-  calls = no_more_than _ _ _;
-  turns = omega arith;
+  costs = record { given = as_many _; steps = as_many _; greatest = omega arith; calls = no_more_than _ _ _; turns = omega arith };
   words = tt;
   faults = as_many _;
   clean = refl;
@@ -46,18 +38,21 @@ returns-in-Ok g c =
     let p = c.pass.ensures in
     let behind : Behind (g.R.BlockRuns.count c.args.self.now.runs) c.in-Ok.outline.piece.past c.pass.new.self.stage = record { end = o.sound.end; done = rw o.runs at p.done; between = rw o.runs at p.between } in
     record {
-      runs = p.runs ∙ q.runs;
-      limit = p.limit ∙ q.rest.0;
+      cutter = record { same_image = p.runs ∙ q.runs; same_limit = p.limit ∙ q.rest.0; unbegun = behind_unbegun _ _ _ behind };
       content = q.content;
       frame = q.frame;
       told = λ tells.
           let long = g.met.R.BlockRuns.long c.args.self.now.runs _ (c.requires.opened tells) in
           let more : has_more c.args.self.now.stage ≡ true = search rules in
           rw (p.limit ∙ o.rest.0, p.made ∙ ap (λ (n : ℕ). n + 1) o.rest.2, p.start) (told_more _ _ (g.R.BlockRuns.within c.args.self.now.runs) _ (g.R.BlockRuns.count c.args.self.now.runs) _ _ _ c.args.self.now.start c.in-Ok.outline _ _ more (c.requires.told tells) o.sound (sym long) (o.greatest tells) (o.place tells) behind.done behind.between);
-      unbegun = behind_unbegun _ _ _ behind;
-      passed = rw p.piece (behind_passed _ _ _ _ o.sound.moves behind);
-      least = rw p.piece o.sound.least;
-      piece = rw (p.piece, p.start) (o.sound.first, o.sound.past, o.sound.long, p.made ∙ ap (λ (n : ℕ). n + 1) o.rest.2);
+      piece = rw (p.piece, p.start) (record {
+        passed = behind_passed _ _ _ _ o.sound.moves behind;
+        begins = o.sound.first;
+        ends = o.sound.past;
+        least = o.sound.least;
+        most = o.sound.long;
+        one_more = p.made ∙ ap (λ (n : ℕ). n + 1) o.rest.2;
+      });
       exact = λ tells. rw p.piece (o.exact tells).is;
       greatest = λ tells. rw (p.piece, o.sound.first) (o.greatest tells);
       none = tt;
@@ -66,11 +61,7 @@ returns-in-Ok g c =
       charged = rw p.start o.charged;
       charged_end = λ over. let z = o.charged_end (rw p.piece at over) in rw p.start z;
       takes = rw (p.piece, p.start) o.takes;
-      given = q.given;
-      steps = q.steps;
-      received = q.received;
-      calls = q.calls;
-      turns = q.turns;
+      costs = q.costs;
       words = rw p.piece o.words;
       faults = q.faults;
       clean = o.clean;
@@ -83,16 +74,12 @@ returns-in-Err g c =
     let q = c.outline.ensures in
     let x = c.fail.ensures in
     record {
-      runs = x.rest.0 ∙ q.runs;
-      limit = x.rest.1 ∙ q.rest.0;
+      cutter = record { same_image = x.rest.0 ∙ q.runs; same_limit = x.rest.1 ∙ q.rest.0; unbegun = rw x.stage refl };
       content = q.content;
       frame = q.frame;
       told = λ tells.
           let more : has_more c.args.self.now.stage ≡ true = search rules in
           rw (x.rest.1 ∙ q.rest.0, x.rest.3 ∙ q.rest.2, x.rest.2 ∙ q.rest.1, x.stage) (told_failed _ _ _ _ _ _ c.args.self.now.start _ _ more (c.requires.told tells));
-      unbegun = rw x.stage refl;
-      passed = tt;
-      least = tt;
       piece = tt;
       exact = λ tells. tt;
       greatest = λ tells. tt;
@@ -102,11 +89,7 @@ returns-in-Err g c =
       charged = tt;
       charged_end = tt;
       takes = tt;
-      given = q.given;
-      steps = q.steps;
-      received = q.received;
-      calls = q.calls;
-      turns = q.turns;
+      costs = q.costs;
       words = tt;
       faults = q.faults;
       clean = tt;

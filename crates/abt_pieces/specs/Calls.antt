@@ -40,3 +40,21 @@ pub record Costs (n : ℕ) (a z : Devices) (m m' : Meter) : Type 0 where
   pub greatest : m'.greatest.number ≤ max m.greatest.number 65536
   pub calls : z.reads + z.writes ≤ a.reads + a.writes + 8 * ((z.given - a.given) + (z.written - a.written) + n) + 512
   pub turns : m'.turns.number ≤ m.turns.number + 8 * ((z.given - a.given) + (z.written - a.written) + n) + 512
+
+-- The same of one piece. Where telling the class of a block reads `one` bytes, its word may be looked through three
+-- times.
+pub record PieceCosts (one : ℕ) (a z : Devices) (m m' : Meter) : Type 0 where
+  pub given : a.given ≤ z.given
+  pub steps : z.given + 65536 * m.steps.number ≤ a.given + 65536 * m'.steps.number
+  pub greatest : m'.greatest.number ≤ max m.greatest.number 65536
+  pub calls : (z.reads - a.reads) + (z.writes - a.writes)
+      ≤ 4 * ((z.given - a.given) + (z.written - a.written)) + 24
+  pub turns : m'.turns.number ≤ m.turns.number + 6 * ((z.given - a.given) + (z.written - a.written)) + 32 + 3 * one
+
+-- of planning a piece: a source went from c calls and g bytes that it gave to c' and g'
+pub record PlanCosts (one c g c' g' : ℕ) (m m' : Meter) : Type 0 where
+  pub given : g ≤ g'
+  pub steps : g' + 65536 * m.steps.number ≤ g + 65536 * m'.steps.number
+  pub greatest : m'.greatest.number ≤ max m.greatest.number 65536
+  pub calls : c' ≤ c + 3 * (g' - g) + 2
+  pub turns : m'.turns.number ≤ m.turns.number + 5 * (g' - g) + 2 + 2 * one

@@ -1,8 +1,7 @@
--- What a call that writes the next piece of a raw image leaves of its cutter, and what the piece is.
+-- What a call that writes or passes the next piece leaves of its cutter, and what the piece is.
 use Rattle.std.specs.Prelude.{◌≡◌, ℕ, ◌+◌, ◌≤◌, false, List, ◌++◌}
 use Rattle.abt_sparse.specs.Block.{Block}
 use Rattle.abt_sparse.specs.Chunk.{piece}
-use Rattle.abt_runs.specs.declared.raw.RawRuns.{RawRuns}
 use Rattle.abt_pieces.specs.Cutter.{Passed, is_begun}
 use Rattle.abt_pieces.specs.Outline.{IsPiece, blocks_of, piece_at}
 use Rattle.abt_pieces.specs.Plan.{FirstPiece}
@@ -10,20 +9,19 @@ use Rattle.abt_pieces.specs.declared.outline.Piece.{Piece}
 use Rattle.abt_pieces.specs.declared.stage.Stage.{Stage}
 
 -- the cutter is of the same image and limit, and no piece is begun
-pub record SameCutter (runs runs' : RawRuns) (limit limit' : ℕ) (st : Stage) : Type 0 where
+pub record SameCutter {R : Type 0} (runs runs' : R) (limit limit' : ℕ) (st : Stage) : Type 0 where
   pub same_image : runs' ≡ runs
   pub same_limit : limit' ≡ limit
   pub unbegun : is_begun st ≡ false
 
--- The piece p goes from the block where the cutter stood to the one where it stands now, of the n blocks of the image,
--- and is all that was written; one piece more was made.
-pub record IsNext (n limit : ℕ) (first next made made' : ℕ) (st : Stage) (p : Piece) (before after : ℕ) : Type 0 where
+-- The piece p goes from the block where the cutter stood to the one where it stands now, of the n blocks of the image;
+-- one piece more was made.
+pub record IsNext (n limit first next made made' : ℕ) (st : Stage) (p : Piece) : Type 0 where
   pub passed : Passed n p.first p.past st
   pub begins : p.first ≡ first
   pub ends : p.past ≡ next
   pub least : 28 ≤ p.bytes
   pub most : p.bytes ≤ limit
-  pub long : after ≡ before + p.bytes
   pub one_more : made' ≡ made + 1
 
 -- Behind what stood there, the piece p of these blocks: the one that the limit allows from this block on.
