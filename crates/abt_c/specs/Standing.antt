@@ -16,6 +16,7 @@ use Rattle.abt_chunks.specs.declared.feed.Pull.{Pull}
 use Rattle.abt_chunks.specs.declared.feed.Pull.TheVariants as pulls
 use Rattle.abt_chunks.specs.declared.feed.Puller.{Puller}
 use Rattle.abt_c.specs.declared.state.AbtPart.{AbtPart}
+use Rattle.abt_c.specs.declared.state.AbtSize.{AbtSize}
 use Rattle.abt_c.specs.declared.state.AbtSparse.{AbtSparse}
 use Rattle.abt_c.specs.Telling.{PartIs, detail_of}
 
@@ -67,6 +68,10 @@ pub record IsLeft (s : AbtSparse) : Type 0 where
   pub stands : Stands s puller
   pub fault : s.fault ≡ kept_fault puller.walk.phase
   pub detail : s.detail ≡ kept_detail puller.walk.phase
+
+-- no size is known
+abbrev pub no_size : AbtSize
+no_size = record { bytes = 0; block_size = 0; blocks = 0; chunks = 0 }
 
 -- ---- what lies ahead of a state, in its own numbers
 

@@ -1,7 +1,7 @@
 //! A sparse image, read by a program that has it in pieces.
 
 ghost use Rattle.std.specs.Prelude.{◌≡◌, ◌≤◌, ◌<◌, ◌+◌, ◌*◌, ◌↔◌, take, length};
-ghost use Rattle.abt_c.specs.Standing.{Ended, IsLeft, Told, place_of};
+ghost use Rattle.abt_c.specs.Standing.{Ended, IsLeft, Told, no_size, place_of};
 
 use crate::state::{AbtPart, AbtSize, AbtSparse};
 use crate::stored::{puller_in, state_of};
@@ -39,6 +39,8 @@ pub extern "C" fn abt_sparse_next(state: &mut AbtSparse, input: &[u8], out: &mut
     ensures fault { result ≡ out.new.fault }
     ensures kind { (out.new.kind ≡ 6) ↔ (0 < out.new.fault) }
     ensures used { out.new.used ≤ length input.now }
+    // More input is asked for only where all of this one was used.
+    ensures needs { out.new.kind ≡ 0 → out.new.used ≡ length input.now }
     // What lay ahead of the state is this part, and then what lies ahead of it now, whatever bytes follow.
     ensures told { state.old.phase < 3 → (out.new.fault ≡ 90 → ⊥) →
         Told out.new state.old state.new (take out.new.used input.now) }
@@ -109,7 +111,9 @@ pub extern "C" fn abt_sparse_last(state: &mut AbtSparse, out: &mut AbtPart) -> u
 /// that the state keeps.
 #[unsafe(no_mangle)]
 pub extern "C" fn abt_sparse_size(state: &AbtSparse, out: &mut AbtSize) -> u32
-    ensures unread { state.now.phase ≡ 0 → result ≡ 0 → (out.new.block_size ≡ 0) × (out.new.bytes ≡ 0) }
+    ensures fault { IsLeft state.now → result ≡ state.now.fault }
+    ensures refused { (result ≡ 0 → ⊥) → out.new ≡ no_size }
+    ensures unread { state.now.phase ≡ 0 → out.new ≡ no_size }
     ensures block_size { 0 < state.now.phase → result ≡ 0 → out.new.block_size ≡ state.now.blk_sz }
     ensures blocks { 0 < state.now.phase → result ≡ 0 → out.new.blocks ≡ state.now.total_blks }
     ensures chunks { 0 < state.now.phase → result ≡ 0 → out.new.chunks ≡ state.now.total_chunks }

@@ -30,6 +30,11 @@ abbrev pub IsLent : Pull → ℕ → Type 0
 IsLent (pulls.Gives (parts.Raw n)) used = n ≡ used
 IsLent q used = Unit {0}
 
+-- more input is asked for only where all n bytes of it were used
+abbrev pub IsUsed : Pull → ℕ → ℕ → Type 0
+IsUsed pulls.Need used n = used ≡ n
+IsUsed q used n = Unit {0}
+
 -- the phase that a part leaves
 abbrev pub PullLeaves : Pull → Puller → Type 0
 PullLeaves (pulls.Gives q) p = Leaves q p.walk.phase

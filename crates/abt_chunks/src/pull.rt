@@ -6,7 +6,7 @@ ghost use Rattle.abt_chunks.specs.Feeding.{TakesWhole, whole_next, whole_of};
 ghost use Rattle.abt_chunks.specs.Turns.{AtTurn, needed_of};
 ghost use Rattle.abt_chunks.specs.Parts.{Leaves, Says, given_by};
 ghost use Rattle.abt_chunks.specs.Places.{place_of, upto_of};
-ghost use Rattle.abt_chunks.specs.Pulling.{IsKept, IsLent, PullLeaves, PullSays, front_of, pulled_by};
+ghost use Rattle.abt_chunks.specs.Pulling.{IsKept, IsLent, IsUsed, PullLeaves, PullSays, front_of, pulled_by};
 
 use crate::feed::{Pull, Pulled, Puller};
 use crate::walk::{Part, Phase, Turn, Walk};
@@ -97,6 +97,7 @@ impl Puller {
         requires all { whole_next self.old.walk ≡ needed_of turn }
         requires few { self.old.count < needed_of turn }
         ensures used { result.used ≤ length bytes.now }
+        ensures needs { IsUsed result.pull result.used (length bytes.now) }
         ensures says { (t : List ℕ) → PullSays result.pull self.old self.new (take result.used bytes.now) t }
         ensures lent { IsLent result.pull result.used }
         ensures kept { IsKept result.pull self.old self.new }
@@ -128,6 +129,7 @@ impl Puller {
         requires here { AtTurn Turn.Raw self.old.walk }
         requires none { self.old.count ≡ 0 }
         ensures used { result.used ≤ length bytes.now }
+        ensures needs { IsUsed result.pull result.used (length bytes.now) }
         ensures says { (t : List ℕ) → PullSays result.pull self.old self.new (take result.used bytes.now) t }
         ensures lent { IsLent result.pull result.used }
         ensures kept { IsKept result.pull self.old self.new }
@@ -153,6 +155,7 @@ impl Puller {
         requires here { AtTurn Turn.Extra self.old.walk }
         requires none { self.old.count ≡ 0 }
         ensures used { result.used ≤ length bytes.now }
+        ensures needs { IsUsed result.pull result.used (length bytes.now) }
         ensures says { (t : List ℕ) → PullSays result.pull self.old self.new (take result.used bytes.now) t }
         ensures lent { IsLent result.pull result.used }
         ensures kept { IsKept result.pull self.old self.new }
@@ -179,6 +182,7 @@ impl Puller {
         requires nothing { needed_of turn ≡ 0 }
         requires none { self.old.count ≡ 0 }
         ensures used { result.used ≡ 0 }
+        ensures needs { (n : ℕ) → IsUsed result.pull result.used n }
         ensures says { (t : List ℕ) → PullSays result.pull self.old self.new [] t }
         ensures lent { IsLent result.pull result.used }
         ensures kept { IsKept result.pull self.old self.new }
@@ -195,6 +199,7 @@ impl Puller {
     /// The next part of the image, as far as these bytes go: they are what comes behind those that were used.
     pub fn pull(&mut self, bytes: &[u8]) -> Pulled
         ensures used { result.used ≤ length bytes.now }
+        ensures needs { IsUsed result.pull result.used (length bytes.now) }
         ensures says { (t : List ℕ) → PullSays result.pull self.old self.new (take result.used bytes.now) t }
         ensures lent { IsLent result.pull result.used }
         ensures kept { IsKept result.pull self.old self.new }
