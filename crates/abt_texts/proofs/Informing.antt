@@ -2,11 +2,14 @@
 use Rattle.std.proofs.Common.{◌≡◌, ◌↔◌, ◌+◌, ◌-◌, ◌≤◌, ℕ, zero, suc, Bool, true, false, Result, Ok, Err, IsTrue, List, [], ◌++◌, flat_map, refl, sym, ap, subst, ◌∙◌, arith, append_assoc, append-nil}
 use Rattle.abt_sections.specs.declared.checking.Verdict.{Verdict}
 use Rattle.abt_headers.specs.declared.fault.HeaderFault.{HeaderFault}
+use Rattle.abt_sections.specs.declared.fault.SectionFault.{SectionFault}
+use Rattle.abt_sections.specs.declared.fault.SectionFault.TheVariants as faults
+use Rattle.abt_sections.specs.Cause.{OpenCause, ReadCause}
 use Rattle.abt_sections.specs.Grown.{Begins}
 use Rattle.abt_sections.specs.Open.{HasImage}
 use Rattle.abt_sections.specs.Header.{Header, entry_of, places_of, fragment_count}
 use Rattle.abt_texts.specs.declared.text_output.Text.{Text}
-use Rattle.abt_texts.specs.Info.{IsVerdict, check_text, fragment_lines, fragment_text, header_lines, info_text, kind_text, line, section_line}
+use Rattle.abt_texts.specs.Info.{IsVerdict, ReadTold, check_text, fragment_lines, fragment_text, header_lines, info_text, kind_text, line, section_line}
 use Rattle.abt_texts.specs.Shown.{text_in}
 use Rattle.abt_texts.specs.Printed.{Prints, PrintsFront}
 use Rattle.abt_texts.proofs.Printing.{◌▸◌, front_begins, front_behind, front_before, front_whole}
@@ -91,3 +94,18 @@ info_begins written faults s t u old new x y h k v same image opened verdict beg
     let right : IsVerdict y k v = subst (λ z. IsVerdict z k v) (sym same) (subst (λ j. IsVerdict x j v) header verdict) in
     let text : info_text y k v ≡ info_text x h v = ap (λ z. info_text z k v) same ∙ ap (λ j. info_text x j v) (sym header) in
     front_begins written faults s t u old new (info_text x h v) (subst (PrintsFront written faults s t) text (begun v right)) rest held from to
+
+-- ---- who failed
+
+pub opening_told : (f : SectionFault) (a b : ℕ) (P : Type 0) → OpenCause f a b P → a ≤ b → ReadTold {X = ℕ} (Err f) a b
+opening_told (faults.Read d) a b P cause rises = cause
+opening_told f a b P cause rises = rises
+
+pub reading_told : (f : SectionFault) (a b c : ℕ) (P : Type 0) → b ≡ a → ReadCause f b c P → b ≤ c → ReadTold {X = ℕ} (Err f) a c
+reading_told (faults.Read d) a b c P e cause rises = omega (arith, e, cause)
+reading_told f a b c P e cause rises = omega (arith, e, rises)
+
+pub reads_rise : {X : Type 0} (r : Result X SectionFault) (a b : ℕ) → ReadTold r a b → a ≤ b
+reads_rise (Ok x) a b told = omega (arith, told)
+reads_rise (Err (faults.Read d)) a b told = omega (arith, told)
+reads_rise (Err f) a b told = told

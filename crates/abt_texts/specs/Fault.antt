@@ -1,6 +1,12 @@
--- Which faults are of the words.
-use Rattle.std.specs.Prelude.{◌≡◌, ℕ, Bool, true, false, List, [], ◌∷◌, ◌++◌, Result, OnOk, codes}
+-- Which faults are of the words, and the number and the line of each.
+use Rattle.std.specs.Prelude.{◌≡◌, ℕ, Bool, true, false, List, [], ◌∷◌, ◌++◌, Option, Some, None, Result, OnOk, codes}
 use Rattle.abt_io.specs.declared.device.DeviceFault.{DeviceFault}
+use Rattle.abt_sparse.specs.Number as sparse
+use Rattle.abt_runs.specs.Number as run
+use Rattle.abt_pieces.specs.Fault as piece
+use Rattle.abt_flash.specs.Fault as flash
+use Rattle.abt_verify.specs.Fault as verify
+use Rattle.abt_sections.specs.Fault as section
 use Rattle.abt_sections.specs.Grown.{Begins}
 use Rattle.abt_texts.specs.declared.fault.CommandFault.{CommandFault}
 use Rattle.abt_texts.specs.declared.fault.CommandFault.TheVariants as faults
@@ -23,6 +29,25 @@ is_usage (faults.CannotOpen path) = false
 is_usage (faults.SameFile path) = false
 is_usage faults.CheckFailed = false
 is_usage faults.Memory = false
+
+-- the number of a fault of an image or a device, which its own crate gives it
+abbrev pub number_of : CommandFault → Option ℕ
+number_of (faults.Sparse fault) = Some (sparse.number_of fault)
+number_of (faults.Run fault) = Some (run.number_of fault)
+number_of (faults.Piece fault) = Some (piece.fault_number fault)
+number_of (faults.Flash fault) = Some (flash.fault_number fault)
+number_of (faults.Verify fault) = Some (verify.fault_number fault)
+number_of (faults.Section fault) = Some (section.fault_number fault)
+number_of (faults.OtherBlocks image) = Some 36
+number_of (faults.OptionNotCarried name) = None
+number_of (faults.BadFragment word) = None
+number_of (faults.BadNumber word) = None
+number_of (faults.BadBoardId word) = None
+number_of (faults.NotText path) = None
+number_of (faults.CannotOpen path) = None
+number_of (faults.SameFile path) = None
+number_of faults.CheckFailed = None
+number_of faults.Memory = None
 
 -- the line of a fault
 abbrev pub fault_line : List ℕ → List ℕ

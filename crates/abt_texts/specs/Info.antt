@@ -1,6 +1,6 @@
 -- The text of `info`: what the lines of an opened image are, and in which order.
-use Rattle.std.specs.Prelude.{◌≡◌, ◌↔◌, ℕ, zero, suc, ◌<◌, IsTrue, ◌/◌, ◌%◌, ◌==◌, ◌&&◌, not, nat_le, Bool}
-use Rattle.std.specs.Prelude.{if◌then◌else◌, List, [], ◌∷◌, ◌++◌, Option, Some, None, codes, decimal}
+use Rattle.std.specs.Prelude.{◌≡◌, ◌↔◌, ℕ, zero, suc, ◌<◌, ◌≤◌, IsTrue, ◌/◌, ◌%◌, ◌==◌, ◌&&◌, not, nat_le, Bool}
+use Rattle.std.specs.Prelude.{if◌then◌else◌, List, [], ◌∷◌, ◌++◌, Option, Some, None, Result, Ok, Err, codes, decimal}
 use Rattle.std.specs.List.{flat_map, take_while}
 use Rattle.hex.specs.Hex.{encode_lower}
 use Rattle.abt_headers.specs.declared.boot.BootFront.{BootFront}
@@ -262,6 +262,12 @@ WriteTold faults.Name w w' = w' ≡ w
 WriteTold faults.CommandLine w w' = w' ≡ w
 WriteTold (faults.SectionTruncated s) w w' = w' ≡ w
 WriteTold (faults.SectionTooLarge s) w w' = w' ≡ w
+
+-- Read comes only where the count of failed reads rose, and after an Ok it has not risen
+abbrev pub ReadTold : {X : Type 0} → Result X SectionFault → ℕ → ℕ → Type 0
+ReadTold (Ok a) r r' = r' ≡ r
+ReadTold (Err (faults.Read d)) r r' = r < r'
+ReadTold (Err f) r r' = r ≤ r'
 
 -- of printing an image that opened: the output failed, or the source, whose count of faults rose
 abbrev pub PrintCause : SectionFault → ℕ → ℕ → Type 0

@@ -1,5 +1,5 @@
 -- What printing a listing does.
-use Rattle.std.specs.Prelude.{◌≡◌, ◌<◌, ℕ, List, [], ◌∷◌, ◌++◌, flat_map, Option, Some, None, Ok}
+use Rattle.std.specs.Prelude.{◌≡◌, ◌<◌, ◌≤◌, ℕ, List, [], ◌∷◌, ◌++◌, flat_map, Option, Some, None, Result, Ok, Err}
 use Rattle.abt_sparse.specs.Chunk.{Header}
 use Rattle.abt_chunks.specs.declared.progress.ChunkInfo.{ChunkInfo}
 use Rattle.abt_chunks.specs.Listing.{Listing, listing_of}
@@ -30,6 +30,11 @@ listing_text l = head_text l.head ++ flat_map chunk_line l.shown
 
 -- ---- refusals
 
+-- The fault f is the listing's own, and P holds of the lines of all that came before it.
+pub record Refuses (l : Listing) (f : SparseFault) (P : List ℕ → Type 0) : Type 0 where
+  pub ending : l.ending ≡ Err f
+  pub holds : P (listing_text l)
+
 abbrev pub IsWrite : SparseFault → Type 0
 IsWrite (faults.Write d) = Unit {0}
 IsWrite f = ⊥
@@ -38,3 +43,10 @@ IsWrite f = ⊥
 abbrev pub WriteTold : SparseFault → ℕ → ℕ → Type 0
 WriteTold (faults.Write d) w w' = w < w'
 WriteTold f w w' = w' ≡ w
+
+-- Read comes only where the count of failed reads rose, and it rose for nothing else, save where a write failed behind
+-- it
+abbrev pub ReadTold : {X : Type 0} → Result X SparseFault → ℕ → ℕ → Type 0
+ReadTold (Err (faults.Read d)) r r' = r < r'
+ReadTold (Err (faults.Write d)) r r' = r ≤ r'
+ReadTold a r r' = r' ≡ r

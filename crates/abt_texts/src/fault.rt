@@ -1,7 +1,7 @@
 //! Why a command is refused, and the line that says so.
 
 ghost use Rattle.std.specs.Prelude.{◌≡◌, ◌<◌, List, ℕ, OnErr, OnOk};
-ghost use Rattle.abt_texts.specs.Fault.{TellsFault, is_usage};
+ghost use Rattle.abt_texts.specs.Fault.{TellsFault, is_usage, number_of};
 ghost use Rattle.abt_texts.specs.Printed.{Prints};
 
 use crate::held::Held;
@@ -79,7 +79,9 @@ impl CommandFault {
     }
 
     /// The fault's number, where it has one.
-    pub fn number(&self) -> Option<u32> {
+    pub fn number(&self) -> Option<u32>
+        ensures { result ≡ number_of self.now }
+    {
         match self {
             CommandFault::Sparse(fault) => Some(fault.number()),
             CommandFault::Run(fault) => Some(fault.number()),
@@ -88,7 +90,15 @@ impl CommandFault {
             CommandFault::Verify(fault) => Some(fault.number()),
             CommandFault::Section(fault) => Some(fault.number()),
             CommandFault::OtherBlocks { .. } => Some(36),
-            _ => None,
+            CommandFault::OptionNotCarried(_) => None,
+            CommandFault::BadFragment(_) => None,
+            CommandFault::BadNumber(_) => None,
+            CommandFault::BadBoardId(_) => None,
+            CommandFault::NotText(_) => None,
+            CommandFault::CannotOpen(_) => None,
+            CommandFault::SameFile(_) => None,
+            CommandFault::CheckFailed => None,
+            CommandFault::Memory => None,
         }
     }
 }

@@ -46,6 +46,7 @@ pub fn report_info<S: Source, O: Output>(
     ensures begun { IsTrue S.tells → (h : Header) → HasImage (S.content source.old) h → (v : Verdict) →
         spec.IsVerdict (S.content source.old) h v →
         Begins (O.written out.old) (O.written out.new) (spec.info_text (S.content source.old) h v) }
+    ensures reads { spec.ReadTold result (S.read_faults source.old) (S.read_faults source.new) }
     ensures failed { IfErr result (λ f. spec.WriteTold f (O.write_faults out.old) (O.write_faults out.new)) }
     ensures clean { OnOk result (O.write_faults out.new ≡ O.write_faults out.old) }
 {
@@ -80,6 +81,7 @@ fn image_lines<S: Source, O: Output>(
         (spec.info_text (S.content source.old) (view_of image.now.header) v) }
     ensures prints { (done : List ℕ) × Prints O.written O.write_faults text.old text.new done }
     ensures told { IfErr result (λ f. spec.IsWrite f → IsSome text.new.fault) }
+    ensures reads { spec.ReadTold result (S.read_faults source.old) (S.read_faults source.new) }
     ensures refused { IsTrue S.tells → IsOpened (S.content source.old) image.now →
         IfErr result (λ f. spec.PrintCause f (S.read_faults source.old) (S.read_faults source.new)) }
 {
@@ -127,7 +129,7 @@ fn fragment_lines<S: Source, O: Output>(
         (fragment_count (view_of image.now.header))) }
     ensures prints { (done : List ℕ) × Prints O.written O.write_faults text.old text.new done }
     ensures told { IfErr result (λ f. spec.IsWrite f → IsSome text.new.fault) }
-    ensures faults { S.read_faults source.old ≤ S.read_faults source.new }
+    ensures reads { spec.ReadTold result (S.read_faults source.old) (S.read_faults source.new) }
     ensures refused { IsTrue S.tells → IsOpened (S.content source.old) image.now →
         IfErr result (λ f. spec.PrintCause f (S.read_faults source.old) (S.read_faults source.new)) }
 {

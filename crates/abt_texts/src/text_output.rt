@@ -1,6 +1,6 @@
 //! Text into an output, without memory.
 
-ghost use Rattle.std.specs.Prelude.{◌≡◌, ◌≤◌, ◌<◌, ◌++◌, ◌∷◌, [], Some, IfErr, IfSome, IsNone, IsSome, OnErr, OnOk};
+ghost use Rattle.std.specs.Prelude.{◌≡◌, ◌≤◌, ◌<◌, ◌++◌, ◌∷◌, [], Some, IfErr, IfSome, IsNone, OnOk};
 ghost use Rattle.std.specs.Prelude.{decimal, length, take};
 ghost use Rattle.std.specs.Fmt.{with_newline};
 ghost use Rattle.abt_texts.specs.Printed.{Prints};
@@ -79,7 +79,7 @@ impl<'a, O: Output> Text<'a, O> {
     /// Whether every write succeeded.
     pub fn is_whole(&self) -> Result<(), DeviceFault>
         ensures done { OnOk result (IsNone self.now.fault) }
-        ensures failed { OnErr result (IsSome self.now.fault) }
+        ensures failed { IfErr result (λ f. self.now.fault ≡ Some f) }
     {
         match self.fault {
             None => Ok(()),
@@ -92,7 +92,7 @@ impl<'a, O: Output> Text<'a, O> {
         ensures prints { Prints O.written O.write_faults self.old self.new [] }
         ensures emptied { text_in self.new.held.bytes self.new.held.used ≡ [] }
         ensures done { OnOk result (IsNone self.new.fault) }
-        ensures failed { OnErr result (IsSome self.new.fault) }
+        ensures failed { IfErr result (λ f. self.new.fault ≡ Some f) }
     {
         self.send();
         self.is_whole()

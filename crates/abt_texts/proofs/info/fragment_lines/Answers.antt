@@ -2,13 +2,13 @@ use Rattle.std.proofs.Common.{◌≡◌, ◌≤◌, suc, ◌+◌, [], ◌++◌, 
 use Rattle.abt_sections.specs.Header.{entry_of, fragment_count, view_of}
 use Rattle.abt_texts.specs.Info.{fragment_lines, fragment_text, line}
 use Rattle.abt_texts.specs.Printed.{Prints}
-use Rattle.abt_texts.proofs.Informing.{front_of_fragments}
+use Rattle.abt_texts.proofs.Informing.{front_of_fragments, reading_told}
 use Rattle.abt_texts.proofs.Printing.{◌▸◌, as_text, printed_none}
 use Rattle.abt_texts.proofs.info.fragment_lines.Goals as goal
 
 pub loop-i-init : goal.loop-i-init
 loop-i-init g c = record {
-  faults = omega arith;
+  faults = refl;
   prints = ([], printed_none _ _ _);
   lines = λ tells. (refl, printed_none _ _ _);
 }
@@ -21,7 +21,7 @@ loop-i-preserved g c =
     let found = c.in-Ok.ensures in
     let risen = c.loop-i.invariant.faults in
     record {
-      faults = omega (arith, found.faults, risen);
+      faults = found.clean ∙ risen;
       prints = (c.loop-i.invariant.prints.0 ++ line (fragment_text i c.in-Ok.entry), c.loop-i.invariant.prints.1 ▸ c.put_fragment.ensures);
       lines = λ tells.
           let before = c.loop-i.invariant.lines tells in
@@ -50,3 +50,9 @@ returns-in-Err-is_whole-clause-begun g c = λ tells.
 
 pub returns-in-Err-is_whole-clause-prints : goal.returns-in-Err-is_whole-clause-prints
 returns-in-Err-is_whole-clause-prints g c = (_, c.loop-i.invariant.prints.1 ▸ c.put_fragment.ensures)
+
+pub returns-in-Err-clause-reads : goal.returns-in-Err-clause-reads
+returns-in-Err-clause-reads g c = reading_told c.in-Err.fault _ _ _ _ c.loop-i.invariant.faults c.in-Err.ensures.cause c.in-Err.ensures.faults
+
+pub returns-in-Err-is_whole-clause-reads : goal.returns-in-Err-is_whole-clause-reads
+returns-in-Err-is_whole-clause-reads g c = omega (arith, c.loop-i.invariant.faults, c.in-Ok.ensures.clean)

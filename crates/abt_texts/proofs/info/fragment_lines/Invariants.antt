@@ -1,4 +1,4 @@
-use Rattle.std.proofs.Common.{◌≡◌, ◌≤◌, IsTrue, List, ℕ}
+use Rattle.std.proofs.Common.{◌≡◌, IsTrue, List, ℕ}
 use Rattle.abt_sections.specs.Header.{view_of}
 use Rattle.abt_texts.specs.Info.{fragment_lines}
 use Rattle.abt_texts.specs.Printed.{Prints}
@@ -8,7 +8,7 @@ abbrev pub invariant-loop-i : goal.invariant-loop-i
 invariant-loop-i g l =
     let content = g.S.Source.content in
     record {
-      faults : g.S.Source.read_faults l.initial.source ≤ g.S.Source.read_faults l.source;
+      faults : g.S.Source.read_faults l.source ≡ g.S.Source.read_faults l.initial.source;
       prints : (done : List ℕ) × Prints g.O.Output.written g.O.Output.write_faults l.initial.text l.text done;
       lines : IsTrue g.S.Source.tells
           → (content l.source ≡ content l.initial.source)

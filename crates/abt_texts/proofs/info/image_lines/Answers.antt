@@ -1,7 +1,7 @@
 use Rattle.std.proofs.Common.{subst, ap}
 use Rattle.abt_sections.specs.Header.{view_of}
 use Rattle.abt_texts.specs.Info.{IsVerdict, check_text, line}
-use Rattle.abt_texts.proofs.Informing.{all_printed, as_far_as_fields, as_far_as_fragments, same_verdict}
+use Rattle.abt_texts.proofs.Informing.{all_printed, as_far_as_fields, as_far_as_fragments, reading_told, same_verdict}
 use Rattle.abt_texts.proofs.Printing.{◌▸◌, as_text, front_exactly}
 use Rattle.abt_texts.proofs.info.image_lines.Goals as goal
 
@@ -49,3 +49,6 @@ returns-clause-begun g c = λ tells v right.
 pub returns-clause-prints : goal.returns-clause-prints
 returns-clause-prints g c =
     (_, c.put_kind.ensures ▸ c.section_lines.ensures ▸ c.fragment_lines.ensures.prints.1 ▸ c.header_lines.ensures ▸ c.put_check.ensures)
+
+pub returns-in-Err-check-clause-reads : goal.returns-in-Err-check-clause-reads
+returns-in-Err-check-clause-reads g c = reading_told c.in-Err-check.fault _ _ _ _ c.in-Ok.ensures.reads c.in-Err-check.ensures.cause c.in-Err-check.ensures.faults

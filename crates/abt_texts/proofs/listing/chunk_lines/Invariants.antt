@@ -12,6 +12,7 @@ invariant-loop-listed g l =
     let P = Prints g.O.Output.written g.O.Output.write_faults l.initial.text l.text in
     record {
       going : IsGoing l.initial.chunks.walk.phase → IsGoing l.chunks.walk.phase;
+      faults : IsGoing l.initial.chunks.walk.phase → g.I.Input.read_faults l.input ≡ g.I.Input.read_faults l.initial.input;
       prints : (done : List ℕ) × P done;
       lines : IsTrue g.I.Input.tells
           → (done : List ChunkInfo)
