@@ -269,9 +269,10 @@ try "repack with another page" test "$(grep -c -e '^kind boot version 0 page 409
 cp image0 long; printf tail >> long
 run repack long again
 try "what stands behind the image is left" made again image0
+try "  and counted" test "$(cat err)" = "abootimg: left out bytes: reserved 0 texts 0 padding 0 ramdisk 0 trailing 4"
 run repack long again --keep-trailing
 try "  or kept" made again long
-try "  and counted" said 0 "bytes $(stat -c %s long)" ""
+try "  with its bytes" said 0 "bytes $(stat -c %s long)" ""
 run repack image0 again --keep-trailing
 try "  where there is something" made again image0
 cp image short; truncate -s -2000 short
@@ -305,16 +306,16 @@ run pack --version 4 --kernel kernel --cmdline quiet clean
 cp clean copy
 set_bytes copy 24 '\001'
 set_bytes copy 52 '\377a'
-try "repack says what it leaves out: reserved bytes and texts" left "reserved 1 texts 2 padding 0 ramdisk 0" copy again
-try "  of a text that is not given anew" left "reserved 1 texts 0 padding 0 ramdisk 0" copy again --cmdline quiet
+try "repack says what it leaves out: reserved bytes and texts" left "reserved 1 texts 2 padding 0 ramdisk 0 trailing 0" copy again
+try "  of a text that is not given anew" left "reserved 1 texts 0 padding 0 ramdisk 0 trailing 0" copy again --cmdline quiet
 try "  and leaves it out" cmp -s clean again
 cp clean copy
 set_bytes copy 4095 x
-try "  bytes between sections" left "reserved 0 texts 0 padding 1 ramdisk 0" copy again
+try "  bytes between sections" left "reserved 0 texts 0 padding 1 ramdisk 0 trailing 0" copy again
 part kernel 5000
 run pack --vendor --version 4 --fragment 1:a:kernel loose
 set_bytes loose 12288 '\205'
-try "  and those of a ramdisk outside fragments" left "reserved 0 texts 0 padding 0 ramdisk 3" loose again
+try "  and those of a ramdisk outside fragments" left "reserved 0 texts 0 padding 0 ramdisk 3 trailing 0" loose again
 cp image0 copy
 run repack image0 image0
 try "repack image0 image0" said 1 "" "abootimg: same file image0"

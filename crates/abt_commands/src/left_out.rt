@@ -3,6 +3,7 @@
 use crate::pack_parts::Packed;
 use crate::pack_words::PackWords;
 use crate::reasons::{read_fault, short_front};
+use crate::repack::end_of;
 use abt_headers::{Place, Section, VendorHeader};
 use abt_io::{FileSource, Meter, Source, WINDOW, Window};
 use abt_sections::{Image, ImageHeader, fragment, fragments, section, sections};
@@ -30,11 +31,17 @@ pub(crate) fn left_out(
     } else {
         0
     };
+    let trailing = if words.has_flag("keep-trailing") {
+        0
+    } else {
+        set_between(source, end_of(own.image, m), own.image.length, w, m)?
+    };
     Ok(LeftOut {
         reserved,
         texts: texts_left(header, words),
         padding,
         ramdisk,
+        trailing,
     })
 }
 
@@ -128,7 +135,18 @@ fn set_up_to_page(
     m: &mut Meter,
 ) -> Result<u64, CommandFault> {
     let end = at.checked_next_multiple_of(page).unwrap_or(at);
-    let mut from = at;
+    set_between(source, at, end, w, m)
+}
+
+// How many bytes are not zero between two places, as far as they are there.
+fn set_between(
+    source: &mut FileSource,
+    begin: u64,
+    end: u64,
+    w: &mut Window,
+    m: &mut Meter,
+) -> Result<u64, CommandFault> {
+    let mut from = begin;
     let mut count = 0u64;
     for _ in 0..u64::MAX {
         m.tick();

@@ -16,6 +16,8 @@ pub struct LeftOut {
     pub padding: u64,
     /// Bytes of the vendor ramdisk in no fragment, zeros among them.
     pub ramdisk: u64,
+    /// Bytes behind the image, as an AVB footer is.
+    pub trailing: u64,
 }
 
 impl LeftOut {
@@ -23,7 +25,11 @@ impl LeftOut {
     pub fn is_nothing(self) -> bool
         ensures { result ≡ is_nothing self }
     {
-        self.reserved == 0 && self.texts == 0 && self.padding == 0 && self.ramdisk == 0
+        self.reserved == 0
+            && self.texts == 0
+            && self.padding == 0
+            && self.ramdisk == 0
+            && self.trailing == 0
     }
 }
 
@@ -35,9 +41,10 @@ impl fmt::Display for LeftOut {
         let texts = self.texts;
         let padding = self.padding;
         let ramdisk = self.ramdisk;
+        let trailing = self.trailing;
         write!(
             f,
-            "left out bytes: reserved {reserved} texts {texts} padding {padding} ramdisk {ramdisk}"
+            "left out bytes: reserved {reserved} texts {texts} padding {padding} ramdisk {ramdisk} trailing {trailing}"
         )
     }
 }
