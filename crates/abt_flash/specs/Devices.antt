@@ -1,6 +1,7 @@
 -- The devices of a delivery, as contracts know them at one time.
-use Rattle.std.specs.Prelude.{◌≡◌, ℕ, ◌+◌, ◌-◌, ◌≤◌, Bool, IsTrue, List, length, drop}
+use Rattle.std.specs.Prelude.{◌≡◌, ℕ, ◌+◌, ◌-◌, ◌*◌, ◌≤◌, Bool, IsTrue, List, length, drop, max}
 use Rattle.abt_io.specs.Moment.{Past}
+use Rattle.abt_io.specs.declared.meter.Meter.{Meter}
 use Rattle.abt_io.specs.declared.device.Source as sources
 use Rattle.abt_io.specs.declared.device.Input as inputs
 use Rattle.abt_io.specs.declared.device.Output as outputs
@@ -54,6 +55,22 @@ all_calls n = n.reads + n.spool_reads + n.spool_writes + n.clears + n.puts + n.s
 
 abbrev pub all_bytes : Counts → ℕ
 all_bytes n = n.given + n.spool_given + n.spool_written + n.taken
+
+-- What a delivery moves: bytes, of which a step receives at most a window and a header.
+pub record Work (a z : Counts) (m m' : Meter) : Type 0 where
+  pub given : a.given ≤ z.given
+  pub spool_given : a.spool_given ≤ z.spool_given
+  pub grown : a.spool_written ≤ z.spool_written
+  pub taken : a.taken ≤ z.taken
+  pub steps : z.given + z.spool_given + 65580 * m.steps.number ≤ a.given + a.spool_given + 65580 * m'.steps.number
+  pub greatest : m'.greatest.number ≤ max m.greatest.number 65580
+
+-- no count of faults falls
+pub record NoFaultFalls (a z : Counts) : Type 0 where
+  pub read : a.read_faults ≤ z.read_faults
+  pub write : a.write_faults ≤ z.write_faults
+  pub spool : a.spool_faults ≤ z.spool_faults
+  pub put : a.put_faults ≤ z.put_faults
 
 -- a spool: its room, all that was written to it, how much that was at each clear, and how many bytes it gave
 pub record SpoolState : Type 0 where

@@ -24,6 +24,12 @@ pub record StandsAt (n e : ℕ) (st : Stage) : Type 0 where
   pub between : e < n → st ≡ Between
   pub done : n ≤ e → st ≡ Done
 
+-- from block s on, one piece more was made, up to block e of n
+pub record GoesBehind (n k k' s e : ℕ) (st : Stage) : Type 0 where
+  pub made : k' ≡ k + 1
+  pub stands : StandsAt n e st
+  pub moves : e < n → s < e
+
 -- between pieces or behind the last, with so many pieces made up to block e of n
 pub record Unbroken (n made e : ℕ) (st : Stage) : Type 0 where
   pub stands : (st ≡ Between) ⊎ (st ≡ Done)

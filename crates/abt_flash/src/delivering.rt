@@ -1,16 +1,15 @@
 //! Planning the pieces that are passed over, and delivering all others.
 
 ghost use Rattle.std.specs.Prelude.{◌≡◌, ◌<◌, ◌≤◌, ◌+◌, ◌-◌, ◌*◌, ◌^◌, ◌++◌, [], IsTrue, MatchBool, IfOk, IfErr, OnOk};
-ghost use Rattle.std.specs.Prelude.{OnErr, length, drop, max, Ok, Err};
+ghost use Rattle.std.specs.Prelude.{length, drop, max, Ok, Err};
 ghost use Rattle.std.specs.List.{concat};
-ghost use Rattle.abt_io.specs.Moment.{EachSince, moment_of};
 ghost use Rattle.abt_sparse.specs.Block.{cells, over};
 ghost use Rattle.abt_sparse.specs.Runs.{segments};
 ghost use Rattle.abt_pieces.specs.Contents.{written_in};
-ghost use Rattle.abt_pieces.specs.Cutter.{ToldCutter, piece_words};
+ghost use Rattle.abt_pieces.specs.Cutter.{ToldCutter};
 ghost use Rattle.abt_pieces.specs.SpentStage.{all_passes};
 ghost use Rattle.abt_pieces.specs.declared.stage.Stage.{Stage};
-ghost use Rattle.abt_flash.specs.Devices.{counts};
+ghost use Rattle.abt_flash.specs.Devices.{NoFaultFalls, Work, counts};
 ghost use Rattle.abt_flash.specs.Fault.{refused_syncs};
 ghost use Rattle.abt_flash.specs.Delivering.{Begins, CountsTo, NoneFailed, OnUnsyncedPiece, PiecesFit, StaysMendable};
 ghost use Rattle.abt_flash.specs.Delivering.{begun, blocks_behind, blocks_in_first, blocks_up_to, finished};
@@ -209,10 +208,6 @@ pub(crate) fn deliver_rest<R: BlockRuns + Drop, S: Source, L: Spool, P: Partitio
         OnOk result (P.taken partition.new ≡ P.taken partition.old + R.size cutter.old.runs * written_in
         (drop cutter.old.start.block (R.list cutter.old.runs (S.content source.old)))) }
     // Bytes.
-    ensures given { S.given source.old ≤ S.given source.new }
-    ensures spool_given { L.given spool.old ≤ L.given spool.new }
-    ensures grown { length (L.written spool.old) ≤ length (L.written spool.new) }
-    ensures taken { P.taken partition.old ≤ P.taken partition.new }
     ensures long { IfOk result (λ d. length (L.written spool.new)
         ≤ length (L.written spool.old) + R.most_taken cutter.old.runs + 80 * d.pieces) }
     ensures back { IsTrue S.tells → IsTrue L.tells → OnOk result (L.given spool.new + length (L.written spool.old)
@@ -232,15 +227,13 @@ pub(crate) fn deliver_rest<R: BlockRuns + Drop, S: Source, L: Spool, P: Partitio
         (length (L.written spool.old)) (P.taken partition.old) + 258 * cutter.old.made
         ≤ m.old.turns.number + 8 * bytes_in (S.given source.new) (L.given spool.new) (length (L.written spool.new))
         (P.taken partition.new) + 258 * begun cutter.old.made result + 4 * R.one cutter.old.runs + 1 }
-    ensures steps { S.given source.new + L.given spool.new + 65580 * m.old.steps.number
-        ≤ S.given source.old + L.given spool.old + 65580 * m.new.steps.number }
-    ensures greatest { m.new.greatest.number ≤ max m.old.greatest.number 65580 }
+    ensures work { Work
+        (counts S.Source L.Input L.Output L.Spool.own P.Partition.own source.old spool.old partition.old)
+        (counts S.Source L.Input L.Output L.Spool.own P.Partition.own source.new spool.new partition.new) m.old m.new }
     // Who failed.
-    ensures read_faults { S.read_faults source.old ≤ S.read_faults source.new }
-    ensures write_faults { L.write_faults spool.old + L.clear_faults spool.old
-        ≤ L.write_faults spool.new + L.clear_faults spool.new }
-    ensures spool_faults { L.read_faults spool.old ≤ L.read_faults spool.new }
-    ensures put_faults { P.put_faults partition.old ≤ P.put_faults partition.new }
+    ensures faults { NoFaultFalls
+        (counts S.Source L.Input L.Output L.Spool.own P.Partition.own source.old spool.old partition.old)
+        (counts S.Source L.Input L.Output L.Spool.own P.Partition.own source.new spool.new partition.new) }
     ensures clean { OnOk result (NoneFailed
         (counts S.Source L.Input L.Output L.Spool.own P.Partition.own source.old spool.old partition.old)
         (counts S.Source L.Input L.Output L.Spool.own P.Partition.own source.new spool.new partition.new)) }

@@ -2,8 +2,7 @@
 
 ghost use Rattle.std.specs.Prelude.{◌≡◌, ◌<◌, ◌≤◌, ◌+◌, ◌-◌, ◌*◌, ◌++◌, [], ◌∷◌, IsTrue, Err, IfErr, OnErr, OnOk};
 ghost use Rattle.std.specs.Prelude.{is_ok};
-ghost use Rattle.std.specs.Prelude.{length, max, if◌then◌else◌};
-ghost use Rattle.abt_io.specs.Moment.{Keeps, EachSince, moment_of};
+ghost use Rattle.std.specs.Prelude.{length, if◌then◌else◌};
 ghost use Rattle.abt_sparse.specs.Block.{cells, over};
 ghost use Rattle.abt_pieces.specs.Contents.{written_in};
 ghost use Rattle.abt_pieces.specs.Cutter.{ToldCutter, piece_words};
@@ -12,10 +11,10 @@ ghost use Rattle.abt_pieces.specs.Outline.{piece_at};
 ghost use Rattle.abt_pieces.specs.Plan.{FirstPiece};
 ghost use Rattle.abt_pieces.specs.SpentStage.{all_passes};
 ghost use Rattle.abt_pieces.specs.declared.stage.Stage.{Stage};
-ghost use Rattle.abt_flash.specs.Laying.{During, writes};
-ghost use Rattle.abt_flash.specs.Devices.{counts};
+ghost use Rattle.abt_flash.specs.Devices.{NoFaultFalls, Work, counts};
+ghost use Rattle.abt_flash.specs.Flashing.{TouchesOnly};
 ghost use Rattle.abt_flash.specs.Delivering.{Begins, NoneFailed, OnFlashed, PiecesFit, StopsFor, unsynced_by};
-ghost use Rattle.abt_flash.specs.Going.{StandsAt, blocks_at, bytes_in, calls_in};
+ghost use Rattle.abt_flash.specs.Going.{GoesBehind, blocks_at, bytes_in, calls_in};
 ghost use Rattle.abt_flash.specs.Causes.{cutting_cause, flashing_cause};
 
 use crate::fault::{Cause, FlashFault};
@@ -100,16 +99,13 @@ pub(crate) fn deliver_piece<R: BlockRuns + Drop, S: Source, L: Spool, P: Partiti
     requires capacity { cutter.old.limit ≤ L.size spool.old }
     requires room { R.count cutter.old.runs * R.size cutter.old.runs ≤ P.size partition.old }
     // The cutter goes behind the piece.
-    ensures runs { cutter.new.runs ≡ cutter.old.runs }
-    ensures limit { cutter.new.limit ≡ cutter.old.limit }
+    ensures same { (cutter.new.runs ≡ cutter.old.runs) × (cutter.new.limit ≡ cutter.old.limit) }
     ensures told { IsTrue S.tells → ToldCutter (R.place cutter.old.runs (S.content source.old))
         (R.together cutter.old.runs (S.content source.old)) (R.size cutter.old.runs)
         (R.list cutter.old.runs (S.content source.old)) cutter.new.limit cutter.new.made cutter.new.start
         cutter.new.stage }
-    ensures made { OnOk result (cutter.new.made ≡ cutter.old.made + 1) }
-    ensures stands { OnOk result (StandsAt (R.count cutter.old.runs) cutter.new.start.block cutter.new.stage) }
-    ensures moves { OnOk result (cutter.new.start.block < R.count cutter.old.runs → cutter.old.start.block
-        < cutter.new.start.block) }
+    ensures behind { OnOk result (GoesBehind (R.count cutter.old.runs) cutter.old.made cutter.new.made
+        cutter.old.start.block cutter.new.start.block cutter.new.stage) }
     ensures greatest_end { IsTrue S.tells →
         OnFlashed result (FirstPiece (R.size cutter.old.runs) (R.list cutter.old.runs (S.content source.old))
         cutter.old.limit cutter.old.start.block cutter.new.start.block) }
@@ -135,17 +131,10 @@ pub(crate) fn deliver_piece<R: BlockRuns + Drop, S: Source, L: Spool, P: Partiti
         ≡ over (P.content partition.old)
         (cells (R.size cutter.old.runs)
         (frame (R.list cutter.old.runs (S.content source.old)) cutter.old.start.block cutter.new.start.block))) }
-    ensures kept { IsTrue S.tells → IsTrue L.tells → IsTrue P.tells →
-        Keeps (writes (cells (R.size cutter.old.runs)
+    ensures touches { IsTrue S.tells → IsTrue L.tells → IsTrue P.tells → TouchesOnly (cells (R.size cutter.old.runs)
         (blocks_at cutter.old.limit (R.size cutter.old.runs) (R.list cutter.old.runs (S.content source.old))
-        cutter.old.start.block))) (moment_of (P.past partition.old) (P.content partition.old))
-        (moment_of (P.past partition.new) (P.content partition.new)) }
-    ensures moments { IsTrue S.tells → IsTrue L.tells → IsTrue P.tells → EachSince (P.past partition.old).moments
-        (P.past partition.new).moments (During
-        (writes (cells (R.size cutter.old.runs)
-        (blocks_at cutter.old.limit (R.size cutter.old.runs) (R.list cutter.old.runs (S.content source.old))
-        cutter.old.start.block))) (moment_of (P.past partition.old) (P.content partition.old))
-        (moment_of (P.past partition.new) (P.content partition.new))) }
+        cutter.old.start.block)) (P.past partition.old) (P.past partition.new) (P.content partition.old)
+        (P.content partition.new) }
     ensures settled { IsTrue P.tells → OnOk result ((P.past partition.new).pending ≡ []) }
     ensures synced { (P.past partition.new).synced ≡ (P.past partition.old).synced + (if is_ok result then 1 else 0) }
     ensures unsynced { P.syncs partition.new + (P.past partition.old).synced
@@ -153,11 +142,7 @@ pub(crate) fn deliver_piece<R: BlockRuns + Drop, S: Source, L: Spool, P: Partiti
     ensures blocks { IsTrue S.tells → IsTrue L.tells →
         OnOk result (P.taken partition.new ≡ P.taken partition.old + R.size cutter.old.runs * written_in
         (frame (R.list cutter.old.runs (S.content source.old)) cutter.old.start.block cutter.new.start.block)) }
-    // Bytes, which only grow.
-    ensures given { S.given source.old ≤ S.given source.new }
-    ensures spool_given { L.given spool.old ≤ L.given spool.new }
-    ensures grown { length (L.written spool.old) ≤ length (L.written spool.new) }
-    ensures taken { P.taken partition.old ≤ P.taken partition.new }
+    // Bytes.
     ensures takes { OnOk result (length (L.written spool.new) + R.taken cutter.old.runs cutter.old.start
         ≤ length (L.written spool.old) + R.taken cutter.old.runs cutter.new.start + 80) }
     ensures back { IsTrue S.tells → IsTrue L.tells → OnOk result (L.given spool.new + length (L.written spool.old)
@@ -184,15 +169,13 @@ pub(crate) fn deliver_piece<R: BlockRuns + Drop, S: Source, L: Spool, P: Partiti
         (length (L.written spool.old)) (P.taken partition.old) ≤ m.old.turns.number + 8 * bytes_in (S.given source.new)
         (L.given spool.new) (length (L.written spool.new)) (P.taken partition.new) + 256 + piece_words
         (R.one cutter.old.runs) (R.count cutter.old.runs) cutter.new.start.block) }
-    ensures steps { S.given source.new + L.given spool.new + 65580 * m.old.steps.number
-        ≤ S.given source.old + L.given spool.old + 65580 * m.new.steps.number }
-    ensures greatest { m.new.greatest.number ≤ max m.old.greatest.number 65580 }
+    ensures work { Work
+        (counts S.Source L.Input L.Output L.Spool.own P.Partition.own source.old spool.old partition.old)
+        (counts S.Source L.Input L.Output L.Spool.own P.Partition.own source.new spool.new partition.new) m.old m.new }
     // Who failed.
-    ensures read_faults { S.read_faults source.old ≤ S.read_faults source.new }
-    ensures write_faults { L.write_faults spool.old + L.clear_faults spool.old
-        ≤ L.write_faults spool.new + L.clear_faults spool.new }
-    ensures spool_faults { L.read_faults spool.old ≤ L.read_faults spool.new }
-    ensures put_faults { P.put_faults partition.old ≤ P.put_faults partition.new }
+    ensures faults { NoFaultFalls
+        (counts S.Source L.Input L.Output L.Spool.own P.Partition.own source.old spool.old partition.old)
+        (counts S.Source L.Input L.Output L.Spool.own P.Partition.own source.new spool.new partition.new) }
     ensures cause { IfErr result (λ e. StopsFor e S.tells L.tells
         (counts S.Source L.Input L.Output L.Spool.own P.Partition.own source.old spool.old partition.old)
         (counts S.Source L.Input L.Output L.Spool.own P.Partition.own source.new spool.new partition.new)) }

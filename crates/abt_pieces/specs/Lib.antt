@@ -12,3 +12,4 @@ pub mod Image
 pub mod Turn
 pub mod Calls
 pub mod NextPiece
+pub mod Step

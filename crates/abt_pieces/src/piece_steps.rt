@@ -1,18 +1,21 @@
 //! One step of cutting: a part of a plan, the header of a piece, or a part of its chunks.
 ghost use Rattle.std.specs.Prelude.{◌≡◌, ◌<◌, ◌≤◌, ◌+◌, ◌-◌, ◌*◌, ◌^◌, ◌++◌, ℕ, List, IsTrue, IfOk, IfErr, OnOk};
-ghost use Rattle.std.specs.Prelude.{OnErr, Ok, Err, length, take, drop, max, true, false, ◌⊎◌};
+ghost use Rattle.std.specs.Prelude.{Ok, Err, length, take, drop, max, true, false, ◌⊎◌};
 ghost use Rattle.abt_sparse.specs.Block.{Block, AreBlocks};
 ghost use Rattle.abt_sparse.specs.Chunk.{header_record, plain_header};
 ghost use Rattle.abt_pieces.specs.Fault.{HasCause, full_cut};
-ghost use Rattle.abt_pieces.specs.Plan.{Planned, Even, FirstPiece, last_words};
-ghost use Rattle.abt_pieces.specs.Outline.{IsPiece, IsOutline, piece_at};
-ghost use Rattle.abt_pieces.specs.Cutter.{SoundPlanner, SoundOutline, SoundWriting, SoundStage, SoundCutter};
-ghost use Rattle.abt_pieces.specs.Cutter.{TakenPlan, TakenStage, silent_cut, cut_words, piece_words, ToldPlanner};
-ghost use Rattle.abt_pieces.specs.Cutter.{ToldWriting, ToldStage, ToldCutter, Passed, is_more, OnMore, OnEnd};
+ghost use Rattle.abt_pieces.specs.Plan.{Planned, Even, last_words};
+ghost use Rattle.abt_pieces.specs.Outline.{IsOutline, piece_at};
+ghost use Rattle.abt_pieces.specs.Cutter.{SoundPlanner, SoundOutline, SoundStage};
+ghost use Rattle.abt_pieces.specs.Cutter.{TakenPlan, TakenStage, silent_cut, cut_words, ToldPlanner};
+ghost use Rattle.abt_pieces.specs.Cutter.{ToldStage, ToldCutter, is_more, OnMore, OnEnd};
 ghost use Rattle.abt_pieces.specs.Cutter.{OnPiece, coming, is_begun, so_far, has_failed, first_writer, planned_left};
 ghost use Rattle.abt_pieces.specs.Cutter.{cut_left};
 ghost use Rattle.abt_pieces.specs.Image.{Appended, Leads, IsImage, StageMayCome};
 ghost use Rattle.abt_pieces.specs.SpentStage.{SpentPlan, SpentStage, SpentPiece};
+ghost use Rattle.abt_pieces.specs.Calls.{Failing, devices};
+ghost use Rattle.abt_pieces.specs.NextPiece.{IsNext};
+ghost use Rattle.abt_pieces.specs.Step.{CameWhole, Ends, GoesOn, StepCosts};
 ghost use Rattle.abt_pieces.specs.declared.stage.Stage.{Stage};
 ghost use Rattle.abt_pieces.specs.declared.stage.PieceProgress.{PieceProgress};
 
@@ -238,8 +241,7 @@ impl<R: BlockRuns + Drop> Cutter<R> {
         requires told { IsTrue S.tells → ToldCutter (R.place self.old.runs (S.content source.old))
             (R.together self.old.runs (S.content source.old)) (R.size self.old.runs)
             (R.list self.old.runs (S.content source.old)) self.old.limit self.old.made self.old.start self.old.stage }
-        ensures runs { self.new.runs ≡ self.old.runs }
-        ensures limit { self.new.limit ≡ self.old.limit }
+        ensures same { (self.new.runs ≡ self.old.runs) × (self.new.limit ≡ self.old.limit) }
         ensures content { IsTrue S.tells → S.content source.new ≡ S.content source.old }
         ensures frame { S.read_frame source.new ≡ S.read_frame source.old }
         ensures write_frame { O.write_frame output.new ≡ O.write_frame output.old }
@@ -247,14 +249,11 @@ impl<R: BlockRuns + Drop> Cutter<R> {
             (R.together self.old.runs (S.content source.old)) (R.size self.old.runs)
             (R.list self.old.runs (S.content source.old)) self.new.limit self.new.made self.new.start self.new.stage }
         ensures begun { is_begun self.new.stage ≡ is_more result }
-        ensures more { OnMore result ((self.new.start ≡ self.old.start) × (self.new.made ≡ self.old.made)) }
-        ensures grown { length (O.written output.old) ≤ length (O.written output.new) }
+        ensures goes_on { OnMore result (GoesOn R.BlockRuns self.old.runs self.old.start self.new.start self.old.made
+            self.new.made self.old.stage self.new.stage (devices S.Source O.Output source.old output.old)
+            (devices S.Source O.Output source.new output.new) m.old m.new) }
         ensures within { so_far self.old.stage + (length (O.written output.new) - length (O.written output.old))
             ≤ self.old.limit }
-        ensures counted { OnMore result (so_far self.new.stage
-            ≡ so_far self.old.stage + (length (O.written output.new) - length (O.written output.old))) }
-        ensures few { length (O.written output.new)
-            ≤ length (O.written output.old) + (S.given source.new - S.given source.old) + 80 }
         ensures front { IsTrue S.tells → O.written output.new ≡ O.written output.old ++ take
             (length (O.written output.new) - length (O.written output.old))
             (coming (R.size self.old.runs) self.old.limit (R.list self.old.runs (S.content source.old))
@@ -264,9 +263,6 @@ impl<R: BlockRuns + Drop> Cutter<R> {
             self.old.start.block self.new.stage ≡ drop (length (O.written output.new) - length (O.written output.old))
             (coming (R.size self.old.runs) self.old.limit (R.list self.old.runs (S.content source.old))
             self.old.start.block self.old.stage)) }
-        ensures whole { IsTrue S.tells →
-            OnPiece result (λ p. O.written output.new ≡ O.written output.old ++ coming (R.size self.old.runs)
-            self.old.limit (R.list self.old.runs (S.content source.old)) self.old.start.block self.old.stage) }
         ensures leads { OnMore
             result (Leads (StageMayCome (R.size self.old.runs) (R.count self.old.runs) self.old.stage)
             (StageMayCome (R.size self.old.runs) (R.count self.old.runs) self.new.stage) (O.written output.old)
@@ -274,28 +270,18 @@ impl<R: BlockRuns + Drop> Cutter<R> {
         ensures all { OnPiece
             result (λ p. Appended (StageMayCome (R.size self.old.runs) (R.count self.old.runs) self.old.stage)
             (O.written output.old) (O.written output.new)) }
-        ensures passed { OnPiece result (λ p. Passed (R.count self.old.runs) p.first p.past self.new.stage) }
-        ensures least { OnPiece result (λ p. 28 ≤ p.bytes) }
-        ensures piece { OnPiece result (λ p. (p.first ≡ self.old.start.block) × (p.past ≡ self.new.start.block) ×
-            (p.bytes ≤ self.old.limit) ×
-            (p.bytes ≡ so_far self.old.stage + (length (O.written output.new) - length (O.written output.old))) ×
-            (self.new.made ≡ self.old.made + 1)) }
-        ensures exact { IsTrue S.tells →
-            OnPiece result (λ p. IsPiece (R.size self.old.runs) (R.list self.old.runs (S.content source.old)) p ×
-            FirstPiece (R.size self.old.runs) (R.list self.old.runs (S.content source.old)) self.old.limit p.first
-            p.past) }
-        ensures left { OnMore result (cut_left (R.left self.old.runs) (R.count self.old.runs) self.old.start
-            self.new.stage < cut_left (R.left self.old.runs) (R.count self.old.runs) self.old.start self.old.stage) }
+        ensures piece { OnPiece result (λ p. IsNext (R.count self.old.runs) self.old.limit self.old.start.block
+            self.new.start.block self.old.made self.new.made self.new.stage p) }
+        ensures ends { OnPiece result (λ p. Ends R.BlockRuns self.old.runs self.old.start self.new.start self.old.stage
+            p (devices S.Source O.Output source.old output.old) (devices S.Source O.Output source.new output.new)
+            m.old m.new) }
+        ensures laid { IsTrue S.tells → OnPiece result (λ p. CameWhole (R.size self.old.runs) self.old.limit
+            (R.list self.old.runs (S.content source.old)) self.old.start.block self.old.stage p (O.written output.old)
+            (O.written output.new)) }
         ensures refused { IfErr result (λ e. self.new.stage ≡ Stage.Failed e) }
-        ensures given { S.given source.old ≤ S.given source.new }
-        ensures received { S.given source.new ≤ S.given source.old + 65536 }
-        ensures steps { m.new.steps.number ≡ m.old.steps.number + 1 }
-        ensures greatest { m.new.greatest.number ≡ max m.old.greatest.number (S.given source.new - S.given source.old) }
-        ensures takes { OnPiece result (λ p. p.bytes + R.taken self.old.runs self.old.start
-            ≤ R.taken self.old.runs self.new.start + 80) }
-        ensures paid { OnMore result (silent_cut (R.count self.old.runs) self.new.stage
-            < silent_cut (R.count self.old.runs) self.old.stage + (S.given source.new - S.given source.old) + (length
-            (O.written output.new) - length (O.written output.old))) }
+        ensures costs { StepCosts (cut_words (R.one self.old.runs) (R.count self.old.runs) self.old.start
+            self.old.stage) (3 * R.one self.old.runs) (devices S.Source O.Output source.old output.old)
+            (devices S.Source O.Output source.new output.new) m.old m.new }
         ensures spends { IsTrue S.tells → (t : ℕ) →
             SpentStage (λ c. R.within self.old.runs c × R.place self.old.runs (S.content source.old) c)
             (R.charge self.old.runs) (R.copied self.old.runs) (R.held self.old.runs) (R.size self.old.runs)
@@ -310,27 +296,8 @@ impl<R: BlockRuns + Drop> Cutter<R> {
             self.old.limit (R.count self.old.runs) (R.one self.old.runs) self.old.start t self.old.stage →
             OnPiece result (λ p. SpentPiece (R.charge self.old.runs) (R.copied self.old.runs) (R.count self.old.runs)
             (R.one self.old.runs) p.past self.new.start (t + (S.given source.new - S.given source.old))) }
-        ensures calls { S.reads source.new ≤ S.reads source.old + (S.given source.new - S.given source.old) + 2 }
-        ensures write_calls { O.writes output.new + length (O.written output.old) ≤ O.writes output.old + length
-            (O.written output.new) + 1 }
-        ensures turns { m.new.turns.number + cut_words (R.one self.old.runs) (R.count self.old.runs) self.old.start
-            self.old.stage
-            ≤ m.old.turns.number + 2 * (S.given source.new - S.given source.old) + (length
-            (O.written output.new) - length (O.written output.old)) + 3 + 3 * R.one self.old.runs }
-        ensures words { OnMore result (m.new.turns.number + cut_words (R.one self.old.runs) (R.count self.old.runs)
-            self.old.start self.old.stage
-            ≤ m.old.turns.number + 2 * (S.given source.new - S.given source.old) + (length
-            (O.written output.new) - length (O.written output.old)) + 3 + cut_words (R.one self.old.runs)
-            (R.count self.old.runs) self.new.start self.new.stage) }
-        ensures piece_words { OnPiece result (λ p. m.new.turns.number + cut_words (R.one self.old.runs)
-            (R.count self.old.runs) self.old.start self.old.stage
-            ≤ m.old.turns.number + 2 * (S.given source.new - S.given source.old) + (length
-            (O.written output.new) - length (O.written output.old)) + 3 + piece_words (R.one self.old.runs)
-            (R.count self.old.runs) p.past) }
-        ensures faults { S.read_faults source.old ≤ S.read_faults source.new }
-        ensures write_faults { O.write_faults output.old ≤ O.write_faults output.new }
-        ensures clean { OnOk result ((S.read_faults source.new ≡ S.read_faults source.old) ×
-            (O.write_faults output.new ≡ O.write_faults output.old)) }
+        ensures failing { Failing result (devices S.Source O.Output source.old output.old)
+            (devices S.Source O.Output source.new output.new) }
         ensures full_faults { O.full_faults output.new ≡ O.full_faults output.old + full_cut result }
         ensures full { full_cut result ≡ 1 → IsTrue (O.is_full output.new) ×
             (so_far self.old.stage + (length (O.written output.new) - length (O.written output.old)) < self.old.limit) }
@@ -366,8 +333,7 @@ impl<R: BlockRuns + Drop> Cutter<R> {
         requires told { IsTrue S.tells → ToldCutter (R.place self.old.runs (S.content source.old))
             (R.together self.old.runs (S.content source.old)) (R.size self.old.runs)
             (R.list self.old.runs (S.content source.old)) self.old.limit self.old.made self.old.start self.old.stage }
-        ensures runs { self.new.runs ≡ self.old.runs }
-        ensures limit { self.new.limit ≡ self.old.limit }
+        ensures same { (self.new.runs ≡ self.old.runs) × (self.new.limit ≡ self.old.limit) }
         ensures content { IsTrue S.tells → S.content source.new ≡ S.content source.old }
         ensures frame { S.read_frame source.new ≡ S.read_frame source.old }
         ensures write_frame { O.write_frame output.new ≡ O.write_frame output.old }
@@ -375,14 +341,11 @@ impl<R: BlockRuns + Drop> Cutter<R> {
             (R.together self.old.runs (S.content source.old)) (R.size self.old.runs)
             (R.list self.old.runs (S.content source.old)) self.new.limit self.new.made self.new.start self.new.stage }
         ensures begun { is_begun self.new.stage ≡ is_more result }
-        ensures more { OnMore result ((self.new.start ≡ self.old.start) × (self.new.made ≡ self.old.made)) }
-        ensures grown { length (O.written output.old) ≤ length (O.written output.new) }
+        ensures goes_on { OnMore result (GoesOn R.BlockRuns self.old.runs self.old.start self.new.start self.old.made
+            self.new.made self.old.stage self.new.stage (devices S.Source O.Output source.old output.old)
+            (devices S.Source O.Output source.new output.new) m.old m.new) }
         ensures within { so_far self.old.stage + (length (O.written output.new) - length (O.written output.old))
             ≤ self.old.limit }
-        ensures counted { OnMore result (so_far self.new.stage
-            ≡ so_far self.old.stage + (length (O.written output.new) - length (O.written output.old))) }
-        ensures few { length (O.written output.new)
-            ≤ length (O.written output.old) + (S.given source.new - S.given source.old) + 80 }
         ensures front { IsTrue S.tells → O.written output.new ≡ O.written output.old ++ take
             (length (O.written output.new) - length (O.written output.old))
             (coming (R.size self.old.runs) self.old.limit (R.list self.old.runs (S.content source.old))
@@ -392,9 +355,6 @@ impl<R: BlockRuns + Drop> Cutter<R> {
             self.old.start.block self.new.stage ≡ drop (length (O.written output.new) - length (O.written output.old))
             (coming (R.size self.old.runs) self.old.limit (R.list self.old.runs (S.content source.old))
             self.old.start.block self.old.stage)) }
-        ensures whole { IsTrue S.tells →
-            OnPiece result (λ p. O.written output.new ≡ O.written output.old ++ coming (R.size self.old.runs)
-            self.old.limit (R.list self.old.runs (S.content source.old)) self.old.start.block self.old.stage) }
         ensures leads { OnMore
             result (Leads (StageMayCome (R.size self.old.runs) (R.count self.old.runs) self.old.stage)
             (StageMayCome (R.size self.old.runs) (R.count self.old.runs) self.new.stage) (O.written output.old)
@@ -402,28 +362,18 @@ impl<R: BlockRuns + Drop> Cutter<R> {
         ensures all { OnPiece
             result (λ p. Appended (StageMayCome (R.size self.old.runs) (R.count self.old.runs) self.old.stage)
             (O.written output.old) (O.written output.new)) }
-        ensures passed { OnPiece result (λ p. Passed (R.count self.old.runs) p.first p.past self.new.stage) }
-        ensures least { OnPiece result (λ p. 28 ≤ p.bytes) }
-        ensures piece { OnPiece result (λ p. (p.first ≡ self.old.start.block) × (p.past ≡ self.new.start.block) ×
-            (p.bytes ≤ self.old.limit) ×
-            (p.bytes ≡ so_far self.old.stage + (length (O.written output.new) - length (O.written output.old))) ×
-            (self.new.made ≡ self.old.made + 1)) }
-        ensures exact { IsTrue S.tells →
-            OnPiece result (λ p. IsPiece (R.size self.old.runs) (R.list self.old.runs (S.content source.old)) p ×
-            FirstPiece (R.size self.old.runs) (R.list self.old.runs (S.content source.old)) self.old.limit p.first
-            p.past) }
-        ensures left { OnMore result (cut_left (R.left self.old.runs) (R.count self.old.runs) self.old.start
-            self.new.stage < cut_left (R.left self.old.runs) (R.count self.old.runs) self.old.start self.old.stage) }
+        ensures piece { OnPiece result (λ p. IsNext (R.count self.old.runs) self.old.limit self.old.start.block
+            self.new.start.block self.old.made self.new.made self.new.stage p) }
+        ensures ends { OnPiece result (λ p. Ends R.BlockRuns self.old.runs self.old.start self.new.start self.old.stage
+            p (devices S.Source O.Output source.old output.old) (devices S.Source O.Output source.new output.new)
+            m.old m.new) }
+        ensures laid { IsTrue S.tells → OnPiece result (λ p. CameWhole (R.size self.old.runs) self.old.limit
+            (R.list self.old.runs (S.content source.old)) self.old.start.block self.old.stage p (O.written output.old)
+            (O.written output.new)) }
         ensures refused { IfErr result (λ e. self.new.stage ≡ Stage.Failed e) }
-        ensures given { S.given source.old ≤ S.given source.new }
-        ensures received { S.given source.new ≤ S.given source.old + 65536 }
-        ensures steps { m.new.steps.number ≡ m.old.steps.number + 1 }
-        ensures greatest { m.new.greatest.number ≡ max m.old.greatest.number (S.given source.new - S.given source.old) }
-        ensures takes { OnPiece result (λ p. p.bytes + R.taken self.old.runs self.old.start
-            ≤ R.taken self.old.runs self.new.start + 80) }
-        ensures paid { OnMore result (silent_cut (R.count self.old.runs) self.new.stage
-            < silent_cut (R.count self.old.runs) self.old.stage + (S.given source.new - S.given source.old) + (length
-            (O.written output.new) - length (O.written output.old))) }
+        ensures costs { StepCosts (cut_words (R.one self.old.runs) (R.count self.old.runs) self.old.start
+            self.old.stage) (3 * R.one self.old.runs) (devices S.Source O.Output source.old output.old)
+            (devices S.Source O.Output source.new output.new) m.old m.new }
         ensures spends { IsTrue S.tells → (t : ℕ) →
             SpentStage (λ c. R.within self.old.runs c × R.place self.old.runs (S.content source.old) c)
             (R.charge self.old.runs) (R.copied self.old.runs) (R.held self.old.runs) (R.size self.old.runs)
@@ -438,27 +388,8 @@ impl<R: BlockRuns + Drop> Cutter<R> {
             self.old.limit (R.count self.old.runs) (R.one self.old.runs) self.old.start t self.old.stage →
             OnPiece result (λ p. SpentPiece (R.charge self.old.runs) (R.copied self.old.runs) (R.count self.old.runs)
             (R.one self.old.runs) p.past self.new.start (t + (S.given source.new - S.given source.old))) }
-        ensures calls { S.reads source.new ≤ S.reads source.old + (S.given source.new - S.given source.old) + 2 }
-        ensures write_calls { O.writes output.new + length (O.written output.old) ≤ O.writes output.old + length
-            (O.written output.new) + 1 }
-        ensures turns { m.new.turns.number + cut_words (R.one self.old.runs) (R.count self.old.runs) self.old.start
-            self.old.stage
-            ≤ m.old.turns.number + 2 * (S.given source.new - S.given source.old) + (length
-            (O.written output.new) - length (O.written output.old)) + 3 + 3 * R.one self.old.runs }
-        ensures words { OnMore result (m.new.turns.number + cut_words (R.one self.old.runs) (R.count self.old.runs)
-            self.old.start self.old.stage
-            ≤ m.old.turns.number + 2 * (S.given source.new - S.given source.old) + (length
-            (O.written output.new) - length (O.written output.old)) + 3 + cut_words (R.one self.old.runs)
-            (R.count self.old.runs) self.new.start self.new.stage) }
-        ensures piece_words { OnPiece result (λ p. m.new.turns.number + cut_words (R.one self.old.runs)
-            (R.count self.old.runs) self.old.start self.old.stage
-            ≤ m.old.turns.number + 2 * (S.given source.new - S.given source.old) + (length
-            (O.written output.new) - length (O.written output.old)) + 3 + piece_words (R.one self.old.runs)
-            (R.count self.old.runs) p.past) }
-        ensures faults { S.read_faults source.old ≤ S.read_faults source.new }
-        ensures write_faults { O.write_faults output.old ≤ O.write_faults output.new }
-        ensures clean { OnOk result ((S.read_faults source.new ≡ S.read_faults source.old) ×
-            (O.write_faults output.new ≡ O.write_faults output.old)) }
+        ensures failing { Failing result (devices S.Source O.Output source.old output.old)
+            (devices S.Source O.Output source.new output.new) }
         ensures full_faults { has_failed self.old.stage ≡ false → O.full_faults output.new
             ≡ O.full_faults output.old + full_cut result }
         ensures full { has_failed self.old.stage ≡ false → full_cut result ≡ 1 → IsTrue (O.is_full output.new) ×

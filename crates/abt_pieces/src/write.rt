@@ -3,6 +3,7 @@ ghost use Rattle.std.specs.Prelude.{◌≡◌, ℕ, List, [], ◌<◌, ◌≤◌
 ghost use Rattle.std.specs.Prelude.{OnErr, length, take, drop, min, max, true, false};
 ghost use Rattle.abt_runs.specs.Part.{is_end as ends, entry};
 ghost use Rattle.abt_pieces.specs.Fault.{HasCause, full_cut};
+ghost use Rattle.abt_pieces.specs.Calls.{Failing, devices};
 ghost use Rattle.abt_pieces.specs.Contents.{head_len as length_of_head, data_len};
 ghost use Rattle.abt_pieces.specs.Cutter.{first_writer};
 ghost use Rattle.abt_pieces.specs.Write.{front_bytes, chunk_len, chunk_begun, ChunkCause, starts, next_copying};
@@ -13,6 +14,7 @@ ghost use Rattle.abt_pieces.specs.Gather.{silent_left, gathered_to};
 ghost use Rattle.abt_runs.specs.declared.part.Cursor.{Cursor};
 ghost use Rattle.abt_pieces.specs.Plan.{last_words};
 ghost use Rattle.abt_pieces.specs.Spent.{Spent};
+ghost use Rattle.abt_pieces.specs.Step.{StepCosts};
 
 use crate::PieceFault;
 use crate::chunk::write_front;
@@ -478,12 +480,9 @@ impl Writer {
             OnOk result (ToldWriter (R.place runs.old (S.content source.old))
             (R.together runs.old (S.content source.old)) (R.list runs.old (S.content source.old)) self.new) }
         ensures segment { (self.new.first ≡ self.old.first) × (self.new.past ≡ self.old.past) }
-        ensures grown { length (O.written output.old) ≤ length (O.written output.new) }
         ensures within { length (O.written output.new) ≤ length (O.written output.old) + self.old.bytes }
         ensures counted { OnOk result (length (O.written output.new) + self.new.bytes
             ≡ length (O.written output.old) + self.old.bytes) }
-        ensures few { length (O.written output.new)
-            ≤ length (O.written output.old) + (S.given source.new - S.given source.old) + 80 }
         ensures front { IsTrue S.tells → O.written output.new ≡ O.written output.old ++ take
             (length (O.written output.new) - length (O.written output.old))
             (rest_of (frame_of (R.list runs.old (S.content source.old)) self.old) self.old) }
@@ -495,14 +494,12 @@ impl Writer {
             (MayCome (R.size runs.old) (R.count runs.old) self.new) (O.written output.old) (O.written output.new)) }
         ensures all { IfOk result (λ d. d ≡ true → MayCome (R.size runs.old) (R.count runs.old) self.old []) }
         ensures write_frame { O.write_frame output.new ≡ O.write_frame output.old }
-        ensures write_faults { O.write_faults output.old ≤ O.write_faults output.new }
         ensures cause { IfErr result (λ e. HasCause e S.tells (S.read_faults source.old) (S.read_faults source.new)
             (O.write_faults output.old) (O.write_faults output.new)) }
         ensures left { IfOk result (λ d. d ≡ false → write_left (R.left runs.old) (R.count runs.old) self.new
             < write_left (R.left runs.old) (R.count runs.old) self.old) }
         ensures ended { IfOk result (λ d. d ≡ true → (self.old.bytes ≡ 0) ×
             (O.written output.new ≡ O.written output.old)) }
-        ensures given { S.given source.old ≤ S.given source.new }
         ensures paid { IfOk result (λ d. d ≡ false → silent_left (R.count runs.old) self.old.past self.new.gatherer
             < silent_left (R.count runs.old) self.old.past self.old.gatherer + (S.given source.new - S.given source.old)
             + (length (O.written output.new) - length (O.written output.old))) }
@@ -519,22 +516,15 @@ impl Writer {
             (R.copied runs.old) (R.held runs.old) d s t self.old →
             IfOk result (λ done. done ≡ true → t + (S.given source.new - S.given source.old)
             ≤ 2 * R.charge runs.old d + R.copied runs.old d + 32) }
-        ensures calls { S.reads source.new ≤ S.reads source.old + (S.given source.new - S.given source.old) + 2 }
-        ensures write_calls { O.writes output.new + length (O.written output.old) ≤ O.writes output.old + length
-            (O.written output.new) + 1 }
-        ensures turns { m.new.turns.number + writer_words (R.one runs.old) (R.count runs.old) self.old
-            ≤ m.old.turns.number + 2 * (S.given source.new - S.given source.old) + (length
-            (O.written output.new) - length (O.written output.old)) + 3 + 2 * R.one runs.old }
+        ensures costs { StepCosts (writer_words (R.one runs.old) (R.count runs.old) self.old) (2 * R.one runs.old)
+            (devices S.Source O.Output source.old output.old)
+            (devices S.Source O.Output source.new output.new) m.old m.new }
         ensures words { IfOk result (λ d. m.new.turns.number + writer_words (R.one runs.old) (R.count runs.old) self.old
             ≤ m.old.turns.number + 2 * (S.given source.new - S.given source.old) + (length
             (O.written output.new) - length (O.written output.old)) + 3 + writer_words (R.one runs.old)
             (R.count runs.old) self.new) }
-        ensures received { S.given source.new ≤ S.given source.old + 65536 }
-        ensures steps { m.new.steps.number ≡ m.old.steps.number + 1 }
-        ensures greatest { m.new.greatest.number ≡ max m.old.greatest.number (S.given source.new - S.given source.old) }
-        ensures faults { S.read_faults source.old ≤ S.read_faults source.new }
-        ensures clean { OnOk result ((S.read_faults source.new ≡ S.read_faults source.old) ×
-            (O.write_faults output.new ≡ O.write_faults output.old)) }
+        ensures failing { Failing result (devices S.Source O.Output source.old output.old)
+            (devices S.Source O.Output source.new output.new) }
         ensures full_faults { O.full_faults output.new ≡ O.full_faults output.old + full_cut result }
         ensures full { full_cut result ≡ 1 → IsTrue (O.is_full output.new) ×
             (length (O.written output.new) < length (O.written output.old) + self.old.bytes) }

@@ -94,22 +94,22 @@ pieces-preserved g c =
     let next = c.deliver_piece.new.cutter.start.block in
     let st = c.deliver_piece.new.cutter.stage in
     let is : c.pieces.cutter.stage ≡ Between = still_between _ _ _ _ i.unbroken (sym c.more.ensures ∙ c.if-not-more.false) in
-    let at : StandsAt n next st = rw i.runs at o.stands in
+    let at : StandsAt n next st = rw i.runs at o.behind.stands in
     let left : c.pieces.cutter.made ≤ s = c.pieces.cutter.sound.left (ap has_more is) in
     let inside = i.unbroken.between is in
-    let unbroken : Unbroken n c.deliver_piece.new.cutter.made next st = rw (o.made) (unbroken_more n c.pieces.cutter.made next st at) in
-    let words : words_so_far one n s Between + _ ≤ words_so_far one n next st = words_more one n s next st (rw i.runs at o.moves) at in
+    let unbroken : Unbroken n c.deliver_piece.new.cutter.made next st = rw (o.behind.made) (unbroken_more n c.pieces.cutter.made next st at) in
+    let words : words_so_far one n s Between + _ ≤ words_so_far one n next st = words_more one n s next st (rw i.runs at o.behind.moves) at in
     record {
-      runs = e.runs ∙ i.runs;
-      limit = e.limit ∙ i.limit;
+      runs = e.same.0 ∙ i.runs;
+      limit = e.same.1 ∙ i.limit;
       told = λ tells. rw (i.runs, i.kept tells) at (e.told tells);
       kept = λ tells. e.content tells ∙ i.kept tells;
       frame = e.frame ∙ i.frame;
       unbroken = unbroken;
-      few = rw o.made (few_more n c.pieces.cutter.made s left inside);
-      order = omega (arith, i.order, o.made);
+      few = rw o.behind.made (few_more n c.pieces.cutter.made s left inside);
+      order = omega (arith, i.order, o.behind.made);
       same_made = i.same_made;
-      some = λ d. omega (arith, i.order, o.made);
+      some = λ d. omega (arith, i.order, o.behind.made);
       capacity = e.capacity ∙ i.capacity;
       size = e.size ∙ i.size;
       unread = (e.unread.0 ∙ i.unread.0, e.unread.1 ∙ i.unread.1);
@@ -151,32 +151,32 @@ pieces-preserved g c =
           let size : IsBlockSize b = (some, sized.1, omega (arith, granted, small)) in
           let before = rw (i.limit, is) at (i.told tells).cuts in
           let here = behind most b all c.pieces.cutter.made s Between before (inl refl) (omega (arith, h.order, h.within)) in
-          let behind_it = rw (e.limit, i.limit, i.runs, i.kept tells, o.made) at (e.told tells).cuts in
+          let behind_it = rw (e.same.1, i.limit, i.runs, i.kept tells, o.behind.made) at (e.told tells).cuts in
           let then_on = behind most b all (c.pieces.cutter.made + 1) next st behind_it (stands_left (length all) next st (rw (← long) at at)) h.within in
           staying_more most b all p c.args.cutter.now.made (g.P.Partition.past c.args.partition.now).synced c.pieces.cutter.made s (g.P.Partition.past c.args.partition.now).moments
           (g.P.Partition.past c.pieces.partition) (g.P.Partition.past c.deliver_piece.new.partition) (g.P.Source.content c.pieces.partition) (g.P.Source.content c.deliver_piece.new.partition)
-          size good (omega (arith, h.order, h.within)) i.synced i.order here.blocks (i.stays tells spool partition p done le entry) (rw (i.runs, i.kept tells, i.limit) at (e.moments tells spool partition))
+          size good (omega (arith, h.order, h.within)) i.synced i.order here.blocks (i.stays tells spool partition p done le entry) (rw (i.runs, i.kept tells, i.limit) at (e.touches tells spool partition).moments)
           next h.order h.within o.synced then_on.blocks (o.settled partition) (rw (i.runs, i.kept tells) at (o.laid tells spool partition));
       settled = λ tells lt. o.settled tells;
-      synced = omega (arith, i.synced, o.synced, o.made);
+      synced = omega (arith, i.synced, o.synced, o.behind.made);
       blocks = λ tells spool.
           let h : FirstPiece b all most s next = rw (i.runs, i.kept tells, i.limit) at (o.greatest_end tells) in
           let wrote = rw (i.runs, i.kept tells) at (o.blocks tells spool) in
           let sum = ap (λ (k : ℕ). b * k) (written_more all s next h.order) in
           let before = i.blocks tells spool in
           omega (arith, wrote, sum, before);
-      given = omega (arith, i.given, e.given);
-      spool_given = omega (arith, i.spool_given, e.spool_given);
-      grown = omega (arith, i.grown, e.grown);
-      taken = omega (arith, i.taken, e.taken);
-      long = let z = rw i.runs at o.takes in omega (arith, z, i.long, o.made);
+      given = omega (arith, i.given, e.work.given);
+      spool_given = omega (arith, i.spool_given, e.work.spool_given);
+      grown = omega (arith, i.grown, e.work.grown);
+      taken = omega (arith, i.taken, e.work.taken);
+      long = let z = rw i.runs at o.takes in omega (arith, z, i.long, o.behind.made);
       back = λ tells spool. let z = o.back tells spool in let y = i.back tells spool in omega (arith, z, y);
-      spent = λ tells d. spent_more (given c.args.source.now) (given c.pieces.source) (given c.deliver_piece.new.source) (passes c.args.cutter.now.start) (passes c.pieces.cutter.start) (passes c.deliver_piece.new.cutter.start) c.args.cutter.now.made c.pieces.cutter.made c.deliver_piece.new.cutter.made one o.made (rw i.runs at (o.spent tells)) (i.spent tells is);
-      spent_end = λ tells d. spent_last (given c.args.source.now) (given c.pieces.source) (given c.deliver_piece.new.source) (passes c.args.cutter.now.start) (passes c.pieces.cutter.start) (passes c.deliver_piece.new.cutter.start) c.args.cutter.now.made c.pieces.cutter.made c.deliver_piece.new.cutter.made one o.made ((rw i.runs at (o.spent_end tells)) (unbroken.done d).1) (i.spent tells is);
-      calls = calls_on _ _ _ _ _ _ _ _ _ e.calls i.calls o.made;
-      turns = turns_on _ _ _ _ _ _ _ _ _ _ _ _ _ c.tick.ensures.turns (rw i.runs at o.words) words (rw is at i.turns) o.made;
-      steps = omega (arith, e.steps, i.steps, c.tick.ensures.steps);
-      greatest = omega (arith, e.greatest, i.greatest, c.tick.ensures.greatest);
+      spent = λ tells d. spent_more (given c.args.source.now) (given c.pieces.source) (given c.deliver_piece.new.source) (passes c.args.cutter.now.start) (passes c.pieces.cutter.start) (passes c.deliver_piece.new.cutter.start) c.args.cutter.now.made c.pieces.cutter.made c.deliver_piece.new.cutter.made one o.behind.made (rw i.runs at (o.spent tells)) (i.spent tells is);
+      spent_end = λ tells d. spent_last (given c.args.source.now) (given c.pieces.source) (given c.deliver_piece.new.source) (passes c.args.cutter.now.start) (passes c.pieces.cutter.start) (passes c.deliver_piece.new.cutter.start) c.args.cutter.now.made c.pieces.cutter.made c.deliver_piece.new.cutter.made one o.behind.made ((rw i.runs at (o.spent_end tells)) (unbroken.done d).1) (i.spent tells is);
+      calls = calls_on _ _ _ _ _ _ _ _ _ e.calls i.calls o.behind.made;
+      turns = turns_on _ _ _ _ _ _ _ _ _ _ _ _ _ c.tick.ensures.turns (rw i.runs at o.words) words (rw is at i.turns) o.behind.made;
+      steps = omega (arith, e.work.steps, i.steps, c.tick.ensures.steps);
+      greatest = omega (arith, e.work.greatest, i.greatest, c.tick.ensures.greatest);
       read_faults = o.clean.read ∙ i.read_faults;
       write_faults = o.clean.write ∙ i.write_faults;
       spool_faults = o.clean.spool ∙ i.spool_faults;
@@ -377,8 +377,8 @@ returns-in-Err-clause-stays g c tells spool partition =
     let within : s ≤ g.R.BlockRuns.count c.args.cutter.now.runs = rw i.runs at (g.met.R.BlockRuns.bounded c.pieces.cutter.runs _ c.pieces.cutter.sound.within) in
     let inside : s ≤ length all = omega (arith, long, within) in
     let here = behind most b all c.pieces.cutter.made s Between (rw (i.limit, is) at (i.told tells).cuts) (inl refl) inside in
-    let moments = rw (i.runs, i.kept tells, i.limit) at (e.moments tells spool partition) in
-    let kept = rw (i.runs, i.kept tells, i.limit) at (e.kept tells spool partition) in
+    let moments = rw (i.runs, i.kept tells, i.limit) at (e.touches tells spool partition).moments in
+    let kept = rw (i.runs, i.kept tells, i.limit) at (e.touches tells spool partition).kept in
     let syncs : (g.P.Partition.past c.deliver_piece.new.partition).synced ≡ (g.P.Partition.past c.pieces.partition).synced = omega (arith, c.in-Err.ensures.synced) in
     record {
       since = λ p done le entry. staying_stop most b all p c.args.cutter.now.made (g.P.Partition.past c.args.partition.now).synced c.pieces.cutter.made s (g.P.Partition.past c.args.partition.now).moments

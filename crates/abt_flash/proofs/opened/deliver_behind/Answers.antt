@@ -209,8 +209,8 @@ returns-clause-costs g c =
       counted = rest_begins _ _ c.args.before c.deliver_rest.result _ _ _ _ stops;
       calls = omega (arith, more, planned, plan_calls, calls, p.given);
       turns = omega (arith, more, planned, plan_turns, turns, p.given);
-      steps = omega (arith, p.steps, r.steps);
-      greatest = omega (arith, p.greatest, r.greatest);
+      steps = omega (arith, p.steps, r.work.steps);
+      greatest = omega (arith, p.greatest, r.work.greatest);
     }
 
 pub returns-clause-clean : goal.returns-clause-clean

@@ -162,11 +162,8 @@ returns-in-Ok-flash-clause-laid g c tells spool partition =
     ∙ ap (λ (x : List ℕ). over (g.P.Source.content c.args.partition.now) (given (outcome x))) (comes g s tells spool)
     ∙ ap (over (g.P.Source.content c.args.partition.now)) (given_reads _ _ _ _ (reads g s tells))
 
-pub returns-in-Ok-flash-clause-kept : goal.returns-in-Ok-flash-clause-kept
-returns-in-Ok-flash-clause-kept g c tells spool partition = rw (touches g ((goal.at.returns-in-Ok-flash-clause-kept g c).In-Ok-Some) tells spool) at ((c.flash.ensures.touches spool partition).kept)
-
-pub returns-in-Ok-flash-clause-moments : goal.returns-in-Ok-flash-clause-moments
-returns-in-Ok-flash-clause-moments g c tells spool partition = rw (touches g ((goal.at.returns-in-Ok-flash-clause-moments g c).In-Ok-Some) tells spool) at ((c.flash.ensures.touches spool partition).moments)
+pub returns-in-Ok-flash-clause-touches : goal.returns-in-Ok-flash-clause-touches
+returns-in-Ok-flash-clause-touches g c tells spool partition = rw (touches g ((goal.at.returns-in-Ok-flash-clause-touches g c).In-Ok-Some) tells spool) at (c.flash.ensures.touches spool partition)
 
 pub returns-in-Ok-flash-clause-blocks : goal.returns-in-Ok-flash-clause-blocks
 returns-in-Ok-flash-clause-blocks g c tells spool =
@@ -200,11 +197,8 @@ returns-in-Err-flash-clause-begins g c tells =
     let k = (goal.at.returns-in-Err-flash-clause-begins g c).After-flash in
     rw (← after_written g k) at (rw (c.requires.between, c.clear.ensures.written) at (begins_front _ _ _ _ (c.next_piece.ensures.front tells)))
 
-pub returns-in-Err-flash-clause-kept : goal.returns-in-Err-flash-clause-kept
-returns-in-Err-flash-clause-kept g c tells spool partition = rw (touches g ((goal.at.returns-in-Err-flash-clause-kept g c).In-Ok-Some) tells spool) at ((c.flash.ensures.touches spool partition).kept)
-
-pub returns-in-Err-flash-clause-moments : goal.returns-in-Err-flash-clause-moments
-returns-in-Err-flash-clause-moments g c tells spool partition = rw (touches g ((goal.at.returns-in-Err-flash-clause-moments g c).In-Ok-Some) tells spool) at ((c.flash.ensures.touches spool partition).moments)
+pub returns-in-Err-flash-clause-touches : goal.returns-in-Err-flash-clause-touches
+returns-in-Err-flash-clause-touches g c tells spool partition = rw (touches g ((goal.at.returns-in-Err-flash-clause-touches g c).In-Ok-Some) tells spool) at (c.flash.ensures.touches spool partition)
 
 pub returns-in-Err-flash-clause-unsynced : goal.returns-in-Err-flash-clause-unsynced
 returns-in-Err-flash-clause-unsynced g c =
@@ -266,16 +260,39 @@ returns-in-Err-next_piece-clause-capacity g c =
     let writing = sym (g.met.L.Spool.writing c.next_piece.new.output) ∙ c.next_piece.ensures.write_frame ∙ g.met.L.Spool.writing c.clear.new.spool in
     ap (λ (f : WriteFrame). f.capacity) writing ∙ c.clear.ensures.size
 
-pub returns-in-Err-next_piece-clause-spool_given : goal.returns-in-Err-next_piece-clause-spool_given
-returns-in-Err-next_piece-clause-spool_given g c =
-    let writing = sym (g.met.L.Spool.writing c.next_piece.new.output) ∙ c.next_piece.ensures.write_frame ∙ g.met.L.Spool.writing c.clear.new.spool in
-    let gives = ap (λ (f : WriteFrame). f.given) writing in
-    omega (arith, gives, c.clear.ensures.given)
+pub returns-in-Err-next_piece-clause-work : goal.returns-in-Err-next_piece-clause-work
+returns-in-Err-next_piece-clause-work g c =
+    record {
+      given = c.next_piece.ensures.costs.given;
+      spool_given =
+          let writing = sym (g.met.L.Spool.writing c.next_piece.new.output) ∙ c.next_piece.ensures.write_frame ∙ g.met.L.Spool.writing c.clear.new.spool in
+          let gives = ap (λ (f : WriteFrame). f.given) writing in
+          omega (arith, gives, c.clear.ensures.given);
+      grown =
+          let long = ap length c.clear.ensures.written in
+          omega (arith, long, c.next_piece.ensures.grown);
+      taken = omega arith;
+      steps =
+          let writing = sym (g.met.L.Spool.writing c.next_piece.new.output) ∙ c.next_piece.ensures.write_frame ∙ g.met.L.Spool.writing c.clear.new.spool in
+          let gives = ap (λ (f : WriteFrame). f.given) writing in
+          omega (arith, gives, c.next_piece.ensures.costs.steps, c.next_piece.ensures.costs.given, c.clear.ensures.given);
+      greatest = omega (arith, c.next_piece.ensures.costs.greatest);
+    }
 
-pub returns-in-Err-next_piece-clause-grown : goal.returns-in-Err-next_piece-clause-grown
-returns-in-Err-next_piece-clause-grown g c =
-    let long = ap length c.clear.ensures.written in
-    omega (arith, long, c.next_piece.ensures.grown)
+pub returns-in-Err-next_piece-clause-faults : goal.returns-in-Err-next_piece-clause-faults
+returns-in-Err-next_piece-clause-faults g c =
+    record {
+      read = c.next_piece.ensures.failing.read;
+      write =
+          let writing = sym (g.met.L.Spool.writing c.next_piece.new.output) ∙ c.next_piece.ensures.write_frame ∙ g.met.L.Spool.writing c.clear.new.spool in
+          let cleared = ap (λ (f : WriteFrame). f.clear_faults) writing in
+          omega (arith, cleared, c.next_piece.ensures.failing.write, c.clear.ensures.write_faults, c.clear.ensures.clear_faults);
+      spool =
+          let writing = sym (g.met.L.Spool.writing c.next_piece.new.output) ∙ c.next_piece.ensures.write_frame ∙ g.met.L.Spool.writing c.clear.new.spool in
+          let failed = ap (λ (f : WriteFrame). f.read_faults) writing in
+          omega (arith, failed, c.clear.ensures.read_faults);
+      put = omega arith;
+    }
 
 pub returns-in-Err-next_piece-clause-calls : goal.returns-in-Err-next_piece-clause-calls
 returns-in-Err-next_piece-clause-calls g c =
@@ -293,43 +310,51 @@ returns-in-Err-next_piece-clause-turns g c =
     let long = ap length c.clear.ensures.written in
     omega (arith, gives, long, c.next_piece.ensures.costs.turns, c.next_piece.ensures.costs.given, c.next_piece.ensures.grown, c.clear.ensures.given)
 
-pub returns-in-Err-next_piece-clause-steps : goal.returns-in-Err-next_piece-clause-steps
-returns-in-Err-next_piece-clause-steps g c =
-    let writing = sym (g.met.L.Spool.writing c.next_piece.new.output) ∙ c.next_piece.ensures.write_frame ∙ g.met.L.Spool.writing c.clear.new.spool in
-    let gives = ap (λ (f : WriteFrame). f.given) writing in
-    omega (arith, gives, c.next_piece.ensures.costs.steps, c.next_piece.ensures.costs.given, c.clear.ensures.given)
-
-pub returns-in-Err-next_piece-clause-write_faults : goal.returns-in-Err-next_piece-clause-write_faults
-returns-in-Err-next_piece-clause-write_faults g c =
-    let writing = sym (g.met.L.Spool.writing c.next_piece.new.output) ∙ c.next_piece.ensures.write_frame ∙ g.met.L.Spool.writing c.clear.new.spool in
-    let cleared = ap (λ (f : WriteFrame). f.clear_faults) writing in
-    omega (arith, cleared, c.next_piece.ensures.failing.write, c.clear.ensures.write_faults, c.clear.ensures.clear_faults)
-
-pub returns-in-Err-next_piece-clause-spool_faults : goal.returns-in-Err-next_piece-clause-spool_faults
-returns-in-Err-next_piece-clause-spool_faults g c =
-    let writing = sym (g.met.L.Spool.writing c.next_piece.new.output) ∙ c.next_piece.ensures.write_frame ∙ g.met.L.Spool.writing c.clear.new.spool in
-    let failed = ap (λ (f : WriteFrame). f.read_faults) writing in
-    omega (arith, failed, c.clear.ensures.read_faults)
-
 pub returns-in-Ok-flash-clause-capacity : goal.returns-in-Ok-flash-clause-capacity
 returns-in-Ok-flash-clause-capacity g c =
     let writing = sym (g.met.L.Spool.writing c.next_piece.new.output) ∙ c.next_piece.ensures.write_frame ∙ g.met.L.Spool.writing c.clear.new.spool in
     let reading = sym (g.met.L.Spool.reading c.flash.new.input) ∙ c.flash.ensures.frame ∙ g.met.L.Spool.reading c.next_piece.new.output in
     ap (λ (f : ReadFrame). f.capacity) reading ∙ ap (λ (f : WriteFrame). f.capacity) writing ∙ c.clear.ensures.size
 
-pub returns-in-Ok-flash-clause-spool_given : goal.returns-in-Ok-flash-clause-spool_given
-returns-in-Ok-flash-clause-spool_given g c =
-    let writing = sym (g.met.L.Spool.writing c.next_piece.new.output) ∙ c.next_piece.ensures.write_frame ∙ g.met.L.Spool.writing c.clear.new.spool in
-    let gives = ap (λ (f : WriteFrame). f.given) writing in
-    omega (arith, gives, c.clear.ensures.given, c.flash.ensures.grows.given)
+pub returns-in-Ok-flash-clause-work : goal.returns-in-Ok-flash-clause-work
+returns-in-Ok-flash-clause-work g c =
+    record {
+      given = c.next_piece.ensures.costs.given;
+      spool_given =
+          let writing = sym (g.met.L.Spool.writing c.next_piece.new.output) ∙ c.next_piece.ensures.write_frame ∙ g.met.L.Spool.writing c.clear.new.spool in
+          let gives = ap (λ (f : WriteFrame). f.given) writing in
+          omega (arith, gives, c.clear.ensures.given, c.flash.ensures.grows.given);
+      grown =
+          let writing = sym (g.met.L.Spool.writing c.next_piece.new.output) ∙ c.next_piece.ensures.write_frame ∙ g.met.L.Spool.writing c.clear.new.spool in
+          let reading = sym (g.met.L.Spool.reading c.flash.new.input) ∙ c.flash.ensures.frame ∙ g.met.L.Spool.reading c.next_piece.new.output in
+          let same = ap (λ (f : ReadFrame). length f.written) reading in
+          let long = ap length c.clear.ensures.written in
+          omega (arith, same, long, c.next_piece.ensures.grown);
+      taken = c.flash.ensures.grows.taken;
+      steps =
+          let writing = sym (g.met.L.Spool.writing c.next_piece.new.output) ∙ c.next_piece.ensures.write_frame ∙ g.met.L.Spool.writing c.clear.new.spool in
+          let gives = ap (λ (f : WriteFrame). f.given) writing in
+          omega (arith, gives, c.next_piece.ensures.costs.steps, c.next_piece.ensures.costs.given, c.clear.ensures.given, c.flash.ensures.costs.steps, c.flash.ensures.grows.given);
+      greatest = omega (arith, c.next_piece.ensures.costs.greatest, c.flash.ensures.costs.greatest);
+    }
 
-pub returns-in-Ok-flash-clause-grown : goal.returns-in-Ok-flash-clause-grown
-returns-in-Ok-flash-clause-grown g c =
-    let writing = sym (g.met.L.Spool.writing c.next_piece.new.output) ∙ c.next_piece.ensures.write_frame ∙ g.met.L.Spool.writing c.clear.new.spool in
-    let reading = sym (g.met.L.Spool.reading c.flash.new.input) ∙ c.flash.ensures.frame ∙ g.met.L.Spool.reading c.next_piece.new.output in
-    let same = ap (λ (f : ReadFrame). length f.written) reading in
-    let long = ap length c.clear.ensures.written in
-    omega (arith, same, long, c.next_piece.ensures.grown)
+pub returns-in-Ok-flash-clause-faults : goal.returns-in-Ok-flash-clause-faults
+returns-in-Ok-flash-clause-faults g c =
+    record {
+      read = c.next_piece.ensures.failing.read;
+      write =
+          let writing = sym (g.met.L.Spool.writing c.next_piece.new.output) ∙ c.next_piece.ensures.write_frame ∙ g.met.L.Spool.writing c.clear.new.spool in
+          let reading = sym (g.met.L.Spool.reading c.flash.new.input) ∙ c.flash.ensures.frame ∙ g.met.L.Spool.reading c.next_piece.new.output in
+          let cleared = ap (λ (f : WriteFrame). f.clear_faults) writing in
+          let wrote = ap (λ (f : ReadFrame). f.write_faults) reading in
+          let clears = ap (λ (f : ReadFrame). f.clear_faults) reading in
+          omega (arith, cleared, wrote, clears, c.next_piece.ensures.failing.write, c.clear.ensures.write_faults, c.clear.ensures.clear_faults);
+      spool =
+          let writing = sym (g.met.L.Spool.writing c.next_piece.new.output) ∙ c.next_piece.ensures.write_frame ∙ g.met.L.Spool.writing c.clear.new.spool in
+          let failed = ap (λ (f : WriteFrame). f.read_faults) writing in
+          omega (arith, failed, c.clear.ensures.read_faults, c.flash.ensures.grows.read_faults);
+      put = c.flash.ensures.grows.put_faults;
+    }
 
 pub returns-in-Ok-flash-clause-calls : goal.returns-in-Ok-flash-clause-calls
 returns-in-Ok-flash-clause-calls g c =
@@ -353,50 +378,51 @@ returns-in-Ok-flash-clause-turns g c =
     let long = ap length c.clear.ensures.written in
     omega (arith, gives, same, long, c.next_piece.ensures.costs.turns, c.next_piece.ensures.costs.given, c.next_piece.ensures.grown, c.clear.ensures.given, c.flash.ensures.costs.turns, c.flash.ensures.grows.given, c.flash.ensures.grows.taken)
 
-pub returns-in-Ok-flash-clause-steps : goal.returns-in-Ok-flash-clause-steps
-returns-in-Ok-flash-clause-steps g c =
-    let writing = sym (g.met.L.Spool.writing c.next_piece.new.output) ∙ c.next_piece.ensures.write_frame ∙ g.met.L.Spool.writing c.clear.new.spool in
-    let gives = ap (λ (f : WriteFrame). f.given) writing in
-    omega (arith, gives, c.next_piece.ensures.costs.steps, c.next_piece.ensures.costs.given, c.clear.ensures.given, c.flash.ensures.costs.steps, c.flash.ensures.grows.given)
-
-pub returns-in-Ok-flash-clause-greatest : goal.returns-in-Ok-flash-clause-greatest
-returns-in-Ok-flash-clause-greatest g c =
-    omega (arith, c.next_piece.ensures.costs.greatest, c.flash.ensures.costs.greatest)
-
-pub returns-in-Ok-flash-clause-write_faults : goal.returns-in-Ok-flash-clause-write_faults
-returns-in-Ok-flash-clause-write_faults g c =
-    let writing = sym (g.met.L.Spool.writing c.next_piece.new.output) ∙ c.next_piece.ensures.write_frame ∙ g.met.L.Spool.writing c.clear.new.spool in
-    let reading = sym (g.met.L.Spool.reading c.flash.new.input) ∙ c.flash.ensures.frame ∙ g.met.L.Spool.reading c.next_piece.new.output in
-    let cleared = ap (λ (f : WriteFrame). f.clear_faults) writing in
-    let wrote = ap (λ (f : ReadFrame). f.write_faults) reading in
-    let clears = ap (λ (f : ReadFrame). f.clear_faults) reading in
-    omega (arith, cleared, wrote, clears, c.next_piece.ensures.failing.write, c.clear.ensures.write_faults, c.clear.ensures.clear_faults)
-
-pub returns-in-Ok-flash-clause-spool_faults : goal.returns-in-Ok-flash-clause-spool_faults
-returns-in-Ok-flash-clause-spool_faults g c =
-    let writing = sym (g.met.L.Spool.writing c.next_piece.new.output) ∙ c.next_piece.ensures.write_frame ∙ g.met.L.Spool.writing c.clear.new.spool in
-    let failed = ap (λ (f : WriteFrame). f.read_faults) writing in
-    omega (arith, failed, c.clear.ensures.read_faults, c.flash.ensures.grows.read_faults)
-
 pub returns-in-Err-flash-clause-capacity : goal.returns-in-Err-flash-clause-capacity
 returns-in-Err-flash-clause-capacity g c =
     let writing = sym (g.met.L.Spool.writing c.next_piece.new.output) ∙ c.next_piece.ensures.write_frame ∙ g.met.L.Spool.writing c.clear.new.spool in
     let reading = sym (g.met.L.Spool.reading c.flash.new.input) ∙ c.flash.ensures.frame ∙ g.met.L.Spool.reading c.next_piece.new.output in
     ap (λ (f : ReadFrame). f.capacity) reading ∙ ap (λ (f : WriteFrame). f.capacity) writing ∙ c.clear.ensures.size
 
-pub returns-in-Err-flash-clause-spool_given : goal.returns-in-Err-flash-clause-spool_given
-returns-in-Err-flash-clause-spool_given g c =
-    let writing = sym (g.met.L.Spool.writing c.next_piece.new.output) ∙ c.next_piece.ensures.write_frame ∙ g.met.L.Spool.writing c.clear.new.spool in
-    let gives = ap (λ (f : WriteFrame). f.given) writing in
-    omega (arith, gives, c.clear.ensures.given, c.flash.ensures.grows.given)
+pub returns-in-Err-flash-clause-work : goal.returns-in-Err-flash-clause-work
+returns-in-Err-flash-clause-work g c =
+    record {
+      given = c.next_piece.ensures.costs.given;
+      spool_given =
+          let writing = sym (g.met.L.Spool.writing c.next_piece.new.output) ∙ c.next_piece.ensures.write_frame ∙ g.met.L.Spool.writing c.clear.new.spool in
+          let gives = ap (λ (f : WriteFrame). f.given) writing in
+          omega (arith, gives, c.clear.ensures.given, c.flash.ensures.grows.given);
+      grown =
+          let writing = sym (g.met.L.Spool.writing c.next_piece.new.output) ∙ c.next_piece.ensures.write_frame ∙ g.met.L.Spool.writing c.clear.new.spool in
+          let reading = sym (g.met.L.Spool.reading c.flash.new.input) ∙ c.flash.ensures.frame ∙ g.met.L.Spool.reading c.next_piece.new.output in
+          let same = ap (λ (f : ReadFrame). length f.written) reading in
+          let long = ap length c.clear.ensures.written in
+          omega (arith, same, long, c.next_piece.ensures.grown);
+      taken = c.flash.ensures.grows.taken;
+      steps =
+          let writing = sym (g.met.L.Spool.writing c.next_piece.new.output) ∙ c.next_piece.ensures.write_frame ∙ g.met.L.Spool.writing c.clear.new.spool in
+          let gives = ap (λ (f : WriteFrame). f.given) writing in
+          omega (arith, gives, c.next_piece.ensures.costs.steps, c.next_piece.ensures.costs.given, c.clear.ensures.given, c.flash.ensures.costs.steps, c.flash.ensures.grows.given);
+      greatest = omega (arith, c.next_piece.ensures.costs.greatest, c.flash.ensures.costs.greatest);
+    }
 
-pub returns-in-Err-flash-clause-grown : goal.returns-in-Err-flash-clause-grown
-returns-in-Err-flash-clause-grown g c =
-    let writing = sym (g.met.L.Spool.writing c.next_piece.new.output) ∙ c.next_piece.ensures.write_frame ∙ g.met.L.Spool.writing c.clear.new.spool in
-    let reading = sym (g.met.L.Spool.reading c.flash.new.input) ∙ c.flash.ensures.frame ∙ g.met.L.Spool.reading c.next_piece.new.output in
-    let same = ap (λ (f : ReadFrame). length f.written) reading in
-    let long = ap length c.clear.ensures.written in
-    omega (arith, same, long, c.next_piece.ensures.grown)
+pub returns-in-Err-flash-clause-faults : goal.returns-in-Err-flash-clause-faults
+returns-in-Err-flash-clause-faults g c =
+    record {
+      read = c.next_piece.ensures.failing.read;
+      write =
+          let writing = sym (g.met.L.Spool.writing c.next_piece.new.output) ∙ c.next_piece.ensures.write_frame ∙ g.met.L.Spool.writing c.clear.new.spool in
+          let reading = sym (g.met.L.Spool.reading c.flash.new.input) ∙ c.flash.ensures.frame ∙ g.met.L.Spool.reading c.next_piece.new.output in
+          let cleared = ap (λ (f : WriteFrame). f.clear_faults) writing in
+          let wrote = ap (λ (f : ReadFrame). f.write_faults) reading in
+          let clears = ap (λ (f : ReadFrame). f.clear_faults) reading in
+          omega (arith, cleared, wrote, clears, c.next_piece.ensures.failing.write, c.clear.ensures.write_faults, c.clear.ensures.clear_faults);
+      spool =
+          let writing = sym (g.met.L.Spool.writing c.next_piece.new.output) ∙ c.next_piece.ensures.write_frame ∙ g.met.L.Spool.writing c.clear.new.spool in
+          let failed = ap (λ (f : WriteFrame). f.read_faults) writing in
+          omega (arith, failed, c.clear.ensures.read_faults, c.flash.ensures.grows.read_faults);
+      put = c.flash.ensures.grows.put_faults;
+    }
 
 pub returns-in-Err-flash-clause-calls : goal.returns-in-Err-flash-clause-calls
 returns-in-Err-flash-clause-calls g c =
@@ -419,31 +445,6 @@ returns-in-Err-flash-clause-turns g c =
     let same = ap (λ (f : ReadFrame). length f.written) reading in
     let long = ap length c.clear.ensures.written in
     omega (arith, gives, same, long, c.next_piece.ensures.costs.turns, c.next_piece.ensures.costs.given, c.next_piece.ensures.grown, c.clear.ensures.given, c.flash.ensures.costs.turns, c.flash.ensures.grows.given, c.flash.ensures.grows.taken)
-
-pub returns-in-Err-flash-clause-steps : goal.returns-in-Err-flash-clause-steps
-returns-in-Err-flash-clause-steps g c =
-    let writing = sym (g.met.L.Spool.writing c.next_piece.new.output) ∙ c.next_piece.ensures.write_frame ∙ g.met.L.Spool.writing c.clear.new.spool in
-    let gives = ap (λ (f : WriteFrame). f.given) writing in
-    omega (arith, gives, c.next_piece.ensures.costs.steps, c.next_piece.ensures.costs.given, c.clear.ensures.given, c.flash.ensures.costs.steps, c.flash.ensures.grows.given)
-
-pub returns-in-Err-flash-clause-greatest : goal.returns-in-Err-flash-clause-greatest
-returns-in-Err-flash-clause-greatest g c =
-    omega (arith, c.next_piece.ensures.costs.greatest, c.flash.ensures.costs.greatest)
-
-pub returns-in-Err-flash-clause-write_faults : goal.returns-in-Err-flash-clause-write_faults
-returns-in-Err-flash-clause-write_faults g c =
-    let writing = sym (g.met.L.Spool.writing c.next_piece.new.output) ∙ c.next_piece.ensures.write_frame ∙ g.met.L.Spool.writing c.clear.new.spool in
-    let reading = sym (g.met.L.Spool.reading c.flash.new.input) ∙ c.flash.ensures.frame ∙ g.met.L.Spool.reading c.next_piece.new.output in
-    let cleared = ap (λ (f : WriteFrame). f.clear_faults) writing in
-    let wrote = ap (λ (f : ReadFrame). f.write_faults) reading in
-    let clears = ap (λ (f : ReadFrame). f.clear_faults) reading in
-    omega (arith, cleared, wrote, clears, c.next_piece.ensures.failing.write, c.clear.ensures.write_faults, c.clear.ensures.clear_faults)
-
-pub returns-in-Err-flash-clause-spool_faults : goal.returns-in-Err-flash-clause-spool_faults
-returns-in-Err-flash-clause-spool_faults g c =
-    let writing = sym (g.met.L.Spool.writing c.next_piece.new.output) ∙ c.next_piece.ensures.write_frame ∙ g.met.L.Spool.writing c.clear.new.spool in
-    let failed = ap (λ (f : WriteFrame). f.read_faults) writing in
-    omega (arith, failed, c.clear.ensures.read_faults, c.flash.ensures.grows.read_faults)
 
 pub returns-in-Ok-flash-clause-cut : goal.returns-in-Ok-flash-clause-cut
 returns-in-Ok-flash-clause-cut g c =

@@ -47,43 +47,43 @@ steps-preserved g c =
     let e = c.step.ensures in
     let o = c.in-Ok-More.ensures in
     let is = c.in-Ok-More.field-0-is in
-    let more = rw is at o.more in
+    let on = rw is at o.goes_on in
     let begun = rw is at o.begun in
-    let counted = rw is at o.counted in
-    let paid = rw i.runs at (rw is at o.paid) in
-    let words = rw i.runs at (rw is at o.words) in
+    let costs = e.costs in
+    let paid = rw i.runs at on.paid in
+    let words = rw i.runs at on.words in
     let between : c.args.self.now.stage ≡ Between = elim i.fresh [
       | inl h ↦ h.1
       | inr h ↦ is_between _ c.requires.unbegun (λ d. let z = rw is at (o.after_last (h.3 ∙ d)) in absurd cc) (λ f d. let z = rw is at (o.again f (h.3 ∙ d)).0 in absurd cc)
     ] in
     record {
-      runs = e.runs ∙ i.runs;
-      limit = e.limit ∙ i.limit;
-      start = more.0 ∙ i.start;
-      made = more.1 ∙ i.made;
+      runs = e.same.0 ∙ i.runs;
+      limit = e.same.1 ∙ i.limit;
+      start = on.same_place ∙ i.start;
+      made = on.same_number ∙ i.made;
       kept = λ tells. e.content tells ∙ i.kept tells;
       frame = e.frame ∙ i.frame;
       write_frame = e.write_frame ∙ i.write_frame;
       told = λ tells. rw (i.runs, i.kept tells) at (e.told tells);
       fresh = inl (begun, between);
-      grown = omega (arith, e.grown, i.grown);
-      counted = omega (arith, counted, i.counted, e.grown, i.grown);
-      front = λ tells. front_join _ _ _ _ _ i.grown e.grown (i.front tells) (i.rest tells) (rw (i.runs, i.kept tells, i.limit, i.start) at (e.front tells));
+      grown = omega (arith, e.costs.grown, i.grown);
+      counted = omega (arith, on.counted, i.counted, costs.grown, i.grown);
+      front = λ tells. front_join _ _ _ _ _ i.grown e.costs.grown (i.front tells) (i.rest tells) (rw (i.runs, i.kept tells, i.limit, i.start) at (e.front tells));
       rest = λ tells.
           let r = rw is at (o.rest tells) in
-          rest_join _ _ _ _ _ _ i.grown e.grown (i.rest tells) (rw (i.runs, i.kept tells, i.limit, i.start) at r);
-      given = omega (arith, i.given, e.given);
-      steps = omega (arith, i.steps, e.steps, e.received, c.tick.ensures.steps);
-      greatest = omega (arith, i.greatest, e.greatest, e.received, c.tick.ensures.greatest);
-      calls = let a = i.calls in let b = e.calls in omega (arith, a, b, paid, i.given, e.given, i.grown, e.grown);
-      write_calls = let a = i.write_calls in let b = e.write_calls in omega (arith, a, b, paid, i.given, e.given, i.grown, e.grown);
-      turns = let a = i.turns in let d = c.tick.ensures.turns in omega (arith, a, words, d, paid, i.given, e.given, i.grown, e.grown);
+          rest_join _ _ _ _ _ _ i.grown e.costs.grown (i.rest tells) (rw (i.runs, i.kept tells, i.limit, i.start) at r);
+      given = omega (arith, i.given, e.costs.given);
+      steps = omega (arith, i.steps, e.costs.steps, e.costs.received, c.tick.ensures.steps);
+      greatest = omega (arith, i.greatest, e.costs.greatest, e.costs.received, c.tick.ensures.greatest);
+      calls = let a = i.calls in let b = e.costs.calls in omega (arith, a, b, paid, i.given, e.costs.given, i.grown, e.costs.grown);
+      write_calls = let a = i.write_calls in let b = e.costs.write_calls in omega (arith, a, b, paid, i.given, e.costs.given, i.grown, e.costs.grown);
+      turns = let a = i.turns in let d = c.tick.ensures.turns in omega (arith, a, words, d, paid, i.given, e.costs.given, i.grown, e.costs.grown);
       spent = λ tells.
           let step = rw (i.runs, i.kept tells, i.limit, i.start) at (rw is at (o.spends tells)) in
-          stage_joins (λ x. g.R.BlockRuns.within c.args.self.now.runs x × g.R.BlockRuns.place c.args.self.now.runs (g.S.Source.content c.args.source.now) x) (g.R.BlockRuns.charge c.args.self.now.runs) (g.R.BlockRuns.copied c.args.self.now.runs) (g.R.BlockRuns.held c.args.self.now.runs) (g.R.BlockRuns.size c.args.self.now.runs) c.args.self.now.limit (g.R.BlockRuns.count c.args.self.now.runs) (g.R.BlockRuns.one c.args.self.now.runs) c.args.self.now.start (all_passes (g.R.BlockRuns.charge c.args.self.now.runs) (g.R.BlockRuns.copied c.args.self.now.runs) c.args.self.now.start) (g.S.Source.given c.args.source.now) (g.S.Source.given c.steps.source) (g.S.Source.given c.step.new.source) c.step.new.self.stage i.given e.given (step _ (i.spent tells));
-      faults = omega (arith, i.faults, e.faults);
-      write_faults = omega (arith, i.write_faults, e.write_faults);
-      clean = (o.clean.0 ∙ i.clean.0, o.clean.1 ∙ i.clean.1);
+          stage_joins (λ x. g.R.BlockRuns.within c.args.self.now.runs x × g.R.BlockRuns.place c.args.self.now.runs (g.S.Source.content c.args.source.now) x) (g.R.BlockRuns.charge c.args.self.now.runs) (g.R.BlockRuns.copied c.args.self.now.runs) (g.R.BlockRuns.held c.args.self.now.runs) (g.R.BlockRuns.size c.args.self.now.runs) c.args.self.now.limit (g.R.BlockRuns.count c.args.self.now.runs) (g.R.BlockRuns.one c.args.self.now.runs) c.args.self.now.start (all_passes (g.R.BlockRuns.charge c.args.self.now.runs) (g.R.BlockRuns.copied c.args.self.now.runs) c.args.self.now.start) (g.S.Source.given c.args.source.now) (g.S.Source.given c.steps.source) (g.S.Source.given c.step.new.source) c.step.new.self.stage i.given e.costs.given (step _ (i.spent tells));
+      faults = omega (arith, i.faults, e.failing.read);
+      write_faults = omega (arith, i.write_faults, e.failing.write);
+      clean = (o.failing.clean.0 ∙ i.clean.0, o.failing.clean.1 ∙ i.clean.1);
       unfilled = λ h. let z = e.full_faults (still_unfailed _ _ i.fresh h) in let n : full_cut c.step.result ≡ 0 = rw c.in-Ok-More.is refl in omega (arith, z, n, i.unfilled h);
       leads = leads_join (StageMayCome (g.R.BlockRuns.size c.args.self.now.runs) (g.R.BlockRuns.count c.args.self.now.runs) c.args.self.now.stage) (StageMayCome (g.R.BlockRuns.size c.args.self.now.runs) (g.R.BlockRuns.count c.args.self.now.runs) c.steps.self.stage) (StageMayCome (g.R.BlockRuns.size c.args.self.now.runs) (g.R.BlockRuns.count c.args.self.now.runs) c.step.new.self.stage) _ _ _ i.leads (rw i.runs at (rw is at o.leads));
     }
@@ -100,34 +100,34 @@ returns-in-Ok-Piece g c =
       | inr h ↦ is_between _ c.requires.unbegun (λ d. let z = rw is at (o.after_last (h.3 ∙ d)) in absurd cc) (λ f d. let z = rw is at (o.again f (h.3 ∙ d)).0 in absurd cc)
     ] in
     let piece = rw is at o.piece in
-    let first = rw i.start at piece.0 in
+    let ends = rw is at o.ends in
     record {
-      cutter = record { same_image = e.runs ∙ i.runs; same_limit = e.limit ∙ i.limit; unbegun = rw is at o.begun };
+      cutter = record { same_image = e.same.0 ∙ i.runs; same_limit = e.same.1 ∙ i.limit; unbegun = rw is at o.begun };
       content = λ tells. e.content tells ∙ i.kept tells;
       frame = e.frame ∙ i.frame;
       write_frame = e.write_frame ∙ i.write_frame;
       told = λ tells. rw (i.runs, i.kept tells) at (e.told tells);
-      grown = omega (arith, e.grown, i.grown);
-      within = let few = rw i.limit at e.within in omega (arith, few, i.counted, i.grown, e.grown);
-      front = λ tells. front_join _ _ _ _ _ i.grown e.grown (i.front tells) (i.rest tells) (rw (i.runs, i.kept tells, i.limit, i.start) at (e.front tells));
+      grown = omega (arith, e.costs.grown, i.grown);
+      within = let few = rw i.limit at e.within in omega (arith, few, i.counted, i.grown, e.costs.grown);
+      front = λ tells. front_join _ _ _ _ _ i.grown e.costs.grown (i.front tells) (i.rest tells) (rw (i.runs, i.kept tells, i.limit, i.start) at (e.front tells));
       image = between_image _ _ _ _ _ between (leads_whole _ _ _ _ _ i.leads (rw i.runs at (rw is at o.all)));
       piece = record {
-        passed = rw i.runs at (rw is at o.passed);
-        begins = first;
-        ends = piece.1;
-        least = rw is at o.least;
-        most = rw i.limit at piece.2;
-        one_more = piece.4 ∙ ap (λ (n : ℕ). n + 1) i.made;
+        passed = rw i.runs at piece.passed;
+        begins = rw i.start at piece.begins;
+        ends = piece.ends;
+        least = piece.least;
+        most = rw i.limit at piece.most;
+        one_more = piece.one_more ∙ ap (λ (n : ℕ). n + 1) i.made;
       };
-      long = omega (arith, piece.3, i.counted, i.grown, e.grown);
+      long = omega (arith, ends.long, i.counted, i.grown, e.costs.grown);
       laid = λ tells.
-          let exact = rw is at (o.exact tells) in
-          let whole = whole_front _ _ _ _ _ _ (i.front tells) (i.rest tells) (rw (i.runs, i.kept tells, i.limit, i.start) at (rw is at (o.whole tells))) in
-          let greatest = rw (i.runs, i.kept tells, i.limit) at exact.1 in
+          let came = rw is at (o.laid tells) in
+          let whole = whole_front _ _ _ _ _ _ (i.front tells) (i.rest tells) (rw (i.runs, i.kept tells, i.limit, i.start) at came.written) in
+          let greatest = rw (i.runs, i.kept tells, i.limit) at came.greatest in
           record {
-            written = whole ∙ ap (λ (y : List ℕ). g.O.Output.written c.args.output.now ++ y) (piece_came _ _ _ _ c.in-Ok-Piece.piece _ between first greatest);
+            written = whole ∙ ap (λ (y : List ℕ). g.O.Output.written c.args.output.now ++ y) (piece_came _ _ _ _ c.in-Ok-Piece.piece _ between (rw i.start at piece.begins) greatest);
             coming = rw between at whole;
-            exact = rw (i.runs, i.kept tells) at exact.0;
+            exact = rw (i.runs, i.kept tells) at came.exact;
             greatest = greatest;
           };
       none = tt;
@@ -135,22 +135,22 @@ returns-in-Ok-Piece g c =
       again = search rules;
       refused = tt;
       costs = record {
-        given = omega (arith, i.given, e.given);
-        steps = omega (arith, i.steps, e.steps, e.received, c.tick.ensures.steps);
-        greatest = omega (arith, i.greatest, e.greatest, e.received, c.tick.ensures.greatest);
-        calls = omega (arith, i.calls, i.write_calls, e.calls, e.write_calls, i.given, e.given, i.grown, e.grown);
-        turns = let t = rw i.runs at e.turns in omega (arith, i.turns, t, c.tick.ensures.turns, i.given, e.given, i.grown, e.grown);
+        given = omega (arith, i.given, e.costs.given);
+        steps = omega (arith, i.steps, e.costs.steps, e.costs.received, c.tick.ensures.steps);
+        greatest = omega (arith, i.greatest, e.costs.greatest, e.costs.received, c.tick.ensures.greatest);
+        calls = omega (arith, i.calls, i.write_calls, e.costs.calls, e.costs.write_calls, i.given, e.costs.given, i.grown, e.costs.grown);
+        turns = let t = rw i.runs at e.costs.turns in omega (arith, i.turns, t, c.tick.ensures.turns, i.given, e.costs.given, i.grown, e.costs.grown);
       };
-      takes = rw (i.runs, i.start) at (rw is at o.takes);
+      takes = rw (i.runs, i.start) at ends.takes;
       spent = λ tells.
           let step = rw (i.runs, i.kept tells, i.limit, i.start) at (rw is at (o.spent tells)) in
           let z = step _ (i.spent tells) in
-          record { most = omega (arith, z.most, i.given, e.given); end = λ over. let y = z.end over in omega (arith, y, i.given, e.given) };
-      words = let t = rw i.runs at (rw is at o.piece_words) in omega (arith, i.turns, t, c.tick.ensures.turns, i.given, e.given, i.grown, e.grown);
+          record { most = omega (arith, z.most, i.given, e.costs.given); end = λ over. let y = z.end over in omega (arith, y, i.given, e.costs.given) };
+      words = let t = rw i.runs at ends.words in omega (arith, i.turns, t, c.tick.ensures.turns, i.given, e.costs.given, i.grown, e.costs.grown);
       failing = record {
-        read = omega (arith, i.faults, e.faults);
-        write = omega (arith, i.write_faults, e.write_faults);
-        clean = (o.clean.0 ∙ i.clean.0, o.clean.1 ∙ i.clean.1);
+        read = omega (arith, i.faults, e.failing.read);
+        write = omega (arith, i.write_faults, e.failing.write);
+        clean = (o.failing.clean.0 ∙ i.clean.0, o.failing.clean.1 ∙ i.clean.1);
       };
       full_faults = λ h. let z = o.full_faults (still_unfailed _ _ i.fresh h) in omega (arith, z, i.unfilled h);
       full = λ h says. absurd (not_full says);
@@ -165,14 +165,14 @@ returns-in-Ok-End g c =
     let o = c.in-Ok-End.ensures in
     let is = c.in-Ok-End.field-0-is in
     record {
-      cutter = record { same_image = e.runs ∙ i.runs; same_limit = e.limit ∙ i.limit; unbegun = rw is at o.begun };
+      cutter = record { same_image = e.same.0 ∙ i.runs; same_limit = e.same.1 ∙ i.limit; unbegun = rw is at o.begun };
       content = λ tells. e.content tells ∙ i.kept tells;
       frame = e.frame ∙ i.frame;
       write_frame = e.write_frame ∙ i.write_frame;
       told = λ tells. rw (i.runs, i.kept tells) at (e.told tells);
-      grown = omega (arith, e.grown, i.grown);
-      within = let few = rw i.limit at e.within in omega (arith, few, i.counted, i.grown, e.grown);
-      front = λ tells. front_join _ _ _ _ _ i.grown e.grown (i.front tells) (i.rest tells) (rw (i.runs, i.kept tells, i.limit, i.start) at (e.front tells));
+      grown = omega (arith, e.costs.grown, i.grown);
+      within = let few = rw i.limit at e.within in omega (arith, few, i.counted, i.grown, e.costs.grown);
+      front = λ tells. front_join _ _ _ _ _ i.grown e.costs.grown (i.front tells) (i.rest tells) (rw (i.runs, i.kept tells, i.limit, i.start) at (e.front tells));
       image = tt;
       piece = tt;
       long = tt;
@@ -182,19 +182,19 @@ returns-in-Ok-End g c =
       again = search rules;
       refused = tt;
       costs = record {
-        given = omega (arith, i.given, e.given);
-        steps = omega (arith, i.steps, e.steps, e.received, c.tick.ensures.steps);
-        greatest = omega (arith, i.greatest, e.greatest, e.received, c.tick.ensures.greatest);
-        calls = omega (arith, i.calls, i.write_calls, e.calls, e.write_calls, i.given, e.given, i.grown, e.grown);
-        turns = let t = rw i.runs at e.turns in omega (arith, i.turns, t, c.tick.ensures.turns, i.given, e.given, i.grown, e.grown);
+        given = omega (arith, i.given, e.costs.given);
+        steps = omega (arith, i.steps, e.costs.steps, e.costs.received, c.tick.ensures.steps);
+        greatest = omega (arith, i.greatest, e.costs.greatest, e.costs.received, c.tick.ensures.greatest);
+        calls = omega (arith, i.calls, i.write_calls, e.costs.calls, e.costs.write_calls, i.given, e.costs.given, i.grown, e.costs.grown);
+        turns = let t = rw i.runs at e.costs.turns in omega (arith, i.turns, t, c.tick.ensures.turns, i.given, e.costs.given, i.grown, e.costs.grown);
       };
       takes = tt;
       spent = λ tells. tt;
       words = tt;
       failing = record {
-        read = omega (arith, i.faults, e.faults);
-        write = omega (arith, i.write_faults, e.write_faults);
-        clean = (o.clean.0 ∙ i.clean.0, o.clean.1 ∙ i.clean.1);
+        read = omega (arith, i.faults, e.failing.read);
+        write = omega (arith, i.write_faults, e.failing.write);
+        clean = (o.failing.clean.0 ∙ i.clean.0, o.failing.clean.1 ∙ i.clean.1);
       };
       full_faults = λ h. let z = o.full_faults (still_unfailed _ _ i.fresh h) in omega (arith, z, i.unfilled h);
       full = λ h says. absurd (not_full says);
@@ -208,14 +208,14 @@ returns-in-Err g c =
     let e = c.step.ensures in
     let o = c.in-Err.ensures in
     record {
-      cutter = record { same_image = e.runs ∙ i.runs; same_limit = e.limit ∙ i.limit; unbegun = o.begun };
+      cutter = record { same_image = e.same.0 ∙ i.runs; same_limit = e.same.1 ∙ i.limit; unbegun = o.begun };
       content = λ tells. e.content tells ∙ i.kept tells;
       frame = e.frame ∙ i.frame;
       write_frame = e.write_frame ∙ i.write_frame;
       told = λ tells. rw (i.runs, i.kept tells) at (e.told tells);
-      grown = omega (arith, e.grown, i.grown);
-      within = let few = rw i.limit at e.within in omega (arith, few, i.counted, i.grown, e.grown);
-      front = λ tells. front_join _ _ _ _ _ i.grown e.grown (i.front tells) (i.rest tells) (rw (i.runs, i.kept tells, i.limit, i.start) at (e.front tells));
+      grown = omega (arith, e.costs.grown, i.grown);
+      within = let few = rw i.limit at e.within in omega (arith, few, i.counted, i.grown, e.costs.grown);
+      front = λ tells. front_join _ _ _ _ _ i.grown e.costs.grown (i.front tells) (i.rest tells) (rw (i.runs, i.kept tells, i.limit, i.start) at (e.front tells));
       image = tt;
       piece = tt;
       long = tt;
@@ -225,24 +225,24 @@ returns-in-Err g c =
       again = search rules;
       refused = o.refused;
       costs = record {
-        given = omega (arith, i.given, e.given);
-        steps = omega (arith, i.steps, e.steps, e.received, c.tick.ensures.steps);
-        greatest = omega (arith, i.greatest, e.greatest, e.received, c.tick.ensures.greatest);
-        calls = omega (arith, i.calls, i.write_calls, e.calls, e.write_calls, i.given, e.given, i.grown, e.grown);
-        turns = let t = rw i.runs at e.turns in omega (arith, i.turns, t, c.tick.ensures.turns, i.given, e.given, i.grown, e.grown);
+        given = omega (arith, i.given, e.costs.given);
+        steps = omega (arith, i.steps, e.costs.steps, e.costs.received, c.tick.ensures.steps);
+        greatest = omega (arith, i.greatest, e.costs.greatest, e.costs.received, c.tick.ensures.greatest);
+        calls = omega (arith, i.calls, i.write_calls, e.costs.calls, e.costs.write_calls, i.given, e.costs.given, i.grown, e.costs.grown);
+        turns = let t = rw i.runs at e.costs.turns in omega (arith, i.turns, t, c.tick.ensures.turns, i.given, e.costs.given, i.grown, e.costs.grown);
       };
       takes = tt;
       spent = λ tells. tt;
       words = tt;
       failing = record {
-        read = omega (arith, i.faults, e.faults);
-        write = omega (arith, i.write_faults, e.write_faults);
+        read = omega (arith, i.faults, e.failing.read);
+        write = omega (arith, i.write_faults, e.failing.write);
         clean = tt;
       };
       full_faults = λ h. let z = o.full_faults (still_unfailed _ _ i.fresh h) in omega (arith, z, i.unfilled h);
       full = λ h says.
           let z = o.full (still_unfailed _ _ i.fresh h) says in
           let few = rw i.limit at z.1 in
-          (z.0, omega (arith, few, i.counted, i.grown, e.grown));
+          (z.0, omega (arith, few, i.counted, i.grown, e.costs.grown));
       cause = search rules;
     }

@@ -1,4 +1,4 @@
-use Rattle.std.proofs.Common.{arith, ◌*◌, sym, ap, refl, inl, inr, Result, Err, ◌≡◌, ◌≤◌, ◌+◌, ◌∙◌, ◌-◌, ◌++◌, ℕ, List, true, false}
+use Rattle.std.proofs.Common.{arith, rules, ◌*◌, sym, ap, refl, inl, inr, Result, Err, ◌≡◌, ◌≤◌, ◌+◌, ◌∙◌, ◌-◌, ◌++◌, ℕ, List, true, false}
 use Rattle.abt_sparse.specs.Block.{Block}
 use Rattle.abt_runs.specs.declared.part.Cursor.{Cursor}
 use Rattle.abt_pieces.specs.Cutter.{ToldCutter, ToldStage, has_failed, is_begun, segments_left}
@@ -50,8 +50,7 @@ returns-in-Ok g c =
     let o = c.in-Ok.ensures in
     let granted = self.sound.granted in
     record {
-      runs = p.runs;
-      limit = p.rest.0;
+      same = (p.runs, p.rest.0);
       content = p.content;
       frame = p.frame;
       write_frame = refl;
@@ -61,38 +60,41 @@ returns-in-Ok g c =
           let same : segments_left b self.limit l self.start.block self.stage ≡ segments_left b self.limit l self.start.block Between = rw c.in-Between.is refl in
           rw (p.rest.0, p.rest.1, p.rest.2) (told_moves _ _ b l self.limit self.made self.start self.stage c.plan.new.self.stage (c.requires.told tells) (still_to_cut b self.limit l self.start.block c.plan.new.self.stage self.stage o.begun.0 same) (o.told tells));
       begun = o.begun.0;
-      more = (p.rest.1, p.rest.2);
-      grown = as_many _;
+      goes_on = record {
+        same_place = p.rest.1;
+        same_number = p.rest.2;
+        counted = rw c.in-Between.is (let z = o.begun.1 in omega (arith, z));
+        left = let z = rw c.begin.ensures.at at o.left in rw c.in-Between.is (omega (arith, z));
+        paid = let z = o.paid in rw c.in-Between.is (omega (arith, z));
+        words = let z = rw c.begin.ensures.at at o.words in rw (c.in-Between.is, p.rest.1) (words_unwritten _ _ _ _ _ _ z);
+      };
       within = rw c.in-Between.is (no_bytes_yet _ _ _ granted);
-      counted = rw c.in-Between.is (let z = o.begun.1 in omega (arith, z));
-      few = no_more_than _ _ _;
       front = λ tells. nothing_more _ _;
       rest = λ tells. rw c.in-Between.is (o.coming tells ∙ nothing_less (g.O.Output.written c.args.output.now) _);
-      whole = λ tells. tt;
       leads = rw c.in-Between.is (leads_same _ _ _ _ refl o.comes);
       all = tt;
-      passed = tt;
-      least = tt;
       piece = tt;
-      exact = λ tells. tt;
-      left = let z = rw c.begin.ensures.at at o.left in rw c.in-Between.is (omega (arith, z));
+      ends = tt;
+      laid = λ tells. tt;
       refused = tt;
-      given = p.given;
-      received = p.received;
-      steps = p.steps;
-      greatest = p.greatest;
-      takes = tt;
-      paid = let z = o.paid in rw c.in-Between.is (omega (arith, z));
+      costs = record {
+        given = p.given;
+        received = p.received;
+        grown = as_many _;
+        few = no_more_than _ _ _;
+        steps = p.steps;
+        greatest = p.greatest;
+        calls = p.calls;
+        write_calls = no_more _ _;
+        turns = let z = rw c.begin.ensures.at at p.turns in rw c.in-Between.is (omega (arith, z));
+      };
       spends = λ tells t spent. let h = rw c.in-Between.is at spent in o.spends t (plan_begins_spent _ _ _ _ self.start t c.begin.result c.begin.ensures.at h);
       spent = λ tells t spent. tt;
-      calls = p.calls;
-      write_calls = no_more _ _;
-      turns = let z = rw c.begin.ensures.at at p.turns in rw c.in-Between.is (omega (arith, z));
-      words = let z = rw c.begin.ensures.at at o.words in rw (c.in-Between.is, p.rest.1) (words_unwritten _ _ _ _ _ _ z);
-      piece_words = tt;
-      faults = p.faults;
-      write_faults = as_many _;
-      clean = (o.clean, refl);
+      failing = record {
+        read = p.faults;
+        write = as_many _;
+        clean = (o.clean, refl);
+      };
       full_faults = λ going. none_more _;
       full = λ going says. absurd (not_full says);
       cause = tt;
@@ -109,8 +111,7 @@ returns-in-Err g c =
     let o = c.in-Err.ensures in
     let granted = self.sound.granted in
     record {
-      runs = p.runs;
-      limit = p.rest.0;
+      same = (p.runs, p.rest.0);
       content = p.content;
       frame = p.frame;
       write_frame = refl;
@@ -120,38 +121,34 @@ returns-in-Err g c =
           let same : segments_left b self.limit l self.start.block self.stage ≡ segments_left b self.limit l self.start.block Between = rw c.in-Between.is refl in
           rw (o.refused, p.rest.0, p.rest.1, p.rest.2) (told_moves _ _ b l self.limit self.made self.start self.stage (Failed c.in-Err.fault) (c.requires.told tells) (sym same) tt);
       begun = rw o.refused refl;
-      more = tt;
-      grown = as_many _;
+      goes_on = tt;
       within = rw c.in-Between.is (no_bytes_yet _ _ _ granted);
-      counted = tt;
-      few = no_more_than _ _ _;
       front = λ tells. nothing_more _ _;
       rest = λ tells. tt;
-      whole = λ tells. tt;
       leads = tt;
       all = tt;
-      passed = tt;
-      least = tt;
       piece = tt;
-      exact = λ tells. tt;
-      left = tt;
+      ends = tt;
+      laid = λ tells. tt;
       refused = o.refused;
-      given = p.given;
-      received = p.received;
-      steps = p.steps;
-      greatest = p.greatest;
-      takes = tt;
-      paid = tt;
+      costs = record {
+        given = p.given;
+        received = p.received;
+        grown = as_many _;
+        few = no_more_than _ _ _;
+        steps = p.steps;
+        greatest = p.greatest;
+        calls = p.calls;
+        write_calls = no_more _ _;
+        turns = let z = rw c.begin.ensures.at at p.turns in rw c.in-Between.is (omega (arith, z));
+      };
       spends = λ tells t spent. tt;
       spent = λ tells t spent. tt;
-      calls = p.calls;
-      write_calls = no_more _ _;
-      turns = let z = rw c.begin.ensures.at at p.turns in rw c.in-Between.is (omega (arith, z));
-      words = tt;
-      piece_words = tt;
-      faults = p.faults;
-      write_faults = as_many _;
-      clean = tt;
+      failing = record {
+        read = p.faults;
+        write = as_many _;
+        clean = tt;
+      };
       full_faults = λ going. unfilled_by _ _ o.unwritten;
       full = λ going says. absurd (none_says _ o.unwritten says);
       cause = inr (cause_unwritten c.in-Err.fault _ _ _ _ _ o.cause);
@@ -168,8 +165,7 @@ returns-in-Ok-plan g c =
     let o = c.in-Ok-plan.ensures in
     let granted = self.sound.granted in
     record {
-      runs = p.runs;
-      limit = p.rest.0;
+      same = (p.runs, p.rest.0);
       content = p.content;
       frame = p.frame;
       write_frame = refl;
@@ -179,38 +175,41 @@ returns-in-Ok-plan g c =
           let same : segments_left b self.limit l self.start.block self.stage ≡ segments_left b self.limit l self.start.block Between = rw c.in-Plan.is refl in
           rw (p.rest.0, p.rest.1, p.rest.2) (told_moves _ _ b l self.limit self.made self.start self.stage c.plan-in-Plan.new.self.stage (c.requires.told tells) (still_to_cut b self.limit l self.start.block c.plan-in-Plan.new.self.stage self.stage o.begun.0 same) (o.told tells));
       begun = o.begun.0;
-      more = (p.rest.1, p.rest.2);
-      grown = as_many _;
+      goes_on = record {
+        same_place = p.rest.1;
+        same_number = p.rest.2;
+        counted = rw c.in-Plan.is (let z = o.begun.1 in omega (arith, z));
+        left = rw c.in-Plan.is o.left;
+        paid = let z = o.paid in rw c.in-Plan.is (omega (arith, z));
+        words = rw (c.in-Plan.is, p.rest.1) (words_unwritten _ _ _ _ _ _ o.words);
+      };
       within = rw c.in-Plan.is (no_bytes_yet _ _ _ granted);
-      counted = rw c.in-Plan.is (let z = o.begun.1 in omega (arith, z));
-      few = no_more_than _ _ _;
       front = λ tells. nothing_more _ _;
       rest = λ tells. rw c.in-Plan.is (o.coming tells ∙ nothing_less (g.O.Output.written c.args.output.now) _);
-      whole = λ tells. tt;
       leads = rw c.in-Plan.is (leads_same _ _ _ _ refl o.comes);
       all = tt;
-      passed = tt;
-      least = tt;
       piece = tt;
-      exact = λ tells. tt;
-      left = rw c.in-Plan.is o.left;
+      ends = tt;
+      laid = λ tells. tt;
       refused = tt;
-      given = p.given;
-      received = p.received;
-      steps = p.steps;
-      greatest = p.greatest;
-      takes = tt;
-      paid = let z = o.paid in rw c.in-Plan.is (omega (arith, z));
+      costs = record {
+        given = p.given;
+        received = p.received;
+        grown = as_many _;
+        few = no_more_than _ _ _;
+        steps = p.steps;
+        greatest = p.greatest;
+        calls = p.calls;
+        write_calls = no_more _ _;
+        turns = let z = p.turns in rw c.in-Plan.is (omega (arith, z));
+      };
       spends = λ tells t spent. let h = rw c.in-Plan.is at spent in o.spends t h;
       spent = λ tells t spent. tt;
-      calls = p.calls;
-      write_calls = no_more _ _;
-      turns = let z = p.turns in rw c.in-Plan.is (omega (arith, z));
-      words = rw (c.in-Plan.is, p.rest.1) (words_unwritten _ _ _ _ _ _ o.words);
-      piece_words = tt;
-      faults = p.faults;
-      write_faults = as_many _;
-      clean = (o.clean, refl);
+      failing = record {
+        read = p.faults;
+        write = as_many _;
+        clean = (o.clean, refl);
+      };
       full_faults = λ going. none_more _;
       full = λ going says. absurd (not_full says);
       cause = tt;
@@ -227,8 +226,7 @@ returns-in-Err-plan g c =
     let o = c.in-Err-plan.ensures in
     let granted = self.sound.granted in
     record {
-      runs = p.runs;
-      limit = p.rest.0;
+      same = (p.runs, p.rest.0);
       content = p.content;
       frame = p.frame;
       write_frame = refl;
@@ -238,38 +236,34 @@ returns-in-Err-plan g c =
           let same : segments_left b self.limit l self.start.block self.stage ≡ segments_left b self.limit l self.start.block Between = rw c.in-Plan.is refl in
           rw (o.refused, p.rest.0, p.rest.1, p.rest.2) (told_moves _ _ b l self.limit self.made self.start self.stage (Failed c.in-Err-plan.fault) (c.requires.told tells) (sym same) tt);
       begun = rw o.refused refl;
-      more = tt;
-      grown = as_many _;
+      goes_on = tt;
       within = rw c.in-Plan.is (no_bytes_yet _ _ _ granted);
-      counted = tt;
-      few = no_more_than _ _ _;
       front = λ tells. nothing_more _ _;
       rest = λ tells. tt;
-      whole = λ tells. tt;
       leads = tt;
       all = tt;
-      passed = tt;
-      least = tt;
       piece = tt;
-      exact = λ tells. tt;
-      left = tt;
+      ends = tt;
+      laid = λ tells. tt;
       refused = o.refused;
-      given = p.given;
-      received = p.received;
-      steps = p.steps;
-      greatest = p.greatest;
-      takes = tt;
-      paid = tt;
+      costs = record {
+        given = p.given;
+        received = p.received;
+        grown = as_many _;
+        few = no_more_than _ _ _;
+        steps = p.steps;
+        greatest = p.greatest;
+        calls = p.calls;
+        write_calls = no_more _ _;
+        turns = let z = p.turns in rw c.in-Plan.is (omega (arith, z));
+      };
       spends = λ tells t spent. tt;
       spent = λ tells t spent. tt;
-      calls = p.calls;
-      write_calls = no_more _ _;
-      turns = let z = p.turns in rw c.in-Plan.is (omega (arith, z));
-      words = tt;
-      piece_words = tt;
-      faults = p.faults;
-      write_faults = as_many _;
-      clean = tt;
+      failing = record {
+        read = p.faults;
+        write = as_many _;
+        clean = tt;
+      };
       full_faults = λ going. unfilled_by _ _ o.unwritten;
       full = λ going says. absurd (none_says _ o.unwritten says);
       cause = inr (cause_unwritten c.in-Err-plan.fault _ _ _ _ _ o.cause);
@@ -303,8 +297,18 @@ returns-in-Ok-begin-clause-front g c tells =
     let h = rw c.in-Begin.is at (c.requires.told tells) in
     rw c.in-Begin.is (wrote_part _ _ _ _ _ c.begin-in-Begin.ensures.front (header_comes _ _ (g.R.BlockRuns.count c.args.self.now.runs) _ _ c.args.self.now.start c.in-Begin.outline (sym long) s.stage.first h.stage))
 
-pub returns-in-Ok-begin-clause-left : goal.returns-in-Ok-begin-clause-left
-returns-in-Ok-begin-clause-left g c = rw (c.in-Ok-begin.ensures.stage, c.in-Begin.is) (first_left (g.R.BlockRuns.left c.args.self.now.runs) (g.R.BlockRuns.count c.args.self.now.runs) c.args.self.now.start c.in-Begin.outline)
+pub returns-in-Ok-begin-clause-goes_on : goal.returns-in-Ok-begin-clause-goes_on
+returns-in-Ok-begin-clause-goes_on g c =
+    let e = c.begin-in-Begin.ensures in
+    let o = c.in-Ok-begin.ensures in
+    record {
+      same_place = e.rest.1;
+      same_number = e.rest.2;
+      counted = search rules;
+      left = rw (o.stage, c.in-Begin.is) (first_left (g.R.BlockRuns.left c.args.self.now.runs) (g.R.BlockRuns.count c.args.self.now.runs) c.args.self.now.start c.in-Begin.outline);
+      paid = search rules;
+      words = search rules;
+    }
 
 pub returns-in-Err-begin-clause-front : goal.returns-in-Err-begin-clause-front
 returns-in-Err-begin-clause-front g c tells =
@@ -331,45 +335,26 @@ pub returns-in-Write : goal.returns-in-Write
 returns-in-Write g c =
     let w = c.write.ensures in
     record {
-      runs = w.runs;
-      limit = w.limit;
+      same = w.same;
       content = w.content;
       frame = w.frame;
       write_frame = w.write_frame;
       told = w.told;
       begun = w.begun;
-      more = w.more;
-      grown = w.grown;
+      goes_on = w.goes_on;
       within = w.within;
-      counted = w.counted;
-      few = w.few;
       front = w.front;
       rest = w.rest;
-      whole = w.whole;
       leads = w.leads;
       all = w.all;
-      passed = w.passed;
-      least = w.least;
       piece = w.piece;
-      exact = w.exact;
-      left = w.left;
+      ends = w.ends;
+      laid = w.laid;
       refused = w.refused;
-      given = w.given;
-      received = w.received;
-      steps = w.steps;
-      greatest = w.greatest;
-      takes = w.takes;
-      paid = w.paid;
+      costs = w.costs;
       spends = w.spends;
       spent = w.spent;
-      calls = w.calls;
-      write_calls = w.write_calls;
-      turns = w.turns;
-      words = w.words;
-      piece_words = w.piece_words;
-      faults = w.faults;
-      write_faults = w.write_faults;
-      clean = w.clean;
+      failing = w.failing;
       full_faults = λ going. w.full_faults;
       full = λ going. w.full;
       cause = w.cause;
@@ -385,45 +370,40 @@ returns-in-Done g c =
     let s = c.close_step.ensures in
     let granted = self.sound.granted in
     record {
-      runs = refl;
-      limit = refl;
+      same = (refl, refl);
       content = λ tells. refl;
       frame = refl;
       write_frame = refl;
       told = c.requires.told;
       begun = rw c.in-Done.is refl;
-      more = tt;
-      grown = as_many _;
+      goes_on = tt;
       within = rw c.in-Done.is (no_bytes_yet _ _ _ granted);
-      counted = tt;
-      few = no_more_than _ _ _;
       front = λ tells. nothing_more _ _;
       rest = λ tells. tt;
-      whole = λ tells. tt;
       leads = tt;
       all = tt;
-      passed = tt;
-      least = tt;
       piece = tt;
-      exact = λ tells. tt;
-      left = tt;
+      ends = tt;
+      laid = λ tells. tt;
       refused = tt;
-      given = as_many _;
-      received = no_more _ _;
-      steps = s.steps;
-      greatest = let z = s.greatest in omega (arith, z);
-      takes = tt;
-      paid = tt;
+      costs = record {
+        given = as_many _;
+        received = no_more _ _;
+        grown = as_many _;
+        few = no_more_than _ _ _;
+        steps = s.steps;
+        greatest = let z = s.greatest in omega (arith, z);
+        calls = no_more_than _ _ _;
+        write_calls = no_more _ _;
+        turns = let z = s.turns in rw c.in-Done.is (omega (arith, z));
+      };
       spends = λ tells t spent. tt;
       spent = λ tells t spent. tt;
-      calls = no_more_than _ _ _;
-      write_calls = no_more _ _;
-      turns = let z = s.turns in rw c.in-Done.is (omega (arith, z));
-      words = tt;
-      piece_words = tt;
-      faults = as_many _;
-      write_faults = as_many _;
-      clean = (refl, refl);
+      failing = record {
+        read = as_many _;
+        write = as_many _;
+        clean = (refl, refl);
+      };
       full_faults = λ going. none_more _;
       full = λ going says. absurd (not_full says);
       cause = tt;
@@ -439,45 +419,40 @@ returns-in-Failed g c =
     let s = c.close_step-in-Failed.ensures in
     let granted = self.sound.granted in
     record {
-      runs = refl;
-      limit = refl;
+      same = (refl, refl);
       content = λ tells. refl;
       frame = refl;
       write_frame = refl;
       told = c.requires.told;
       begun = rw c.in-Failed.is refl;
-      more = tt;
-      grown = as_many _;
+      goes_on = tt;
       within = rw c.in-Failed.is (no_bytes_yet _ _ _ granted);
-      counted = tt;
-      few = no_more_than _ _ _;
       front = λ tells. nothing_more _ _;
       rest = λ tells. tt;
-      whole = λ tells. tt;
       leads = tt;
       all = tt;
-      passed = tt;
-      least = tt;
       piece = tt;
-      exact = λ tells. tt;
-      left = tt;
+      ends = tt;
+      laid = λ tells. tt;
       refused = c.in-Failed.is;
-      given = as_many _;
-      received = no_more _ _;
-      steps = s.steps;
-      greatest = let z = s.greatest in omega (arith, z);
-      takes = tt;
-      paid = tt;
+      costs = record {
+        given = as_many _;
+        received = no_more _ _;
+        grown = as_many _;
+        few = no_more_than _ _ _;
+        steps = s.steps;
+        greatest = let z = s.greatest in omega (arith, z);
+        calls = no_more_than _ _ _;
+        write_calls = no_more _ _;
+        turns = let z = s.turns in rw c.in-Failed.is (omega (arith, z));
+      };
       spends = λ tells t spent. tt;
       spent = λ tells t spent. tt;
-      calls = no_more_than _ _ _;
-      write_calls = no_more _ _;
-      turns = let z = s.turns in rw c.in-Failed.is (omega (arith, z));
-      words = tt;
-      piece_words = tt;
-      faults = as_many _;
-      write_faults = as_many _;
-      clean = tt;
+      failing = record {
+        read = as_many _;
+        write = as_many _;
+        clean = tt;
+      };
       full_faults = λ going. absurd (failed_goes_not _ c.in-Failed.fault c.in-Failed.is going);
       full = λ going says. absurd (failed_goes_not _ c.in-Failed.fault c.in-Failed.is going);
       cause = inl c.in-Failed.is;

@@ -17,51 +17,53 @@ returns-in-Ok-false g c =
     let is = c.requires.at in
     let s = (rw is at c.args.self.now.sound).stage in
     let most = plan_most (g.R.BlockRuns.one c.args.self.now.runs) (g.R.BlockRuns.count c.args.self.now.runs) c.args.outline.piece.past in
-    let turns = a.turns in
+    let turns = a.costs.turns in
     let words = e.words in
     record {
-      runs = a.same;
-      limit = refl;
+      same = (a.same, refl);
       content = a.content;
       frame = a.frame;
       write_frame = a.write_frame;
       told = λ tells. let h = rw is at (c.requires.told tells) in record { place = h.place; cuts = h.cuts; stage = record { outline = h.stage.outline; writer = e.told tells } };
       begun = refl;
-      more = (refl, refl);
-      grown = a.grown;
-      within = rw is (omega (arith, a.within, a.grown, s.rest, s.outline.long));
-      counted = rw is (omega (arith, e.counted, a.grown, s.rest));
-      few = a.few;
+      goes_on = record {
+        same_place = refl;
+        same_number = refl;
+        counted = rw is (omega (arith, e.counted, a.costs.grown, s.rest));
+        left = rw is (e.left test);
+        paid = let z = e.paid test in rw (is, a.segment.1) (omega (arith, z));
+        words = rw is (omega (arith, words));
+      };
+      within = rw is (omega (arith, a.within, a.costs.grown, s.rest, s.outline.long));
       front = λ tells. rw is (a.front tells);
       rest = λ tells. rw (is, a.segment.0, a.segment.1) (e.rest tells);
-      whole = λ tells. tt;
       leads = rw is (e.leads test);
       all = tt;
-      passed = tt;
-      least = tt;
       piece = tt;
-      exact = λ tells. tt;
-      left = rw is (e.left test);
+      ends = tt;
+      laid = λ tells. tt;
       refused = tt;
-      given = a.given;
-      received = a.received;
-      steps = a.steps;
-      greatest = a.greatest;
-      takes = tt;
-      paid = let z = e.paid test in rw (is, a.segment.1) (omega (arith, z));
+      costs = record {
+        given = a.costs.given;
+        received = a.costs.received;
+        grown = a.costs.grown;
+        few = a.costs.few;
+        steps = a.costs.steps;
+        greatest = a.costs.greatest;
+        calls = a.costs.calls;
+        write_calls = a.costs.write_calls;
+        turns = rw is (omega (arith, turns, most));
+      };
       spends = λ tells t spent.
           let told = (rw is at (c.requires.told tells)).stage in
           let h = rw is at spent in
           writing_goes _ _ _ _ _ _ t _ _ c.args.outline c.args.from c.step.new.self h (e.spends tells c.args.outline.next s.outline.within told.outline.place (sym (s.past ∙ s.outline.past)) h.fresh h.begun h.total h.spent);
       spent = λ tells t spent. tt;
-      calls = a.calls;
-      write_calls = a.write_calls;
-      turns = rw is (omega (arith, turns, most));
-      words = rw is (omega (arith, words));
-      piece_words = tt;
-      faults = a.faults;
-      write_faults = a.write_faults;
-      clean = e.clean;
+      failing = record {
+        read = a.failing.read;
+        write = a.failing.write;
+        clean = e.failing.clean;
+      };
       full_faults = e.full_faults;
       full = λ says. absurd (not_full says);
       unended = tt;
@@ -83,11 +85,10 @@ returns-in-Ok-true g c =
     let past : c.step.new.self.past ≡ c.args.outline.piece.past = a.segment.1 ∙ s.past in
     let behind : Behind (g.R.BlockRuns.count c.args.self.now.runs) c.args.outline.piece.past c.pass.new.self.stage = record { end = s.outline.end; done = rw a.same at p.done; between = rw a.same at p.between } in
     let most = plan_most (g.R.BlockRuns.one c.args.self.now.runs) (g.R.BlockRuns.count c.args.self.now.runs) c.args.outline.piece.past in
-    let turns = a.turns in
+    let turns = a.costs.turns in
     let words = e.words in
     record {
-      runs = p.runs ∙ a.same;
-      limit = p.limit;
+      same = (p.runs ∙ a.same, p.limit);
       content = a.content;
       frame = a.frame;
       write_frame = a.write_frame;
@@ -96,44 +97,55 @@ returns-in-Ok-true g c =
           let h = rw is at (c.requires.told tells) in
           rw (p.limit, p.made, p.start) (told_more _ _ (g.R.BlockRuns.within c.args.self.now.runs) _ (g.R.BlockRuns.count c.args.self.now.runs) _ _ _ c.args.self.now.start c.args.outline _ _ refl h s.outline (sym long) h.stage.outline.greatest h.stage.outline.place behind.done behind.between);
       begun = behind_unbegun _ _ _ behind;
-      more = tt;
-      grown = a.grown;
-      within = rw is (omega (arith, a.within, a.grown, s.rest, s.outline.long));
-      counted = tt;
-      few = a.few;
+      goes_on = tt;
+      within = rw is (omega (arith, a.within, a.costs.grown, s.rest, s.outline.long));
       front = λ tells. rw is (a.front tells);
       rest = λ tells. tt;
-      whole = λ tells. let h = rw is at (c.requires.told tells) in rw is (nothing_left _ _ _ _ ended.1 h.stage.writer.long ended.0);
       leads = tt;
       all = rw is (nothing_appended _ _ _ ended.1 (e.all test));
-      passed = rw p.piece (behind_passed _ _ _ _ s.outline.moves behind);
-      least = rw p.piece s.outline.least;
-      piece = rw (p.piece, p.start, is) (s.outline.first, s.outline.past, s.outline.long, omega (arith, ended.0, same), p.made);
-      exact = λ tells. let h = rw is at (c.requires.told tells) in (rw p.piece h.stage.outline.exact.is, rw (p.piece, s.outline.first) h.stage.outline.greatest);
-      left = tt;
+      piece = record {
+        passed = rw p.piece (behind_passed _ _ _ _ s.outline.moves behind);
+        begins = rw p.piece s.outline.first;
+        ends = rw (p.piece, p.start) s.outline.past;
+        least = rw p.piece s.outline.least;
+        most = rw p.piece s.outline.long;
+        one_more = p.made;
+      };
+      ends = record {
+        long = rw (p.piece, is) (omega (arith, ended.0, same));
+        takes = rw (p.piece, p.start) sound.taken;
+        words =
+            let z = piece_covers (g.R.BlockRuns.one c.args.self.now.runs) (g.R.BlockRuns.count c.args.self.now.runs) c.args.outline.piece.past c.step.new.self past in
+            rw (is, p.piece) (omega (arith, words, z));
+      };
+      laid = λ tells. let h = rw is at (c.requires.told tells) in record {
+        written = rw is (nothing_left _ _ _ _ ended.1 h.stage.writer.long ended.0);
+        exact = rw p.piece h.stage.outline.exact.is;
+        greatest = rw (p.piece, s.outline.first) h.stage.outline.greatest;
+      };
       refused = tt;
-      given = a.given;
-      received = a.received;
-      steps = a.steps;
-      greatest = a.greatest;
-      takes = rw (p.piece, p.start) sound.taken;
-      paid = tt;
+      costs = record {
+        given = a.costs.given;
+        received = a.costs.received;
+        grown = a.costs.grown;
+        few = a.costs.few;
+        steps = a.costs.steps;
+        greatest = a.costs.greatest;
+        calls = a.costs.calls;
+        write_calls = a.costs.write_calls;
+        turns = rw is (omega (arith, turns, most));
+      };
       spends = λ tells t spent. tt;
       spent = λ tells t spent.
           let told = (rw is at (c.requires.told tells)).stage in
           let h = rw is at spent in
           let z = e.spent tells c.args.outline.next s.outline.within told.outline.place (sym (s.past ∙ s.outline.past)) h.fresh h.begun h.total h.spent test in
           rw (p.piece, p.start) (writing_ends _ _ _ _ _ _ t _ _ c.args.outline c.args.from h z);
-      calls = a.calls;
-      write_calls = a.write_calls;
-      turns = rw is (omega (arith, turns, most));
-      words = tt;
-      piece_words =
-          let z = piece_covers (g.R.BlockRuns.one c.args.self.now.runs) (g.R.BlockRuns.count c.args.self.now.runs) c.args.outline.piece.past c.step.new.self past in
-          rw (is, p.piece) (omega (arith, words, z));
-      faults = a.faults;
-      write_faults = a.write_faults;
-      clean = e.clean;
+      failing = record {
+        read = a.failing.read;
+        write = a.failing.write;
+        clean = e.failing.clean;
+      };
       full_faults = e.full_faults;
       full = λ says. absurd (not_full says);
       unended = tt;
@@ -149,49 +161,44 @@ returns-in-Err g c =
     let is = c.requires.at in
     let s = (rw is at c.args.self.now.sound).stage in
     let most = plan_most (g.R.BlockRuns.one c.args.self.now.runs) (g.R.BlockRuns.count c.args.self.now.runs) c.args.outline.piece.past in
-    let turns = a.turns in
+    let turns = a.costs.turns in
     record {
-      runs = x.rest.0 ∙ a.same;
-      limit = x.rest.1;
+      same = (x.rest.0 ∙ a.same, x.rest.1);
       content = a.content;
       frame = a.frame;
       write_frame = a.write_frame;
       told = λ tells. let h = rw is at (c.requires.told tells) in rw (x.rest.1, x.rest.2, x.rest.3, x.stage) (record { place = h.place; cuts = h.cuts; stage = tt });
       begun = rw x.stage refl;
-      more = tt;
-      grown = a.grown;
-      within = rw is (omega (arith, a.within, a.grown, s.rest, s.outline.long));
-      counted = tt;
-      few = a.few;
+      goes_on = tt;
+      within = rw is (omega (arith, a.within, a.costs.grown, s.rest, s.outline.long));
       front = λ tells. rw is (a.front tells);
       rest = λ tells. tt;
-      whole = λ tells. tt;
       leads = tt;
       all = tt;
-      passed = tt;
-      least = tt;
       piece = tt;
-      exact = λ tells. tt;
-      left = tt;
+      ends = tt;
+      laid = λ tells. tt;
       refused = x.stage ∙ ap (λ (f : PieceFault). Failed f) (sym x.fault);
-      given = a.given;
-      received = a.received;
-      steps = a.steps;
-      greatest = a.greatest;
-      takes = tt;
-      paid = tt;
+      costs = record {
+        given = a.costs.given;
+        received = a.costs.received;
+        grown = a.costs.grown;
+        few = a.costs.few;
+        steps = a.costs.steps;
+        greatest = a.costs.greatest;
+        calls = a.costs.calls;
+        write_calls = a.costs.write_calls;
+        turns = rw is (omega (arith, turns, most));
+      };
       spends = λ tells t spent. tt;
       spent = λ tells t spent. tt;
-      calls = a.calls;
-      write_calls = a.write_calls;
-      turns = rw is (omega (arith, turns, most));
-      words = tt;
-      piece_words = tt;
-      faults = a.faults;
-      write_faults = a.write_faults;
-      clean = tt;
+      failing = record {
+        read = a.failing.read;
+        write = a.failing.write;
+        clean = tt;
+      };
       full_faults = rw x.fault e.full_faults;
-      full = λ says. let z = e.full (rw x.fault at says) in (z.0, rw is (omega (arith, z.1, a.grown, s.rest, s.outline.long)));
+      full = λ says. let z = e.full (rw x.fault at says) in (z.0, rw is (omega (arith, z.1, a.costs.grown, s.rest, s.outline.long)));
       unended = tt;
       cause = inr (rw x.fault e.cause);
     }

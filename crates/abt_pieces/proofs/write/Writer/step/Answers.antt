@@ -21,32 +21,36 @@ returns-in-Ok g c =
       sound = e.sound;
       told = e.told;
       segment = a.segment;
-      grown = as_many _;
       within = no_more _ _;
       counted = omega (arith, a.bytes);
-      few = no_more_than _ _ _;
       front = λ tells. nothing_more _ _;
       rest = λ tells. e.rest tells ∙ nothing_less (g.O.Output.written c.args.output.now) _;
       leads = λ d. leads_same _ _ _ _ refl e.comes;
       all = λ d. absurd (false≢true d);
       write_frame = refl;
-      write_faults = as_many _;
       cause = tt;
       left = λ d. e.left;
       ended = λ d. absurd (false≢true d);
-      given = a.given;
       paid = λ d. rw a.gatherer (omega (arith, e.fetched));
       spends = λ tells d within place is fresh s t h. e.spends tells d within place is fresh s t h;
       spent = λ tells d within place is fresh s t h whole. absurd (false≢true whole);
-      calls = a.calls;
-      write_calls = no_more _ _;
-      turns = writer_passed _ _ _ _ c.args.self.now c.in-Some.copying c.in-Some.is (omega (arith, turns));
+      costs = record {
+        given = a.given;
+        received = a.received;
+        grown = as_many _;
+        few = no_more_than _ _ _;
+        steps = a.steps;
+        greatest = a.greatest;
+        calls = a.calls;
+        write_calls = no_more _ _;
+        turns = writer_passed _ _ _ _ c.args.self.now c.in-Some.copying c.in-Some.is (omega (arith, turns));
+      };
       words = omega (arith, words);
-      received = a.received;
-      steps = a.steps;
-      greatest = a.greatest;
-      faults = a.faults;
-      clean = (e.clean, refl);
+      failing = record {
+        read = a.faults;
+        write = as_many _;
+        clean = (e.clean, refl);
+      };
       full_faults = none_more _;
       full = λ says. absurd (not_full says);
     }
@@ -64,32 +68,36 @@ returns-in-Err g c =
       sound = tt;
       told = λ tells. tt;
       segment = a.segment;
-      grown = as_many _;
       within = no_more _ _;
       counted = tt;
-      few = no_more_than _ _ _;
       front = λ tells. nothing_more _ _;
       rest = λ tells. tt;
       leads = tt;
       all = tt;
       write_frame = refl;
-      write_faults = as_many _;
       cause = cause_unwritten c.in-Err.fault _ _ _ _ _ e.cause;
       left = tt;
       ended = tt;
-      given = a.given;
       paid = tt;
       spends = λ tells d within place is fresh s t h. tt;
       spent = λ tells d within place is fresh s t h. tt;
-      calls = a.calls;
-      write_calls = no_more _ _;
-      turns = writer_passed _ _ _ _ c.args.self.now c.in-Some.copying c.in-Some.is (omega (arith, turns));
+      costs = record {
+        given = a.given;
+        received = a.received;
+        grown = as_many _;
+        few = no_more_than _ _ _;
+        steps = a.steps;
+        greatest = a.greatest;
+        calls = a.calls;
+        write_calls = no_more _ _;
+        turns = writer_passed _ _ _ _ c.args.self.now c.in-Some.copying c.in-Some.is (omega (arith, turns));
+      };
       words = tt;
-      received = a.received;
-      steps = a.steps;
-      greatest = a.greatest;
-      faults = a.faults;
-      clean = tt;
+      failing = record {
+        read = a.faults;
+        write = as_many _;
+        clean = tt;
+      };
       full_faults = unfilled_by _ _ e.unwritten;
       full = λ says. absurd (none_says _ e.unwritten says);
     }
@@ -109,32 +117,36 @@ returns-in-Ok-copy_bytes g c =
       sound = e.sound;
       told = e.told;
       segment = a.segment;
-      grown = a.grown;
       within = a.within;
       counted = e.counted;
-      few = a.few;
       front = a.front;
       rest = e.rest;
       leads = λ d. e.leads;
       all = λ d. absurd (false≢true d);
       write_frame = a.write_frame;
-      write_faults = a.write_faults;
       cause = tt;
       left = λ d. e.left;
       ended = λ d. absurd (false≢true d);
-      given = a.given;
       paid = λ d. rw a.gatherer (omega (arith, e.put));
       spends = λ tells d within place is fresh s t h. e.spends tells d within place is fresh s t h;
       spent = λ tells d within place is fresh s t h whole. absurd (false≢true whole);
-      calls = omega (arith, a.calls);
-      write_calls = a.write_calls;
-      turns = omega (arith, turns, most);
+      costs = record {
+        given = a.given;
+        received = a.received;
+        grown = a.grown;
+        few = a.few;
+        steps = a.steps;
+        greatest = a.greatest;
+        calls = omega (arith, a.calls);
+        write_calls = a.write_calls;
+        turns = omega (arith, turns, most);
+      };
       words = omega (arith, turns, words);
-      received = a.received;
-      steps = a.steps;
-      greatest = a.greatest;
-      faults = a.faults;
-      clean = e.clean;
+      failing = record {
+        read = a.faults;
+        write = a.write_faults;
+        clean = e.clean;
+      };
       full_faults = e.full_faults;
       full = λ says. absurd (not_full says);
     }
@@ -153,32 +165,36 @@ returns-in-Err-copy_bytes g c =
       sound = tt;
       told = λ tells. tt;
       segment = a.segment;
-      grown = a.grown;
       within = a.within;
       counted = tt;
-      few = a.few;
       front = a.front;
       rest = λ tells. tt;
       leads = tt;
       all = tt;
       write_frame = a.write_frame;
-      write_faults = a.write_faults;
       cause = e.cause;
       left = tt;
       ended = tt;
-      given = a.given;
       paid = tt;
       spends = λ tells d within place is fresh s t h. tt;
       spent = λ tells d within place is fresh s t h. tt;
-      calls = omega (arith, a.calls);
-      write_calls = a.write_calls;
-      turns = omega (arith, turns, most);
+      costs = record {
+        given = a.given;
+        received = a.received;
+        grown = a.grown;
+        few = a.few;
+        steps = a.steps;
+        greatest = a.greatest;
+        calls = omega (arith, a.calls);
+        write_calls = a.write_calls;
+        turns = omega (arith, turns, most);
+      };
       words = tt;
-      received = a.received;
-      steps = a.steps;
-      greatest = a.greatest;
-      faults = a.faults;
-      clean = tt;
+      failing = record {
+        read = a.faults;
+        write = a.write_faults;
+        clean = tt;
+      };
       full_faults = e.full_faults;
       full = e.full;
     }
@@ -196,32 +212,36 @@ returns-in-Ok-look g c =
       sound = e.sound;
       told = e.told;
       segment = a.segment;
-      grown = a.grown;
       within = a.within;
       counted = e.counted;
-      few = a.few;
       front = a.front;
       rest = e.rest;
       leads = λ d. e.leads;
       all = λ d. absurd (false≢true d);
       write_frame = a.write_frame;
-      write_faults = a.write_faults;
       cause = tt;
       left = λ d. e.left;
       ended = λ d. absurd (false≢true d);
-      given = a.given;
       paid = λ d. let z = e.paid in omega (arith, z);
       spends = λ tells d within place is fresh s t h. e.spends tells d within place is fresh s t h;
       spent = λ tells d within place is fresh s t h whole. absurd (false≢true whole);
-      calls = a.calls;
-      write_calls = a.write_calls;
-      turns = writer_looked _ _ _ _ c.args.self.now (omega (arith, turns));
+      costs = record {
+        given = a.given;
+        received = a.received;
+        grown = a.grown;
+        few = a.few;
+        steps = a.steps;
+        greatest = a.greatest;
+        calls = a.calls;
+        write_calls = a.write_calls;
+        turns = writer_looked _ _ _ _ c.args.self.now (omega (arith, turns));
+      };
       words = e.words;
-      received = a.received;
-      steps = a.steps;
-      greatest = a.greatest;
-      faults = a.faults;
-      clean = e.clean;
+      failing = record {
+        read = a.faults;
+        write = a.write_faults;
+        clean = e.clean;
+      };
       full_faults = e.full_faults;
       full = λ says. absurd (not_full says);
     }
@@ -239,32 +259,36 @@ returns-in-Err-look g c =
       sound = tt;
       told = λ tells. tt;
       segment = a.segment;
-      grown = a.grown;
       within = a.within;
       counted = tt;
-      few = a.few;
       front = a.front;
       rest = λ tells. tt;
       leads = tt;
       all = tt;
       write_frame = a.write_frame;
-      write_faults = a.write_faults;
       cause = e.cause;
       left = tt;
       ended = tt;
-      given = a.given;
       paid = tt;
       spends = λ tells d within place is fresh s t h. tt;
       spent = λ tells d within place is fresh s t h. tt;
-      calls = a.calls;
-      write_calls = a.write_calls;
-      turns = writer_looked _ _ _ _ c.args.self.now (omega (arith, turns));
+      costs = record {
+        given = a.given;
+        received = a.received;
+        grown = a.grown;
+        few = a.few;
+        steps = a.steps;
+        greatest = a.greatest;
+        calls = a.calls;
+        write_calls = a.write_calls;
+        turns = writer_looked _ _ _ _ c.args.self.now (omega (arith, turns));
+      };
       words = tt;
-      received = a.received;
-      steps = a.steps;
-      greatest = a.greatest;
-      faults = a.faults;
-      clean = tt;
+      failing = record {
+        read = a.faults;
+        write = a.write_faults;
+        clean = tt;
+      };
       full_faults = e.full_faults;
       full = e.full;
     }
@@ -283,17 +307,11 @@ returns-then-is_done-clause-sound g c = always_ok c.end.result _ (λ x. c.requir
 pub returns-then-is_done-clause-segment : goal.returns-then-is_done-clause-segment
 returns-then-is_done-clause-segment g c = (refl, refl)
 
-pub returns-then-is_done-clause-grown : goal.returns-then-is_done-clause-grown
-returns-then-is_done-clause-grown g c = as_many _
-
 pub returns-then-is_done-clause-within : goal.returns-then-is_done-clause-within
 returns-then-is_done-clause-within g c = no_more _ _
 
 pub returns-then-is_done-clause-counted : goal.returns-then-is_done-clause-counted
 returns-then-is_done-clause-counted g c = always_ok c.end.result _ (λ x. refl)
-
-pub returns-then-is_done-clause-few : goal.returns-then-is_done-clause-few
-returns-then-is_done-clause-few g c = no_more_than _ _ _
 
 pub returns-then-is_done-clause-leads : goal.returns-then-is_done-clause-leads
 returns-then-is_done-clause-leads g c = whole_goes_not c.end.result _ _ _ c.end.ensures.whole
@@ -301,41 +319,22 @@ returns-then-is_done-clause-leads g c = whole_goes_not c.end.result _ _ _ c.end.
 pub returns-then-is_done-clause-write_frame : goal.returns-then-is_done-clause-write_frame
 returns-then-is_done-clause-write_frame g c = refl
 
-pub returns-then-is_done-clause-write_faults : goal.returns-then-is_done-clause-write_faults
-returns-then-is_done-clause-write_faults g c = as_many _
-
 pub returns-then-is_done-clause-left : goal.returns-then-is_done-clause-left
 returns-then-is_done-clause-left g c = whole_goes_not c.end.result _ _ _ c.end.ensures.whole
-
-pub returns-then-is_done-clause-given : goal.returns-then-is_done-clause-given
-returns-then-is_done-clause-given g c = as_many _
 
 pub returns-then-is_done-clause-paid : goal.returns-then-is_done-clause-paid
 returns-then-is_done-clause-paid g c = whole_goes_not c.end.result _ _ _ c.end.ensures.whole
 
-pub returns-then-is_done-clause-calls : goal.returns-then-is_done-clause-calls
-returns-then-is_done-clause-calls g c = no_more_than _ _ _
-
-pub returns-then-is_done-clause-write_calls : goal.returns-then-is_done-clause-write_calls
-returns-then-is_done-clause-write_calls g c = no_more _ _
-
 pub returns-then-is_done-clause-words : goal.returns-then-is_done-clause-words
 returns-then-is_done-clause-words g c = always_ok c.end.result _ (λ x. let turns = c.close_step.ensures.turns in omega (arith, turns))
 
-pub returns-then-is_done-clause-received : goal.returns-then-is_done-clause-received
-returns-then-is_done-clause-received g c = no_more _ _
-
-pub returns-then-is_done-clause-steps : goal.returns-then-is_done-clause-steps
-returns-then-is_done-clause-steps g c = c.close_step.ensures.steps
-
-pub returns-then-is_done-clause-greatest : goal.returns-then-is_done-clause-greatest
-returns-then-is_done-clause-greatest g c = omega (arith, c.close_step.ensures.greatest)
-
-pub returns-then-is_done-clause-faults : goal.returns-then-is_done-clause-faults
-returns-then-is_done-clause-faults g c = as_many _
-
-pub returns-then-is_done-clause-clean : goal.returns-then-is_done-clause-clean
-returns-then-is_done-clause-clean g c = always_ok c.end.result _ (λ x. (refl, refl))
+pub returns-then-is_done-clause-failing : goal.returns-then-is_done-clause-failing
+returns-then-is_done-clause-failing g c =
+    record {
+      read = as_many _;
+      write = as_many _;
+      clean = always_ok c.end.result _ (λ x. (refl, refl));
+    }
 
 pub returns-then-is_done-clause-full_faults : goal.returns-then-is_done-clause-full_faults
 returns-then-is_done-clause-full_faults g c = unfilled_by _ _ (whole_unfilled c.end.result _ c.end.ensures.refused)
@@ -355,10 +354,21 @@ returns-then-is_done-clause-front g c tells = nothing_more _ _
 pub returns-then-is_done-clause-rest : goal.returns-then-is_done-clause-rest
 returns-then-is_done-clause-rest g c tells = always_ok c.end.result _ (λ x. nothing_less (g.O.Output.written c.args.output.now) _)
 
-pub returns-then-is_done-clause-turns : goal.returns-then-is_done-clause-turns
-returns-then-is_done-clause-turns g c =
-    let z = writer_most (g.R.BlockRuns.one c.args.runs.now) (g.R.BlockRuns.count c.args.runs.now) c.args.self.now in
-    omega (arith, c.close_step.ensures.turns, z)
+pub returns-then-is_done-clause-costs : goal.returns-then-is_done-clause-costs
+returns-then-is_done-clause-costs g c =
+    record {
+      given = as_many _;
+      received = no_more _ _;
+      grown = as_many _;
+      few = no_more_than _ _ _;
+      steps = c.close_step.ensures.steps;
+      greatest = omega (arith, c.close_step.ensures.greatest);
+      calls = no_more_than _ _ _;
+      write_calls = no_more _ _;
+      turns =
+          let z = writer_most (g.R.BlockRuns.one c.args.runs.now) (g.R.BlockRuns.count c.args.runs.now) c.args.self.now in
+          omega (arith, c.close_step.ensures.turns, z);
+    }
 
 pub returns-then-is_done-clause-spends : goal.returns-then-is_done-clause-spends
 returns-then-is_done-clause-spends g c tells d within place is fresh s t h = always_ok _ _ (λ x. spent_same _ _ _ _ d s t _ c.args.self.now h)
