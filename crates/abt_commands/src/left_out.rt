@@ -47,13 +47,7 @@ pub(crate) fn left_out(
 
 // How many bytes are not zero.
 fn count_set(bytes: &[u8]) -> u64 {
-    let mut count = 0u64;
-    for i in 0..bytes.len() {
-        if bytes[i] != 0 {
-            count = count.saturating_add(1);
-        }
-    }
-    count
+    bytes.iter().filter(|byte| **byte != 0).count() as u64
 }
 
 // ---- texts
