@@ -12,7 +12,8 @@ const NEXT: u64 = 200;
 // To the front of the line, and all of it erased.
 const ERASED: &[u8] = b"\r\x1b[K";
 
-/// How often a raw image is read that is cut into pieces: to plan a piece, to find its runs, and to copy them.
+/// How often a raw image is read that is cut into pieces: to plan a piece, to find each run whole, and, part by part,
+/// to find the run again and to copy it.
 pub const RAW_PASSES: u64 = 4;
 
 /// The commands that move bytes.
