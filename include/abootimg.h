@@ -7,9 +7,10 @@
  *
  * Rules for every call:
  * - No pointer is null, not even where a length is 0; what is lent lives until the call returns.
- * - `state`, `in` and `out` do not overlap. A call writes only to `state` and `out` (abt_sparse_size only to `out`),
- *   and keeps no pointer.
- * - A call returns 0, or the number of the fault, which also stands in `out`.
+ * - `state`, `in` and `out` do not overlap. A call writes only to `out`, and to `state` where that is not const, and
+ *   keeps no pointer.
+ * - A call returns 0, or the number of the fault, which also stands in `out` where that has a place for it.
+ *   (abt_boot_fragment alone returns a length.)
  *
  * C99 and C++.
  */
@@ -33,7 +34,8 @@ enum {
     ABT_SKIP = 3,    /* `length` bytes that the image does not care about */
     ABT_NOTHING = 4, /* a header or a checksum was read: go on */
     ABT_END = 5,     /* the image has ended; what was not used of the input lies behind it */
-    ABT_FAULT = 6    /* the image is refused: `fault` and `detail` say why */
+    ABT_FAULT = 6,   /* the image is refused: `fault` and `detail` say why */
+    ABT_CHECKSUM = 7 /* of a chunk, and of no part: it has a checksum and no blocks */
 };
 
 /* Why an image is refused: the first fault from its front on. `detail` is told behind each. */
@@ -81,6 +83,26 @@ typedef struct abt_size {
     uint32_t chunks;
 } abt_size;
 
+/* What the header of an image says beside its size. */
+typedef struct abt_header {
+    uint32_t major; /* 0 until the header has been read, then 1 */
+    uint32_t minor;
+    uint32_t header_size;       /* how many bytes the image's header has */
+    uint32_t chunk_header_size; /* how many bytes a chunk's header has */
+    uint32_t checksum;          /* the image's, which is not checked */
+} abt_header;
+
+/* The chunk whose header was read last. All of it is read where left, due and extra are 0. */
+typedef struct abt_chunk {
+    uint64_t left;    /* how many raw bytes of it are still to come */
+    uint32_t headers; /* how many headers of chunks were read; its index is one less */
+    uint32_t blocks;  /* how many blocks these chunks have, with its own */
+    uint32_t kind;    /* ABT_RAW, ABT_FILL, ABT_SKIP or ABT_CHECKSUM */
+    uint32_t due;     /* 1 where its word is still to come */
+    uint32_t extra;   /* how many bytes of its header are still to come */
+    uint8_t word[4];  /* of a fill in the order of its bytes; of a checksum its number, least significant byte first */
+} abt_chunk;
+
 /* Sets a state to the one before the first byte of an image. The state may hold anything before. */
 void abt_sparse_init(abt_sparse *state);
 
@@ -104,6 +126,16 @@ uint32_t abt_sparse_last(abt_sparse *state, abt_part *out);
  * of a state that has failed, with all numbers 0.
  */
 uint32_t abt_sparse_size(const abt_sparse *state, abt_size *out);
+
+/* What the header says, with the same answers before it has been read and of a state that has failed. */
+uint32_t abt_sparse_header(const abt_sparse *state, abt_header *out);
+
+/*
+ * The chunk whose header was read last: ask behind each ABT_NOTHING, where `headers` may have risen and a word may have
+ * come. All numbers are 0 before the first, and of a state that has failed. A caller who wants no raw bytes may lend
+ * any others in the place of those that are left, since they make no difference to what is told.
+ */
+uint32_t abt_sparse_chunk(const abt_sparse *state, abt_chunk *out);
 
 /* ---- boot images */
 
@@ -157,6 +189,57 @@ typedef struct abt_boot {
  * ABT_BOOT_SHORT tells how many are needed.
  */
 uint32_t abt_boot_info(const uint8_t *head, size_t len, abt_boot *out);
+
+/* Which fields a version has: `has` is a sum of these. */
+enum {
+    ABT_HAS_KERNEL_ADDR = 1,
+    ABT_HAS_RAMDISK_ADDR = 2,
+    ABT_HAS_SECOND_ADDR = 4,
+    ABT_HAS_TAGS_ADDR = 8,
+    ABT_HAS_DTB_ADDR = 16,
+    ABT_HAS_OS = 32,
+    ABT_HAS_NAME = 64,
+    ABT_HAS_CMDLINE = 128,
+    ABT_HAS_EXTRA = 256,
+    ABT_HAS_ID = 512
+};
+
+/* What a header says beside its sections. A text ends before its first zero byte, or fills its field. */
+typedef struct abt_fields {
+    uint32_t fault;  /* 0, or why there is no header; all but detail is 0 then */
+    uint32_t detail; /* what belongs to the fault */
+    uint32_t has;    /* ABT_HAS_KERNEL_ADDR to ABT_HAS_ID; a field that the version does not have is 0 */
+    uint32_t kernel_addr;
+    uint32_t ramdisk_addr;
+    uint32_t second_addr;
+    uint32_t tags_addr;
+    uint32_t fragments; /* how many entries the vendor ramdisk table has */
+    uint64_t dtb_addr;
+    uint32_t os[5]; /* A, B and C of the OS version, and the year and month of its patch level */
+    uint32_t reserved;
+    uint8_t id[32];
+    uint8_t name[16];
+    uint8_t cmdline[2048]; /* 512 bytes of boot 0 to 2, 1536 of boot 3 and 4, 2048 of vendor boot */
+    uint8_t extra[1024];   /* what follows the 512 bytes of cmdline */
+} abt_fields;
+
+/* The fields of the header at the front of these bytes, with the faults of abt_boot_info. */
+uint32_t abt_boot_fields(const uint8_t *head, size_t len, abt_fields *out);
+
+/* A fragment of a vendor ramdisk. */
+typedef struct abt_fragment {
+    uint32_t size;
+    uint32_t at;   /* the offset of its first byte in the vendor ramdisk; where it ends is not checked */
+    uint32_t kind; /* 0 none, 1 platform, 2 recovery, 3 dlkm; other numbers have no name */
+    uint8_t name[32];
+    uint32_t board_id[16];
+} abt_fragment;
+
+/*
+ * The fragment whose entry stands at the front of these bytes of the section ABT_VENDOR_RAMDISK_TABLE. Returns how many
+ * bytes the entry has, or 0 where there are fewer, and `out` is left as it was.
+ */
+size_t abt_boot_fragment(const uint8_t *entry, size_t len, abt_fragment *out);
 
 #ifdef __cplusplus
 }

@@ -6,8 +6,10 @@
 Of the tables of docs/CLAIMS.md:
   - each definition that is to be believed stands in the file of specs/ that is named, and all of them together have fewer than
     700 lines, with the remarks above them;
-  - each claim's function is public, its contract has a clause of each name, the definitions are there, and so is each
-    must-fail edit.
+  - each claim's function is public (in a crate that only the program stands on it may be private), its contract has a
+    clause of each name, the definitions are there, and so is each must-fail edit, in the function's crate or one below it;
+    where a function names no edit, words say why;
+  - each public function of a crate that has a claim is named by one, or in the list of those that no claim names.
 Of all documents: no line is longer than 120 columns, each file that a link or a path in backquotes names is there, and each
 crate of crates.txt is told of in docs/ARCHITECTURE.md. The last line is 'N passed, M failed'.
 """
@@ -22,6 +24,8 @@ import sys
 HERE = os.path.dirname(os.path.dirname(os.path.abspath(__file__)))
 MOST_LINES = 700
 DOCUMENTS = ("README.md", "CONTRIBUTING.md", "CHANGELOG.md", "docs/*.md")
+# What these do is called by the program alone, and most of it only in its own crate.
+OF_THE_PROGRAM = ("abt_words", "abt_host", "sparse_commands", "boot_commands", "abootimg")
 
 
 class Checks:
@@ -103,9 +107,9 @@ def definition(crate, file, name):
 
 
 def contract(crate, function):
-    """The names of the clauses of a public function, '-' for one without a name, or None where there is no such function."""
+    """The names of the clauses of a function of claims, '-' for one without a name, or None where there is no such function."""
     owner, _, name = function.rpartition("::")
-    head = re.compile(rf"(\s*)(?:pub (?:const )?(?:extern \"C\" )?|final )?fn {re.escape(name)}\b")
+    head = re.compile(rf"(\s*)(?:pub(?:\(crate\))? (?:const )?(?:extern \"C\" )?|final )?fn {re.escape(name)}\b")
     for path in sorted(glob.glob(os.path.join(HERE, "crates", crate, "src", "**", "*.rt"), recursive=True)):
         inside = ""
         text = lines_of(os.path.relpath(path, HERE))
@@ -117,7 +121,7 @@ def contract(crate, function):
             found = head.match(line)
             if not found or (owner and not re.search(rf"\b{re.escape(owner)}\b", inside)) or (not owner and found[1]):
                 continue
-            if "pub " not in line and "trait" not in inside:
+            if "pub " not in line and "trait" not in inside and crate not in OF_THE_PROGRAM:
                 continue
             clauses = []
             for more in text[at:]:
@@ -130,9 +134,9 @@ def contract(crate, function):
     return None
 
 
-def find_edit(name, names):
-    """Where a must-fail edit stands: a crate, or None."""
-    return next((it for it in names if os.path.isfile(os.path.join(HERE, "crates", it, "must-fail", name + ".edit"))), None)
+def has_edit(name, names):
+    """Whether one of these crates has a must-fail edit of that name."""
+    return any(os.path.isfile(os.path.join(HERE, "crates", it, "must-fail", name + ".edit")) for it in names)
 
 
 def check_definitions(checks, rows):
@@ -148,15 +152,15 @@ def check_definitions(checks, rows):
 
 
 def check_claims(checks, rows, under):
-    function = ""
+    function, planted = "", {}
     for cells, number in rows:
-        crate = ""
         if words_in(cells[1]):
             function = words_in(cells[1])[0]
+        planted[function] = planted.get(function, "") + cells[4]
         crate, _, name = function.partition("::")
         clauses = contract(crate, name) if crate in under else None
         where = f"line {number}: {function}"
-        if not checks.that(clauses is not None, f"{where} is a public function with a contract"):
+        if not checks.that(clauses is not None, f"{where} is a function of claims with a contract"):
             continue
         for clause in words_in(cells[2]):
             checks.that(clause in clauses, f"{where} has a clause {clause}")
@@ -165,7 +169,38 @@ def check_claims(checks, rows, under):
             places = [it for it in [crate, *reversed(under[crate])] if definition(it, file, defined)]
             checks.that(places, f"{where}: {word} is defined in {crate} or below it")
         for edit in words_in(cells[4]):
-            checks.that(find_edit(edit, [crate, *under]), f"{where}: there is a must-fail edit {edit}")
+            checks.that(has_edit(edit, [crate, *under[crate]]), f"{where}: there is a must-fail edit {edit}")
+    for function, edits in planted.items():
+        checks.that(edits, f"docs/CLAIMS.md: {function} names a must-fail edit, or says why not")
+
+
+def public_functions(crate):
+    """The public functions of a crate, those of a type or trait behind its name."""
+    head = re.compile(r"( *)(?:pub (?:const )?(?:extern \"C\" )?|final )fn (\w+)")
+    for path in glob.glob(os.path.join(HERE, "crates", crate, "src", "**", "*.rt"), recursive=True):
+        owner = ""
+        for line in lines_of(os.path.relpath(path, HERE)):
+            inside = re.match(r"(?:pub )?(?:impl|trait)\b(?:<.*?>+)?(?: .* for)? (\w+)", line)
+            owner = inside[1] + "::" if inside else "" if line.startswith("}") else owner
+            found = head.match(line)
+            if found:
+                yield (owner if found[1] else "") + found[2]
+
+
+def check_public(checks, claims, under):
+    """Of docs/CLAIMS.md: each public function of a crate that has a claim is named, by a claim or by the list of the others."""
+    named = {word for cells, _ in claims for word in words_in(cells[1])}
+    text = "\n".join(lines_of("docs/CLAIMS.md")).partition("\n## 5.")[2]
+    for crates_told, rest in re.findall(r"(?ms)^- ((?:`\w+`,? ?)+): (.*?)\.$(?=\n-|\n*\Z)", text):
+        for crate in words_in(crates_told):
+            checks.that(crate in under, f"docs/CLAIMS.md, section 5: there is a crate {crate}")
+            of_crate = set(public_functions(crate))
+            for word in words_in(rest):
+                checks.that(word in of_crate, f"docs/CLAIMS.md, section 5: {crate} has a public function {word}")
+            named |= {f"{crate}::{it}" for it in (of_crate if rest.startswith("all others") else words_in(rest))}
+    for crate in sorted({it.partition("::")[0] for it in named} & set(under)):
+        for function in public_functions(crate):
+            checks.that(f"{crate}::{function}" in named, f"docs/CLAIMS.md names {crate}::{function}")
 
 
 def check_documents(checks, under):
@@ -222,6 +257,7 @@ def main():
     checks.that(definitions and claims, "docs/CLAIMS.md has tables of definitions and of claims")
     check_definitions(checks, definitions)
     check_claims(checks, claims, under)
+    check_public(checks, claims, under)
     check_rules(checks, [(cells, number) for head, cells, number in tables("docs/ARCHITECTURE.md") if head[0] == "rule"])
     check_documents(checks, under)
     print(f"{checks.passed} passed, {checks.failed} failed")

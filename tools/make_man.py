@@ -8,6 +8,14 @@ backquotes. A table becomes a list: its first cell the term, the others what is 
 """
 import re
 import sys
+from pathlib import Path
+
+TABLE = Path(__file__).resolve().parent.parent / "crates/abt_words/src/table.rt"
+
+
+def version():
+    """The program's, as the table of the command line has it."""
+    return re.search(r'pub const VERSION: &str = "(.*)";', TABLE.read_text(encoding="utf-8"))[1]
 
 
 def escaped(text):
@@ -66,7 +74,7 @@ def blocks(text):
 def main():
     with open(sys.argv[1], encoding="utf-8") as text:
         page = text.read()
-    print('.TH ABOOTIMG 1 "" "abootimg" "User Commands"')
+    print(f'.TH ABOOTIMG 1 "" "abootimg {version()}" "User Commands"')
     print(".SH NAME\nabootimg \\- Android sparse and boot images: expand, cut, flash, pack, unpack")
     print(".SH SYNOPSIS")
     for line in re.findall(r"(?m)^`(abootimg [^`]+)`$", page):

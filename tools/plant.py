@@ -1,10 +1,10 @@
 #!/usr/bin/env python3
 """Plants wrong bodies in copies of crates, with `rt plant`, and prints those that their contracts let through.
 
-  tools/plant.py [--rt rt] [--at FOLDER] [--minutes N] [--only WORD] CRATE ..          after `make`
+  tools/plant.py [--rt rt] [--at FOLDER] [--minutes N] [--only WORD] CRATE ..
 
-Each crate is planted in a folder of its own below FOLDER, with what was built of the crates below it, so that several
-runs may stand side by side, and nothing of this tree is changed. In that folder the remarks above the variants of enums
+Each crate is planted in a folder of its own below FOLDER, so that several runs may stand side by side, and nothing of this
+tree is changed. The crates below it are proved first, or taken from what earlier checks on this machine proved. In that folder the remarks above the variants of enums
 are left out: `rt plant` takes them for a part of the variant's name, and a body that answers such a variant does not
 compile.
 
@@ -20,7 +20,7 @@ import sys
 import tempfile
 
 sys.dont_write_bytecode = True
-from prove import HERE, below, crate_lines
+from repository import HERE, copy_of, crate_at, crate_lines, with_below
 
 ENUM = re.compile(r"\s*(pub(\([a-z]+\))? )?enum \w+")
 
@@ -35,24 +35,12 @@ def without_remarks(text):
     return "".join(kept)
 
 
-def crate(root, name):
-    return os.path.join(root, "crates", name)
-
-
 def room_for(name, lines, uses, at):
-    """A folder with this crate, and all that it stands on as it was built."""
+    """A folder with this crate and all that it stands on."""
     room = os.path.join(at, name)
     shutil.rmtree(room, ignore_errors=True)
-    under = below(name, uses)
-    for it in under:
-        shutil.copytree(crate(HERE, it), crate(room, it), ignore=shutil.ignore_patterns("out"))
-        built = os.path.join(crate(HERE, it), "out", "rlib")
-        shutil.copytree(built, os.path.join(crate(room, it), "out", "rlib"), copy_function=os.link)
-    shutil.copytree(crate(HERE, name), crate(room, name))
-    with open(os.path.join(room, "crates.txt"), "w", encoding="utf-8") as text:
-        text.writelines(lines[it] + "\n" for it in [*under, name])
-    shutil.copy(os.path.join(HERE, "HANDLES"), room)
-    for folder, _, files in os.walk(os.path.join(crate(room, name), "src")):
+    copy_of(room, with_below([name], uses), lines)
+    for folder, _, files in os.walk(os.path.join(crate_at(room, name), "src")):
         for file in files:
             path = os.path.join(folder, file)
             with open(path, encoding="utf-8") as source:
@@ -77,7 +65,7 @@ def main():
         command = [words.rt, "plant", "--jobs", "1", "--max", "10000", "--minutes", str(words.minutes)]
         print(f"== {name}", flush=True)
         command += ["--only", words.only] if words.only else []
-        done = subprocess.run(command, cwd=crate(room, name), check=False)
+        done = subprocess.run(command, cwd=crate_at(room, name), check=False)
         if done.returncode:
             return done.returncode
         shutil.rmtree(room)

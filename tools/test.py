@@ -1,18 +1,14 @@
 #!/usr/bin/env python3
-"""The gate: `rt ci`, and then the scripts that hold the documents and the built program to what they say.
+"""The gate: a look without proofs, `rt ci`, and then the scripts that hold the documents and the built program to what they say.
 
   tools/test.py [--rt rt] [--program FILE]      (--program: the scripts alone, on what was built before)
 
-`rt ci` proves every crate from nothing, tries the must-fail edits, runs the tests, and compiles the program. It is linked as
-make links it (tools/link.sh), and each script then runs on it and ends in a line 'N passed, M failed'. The C library,
-which `rt ci` proves and does not build, is built for the script that tries it, where there are compilers of C and C++. Behind
-each stands the time that it took, by the clock and of the processors. Where something failed, its lines stand once more at the
+It begins with tools/quick.py, so that a mistake shows after some minutes. `rt ci` then proves every crate, tries the
+must-fail edits, runs the tests, and compiles the program. What an earlier run on this machine passed of the same files is
+taken from there. The program and the C library are linked as make links them (tools/build.py, which takes what was proved),
+and each script runs on them and ends in a line 'N passed, M failed'. Behind each stands the time that it took, by the clock
+and of the processors, and behind `rt ci` a line for each crate. Where something failed, its lines stand once more at the
 end. The last line of all is the sum of what passed and failed. The exit status is 0 where nothing failed.
-
-`rt ci` reckons what memory each check may take from nothing, and leaves processors idle where the sum might not fit. Most of
-what it runs are checks over kept work, which take a third of that. So it is told here how many to run at once (RT_JOBS): one a
-processor, and one for each 4 GiB of free memory at most. The edits among them have a lower priority: crates wait for the crates
-below them, and nothing waits for an edit.
 """
 import argparse
 import os
@@ -21,63 +17,25 @@ import resource
 import shutil
 import subprocess
 import sys
-import tempfile
-import threading
 import time
 
 sys.dont_write_bytecode = True
-from prove import free_memory, put_back
+from costs import Costs
+from repository import HERE
 
-HERE = os.path.dirname(os.path.dirname(os.path.abspath(__file__)))
 BUILT = os.path.join(HERE, "build", "abootimg.tried")
+LIBRARY = os.path.join(HERE, "build", "libabootimg.a")
 WRONG = re.compile(r"FAILED|NOT SO|NOT PROVED|NOT REFUSED|BAD EDIT")
 LAST = re.compile(r"(?:[\w ]+: )?(\d+) passed, (\d+) failed")
-LIBRARY = os.path.join(HERE, "build", "libabootimg.a")
-MEMORY = 4096  # what one check is reckoned to take, in MiB
 
-# Each script, and whether it runs the program.
-SCRIPTS = (
-    ("tools/check_claims.py", False),
-    ("tools/check_examples.py", True),
-    ("tools/try_program.sh", True),
-    ("tools/try_words.sh", True),
-)
+# Each script over the built program; the others are in tools/quick.py.
+SCRIPTS = ("tools/check_examples.py", "tests/run.py", "tools/try_program.sh", "tools/try_words.sh", "tools/try_places.sh")
 
 
 def processor_time():
     """The seconds of processors that the commands run so far have taken."""
     used = resource.getrusage(resource.RUSAGE_CHILDREN)
     return used.ru_utime + used.ru_stime
-
-
-def lanes():
-    """How many checks to run side by side."""
-    processors, free = len(os.sched_getaffinity(0)), free_memory()
-    return max(1, min(processors, free // MEMORY) if free else processors)
-
-
-def edits_step_back(ends):
-    """Gives each check of a must-fail edit a lower priority, by the folder that it runs in, until all is tried."""
-    rooms = os.path.join(tempfile.gettempdir(), "rt-edit")
-    while not ends.wait(1):
-        for process in [it for it in os.listdir("/proc") if it.isdigit()]:
-            try:
-                if os.readlink(f"/proc/{process}/cwd").startswith(rooms) and os.getpriority(os.PRIO_PROCESS, int(process)) < 10:
-                    for thread in os.listdir(f"/proc/{process}/task"):
-                        os.setpriority(os.PRIO_PROCESS, int(thread), 10)
-            except OSError:
-                pass  # it has ended, or is another user's
-
-
-def proved_and_tried(rt, wrong):
-    """`rt ci`, with as many checks at once as there is room for, those of edits behind the others."""
-    ends = threading.Event()
-    if os.path.isdir("/proc/self/task"):
-        threading.Thread(target=edits_step_back, args=(ends,), daemon=True).start()
-    try:
-        return followed([rt, "ci"], "rt ci", wrong, env={"RT_JOBS": str(lanes()), **os.environ})
-    finally:
-        ends.set()
 
 
 def followed(words, name, wrong, **how):
@@ -112,25 +70,40 @@ def followed(words, name, wrong, **how):
     return passed, failed
 
 
-def library_tried(rt, builds, program, wrong):
-    """Builds the C library, and tries it beside the program."""
+def proved_and_tried(rt, wrong):
+    """`rt ci`, and what it took by crate."""
+    costs = Costs()
+    costs.start()
+    counts = followed([rt, "ci"], "rt ci", wrong)
+    costs.end()
+    print(*costs.lines(), sep="\n", flush=True)
+    return counts
+
+
+def built(rt, kind, out):
+    """Builds the program or the library as make does, of what was proved."""
+    if os.path.exists(out):
+        os.remove(out)
+    done = subprocess.run([os.path.join(HERE, "tools/build.py"), "--rt", rt, kind, out], stderr=subprocess.STDOUT)
+    return 0 if done.returncode == 0 and os.path.isfile(out) else 1
+
+
+def library_tried(program, wrong):
+    """Tries the C library beside the program, where there are compilers of C and C++."""
     script = "tools/try_c_library.sh"
-    compilers = [os.environ.get("CC", "cc"), os.environ.get("CXX", "c++")]
-    lacking = [it for it in compilers if not shutil.which(it)]
-    if lacking:
-        print(f"== {script}: not run, since there is no {lacking[0]}")
-        return 0, 0
-    if builds:
-        made = subprocess.run([os.path.join(HERE, "tools/prove.py"), "--rt", rt, "abt_c"], stderr=subprocess.STDOUT)
-        if made.returncode:
-            print(f"== {script}: not run, since the library was not built")
-            return 0, 1
-        os.makedirs(os.path.dirname(LIBRARY), exist_ok=True)
-        shutil.copy(os.path.join(HERE, "crates", "abt_c", "out", "libabt_c.a"), LIBRARY)
-    if not os.path.isfile(LIBRARY):
-        print(f"== {script}: not run, since there is no {os.path.relpath(LIBRARY, HERE)}")
+    lacking = [it for it in (os.environ.get("CC", "cc"), os.environ.get("CXX", "c++")) if not shutil.which(it)]
+    if lacking or not os.path.isfile(LIBRARY):
+        print(f"== {script}: not run, since there is no {lacking[0] if lacking else os.path.relpath(LIBRARY, HERE)}")
         return 0, 0
     return followed([os.path.join(HERE, script), LIBRARY, program], script, wrong)
+
+
+def scripts_over(program, wrong):
+    environment = {**os.environ, "ABOOTIMG": program, "PYTHONDONTWRITEBYTECODE": "1"}
+    for script in SCRIPTS:
+        if os.path.exists(os.path.join(HERE, script)):
+            yield followed([os.path.join(HERE, script)], script, wrong, env=environment)
+    yield library_tried(program, wrong)
 
 
 def main():
@@ -139,25 +112,17 @@ def main():
     parser.add_argument("--program")
     words = parser.parse_args()
     counts, wrong = [], []
-    if not words.program:
-        # What a killed build left: rt ci refuses sources that no crate of crates.txt has.
-        put_back()
+    counts.append(followed([os.path.join(HERE, "tools/quick.py"), "--rt", words.rt], "a look without proofs", wrong))
+    if not words.program and not counts[0][1]:
         counts.append(proved_and_tried(words.rt, wrong))
-        if os.path.exists(BUILT):
-            os.remove(BUILT)
-        subprocess.run([os.path.join(HERE, "tools/link.sh"), BUILT, "--rt", words.rt])
+        if not counts[-1][1]:
+            counts += [(0, built(words.rt, "program", BUILT)), (0, built(words.rt, "library", LIBRARY))]
     program = os.path.abspath(words.program or BUILT)
-    for script, needs_program in SCRIPTS:
-        if not os.path.exists(os.path.join(HERE, script)):
-            continue
-        if needs_program and not os.access(program, os.X_OK):
-            print(f"== {script}: not run, since there is no {os.path.relpath(program, HERE)}")
-            counts.append((0, 1))
-        else:
-            environment = {**os.environ, "ABOOTIMG": program, "PYTHONDONTWRITEBYTECODE": "1"}
-            counts.append(followed([os.path.join(HERE, script)], script, wrong, env=environment))
-    if os.path.exists(os.path.join(HERE, "tools/try_c_library.sh")) and os.access(program, os.X_OK):
-        counts.append(library_tried(words.rt, not words.program, program, wrong))
+    if not os.access(program, os.X_OK) or any(failed for _, failed in counts):
+        print("== the scripts over the program: not run, since what is above failed")
+        counts.append((0, 1))
+    else:
+        counts += scripts_over(program, wrong)
     passed, failed = (sum(it) for it in zip(*counts))
     if not words.program and not failed:
         os.replace(BUILT, os.path.join(HERE, "build", "abootimg"))

@@ -40,6 +40,33 @@ said() {
     [ "$status" = "$1" ] && [ "$(cat out)" = "$2" ] && [ "$(cat err)" = "$3" ]
 }
 
+# script NAME COMMAND..: runs a script that ends in a line of counts. They are added, and lines of what went well left out.
+script() {
+    local name=$1 last
+    shift
+    "$@" >log 2>&1 </dev/null
+    status=$?
+    last=$(tail -n 1 log)
+    if [[ $last =~ ([0-9]+)\ passed,\ ([0-9]+)\ failed$ ]] && [ $((BASH_REMATCH[2] > 0)) = $((status > 0)) ]; then
+        passed=$((passed + BASH_REMATCH[1]))
+        failed=$((failed + BASH_REMATCH[2]))
+    else
+        failed=$((failed + 1))
+    fi
+    grep -v '^ok ' log | head -n -1
+    echo "$name: $last"
+}
+
+# lacks WHAT COMMAND..: whether one of these commands is not there; then it says that WHAT is not run.
+lacks() {
+    local what=$1 it
+    shift
+    for it in "$@"; do
+        command -v "$it" >/dev/null || { echo "NOT RUN  $what: there is no $it"; return 0; }
+    done
+    return 1
+}
+
 # tried: prints the counts as the last line, and fails where something failed.
 tried() {
     echo "$passed passed, $failed failed"

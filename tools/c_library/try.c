@@ -2,6 +2,7 @@
  * Tries the C library on an image: try IMAGE EXPANDED [STATES]
  * In every cut of the input from 1 to 100 bytes and in one piece, joined parts are the expanded image; each truncation is
  * refused as one at its place; a state with spoiled bytes is answered without a read or a write outside what was lent.
+ * What is told of chunks and of fields agrees with the parts and the sections.
  * Prints one line for each kind of trial: 'ok NAME' or 'failed NAME'.
  */
 #define _DEFAULT_SOURCE
@@ -99,6 +100,30 @@ static void try_cuts(void) {
     report("every cut", all);
 }
 
+/* The blocks of chunks are those of the parts, all of each chunk is read behind it, and the header counts them. */
+static void try_chunks(void) {
+    abt_sparse state;
+    abt_part part;
+    abt_chunk chunk = {0};
+    abt_header header;
+    abt_size size;
+    uint64_t bytes = 0;
+    size_t at = 0;
+    int all = 1;
+    abt_sparse_init(&state);
+    all &= abt_sparse_header(&state, &header) == 0 && header.major == 0;
+    do {
+        abt_sparse_next(&state, image + at, image_length - at, &part);
+        at += part.used;
+        bytes += part.length;
+        all &= abt_sparse_chunk(&state, &chunk) == 0 && abt_sparse_size(&state, &size) == 0;
+        all &= bytes <= (uint64_t)chunk.blocks * size.block_size;
+    } while (part.kind < ABT_END);
+    all &= chunk.headers == size.chunks && chunk.blocks == size.blocks && chunk.left + chunk.due + chunk.extra == 0;
+    all &= abt_sparse_header(&state, &header) == 0 && header.major == 1 && header.header_size >= 28;
+    report("chunks and headers", all);
+}
+
 static void try_truncations(void) {
     int all = 1;
     size_t step = image_length / 5000 + 1;
@@ -189,10 +214,16 @@ static void try_random_headers(void) {
     int all = 1;
     for (int i = 0; i < 20000; i++) {
         abt_boot boot, more;
+        abt_fields fields;
+        abt_fragment fragment;
         for (size_t j = 0; j < 2200; j++)
             head[j] = chance() % 3 ? 0 : (uint8_t)chance();
         memcpy(head, magics[chance() % 2], 8);
-        uint32_t fault = abt_boot_info(head, chance() % 2200, &boot);
+        size_t length = chance() % 2200;
+        uint32_t fault = abt_boot_info(head, length, &boot);
+        all &= abt_boot_fields(head, length, &fields) == fault && fields.detail == boot.detail;
+        all &= (fields.has == 0) == (fault != 0) && (fields.fragments == 0 || boot.version == 4);
+        all &= abt_boot_fragment(head, length, &fragment) == (length < 108 ? 0 : 108);
         all &= fault == boot.fault && boot.count <= 5 && (fault == 0 || boot.count == 0);
         if (fault == ABT_BOOT_SHORT)
             all &= abt_boot_info(head, boot.detail, &more) != ABT_BOOT_SHORT || more.detail > boot.detail;
@@ -207,9 +238,11 @@ int main(int argc, char **argv) {
     }
     image = read_file(argv[1], &image_length);
     want = read_file(argv[2], &want_length);
-    if (sizeof(abt_sparse) != 120)
-        report("size of a state", 0);
+    report("sizes", sizeof(abt_sparse) == 120 && sizeof(abt_part) == 56 && sizeof(abt_chunk) == 32 &&
+                        sizeof(abt_header) == 20 && sizeof(abt_boot) == 112 && sizeof(abt_fields) == 3184 &&
+                        sizeof(abt_fragment) == 108);
     try_cuts();
+    try_chunks();
     try_truncations();
     try_states(argc > 3 ? atol(argv[3]) : 200000);
     try_random_headers();

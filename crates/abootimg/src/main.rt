@@ -1,38 +1,34 @@
 //! The program `abootimg`: a toolkit for Android sparse images and boot images on the command line.
 //!
-//! What it does with words is the crate `abt_commands`; without words it shows the demonstration of `abt_texts`. Here
-//! are the standard streams.
+//! | file | has |
+//! |---|---|
+//! | `main.rt` | the standard streams, the window, and the words |
+//! | `running.rt` | what the words ask for, and the exit status |
+//! | `word_files.rt` | the words that stand for the lines of a file |
+//! | `wrong_words.rt` | what is told of words that are wrong |
+//! | `telling.rt` | what else is told beside what a command tells |
 #![tactic(auto)]
 
-use abt_commands::{Noted, Reason, Streams, run};
-use abt_io::{Meter, Output, ToWrite, Window, write_out};
-use abt_texts::{CommandFault, USAGE, demo, status};
-use std::alloc::Global;
+mod running;
+mod telling;
+mod word_files;
+mod wrong_words;
+
+use abt_host::{REFUSED, Report, USAGE};
+use abt_io::{Meter, Window};
+use running::{demonstrate, run};
 use std::fs::{File, OpenOptions};
-use std::io::IsTerminal;
 use std::os::fd::{AsRawFd, IntoRawFd};
 use std::process::ExitCode;
 use std::{env, io};
 
 fn main(rt: HostRuntime) -> ExitCode {
-    hold_standard_streams(&rt);
-    let reason = Reason::new(None);
-    let mut input = rt.stdin();
-    let mut out = ToWrite::new(Noted::new(rt.stdout(), &reason));
-    let mut err = ToWrite::new(rt.stderr());
-    let is_terminal = rt.stderr().is_terminal();
-    let streams = Streams {
-        input: &mut input,
-        out: &mut out,
-        err: &mut err,
-        is_terminal,
-        reason: &reason,
-    };
-    ExitCode::from(start(&rt, rt.alloc(), streams))
+    hold_standard_streams(rt);
+    ExitCode::from(start(rt))
 }
 
 // Opens each standard stream that is closed on the null device, so that no file of the user's takes its place.
-fn hold_standard_streams(rt: &HostRuntime) {
+fn hold_standard_streams(rt: HostRuntime) {
     for _stream in 0..3 {
         let Ok(file) = null_device(rt) else {
             return;
@@ -44,46 +40,42 @@ fn hold_standard_streams(rt: &HostRuntime) {
     }
 }
 
-fn null_device(rt: &HostRuntime) -> io::Result<File> {
+fn null_device(rt: HostRuntime) -> io::Result<File> {
     let mut how = OpenOptions::new();
-    how.read(true).write(true).open(rt, "/dev/null")
+    how.read(true).write(true).open(&rt, "/dev/null")
 }
 
 // Puts the window on the heap once, and does what the words ask for, or without words the demonstration.
-fn start<I: io::Read, O: Output, E: Output>(
-    rt: &HostRuntime,
-    alloc: Global,
-    streams: Streams<'_, I, O, E>,
-) -> u8 {
-    let Ok(mut window) = Box::new(alloc, Window::new()) else {
-        return status(Err(CommandFault::Memory), streams.err);
+fn start(rt: HostRuntime) -> u8 {
+    let mut report = Report::new(rt);
+    let Ok(mut window) = Box::new(rt.alloc(), Window::new()) else {
+        return no_memory(&mut report);
     };
-    let mut m = Meter::new();
     let w = &mut *window;
-    let args = match env::args(rt) {
+    let mut m = Meter::new();
+    let args = match env::args(&rt) {
         Ok(args) => args,
-        Err(error) => return unread(error, streams.err),
+        Err(error) => return unread(&error, &mut report),
     };
-    let Ok(words) = args.collect::<Vec<String>>(alloc) else {
-        return status(Err(CommandFault::Memory), streams.err);
+    let Ok(words) = args.collect::<Vec<String>>(rt.alloc()) else {
+        return no_memory(&mut report);
     };
     if words.len() < 2 {
-        let shown = demo(streams.out, w, &mut m);
-        return status(shown.map_err(CommandFault::Sparse), streams.err);
+        return demonstrate(rt, &mut report, w, &mut m);
     }
-    run(rt, alloc, words.as_slice(), streams, w, &mut m)
+    run(rt, words.as_slice(), &mut report, w, &mut m)
 }
 
 // The words can't be read: for want of memory, or one of them isn't text.
-fn unread<E: Output>(error: io::Error, err: &mut E) -> u8 {
+fn unread(error: &io::Error, report: &mut Report) -> u8 {
     if error.kind() == io::ErrorKind::OutOfMemory {
-        return status(Err(CommandFault::Memory), err);
+        return no_memory(report);
     }
-    let mut m = Meter::new();
-    let _ = write_out(
-        err,
-        b"abootimg: a word of the command line is not valid UTF-8\n",
-        &mut m,
-    );
+    report.note("abootimg: a word of the command line is not valid UTF-8");
     USAGE
+}
+
+fn no_memory(report: &mut Report) -> u8 {
+    report.note("abootimg: memory");
+    REFUSED
 }

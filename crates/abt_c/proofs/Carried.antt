@@ -1,9 +1,9 @@
 -- What a pull says of the machine, it says of the states with its numbers.
-use Rattle.std.proofs.Common.{◌≡◌, ℕ, ◌<◌, ◌+◌, ◌*◌, ◌++◌, List, [], take, length, Bool, true, false, if◌then◌else◌, ◌==◌, refl, arith, ap, sym, ◌∙◌, subst, append_assoc}
+use Rattle.std.proofs.Common.{◌≡◌, ℕ, ◌++◌, List, [], take, length, Bool, true, false, if◌then◌else◌, ◌==◌, refl, arith, ap, sym, ◌∙◌, subst, append_assoc}
 use Rattle.abt_sparse.specs.View.{view}
 use Rattle.abt_chunks.specs.Ahead.{before, somes, fills, gaps}
 use Rattle.std.specs.Prelude.{Ok}
-use Rattle.abt_chunks.specs.Parts.{ahead, ahead_in, Says, Leaves}
+use Rattle.abt_chunks.specs.Parts.{ahead, ahead_in}
 use Rattle.abt_chunks.specs.Pulling as pulling
 use Rattle.abt_chunks.specs.Pulling.{PullSays, PullLeaves, IsKept}
 use Rattle.abt_chunks.specs.declared.walk.Phase.{Phase}
@@ -14,7 +14,7 @@ use Rattle.abt_chunks.specs.declared.feed.Puller.{Puller}
 use Rattle.abt_chunks.specs.declared.feed.Pull.{Pull}
 use Rattle.abt_chunks.specs.declared.feed.Pull.TheVariants as pulls
 use Rattle.abt_c.specs.declared.state.AbtSparse.{AbtSparse}
-use Rattle.abt_c.specs.Standing.{Stands, StateSays, coming, coming_of, phase_number, front_of, kind_of, kind_or, header_of, place_in, place_of}
+use Rattle.abt_c.specs.Standing.{Stands, StateSays, coming, coming_of, phase_number, front_of, kind_of, kind_or, header_of}
 use Rattle.abt_sparse.specs.Chunk.{Header}
 use Rattle.abt_sparse.specs.declared.kind.ChunkKind.{ChunkKind}
 

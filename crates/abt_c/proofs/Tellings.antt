@@ -1,21 +1,16 @@
 -- What follows from the numbers of a part, and from those of a state that was left.
-use Rattle.std.proofs.Common.{◌≡◌, ℕ, ◌≤◌, ◌<◌, ◌+◌, ◌∙◌, refl, arith, ap, sym, Bool, true, false, Some}
-use Rattle.std.specs.Prelude.{◌↔◌}
+use Rattle.std.proofs.Common.{◌≡◌, ℕ, ◌≤◌, ◌<◌, arith}
 use Rattle.abt_sparse.specs.Number.{number_of}
-use Rattle.abt_sparse.specs.Chunk.{Header}
 use Rattle.abt_sparse.specs.declared.fault.SparseFault.{SparseFault}
 use Rattle.abt_sparse.specs.declared.fault.SparseFault.TheVariants as faults
-use Rattle.abt_chunks.specs.declared.walk.Part.{Part}
 use Rattle.abt_chunks.specs.declared.walk.Part.TheVariants as parts
 use Rattle.abt_chunks.specs.declared.walk.Phase.{Phase}
 use Rattle.abt_chunks.specs.declared.walk.Phase.TheVariants as phases
-use Rattle.abt_chunks.specs.declared.walk.Walk.{Walk}
-use Rattle.abt_chunks.specs.declared.feed.Puller.{Puller}
 use Rattle.abt_chunks.specs.declared.feed.Pull.{Pull}
 use Rattle.abt_chunks.specs.declared.feed.Pull.TheVariants as pulls
 use Rattle.abt_c.specs.declared.state.AbtPart.{AbtPart}
 use Rattle.abt_c.specs.declared.state.AbtSparse.{AbtSparse}
-use Rattle.abt_c.specs.Standing.{Stands, IsLeft, kept_fault, kind_or, phase_number, place_in, place_of}
+use Rattle.abt_c.specs.Standing.{IsLeft, kept_fault, phase_number}
 use Rattle.abt_c.specs.Telling.{PartIs}
 
 pub number_low : (f : SparseFault) → number_of f ≤ 12

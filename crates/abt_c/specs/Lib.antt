@@ -1,3 +1,5 @@
 pub mod Told
 pub mod Telling
 pub mod Standing
+pub mod Headers
+pub mod Fields

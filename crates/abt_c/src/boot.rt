@@ -98,7 +98,7 @@ fn vendor_told(header: &VendorHeader) -> AbtBoot
 }
 
 /// What a fault tells beside its number.
-fn detail(fault: HeaderFault) -> u32
+pub fn detail(fault: HeaderFault) -> u32
     ensures { result ≡ header_detail fault }
 {
     match fault {

@@ -13,17 +13,23 @@
 //! | `stored.rt` | from these numbers to the reading machine, with all its conditions checked, and back |
 //! | `told.rt` | a part as numbers |
 //! | `sparse.rt` | the calls on sparse images |
+//! | `sparse_header.rt` | the calls on the headers of a sparse image |
 //! | `boot.rt`, `boot_told.rt` | the call on boot images, and what it tells |
+//! | `boot_fields.rt` | the calls on the fields of a boot header and on the fragments of a ramdisk |
 #![tactic(auto)]
 
 mod boot;
+mod boot_fields;
 mod boot_told;
 mod sparse;
+mod sparse_header;
 mod state;
 mod stored;
 mod told;
 
 pub use boot::abt_boot_info;
+pub use boot_fields::{AbtFields, AbtFragment, abt_boot_fields, abt_boot_fragment};
 pub use boot_told::{AbtBoot, AbtSection};
 pub use sparse::{abt_sparse_init, abt_sparse_last, abt_sparse_next, abt_sparse_size};
+pub use sparse_header::{AbtChunk, AbtHeader, abt_sparse_chunk, abt_sparse_header};
 pub use state::{AbtPart, AbtSize, AbtSparse};

@@ -22,6 +22,20 @@ fn again(state: &AbtSparse) -> AbtPart
     refused(state.fault, state.detail)
 }
 
+/// The fault that a state keeps, or that of a state that no call left. 0 where it is good to go on.
+pub fn fault_of(state: &AbtSparse) -> u32
+    ensures kept { IsLeft state.now → result ≡ state.now.fault }
+    ensures left { IsLeft state.now → (result ≡ 90 → ⊥) }
+{
+    if state.phase >= 3 {
+        return again(state).fault;
+    }
+    if puller_in(state).is_none() {
+        return STATE;
+    }
+    0
+}
+
 /// Sets a state to the one before the first byte.
 #[unsafe(no_mangle)]
 pub extern "C" fn abt_sparse_init(state: &mut AbtSparse)
@@ -126,13 +140,8 @@ pub extern "C" fn abt_sparse_size(state: &AbtSparse, out: &mut AbtSize) -> u32
         blocks: 0,
         chunks: 0,
     };
-    if state.phase >= 3 {
-        return again(state).fault;
-    }
-    if puller_in(state).is_none() {
-        return STATE;
-    }
-    if state.phase > 0 {
+    let fault = fault_of(state);
+    if fault == 0 && state.phase > 0 {
         *out = AbtSize {
             bytes: u64::from(state.total_blks) * u64::from(state.blk_sz),
             block_size: state.blk_sz,
@@ -140,5 +149,5 @@ pub extern "C" fn abt_sparse_size(state: &AbtSparse, out: &mut AbtSize) -> u32
             chunks: state.total_chunks,
         };
     }
-    0
+    fault
 }

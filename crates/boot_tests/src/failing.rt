@@ -1,355 +1,194 @@
 //! One failing call at each place: what is answered, and what stands.
 
-use crate::opening::opened;
 use crate::samples::{FIVE, PLAIN, boot, front, numbers, pack_five, pack_four, vendor};
 use abt_io::{Cut, DeviceFault, Faulty, Meter, SliceOutput, SliceSource, Window};
 use abt_sections::{
-    Image, Packed, SectionFault, check, fragment, fragments, image_id, open, pack_boot,
-    pack_vendor, sections, unpack, unpack_fragment,
+    Image, Packed, SectionFault, check, fragment, fragments, open, pack_boot, pack_vendor,
+    sections, unpack, unpack_fragment,
 };
 use std::process::Abort;
 
-/// A source that gives at most 1,000 bytes a call, whose call `n` fails where it is part `part`.
-pub(crate) fn part(
-    bytes: &[u8],
-    part: usize,
-    failing: usize,
-    n: u64,
-) -> Faulty<Cut<SliceSource<'_>>> {
-    Faulty::new(
-        Cut::new(SliceSource::new(bytes), 1000),
-        if part == failing { n } else { 0 },
-    )
+/// A source that gives at most 1,000 bytes a call, whose call `n` fails.
+pub(crate) fn part(bytes: &[u8], n: u64) -> Faulty<Cut<SliceSource<'_>>> {
+    Faulty::new(Cut::new(SliceSource::new(bytes), 1000), n)
 }
 
-/// Packs the image of version 2, or answers its id alone, where call `n` of part `failing` fails: the answer, and how
-/// many calls that part had.
-fn packing_fails<R: Abort>(
+/// Packs the image of version 2 where call `n` of part `failing` fails, or at 5 of the output; at 0 none does. What was
+/// written is a beginning of the image. The answer, and how many calls that device had.
+fn packed<R: Abort>(
     rt: &R,
-    is_id: bool,
     failing: usize,
     n: u64,
     whole: &[u8; 14336],
-) -> (Option<SectionFault>, u64) {
+) -> (Result<Packed, SectionFault>, u64) {
     let bytes = numbers();
+    let at = |device: usize| if device == failing { n } else { 0 };
     let mut parts = [
-        part(&bytes, 0, failing, n),
-        part(front(&bytes, 1), 1, failing, n),
-        part(&[], 2, failing, n),
-        part(front(&bytes, 5), 3, failing, n),
-        part(front(&bytes, 2049), 4, failing, n),
+        part(&bytes, at(0)),
+        part(front(&bytes, 1), at(1)),
+        part(&[], at(2)),
+        part(front(&bytes, 5), at(3)),
+        part(front(&bytes, 2049), at(4)),
     ];
     let mut room = [1u8; 14336];
-    let mut output = SliceOutput::new(&mut room);
-    let mut w = Window::new();
-    let mut m = Meter::new();
-    let fault = if is_id {
-        image_id(2, &mut parts, &mut w, &mut m).err()
-    } else {
-        pack_boot(&boot(2, 2048), &mut parts, &mut output, &mut w, &mut m).err()
-    };
-    assert!(rt; whole.starts_with(output.written()));
-    (fault, parts.get(failing).map_or(0, |part| part.seen))
-}
-
-#[test]
-fn each_read_of_each_part_fails_and_a_beginning_of_the_image_stands(rt: HostRuntime) {
-    let mut whole = [1u8; 14336];
-    assert!(rt; pack_five(&mut whole) == Ok(Packed { bytes: 14336 }));
-    // Asks of 1,000 bytes, for the id and for the bytes.
-    for (failing, asks) in [(0, 3u64), (1, 1), (2, 0), (3, 1), (4, 3)] {
-        for (is_id, times) in [(true, 1u64), (false, 2)] {
-            let (fault, calls) = packing_fails(&rt, is_id, failing, 0, &whole);
-            assert!(rt; fault.is_none());
-            assert!(rt; calls == asks.saturating_mul(times));
-            for n in 1..calls.saturating_add(1) {
-                let (fault, had) = packing_fails(&rt, is_id, failing, n, &whole);
-                assert!(rt; fault == Some(SectionFault::Read(DeviceFault::Failed)));
-                assert!(rt; had == n);
-            }
-            let (fault, had) = packing_fails(&rt, is_id, failing, calls.saturating_add(1), &whole);
-            assert!(rt; fault.is_none());
-            assert!(rt; had == calls);
-        }
-    }
-}
-
-/// Packs the image of version 2 where call `n` of the output fails: the answer, and how many calls it had.
-fn output_fails<R: Abort>(rt: &R, n: u64, whole: &[u8; 14336]) -> (Option<SectionFault>, u64) {
-    let bytes = numbers();
-    let mut parts = [
-        SliceSource::new(&bytes),
-        SliceSource::new(front(&bytes, 1)),
-        SliceSource::new(&[]),
-        SliceSource::new(front(&bytes, 5)),
-        SliceSource::new(front(&bytes, 2049)),
-    ];
-    let mut room = [1u8; 14336];
-    let mut output = Faulty::new(SliceOutput::new(&mut room), n);
-    let mut w = Window::new();
-    let mut m = Meter::new();
-    let packed = pack_boot(&boot(2, 2048), &mut parts, &mut output, &mut w, &mut m);
-    let written = output.device.written();
-    assert!(rt; whole.starts_with(written));
-    assert!(rt; packed.is_err() || written.len() == 14336);
-    (packed.err(), output.seen)
-}
-
-#[test]
-fn each_write_of_an_image_fails_and_a_beginning_stands(rt: HostRuntime) {
-    let mut whole = [1u8; 14336];
-    assert!(rt; pack_five(&mut whole) == Ok(Packed { bytes: 14336 }));
-    let (fault, calls) = output_fails(&rt, 0, &whole);
-    assert!(rt; fault.is_none());
-    // The record, four parts, and the padding of each.
-    assert!(rt; calls == 10);
-    for n in 1..calls.saturating_add(1) {
-        let (fault, had) = output_fails(&rt, n, &whole);
-        assert!(rt; fault == Some(SectionFault::Write(DeviceFault::Failed)));
-        assert!(rt; had == n);
-    }
-    let (fault, had) = output_fails(&rt, calls.saturating_add(1), &whole);
-    assert!(rt; fault.is_none());
-    assert!(rt; had == calls);
-}
-
-/// Packs the vendor image of version 4 with two fragments where call `n` of part `failing` fails, or at 4 of the
-/// output: the answer, and how many calls that device had.
-fn vendor_fails<R: Abort>(
-    rt: &R,
-    failing: usize,
-    n: u64,
-    whole: &[u8; 20480],
-) -> (Option<SectionFault>, u64) {
-    let mut ramdisks = [
-        part(b"first", 0, failing, n),
-        part(b"second!", 1, failing, n),
-    ];
-    let mut dtb = part(b"d", 2, failing, n);
-    let mut bootconfig = part(b"bc", 3, failing, n);
-    let mut room = [1u8; 20480];
-    let mut output = Faulty::new(
-        SliceOutput::new(&mut room),
-        if failing == 4 { n } else { 0 },
-    );
-    let mut w = Window::new();
-    let mut m = Meter::new();
-    let packed = pack_vendor(
-        &vendor(4, 4096),
-        &[PLAIN, PLAIN],
-        &mut ramdisks,
-        &mut dtb,
-        &mut bootconfig,
+    let mut output = Faulty::new(SliceOutput::new(&mut room), at(5));
+    let spec = boot(2, 2048, &[], &[]);
+    let answer = pack_boot(
+        &spec,
+        &mut parts,
         &mut output,
-        &mut w,
-        &mut m,
+        &mut Window::new(),
+        &mut Meter::new(),
     );
-    let written = output.device.written();
-    assert!(rt; whole.starts_with(written));
-    assert!(rt; packed.is_err() || written.len() == 20480);
-    let seen = match failing {
-        2 => dtb.seen,
-        3 => bootconfig.seen,
-        4 => output.seen,
-        _ => ramdisks.get(failing).map_or(0, |ramdisk| ramdisk.seen),
-    };
-    (packed.err(), seen)
+    assert!(rt; whole.starts_with(output.device.written()));
+    let seen = parts.get(failing).map_or(output.seen, |part| part.seen);
+    (answer, seen)
 }
 
 #[test]
-fn each_call_of_packing_a_vendor_image_fails_and_a_beginning_stands(rt: HostRuntime) {
-    let mut whole = [1u8; 20480];
-    assert!(rt; pack_four(4096, &mut whole, &mut Window::new(), &mut Meter::new()).is_ok());
-    for failing in 0..5 {
-        let (fault, calls) = vendor_fails(&rt, failing, 0, &whole);
-        assert!(rt; fault.is_none());
-        // A part is read once, and an image has more than its record and five parts written.
-        assert!(rt; if failing == 4 { calls > 6 } else { calls == 1 });
-        for n in 1..calls.saturating_add(1) {
-            let (fault, had) = vendor_fails(&rt, failing, n, &whole);
-            let want = if failing == 4 {
-                SectionFault::Write(DeviceFault::Failed)
+fn each_call_of_packing_fails_and_a_beginning_of_the_image_stands(rt: HostRuntime) {
+    let mut whole = [1u8; 14336];
+    assert!(rt; pack_five(&mut whole) == Ok(Packed { bytes: 14336 }));
+    // Reads of 1,000 bytes, for the id and for the bytes; each of the second ones is written, and the record, and padding.
+    for (failing, calls) in [(0, 6u64), (1, 2), (2, 0), (3, 2), (4, 6), (5, 14)] {
+        let failed = if failing == 5 {
+            SectionFault::Write(DeviceFault::Failed)
+        } else {
+            SectionFault::Read(DeviceFault::Failed)
+        };
+        for n in 0..calls.saturating_add(2) {
+            let (answer, seen) = packed(&rt, failing, n, &whole);
+            let is_whole = n == 0 || n > calls;
+            let want = if is_whole {
+                Ok(Packed { bytes: 14336 })
             } else {
-                SectionFault::Read(DeviceFault::Failed)
+                Err(failed)
             };
-            assert!(rt; fault == Some(want));
-            assert!(rt; had == n);
+            assert!(rt; answer == want, "device {failing}, call {n}");
+            assert!(rt;
+                seen == (if is_whole { calls } else { n }),
+                "device {failing}, call {n}"
+            );
         }
-        let (fault, had) = vendor_fails(&rt, failing, calls.saturating_add(1), &whole);
-        assert!(rt; fault.is_none());
-        assert!(rt; had == calls);
     }
 }
 
 /// Unpacks section `i` where a call of each device fails, at 0 none; each moves little in a call. What was written is a
 /// beginning of the part. The answer, and how many calls each device had.
-fn unpacking_fails<R: Abort>(
+fn unpacked<R: Abort>(
     rt: &R,
     image: &Image,
     i: usize,
     bytes: &[u8; 14336],
     read: u64,
     write: u64,
-) -> (Option<SectionFault>, u64, u64) {
+) -> (Result<(), SectionFault>, u64, u64) {
     let part = numbers();
-    let size = FIVE.get(i).copied().unwrap_or(0);
     let mut room = [1u8; 3001];
     let mut source = Faulty::new(Cut::new(SliceSource::new(bytes), 1000), read);
     let mut output = Faulty::new(Cut::new(SliceOutput::new(&mut room), 700), write);
-    let mut w = Window::new();
-    let mut m = Meter::new();
     if i >= sections(image) {
-        return (None, 0, 0);
+        return (Err(SectionFault::SourceChanged), 0, 0);
     }
-    let done = unpack(image, i, &mut source, &mut output, &mut w, &mut m);
+    let (mut w, mut m) = (Window::new(), Meter::new());
+    let answer = unpack(image, i, &mut source, &mut output, &mut w, &mut m);
     let written = output.device.device.written();
+    let size = FIVE.get(i).copied().unwrap_or(0);
     assert!(rt; front(&part, size).starts_with(written));
-    assert!(rt; done.is_err() || written.len() == size);
-    (done.err(), source.seen, output.seen)
+    assert!(rt; answer.is_err() || written.len() == size);
+    (answer, source.seen, output.seen)
 }
 
 #[test]
 fn each_call_of_unpacking_each_section_fails_and_a_beginning_of_it_stands(rt: HostRuntime) {
     let mut bytes = [1u8; 14336];
     assert!(rt; pack_five(&mut bytes) == Ok(Packed { bytes: 14336 }));
-    let image = opened(&rt, &bytes, &mut Window::new(), &mut Meter::new());
-    assert!(rt; sections(&image) == 5);
+    let mut source = SliceSource::new(&bytes);
+    let image = open(&mut source, &mut Window::new(), &mut Meter::new()).expect(&rt, "opens");
     // Reads of 1,000 bytes, each written by 700.
     for (i, reads, writes) in [(0, 3u64, 6u64), (1, 1, 1), (2, 0, 0), (3, 1, 1), (4, 3, 5)] {
-        let (fault, had_reads, had_writes) = unpacking_fails(&rt, &image, i, &bytes, 0, 0);
-        assert!(rt; fault.is_none());
-        assert!(rt; had_reads == reads, "section {i}");
-        assert!(rt; had_writes == writes, "section {i}");
-        for n in 1..reads.saturating_add(1) {
-            let (fault, had, _) = unpacking_fails(&rt, &image, i, &bytes, n, 0);
-            assert!(rt; fault == Some(SectionFault::Read(DeviceFault::Failed)));
-            assert!(rt; had == n);
+        for n in 1..reads.saturating_add(2) {
+            let (answer, seen, _) = unpacked(&rt, &image, i, &bytes, n, 0);
+            let failed = Err(SectionFault::Read(DeviceFault::Failed));
+            assert!(rt;
+                answer == (if n > reads { Ok(()) } else { failed }),
+                "section {i}"
+            );
+            assert!(rt; seen == n.min(reads), "section {i}");
         }
-        for n in 1..writes.saturating_add(1) {
-            let (fault, _, had) = unpacking_fails(&rt, &image, i, &bytes, 0, n);
-            assert!(rt; fault == Some(SectionFault::Write(DeviceFault::Failed)));
-            assert!(rt; had == n);
+        for n in 1..writes.saturating_add(2) {
+            let (answer, _, seen) = unpacked(&rt, &image, i, &bytes, 0, n);
+            let failed = Err(SectionFault::Write(DeviceFault::Failed));
+            assert!(rt;
+                answer == (if n > writes { Ok(()) } else { failed }),
+                "section {i}"
+            );
+            assert!(rt; seen == n.min(writes), "section {i}");
         }
-        let (fault, had_reads, had_writes) = unpacking_fails(
-            &rt,
-            &image,
-            i,
-            &bytes,
-            reads.saturating_add(1),
-            writes.saturating_add(1),
-        );
-        assert!(rt; fault.is_none());
-        assert!(rt; (had_reads, had_writes) == (reads, writes));
     }
 }
 
-/// What reads an image without writing it out.
-#[derive(Clone, Copy, Drop)]
-enum Reading {
-    Open,
-    Check,
-    Fragment,
-}
-
-/// Opens, checks or reads the second fragment's entry of a vendor image where call `n` of the source fails: the answer,
-/// and how many calls it had.
-fn reading_fails(
-    reading: Reading,
-    image: &Image,
-    bytes: &[u8; 20480],
-    n: u64,
-) -> (Option<SectionFault>, u64) {
-    let mut source = Faulty::new(Cut::new(SliceSource::new(bytes), 1000), n);
-    let mut w = Window::new();
-    let mut m = Meter::new();
-    let fault = match reading {
-        Reading::Open => open(&mut source, &mut w, &mut m).err(),
-        Reading::Check => check(image, &mut source, &mut w, &mut m).err(),
-        Reading::Fragment => {
-            if fragments(image) == 2 {
-                fragment(image, 1, &mut source, &mut w, &mut m).err()
-            } else {
-                None
-            }
-        }
-    };
-    (fault, source.seen)
+/// Packs the vendor image of version 4 with two fragments where a read of the second fails, or a write of the output;
+/// at 0 none does.
+fn vendor_packed(read: u64, write: u64, room: &mut [u8]) -> Result<Packed, SectionFault> {
+    let mut ramdisks = [part(b"first", 0), part(b"second!", read)];
+    let mut dtb = part(b"d", 0);
+    let mut bootconfig = part(b"bc", 0);
+    let mut output = Faulty::new(SliceOutput::new(room), write);
+    let spec = vendor(4, 4096);
+    let fragments = [PLAIN, PLAIN];
+    let (dtb, bootconfig) = (&mut dtb, &mut bootconfig);
+    let (mut w, mut m) = (Window::new(), Meter::new());
+    pack_vendor(
+        &spec,
+        &fragments,
+        &mut ramdisks,
+        dtb,
+        bootconfig,
+        &mut output,
+        &mut w,
+        &mut m,
+    )
 }
 
 #[test]
-fn each_read_of_opening_checking_and_a_fragment_fails(rt: HostRuntime) {
-    let mut bytes = [1u8; 20480];
-    assert!(rt; pack_four(4096, &mut bytes, &mut Window::new(), &mut Meter::new()).is_ok());
-    let image = opened(&rt, &bytes, &mut Window::new(), &mut Meter::new());
-    assert!(rt; fragments(&image) == 2);
-    for (reading, few) in [
-        (Reading::Open, 3),
-        (Reading::Check, 5),
-        (Reading::Fragment, 1),
+fn a_call_of_packing_a_vendor_image_fails(rt: HostRuntime) {
+    let mut room = [1u8; 20480];
+    let read = Err(SectionFault::Read(DeviceFault::Failed));
+    let write = Err(SectionFault::Write(DeviceFault::Failed));
+    for (n, k, want) in [
+        (0, 0, Ok(Packed { bytes: 20480 })),
+        (1, 0, read),
+        (0, 4, write),
     ] {
-        let (fault, calls) = reading_fails(reading, &image, &bytes, 0);
-        assert!(rt; fault.is_none());
-        assert!(rt; calls >= few);
-        for n in 1..calls.saturating_add(1) {
-            let (fault, had) = reading_fails(reading, &image, &bytes, n);
-            assert!(rt; fault == Some(SectionFault::Read(DeviceFault::Failed)));
-            assert!(rt; had == n);
-        }
-        let (fault, had) = reading_fails(reading, &image, &bytes, calls.saturating_add(1));
-        assert!(rt; fault.is_none());
-        assert!(rt; had == calls);
+        assert!(rt; vendor_packed(n, k, &mut room) == want);
     }
 }
 
-/// Unpacks the second fragment where a call of each device fails, at 0 none: the answer, and how many calls each had.
-fn fragment_fails<R: Abort>(
-    rt: &R,
-    image: &Image,
-    bytes: &[u8; 20480],
-    read: u64,
-    write: u64,
-) -> (Option<SectionFault>, u64, u64) {
+/// What fails where call `n` of the source fails: opening, checking, the second fragment's entry, and its bytes.
+fn reading_fails(image: &Image, bytes: &[u8; 20480], n: u64) -> [Option<SectionFault>; 4] {
     let mut room = [1u8; 8];
-    let mut source = Faulty::new(Cut::new(SliceSource::new(bytes), 5), read);
-    let mut output = Faulty::new(Cut::new(SliceOutput::new(&mut room), 3), write);
-    let mut w = Window::new();
-    let mut m = Meter::new();
+    let mut output = SliceOutput::new(&mut room);
+    let (mut w, mut m) = (Window::new(), Meter::new());
+    let opening = open(&mut part(bytes, n), &mut w, &mut m).err();
+    let checking = check(image, &mut part(bytes, n), &mut w, &mut m).err();
     if fragments(image) != 2 {
-        return (None, 0, 0);
+        return [opening, checking, None, None];
     }
-    let done = unpack_fragment(image, 1, &mut source, &mut output, &mut w, &mut m);
-    let written = output.device.device.written();
-    assert!(rt; b"second!".starts_with(written));
-    assert!(rt; done.is_err() || written.len() == 7);
-    (done.err(), source.seen, output.seen)
+    let entry = fragment(image, 1, &mut part(bytes, n), &mut w, &mut m).err();
+    let unpacking = unpack_fragment(image, 1, &mut part(bytes, n), &mut output, &mut w, &mut m);
+    [opening, checking, entry, unpacking.err()]
 }
 
 #[test]
-fn each_call_of_unpacking_a_fragment_fails_and_a_beginning_of_it_stands(rt: HostRuntime) {
+fn a_read_of_opening_checking_and_a_fragment_fails(rt: HostRuntime) {
     let mut bytes = [1u8; 20480];
-    assert!(rt; pack_four(4096, &mut bytes, &mut Window::new(), &mut Meter::new()).is_ok());
-    let image = opened(&rt, &bytes, &mut Window::new(), &mut Meter::new());
-    let (fault, reads, writes) = fragment_fails(&rt, &image, &bytes, 0, 0);
-    assert!(rt; fault.is_none());
-    // Its entry of 108 bytes, and its seven bytes; these are written in threes.
-    assert!(rt; (reads, writes) == (22 + 2, 3));
-    for n in 1..reads.saturating_add(1) {
-        let (fault, had, _) = fragment_fails(&rt, &image, &bytes, n, 0);
-        assert!(rt; fault == Some(SectionFault::Read(DeviceFault::Failed)));
-        assert!(rt; had == n);
-    }
-    for n in 1..writes.saturating_add(1) {
-        let (fault, _, had) = fragment_fails(&rt, &image, &bytes, 0, n);
-        assert!(rt; fault == Some(SectionFault::Write(DeviceFault::Failed)));
-        assert!(rt; had == n);
-    }
-    let (fault, had_reads, had_writes) = fragment_fails(
-        &rt,
-        &image,
-        &bytes,
-        reads.saturating_add(1),
-        writes.saturating_add(1),
-    );
-    assert!(rt; fault.is_none());
-    assert!(rt; (had_reads, had_writes) == (reads, writes));
+    assert!(rt; pack_four(4096, &mut bytes).is_ok());
+    let mut source = SliceSource::new(&bytes);
+    let image = open(&mut source, &mut Window::new(), &mut Meter::new()).expect(&rt, "opens");
+    let failed = Some(SectionFault::Read(DeviceFault::Failed));
+    // An entry is read in one call, and a fragment in one more.
+    assert!(rt; reading_fails(&image, &bytes, 1) == [failed; 4]);
+    assert!(rt; reading_fails(&image, &bytes, 2) == [failed, failed, None, failed]);
+    assert!(rt; reading_fails(&image, &bytes, 0) == [None; 4]);
 }

@@ -2,11 +2,11 @@
 //!
 //! | file | what it shows |
 //! |---|---|
-//! | `records.rt` | the records at bytes that another program wrote, places, the order of faults |
-//! | `vectors.rt` | those bytes |
-//! | `samples.rt` | fields, parts and images that tests pack, here and in other crates of tests |
-//! | `opening.rt` | opening and checking an image that stands |
-//! | `images.rt` | whole images: packed, opened, checked and unpacked |
+//! | `vectors.rt` | records that another program wrote |
+//! | `records.rt` | these records as fields, places of sections, the order of faults, texts |
+//! | `samples.rt` | fields and parts that tests pack, and opening what stands |
+//! | `images.rt` | whole boot images: packed, opened, checked and unpacked |
+//! | `vendor_images.rt` | the same of vendor boot images |
 //! | `failing.rt` | one failing call at each place |
 //! | `once.rt` | packing that reads each part once, and what stands where it fails |
 //! | `changing.rt` | sources that change |
@@ -21,9 +21,10 @@ mod images;
 #[cfg(test)]
 mod once;
 #[cfg(test)]
-mod opening;
-#[cfg(test)]
 mod records;
-pub mod samples;
+#[cfg(test)]
+mod samples;
 #[cfg(test)]
 mod vectors;
+#[cfg(test)]
+mod vendor_images;

@@ -1,55 +1,50 @@
 //! What no clause says: bytes that another program wrote, examples of each layout with places
 //! worked out by hand, the order of faults on real lengths, and texts.
 
+use crate::samples::front;
 use crate::vectors;
 use abt_headers::{
-    BootFront, BootHeader, DtbFields, DtboFields, HeaderFault, OsParts, OsVersion, PageSize,
+    BootFront, BootHeader, DtbFields, DtboFields, HeaderFault, OsParts, OsVersion, PageSize, Place,
     RamdiskEntry, Section, Sections, ShortFront, VendorFront, VendorHeader, VendorTail, boot_again,
     boot_long, entry_again, entry_long, front_decides, pages, vendor_again, vendor_front_decides,
     vendor_long,
 };
-use std::process::Abort;
 use std::test::Fail;
 
 /// A record of `N` bytes with these runs of bytes, and zeros between them.
-fn record<const N: usize>(rt: &impl Abort, runs: &[(usize, &[u8])]) -> [u8; N] {
+fn record<const N: usize>(runs: &[(usize, &[u8])]) -> [u8; N] {
     let mut record = [0; N];
-    let bytes = &mut record[..];
     for (place, run) in runs {
-        assert!(rt; *place <= bytes.len() && run.len() <= bytes.len() - *place);
-        bytes[*place..*place + run.len()].copy_from_slice(run);
+        for (cell, byte) in record.iter_mut().skip(*place).zip(run.iter()) {
+            *cell = *byte;
+        }
     }
     record
 }
 
 /// A text field: the text, and then zeros.
-fn text<const N: usize>(rt: &impl Abort, text: &[u8]) -> [u8; N] {
-    record(rt, &[(0, text)])
+fn text<const N: usize>(text: &[u8]) -> [u8; N] {
+    record(&[(0, text)])
 }
 
-/// The record decodes to this header, and the header encodes to the record.
-fn decodes_to(rt: &impl Abort, record: &[u8], header: &BootHeader) {
-    assert!(rt; BootHeader::decode(record) == Ok(*header));
+/// The record decodes to this header, which encodes to the record.
+fn decodes_to(record: &[u8], header: &BootHeader) -> bool {
     let mut out = [0xee; 1660];
     let size = header.encode(&mut out);
-    assert!(rt; size == record.len());
-    assert!(rt; size == header.size());
-    for (i, byte) in out.iter().enumerate() {
-        let want = record.get(i).copied().unwrap_or(0xee);
-        assert!(rt; *byte == want, "at {i}");
-    }
+    BootHeader::decode(record) == Ok(*header)
+        && size == header.size()
+        && record == front(&out, size)
+        && out.ends_with(front(&[0xee; 80], 1660usize.saturating_sub(size)))
 }
 
-fn decodes_to_vendor(rt: &impl Abort, record: &[u8], header: &VendorHeader) {
-    assert!(rt; VendorHeader::decode(record) == Ok(*header));
+/// The same of a vendor boot header.
+fn decodes_to_vendor(record: &[u8], header: &VendorHeader) -> bool {
     let mut out = [0xee; 2128];
     let size = header.encode(&mut out);
-    assert!(rt; size == record.len());
-    assert!(rt; size == header.size());
-    for (i, byte) in out.iter().enumerate() {
-        let want = record.get(i).copied().unwrap_or(0xee);
-        assert!(rt; *byte == want, "at {i}");
-    }
+    VendorHeader::decode(record) == Ok(*header)
+        && size == header.size()
+        && record == front(&out, size)
+        && out.ends_with(front(&[0xee; 16], 2128usize.saturating_sub(size)))
 }
 
 #[test]
@@ -65,12 +60,12 @@ fn the_boot_0_record_of_mkbootimg_is_read(rt: HostRuntime) -> Result<(), Fail> {
         tags_addr: 0x1000_0100,
         page_size: PageSize::Of2048,
         os_version: OsVersion::new(13, 0, 0, 2023, 5)?,
-        name: text(&rt, b"board0"),
-        cmdline: text(&rt, b"console=ttyS0 quiet"),
-        id: text(&rt, id),
+        name: text(b"board0"),
+        cmdline: text(b"console=ttyS0 quiet"),
+        id: text(id),
         extra_cmdline: [0; 1024],
     });
-    decodes_to(&rt, &record::<1632>(&rt, &vectors::BOOT_0), &header);
+    assert!(rt; decodes_to(&record::<1632>(&vectors::BOOT_0), &header));
     assert!(rt; header.version() == 0);
     assert!(rt; header.page_size() == 2048);
     Ok(())
@@ -89,9 +84,9 @@ fn the_boot_1_record_of_mkbootimg_is_read(rt: HostRuntime) -> Result<(), Fail> {
         tags_addr: 0x1000_0100,
         page_size: PageSize::Of4096,
         os_version: OsVersion::new(9, 8, 7, 2018, 12)?,
-        name: text(&rt, b"board1"),
-        cmdline: text(&rt, b"androidboot.slot=a"),
-        id: text(&rt, id),
+        name: text(b"board1"),
+        cmdline: text(b"androidboot.slot=a"),
+        id: text(id),
         extra_cmdline: [0; 1024],
     };
     let dtbo = DtboFields {
@@ -100,7 +95,7 @@ fn the_boot_1_record_of_mkbootimg_is_read(rt: HostRuntime) -> Result<(), Fail> {
         header_size: 1648,
     };
     let header = BootHeader::V1(front, dtbo);
-    decodes_to(&rt, &record::<1648>(&rt, &vectors::BOOT_1), &header);
+    assert!(rt; decodes_to(&record::<1648>(&vectors::BOOT_1), &header));
     assert!(rt; header.version() == 1);
     assert!(rt; header.page_size() == 4096);
     Ok(())
@@ -119,9 +114,9 @@ fn the_boot_2_record_of_mkbootimg_is_read(rt: HostRuntime) -> Result<(), Fail> {
         tags_addr: 0x1000_0100,
         page_size: PageSize::Of16384,
         os_version: OsVersion::new(127, 127, 127, 2127, 11)?,
-        name: text(&rt, b"fifteen_letters"),
-        cmdline: text(&rt, b"loglevel=4"),
-        id: text(&rt, id),
+        name: text(b"fifteen_letters"),
+        cmdline: text(b"loglevel=4"),
+        id: text(id),
         extra_cmdline: [0; 1024],
     };
     let dtbo = DtboFields {
@@ -134,7 +129,7 @@ fn the_boot_2_record_of_mkbootimg_is_read(rt: HostRuntime) -> Result<(), Fail> {
         dtb_addr: 0x1_11f0_0000,
     };
     let header = BootHeader::V2(front, dtbo, dtb);
-    decodes_to(&rt, &record::<1660>(&rt, &vectors::BOOT_2), &header);
+    assert!(rt; decodes_to(&record::<1660>(&vectors::BOOT_2), &header));
     assert!(rt; header.version() == 2);
     assert!(rt; header.page_size() == 16384);
     Ok(())
@@ -149,9 +144,9 @@ fn the_boot_3_record_of_mkbootimg_is_read(rt: HostRuntime) -> Result<(), Fail> {
         os_version: OsVersion::new(11, 0, 0, 2020, 9)?,
         header_size: 1596,
         reserved: [0; 16],
-        cmdline: text(&rt, b"init=/init"),
+        cmdline: text(b"init=/init"),
     });
-    decodes_to(&rt, &record::<1580>(&rt, &vectors::BOOT_3), &header);
+    assert!(rt; decodes_to(&record::<1580>(&vectors::BOOT_3), &header));
     assert!(rt; header.version() == 3);
     assert!(rt; header.page_size() == 4096);
     Ok(())
@@ -164,20 +159,25 @@ fn the_vendor_3_record_of_mkbootimg_is_read(rt: HostRuntime) {
         kernel_addr: 0x1000_8000,
         ramdisk_addr: 0x1100_0000,
         vendor_ramdisk_size: 18,
-        cmdline: text(&rt, b"firmware_class.path=/vendor"),
+        cmdline: text(b"firmware_class.path=/vendor"),
         tags_addr: 0x1000_0100,
-        name: text(&rt, b"board3"),
+        name: text(b"board3"),
         header_size: 2108,
         dtb_size: 11,
         dtb_addr: 0x11f0_0000,
     });
-    decodes_to_vendor(&rt, &record::<2112>(&rt, &vectors::VENDOR_3), &header);
+    assert!(rt; decodes_to_vendor(&record::<2112>(&vectors::VENDOR_3), &header));
     assert!(rt; header.version() == 3);
     assert!(rt; header.page_size() == 2048);
 }
 
 /// A boot header of versions 0 to 2 with these sizes.
-fn front(page_size: PageSize, kernel_size: u32, ramdisk_size: u32, second_size: u32) -> BootFront {
+fn boot_front(
+    page_size: PageSize,
+    kernel_size: u32,
+    ramdisk_size: u32,
+    second_size: u32,
+) -> BootFront {
     BootFront {
         kernel_size,
         kernel_addr: 0,
@@ -230,32 +230,37 @@ fn vendor_front(page_size: PageSize, vendor_ramdisk_size: u32, dtb_size: u32) ->
 }
 
 /// The sections are these, at these places.
-fn stand_at(rt: &impl Abort, sections: &Sections, places: &[(Section, u64, u32)]) {
-    assert!(rt; sections.count() == places.len());
-    for (i, (kind, at, size)) in places.iter().copied().enumerate() {
-        assert!(rt; i < sections.count());
-        let place = sections.place(i);
-        assert!(rt; place.kind == kind);
-        assert!(rt; place.at == at, "of {kind}");
-        assert!(rt; place.size == size);
+fn stand_at(sections: &Sections, places: &[(Section, u64, u32)]) -> bool {
+    for (i, (kind, at, size)) in places.iter().enumerate() {
+        if i >= sections.count()
+            || sections.place(i)
+                != (Place {
+                    kind: *kind,
+                    at: *at,
+                    size: *size,
+                })
+        {
+            return false;
+        }
     }
+    sections.count() == places.len()
 }
 
 #[test]
 fn sections_of_a_boot_image_stand_at_page_boundaries(rt: HostRuntime) {
-    let one = BootHeader::V0(front(PageSize::Of2048, 1, 0, 0));
+    let one = BootHeader::V0(boot_front(PageSize::Of2048, 1, 0, 0));
     let places = [
         (Section::Kernel, 2048, 1),
         (Section::Ramdisk, 4096, 0),
         (Section::Second, 4096, 0),
     ];
-    stand_at(&rt, &one.sections(), &places);
+    assert!(rt; stand_at(&one.sections(), &places));
 
     let dtb = DtbFields {
         dtb_size: 2049,
         dtb_addr: 0,
     };
-    let five = BootHeader::V2(front(PageSize::Of2048, 3000, 1, 0), dtbo(5), dtb);
+    let five = BootHeader::V2(boot_front(PageSize::Of2048, 3000, 1, 0), dtbo(5), dtb);
     let places = [
         (Section::Kernel, 2048, 3000),
         (Section::Ramdisk, 6144, 1),
@@ -263,7 +268,7 @@ fn sections_of_a_boot_image_stand_at_page_boundaries(rt: HostRuntime) {
         (Section::RecoveryDtbo, 8192, 5),
         (Section::Dtb, 10240, 2049),
     ];
-    stand_at(&rt, &five.sections(), &places);
+    assert!(rt; stand_at(&five.sections(), &places));
 
     // A size that is a whole number of pages takes no page more.
     let whole = BootHeader::V3(short_front(8192, 4096));
@@ -271,7 +276,7 @@ fn sections_of_a_boot_image_stand_at_page_boundaries(rt: HostRuntime) {
         (Section::Kernel, 4096, 8192),
         (Section::Ramdisk, 12288, 4096),
     ];
-    stand_at(&rt, &whole.sections(), &places);
+    assert!(rt; stand_at(&whole.sections(), &places));
 
     let init_boot = BootHeader::V4(short_front(0, 5), 3);
     let places = [
@@ -279,20 +284,20 @@ fn sections_of_a_boot_image_stand_at_page_boundaries(rt: HostRuntime) {
         (Section::Ramdisk, 4096, 5),
         (Section::Signature, 8192, 3),
     ];
-    stand_at(&rt, &init_boot.sections(), &places);
+    assert!(rt; stand_at(&init_boot.sections(), &places));
 }
 
 #[test]
 fn places_may_lie_above_32_bits(rt: HostRuntime) {
     let most = u32::MAX;
-    let large = BootHeader::V1(front(PageSize::Of131072, most, most, most), dtbo(most));
+    let large = BootHeader::V1(boot_front(PageSize::Of131072, most, most, most), dtbo(most));
     let places = [
         (Section::Kernel, 131_072, most),
         (Section::Ramdisk, 4_295_098_368, most),
         (Section::Second, 8_590_065_664, most),
         (Section::RecoveryDtbo, 12_885_032_960, most),
     ];
-    stand_at(&rt, &large.sections(), &places);
+    assert!(rt; stand_at(&large.sections(), &places));
 }
 
 #[test]
@@ -300,7 +305,7 @@ fn sections_of_a_vendor_image_stand_at_page_boundaries(rt: HostRuntime) {
     // The header takes two pages.
     let three = VendorHeader::V3(vendor_front(PageSize::Of2048, 10, 3));
     let places = [(Section::VendorRamdisk, 4096, 10), (Section::Dtb, 6144, 3)];
-    stand_at(&rt, &three.sections(), &places);
+    assert!(rt; stand_at(&three.sections(), &places));
 
     let tail = VendorTail {
         table_size: 216,
@@ -315,7 +320,7 @@ fn sections_of_a_vendor_image_stand_at_page_boundaries(rt: HostRuntime) {
         (Section::Table, 12288, 216),
         (Section::Bootconfig, 16384, 2),
     ];
-    stand_at(&rt, &four.sections(), &places);
+    assert!(rt; stand_at(&four.sections(), &places));
     assert!(rt; four.version() == 4);
     assert!(rt; four.page_size() == 4096);
 
@@ -326,7 +331,7 @@ fn sections_of_a_vendor_image_stand_at_page_boundaries(rt: HostRuntime) {
         (Section::Table, 8192, 216),
         (Section::Bootconfig, 10240, 2),
     ];
-    stand_at(&rt, &small_pages.sections(), &places);
+    assert!(rt; stand_at(&small_pages.sections(), &places));
 
     let none = VendorTail {
         table_size: 0,
@@ -341,115 +346,124 @@ fn sections_of_a_vendor_image_stand_at_page_boundaries(rt: HostRuntime) {
         (Section::Table, 4096, 0),
         (Section::Bootconfig, 4096, 0),
     ];
-    stand_at(&rt, &empty.sections(), &places);
+    assert!(rt; stand_at(&empty.sections(), &places));
 }
 
-/// Of these bytes and this `header_version`, the first `length` are refused for this fault.
-fn refuses(rt: &impl Abort, bytes: &[u8; 1660], length: usize, fault: HeaderFault) {
-    assert!(rt; length <= 1660);
-    assert!(rt; BootHeader::decode(&bytes[..length]) == Err(fault));
-}
+/// A record's magic, its version, its page, how many bytes come, and why that is refused.
+type Refusal = (&'static [u8], u32, u32, usize, HeaderFault);
+
+#[rattlefmt::skip]
+const REFUSALS: [Refusal; 30] = [
+    (b"ANDROID!", 0, 0, 7, HeaderFault::Short { need: 8 }),
+    (b"ANDROID!", 0, 0, 43, HeaderFault::Short { need: 44 }),
+    (b"ANDROID!", 0, 0, 44, HeaderFault::Short { need: 1632 }),
+    (b"ANDROID!", 0, 0, 1631, HeaderFault::Short { need: 1632 }),
+    (b"ANDROID!", 1, 0, 44, HeaderFault::Short { need: 1648 }),
+    (b"ANDROID!", 1, 0, 1647, HeaderFault::Short { need: 1648 }),
+    (b"ANDROID!", 2, 0, 44, HeaderFault::Short { need: 1660 }),
+    (b"ANDROID!", 2, 0, 1659, HeaderFault::Short { need: 1660 }),
+    (b"ANDROID!", 3, 0, 44, HeaderFault::Short { need: 1580 }),
+    (b"ANDROID!", 3, 0, 1579, HeaderFault::Short { need: 1580 }),
+    (b"ANDROID!", 4, 0, 44, HeaderFault::Short { need: 1584 }),
+    (b"ANDROID!", 4, 0, 1583, HeaderFault::Short { need: 1584 }),
+    (b"ANDROID!", 5, 0, 44, HeaderFault::Version(5)),
+    (b"ANDROID!", 0x0100_0005, 0, 1660, HeaderFault::Version(0x0100_0005)),
+    (b"ANDROID!", 0, 0, 1632, HeaderFault::PageSize(0)),
+    (b"ANDROID!", 0, 1, 1632, HeaderFault::PageSize(1)),
+    (b"ANDROID!", 0, 1024, 1632, HeaderFault::PageSize(1024)),
+    (b"ANDROID!", 0, 2047, 1632, HeaderFault::PageSize(2047)),
+    (b"ANDROID!", 0, 3000, 1632, HeaderFault::PageSize(3000)),
+    (b"ANDROID!", 2, 4097, 1660, HeaderFault::PageSize(4097)),
+    (b"ANDROID!", 0, 262_144, 1632, HeaderFault::PageSize(262_144)),
+    (b"ANDROID!", 0, 0x8000_0800, 1632, HeaderFault::PageSize(0x8000_0800)),
+    (b"ANDROIDX", 0, 0, 7, HeaderFault::Short { need: 8 }),
+    (b"ANDROIDX", 0, 0, 8, HeaderFault::Magic),
+    (b"ANDROIDX", 5, 0, 1660, HeaderFault::Magic),
+    (b"VNDRBOOT", 3, 2048, 1660, HeaderFault::Magic),
+    (b"", 0, 0, 0, HeaderFault::Short { need: 8 }),
+    (b"", 0, 0, 8, HeaderFault::Magic),
+    (b"", 5, 0, 44, HeaderFault::Magic),
+    (b"", 0, 2048, 1660, HeaderFault::Magic),
+];
 
 #[test]
 fn a_boot_record_is_refused_for_its_first_fault(rt: HostRuntime) {
-    let mut bytes = record::<1660>(&rt, &[(0, b"ANDROID!")]);
-    refuses(&rt, &bytes, 7, HeaderFault::Short { need: 8 });
-    refuses(&rt, &bytes, 43, HeaderFault::Short { need: 44 });
-    for (version, size) in [(0, 1632), (1, 1648), (2, 1660), (3, 1580), (4, 1584)] {
-        bytes[40] = version;
-        let fault = HeaderFault::Short { need: size };
-        refuses(&rt, &bytes, 44, fault);
-        refuses(&rt, &bytes, size as usize - 1, fault);
+    for (magic, version, page, long, fault) in REFUSALS {
+        let (version, page) = (version.to_le_bytes(), page.to_le_bytes());
+        let bytes = record::<1660>(&[(0, magic), (36, &page), (40, &version)]);
+        assert!(rt;
+            BootHeader::decode(front(&bytes, long)) == Err(fault),
+            "{fault}"
+        );
     }
-    bytes[40] = 5;
-    refuses(&rt, &bytes, 44, HeaderFault::Version(5));
-    bytes[43] = 1;
-    refuses(&rt, &bytes, 1660, HeaderFault::Version(0x0100_0005));
+}
 
-    let mut bytes = record::<1660>(&rt, &[(0, b"ANDROIDX")]);
-    refuses(&rt, &bytes, 7, HeaderFault::Short { need: 8 });
-    refuses(&rt, &bytes, 8, HeaderFault::Magic);
-    bytes[40] = 5;
-    refuses(&rt, &bytes, 1660, HeaderFault::Magic);
+#[rattlefmt::skip]
+const VENDOR_REFUSALS: [Refusal; 10] = [
+    (b"VNDRBOOT", 3, 2048, 7, HeaderFault::Short { need: 8 }),
+    (b"VNDRBOOT", 3, 2048, 11, HeaderFault::Short { need: 12 }),
+    (b"VNDRBOOT", 0, 2048, 12, HeaderFault::Version(0)),
+    (b"VNDRBOOT", 2, 2048, 12, HeaderFault::Version(2)),
+    (b"VNDRBOOT", 5, 2048, 12, HeaderFault::Version(5)),
+    (b"VNDRBOOT", 3, 0, 2111, HeaderFault::Short { need: 2112 }),
+    (b"VNDRBOOT", 3, 0, 2112, HeaderFault::PageSize(0)),
+    (b"VNDRBOOT", 4, 0, 2127, HeaderFault::Short { need: 2128 }),
+    (b"VNDRBOOT", 4, 0, 2128, HeaderFault::PageSize(0)),
+    (b"ANDROID!", 3, 2048, 2128, HeaderFault::Magic),
+];
+
+#[test]
+fn a_vendor_record_is_refused_for_its_first_fault(rt: HostRuntime) {
+    for (magic, version, page, long, fault) in VENDOR_REFUSALS {
+        let (version, page) = (version.to_le_bytes(), page.to_le_bytes());
+        let bytes = record::<2128>(&[(0, magic), (8, &version), (12, &page)]);
+        assert!(rt;
+            VendorHeader::decode(front(&bytes, long)) == Err(fault),
+            "{fault}"
+        );
+    }
 }
 
 #[test]
 fn seven_page_sizes_are_accepted(rt: HostRuntime) {
-    let mut bytes = record::<1660>(&rt, &[(0, b"ANDROID!")]);
-    for page in [0u32, 1, 1024, 2047, 3000, 4097, 262_144, 0x8000_0800] {
-        bytes[36..40].copy_from_slice(&page.to_le_bytes());
-        refuses(&rt, &bytes, 1632, HeaderFault::PageSize(page));
-        assert!(rt; PageSize::from_bytes(page) == None);
-    }
     for page in [2048u32, 4096, 8192, 16384, 32768, 65536, 131_072] {
-        bytes[36..40].copy_from_slice(&page.to_le_bytes());
-        match BootHeader::decode(&bytes) {
-            Ok(header) => assert!(rt; header.page_size() == page),
-            Err(fault) => assert!(rt; false, "{fault}"),
-        }
+        let bytes = record::<1660>(&[(0, b"ANDROID!"), (36, &page.to_le_bytes())]);
+        let header = BootHeader::decode(&bytes);
+        assert!(rt;
+            header.is_ok_and(|header| header.page_size() == page),
+            "{page}"
+        );
     }
+    assert!(rt; PageSize::from_bytes(3000) == None);
     assert!(rt; pages(0, 2048) == 0);
     assert!(rt; pages(2048, 2048) == 1);
     assert!(rt; pages(2049, 2048) == 2);
     assert!(rt; pages(u64::MAX, 2) == 0x8000_0000_0000_0000);
 }
 
-/// The first `length` of these bytes are refused for this fault.
-fn refuses_vendor(rt: &impl Abort, bytes: &[u8; 2128], length: usize, fault: HeaderFault) {
-    assert!(rt; length <= 2128);
-    assert!(rt; VendorHeader::decode(&bytes[..length]) == Err(fault));
-}
-
-#[test]
-fn a_vendor_record_is_refused_for_its_first_fault(rt: HostRuntime) {
-    let mut bytes = record::<2128>(&rt, &[(0, b"VNDRBOOT")]);
-    refuses_vendor(&rt, &bytes, 7, HeaderFault::Short { need: 8 });
-    refuses_vendor(&rt, &bytes, 11, HeaderFault::Short { need: 12 });
-    refuses_vendor(&rt, &bytes, 12, HeaderFault::Version(0));
-    bytes[8] = 2;
-    refuses_vendor(&rt, &bytes, 12, HeaderFault::Version(2));
-    bytes[8] = 5;
-    refuses_vendor(&rt, &bytes, 12, HeaderFault::Version(5));
-    bytes[8] = 3;
-    refuses_vendor(&rt, &bytes, 2111, HeaderFault::Short { need: 2112 });
-    refuses_vendor(&rt, &bytes, 2112, HeaderFault::PageSize(0));
-    bytes[8] = 4;
-    refuses_vendor(&rt, &bytes, 2127, HeaderFault::Short { need: 2128 });
-    refuses_vendor(&rt, &bytes, 2128, HeaderFault::PageSize(0));
-
-    let boot = record::<2128>(&rt, &[(0, b"ANDROID!")]);
-    refuses_vendor(&rt, &boot, 2128, HeaderFault::Magic);
-}
-
-/// A vendor boot header of version 4 with these numbers for its table.
-fn with_table(rt: &impl Abort, size: u32, entries: u32, entry_size: u32) -> [u8; 2128] {
-    let front: &[u8] = b"VNDRBOOT\x04\x00\x00\x00\x00\x08";
+/// A vendor boot header of version 4 with these numbers for its table: its length, how many entries, the length of one.
+fn with_table(size: u32, entries: u32, entry_size: u32) -> [u8; 2128] {
     let size = size.to_le_bytes();
     let entries = entries.to_le_bytes();
     let entry_size = entry_size.to_le_bytes();
-    record(
-        rt,
-        &[
-            (0, front),
-            (2112, &size),
-            (2116, &entries),
-            (2120, &entry_size),
-        ],
-    )
+    record(&[
+        (0, b"VNDRBOOT\x04\x00\x00\x00\x00\x08"),
+        (2112, &size),
+        (2116, &entries),
+        (2120, &entry_size),
+    ])
 }
 
 #[test]
 fn a_table_has_whole_entries(rt: HostRuntime) {
-    let header = VendorHeader::V4(
-        vendor_front(PageSize::Of2048, 0, 0),
-        VendorTail {
-            table_size: 216,
-            entry_num: 2,
-            entry_size: 108,
-            bootconfig_size: 0,
-        },
-    );
-    decodes_to_vendor(&rt, &with_table(&rt, 216, 2, 108), &header);
+    let tail = VendorTail {
+        table_size: 216,
+        entry_num: 2,
+        entry_size: 108,
+        bootconfig_size: 0,
+    };
+    let header = VendorHeader::V4(vendor_front(PageSize::Of2048, 0, 0), tail);
+    assert!(rt; decodes_to_vendor(&with_table(216, 2, 108), &header));
     for (size, entries, entry_size) in [
         (216, 2, 107),
         (215, 2, 108),
@@ -458,22 +472,22 @@ fn a_table_has_whole_entries(rt: HostRuntime) {
         // 108 times this number of entries is 2^32 + 32.
         (32, 39_768_216, 108),
     ] {
-        let bytes = with_table(&rt, size, entries, entry_size);
-        refuses_vendor(&rt, &bytes, 2128, HeaderFault::Table);
+        let bytes = with_table(size, entries, entry_size);
+        assert!(rt;
+            VendorHeader::decode(&bytes) == Err(HeaderFault::Table),
+            "{size}"
+        );
     }
 }
 
 #[test]
 fn an_entry_of_a_ramdisk_table_is_read_and_written(rt: HostRuntime) {
-    let mut bytes = record::<108>(
-        &rt,
-        &[
-            (0, b"\x05\x00\x00\x00\x07\x00\x00\x01\x02"),
-            (12, b"recovery"),
-        ],
-    );
-    bytes[44] = 0x11;
-    bytes[107] = 0x22;
+    let bytes = record::<108>(&[
+        (0, b"\x05\x00\x00\x00\x07\x00\x00\x01\x02"),
+        (12, b"recovery"),
+        (44, b"\x11"),
+        (107, b"\x22"),
+    ]);
     let mut board_id = [0; 16];
     board_id[0] = 0x11;
     board_id[15] = 0x2200_0000;
@@ -481,7 +495,7 @@ fn an_entry_of_a_ramdisk_table_is_read_and_written(rt: HostRuntime) {
         ramdisk_size: 5,
         ramdisk_offset: 0x0100_0007,
         ramdisk_type: 2,
-        name: text(&rt, b"recovery"),
+        name: text(b"recovery"),
         board_id,
     };
     assert!(rt; RamdiskEntry::decode(&bytes) == entry);

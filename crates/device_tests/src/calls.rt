@@ -1,6 +1,6 @@
-//! Each call of a trait through its bound, and the counts, which take no bytes.
+//! Each call of a spool and of a partition through its bound, as the other files make it; counts take no bytes.
 
-ghost use Rattle.std.specs.Prelude.{◌≤◌, ◌+◌, ◌<◌, length};
+ghost use Rattle.std.specs.Prelude.{◌≤◌, length};
 
 use abt_io::*;
 use std::mem::size_of;
@@ -13,61 +13,59 @@ fn counts_take_no_bytes(rt: HostRuntime) {
     assert!(rt; size_of::<Meter>() == 0);
 }
 
-/// The fault of call `k`, where call `n` is the one that fails.
-pub(crate) fn fault_at(n: u64, k: u64) -> Option<DeviceFault> {
-    if n == k {
-        Some(DeviceFault::Failed)
-    } else {
-        None
-    }
-}
-
-/// How long a source says that it is.
-pub(crate) fn length_of<S: Source>(source: &S) -> u64 {
-    source.length()
-}
-
-/// How much a spool has room for.
-pub(crate) fn capacity_of<S: Spool>(spool: &S) -> u64 {
-    spool.capacity()
-}
-
-/// Empties a spool, writes to it and reads back.
-pub(crate) fn spool_calls<S: Spool>(
+/// Empties a spool, writes to it and reads back: how many bytes came.
+pub(crate) fn through_spool<S: Spool>(
     spool: &mut S,
     bytes: &[u8],
     out: &mut [u8],
-) -> (
-    Option<DeviceFault>,
-    Option<DeviceFault>,
-    Option<DeviceFault>,
-)
+) -> Result<usize, DeviceFault>
     requires bytes { length bytes.now ≤ 65536 }
     requires room { length out.old ≤ 65536 }
 {
-    let cleared = spool.clear();
-    let wrote = spool.write(bytes);
-    let read = spool.read(out);
-    (cleared.err(), wrote.err(), read.err())
+    spool.clear()?;
+    spool.write(bytes)?;
+    spool.read(out)
 }
 
-/// Writes to a partition, makes it last and reads it back.
-pub(crate) fn partition_calls<P: Partition>(
+/// Writes to a partition, makes it last and reads it back: how many bytes came. Full, where it is too short.
+pub(crate) fn through_partition<P: Partition>(
     partition: &mut P,
     at: u64,
     bytes: &[u8],
     out: &mut [u8],
-) -> (
-    Option<DeviceFault>,
-    Option<DeviceFault>,
-    Option<DeviceFault>,
-)
+) -> Result<usize, DeviceFault>
     requires bytes { length bytes.now ≤ 65536 }
     requires room { length out.old ≤ 65536 }
-    requires fits { at + length bytes.now ≤ P.size partition.old }
 {
-    let wrote = partition.write_at(at, bytes);
-    let synced = partition.sync();
-    let read = partition.read_at(at, out);
-    (wrote.err(), synced.err(), read.err())
+    let size = partition.length();
+    if at > size || bytes.len() as u64 > size - at {
+        return Err(DeviceFault::Full);
+    }
+    partition.write_at(at, bytes)?;
+    partition.sync()?;
+    partition.read_at(at, out)
+}
+
+#[test]
+fn a_spool_gives_back_what_it_took_and_is_emptied(rt: HostRuntime) {
+    let mut room = *b"....";
+    let mut out = *b"......";
+    let mut spool = Cut::new(SliceSpool::new(&mut room), 3);
+    assert!(rt; spool.capacity() == 4);
+    assert!(rt; through_spool(&mut spool, b"abc", &mut out) == Ok(3));
+    assert!(rt; through_spool(&mut spool, b"xy", &mut out) == Ok(2));
+    assert!(rt; out == *b"xyc...");
+}
+
+#[test]
+fn a_partition_is_written_at_a_place_and_read_back(rt: HostRuntime) {
+    let mut room = *b"......";
+    let mut out = *b"...";
+    {
+        let mut partition = SlicePartition::new(&mut room);
+        assert!(rt; partition.length() == 6);
+        assert!(rt; through_partition(&mut partition, 2, b"xyz", &mut out) == Ok(3));
+    }
+    assert!(rt; out == *b"xyz");
+    assert!(rt; room == *b"..xyz.");
 }

@@ -1,6 +1,7 @@
 //! The file devices, on real files in the folder where the tests run.
 
-use crate::calls::{capacity_of, length_of, partition_calls, spool_calls};
+use crate::calls::{through_partition, through_spool};
+use crate::overwriting::written_over;
 use abt_io::*;
 use std::fs;
 use std::fs::{File, OpenOptions};
@@ -21,14 +22,11 @@ fn a_file_is_read_at_any_place(rt: HostRuntime) -> Result<(), Fail> {
     let mut source = FileSource::new(File::open(&rt, "source.tmp")?)
         .ok()
         .ok_or("no length")?;
-    assert!(rt; length_of(&source) == 6);
+    assert!(rt; source.length() == 6);
     assert!(rt; read_full_at(&mut source, 2, &mut out, &mut m).count == 4);
-    assert!(rt; out.as_slice() == b"cdef".as_slice());
-    assert!(rt; read_full_at(&mut source, 5, &mut out, &mut m).count == 1);
+    assert!(rt; out == *b"cdef");
     let mut nothing = FileSource::empty();
-    assert!(rt; length_of(&nothing) == 0);
     assert!(rt; read_full_at(&mut nothing, 0, &mut out, &mut m).count == 0);
-    fs::remove_file(&rt, "source.tmp")?;
     Ok(())
 }
 
@@ -37,58 +35,34 @@ fn a_file_is_written_at_a_place_and_read_back(rt: HostRuntime) -> Result<(), Fai
     fs::write(&rt, "partition.tmp", "......")?;
     let mut options = OpenOptions::new();
     options.read(true).write(true);
-    let file = options.open(&rt, "partition.tmp")?;
     let mut out = [0u8; 2];
-    {
-        let mut partition = FilePartition::new(file).ok().ok_or("no length")?;
-        assert!(rt; length_of(&partition) == 6);
-        if partition.size == 6 {
-            assert!(rt; partition_calls(&mut partition, 3, b"ab", &mut out) == (None, None, None));
-        }
-    }
-    assert!(rt; out.as_slice() == b"ab".as_slice());
-    let held = fs::read_to_string(&rt, "partition.tmp")?;
-    assert!(rt; held.as_str() == "...ab.");
-    fs::remove_file(&rt, "partition.tmp")?;
+    let mut partition = FilePartition::new(options.open(&rt, "partition.tmp")?)
+        .ok()
+        .ok_or("no length")?;
+    assert!(rt; through_partition(&mut partition, 3, b"ab", &mut out) == Ok(2));
+    assert!(rt; out == *b"ab");
+    assert!(rt; fs::read_to_string(&rt, "partition.tmp")?.as_str() == "...ab.");
     Ok(())
 }
 
 #[test]
 fn a_spool_file_holds_its_capacity_and_is_emptied(rt: HostRuntime) -> Result<(), Fail> {
     let mut out = [0u8; 6];
-    let mut m = Meter::new();
-    {
-        let mut spool = FileSpool::new(fresh(&rt, "spool.tmp")?, 4);
-        assert!(rt; capacity_of(&spool) == 4);
-        assert!(rt; spool_calls(&mut spool, b"abcdef", &mut out) == (None, None, None));
-        assert!(rt; out.as_slice() == b"abcd\0\0".as_slice());
-        assert!(rt; write_out(&mut spool, b"e", &mut m) == Err(DeviceFault::Full));
-        assert!(rt; read_full(&mut spool, &mut out, &mut m).count == 0);
-        assert!(rt; spool_calls(&mut spool, b"xyz", &mut out) == (None, None, None));
-        assert!(rt; out.as_slice() == b"xyzd\0\0".as_slice());
-    }
-    let held = fs::read_to_string(&rt, "spool.tmp")?;
-    assert!(rt; held.as_str() == "xyz");
-    fs::remove_file(&rt, "spool.tmp")?;
+    let mut spool = FileSpool::new(fresh(&rt, "spool.tmp")?, 4);
+    assert!(rt; spool.capacity() == 4);
+    assert!(rt; through_spool(&mut spool, b"abcdef", &mut out) == Ok(4));
+    assert!(rt; through_spool(&mut spool, b"xyz", &mut out) == Ok(3));
+    assert!(rt; out == *b"xyzd\0\0");
+    assert!(rt; fs::read_to_string(&rt, "spool.tmp")?.as_str() == "xyz");
     Ok(())
 }
 
 #[test]
-fn a_file_is_read_forward_and_written_into_another(rt: HostRuntime) -> Result<(), Fail> {
-    fs::write(&rt, "from.tmp", "abcdef")?;
-    let mut held = [0u8; 9];
-    let mut m = Meter::new();
-    {
-        let mut input = FromRead::new(File::open(&rt, "from.tmp")?);
-        let mut output = ToWrite::new(fresh(&rt, "to.tmp")?);
-        let found = read_full(&mut input, &mut held, &mut m);
-        assert!(rt; (found.count, found.fault) == (6, None));
-        assert!(rt; write_out(&mut output, &held[..6], &mut m) == Ok(()));
-    }
-    let held = fs::read_to_string(&rt, "to.tmp")?;
-    assert!(rt; held.as_str() == "abcdef");
-    fs::remove_file(&rt, "from.tmp")?;
-    fs::remove_file(&rt, "to.tmp")?;
+fn bytes_of_a_file_are_written_over(rt: HostRuntime) -> Result<(), Fail> {
+    let mut output = FileOutput::new(fresh(&rt, "over.tmp")?);
+    assert!(rt; written_over(&mut output, 0, b"XY") == Ok(()));
+    assert!(rt; output.position() == 8);
+    assert!(rt; fs::read_to_string(&rt, "over.tmp")?.as_str() == "XYcdefgh");
     Ok(())
 }
 
@@ -99,25 +73,22 @@ fn a_sync_that_the_system_refuses_fails(rt: HostRuntime) -> Result<(), Fail> {
     options.read(true).write(true);
     let file = options.open(&rt, "/dev/null")?;
     let mut partition = FilePartition::new(file).ok().ok_or("no length")?;
-    assert!(rt; length_of(&partition) == 0);
+    assert!(rt; partition.length() == 0);
     assert!(rt; partition.sync() == Err(DeviceFault::Failed));
     Ok(())
 }
 
 #[test]
 fn a_file_opened_for_reading_takes_nothing(rt: HostRuntime) -> Result<(), Fail> {
-    // A file that was opened for reading alone takes nothing.
     fs::write(&rt, "refused.tmp", "....")?;
     let mut out = [0u8; 2];
-    let failed = Some(DeviceFault::Failed);
+    let mut spool = FileSpool::new(File::open(&rt, "refused.tmp")?, 4);
+    assert!(rt; through_spool(&mut spool, b"ab", &mut out) == Err(DeviceFault::Failed));
+    let mut output = FileOutput::new(File::open(&rt, "refused.tmp")?);
+    assert!(rt; written_over(&mut output, 0, b"XY") == Err(DeviceFault::Failed));
     let mut partition = FilePartition::new(File::open(&rt, "refused.tmp")?)
         .ok()
         .ok_or("no length")?;
-    if partition.size == 4 {
-        assert!(rt; partition_calls(&mut partition, 0, b"ab", &mut out).0 == failed);
-    }
-    let mut spool = FileSpool::new(File::open(&rt, "refused.tmp")?, 4);
-    assert!(rt; spool_calls(&mut spool, b"ab", &mut out) == (failed, failed, None));
-    fs::remove_file(&rt, "refused.tmp")?;
+    assert!(rt; through_partition(&mut partition, 0, b"ab", &mut out) == Err(DeviceFault::Failed));
     Ok(())
 }

@@ -1,4 +1,4 @@
-//! Readers and writers that are interrupted, fail or take nothing.
+//! Readers and writers that are interrupted or fail.
 
 use abt_io::*;
 use std::io;
@@ -55,35 +55,37 @@ impl<T: Write> Write for Halting<T> {
 
 #[test]
 fn interrupted_calls_are_made_again(rt: HostRuntime) {
-    let mut out = [0u8; 4];
-    let mut room = [0u8; 4];
+    let mut out = *b"....";
+    let mut room = *b"....";
     let mut m = Meter::new();
-    let bytes = b"abcd".as_slice();
-    let mut input = FromRead::new(Halting::new(bytes, io::ErrorKind::Interrupted, 4));
+    let kind = io::ErrorKind::Interrupted;
+    let mut input = FromRead::new(Halting::new(b"abcd".as_slice(), kind, 4));
     assert!(rt; read_full(&mut input, &mut out, &mut m).count == 4);
-    assert!(rt; out.as_slice() == bytes);
-    {
-        let writer = Halting::new(room.as_mut_slice(), io::ErrorKind::Interrupted, 3);
-        assert!(rt; write_out(&mut ToWrite::new(writer), bytes, &mut m) == Ok(()));
-    }
-    assert!(rt; room.as_slice() == bytes);
+    let mut output = ToWrite::new(Halting::new(room.as_mut_slice(), kind, 3));
+    assert!(rt; write_out(&mut output, &out, &mut m) == Ok(()));
+    assert!(rt; room == *b"abcd");
 }
 
 #[test]
-fn a_failing_reader_or_writer_is_answered_once(rt: HostRuntime) {
-    let mut out = [0u8; 4];
-    let mut room = [0u8; 4];
+fn a_failing_reader_is_answered_once(rt: HostRuntime) {
+    let mut out = *b"....";
     let mut m = Meter::new();
-    let failed = DeviceFault::Failed;
     let mut input = FromRead::new(Halting::new(b"abcd".as_slice(), io::ErrorKind::BrokenPipe, 4));
-    assert!(rt; read_full(&mut input, &mut out, &mut m).fault == Some(failed));
+    let failed = read_full(&mut input, &mut out, &mut m);
+    assert!(rt; failed.fault == Some(DeviceFault::Failed));
     assert!(rt; read_full(&mut input, &mut out, &mut m).count == 4);
-    {
-        let writer = Halting::new(room.as_mut_slice(), io::ErrorKind::BrokenPipe, 4);
-        assert!(rt; write_out(&mut ToWrite::new(writer), b"a", &mut m) == Err(failed));
+}
+
+/// One that fails, and one that takes nothing.
+#[test]
+fn a_failing_writer_is_answered(rt: HostRuntime) {
+    for (kind, most) in [
+        (io::ErrorKind::BrokenPipe, 4),
+        (io::ErrorKind::Interrupted, 0),
+    ] {
+        let mut room = *b".";
+        let mut m = Meter::new();
+        let mut output = ToWrite::new(Halting::new(room.as_mut_slice(), kind, most));
+        assert!(rt; write_out(&mut output, b"a", &mut m) == Err(DeviceFault::Failed));
     }
-    // A writer that takes nothing.
-    let writer = Halting::new(room.as_mut_slice(), io::ErrorKind::Interrupted, 0);
-    assert!(rt; write_out(&mut ToWrite::new(writer), b"a", &mut m) == Err(failed));
-    assert!(rt; room == [0u8; 4]);
 }

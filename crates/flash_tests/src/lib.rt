@@ -2,12 +2,12 @@
 //!
 //! | file | what it shows |
 //! |---|---|
-//! | `flashing.rt` | one image flashed as it is read |
-//! | `delivering.rt` | an image that goes through a spool in pieces |
+//! | `flashing.rt` | a table of images, each flashed as it is read; the machine step by step |
+//! | `delivering.rt` | a table of images that go through a spool in pieces, from the first or from a later one |
 //! | `raw_images.rt` | the same of raw images, without a sparse one between |
-//! | `resuming.rt` | a stop at each write, a crash, and resuming |
+//! | `counting.rt` | what a delivery of a thousand chunks reads and writes |
 //! | `failing.rt` | one failing call of each device at each place |
-//! | `changing.rt` | sources that change |
+//! | `resuming.rt` | a stop at each write, a crash, and resuming |
 //! | `boot_images.rt` | a boot image that is packed, sparsed, delivered, opened and unpacked |
 //! | `faults.rt` | the numbers and texts of the faults |
 #![tactic(auto)]
@@ -15,7 +15,7 @@
 #[cfg(test)]
 mod boot_images;
 #[cfg(test)]
-mod changing;
+mod counting;
 #[cfg(test)]
 mod delivering;
 #[cfg(test)]

@@ -1,10 +1,33 @@
 //! A walk that is fed its input in pieces.
 
-use crate::vectors::{LONG_HEADERS, THREE_KINDS, TOO_MANY, WITH_CHECKSUM};
 use abt_chunks::{Part, Pull, Puller};
 use abt_sparse::SparseFault;
+use abt_sparse::SparseFault::{TooManyBlocks, Truncated};
+use test_data::vectors::{LONG_HEADERS, THREE_KINDS, TOO_MANY, WITH_CHECKSUM};
 
-/// What the parts of an image gave so far, where nothing was before.
+/// An image, how many of its bytes come at most, the fault that ends it, how many bytes are used, and what it gives.
+type Row = (
+    &'static [u8],
+    usize,
+    Option<SparseFault>,
+    usize,
+    &'static [u8],
+);
+
+#[rattlefmt::skip]
+const ROWS: [Row; 9] = [
+    (&THREE_KINDS, 72, None, 72, b"ABCD\x04\x03\x02\x01\0\0\0\0"),
+    (&WITH_CHECKSUM, 88, None, 88, b"ABCD\x04\x03\x02\x01\0\0\0\0"),
+    (&LONG_HEADERS, 48, None, 48, b"\0\0\0\0"),
+    (&WITH_CHECKSUM, 0, Some(Truncated { at: 0 }), 0, b""),
+    (&WITH_CHECKSUM, 27, Some(Truncated { at: 27 }), 27, b""),
+    (&WITH_CHECKSUM, 42, Some(Truncated { at: 42 }), 42, b"AB"),
+    (&WITH_CHECKSUM, 59, Some(Truncated { at: 59 }), 59, b"ABCD"),
+    (&WITH_CHECKSUM, 87, Some(Truncated { at: 87 }), 87, b"ABCD\x04\x03\x02\x01\0\0\0\0"),
+    (&TOO_MANY, 56, Some(TooManyBlocks { chunk: 1 }), 56, b"ABCD"),
+];
+
+/// What the parts of an image gave so far, where dots were before.
 #[derive(Drop)]
 struct Laid {
     room: [u8; 14],
@@ -28,11 +51,10 @@ impl Laid {
     }
 }
 
-/// Feeds an image in pieces of at most so many bytes: the fault that ended it, if one did, how many bytes were used,
-/// and what came.
+/// Feeds an image in pieces of at most so many bytes: the fault that ended it, how many bytes were used, and what came.
 fn fed(image: &[u8], most: usize) -> (Option<SparseFault>, usize, Laid) {
     let mut laid = Laid {
-        room: [9u8; 14],
+        room: [b'.'; 14],
         count: 0,
     };
     let mut walk = Puller::new();
@@ -40,16 +62,11 @@ fn fed(image: &[u8], most: usize) -> (Option<SparseFault>, usize, Laid) {
     for _ in 0..400 {
         let piece = rest.get(..most).unwrap_or(rest);
         let pulled = walk.pull(piece);
-        let used = pulled.used;
-        rest = rest.get(used..).unwrap_or(&[]);
+        rest = rest.get(pulled.used..).unwrap_or(&[]);
         let part = match pulled.pull {
             Pull::Gives(part) => part,
-            Pull::Need => {
-                if !rest.is_empty() {
-                    continue;
-                }
-                walk.last()
-            }
+            Pull::Need if rest.is_empty() => walk.last(),
+            Pull::Need => Part::Nothing,
         };
         match part {
             Part::Raw(n) => {
@@ -69,66 +86,17 @@ fn fed(image: &[u8], most: usize) -> (Option<SparseFault>, usize, Laid) {
     (Some(SparseFault::Magic), 0, laid)
 }
 
-/// So many bytes of what `THREE_KINDS` gives, and no more.
-fn is_front_of_three_kinds(laid: &Laid, count: usize) -> bool {
-    let whole = *b"ABCD\x04\x03\x02\x01\0\0\0\0";
-    for (i, byte) in laid.room.iter().enumerate() {
-        let want = if i < count {
-            whole.get(i).copied().unwrap_or(9)
-        } else {
-            9
-        };
-        if *byte != want {
-            return false;
-        }
-    }
-    laid.count == count
-}
-
 #[test]
 fn pieces_of_any_length_give_the_same_bytes(rt: HostRuntime) {
-    for most in [1, 2, 3, 5, 7, 11, 13, 27, 28, 29, 40, 72, 100] {
-        let (fault, used, laid) = fed(&THREE_KINDS, most);
-        assert!(rt; (fault, used) == (None, 72), "pieces of {most}");
-        assert!(rt; is_front_of_three_kinds(&laid, 12));
-        // Bytes behind the last chunk are left.
-        let mut longer = [0x7Fu8; 90];
-        longer[..88].copy_from_slice(&WITH_CHECKSUM);
-        let (fault, used, laid) = fed(&longer, most);
-        assert!(rt; (fault, used) == (None, 88), "pieces of {most}");
-        assert!(rt; is_front_of_three_kinds(&laid, 12));
-        let (fault, used, laid) = fed(&LONG_HEADERS, most);
-        assert!(rt; (fault, used) == (None, 48), "pieces of {most}");
-        assert!(rt; laid.room == *b"\0\0\0\0\x09\x09\x09\x09\x09\x09\x09\x09\x09\x09");
-    }
-}
-
-#[test]
-fn each_beginning_is_truncated_where_the_input_ends(rt: HostRuntime) {
-    for most in [1, 5, 100] {
-        for length in 0..88usize {
-            let came = match length {
-                0..=39 => 0,
-                40..=43 => length.saturating_sub(40),
-                44..=59 => 4,
-                60..=71 => 8,
-                _ => 12,
-            };
-            let image = WITH_CHECKSUM.get(..length).unwrap_or(&[]);
-            let (fault, used, laid) = fed(image, most);
-            assert!(rt; fault == Some(SparseFault::Truncated { at: length as u64 }));
-            assert!(rt; used == length);
-            assert!(rt; is_front_of_three_kinds(&laid, came));
+    for (image, came, fault, used, gives) in ROWS {
+        let image = image.get(..came).unwrap_or(image);
+        for most in [1, 2, 3, 5, 13, 28, 29, 40, 100] {
+            let (ended, taken, laid) = fed(image, most);
+            assert!(rt;
+                (ended, taken, laid.count) == (fault, used, gives.len()),
+                "pieces of {most}"
+            );
+            assert!(rt; laid.room.starts_with(gives), "pieces of {most}");
         }
-    }
-}
-
-#[test]
-fn a_bad_chunk_is_refused_and_blocks_before_it_are_given(rt: HostRuntime) {
-    for most in [1, 5, 100] {
-        let (fault, used, laid) = fed(&TOO_MANY, most);
-        assert!(rt; fault == Some(SparseFault::TooManyBlocks { chunk: 1 }));
-        assert!(rt; used == 56);
-        assert!(rt; is_front_of_three_kinds(&laid, 4));
     }
 }

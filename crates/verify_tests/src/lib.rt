@@ -2,10 +2,11 @@
 //!
 //! | file | what it shows |
 //! |---|---|
-//! | `verifying.rt` | a sparse image against a partition: each byte, each length, each beginning of it |
-//! | `windows.rt` | parts that are longer than what a step compares |
+//! | `sparse_images.rt` | a table of sparse images against what stands on a partition |
 //! | `raw_images.rt` | the same of raw images |
-//! | `failing.rt` | one failing call of each device at each place, and sources that change |
+//! | `windows.rt` | parts that are longer than what a step compares |
+//! | `stepping.rt` | the machines step by step, and the laws |
+//! | `failing.rt` | one failing read at each place |
 //! | `faults.rt` | the numbers and texts of the faults |
 #![tactic(auto)]
 
@@ -16,6 +17,8 @@ mod faults;
 #[cfg(test)]
 mod raw_images;
 #[cfg(test)]
-mod verifying;
+mod sparse_images;
+#[cfg(test)]
+mod stepping;
 #[cfg(test)]
 mod windows;

@@ -1,4 +1,3 @@
-use Rattle.std.proofs.Common.{◌≡◌}
 use Rattle.abt_chunks.specs.declared.feed.Pull.TheVariants as pulls
 use Rattle.abt_c.proofs.Tellings.{not_spoiled}
 use Rattle.abt_c.proofs.sparse.abt_sparse_last.Goals as goal

@@ -1,4 +1,4 @@
-use Rattle.std.proofs.Common.{◌≡◌, ℕ, take, sym, subst, arith}
+use Rattle.std.proofs.Common.{ℕ, take, sym, subst, arith}
 use Rattle.abt_c.specs.Standing.{StateSays}
 use Rattle.abt_c.proofs.Carried.{carried}
 use Rattle.abt_c.proofs.Tellings.{not_spoiled}

@@ -3,9 +3,4 @@ use Rattle.abt_pieces.specs.Cutter.{is_begun}
 use Rattle.sparse_tests.proofs.sparse_pieces.cut.Given as goal
 
 abbrev pub invariant-loop : goal.invariant-loop
-invariant-loop g l =
-    let runs = l.initial.cutter.runs in
-    record {
-      same : l.cutter.runs ≡ runs;
-      unbegun : is_begun l.cutter.stage ≡ false;
-    }
+invariant-loop l = is_begun l.cutter.stage ≡ false

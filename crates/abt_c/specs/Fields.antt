@@ -1,0 +1,92 @@
+-- What C is told of a boot header beside its sections.
+use Rattle.std.specs.Prelude.{◌≡◌, ℕ, List, [], ◌∷◌, take, Option, Some, None, Result, Ok, Err}
+use Rattle.abt_headers.specs.declared.boot.BootFront.{BootFront}
+use Rattle.abt_headers.specs.declared.boot.ShortFront.{ShortFront}
+use Rattle.abt_headers.specs.declared.boot.BootHeader.{BootHeader}
+use Rattle.abt_headers.specs.declared.boot.BootHeader.TheVariants.{V0, V1, V2, V3, V4}
+use Rattle.abt_headers.specs.declared.vendor.VendorFront.{VendorFront}
+use Rattle.abt_headers.specs.declared.entry.RamdiskEntry.{RamdiskEntry}
+use Rattle.abt_headers.specs.declared.fault.HeaderFault.{HeaderFault}
+use Rattle.abt_headers.specs.declared.fault.HeaderFault.TheVariants as faults
+use Rattle.abt_headers.specs.declared.os.OsParts.{OsParts}
+use Rattle.abt_headers.specs.Fault.{fault_number}
+use Rattle.abt_headers.specs.Os.{os_parts}
+use Rattle.abt_headers.specs.Vendor.{Tail, Vendor}
+use Rattle.abt_c.specs.declared.boot_fields.AbtFields.{AbtFields}
+use Rattle.abt_c.specs.declared.boot_fields.AbtFragment.{AbtFragment}
+use Rattle.abt_c.specs.Told.{header_detail}
+
+abbrev pub parts_told : OsParts → List ℕ
+parts_told p = p.a ∷ p.b ∷ p.c ∷ p.year ∷ p.month ∷ []
+
+abbrev pub os_told : ℕ → List ℕ
+os_told n = parts_told (os_parts n)
+
+-- what boot 0 to 2 have in common
+pub record TellsFront (f : BootFront) (sum : ℕ) (o : AbtFields) : Type 0 where
+  pub fault : o.fault ≡ 0
+  pub has : o.has ≡ sum
+  pub kernel_addr : o.kernel_addr ≡ f.kernel_addr
+  pub ramdisk_addr : o.ramdisk_addr ≡ f.ramdisk_addr
+  pub second_addr : o.second_addr ≡ f.second_addr
+  pub tags_addr : o.tags_addr ≡ f.tags_addr
+  pub os : o.os ≡ os_told f.os_version.number
+  pub id : o.id ≡ f.id
+  pub name : o.name ≡ f.name
+  pub cmdline : take 512 o.cmdline ≡ f.cmdline
+  pub extra : o.extra ≡ f.extra_cmdline
+  pub fragments : o.fragments ≡ 0
+
+-- what boot 3 and 4 have
+pub record TellsShort (f : ShortFront) (o : AbtFields) : Type 0 where
+  pub fault : o.fault ≡ 0
+  pub has : o.has ≡ 160
+  pub os : o.os ≡ os_told f.os_version.number
+  pub cmdline : take 1536 o.cmdline ≡ f.cmdline
+  pub fragments : o.fragments ≡ 0
+
+abbrev pub FieldsOfBoot : BootHeader → AbtFields → Type 0
+FieldsOfBoot (V0 f) o = TellsFront f 1007 o
+FieldsOfBoot (V1 f d) o = TellsFront f 1007 o
+FieldsOfBoot (V2 f d t) o = TellsFront f 1023 o × (o.dtb_addr ≡ t.dtb_addr)
+FieldsOfBoot (V3 f) o = TellsShort f o
+FieldsOfBoot (V4 f signature) o = TellsShort f o
+
+pub record TellsVendorFront (f : VendorFront) (o : AbtFields) : Type 0 where
+  pub fault : o.fault ≡ 0
+  pub has : o.has ≡ 219
+  pub kernel_addr : o.kernel_addr ≡ f.kernel_addr
+  pub ramdisk_addr : o.ramdisk_addr ≡ f.ramdisk_addr
+  pub tags_addr : o.tags_addr ≡ f.tags_addr
+  pub dtb_addr : o.dtb_addr ≡ f.dtb_addr
+  pub name : o.name ≡ f.name
+  pub cmdline : o.cmdline ≡ f.cmdline
+
+-- only version 4 has fragments
+abbrev pub fragments_of : Option Tail → ℕ
+fragments_of None = 0
+fragments_of (Some t) = t.entry_num
+
+abbrev pub FieldsOfVendor : Vendor → AbtFields → Type 0
+FieldsOfVendor v o = TellsVendorFront v.front o × (o.fragments ≡ fragments_of v.tail)
+
+pub record Lacks (f : HeaderFault) (o : AbtFields) : Type 0 where
+  pub fault : o.fault ≡ fault_number f
+  pub detail : o.detail ≡ header_detail f
+  pub has : o.has ≡ 0
+
+-- a boot image; where the magic is not its own, a vendor boot image
+abbrev pub FieldsAre : Result BootHeader HeaderFault → Result Vendor HeaderFault → AbtFields → Type 0
+FieldsAre (Ok h) r o = FieldsOfBoot h o
+FieldsAre (Err faults.Magic) (Ok v) o = FieldsOfVendor v o
+FieldsAre (Err faults.Magic) (Err f) o = Lacks f o
+FieldsAre (Err f) r o = Lacks f o
+
+abbrev pub fragment_told : RamdiskEntry → AbtFragment
+fragment_told e = record {
+  size = e.ramdisk_size;
+  at = e.ramdisk_offset;
+  kind = e.ramdisk_type;
+  name = e.name;
+  board_id = e.board_id;
+}

@@ -1,0 +1,9 @@
+-- What a writer was given that takes small writes together.
+use Rattle.std.specs.Prelude.{ℕ, List, ◌++◌}
+use Rattle.std.specs.Io.Buffered.{writer_inner, writer_buffer}
+use Rattle.std.specs.declared.io.buffered.BufWriter.{BufWriter}
+use Rattle.abt_host.specs.declared.sink.Sink.{Sink}
+
+-- what the system took, and then what it holds still
+abbrev pub given : {A : Type 0} → BufWriter Sink A → List ℕ
+given writer = (writer_inner writer).log.state.bytes ++ writer_buffer writer

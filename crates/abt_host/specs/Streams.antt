@@ -1,0 +1,8 @@
+-- In which files a report would land.
+use Rattle.std.specs.Prelude.{◌≡◌, ◌⊎◌, IsTrue}
+use Rattle.abt_host.specs.declared.identity.Identity.{Identity}
+use Rattle.abt_host.specs.declared.streams.Streams.{Streams}
+
+-- it holds data, and is standard output or standard error
+abbrev pub Reported : Streams → Identity → Type 0
+Reported streams file = IsTrue file.holds_data × ((streams.out ≡ file) ⊎ (streams.err ≡ file))

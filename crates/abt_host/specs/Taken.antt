@@ -1,0 +1,27 @@
+-- The files of a run: what is read, and what is written.
+use Rattle.std.specs.Prelude.{◌≡◌, ◌++◌, ◌∷◌, [], IsTrue, Contains}
+use Rattle.abt_host.specs.Streams.{Reported}
+use Rattle.abt_host.specs.declared.identity.Identity.{Identity}
+use Rattle.abt_host.specs.declared.taken.Taken.{Taken}
+use Rattle.abt_host.specs.declared.reading.Reading.{Reading}
+use Rattle.abt_host.specs.declared.writing.Writing.{Writing}
+
+-- no output may be this file: it holds data, and is read, or written already
+abbrev pub Forbidden : Taken → Identity → Type 0
+Forbidden taken file = IsTrue file.holds_data × Contains taken.files.items file
+
+-- the same files, and this one
+abbrev pub Adds : Taken → Taken → Identity → Type 0
+Adds old new file = new.files.items ≡ old.files.items ++ (file ∷ [])
+
+-- one more file is read: no report lands in it, and no output may be it from then on
+pub record ReadsOne (old new : Reading) : Type 0 where
+  pub file : Identity
+  pub spared : ¬ Reported old.streams file
+  pub taken : Adds old.taken new.taken file
+
+-- one more file is written: it is none that is read, and none that is written already
+pub record WritesOne (old new : Writing) : Type 0 where
+  pub file : Identity
+  pub free : ¬ Forbidden old.taken file
+  pub taken : Adds old.taken new.taken file

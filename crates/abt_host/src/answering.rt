@@ -1,0 +1,114 @@
+//! The exit status of an outcome, and what standard error tells of it.
+
+ghost use Rattle.std.specs.Prelude.{◌≡◌, IfErr, OnOk, if◌then◌else◌};
+
+use crate::place::Place;
+use crate::refusal::Refusal;
+use crate::report::Report;
+use crate::told::Told;
+use abt_text::Text;
+use std::alloc::{AllocError, Global};
+use std::io;
+
+/// Done.
+pub const DONE: u8 = 0;
+
+/// Refused, for the fault that standard error tells.
+pub const REFUSED: u8 = 1;
+
+/// The words are wrong, as standard error tells.
+pub const USAGE: u8 = 2;
+
+/// The exit status of an outcome, whose fault is told to the user: in one line, and where it was asked for in a second
+/// one, which names the file and says why. Nothing is told where it would land in a file that is read.
+pub fn answer<F: Told + Drop>(
+    outcome: Result<(), Refusal<'_, F>>,
+    is_verbose: bool,
+    alloc: Global,
+    report: &mut Report,
+) -> u8
+    ensures done { OnOk outcome.entry (result ≡ 0) }
+    ensures refused { IfErr outcome.entry (λ refusal. result ≡ (if F.wrong_words refusal.fault then 2 else 1)) }
+{
+    report.erase_progress();
+    let refusal = match outcome {
+        Ok(()) => return DONE,
+        Err(refusal) => refusal,
+    };
+    if !refusal.about.is_untold {
+        tell(&refusal, is_verbose, alloc, report);
+    }
+    if refusal.fault.is_usage() {
+        USAGE
+    } else {
+        REFUSED
+    }
+}
+
+fn tell<F: Told>(refusal: &Refusal<'_, F>, is_verbose: bool, alloc: Global, report: &mut Report) {
+    let second = if is_verbose {
+        second_line(alloc, refusal).ok()
+    } else {
+        None
+    };
+    first_line(refusal, report);
+    if let Some(line) = second {
+        report.note(line.as_str());
+    }
+}
+
+fn first_line<F: Told>(refusal: &Refusal<'_, F>, report: &mut Report) {
+    let mut text = Text::new(&mut report.err);
+    text.word("abootimg: ");
+    refusal.fault.put(refusal.about.place, &mut text);
+    text.end_line();
+    let _ = text.finish();
+}
+
+fn second_line<F: Told>(alloc: Global, refusal: &Refusal<'_, F>) -> Result<String, AllocError> {
+    let about = refusal.about;
+    let why = why(alloc, about.why, &refusal.fault)?;
+    let why = why.as_str();
+    let line = match about.place {
+        Some(place) => {
+            let role = place.role;
+            format!(in alloc; "  {role} {place}: {why}")?
+        }
+        None => format!(in alloc; "  {why}")?,
+    };
+    let line = line.as_str();
+    let mended = match refusal.fault.mending_piece() {
+        Some(piece) => format!(in alloc; "{line}; --from {piece} mends it")?,
+        None => String::from_str(alloc, line)?,
+    };
+    with_unfinished(alloc, mended.as_str(), about.unfinished)
+}
+
+fn with_unfinished(
+    alloc: Global,
+    line: &str,
+    output: Option<Place<'_>>,
+) -> Result<String, AllocError> {
+    match output {
+        Some(place) => {
+            let role = place.role;
+            format!(in alloc; "{line}; {role} {place} is broken off")
+        }
+        None => String::from_str(alloc, line),
+    }
+}
+
+// What the system says of a call that failed, without its number; else what can be done.
+fn why<F: Told>(alloc: Global, number: Option<i32>, fault: &F) -> Result<String, AllocError> {
+    let told = match number {
+        Some(number) if fault.is_of_a_device() => {
+            let error = io::Error::from_raw_os_error(number);
+            format!(in alloc; "{error}")?
+        }
+        _ => String::from_str(alloc, fault.advice())?,
+    };
+    match told.as_str().split_once(" (os error ") {
+        Some((text, _)) => String::from_str(alloc, text),
+        None => Ok(told),
+    }
+}

@@ -1,0 +1,110 @@
+//! An output that takes small writes together. What it was given is what the system took and what it holds still.
+
+ghost use Rattle.std.specs.Prelude.{◌≡◌, ◌<◌, ◌≤◌, ◌+◌, false, length, take, IfOk, IfErr, OnErr};
+ghost use Rattle.abt_host.specs.Given.{given};
+ghost use Rattle.abt_io.specs.Count.{count_of};
+ghost use Rattle.abt_io.specs.Moment.{put_at};
+
+use crate::sink::Sink;
+use abt_io::{DeviceFault, Log, Output, Tally};
+use std::io::{BufWriter, Write};
+
+/// A file, a pipe, a device or standard output, which is written from its front on.
+#[derive(Drop)]
+pub struct Gathered {
+    pub writer: BufWriter<Sink>,
+    pub calls: Tally,
+    pub faults: Tally,
+}
+
+impl Gathered {
+    pub(crate) fn new(writer: BufWriter<Sink>) -> Gathered
+        ensures { result.writer ≡ writer }
+    {
+        Gathered {
+            writer,
+            calls: Tally::new(),
+            faults: Tally::new(),
+        }
+    }
+
+    /// Why its last call failed, where one did.
+    pub fn why(&self) -> Option<i32> {
+        self.writer.get_ref().why
+    }
+
+    /// Sends what it holds, and writes a front of these bytes over what stands at a place. All of them have to fit there.
+    pub(crate) fn put(&mut self, at: u64, bytes: &[u8]) -> Result<usize, DeviceFault>
+        ensures within { count_of result ≤ length bytes.now }
+        ensures progress { IfOk result (λ n. 0 < length bytes.now → 0 < n) }
+        ensures written { IfOk result (λ n.
+            given self.new.writer ≡ put_at (given self.old.writer) at (take n bytes.now)) }
+        ensures kept { OnErr result (given self.new.writer ≡ given self.old.writer) }
+        ensures calls { self.new.calls.number ≡ self.old.calls.number + 1 }
+        ensures clean { IfOk result (λ _. self.new.faults.number ≡ self.old.faults.number) }
+        ensures cause { OnErr result (self.new.faults.number ≡ self.old.faults.number + 1) }
+        ensures failed { IfErr result (λ e. e ≡ DeviceFault.Failed) }
+    {
+        self.calls.add(1);
+        match put_through(&mut self.writer, at, bytes) {
+            Ok(n) => Ok(n),
+            Err(fault) => {
+                self.faults.add(1);
+                Err(fault)
+            }
+        }
+    }
+
+    /// Sends what it holds, where the work before failed.
+    pub(crate) fn give_up(self) {
+        let mut output = self;
+        let _ = output.writer.flush();
+    }
+
+    /// Sends what it holds, and has it synced, where that is wanted. Answers what the system took: all that it was given. Why that could not be done, by the number of the system's error.
+    pub(crate) fn finish(self, is_synced: bool) -> Result<Log, Option<i32>>
+        ensures { IfOk result (λ sent. sent.state.bytes ≡ given self.writer) }
+    {
+        match self.writer.into_inner() {
+            Ok(sink) => sink.end(is_synced),
+            Err(error) => Err(error.into_inner().get_ref().why),
+        }
+    }
+}
+
+// Sends what a writer holds, and writes at a place.
+fn put_through(writer: &mut BufWriter<Sink>, at: u64, bytes: &[u8]) -> Result<usize, DeviceFault>
+    ensures within { count_of result ≤ length bytes.now }
+    ensures progress { IfOk result (λ n. 0 < length bytes.now → 0 < n) }
+    ensures written { IfOk result (λ n. given writer.new ≡ put_at (given writer.old) at (take n bytes.now)) }
+    ensures kept { OnErr result (given writer.new ≡ given writer.old) }
+    ensures failed { IfErr result (λ e. e ≡ DeviceFault.Failed) }
+{
+    if writer.flush().is_err() {
+        return Err(DeviceFault::Failed);
+    }
+    writer.get_mut().put_at(at, bytes)
+}
+
+impl Output for Gathered {
+    ghost written = { λ o. given o.writer };
+
+    ghost is_full = { λ _. false };
+
+    ghost writes = { λ o. o.calls.number };
+
+    ghost write_faults = { λ o. o.faults.number };
+
+    ghost full_faults = { λ _. 0 };
+
+    fn write(&mut self, bytes: &[u8]) -> Result<usize, DeviceFault> {
+        self.calls.add(1);
+        match self.writer.write(bytes) {
+            Ok(n) if n > 0 || bytes.is_empty() => Ok(n),
+            _ => {
+                self.faults.add(1);
+                Err(DeviceFault::Failed)
+            }
+        }
+    }
+}

@@ -1,0 +1,92 @@
+//! The file of an image that has a magic. It takes small writes together, as those of chunk headers, and can be written
+//! over.
+
+ghost use Rattle.std.specs.Prelude.{◌≡◌, [], false, length, IfOk};
+ghost use Rattle.abt_host.specs.Given.{given};
+
+use crate::output_file::{Finished, OutputFile};
+use crate::place::Place;
+use crate::refusal::{HostFault, HostRefusal};
+use abt_io::{DeviceFault, Output, Overwrite};
+
+/// A regular file that is written from its front on, and over what was written.
+#[derive(Drop)]
+pub struct ImageFile<'a> {
+    pub output: OutputFile<'a>,
+    used: u64,
+    ghost long: { used ≡ length (given output.to.writer) },
+}
+
+impl<'a> ImageFile<'a> {
+    /// Begins at the front of this output, which is an empty file.
+    pub(crate) fn new(output: OutputFile<'a>) -> ImageFile<'a>
+        requires { given output.to.writer ≡ [] }
+        ensures { result.output ≡ output.entry }
+    {
+        ImageFile { output, used: 0 }
+    }
+
+    pub fn place(&self) -> Place<'a> {
+        self.output.place
+    }
+
+    /// Why its last call failed, where one did.
+    pub fn why(&self) -> Option<i32> {
+        self.output.why()
+    }
+
+    /// Brings it to its end.
+    pub fn finish(self) -> Result<Finished, HostRefusal<'a>>
+        ensures { IfOk result (λ finished. finished.sent.state.bytes ≡ given self.entry.output.to.writer) }
+    {
+        self.output.finish()
+    }
+
+    /// Sends what it took together, where the work before failed.
+    pub fn give_up(self) {
+        self.output.give_up()
+    }
+
+    pub(crate) fn refused(&self) -> HostRefusal<'a> {
+        let place = self.output.place;
+        HostRefusal::at(HostFault::Write, place, self.why()).begun(place)
+    }
+}
+
+impl Output for ImageFile<'_> {
+    ghost written = { λ o. given o.output.to.writer };
+
+    ghost is_full = { λ _. false };
+
+    ghost writes = { λ o. o.output.to.calls.number };
+
+    ghost write_faults = { λ o. o.output.to.faults.number };
+
+    ghost full_faults = { λ _. 0 };
+
+    fn write(&mut self, bytes: &[u8]) -> Result<usize, DeviceFault> {
+        let used = self.used;
+        if bytes.len() as u64 > u64::MAX - used {
+            self.output.to.calls.add(1);
+            self.output.to.faults.add(1);
+            return Err(DeviceFault::Failed);
+        }
+        match self.output.to.write(bytes) {
+            Ok(n) => {
+                self.used = used + n as u64;
+                Ok(n)
+            }
+            Err(fault) => Err(fault),
+        }
+    }
+}
+
+impl Overwrite for ImageFile<'_> {
+    fn position(&self) -> u64 {
+        self.used
+    }
+
+    fn write_over(&mut self, at: u64, bytes: &[u8]) -> Result<usize, DeviceFault> {
+        self.output.to.put(at, bytes)
+    }
+}

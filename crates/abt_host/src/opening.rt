@@ -1,0 +1,148 @@
+//! One file that is opened: how, and what it has to be.
+
+ghost use Rattle.std.specs.Prelude.{◌≡◌, false};
+ghost use Rattle.std.specs.Fs.{asks_write};
+ghost use Rattle.abt_host.specs.Access.{writes};
+
+use crate::identity::Identity;
+use crate::place::Place;
+use crate::refusal::{HostFault, HostRefusal};
+use std::alloc::Global;
+use std::fs::{File, Metadata, OpenOptions};
+use std::os::unix::fs::FileTypeExt;
+use std::{fs, io};
+
+// The number of 'Is a directory'.
+const IS_A_FOLDER: i32 = 21;
+
+/// What a command does with a file.
+#[derive(Clone, Copy, Drop)]
+pub enum Access {
+    /// It is read from its front on.
+    Forward,
+    /// It is read at any place, so that it has a length.
+    AnyPlace,
+    /// It is written in place, and has a length.
+    InPlace,
+    /// It is created, or emptied where it is there.
+    Create,
+    /// The same, where nothing but a regular file will do.
+    CreateFile,
+    /// It is created or emptied, written, and read again: a regular file.
+    Spool,
+}
+
+impl Access {
+    fn creates(self) -> bool {
+        match self {
+            Access::Forward => false,
+            Access::AnyPlace => false,
+            Access::InPlace => false,
+            Access::Create => true,
+            Access::CreateFile => true,
+            Access::Spool => true,
+        }
+    }
+}
+
+/// What an open file is.
+#[derive(Clone, Copy, Drop)]
+pub struct Found {
+    pub identity: Identity,
+    pub is_file: bool,
+    /// How long a regular file is.
+    pub length: u64,
+}
+
+/// A file that was just opened.
+#[derive(Drop)]
+pub struct Opened {
+    pub file: File,
+    pub found: Found,
+}
+
+/// Opens a file. A folder is refused, which opens to be read and then gives no bytes, and what is not of the kind that
+/// the access needs.
+///
+/// A pipe is told by its path, before it is opened, where a file is needed: opening one can wait for ever.
+pub fn open_file<'a>(
+    rt: HostRuntime,
+    alloc: Global,
+    place: Place<'a>,
+    access: Access,
+) -> Result<Opened, HostRefusal<'a>> {
+    let Ok(path) = place.path(alloc) else {
+        return Err(HostRefusal::memory());
+    };
+    match opened_at(rt, path.as_str(), access) {
+        Ok(opened) => Ok(opened),
+        Err(error) if is_folder_missing(&error, path.as_str(), access) => {
+            Err(HostRefusal::at(HostFault::NoFolder, place, None))
+        }
+        Err(error) => Err(not_opened(&error, place)),
+    }
+}
+
+/// The refusal of a file that the system did not open.
+pub fn not_opened<'a>(error: &io::Error, place: Place<'a>) -> HostRefusal<'a> {
+    if error.kind() == io::ErrorKind::OutOfMemory {
+        return HostRefusal::memory();
+    }
+    HostRefusal::at(HostFault::CannotOpen, place, error.raw_os_error())
+}
+
+// Whether a file was not created for want of its folder.
+fn is_folder_missing(error: &io::Error, path: &str, access: Access) -> bool {
+    access.creates() && error.kind() == io::ErrorKind::NotFound && !path.is_empty()
+}
+
+fn opened_at(rt: HostRuntime, path: &str, access: Access) -> io::Result<Opened> {
+    if let Ok(metadata) = fs::metadata(&rt, path) {
+        require_kind(&metadata, access)?;
+    }
+    let file = options(access).open(&rt, path)?;
+    let metadata = file.metadata()?;
+    require_kind(&metadata, access)?;
+    let found = Found {
+        identity: Identity::new(&metadata),
+        is_file: metadata.is_file(),
+        length: metadata.len(),
+    };
+    Ok(Opened { file, found })
+}
+
+// How the system is asked. What is only read is not opened for more.
+fn options(access: Access) -> OpenOptions
+    ensures { asks_write result ≡ writes access }
+{
+    let mut how = OpenOptions::new();
+    match access {
+        Access::Forward => how.read(true),
+        Access::AnyPlace => how.read(true),
+        Access::InPlace => how.write(true),
+        Access::Create => how.write(true).create(true),
+        Access::CreateFile => how.write(true).create(true),
+        Access::Spool => how.read(true).write(true).create(true),
+    };
+    how
+}
+
+fn require_kind(metadata: &Metadata, access: Access) -> io::Result<()> {
+    if metadata.is_dir() {
+        return Err(io::Error::from_raw_os_error(IS_A_FOLDER));
+    }
+    let is_block = metadata.file_type().is_block_device();
+    let fits = match access {
+        Access::Forward => true,
+        Access::Create => true,
+        Access::AnyPlace => metadata.is_file() || is_block,
+        Access::InPlace => metadata.is_file() || is_block,
+        Access::CreateFile => metadata.is_file(),
+        Access::Spool => metadata.is_file(),
+    };
+    if fits {
+        Ok(())
+    } else {
+        Err(io::Error::from(io::ErrorKind::InvalidInput))
+    }
+}

@@ -1,0 +1,87 @@
+//! An output that is written from its front on, and how it is brought to its end.
+
+ghost use Rattle.std.specs.Prelude.{◌≡◌, IfOk};
+ghost use Rattle.abt_host.specs.Given.{given};
+ghost use Rattle.abt_io.specs.Over.{with_front};
+
+use crate::gathered::Gathered;
+use crate::image_file::ImageFile;
+use crate::place::Place;
+use crate::refusal::{HostFault, HostRefusal};
+use abt_io::{FrontLast, Log, Meter};
+
+/// A file, a pipe, a device or standard output, which takes small writes together.
+#[derive(Drop)]
+pub struct OutputFile<'a> {
+    pub to: Gathered,
+    pub place: Place<'a>,
+    // Whether it is synced at its end.
+    pub(crate) is_synced: bool,
+    pub(crate) is_data_on_output: bool,
+}
+
+/// An output that is at its end: the system took all that was written.
+#[derive(Drop)]
+pub struct Finished {
+    /// What the system took.
+    pub(crate) sent: Log,
+    pub(crate) is_data_on_output: bool,
+}
+
+impl Finished {
+    /// Whether data went to where standard output goes.
+    pub fn is_data_on_output(&self) -> bool {
+        self.is_data_on_output
+    }
+}
+
+impl<'a> OutputFile<'a> {
+    /// Why its last call failed, where one did.
+    pub fn why(&self) -> Option<i32> {
+        self.to.why()
+    }
+
+    /// Brings it to its end: what it holds is sent, and it is synced, where that is wanted.
+    pub fn finish(self) -> Result<Finished, HostRefusal<'a>>
+        ensures { IfOk result (λ finished. finished.sent.state.bytes ≡ given self.entry.to.writer) }
+    {
+        let place = self.place;
+        let is_data_on_output = self.is_data_on_output;
+        match self.to.finish(self.is_synced) {
+            Ok(sent) => Ok(Finished {
+                sent,
+                is_data_on_output,
+            }),
+            Err(why) => Err(HostRefusal::at(HostFault::Write, place, why).begun(place)),
+        }
+    }
+
+    /// Sends what it took together, where the work before failed.
+    pub fn give_up(self) {
+        self.to.give_up()
+    }
+}
+
+/// Where an image goes that has a magic.
+#[derive(Drop)]
+pub enum ImageOutput<'a> {
+    /// A regular file, in which the magic is laid last: what is broken off has none.
+    File(FrontLast<ImageFile<'a>>),
+    /// A pipe, a device or standard output, which is written from its front on.
+    Stream(OutputFile<'a>),
+}
+
+/// Brings an image to its end: its magic is laid.
+pub fn finish_front<'a>(
+    image: FrontLast<ImageFile<'a>>,
+    m: &mut Meter,
+) -> Result<Finished, HostRefusal<'a>>
+    ensures { IfOk result (λ finished. finished.sent.state.bytes ≡
+        with_front image.entry.front image.entry.kept (given image.entry.output.output.to.writer)) }
+{
+    let mut image = image;
+    match image.finish(m) {
+        Ok(()) => image.output.finish(),
+        Err(_) => Err(image.output.refused()),
+    }
+}

@@ -1,0 +1,249 @@
+//! Why a command is refused: the fault, the file that it is about, and why the system says so, in one value.
+
+ghost use Rattle.std.specs.Prelude.{◌≡◌};
+
+use crate::place::Place;
+use crate::told::{Side, Told};
+
+/// What a refusal is about.
+#[derive(Clone, Copy, Drop)]
+pub struct About<'a> {
+    /// The file.
+    pub place: Option<Place<'a>>,
+    /// Why the system call failed, by its number.
+    pub why: Option<i32>,
+    /// The output that was begun and isn't whole.
+    pub unfinished: Option<Place<'a>>,
+    /// Whether nothing is told, since what would be told would land in this file.
+    pub is_untold: bool,
+}
+
+impl<'a> About<'a> {
+    /// No file.
+    pub fn nothing() -> About<'a> {
+        About {
+            place: None,
+            why: None,
+            unfinished: None,
+            is_untold: false,
+        }
+    }
+}
+
+/// A fault, and what it is about.
+#[derive(Drop)]
+pub struct Refusal<'a, F> {
+    pub fault: F,
+    pub about: About<'a>,
+}
+
+impl<'a, F> Refusal<'a, F> {
+    /// A fault that is about no file.
+    pub fn of(fault: F) -> Refusal<'a, F>
+        ensures { result.fault ≡ fault }
+    {
+        Refusal {
+            fault,
+            about: About::nothing(),
+        }
+    }
+}
+
+/// Why files are refused, whatever they hold.
+#[derive(Clone, Copy, Drop)]
+pub enum HostFault {
+    /// This file can't be opened.
+    CannotOpen,
+    /// This file can't be created: its folder is missing.
+    NoFolder,
+    /// What would be written is a file that is read, or written already.
+    SameFile,
+    /// A file of words is no text.
+    NotText,
+    /// A file of words is longer than such a file may be.
+    TooLong,
+    /// A file of words can't be read.
+    Read,
+    /// What was written can't be brought to its end, or the report can't be written.
+    Write,
+    /// Memory was wanted and refused.
+    Memory,
+}
+
+/// A fault of files, and which of them.
+#[derive(Clone, Copy, Drop)]
+pub struct HostRefusal<'a> {
+    pub fault: HostFault,
+    pub about: About<'a>,
+}
+
+impl<'a> HostRefusal<'a> {
+    /// Memory was refused.
+    pub fn memory() -> HostRefusal<'a>
+        ensures { result.fault ≡ HostFault.Memory }
+    {
+        HostRefusal::of(HostFault::Memory, None)
+    }
+
+    /// About no file, with the number of the system's error.
+    pub fn of(fault: HostFault, why: Option<i32>) -> HostRefusal<'a>
+        ensures { result.fault ≡ fault }
+    {
+        let about = About {
+            why,
+            ..About::nothing()
+        };
+        HostRefusal { fault, about }
+    }
+
+    /// A file, with the number of the system's error.
+    pub fn at(fault: HostFault, place: Place<'a>, why: Option<i32>) -> HostRefusal<'a>
+        ensures { result.fault ≡ fault }
+    {
+        let about = About {
+            place: Some(place),
+            why,
+            ..About::nothing()
+        };
+        HostRefusal { fault, about }
+    }
+
+    /// The same, where this output was begun.
+    pub fn begun(self, output: Place<'a>) -> HostRefusal<'a>
+        ensures { result.fault ≡ self.entry.fault }
+    {
+        let about = About {
+            unfinished: Some(output),
+            ..self.about
+        };
+        HostRefusal {
+            fault: self.fault,
+            about,
+        }
+    }
+
+    /// The same, where nothing may be told of it.
+    pub(crate) fn untold_if(self, is_untold: bool) -> HostRefusal<'a>
+        ensures fault { result.fault ≡ self.entry.fault }
+        ensures untold { result.about.is_untold ≡ is_untold }
+    {
+        let about = About {
+            is_untold,
+            ..self.about
+        };
+        HostRefusal {
+            fault: self.fault,
+            about,
+        }
+    }
+}
+
+impl<'a, F: From<HostFault>> From<HostRefusal<'a>> for Refusal<'a, F> {
+    ghost from_gives = { λ h r. F.from_gives h.fault r.fault };
+
+    fn from(refusal: HostRefusal<'a>) -> Refusal<'a, F> {
+        Refusal {
+            fault: F::from(refusal.fault),
+            about: refusal.about,
+        }
+    }
+}
+
+/// A file that is worked on, and why its last call failed.
+#[derive(Clone, Copy, Drop)]
+struct At<'a> {
+    place: Option<Place<'a>>,
+    why: Option<i32>,
+}
+
+/// What is worked on when a fault comes, which is about one of these.
+#[derive(Clone, Copy, Drop)]
+pub struct Sides<'a> {
+    input: At<'a>,
+    output: At<'a>,
+    spool: At<'a>,
+    // The output that was begun and isn't whole.
+    unfinished: Option<Place<'a>>,
+}
+
+impl<'a> Sides<'a> {
+    /// No file is worked on.
+    pub fn none() -> Sides<'a> {
+        let nothing = At {
+            place: None,
+            why: None,
+        };
+        Sides {
+            input: nothing,
+            output: nothing,
+            spool: nothing,
+            unfinished: None,
+        }
+    }
+
+    /// This one is read.
+    pub fn reading(self, place: Place<'a>, why: Option<i32>) -> Sides<'a> {
+        let place = Some(place);
+        Sides {
+            input: At { place, why },
+            ..self
+        }
+    }
+
+    /// This one is written in place.
+    pub fn writing(self, place: Place<'a>, why: Option<i32>) -> Sides<'a> {
+        let place = Some(place);
+        Sides {
+            output: At { place, why },
+            ..self
+        }
+    }
+
+    /// The report is written.
+    pub fn printing(self, why: Option<i32>) -> Sides<'a> {
+        Sides {
+            output: At { place: None, why },
+            ..self
+        }
+    }
+
+    /// Pieces go through this one.
+    pub fn through(self, place: Place<'a>) -> Sides<'a> {
+        Sides {
+            spool: At {
+                place: Some(place),
+                why: None,
+            },
+            ..self
+        }
+    }
+
+    /// This one is written, and isn't whole.
+    pub fn begun(self, place: Place<'a>, why: Option<i32>) -> Sides<'a> {
+        let place = Some(place);
+        Sides {
+            output: At { place, why },
+            unfinished: place,
+            ..self
+        }
+    }
+
+    /// Refuses for this fault, which says which of these files it is about.
+    pub fn refuse<F: Told>(self, fault: F) -> Refusal<'a, F>
+        ensures { result.fault ≡ fault }
+    {
+        let At { place, why } = match fault.side() {
+            Side::Input => self.input,
+            Side::Output => self.output,
+            Side::Spool => self.spool,
+            Side::Words => Sides::none().input,
+        };
+        let about = About {
+            place,
+            why,
+            unfinished: self.unfinished,
+            is_untold: false,
+        };
+        Refusal { fault, about }
+    }
+}

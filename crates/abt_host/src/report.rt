@@ -1,0 +1,78 @@
+//! What a command prints.
+
+use crate::output_file::Finished;
+use crate::place::Place;
+use crate::progress::Progress;
+use crate::refusal::{HostFault, HostRefusal};
+use crate::sink::Sink;
+use abt_io::ToWrite;
+use abt_text::print_line;
+use std::fmt;
+use std::rt::Stderr;
+
+/// Standard output and standard error, and how far the command is.
+#[derive(Drop)]
+pub struct Report {
+    pub out: ToWrite<Sink>,
+    pub err: ToWrite<Stderr>,
+    pub progress: Progress,
+    // Data went to standard output: then no report does.
+    is_data_on_output: bool,
+}
+
+impl Report {
+    pub fn new(rt: HostRuntime) -> Report {
+        Report {
+            out: ToWrite::new(Sink::standard(rt.stdout(), None)),
+            err: ToWrite::new(rt.stderr()),
+            progress: Progress::hidden(rt),
+            is_data_on_output: false,
+        }
+    }
+
+    /// Prints a line of an output that is at its end: to standard output, or to standard error where data goes to
+    /// standard output.
+    pub fn line_of<'a, D: fmt::Display + Drop>(
+        &mut self,
+        output: Finished,
+        line: D,
+    ) -> Result<(), HostRefusal<'a>> {
+        if output.is_data_on_output() {
+            self.is_data_on_output = true;
+        }
+        self.line(line)
+    }
+
+    /// Prints a line.
+    pub fn line<'a, D: fmt::Display + Drop>(&mut self, line: D) -> Result<(), HostRefusal<'a>> {
+        self.progress.erase();
+        let told = if self.is_data_on_output {
+            print_line(&mut self.err, line)
+        } else {
+            print_line(&mut self.out, line)
+        };
+        match told {
+            Ok(()) => Ok(()),
+            Err(_) => {
+                let place = Place::new("report", "standard output");
+                Err(HostRefusal::at(HostFault::Write, place, self.out.writer.why))
+            }
+        }
+    }
+
+    /// Prints a line to standard error, which nothing rests on.
+    pub fn note<D: fmt::Display + Drop>(&mut self, line: D) {
+        self.progress.erase();
+        let _ = print_line(&mut self.err, line);
+    }
+
+    /// The refusal of a text that could not be printed to standard output.
+    pub fn cannot_print<'a>(&self) -> HostRefusal<'a> {
+        HostRefusal::of(HostFault::Write, self.out.writer.why)
+    }
+
+    /// Erases the line that says how far it is.
+    pub fn erase_progress(&mut self) {
+        self.progress.erase();
+    }
+}

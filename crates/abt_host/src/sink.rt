@@ -1,0 +1,208 @@
+//! Where bytes go: a file, a raw image with holes for its zeros, or standard output.
+
+ghost use Rattle.std.specs.Prelude.{◌≡◌, ◌<◌, ◌≤◌, Some, length, take, IfOk, IfErr, OnErr};
+ghost use Rattle.std.specs.Io.{WritesAtMost};
+ghost use Rattle.abt_io.specs.Count.{count_of};
+ghost use Rattle.abt_io.specs.Frame.{nothing_logged};
+ghost use Rattle.abt_io.specs.Over.{and_put};
+
+use abt_io::{DeviceFault, Log};
+use std::fs::File;
+use std::io;
+use std::io::{ErrorKind, Write};
+use std::os::unix::fs::FileExt;
+use std::rt::Stdout;
+
+#[derive(Drop)]
+enum Target {
+    /// A file, a pipe or a device, which is given all bytes.
+    File(File),
+    /// A regular file that was just created or emptied. Zeros are a hole, which takes no room and no time; so it holds
+    /// exactly what was written, after every call.
+    Holes { file: File, length: u64 },
+    /// Standard output, and a second handle of its file where that is going to be synced: std syncs files alone.
+    Standard { stdout: Stdout, file: Option<File> },
+}
+
+impl Target {
+    // One write, once more where a signal came in between.
+    fn put(&mut self, bytes: &[u8]) -> io::Result<usize>
+        ensures { WritesAtMost result bytes.now }
+    {
+        for _ in 0..u64::MAX {
+            match self.put_once(bytes) {
+                Ok(n) => return Ok(n),
+                Err(error) => {
+                    if error.kind() != ErrorKind::Interrupted {
+                        return Err(error);
+                    }
+                }
+            }
+        }
+        Err(io::Error::from(ErrorKind::Interrupted))
+    }
+
+    fn put_once(&mut self, bytes: &[u8]) -> io::Result<usize>
+        ensures { WritesAtMost result bytes.now }
+    {
+        match self {
+            Target::File(file) => file.write(bytes),
+            Target::Standard { stdout, .. } => stdout.write(bytes),
+            Target::Holes { file, length } => {
+                let n = write_behind(file, *length, bytes)?;
+                *length = length.saturating_add(n as u64);
+                Ok(n)
+            }
+        }
+    }
+}
+
+/// A writer that keeps all that the system took, and why it failed.
+#[derive(Drop)]
+pub struct Sink {
+    target: Target,
+    pub why: Option<i32>,
+    pub log: Log,
+}
+
+impl Sink {
+    /// A file, which is given all bytes.
+    pub(crate) fn file(file: File) -> Sink
+        ensures { result.log.state ≡ nothing_logged }
+    {
+        Sink::of(Target::File(file))
+    }
+
+    /// The file of a raw image, in which zeros may be holes. It is a regular one, and empty.
+    pub(crate) fn with_holes(file: File) -> Sink
+        ensures { result.log.state ≡ nothing_logged }
+    {
+        Sink::of(Target::Holes { file, length: 0 })
+    }
+
+    /// Standard output, and a handle of its file where that is going to be synced.
+    pub(crate) fn standard(stdout: Stdout, file: Option<File>) -> Sink
+        ensures { result.log.state ≡ nothing_logged }
+    {
+        Sink::of(Target::Standard { stdout, file })
+    }
+
+    fn of(target: Target) -> Sink
+        ensures { result.log.state ≡ nothing_logged }
+    {
+        Sink {
+            target,
+            why: None,
+            log: Log::new(),
+        }
+    }
+
+    /// Writes a front of these bytes over what stands at a place of a file.
+    pub(crate) fn put_at(&mut self, at: u64, bytes: &[u8]) -> Result<usize, DeviceFault>
+        ensures within { count_of result ≤ length bytes.now }
+        ensures progress { IfOk result (λ n. 0 < length bytes.now → 0 < n) }
+        ensures taken { IfOk result (λ n. self.new.log.state ≡ and_put self.old.log.state at (take n bytes.now)) }
+        ensures kept { OnErr result (self.new.log.state ≡ self.old.log.state) }
+        ensures failed { IfErr result (λ e. e ≡ DeviceFault.Failed) }
+    {
+        let answer = match &self.target {
+            Target::File(file) => write_over(file, at, bytes),
+            Target::Holes { file, .. } => write_over(file, at, bytes),
+            Target::Standard { .. } => Err(None),
+        };
+        match answer {
+            Ok(n) => {
+                self.log.put(&bytes[..n], at);
+                Ok(n)
+            }
+            Err(why) => {
+                self.why = why;
+                Err(DeviceFault::Failed)
+            }
+        }
+    }
+
+    /// Has it synced, where that is wanted, and answers what the system took. Why it could not be synced, by the number
+    /// of the system's error. A file is closed then; standard output stays open.
+    pub(crate) fn end(self, is_synced: bool) -> Result<Log, Option<i32>>
+        ensures { IfOk result (λ sent. sent.state ≡ self.log.state) }
+    {
+        if !is_synced {
+            return Ok(self.log);
+        }
+        let synced = match self.target {
+            Target::File(file) => file.sync_all(),
+            Target::Holes { file, .. } => file.sync_all(),
+            Target::Standard {
+                file: Some(file),
+                ..
+            } => file.sync_all(),
+            Target::Standard { file: None, .. } => Ok(()),
+        };
+        match synced {
+            Ok(()) => Ok(self.log),
+            Err(error) => Err(error.raw_os_error()),
+        }
+    }
+}
+
+impl Write for Sink {
+    ghost contents = { λ s. Some s.log.state.bytes };
+
+    fn write(&mut self, bytes: &[u8]) -> io::Result<usize> {
+        match self.target.put(bytes) {
+            Ok(n) => {
+                self.log.append(&bytes[..n]);
+                Ok(n)
+            }
+            Err(error) => {
+                self.why = error.raw_os_error();
+                Err(error)
+            }
+        }
+    }
+
+    fn flush(&mut self) -> io::Result<()> {
+        Ok(())
+    }
+}
+
+// Writes at a place, once more where a signal came in between. Why the call failed, by its number, where it did.
+fn write_over(file: &File, at: u64, bytes: &[u8]) -> Result<usize, Option<i32>>
+    ensures within { count_of result ≤ length bytes.now }
+    ensures progress { IfOk result (λ n. 0 < length bytes.now → 0 < n) }
+{
+    for _ in 0..u64::MAX {
+        match file.write_at(bytes, at) {
+            Ok(n) if n > 0 || bytes.is_empty() => return Ok(n),
+            Ok(_) => return Err(None),
+            Err(error) => {
+                if error.kind() != ErrorKind::Interrupted {
+                    return Err(error.raw_os_error());
+                }
+            }
+        }
+    }
+    Err(None)
+}
+
+// Writes at the end of a regular file, where zeros are a hole if the file can have one.
+fn write_behind(file: &File, length: u64, bytes: &[u8]) -> io::Result<usize>
+    ensures { WritesAtMost result bytes.now }
+{
+    if is_zero(bytes) {
+        let longer = length.saturating_add(bytes.len() as u64);
+        if file.set_len(longer).is_ok() {
+            return Ok(bytes.len());
+        }
+    }
+    file.write_at(bytes, length)
+}
+
+// Most data that isn't zero shows it at an end. What is left is looked at as a whole, which is fast.
+fn is_zero(bytes: &[u8]) -> bool {
+    match (bytes.first(), bytes.last()) {
+        (Some(0), Some(0)) => bytes.iter().fold(0u8, |all, byte| all | *byte) == 0,
+        _ => false,
+    }
+}

@@ -1,0 +1,55 @@
+//! The files that no output may be.
+
+ghost use Rattle.std.specs.Prelude.{◌≡◌, ◌↔◌, [], IsTrue, OnOk, OnErr, Contains};
+ghost use Rattle.abt_host.specs.Taken.{Forbidden, Adds};
+
+use crate::identity::Identity;
+use crate::opening::Found;
+use std::alloc::{AllocError, Global};
+use std::fs::File;
+use std::io;
+
+/// What is read, and what is being written: no further output may be one of them.
+#[derive(Drop)]
+pub struct Taken {
+    pub files: Vec<Identity>,
+}
+
+impl Taken {
+    pub fn new(alloc: Global) -> Taken
+        ensures { result.files.items ≡ [] }
+    {
+        Taken {
+            files: Vec::new(alloc),
+        }
+    }
+
+    /// Whether an output must not be this file: it holds data, and is one of these.
+    pub fn forbids(&self, identity: Identity) -> bool
+        ensures { IsTrue result ↔ Forbidden self.now identity }
+    {
+        identity.holds_data && self.files.as_slice().contains(&identity)
+    }
+
+    /// No further output may be this file.
+    pub fn take(&mut self, identity: Identity) -> Result<(), AllocError>
+        ensures taken { OnOk result (Adds self.old self.new identity) }
+        ensures kept { OnErr result (self.new.files.items ≡ self.old.files.items) }
+    {
+        match self.files.push(identity) {
+            Ok(()) => Ok(()),
+            Err(_) => Err(AllocError),
+        }
+    }
+
+    /// Empties a file that is one of these; a pipe and a device have nothing to empty.
+    pub(crate) fn empty(&self, file: &File, found: Found) -> io::Result<()>
+        requires { Contains self.now.files.items found.identity }
+    {
+        if found.is_file && found.length > 0 {
+            file.set_len(0)
+        } else {
+            Ok(())
+        }
+    }
+}

@@ -1,0 +1,266 @@
+//! All that a command writes, once all that it reads is open.
+
+ghost use Rattle.std.specs.Prelude.{◌≡◌, ◌↔◌, ◌⊎◌, [], true, IsTrue, OnOk, OnErr, IfOk, IfErr};
+ghost use Rattle.abt_host.specs.Given.{given};
+ghost use Rattle.abt_io.specs.Frame.{nothing_logged};
+ghost use Rattle.abt_host.specs.Access.{writes};
+ghost use Rattle.abt_host.specs.Taken.{Forbidden, Adds, WritesOne};
+
+use crate::gathered::Gathered;
+use crate::identity::{Identity, identity_at};
+use crate::image_file::ImageFile;
+use crate::opening::{Access, Opened, not_opened, open_file};
+use crate::output_file::{Finished, ImageOutput, OutputFile};
+use crate::place::Place;
+use crate::refusal::{HostFault, HostRefusal};
+use crate::sink::Sink;
+use crate::streams::Streams;
+use crate::taken::Taken;
+use abt_io::{FilePartition, FileSpool, FrontLast, Log};
+use std::alloc::Global;
+use std::fs::{File, OpenOptions};
+use std::io;
+use std::io::BufWriter;
+
+// How many bytes are taken together at most: a page, since no hole is smaller.
+const PAGE: usize = 4096;
+
+/// Opens and creates what is written. Each file is looked at, by device and inode, before it is emptied: none is one
+/// that is read, or that is written already.
+#[derive(Drop)]
+pub struct Writing {
+    pub rt: HostRuntime,
+    pub alloc: Global,
+    taken: Taken,
+    streams: Streams,
+    // Whether each output is synced at its end.
+    is_synced: bool,
+    // Data goes to where standard output goes: then no report does.
+    is_data_on_output: bool,
+}
+
+impl Writing {
+    pub(crate) fn new(
+        rt: HostRuntime,
+        alloc: Global,
+        taken: Taken,
+        streams: Streams,
+        is_synced: bool,
+    ) -> Writing
+        ensures taken { result.taken ≡ taken }
+        ensures streams { result.streams ≡ streams }
+        ensures synced { result.is_synced ≡ is_synced }
+    {
+        Writing {
+            rt,
+            alloc,
+            taken,
+            streams,
+            is_synced,
+            is_data_on_output: false,
+        }
+    }
+
+    /// Opens what is written in place, which must be there.
+    pub fn partition<'a>(&mut self, place: Place<'a>) -> Result<FilePartition, HostRefusal<'a>>
+        ensures writes { OnOk result (WritesOne self.old self.new) }
+    {
+        let Opened { file, found } = open_file(self.rt, self.alloc, place, Access::InPlace)?;
+        self.admit(found.identity, place)?;
+        match FilePartition::new(file) {
+            Ok(partition) => Ok(partition),
+            Err(_) => Err(HostRefusal::at(HostFault::CannotOpen, place, None)),
+        }
+    }
+
+    /// Creates or empties the file of a raw image, in which zeros may be holes. `-` is standard output.
+    pub fn raw<'a>(&mut self, place: Place<'a>) -> Result<OutputFile<'a>, HostRefusal<'a>>
+        ensures writes { OnOk result (WritesOne self.old self.new) }
+    {
+        if place.is_standard() {
+            return self.standard(place);
+        }
+        let Opened { file, found } = self.created(place, Access::Create)?;
+        let sink = if found.is_file {
+            Sink::with_holes(file)
+        } else {
+            Sink::file(file)
+        };
+        self.buffered(place, sink, found.identity.holds_data)
+    }
+
+    /// Creates or empties the file of an image that has a magic. `-` is standard output.
+    pub fn image<'a>(&mut self, place: Place<'a>) -> Result<ImageOutput<'a>, HostRefusal<'a>>
+        ensures writes { OnOk result (WritesOne self.old self.new) }
+    {
+        if place.is_standard() {
+            return Ok(ImageOutput::Stream(self.standard(place)?));
+        }
+        let Opened { file, found } = self.created(place, Access::Create)?;
+        let output = self.buffered(place, Sink::file(file), found.identity.holds_data)?;
+        if found.is_file {
+            Ok(ImageOutput::File(FrontLast::new(ImageFile::new(output))))
+        } else {
+            Ok(ImageOutput::Stream(output))
+        }
+    }
+
+    /// Creates or empties a file.
+    pub fn plain<'a>(&mut self, place: Place<'a>) -> Result<OutputFile<'a>, HostRefusal<'a>>
+        ensures writes { OnOk result (WritesOne self.old self.new) }
+    {
+        let Opened { file, found } = self.created(place, Access::Create)?;
+        self.buffered(place, Sink::file(file), found.identity.holds_data)
+    }
+
+    /// Creates or empties a regular file, and makes it so many zeros, to be written in place. Nothing else will do.
+    pub fn zeros<'a>(
+        &mut self,
+        place: Place<'a>,
+        bytes: u64,
+    ) -> Result<FilePartition, HostRefusal<'a>>
+        ensures writes { OnOk result (WritesOne self.old self.new) }
+    {
+        if place.is_standard() {
+            return Err(HostRefusal::at(HostFault::CannotOpen, place, None));
+        }
+        let created = self.created(place, Access::CreateFile)?;
+        match zeros_in(created.file, bytes) {
+            Ok(partition) => Ok(partition),
+            Err(why) => Err(HostRefusal::at(HostFault::Write, place, why).begun(place)),
+        }
+    }
+
+    /// Creates or empties the file that pieces of so many bytes go through, which is read again.
+    pub fn spool<'a>(&mut self, place: Place<'a>, limit: u32) -> Result<FileSpool, HostRefusal<'a>>
+        ensures capacity { IfOk result (λ spool. spool.capacity ≡ limit) }
+        ensures writes { OnOk result (WritesOne self.old self.new) }
+    {
+        let created = self.created(place, Access::Spool)?;
+        Ok(FileSpool::new(created.file, limit as u64))
+    }
+
+    /// What was written in place, by a call that syncs it at its end, is at its end.
+    pub fn written_in_place(&self, _synced: FilePartition) -> Finished {
+        Finished {
+            sent: Log::new(),
+            is_data_on_output: self.is_data_on_output,
+        }
+    }
+
+    /// Refuses a path that is going to be written where it is a file that is read, or written already.
+    pub fn refuse_taken<'a>(&self, place: Place<'a>) -> Result<(), HostRefusal<'a>> {
+        let Ok(path) = place.path(self.alloc) else {
+            return Err(HostRefusal::memory());
+        };
+        match identity_at(self.rt, path.as_str()) {
+            Some(identity) if self.taken.forbids(identity) => {
+                Err(HostRefusal::at(HostFault::SameFile, place, None))
+            }
+            _ => Ok(()),
+        }
+    }
+
+    /// Whether something is there.
+    pub fn is_there<'a>(&self, place: Place<'a>) -> Result<bool, HostRefusal<'a>> {
+        match place.path(self.alloc) {
+            Ok(path) => Ok(identity_at(self.rt, path.as_str()).is_some()),
+            Err(_) => Err(HostRefusal::memory()),
+        }
+    }
+
+    // Data goes to standard output.
+    fn standard<'a>(&mut self, place: Place<'a>) -> Result<OutputFile<'a>, HostRefusal<'a>>
+        ensures writes { OnOk result (WritesOne self.old self.new) }
+    {
+        let identity = self.streams.out;
+        self.admit(identity, place)?;
+        self.is_data_on_output = true;
+        match self.to_sync(identity) {
+            Ok(file) => {
+                let sink = Sink::standard(self.rt.stdout(), file);
+                self.buffered(place, sink, identity.holds_data)
+            }
+            Err(error) => Err(not_opened(&error, place)),
+        }
+    }
+
+    // A second handle of the file that standard output is, where it is synced at its end.
+    fn to_sync(&self, output: Identity) -> io::Result<Option<File>> {
+        if !self.is_synced || !output.holds_data {
+            return Ok(None);
+        }
+        let mut how = OpenOptions::new();
+        Ok(Some(how.write(true).open(&self.rt, "/dev/stdout")?))
+    }
+
+    // An output that takes small writes together.
+    fn buffered<'a>(
+        &self,
+        place: Place<'a>,
+        sink: Sink,
+        holds_data: bool,
+    ) -> Result<OutputFile<'a>, HostRefusal<'a>>
+        requires { sink.log.state ≡ nothing_logged }
+        ensures empty { IfOk result (λ output. given output.to.writer ≡ []) }
+        ensures data { IfOk result (λ output. output.is_data_on_output ≡ self.now.is_data_on_output) }
+    {
+        match BufWriter::with_capacity(self.alloc, PAGE, sink) {
+            Ok(writer) => Ok(OutputFile {
+                to: Gathered::new(writer),
+                place,
+                is_synced: self.is_synced && holds_data,
+                is_data_on_output: self.is_data_on_output,
+            }),
+            Err(_) => Err(HostRefusal::memory().begun(place)),
+        }
+    }
+
+    // Opens an output as it is, and empties it once it is known that it is no other file of this run.
+    fn created<'a>(&mut self, place: Place<'a>, access: Access) -> Result<Opened, HostRefusal<'a>>
+        requires { writes access ≡ true }
+        ensures free { IfOk result (λ opened. ¬ Forbidden self.old.taken opened.found.identity) }
+        ensures taken { IfOk result (λ opened. Adds self.old.taken self.new.taken opened.found.identity) }
+    {
+        let opened = open_file(self.rt, self.alloc, place, access)?;
+        self.admit(opened.found.identity, place)?;
+        match self.taken.empty(&opened.file, opened.found) {
+            Ok(()) => Ok(opened),
+            Err(error) => Err(HostRefusal::at(HostFault::CannotOpen, place, error.raw_os_error())),
+        }
+    }
+
+    // Refuses a file that is read, or that is written already; no further output may be this one.
+    fn admit<'a>(&mut self, identity: Identity, place: Place<'a>) -> Result<(), HostRefusal<'a>>
+        ensures free { OnOk result (¬ Forbidden self.old.taken identity) }
+        ensures taken { OnOk result (Adds self.old.taken self.new.taken identity) }
+        ensures refused { IfErr result (λ refusal.
+            (refusal.fault ≡ HostFault.SameFile) ↔ Forbidden self.old.taken identity) }
+        ensures faults { IfErr result (λ refusal.
+            (refusal.fault ≡ HostFault.SameFile) ⊎ (refusal.fault ≡ HostFault.Memory)) }
+        ensures kept { OnErr result (self.new.taken.files.items ≡ self.old.taken.files.items) }
+        ensures on_output { OnOk result (self.old.streams.out ≡ identity → IsTrue self.new.is_data_on_output) }
+    {
+        if self.taken.forbids(identity) {
+            return Err(HostRefusal::at(HostFault::SameFile, place, None));
+        }
+        if self.streams.out == identity {
+            self.is_data_on_output = true;
+        }
+        match self.taken.take(identity) {
+            Ok(()) => Ok(()),
+            Err(_) => Err(HostRefusal::memory()),
+        }
+    }
+}
+
+// Makes an empty file so many zeros. Why it could not be done, by the number of the system's error.
+fn zeros_in(file: File, bytes: u64) -> Result<FilePartition, Option<i32>> {
+    if let Err(error) = file.set_len(bytes) {
+        return Err(error.raw_os_error());
+    }
+    match FilePartition::new(file) {
+        Ok(partition) => Ok(partition),
+        Err(_) => Err(None),
+    }
+}

@@ -1,7 +1,0 @@
-use Rattle.std.proofs.Common.{sym, ap}
-use Rattle.abt_texts.proofs.Printing.{as_text, printed_none}
-use Rattle.abt_texts.specs.Words.{os_option, words_if, words_text}
-use Rattle.abt_texts.proofs.packing_words.os_words.Goals as goal
-
-pub returns-in-None-clause-lines : goal.returns-in-None-clause-lines
-returns-in-None-clause-lines g c = as_text (ap (λ n. words_text (words_if os_option n)) (sym c.in-None.ensures)) (printed_none _ _ _)

@@ -1,5 +1,0 @@
-use Rattle.abt_texts.proofs.Printing.{printed_none}
-use Rattle.abt_texts.proofs.text_output.Text.end_shown_line.Goals as goal
-
-pub returns-then-len-lt-ENOUGH : goal.returns-then-len-lt-ENOUGH
-returns-then-len-lt-ENOUGH g c = printed_none _ _ _

@@ -1,0 +1,3 @@
+pub mod NumberWord
+pub mod Refused
+pub mod WordFile

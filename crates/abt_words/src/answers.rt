@@ -1,0 +1,168 @@
+//! What was given for each row of a command's table.
+
+ghost use Rattle.std.specs.Prelude.{◌≡◌, IfOk, IfErr};
+ghost use Rattle.abt_words.specs.NumberWord.{IsRead};
+ghost use Rattle.abt_words.specs.Refused.{TellsNoNumber};
+
+use crate::fault::WordsFault;
+use crate::numbers::{number_in, number_word};
+use crate::order::Given;
+use crate::rows::{CommandRow, Row};
+use clap::ArgMatches;
+use std::alloc::{AllocError, Global};
+
+/// A word that was given, or that a row has where none is.
+#[derive(Clone, Copy)]
+pub(crate) struct Answer<'a> {
+    /// The row's name.
+    pub name: &'static str,
+    pub word: &'a str,
+    /// The number that the word writes, where the row is one of numbers, else 0.
+    pub number: u64,
+}
+
+impl<'a> Answer<'a> {
+    /// What a word answers to a row.
+    fn new(
+        alloc: Global,
+        row: &'static Row,
+        word: &'a str,
+        is_verbose: bool,
+    ) -> Result<Answer<'a>, WordsFault>
+        ensures word { IfOk result (λ answer. answer.word.now ≡ word.now) }
+        ensures number { IfOk result (λ answer. IsRead row.now.value word.now answer.number) }
+        ensures refused { IfErr result (TellsNoNumber row.now.value word.now is_verbose) }
+    {
+        match number_in(row.value, word) {
+            Some(number) => Ok(Answer {
+                name: row.name,
+                word,
+                number,
+            }),
+            None => Err(WordsFault::BadNumber {
+                word: String::from_str(alloc, word)?,
+                is_number: number_word(word).is_some(),
+                is_verbose,
+            }),
+        }
+    }
+}
+
+/// The answers of a command, in the order of its table.
+#[derive(Drop)]
+pub(crate) struct Answers<'a> {
+    all: Vec<Answer<'a>>,
+    /// Whether a refusal is to have its second line.
+    pub is_verbose: bool,
+}
+
+impl<'a> Answers<'a> {
+    /// What a parse found for the rows of this command.
+    pub(crate) fn new(
+        alloc: Global,
+        command: &CommandRow,
+        found: &ArgMatches<'a>,
+        is_verbose: bool,
+    ) -> Result<Answers<'a>, WordsFault> {
+        let mut answers = Answers {
+            all: Vec::new(alloc),
+            is_verbose: is_verbose || found.get_flag("verbose"),
+        };
+        answers.read_rows(alloc, command.own_rows(), found)?;
+        answers.read_rows(alloc, command.filling_rows(), found)?;
+        answers.read_rows(alloc, command.shared_rows(), found)?;
+        Ok(answers)
+    }
+
+    fn read_rows(
+        &mut self,
+        alloc: Global,
+        rows: &'static [Row],
+        found: &ArgMatches<'a>,
+    ) -> Result<(), WordsFault> {
+        for row in rows {
+            if let Some(words) = found.get_strs(row.name) {
+                self.read_words(alloc, row, words)?;
+            }
+        }
+        Ok(())
+    }
+
+    fn read_words(
+        &mut self,
+        alloc: Global,
+        row: &'static Row,
+        words: &[&'a str],
+    ) -> Result<(), WordsFault> {
+        for word in words {
+            let answer = Answer::new(alloc, row, *word, self.is_verbose)?;
+            if self.all.push(answer).is_err() {
+                return Err(WordsFault::Memory);
+            }
+        }
+        Ok(())
+    }
+
+    /// The first answer of this name.
+    pub(crate) fn find(&self, name: &str) -> Option<Answer<'a>> {
+        for answer in &self.all {
+            if answer.name == name {
+                return Some(*answer);
+            }
+        }
+        None
+    }
+
+    /// The first word of this name.
+    pub(crate) fn word(&self, name: &str) -> Option<&'a str> {
+        Some(self.find(name)?.word)
+    }
+
+    /// The same of a word that a parse always finds.
+    pub(crate) fn given_word(&self, name: &str) -> &'a str {
+        self.word(name).unwrap_or("")
+    }
+
+    /// The number of this name.
+    pub(crate) fn number(&self, name: &str) -> Option<u32> {
+        u32::try_from(self.find(name)?.number).ok()
+    }
+
+    /// The same of a number that a parse always finds.
+    pub(crate) fn given_number(&self, name: &str) -> u32 {
+        self.number(name).unwrap_or(0)
+    }
+
+    /// What the option of this name was given.
+    pub(crate) fn given(&self, name: &str) -> Given<'a> {
+        match self.find(name) {
+            Some(answer) => Given {
+                word: Some(answer.word),
+                number: answer.number,
+            },
+            None => Given {
+                word: None,
+                number: 0,
+            },
+        }
+    }
+
+    /// Whether this flag was given.
+    pub(crate) fn flag(&self, name: &str) -> bool {
+        self.word(name) == Some("true")
+    }
+
+    /// Every word of this name, behind those that are there already.
+    pub(crate) fn push_words(
+        &self,
+        name: &str,
+        words: &mut Vec<&'a str>,
+    ) -> Result<(), AllocError> {
+        for answer in &self.all {
+            if answer.name == name {
+                words.push(answer.word)?;
+            }
+        }
+        Ok(())
+    }
+}

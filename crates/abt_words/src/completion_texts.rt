@@ -1,0 +1,186 @@
+//! Written by `tools/make_completions.py`: what `completions` prints.
+
+#[rattlefmt::skip]
+pub(crate) const BASH: &str = r#"_abootimg() {
+    local word=${COMP_WORDS[COMP_CWORD]} words= at=1
+    while [ "$at" -lt "$COMP_CWORD" ] && [ "${COMP_WORDS[at]#-}" != "${COMP_WORDS[at]}" ]; do
+        at=$((at + 1))
+    done
+    if [ "$at" = "$COMP_CWORD" ]; then
+        words=' expand list sparse cut flash verify pack repack unpack info completions help -v --verbose -q --quiet -h --help -V --version'
+    elif [ "${word#-}" != "$word" ]; then
+        case ${COMP_WORDS[at]} in
+            expand) words=' --sync -v --verbose -q --quiet -h --help' ;;
+            list) words=' -v --verbose -q --quiet -h --help' ;;
+            sparse) words=' --block --sync -v --verbose -q --quiet -h --help' ;;
+            cut) words=' --raw --sync -v --verbose -q --quiet -h --help' ;;
+            flash) words=' --raw --from -v --verbose -q --quiet -h --help' ;;
+            verify) words=' --raw -v --verbose -q --quiet -h --help' ;;
+            pack) words=' --vendor --version --page --kernel --ramdisk --second --recovery-dtbo --dtb --signature --bootconfig --kernel-addr --ramdisk-addr --tags-addr --second-addr --dtb-addr --base --kernel-offset --ramdisk-offset --second-offset --tags-offset --dtb-offset --os --os-number --name --cmdline --board-id --fragment --escaped --sync -v --verbose -q --quiet -h --help' ;;
+            repack) words=' --page --keep-trailing --kernel --ramdisk --second --recovery-dtbo --dtb --signature --bootconfig --kernel-addr --ramdisk-addr --tags-addr --second-addr --dtb-addr --base --kernel-offset --ramdisk-offset --second-offset --tags-offset --dtb-offset --os --os-number --name --cmdline --board-id --fragment --escaped --sync -v --verbose -q --quiet -h --help' ;;
+            unpack) words=' --words --sync -v --verbose -q --quiet -h --help' ;;
+            info) words=' --check --hex -v --verbose -q --quiet -h --help' ;;
+            completions) words=' -v --verbose -q --quiet -h --help' ;;
+        esac
+    elif [ "${COMP_WORDS[at]}" = completions ]; then
+        words='bash zsh fish'
+    elif [ "${COMP_WORDS[at]}" = help ]; then
+        words='expand list sparse cut flash verify pack repack unpack info completions'
+    else
+        COMPREPLY=($(compgen -f -- "$word"))
+        return
+    fi
+    COMPREPLY=($(compgen -W "$words" -- "$word"))
+}
+complete -o filenames -F _abootimg abootimg
+"#;
+
+#[rattlefmt::skip]
+pub(crate) const ZSH: &str = r#"#compdef abootimg
+_abootimg() {
+    local at=2
+    while (( at < CURRENT )) && [[ $words[at] == -* ]]; do
+        (( at += 1 ))
+    done
+    if (( at == CURRENT )); then
+        compadd -- expand list sparse cut flash verify pack repack unpack info completions help -v --verbose -q --quiet -h --help -V --version
+        return
+    fi
+    if [[ $words[CURRENT] == -* ]]; then
+        case $words[at] in
+            expand) compadd -- --sync -v --verbose -q --quiet -h --help ;;
+            list) compadd -- -v --verbose -q --quiet -h --help ;;
+            sparse) compadd -- --block --sync -v --verbose -q --quiet -h --help ;;
+            cut) compadd -- --raw --sync -v --verbose -q --quiet -h --help ;;
+            flash) compadd -- --raw --from -v --verbose -q --quiet -h --help ;;
+            verify) compadd -- --raw -v --verbose -q --quiet -h --help ;;
+            pack) compadd -- --vendor --version --page --kernel --ramdisk --second --recovery-dtbo --dtb --signature --bootconfig --kernel-addr --ramdisk-addr --tags-addr --second-addr --dtb-addr --base --kernel-offset --ramdisk-offset --second-offset --tags-offset --dtb-offset --os --os-number --name --cmdline --board-id --fragment --escaped --sync -v --verbose -q --quiet -h --help ;;
+            repack) compadd -- --page --keep-trailing --kernel --ramdisk --second --recovery-dtbo --dtb --signature --bootconfig --kernel-addr --ramdisk-addr --tags-addr --second-addr --dtb-addr --base --kernel-offset --ramdisk-offset --second-offset --tags-offset --dtb-offset --os --os-number --name --cmdline --board-id --fragment --escaped --sync -v --verbose -q --quiet -h --help ;;
+            unpack) compadd -- --words --sync -v --verbose -q --quiet -h --help ;;
+            info) compadd -- --check --hex -v --verbose -q --quiet -h --help ;;
+            completions) compadd -- -v --verbose -q --quiet -h --help ;;
+        esac
+    elif [[ $words[at] == completions ]]; then
+        compadd -- bash zsh fish
+    elif [[ $words[at] == help ]]; then
+        compadd -- expand list sparse cut flash verify pack repack unpack info completions
+    else
+        _files
+    fi
+}
+if [ "$funcstack[1]" = _abootimg ]; then
+    _abootimg "$@"
+else
+    compdef _abootimg abootimg
+fi
+"#;
+
+#[rattlefmt::skip]
+pub(crate) const FISH: &str = r#"complete -c abootimg -n __fish_use_subcommand -l verbose -s v -d 'Tells of a refusal in a second line which file it is about, and why'
+complete -c abootimg -n __fish_use_subcommand -l quiet -s q -d 'Does not show on a terminal how far the work is'
+complete -c abootimg -n __fish_use_subcommand -f -a expand -d 'Writes the raw image that a sparse image stands for, or several together'
+complete -c abootimg -n '__fish_seen_subcommand_from expand' -l sync -d 'Syncs what it wrote, so that it stands after a loss of power'
+complete -c abootimg -n '__fish_seen_subcommand_from expand' -l verbose -s v -d 'Tells of a refusal in a second line which file it is about, and why'
+complete -c abootimg -n '__fish_seen_subcommand_from expand' -l quiet -s q -d 'Does not show on a terminal how far the work is'
+complete -c abootimg -n __fish_use_subcommand -f -a list -d 'Prints the header and every chunk of a sparse image'
+complete -c abootimg -n '__fish_seen_subcommand_from list' -l verbose -s v -d 'Tells of a refusal in a second line which file it is about, and why'
+complete -c abootimg -n '__fish_seen_subcommand_from list' -l quiet -s q -d 'Does not show on a terminal how far the work is'
+complete -c abootimg -n __fish_use_subcommand -f -a sparse -d 'Writes a raw image as a sparse image'
+complete -c abootimg -n '__fish_seen_subcommand_from sparse' -l block -r -d 'Bytes of a block: a multiple of 4, at most 65536'
+complete -c abootimg -n '__fish_seen_subcommand_from sparse' -l sync -d 'Syncs what it wrote, so that it stands after a loss of power'
+complete -c abootimg -n '__fish_seen_subcommand_from sparse' -l verbose -s v -d 'Tells of a refusal in a second line which file it is about, and why'
+complete -c abootimg -n '__fish_seen_subcommand_from sparse' -l quiet -s q -d 'Does not show on a terminal how far the work is'
+complete -c abootimg -n __fish_use_subcommand -f -a cut -d 'Cuts an image into pieces, sparse images that a device takes one by one'
+complete -c abootimg -n '__fish_seen_subcommand_from cut' -l raw -r -d 'IN is a raw image in blocks of N bytes: a multiple of 4, at most 65536'
+complete -c abootimg -n '__fish_seen_subcommand_from cut' -l sync -d 'Syncs what it wrote, so that it stands after a loss of power'
+complete -c abootimg -n '__fish_seen_subcommand_from cut' -l verbose -s v -d 'Tells of a refusal in a second line which file it is about, and why'
+complete -c abootimg -n '__fish_seen_subcommand_from cut' -l quiet -s q -d 'Does not show on a terminal how far the work is'
+complete -c abootimg -n __fish_use_subcommand -f -a flash -d 'Flashes an image to a partition, whole or in pieces for a download limit'
+complete -c abootimg -n '__fish_seen_subcommand_from flash' -l raw -r -d 'IN is a raw image in blocks of N bytes: a multiple of 4, at most 65536'
+complete -c abootimg -n '__fish_seen_subcommand_from flash' -l from -r -d 'Begins with piece J, counted from 1, and only plans those before it'
+complete -c abootimg -n '__fish_seen_subcommand_from flash' -l verbose -s v -d 'Tells of a refusal in a second line which file it is about, and why'
+complete -c abootimg -n '__fish_seen_subcommand_from flash' -l quiet -s q -d 'Does not show on a terminal how far the work is'
+complete -c abootimg -n __fish_use_subcommand -f -a verify -d 'Compares an image with what stands on a partition, and writes nothing'
+complete -c abootimg -n '__fish_seen_subcommand_from verify' -l raw -r -d 'IN is a raw image in blocks of N bytes: a multiple of 4, at most 65536'
+complete -c abootimg -n '__fish_seen_subcommand_from verify' -l verbose -s v -d 'Tells of a refusal in a second line which file it is about, and why'
+complete -c abootimg -n '__fish_seen_subcommand_from verify' -l quiet -s q -d 'Does not show on a terminal how far the work is'
+complete -c abootimg -n __fish_use_subcommand -f -a pack -d 'Writes a boot image or a vendor boot image of its parts'
+complete -c abootimg -n '__fish_seen_subcommand_from pack' -l vendor -d 'Writes a vendor boot image'
+complete -c abootimg -n '__fish_seen_subcommand_from pack' -l version -r -d 'The header version, 0 to 4, with --vendor 3 or 4'
+complete -c abootimg -n '__fish_seen_subcommand_from pack' -l page -r -d 'Bytes in a page, a power of two from 2048 to 131072; boot 3 and 4 always have 4096'
+complete -c abootimg -n '__fish_seen_subcommand_from pack' -l kernel -r -d 'The kernel (boot)'
+complete -c abootimg -n '__fish_seen_subcommand_from pack' -l ramdisk -r -d 'The ramdisk (boot, vendor 3)'
+complete -c abootimg -n '__fish_seen_subcommand_from pack' -l second -r -d 'The second stage (boot 0 to 2)'
+complete -c abootimg -n '__fish_seen_subcommand_from pack' -l recovery-dtbo -r -d 'The recovery DTBO (boot 1, 2)'
+complete -c abootimg -n '__fish_seen_subcommand_from pack' -l dtb -r -d 'The device tree blob (boot 2, vendor)'
+complete -c abootimg -n '__fish_seen_subcommand_from pack' -l signature -r -d 'The boot signature (boot 4)'
+complete -c abootimg -n '__fish_seen_subcommand_from pack' -l bootconfig -r -d 'The bootconfig (vendor 4)'
+complete -c abootimg -n '__fish_seen_subcommand_from pack' -l kernel-addr -r -d 'Where the kernel is loaded (boot 0 to 2, vendor)'
+complete -c abootimg -n '__fish_seen_subcommand_from pack' -l ramdisk-addr -r -d 'Where the ramdisk is loaded (boot 0 to 2, vendor)'
+complete -c abootimg -n '__fish_seen_subcommand_from pack' -l tags-addr -r -d 'Where the kernel\'s tags are loaded (boot 0 to 2, vendor)'
+complete -c abootimg -n '__fish_seen_subcommand_from pack' -l second-addr -r -d 'Where the second stage is loaded (boot 0 to 2)'
+complete -c abootimg -n '__fish_seen_subcommand_from pack' -l dtb-addr -r -d 'Where the device tree blob is loaded, in 64 bits (boot 2, vendor)'
+complete -c abootimg -n '__fish_seen_subcommand_from pack' -l base -r -d 'What the offsets count from: addresses that aren\'t given are sums (boot 0 to 2, vendor)'
+complete -c abootimg -n '__fish_seen_subcommand_from pack' -l kernel-offset -r -d 'Of the kernel from the base; 0x8000'
+complete -c abootimg -n '__fish_seen_subcommand_from pack' -l ramdisk-offset -r -d 'Of the ramdisk from the base; 0x1000000'
+complete -c abootimg -n '__fish_seen_subcommand_from pack' -l second-offset -r -d 'Of the second stage from the base; 0xf00000'
+complete -c abootimg -n '__fish_seen_subcommand_from pack' -l tags-offset -r -d 'Of the kernel\'s tags from the base; 0x100'
+complete -c abootimg -n '__fish_seen_subcommand_from pack' -l dtb-offset -r -d 'Of the device tree blob from the base; 0x1f00000'
+complete -c abootimg -n '__fish_seen_subcommand_from pack' -l os -r -d 'The OS version and its patch level (boot)'
+complete -c abootimg -n '__fish_seen_subcommand_from pack' -l os-number -r -d 'The same as the number that the header has (boot)'
+complete -c abootimg -n '__fish_seen_subcommand_from pack' -l name -r -d 'The product\'s name, at most 15 bytes (boot 0 to 2, vendor)'
+complete -c abootimg -n '__fish_seen_subcommand_from pack' -l cmdline -r -d 'The kernel\'s command line, at most 1535 bytes (vendor: 2047)'
+complete -c abootimg -n '__fish_seen_subcommand_from pack' -l board-id -r -d 'Number K, from 0 to 15, of the board id of fragment I, counted from 0, is N (vendor 4)'
+complete -c abootimg -n '__fish_seen_subcommand_from pack' -l fragment -r -d 'A ramdisk, before those behind OUT (vendor 4)'
+complete -c abootimg -n '__fish_seen_subcommand_from pack' -l escaped -d 'In paths, texts and NAME \\x and two hexadecimal digits stand for a byte'
+complete -c abootimg -n '__fish_seen_subcommand_from pack' -l sync -d 'Syncs what it wrote, so that it stands after a loss of power'
+complete -c abootimg -n '__fish_seen_subcommand_from pack' -l verbose -s v -d 'Tells of a refusal in a second line which file it is about, and why'
+complete -c abootimg -n '__fish_seen_subcommand_from pack' -l quiet -s q -d 'Does not show on a terminal how far the work is'
+complete -c abootimg -n __fish_use_subcommand -f -a repack -d 'Writes an image again, with the given parts and fields in place of its own'
+complete -c abootimg -n '__fish_seen_subcommand_from repack' -l page -r -d 'Bytes in a page, a power of two from 2048 to 131072; boot 3 and 4 always have 4096'
+complete -c abootimg -n '__fish_seen_subcommand_from repack' -l keep-trailing -d 'Writes what stands behind the image behind the new one'
+complete -c abootimg -n '__fish_seen_subcommand_from repack' -l kernel -r -d 'The kernel (boot)'
+complete -c abootimg -n '__fish_seen_subcommand_from repack' -l ramdisk -r -d 'The ramdisk (boot, vendor 3)'
+complete -c abootimg -n '__fish_seen_subcommand_from repack' -l second -r -d 'The second stage (boot 0 to 2)'
+complete -c abootimg -n '__fish_seen_subcommand_from repack' -l recovery-dtbo -r -d 'The recovery DTBO (boot 1, 2)'
+complete -c abootimg -n '__fish_seen_subcommand_from repack' -l dtb -r -d 'The device tree blob (boot 2, vendor)'
+complete -c abootimg -n '__fish_seen_subcommand_from repack' -l signature -r -d 'The boot signature (boot 4)'
+complete -c abootimg -n '__fish_seen_subcommand_from repack' -l bootconfig -r -d 'The bootconfig (vendor 4)'
+complete -c abootimg -n '__fish_seen_subcommand_from repack' -l kernel-addr -r -d 'Where the kernel is loaded (boot 0 to 2, vendor)'
+complete -c abootimg -n '__fish_seen_subcommand_from repack' -l ramdisk-addr -r -d 'Where the ramdisk is loaded (boot 0 to 2, vendor)'
+complete -c abootimg -n '__fish_seen_subcommand_from repack' -l tags-addr -r -d 'Where the kernel\'s tags are loaded (boot 0 to 2, vendor)'
+complete -c abootimg -n '__fish_seen_subcommand_from repack' -l second-addr -r -d 'Where the second stage is loaded (boot 0 to 2)'
+complete -c abootimg -n '__fish_seen_subcommand_from repack' -l dtb-addr -r -d 'Where the device tree blob is loaded, in 64 bits (boot 2, vendor)'
+complete -c abootimg -n '__fish_seen_subcommand_from repack' -l base -r -d 'What the offsets count from: addresses that aren\'t given are sums (boot 0 to 2, vendor)'
+complete -c abootimg -n '__fish_seen_subcommand_from repack' -l kernel-offset -r -d 'Of the kernel from the base; 0x8000'
+complete -c abootimg -n '__fish_seen_subcommand_from repack' -l ramdisk-offset -r -d 'Of the ramdisk from the base; 0x1000000'
+complete -c abootimg -n '__fish_seen_subcommand_from repack' -l second-offset -r -d 'Of the second stage from the base; 0xf00000'
+complete -c abootimg -n '__fish_seen_subcommand_from repack' -l tags-offset -r -d 'Of the kernel\'s tags from the base; 0x100'
+complete -c abootimg -n '__fish_seen_subcommand_from repack' -l dtb-offset -r -d 'Of the device tree blob from the base; 0x1f00000'
+complete -c abootimg -n '__fish_seen_subcommand_from repack' -l os -r -d 'The OS version and its patch level (boot)'
+complete -c abootimg -n '__fish_seen_subcommand_from repack' -l os-number -r -d 'The same as the number that the header has (boot)'
+complete -c abootimg -n '__fish_seen_subcommand_from repack' -l name -r -d 'The product\'s name, at most 15 bytes (boot 0 to 2, vendor)'
+complete -c abootimg -n '__fish_seen_subcommand_from repack' -l cmdline -r -d 'The kernel\'s command line, at most 1535 bytes (vendor: 2047)'
+complete -c abootimg -n '__fish_seen_subcommand_from repack' -l board-id -r -d 'Number K, from 0 to 15, of the board id of fragment I, counted from 0, is N (vendor 4)'
+complete -c abootimg -n '__fish_seen_subcommand_from repack' -l fragment -r -d 'A ramdisk, before those behind OUT (vendor 4)'
+complete -c abootimg -n '__fish_seen_subcommand_from repack' -l escaped -d 'In paths, texts and NAME \\x and two hexadecimal digits stand for a byte'
+complete -c abootimg -n '__fish_seen_subcommand_from repack' -l sync -d 'Syncs what it wrote, so that it stands after a loss of power'
+complete -c abootimg -n '__fish_seen_subcommand_from repack' -l verbose -s v -d 'Tells of a refusal in a second line which file it is about, and why'
+complete -c abootimg -n '__fish_seen_subcommand_from repack' -l quiet -s q -d 'Does not show on a terminal how far the work is'
+complete -c abootimg -n __fish_use_subcommand -f -a unpack -d 'Writes the sections of a boot image or vendor boot image to files'
+complete -c abootimg -n '__fish_seen_subcommand_from unpack' -l words -d 'Also writes DIR/pack.words, with which pack @DIR/pack.words OUT makes the image again'
+complete -c abootimg -n '__fish_seen_subcommand_from unpack' -l sync -d 'Syncs what it wrote, so that it stands after a loss of power'
+complete -c abootimg -n '__fish_seen_subcommand_from unpack' -l verbose -s v -d 'Tells of a refusal in a second line which file it is about, and why'
+complete -c abootimg -n '__fish_seen_subcommand_from unpack' -l quiet -s q -d 'Does not show on a terminal how far the work is'
+complete -c abootimg -n __fish_use_subcommand -f -a info -d 'Prints what the header of a boot image or vendor boot image says'
+complete -c abootimg -n '__fish_seen_subcommand_from info' -l check -d 'Tells why an answer of the check is no, and is refused then'
+complete -c abootimg -n '__fish_seen_subcommand_from info' -l hex -d 'Prints addresses and sizes as 0x.., and the OS as --os takes it'
+complete -c abootimg -n '__fish_seen_subcommand_from info' -l verbose -s v -d 'Tells of a refusal in a second line which file it is about, and why'
+complete -c abootimg -n '__fish_seen_subcommand_from info' -l quiet -s q -d 'Does not show on a terminal how far the work is'
+complete -c abootimg -n __fish_use_subcommand -f -a completions -d 'Prints what a shell needs to complete the words of this program'
+complete -c abootimg -n '__fish_seen_subcommand_from completions' -l verbose -s v -d 'Tells of a refusal in a second line which file it is about, and why'
+complete -c abootimg -n '__fish_seen_subcommand_from completions' -l quiet -s q -d 'Does not show on a terminal how far the work is'
+complete -c abootimg -n __fish_use_subcommand -f -a help -d 'Prints the help of a command'
+complete -c abootimg -n '__fish_seen_subcommand_from completions' -f -a 'bash zsh fish'
+complete -c abootimg -n '__fish_seen_subcommand_from help' -f -a 'expand list sparse cut flash verify pack repack unpack info completions'
+"#;

@@ -1,0 +1,181 @@
+//! Reading the words: what the answers to a command's rows ask for.
+
+use crate::answers::Answers;
+use crate::completions::Shell;
+use crate::fault::WordsFault;
+use crate::order::{BootTask, Given, Order, PackOrder, Pieces, SparseTask, Task};
+use crate::parser::program;
+use crate::rows::{CommandRow, Work};
+use crate::table::{commands, options};
+use clap::error::ErrorKind;
+use std::alloc::{AllocError, Global};
+use std::convert::AsStr;
+
+/// Reads the words, of which the first is the program's name.
+pub fn order_of<'a, S: AsStr>(alloc: Global, words: &'a [S]) -> Result<Order<'a>, WordsFault> {
+    let mut found = program(alloc)?.try_get_matches_from(words)?;
+    let is_verbose = found.get_flag("verbose");
+    let is_quiet = found.get_flag("quiet");
+    if let Some((name, found)) = found.remove_subcommand() {
+        if let Some(command) = command_named(name) {
+            let answers = Answers::new(alloc, command, &found, is_verbose)?;
+            return Ok(Order {
+                command: command.name,
+                task: task_for(alloc, command.work, &answers)?,
+                is_verbose: answers.is_verbose,
+                is_quiet: is_quiet || answers.flag("quiet"),
+                is_synced: answers.flag("sync"),
+            });
+        }
+    }
+    Err(no_command(alloc)?)
+}
+
+fn no_command(alloc: Global) -> Result<WordsFault, AllocError> {
+    let error = program(alloc)?.error(ErrorKind::MissingSubcommand, "a command is required")?;
+    Ok(WordsFault::Usage(error))
+}
+
+fn command_named(name: &str) -> Option<&'static CommandRow> {
+    for command in commands() {
+        if command.name == name {
+            return Some(command);
+        }
+    }
+    None
+}
+
+fn task_for<'a>(alloc: Global, work: Work, answers: &Answers<'a>) -> Result<Task<'a>, AllocError> {
+    match work {
+        Work::Expand => expand(alloc, answers),
+        Work::Pack => pack(alloc, answers),
+        Work::Repack => repack(alloc, answers),
+        Work::Unpack => Ok(Task::Boot(unpack(answers))),
+        Work::Info => Ok(Task::Boot(info(answers))),
+        Work::List => Ok(Task::Sparse(list(answers))),
+        Work::Sparse => Ok(Task::Sparse(make_sparse(answers))),
+        Work::Cut => Ok(Task::Sparse(cut(answers))),
+        Work::Flash => Ok(Task::Sparse(flash(answers))),
+        Work::Verify => Ok(Task::Sparse(verify(answers))),
+        Work::Completions => Ok(Task::Completions(Shell::new(answers.given_word("SHELL")))),
+    }
+}
+
+// ---- sparse images
+
+fn expand<'a>(alloc: Global, answers: &Answers<'a>) -> Result<Task<'a>, AllocError> {
+    let mut inputs = Vec::new(alloc);
+    answers.push_words("IN", &mut inputs)?;
+    let output = answers.given_word("OUT");
+    Ok(Task::Sparse(SparseTask::Expand { inputs, output }))
+}
+
+fn list<'a>(answers: &Answers<'a>) -> SparseTask<'a> {
+    SparseTask::List {
+        input: answers.given_word("IN"),
+    }
+}
+
+fn make_sparse<'a>(answers: &Answers<'a>) -> SparseTask<'a> {
+    SparseTask::Sparse {
+        input: answers.given_word("IN"),
+        output: answers.given_word("OUT"),
+        block: answers.given_number("block"),
+    }
+}
+
+fn cut<'a>(answers: &Answers<'a>) -> SparseTask<'a> {
+    SparseTask::Cut {
+        input: answers.given_word("IN"),
+        limit: answers.given_number("LIMIT"),
+        prefix: answers.given_word("PREFIX"),
+        raw: answers.number("raw"),
+    }
+}
+
+fn flash<'a>(answers: &Answers<'a>) -> SparseTask<'a> {
+    SparseTask::Flash {
+        input: answers.given_word("IN"),
+        partition: answers.given_word("PARTITION"),
+        raw: answers.number("raw"),
+        pieces: pieces_for(answers),
+    }
+}
+
+fn pieces_for<'a>(answers: &Answers<'a>) -> Option<Pieces<'a>> {
+    let spool = answers.word("SPOOL")?;
+    Some(Pieces {
+        limit: answers.given_number("LIMIT"),
+        spool,
+        from: answers.number("from").unwrap_or(1),
+    })
+}
+
+fn verify<'a>(answers: &Answers<'a>) -> SparseTask<'a> {
+    SparseTask::Verify {
+        input: answers.given_word("IN"),
+        partition: answers.given_word("PARTITION"),
+        raw: answers.number("raw"),
+    }
+}
+
+// ---- boot images
+
+fn pack<'a>(alloc: Global, answers: &Answers<'a>) -> Result<Task<'a>, AllocError> {
+    let order = pack_order(alloc, answers)?;
+    Ok(Task::Boot(BootTask::Pack(order)))
+}
+
+fn repack<'a>(alloc: Global, answers: &Answers<'a>) -> Result<Task<'a>, AllocError> {
+    let input = answers.given_word("IN");
+    let order = pack_order(alloc, answers)?;
+    Ok(Task::Boot(BootTask::Repack { input, order }))
+}
+
+fn unpack<'a>(answers: &Answers<'a>) -> BootTask<'a> {
+    BootTask::Unpack {
+        input: answers.given_word("IN"),
+        folder: answers.given_word("DIR"),
+        with_words: answers.flag("words"),
+    }
+}
+
+fn info<'a>(answers: &Answers<'a>) -> BootTask<'a> {
+    BootTask::Info {
+        input: answers.given_word("IN"),
+        with_check: answers.flag("check"),
+        with_hex: answers.flag("hex"),
+    }
+}
+
+fn pack_order<'a>(alloc: Global, answers: &Answers<'a>) -> Result<PackOrder<'a>, AllocError> {
+    let mut board_ids = Vec::new(alloc);
+    answers.push_words("board-id", &mut board_ids)?;
+    let mut fragments = Vec::new(alloc);
+    answers.push_words("fragment", &mut fragments)?;
+    answers.push_words("FRAGMENT", &mut fragments)?;
+    Ok(PackOrder {
+        output: answers.given_word("OUT"),
+        is_vendor: answers.flag("vendor"),
+        version: answers.given_number("version"),
+        page: answers.number("page"),
+        given: all_given(answers),
+        board_ids,
+        fragments,
+        keeps_trailing: answers.flag("keep-trailing"),
+        is_escaped: answers.flag("escaped"),
+    })
+}
+
+// What each option was given.
+fn all_given<'a>(answers: &Answers<'a>) -> [Given<'a>; 22] {
+    let mut all = [Given {
+        word: None,
+        number: 0,
+    }; 22];
+    let options = options();
+    for place in 0..22usize {
+        all[place] = answers.given(options[place].name);
+    }
+    all
+}

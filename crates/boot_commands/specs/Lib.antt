@@ -1,0 +1,6 @@
+pub mod Boards
+pub mod Fault
+pub mod Parts
+pub mod Refused
+pub mod Texts
+pub mod Unpacked

@@ -1,0 +1,96 @@
+//! Which command over boot images it is.
+
+use crate::fault::BootCommandFault;
+use crate::info::info_file;
+use crate::pack::pack_file;
+use crate::pack_command::PackCommand;
+use crate::repack::repack_file;
+use crate::unpack::unpack_file;
+use abt_host::{Reading, Refusal, Report};
+use abt_io::{Meter, Window};
+use abt_words::BootTask;
+use std::alloc::{AllocError, Global};
+
+/// How a command over boot images ended: the files that it is about are named at `'t`, and its words at `'a`.
+pub type BootOutcome<'t, 'a> = Result<(), Refusal<'t, BootCommandFault<'a>>>;
+
+/// A command over boot images, whose words are read.
+#[derive(Drop)]
+pub struct BootCommand<'a> {
+    kind: Kind<'a>,
+}
+
+#[derive(Drop)]
+enum Kind<'a> {
+    Pack(PackCommand<'a>),
+    Repack {
+        input: &'a str,
+        command: PackCommand<'a>,
+    },
+    Unpack {
+        input: &'a str,
+        folder: &'a str,
+        with_words: bool,
+    },
+    Info {
+        input: &'a str,
+        with_check: bool,
+        with_hex: bool,
+    },
+}
+
+impl<'a> BootCommand<'a> {
+    /// Reads the words that stand for bytes.
+    pub fn new(alloc: Global, task: BootTask<'a>) -> Result<BootCommand<'a>, AllocError> {
+        let kind = match task {
+            BootTask::Pack(order) => Kind::Pack(PackCommand::new(alloc, order)?),
+            BootTask::Repack { input, order } => {
+                let command = PackCommand::new(alloc, order)?;
+                Kind::Repack { input, command }
+            }
+            BootTask::Unpack {
+                input,
+                folder,
+                with_words,
+            } => Kind::Unpack {
+                input,
+                folder,
+                with_words,
+            },
+            BootTask::Info {
+                input,
+                with_check,
+                with_hex,
+            } => Kind::Info {
+                input,
+                with_check,
+                with_hex,
+            },
+        };
+        Ok(BootCommand { kind })
+    }
+}
+
+/// Does what a command asks for.
+pub fn boot_command<'t, 'a>(
+    reading: Reading,
+    report: &mut Report,
+    command: &'t BootCommand<'a>,
+    w: &mut Window,
+    m: &mut Meter,
+) -> BootOutcome<'t, 'a> {
+    match &command.kind {
+        Kind::Pack(command) => pack_file(reading, report, command, w, m),
+        Kind::Repack { input, command } => repack_file(reading, report, input, command, w, m),
+        Kind::Unpack {
+            input,
+            folder,
+            with_words,
+        } => unpack_file(reading, report, input, folder, *with_words, w, m),
+        Kind::Info {
+            input,
+            with_check,
+            with_hex,
+        } => info_file(reading, report, input, *with_check, *with_hex, w, m),
+    }
+}

@@ -1,0 +1,26 @@
+//! What `pack` and `repack` print of what was done.
+
+use boot_findings::LeftOut;
+use std::fmt;
+
+/// The line of an image that was written: how many bytes it has.
+#[derive(Clone, Copy, Drop)]
+pub(crate) struct ImageLine(pub u64);
+
+impl fmt::Display for ImageLine {
+    fn fmt<W: fmt::Write>(&self, f: &mut fmt::Formatter<W>) -> fmt::Result {
+        let bytes = self.0;
+        write!(f, "bytes {bytes}")
+    }
+}
+
+/// What an image that is packed again leaves out.
+#[derive(Clone, Copy, Drop)]
+pub(crate) struct LeftOutNote(pub LeftOut);
+
+impl fmt::Display for LeftOutNote {
+    fn fmt<W: fmt::Write>(&self, f: &mut fmt::Formatter<W>) -> fmt::Result {
+        let left = self.0;
+        write!(f, "abootimg: {left}")
+    }
+}

@@ -1,0 +1,163 @@
+//! The parts that an image is packed from, each open to be read.
+
+ghost use Rattle.std.specs.Prelude.{◌≡◌, length, IfOk};
+ghost use Rattle.boot_commands.specs.Parts.{row_count};
+
+use crate::pack_texts::PackTexts;
+use crate::part_source::PartSource;
+use abt_headers::Section;
+use abt_host::{HostFault, HostRefusal, Place, Reading};
+use abt_io::FileSource;
+use abt_sections::Image;
+use boot_fields::ImageKind;
+use boot_findings::place_of;
+
+/// A part: the option that gives it, and the section that it fills.
+#[derive(Clone, Copy)]
+pub(crate) struct PartRow {
+    pub option: &'static str,
+    pub section: Section,
+}
+
+const KERNEL: PartRow = PartRow {
+    option: "kernel",
+    section: Section::Kernel,
+};
+
+const RAMDISK: PartRow = PartRow {
+    option: "ramdisk",
+    section: Section::Ramdisk,
+};
+
+const SECOND: PartRow = PartRow {
+    option: "second",
+    section: Section::Second,
+};
+
+const RECOVERY_DTBO: PartRow = PartRow {
+    option: "recovery-dtbo",
+    section: Section::RecoveryDtbo,
+};
+
+const DTB: PartRow = PartRow {
+    option: "dtb",
+    section: Section::Dtb,
+};
+
+const SIGNATURE: PartRow = PartRow {
+    option: "signature",
+    section: Section::Signature,
+};
+
+const VENDOR_RAMDISK: PartRow = PartRow {
+    option: "ramdisk",
+    section: Section::VendorRamdisk,
+};
+
+const BOOTCONFIG: PartRow = PartRow {
+    option: "bootconfig",
+    section: Section::Bootconfig,
+};
+
+/// The parts of an image of this kind, in the order of its sections. The ramdisk fragments of a vendor boot image of
+/// version 4 are not among them.
+pub(crate) fn rows_of(kind: ImageKind) -> &'static [PartRow]
+    ensures { length result.now ≡ row_count kind }
+{
+    match kind {
+        ImageKind::Boot(0) => &[KERNEL, RAMDISK, SECOND],
+        ImageKind::Boot(1) => &[KERNEL, RAMDISK, SECOND, RECOVERY_DTBO],
+        ImageKind::Boot(2) => &[KERNEL, RAMDISK, SECOND, RECOVERY_DTBO, DTB],
+        ImageKind::Boot(3) => &[KERNEL, RAMDISK],
+        ImageKind::Boot(_) => &[KERNEL, RAMDISK, SIGNATURE],
+        ImageKind::Vendor(3) => &[VENDOR_RAMDISK, DTB],
+        ImageKind::Vendor(_) => &[DTB, BOOTCONFIG],
+    }
+}
+
+/// Whether an image of this kind has no such part, or an empty one.
+pub(crate) fn is_empty(kind: ImageKind, parts: &[PartSource<'_>], section: Section) -> bool {
+    for (row, part) in rows_of(kind).iter().zip(parts.iter()) {
+        if row.section == section {
+            return part.size == 0;
+        }
+    }
+    true
+}
+
+/// An image that is packed again.
+#[derive(Drop)]
+pub(crate) struct Own<'a> {
+    pub image: Image,
+    pub source: FileSource,
+    pub place: Place<'a>,
+}
+
+impl<'a> Own<'a> {
+    /// So many bytes from a place on, to be read beside the image.
+    pub(crate) fn part(
+        &self,
+        reading: &Reading,
+        at: u64,
+        size: u64,
+    ) -> Result<PartSource<'a>, HostRefusal<'a>> {
+        if size == 0 {
+            return Ok(PartSource::empty());
+        }
+        let file = reading.again(&self.source, self.place)?;
+        Ok(PartSource::range(file, self.place, at, size))
+    }
+}
+
+/// Opens the parts of an image of this kind: each is the file that was given, or else the image's own, or empty.
+pub(crate) fn open_parts<'t>(
+    reading: &mut Reading,
+    kind: ImageKind,
+    texts: &'t PackTexts<'_>,
+    own: Option<&Own<'t>>,
+) -> Result<Vec<PartSource<'t>>, HostRefusal<'t>>
+    ensures { IfOk result (λ parts. length parts.items ≡ row_count kind) }
+{
+    let mut parts = Vec::new(reading.alloc);
+    for row in rows_of(kind) {
+        let part = match texts.find(row.option) {
+            Some(option) => open_file(reading, row.option, &*option.word, option.bytes.as_slice())?,
+            None => own_part(reading, own, row.section)?,
+        };
+        if parts.push(part).is_err() {
+            return Err(HostRefusal::memory());
+        }
+    }
+    Ok(parts)
+}
+
+/// Opens a file whose path is these bytes, which a word writes.
+pub(crate) fn open_file<'t>(
+    reading: &mut Reading,
+    role: &'static str,
+    word: &'t str,
+    path: &'t [u8],
+) -> Result<PartSource<'t>, HostRefusal<'t>> {
+    match str::from_utf8(path) {
+        Ok(path) => {
+            let place = Place::new(role, path);
+            Ok(PartSource::whole(reading.source(place)?, place))
+        }
+        Err(_) => Err(HostRefusal::at(HostFault::CannotOpen, Place::new(role, word), None)),
+    }
+}
+
+// The part that stands in this section, where there is such an image and it has one.
+fn own_part<'t>(
+    reading: &Reading,
+    own: Option<&Own<'t>>,
+    section: Section,
+) -> Result<PartSource<'t>, HostRefusal<'t>> {
+    let Some(own) = own else {
+        return Ok(PartSource::empty());
+    };
+    match place_of(&own.image, section) {
+        Some(place) => own.part(reading, place.at, place.size as u64),
+        None => Ok(PartSource::empty()),
+    }
+}

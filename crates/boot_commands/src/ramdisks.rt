@@ -1,0 +1,121 @@
+//! The ramdisk fragments of a vendor boot image, each open to be read.
+
+ghost use Rattle.std.specs.Prelude.{◌≡◌, length};
+
+use crate::board_ids::set_board_ids;
+use crate::fault::BootCommandFault;
+use crate::pack_texts::PackTexts;
+use crate::part_source::PartSource;
+use crate::parts::{Own, open_file};
+use abt_headers::{RamdiskEntry, Section};
+use abt_host::{HostFault, HostRefusal, Reading};
+use abt_io::{Meter, Window};
+use abt_sections::{FragmentSpec, fragment, fragments};
+use boot_findings::place_of;
+use std::alloc::Global;
+
+/// The fragments of a vendor ramdisk, each with what it is read from.
+#[derive(Drop)]
+pub(crate) struct Ramdisks<'a> {
+    pub specs: Vec<FragmentSpec>,
+    pub sources: Vec<PartSource<'a>>,
+    ghost paired: { length specs.items ≡ length sources.items },
+}
+
+impl<'a> Ramdisks<'a> {
+    /// No fragment.
+    pub(crate) fn new(alloc: Global) -> Ramdisks<'a> {
+        Ramdisks {
+            specs: Vec::new(alloc),
+            sources: Vec::new(alloc),
+        }
+    }
+
+    /// Opens the files that were given, in order.
+    pub(crate) fn open(
+        reading: &mut Reading,
+        texts: &'a PackTexts<'_>,
+    ) -> Result<Ramdisks<'a>, HostRefusal<'a>> {
+        let mut ramdisks = Ramdisks::new(reading.alloc);
+        for fragment in &texts.fragments {
+            if let Some(spec) = fragment.spec {
+                let path = fragment.path.as_slice();
+                let source = open_file(reading, "FRAGMENT", &*fragment.word, path)?;
+                ramdisks = ramdisks.with(spec, source)?;
+            }
+        }
+        Ok(ramdisks)
+    }
+
+    /// Those of an image, of which these are the entries of its table.
+    pub(crate) fn of_image(
+        reading: &Reading,
+        own: &Own<'a>,
+        entries: &[RamdiskEntry],
+    ) -> Result<Ramdisks<'a>, HostRefusal<'a>> {
+        let mut ramdisks = Ramdisks::new(reading.alloc);
+        let Some(place) = place_of(&own.image, Section::VendorRamdisk) else {
+            return Ok(ramdisks);
+        };
+        for entry in entries {
+            let at = place.at.saturating_add(entry.ramdisk_offset as u64);
+            let source = own.part(reading, at, entry.ramdisk_size as u64)?;
+            let spec = FragmentSpec {
+                kind: entry.ramdisk_type,
+                name: entry.name,
+                board_id: entry.board_id,
+            };
+            ramdisks = ramdisks.with(spec, source)?;
+        }
+        Ok(ramdisks)
+    }
+
+    // These and one more.
+    fn with(
+        self,
+        spec: FragmentSpec,
+        source: PartSource<'a>,
+    ) -> Result<Ramdisks<'a>, HostRefusal<'a>> {
+        let Ramdisks {
+            mut specs,
+            mut sources,
+        } = self;
+        if specs.push(spec).is_err() || sources.push(source).is_err() {
+            return Err(HostRefusal::memory());
+        }
+        Ok(Ramdisks { specs, sources })
+    }
+
+    /// These, with the numbers of board ids that the words set.
+    pub(crate) fn with_board_ids<'w>(
+        self,
+        words: &[&'w str],
+    ) -> Result<Ramdisks<'a>, BootCommandFault<'w>> {
+        let Ramdisks { mut specs, sources } = self;
+        match set_board_ids(specs.as_mut_slice(), words) {
+            Ok(()) => Ok(Ramdisks { specs, sources }),
+            Err(word) => Err(BootCommandFault::BadBoardId(word)),
+        }
+    }
+}
+
+/// The entries of an image's table.
+pub(crate) fn entries_of(
+    alloc: Global,
+    own: &mut Own<'_>,
+    w: &mut Window,
+    m: &mut Meter,
+) -> Result<Vec<RamdiskEntry>, BootCommandFault<'static>> {
+    let mut entries = Vec::new(alloc);
+    for i in 0..fragments(&own.image) {
+        m.tick();
+        let entry = match fragment(&own.image, i, &mut own.source, w, m) {
+            Ok(entry) => entry,
+            Err(fault) => return Err(BootCommandFault::Section(fault)),
+        };
+        if entries.push(entry).is_err() {
+            return Err(BootCommandFault::Host(HostFault::Memory));
+        }
+    }
+    Ok(entries)
+}

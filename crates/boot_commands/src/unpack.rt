@@ -1,0 +1,180 @@
+//! The command `unpack`: the sections and ramdisk fragments of an image, each into a file of its own.
+
+ghost use Rattle.std.specs.Prelude.{◌≡◌, ◌<◌, length};
+ghost use Rattle.abt_sections.specs.Header.{fragment_count, places_of, view_of};
+ghost use Rattle.boot_commands.specs.Unpacked.{IsPart, part_count};
+
+use crate::command::BootOutcome;
+use crate::fault::BootCommandFault;
+use crate::part_names::{Part, PartLine};
+use abt_host::{OutputFile, Place, Progress, Reading, Report, Sides, Watched, Writing, ended};
+use abt_io::{FileSource, Meter, Window};
+use abt_sections::{
+    Image, SectionFault, fragment, fragments, open, section, sections, unpack, unpack_fragment,
+};
+use boot_texts::write_words;
+
+/// An image that is taken apart.
+#[derive(Drop)]
+struct Taken<'a> {
+    image: Image,
+    source: FileSource,
+    input: Place<'a>,
+    folder: &'a str,
+}
+
+/// Writes each section and then each ramdisk fragment of an image to a file of a folder, and the words that pack it
+/// again.
+///
+/// Each file is opened when its turn comes, and its line is printed when it is whole. Where the image is one of the
+/// files that are going to be written, none is.
+pub(crate) fn unpack_file<'t, 'a>(
+    reading: Reading,
+    report: &mut Report,
+    input: &'t str,
+    folder: &'t str,
+    with_words: bool,
+    w: &mut Window,
+    m: &mut Meter,
+) -> BootOutcome<'t, 'a> {
+    let mut reading = reading;
+    let input = Place::new("IN", input);
+    let mut source = reading.source(input)?;
+    let image = match open(&mut source, w, m) {
+        Ok(image) => image,
+        Err(fault) => {
+            let fault = BootCommandFault::Section(fault);
+            return Err(Sides::none().reading(input, None).refuse(fault));
+        }
+    };
+    let mut writing = reading.all_open();
+    let mut taken = Taken {
+        image,
+        source,
+        input,
+        folder,
+    };
+    let count = part_count(&taken.image, with_words);
+    for i in 0..count {
+        writing.refuse_taken(part_of(&taken.image, i).place(folder))?;
+    }
+    for i in 0..count {
+        write_part(&mut taken, i, &mut writing, report, w, m)?;
+    }
+    Ok(())
+}
+
+// How many files are written.
+fn part_count(image: &Image, with_words: bool) -> u64
+    ensures { result ≡ part_count (view_of image.now.header) with_words }
+{
+    let parts = sections(image) as u64 + fragments(image) as u64;
+    if with_words { parts + 1 } else { parts }
+}
+
+// The file that is written as file `i`: sections come first, then fragments, then the words.
+fn part_of(image: &Image, i: u64) -> Part
+    ensures { IsPart (view_of image.now.header) i result }
+{
+    let sections = sections(image) as u64;
+    if i < sections {
+        return Part::Section(section(image, i as usize).kind);
+    }
+    let index = i - sections;
+    if index < fragments(image) as u64 {
+        return Part::Fragment(index as u32);
+    }
+    Part::Words
+}
+
+fn write_part<'t, 'a>(
+    taken: &mut Taken<'t>,
+    i: u64,
+    writing: &mut Writing,
+    report: &mut Report,
+    w: &mut Window,
+    m: &mut Meter,
+) -> BootOutcome<'t, 'a> {
+    let part = part_of(&taken.image, i);
+    let mut output = writing.plain(part.place(taken.folder))?;
+    let answer = written(taken, i, &mut output, report, w, m);
+    let sides = Sides::none().reading(taken.input, None);
+    let (bytes, finished) = ended(BootCommandFault::of_bytes(answer), output, sides)?;
+    report.line_of(finished, PartLine { part, bytes })?;
+    Ok(())
+}
+
+// Writes file `i`, and answers how many bytes it has.
+fn written(
+    taken: &mut Taken<'_>,
+    i: u64,
+    output: &mut OutputFile<'_>,
+    report: &mut Report,
+    w: &mut Window,
+    m: &mut Meter,
+) -> Result<u64, SectionFault> {
+    let Taken {
+        image,
+        source,
+        input: _,
+        folder,
+    } = taken;
+    let progress = &mut report.progress;
+    let front = sections(image) as u64;
+    if i < front {
+        return section_written(image, i as usize, source, output, progress, w, m);
+    }
+    let index = i - front;
+    if index < fragments(image) as u64 {
+        return fragment_written(image, index as u32, source, output, progress, w, m);
+    }
+    words_written(image, folder, source, output, progress, w, m)
+}
+
+fn section_written(
+    image: &Image,
+    i: usize,
+    source: &mut FileSource,
+    output: &mut OutputFile<'_>,
+    progress: &mut Progress,
+    w: &mut Window,
+    m: &mut Meter,
+) -> Result<u64, SectionFault>
+    requires { i < length (places_of (view_of image.now.header)) }
+{
+    let mut source = Watched::new(source, progress);
+    unpack(image, i, &mut source, &mut output.to, w, m)?;
+    Ok(section(image, i).size as u64)
+}
+
+fn fragment_written(
+    image: &Image,
+    index: u32,
+    source: &mut FileSource,
+    output: &mut OutputFile<'_>,
+    progress: &mut Progress,
+    w: &mut Window,
+    m: &mut Meter,
+) -> Result<u64, SectionFault>
+    requires { index < fragment_count (view_of image.now.header) }
+{
+    let entry = fragment(image, index, source, w, m)?;
+    let mut source = Watched::new(source, progress);
+    unpack_fragment(image, index, &mut source, &mut output.to, w, m)?;
+    Ok(entry.ramdisk_size as u64)
+}
+
+fn words_written(
+    image: &Image,
+    folder: &str,
+    source: &mut FileSource,
+    output: &mut OutputFile<'_>,
+    progress: &mut Progress,
+    w: &mut Window,
+    m: &mut Meter,
+) -> Result<u64, SectionFault> {
+    let before = progress.done;
+    let mut words = Watched::new(&mut output.to, progress);
+    write_words(image, folder, source, &mut words, w, m)?;
+    Ok(progress.done.saturating_sub(before))
+}

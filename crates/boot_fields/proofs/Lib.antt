@@ -1,0 +1,4 @@
+pub mod Boards
+pub mod Fragments
+pub mod OsWords
+pub mod Escapes

@@ -1,0 +1,7 @@
+pub mod Board
+pub mod Fields
+pub mod Fragment
+pub mod Kind
+pub mod Loading
+pub mod OsWord
+pub mod Unescaped

@@ -1,0 +1,48 @@
+//! Where the parts of a boot image are loaded.
+
+ghost use Rattle.std.specs.Prelude.{◌≡◌, ◌<◌, ◌^◌, if◌then◌else◌, Some, None};
+ghost use Rattle.boot_fields.specs.Loading as spec;
+
+/// The base of mkbootimg, which counts where an offset is given and no base.
+pub const BASE: u64 = 0x1000_0000;
+
+/// What the words say of an address.
+#[derive(Clone, Copy, Drop)]
+pub struct AddressWords {
+    /// The address itself.
+    pub address: Option<u64>,
+    /// The base of all addresses.
+    pub base: Option<u64>,
+    /// What is added to the base.
+    pub offset: Option<u64>,
+}
+
+/// The base of all addresses: the one that is given, else mkbootimg's where any offset is given, else none.
+pub fn base_of(given: Option<u64>, has_offset: bool) -> Option<u64>
+    ensures { result ≡ spec.base_for given has_offset }
+{
+    match given {
+        Some(base) => Some(base),
+        None if has_offset => Some(BASE),
+        None => None,
+    }
+}
+
+/// Whether an address is the sum of a base and an offset: where there is a base, and the address isn't given.
+pub fn is_sum(words: AddressWords) -> bool
+    ensures { result ≡ spec.is_sum words }
+{
+    words.address.is_none() && words.base.is_some()
+}
+
+/// The address: the one that is given; else, where there is a base, its sum with the offset that is given, or with
+/// mkbootimg's; else its own. `None` where the sum has no room in 64 bits.
+pub fn load_address(words: AddressWords, usual_offset: u64, own: u64) -> Option<u64>
+    ensures { result ≡ spec.load_at words usual_offset own }
+{
+    match (words.address, words.base) {
+        (Some(address), _) => Some(address),
+        (None, Some(base)) => base.checked_add(words.offset.unwrap_or(usual_offset)),
+        (None, None) => Some(own),
+    }
+}

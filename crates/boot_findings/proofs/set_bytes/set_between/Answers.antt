@@ -1,0 +1,35 @@
+use Rattle.std.proofs.Common.{◌≡◌, ◌≤◌, ◌+◌, ◌-◌, ap, ◌∙◌, arith, length, take, drop}
+use Rattle.boot_findings.specs.LeftOut.{set_in}
+use Rattle.boot_findings.proofs.Counts.{counted_all, counted_on}
+use Rattle.boot_findings.proofs.set_bytes.set_between.Goals as goal
+
+pub returns-then-seen-ask-clause-value : goal.returns-then-seen-ask-clause-value
+returns-then-seen-ask-clause-value g c = λ tells.
+    let v = c.loop-done.invariant in
+    let e = c.in-Ok.ensures in
+    let x = g.S.Source.content c.args.source.now in
+    let from = c.args.from in
+    let done = c.loop-done.done in
+    let came = c.in-Ok.seen.came in
+    let ended : length x - from ≤ done + came = omega (arith, e.came tells, ap length (v.content tells), c.if-seen-ask.true) in
+    let within : done + came ≤ c.args.end - from = omega (arith, e.few.1, c.min-ask.ensures, c.saturating_sub-all.ensures, v.within, c.loop-done-test.true) in
+    ap (λ k. k + c.in-Ok.seen.set) (v.value tells) ∙ counted_on x _ from done came _ (v.content tells) (e.set tells) ∙ counted_all x from (done + came) (c.args.end - from) within ended
+
+pub loop-done-preserved : goal.loop-done-preserved
+loop-done-preserved g c =
+    let v = c.loop-done.invariant in
+    let e = c.in-Ok.ensures in
+    let from = c.args.from in
+    let done = c.loop-done.done in
+    let came = c.in-Ok.seen.came in
+    let ask = c.min-ask.result in
+    let full : came ≡ ask = omega (arith, e.few.1, c.if-seen-ask.false) in
+    record {
+      within = omega (arith, c.min-ask.ensures, v.within, c.loop-done-test.true);
+      content = λ tells. e.content tells ∙ v.content tells;
+      faults = e.clean ∙ v.faults;
+      few = omega (arith, e.few.0, e.few.1, v.few);
+      value = λ tells.
+          let x = g.S.Source.content c.args.source.now in
+          ap (λ k. k + c.in-Ok.seen.set) (v.value tells) ∙ counted_on x _ from done came _ (v.content tells) (e.set tells) ∙ ap (λ k. set_in (take (done + k) (drop from x))) full;
+    }

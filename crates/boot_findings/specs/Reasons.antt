@@ -1,0 +1,11 @@
+-- Which reasons a check has.
+use Rattle.std.specs.Prelude.{◌≡◌, Bool, Option, is_none}
+use Rattle.abt_sections.specs.declared.checking.Verdict.{Verdict}
+use Rattle.boot_findings.specs.declared.reasons.Findings.{Findings}
+
+-- each answer that is no has a reason, and each that is yes has none
+pub record ReasonsAre (found : Findings) (verdict : Verdict) : Type 0 where
+  pub canonical : is_none found.canonical ≡ verdict.canonical
+  pub padding : is_none found.padding ≡ verdict.padding
+  pub id : is_none found.id ≡ verdict.id
+  pub offset : is_none found.offset ≡ verdict.offset

@@ -1,0 +1,132 @@
+//! Bytes that are not zero: how many there are, and where the first stands.
+
+ghost use Rattle.std.specs.Prelude.{◌≡◌, ◌<◌, ◌≤◌, ◌+◌, ◌-◌, ◌^◌, IsTrue, IfOk, IfErr, OnOk, length, take, drop, min};
+ghost use Rattle.abt_sections.specs.Cause.{ReadCause};
+ghost use Rattle.boot_findings.specs.LeftOut.{set_in};
+
+use abt_io::{Meter, Source, WINDOW, Window, read_full_at};
+use abt_sections::SectionFault;
+
+/// How many bytes are not zero.
+pub(crate) fn count_set(bytes: &[u8]) -> u64
+    ensures value { result ≡ set_in bytes.now }
+    ensures few { result ≤ length bytes.now }
+{
+    let mut count = 0;
+    for byte in bytes {
+        if *byte != 0 {
+            count += 1;
+        }
+    }
+    count
+}
+
+/// How many bytes in front are zero.
+pub(crate) fn zeros_in_front(bytes: &[u8]) -> usize
+    ensures { result ≤ length bytes.now }
+{
+    for i in 0..bytes.len() {
+        if bytes[i] != 0 {
+            return i;
+        }
+    }
+    bytes.len()
+}
+
+/// How many bytes are not zero from one place up to another, as far as they are there.
+pub(crate) fn set_between<S: Source>(
+    source: &mut S,
+    from: u64,
+    end: u64,
+    w: &mut Window,
+    m: &mut Meter,
+) -> Result<u64, SectionFault>
+    ensures content { IsTrue S.tells → S.content source.new ≡ S.content source.old }
+    ensures value { IsTrue S.tells →
+        IfOk result (λ n. n ≡ set_in (take (end - from) (drop from (S.content source.old)))) }
+    ensures few { IfOk result (λ n. n ≤ end - from) }
+    ensures faults { S.read_faults source.old ≤ S.read_faults source.new }
+    ensures cause { IfErr result (λ f. ReadCause f (S.read_faults source.old) (S.read_faults source.new)
+        (IsTrue S.tells → ⊥)) }
+    ensures clean { OnOk result (S.read_faults source.new ≡ S.read_faults source.old) }
+{
+    let all = end.saturating_sub(from);
+    let mut done = 0;
+    let mut count = 0;
+    while done < all {
+        m.tick();
+        let ask = (all - done).min(WINDOW as u64) as usize;
+        let seen = match count_in(source, from + done, ask, w, m) {
+            Ok(seen) => seen,
+            Err(fault) => return Err(fault),
+        };
+        count += seen.set;
+        if seen.came < ask {
+            return Ok(count);
+        }
+        done += ask as u64;
+    }
+    Ok(count)
+}
+
+// How many bytes came of an ask, and how many of them are not zero.
+#[derive(Clone, Copy, Drop)]
+struct Seen {
+    came: usize,
+    set: u64,
+}
+
+// Reads the bytes from a place on, and counts those that are not zero.
+fn count_in<S: Source>(
+    source: &mut S,
+    at: u64,
+    ask: usize,
+    w: &mut Window,
+    m: &mut Meter,
+) -> Result<Seen, SectionFault>
+    requires room { ask ≤ 65536 }
+    requires below { at + ask < 2 ^ 64 }
+    ensures content { IsTrue S.tells → S.content source.new ≡ S.content source.old }
+    ensures came { IsTrue S.tells → IfOk result (λ seen. seen.came ≡ min ask (length (S.content source.old) - at)) }
+    ensures set { IsTrue S.tells →
+        IfOk result (λ seen. seen.set ≡ set_in (take seen.came (drop at (S.content source.old)))) }
+    ensures few { IfOk result (λ seen. (seen.set ≤ seen.came) × (seen.came ≤ ask)) }
+    ensures faults { S.read_faults source.old ≤ S.read_faults source.new }
+    ensures cause { IfErr result (λ f. ReadCause f (S.read_faults source.old) (S.read_faults source.new)
+        (IsTrue S.tells → ⊥)) }
+    ensures clean { OnOk result (S.read_faults source.new ≡ S.read_faults source.old) }
+{
+    let read = read_full_at(source, at, w.part_mut(0, ask), m);
+    if let Some(fault) = read.fault {
+        return Err(SectionFault::Read(fault));
+    }
+    let came = read.count;
+    let set = count_set(w.part(0, came));
+    Ok(Seen { came, set })
+}
+
+/// The first byte from one place up to another that isn't there or isn't zero.
+pub(crate) fn first_set<S: Source>(
+    source: &mut S,
+    from: u64,
+    end: u64,
+    w: &mut Window,
+    m: &mut Meter,
+) -> Result<Option<u64>, SectionFault> {
+    let all = end.saturating_sub(from);
+    let mut done = 0;
+    while done < all {
+        m.tick();
+        let ask = (all - done).min(WINDOW as u64) as usize;
+        let read = read_full_at(source, from + done, w.part_mut(0, ask), m);
+        if let Some(fault) = read.fault {
+            return Err(SectionFault::Read(fault));
+        }
+        let zeros = zeros_in_front(w.part(0, read.count));
+        if zeros < ask {
+            return Ok(Some(from + done + zeros as u64));
+        }
+        done += ask as u64;
+    }
+    Ok(None)
+}

@@ -1,0 +1,7 @@
+pub mod Escapes
+pub mod FilesSay
+pub mod FragmentsSay
+pub mod ImagesSay
+pub mod PackedAgain
+pub mod PackedFields
+pub mod WordsSay

@@ -1,0 +1,5 @@
+pub mod Digits
+pub mod Informing
+pub mod Turns
+pub mod TextsOver
+pub mod WordLists

@@ -1,0 +1,212 @@
+-- The text of `info`: what the lines of an opened image are, and in which order.
+use Rattle.std.specs.Prelude.{◌≡◌, ◌↔◌, ℕ, zero, suc, ◌<◌, ◌≤◌, IsTrue, ◌/◌, ◌%◌, ◌==◌, ◌&&◌, not, nat_le, Bool, false}
+use Rattle.std.specs.Prelude.{if◌then◌else◌, List, [], ◌∷◌, ◌++◌, Option, Some, None, Result, Ok, Err, codes, decimal}
+use Rattle.std.specs.Fmt.{digits}
+use Rattle.std.specs.List.{flat_map}
+use Rattle.hex.specs.Hex.{encode_lower}
+use Rattle.abt_headers.specs.declared.entry.RamdiskEntry.{RamdiskEntry}
+use Rattle.abt_headers.specs.declared.os.OsParts.{OsParts}
+use Rattle.abt_headers.specs.declared.sections.Place.{Place}
+use Rattle.abt_headers.specs.Boot.{boot_page, boot_version}
+use Rattle.abt_headers.specs.Os.{os_parts}
+use Rattle.abt_headers.specs.Places.{section_name}
+use Rattle.abt_headers.specs.Vendor.{vendor_page, vendor_version}
+use Rattle.abt_sections.specs.declared.checking.Verdict.{Verdict}
+use Rattle.abt_sections.specs.Header.{Header, OfBoot, OfVendor, places_of, fragment_count, entry_of}
+use Rattle.abt_sections.specs.Check.{padding_holds, IdHolds, offset_holds, IsCanonical}
+use Rattle.abt_sections.specs.Open.{HasImage, RefusedAs}
+use Rattle.abt_sections.specs.declared.fault.SectionFault.{SectionFault}
+use Rattle.abt_sections.specs.declared.fault.SectionFault.TheVariants as faults
+use Rattle.boot_fields.specs.Fields.{address_name, address_of, field_name, field_of, id_of, os_number_of, text_of}
+use Rattle.boot_fields.specs.declared.fields.Address.{Address}
+use Rattle.boot_fields.specs.declared.fields.Address.TheVariants as addresses
+use Rattle.boot_fields.specs.declared.fields.TextField.{TextField}
+use Rattle.boot_fields.specs.declared.fields.TextField.TheVariants as texts
+use Rattle.boot_texts.specs.declared.info_lines.Notation.{Notation}
+use Rattle.boot_texts.specs.declared.info_lines.Notation.TheVariants as notations
+
+-- ---- a text of the header, in quotes
+
+-- printable ASCII but for the quote and the backslash
+abbrev pub is_plain : ℕ → Bool
+is_plain b = nat_le 0x20 b && nat_le b 0x7e && not (b == 0x22) && not (b == 0x5c)
+
+-- a byte as it is, or as `\x` and two digits
+abbrev pub escaped : ℕ → List ℕ
+escaped b = if is_plain b then b ∷ [] else codes "\\x" ++ encode_lower (b ∷ [])
+
+abbrev pub quoted : List ℕ → List ℕ
+quoted x = codes "\"" ++ (flat_map escaped (text_of x) ++ codes "\"")
+
+-- ---- the lines
+
+-- a number of bytes, a place or an address
+abbrev pub number_text : Notation → ℕ → List ℕ
+number_text notations.Decimal n = decimal n
+number_text notations.Hexadecimal n = codes "0x" ++ digits 16 false n
+
+-- a kind with its version and its page
+abbrev pub kind_words : Notation → List ℕ → ℕ → ℕ → List ℕ
+kind_words o kind version page =
+    codes "kind " ++ (kind ++ (codes " version " ++ (decimal version ++ (codes " page " ++ number_text o page))))
+
+abbrev pub kind_text : Notation → Header → List ℕ
+kind_text o (OfBoot h) = kind_words o (codes "boot") (boot_version h) (boot_page h)
+kind_text o (OfVendor v) = kind_words o (codes "vendor") (vendor_version v) (vendor_page v)
+
+abbrev pub section_text : Notation → Place → List ℕ
+section_text o p = codes "section " ++ (section_name p.kind
+    ++ (codes " at " ++ (number_text o p.at ++ (codes " size " ++ number_text o p.size))))
+
+abbrev pub fragment_text : Notation → ℕ → RamdiskEntry → List ℕ
+fragment_text o i e = codes "fragment " ++ (decimal i ++ (codes " at " ++ (number_text o e.ramdisk_offset
+    ++ (codes " size "
+    ++ (number_text o e.ramdisk_size
+    ++ (codes " type " ++ (decimal e.ramdisk_type ++ (codes " name " ++ quoted e.name))))))))
+
+abbrev pub address_text : Notation → Address → ℕ → List ℕ
+address_text o a n = codes "address " ++ (address_name a ++ (codes " " ++ number_text o n))
+
+-- the two digits of a number below 100
+abbrev pub two_digits : ℕ → List ℕ
+two_digits n = decimal (n / 10) ++ decimal (n % 10)
+
+-- what stands between a version and its patch level
+abbrev pub mark_behind_version : Notation → List ℕ
+mark_behind_version notations.Decimal = codes " "
+mark_behind_version notations.Hexadecimal = codes "-"
+
+abbrev pub os_text : Notation → OsParts → List ℕ
+os_text o p = codes "os " ++ (decimal p.a ++ (codes "." ++ (decimal p.b ++ (codes "." ++ (decimal p.c
+    ++ (mark_behind_version o ++ (decimal p.year ++ (codes "-" ++ two_digits p.month))))))))
+
+abbrev pub field_text : TextField → List ℕ → List ℕ
+field_text f x = field_name f ++ (codes " " ++ quoted x)
+
+abbrev pub id_text : List ℕ → List ℕ
+id_text id = codes "id " ++ encode_lower id
+
+abbrev pub yes_no : Bool → List ℕ
+yes_no b = if b then codes "yes" else codes "no"
+
+abbrev pub check_text : Verdict → List ℕ
+check_text v = codes "check canonical " ++ (yes_no v.canonical ++ (codes " padding " ++ (yes_no v.padding
+    ++ (codes " id " ++ (yes_no v.id ++ (codes " offset " ++ yes_no v.offset))))))
+
+-- ---- the whole text
+
+-- a text and the end of its line
+abbrev pub line : List ℕ → List ℕ
+line t = t ++ (10 ∷ [])
+
+-- the line of a field, where there is one
+abbrev pub line_if : {X : Type 0} → (X → List ℕ) → Option X → List ℕ
+line_if text None = []
+line_if text (Some x) = line (text x)
+
+abbrev pub section_line : Notation → Place → List ℕ
+section_line o p = line (section_text o p)
+
+-- the first k fragments of the image x
+abbrev pub fragment_lines : Notation → List ℕ → Header → ℕ → List ℕ
+fragment_lines o x h zero = []
+fragment_lines o x h (suc k) = fragment_lines o x h k ++ line (fragment_text o k (entry_of x h k))
+
+abbrev pub address_line : Notation → Header → Address → List ℕ
+address_line o h a = line_if (address_text o a) (address_of h a)
+
+abbrev pub os_line : Notation → Header → List ℕ
+os_line o h = line_if (λ n. os_text o (os_parts n)) (os_number_of h)
+
+abbrev pub field_line : Header → TextField → List ℕ
+field_line h t = line_if (field_text t) (field_of h t)
+
+abbrev pub id_line : Header → List ℕ
+id_line h = line_if id_text (id_of h)
+
+abbrev pub address_lines : Notation → Header → List ℕ
+address_lines o h = address_line o h addresses.Kernel ++ (address_line o h addresses.Ramdisk
+    ++ (address_line o h addresses.Second ++ (address_line o h addresses.Tags ++ address_line o h addresses.Dtb)))
+
+-- the fields behind the sections and the fragments
+abbrev pub header_lines : Notation → Header → List ℕ
+header_lines o h = address_lines o h ++ (os_line o h ++ (field_line h texts.Name ++ (field_line h texts.Cmdline
+    ++ (field_line h texts.Extra ++ id_line h))))
+
+unfoldable pub info_text : Notation → List ℕ → Header → Verdict → List ℕ
+info_text o x h v = line (kind_text o h) ++ (flat_map (section_line o) (places_of h)
+    ++ (fragment_lines o x h (fragment_count h) ++ (header_lines o h ++ line (check_text v))))
+
+-- the verdict v is the one of the image x with the header h
+pub record IsVerdict (x : List ℕ) (h : Header) (v : Verdict) : Type 0 where
+  pub padding : v.padding ≡ padding_holds x h
+  pub id : IsTrue v.id ↔ IdHolds x h
+  pub offset : v.offset ≡ offset_holds h
+  pub canonical : IsTrue v.canonical ↔ IsCanonical x h
+
+-- P holds of the text of the image x with the header h, and with its verdict
+pub record Checked (o : Notation) (x : List ℕ) (h : Header) (P : List ℕ → Type 0) : Type 0 where
+  pub verdict : Verdict
+  pub checked : IsVerdict x h verdict
+  pub holds : P (info_text o x h verdict)
+
+-- ---- refusals
+
+abbrev pub IsWrite : SectionFault → Type 0
+IsWrite (faults.Read d) = ⊥
+IsWrite (faults.Write d) = Unit {0}
+IsWrite faults.SourceChanged = ⊥
+IsWrite (faults.Header f) = ⊥
+IsWrite (faults.Entry i) = ⊥
+IsWrite faults.Name = ⊥
+IsWrite faults.CommandLine = ⊥
+IsWrite (faults.SectionTruncated s) = ⊥
+IsWrite (faults.SectionTooLarge s) = ⊥
+
+-- Write comes just where the count of failed writes rose
+abbrev pub WriteTold : SectionFault → ℕ → ℕ → Type 0
+WriteTold (faults.Read d) w w' = w' ≡ w
+WriteTold (faults.Write d) w w' = w < w'
+WriteTold faults.SourceChanged w w' = w' ≡ w
+WriteTold (faults.Header f) w w' = w' ≡ w
+WriteTold (faults.Entry i) w w' = w' ≡ w
+WriteTold faults.Name w w' = w' ≡ w
+WriteTold faults.CommandLine w w' = w' ≡ w
+WriteTold (faults.SectionTruncated s) w w' = w' ≡ w
+WriteTold (faults.SectionTooLarge s) w w' = w' ≡ w
+
+-- Read comes only where the count of failed reads rose, and after an Ok it has not risen
+abbrev pub ReadTold : {X : Type 0} → Result X SectionFault → ℕ → ℕ → Type 0
+ReadTold (Ok a) r r' = r' ≡ r
+ReadTold (Err (faults.Read d)) r r' = r < r'
+ReadTold (Err f) r r' = r ≤ r'
+
+-- of printing an image that opened: the output failed, or the source, whose count of faults rose
+abbrev pub PrintCause : SectionFault → ℕ → ℕ → Type 0
+PrintCause (faults.Read d) r r' = r < r'
+PrintCause (faults.Write d) r r' = Unit {0}
+PrintCause faults.SourceChanged r r' = ⊥
+PrintCause (faults.Header f) r r' = ⊥
+PrintCause (faults.Entry i) r r' = ⊥
+PrintCause faults.Name r r' = ⊥
+PrintCause faults.CommandLine r r' = ⊥
+PrintCause (faults.SectionTruncated s) r r' = ⊥
+PrintCause (faults.SectionTooLarge s) r r' = ⊥
+
+-- of the bytes x: a device failed, or they are no image, and then nothing was printed
+abbrev pub InfoCause : SectionFault → List ℕ → ℕ → ℕ → Type 0 → Type 0
+InfoCause (faults.Read d) x r r' nothing = r < r'
+InfoCause (faults.Write d) x r r' nothing = Unit {0}
+InfoCause faults.SourceChanged x r r' nothing = ⊥
+InfoCause (faults.Header f) x r r' nothing = RefusedAs x (faults.Header f) × nothing
+InfoCause (faults.Entry i) x r r' nothing = RefusedAs x (faults.Entry i) × nothing
+InfoCause faults.Name x r r' nothing = ⊥
+InfoCause faults.CommandLine x r r' nothing = ⊥
+InfoCause (faults.SectionTruncated s) x r r' nothing = RefusedAs x (faults.SectionTruncated s) × nothing
+InfoCause (faults.SectionTooLarge s) x r r' nothing = ⊥
+
+-- new is old and then the text of the image x
+pub record Reports (o : Notation) (x old new : List ℕ) : Type 0 where
+  pub header : Header
+  pub image : HasImage x header
+  pub printed : Checked o x header (λ text. new ≡ old ++ text)

@@ -1,0 +1,369 @@
+//! The words that pack an image again: what its header and its table say, each as an option of `pack`.
+
+ghost use Rattle.std.specs.Prelude.{◌≡◌, ◌≤◌, ◌++◌, ◌∷◌, [], Some, None, MatchOption, IsTrue, IfErr, IfSome, OnOk};
+ghost use Rattle.std.specs.List.{flat_map};
+ghost use Rattle.abt_sections.specs.Check.{all_zero};
+ghost use Rattle.abt_sections.specs.Open.{IsOpened};
+ghost use Rattle.abt_sections.specs.Header.{fragment_count, places_of, view_of};
+ghost use Rattle.boot_texts.specs.Info as info;
+ghost use Rattle.abt_text.specs.Printed.{Prints};
+ghost use Rattle.boot_texts.specs.Words as words;
+
+use crate::word_lines::{
+    BoardOption, FlagWord, FragmentOption, NumberWord, OsOption, PartWord, TextWord,
+};
+use abt_headers::{Place, RamdiskEntry, Section, VendorHeader};
+use abt_io::{Meter, Output, Source, Window};
+use abt_sections::{Image, ImageHeader, SectionFault, fragment, fragments, section, sections};
+use abt_text::Text;
+use boot_fields::{Address, TextField, address_of, front_text, os_version_of, text_field_of};
+use std::fmt;
+
+/// Writes the words, one a line, with which `pack` makes this image again from the files that `unpack` writes to a
+/// folder.
+///
+/// A write that fails is `Write`; where the source fails, the words before stand. It takes no memory.
+pub fn write_words<S: Source, O: Output>(
+    image: &Image,
+    folder: &str,
+    source: &mut S,
+    out: &mut O,
+    w: &mut Window,
+    m: &mut Meter,
+) -> Result<(), SectionFault>
+    ensures content { IsTrue S.tells → OnOk result (S.content source.new ≡ S.content source.old) }
+    ensures written { IsTrue S.tells →
+        OnOk result (O.written out.new ≡ O.written out.old ++ words.words_text
+        (words.image_words folder.now (S.content source.old) (view_of image.now.header))) }
+    ensures refused { IsTrue S.tells → IsOpened (S.content source.old) image.now →
+        IfErr result (λ f. info.PrintCause f (S.read_faults source.old) (S.read_faults source.new)) }
+{
+    let mut text = Text::new(out);
+    let told = image_words(image, folder, source, &mut text, w, m);
+    match text.finish() {
+        Ok(()) => told,
+        Err(fault) => Err(SectionFault::Write(fault)),
+    }
+}
+
+fn image_words<S: Source, O: Output>(
+    image: &Image,
+    folder: &str,
+    source: &mut S,
+    text: &mut Text<'_, O>,
+    w: &mut Window,
+    m: &mut Meter,
+) -> Result<(), SectionFault>
+    ensures content { IsTrue S.tells → OnOk result (S.content source.new ≡ S.content source.old) }
+    ensures lines { IsTrue S.tells →
+        OnOk
+        result (Prints O.written O.write_faults text.old text.new
+        (words.words_text (words.image_words folder.now (S.content source.old) (view_of image.now.header)))) }
+    ensures refused { IsTrue S.tells → IsOpened (S.content source.old) image.now →
+        IfErr result (λ f. info.PrintCause f (S.read_faults source.old) (S.read_faults source.new)) }
+{
+    let header = &image.header;
+    kind_words(header, text)?;
+    section_words(image, folder, text, m)?;
+    address_words(header, text)?;
+    name_words(header, text)?;
+    cmdline_word(header, text)?;
+    os_words(header, text)?;
+    fragment_words(image, folder, source, text, w, m)
+}
+
+fn kind_words<O: Output>(header: &ImageHeader, text: &mut Text<'_, O>) -> Result<(), SectionFault>
+    ensures lines { OnOk
+        result (Prints O.written O.write_faults text.old text.new (words.words_text (words.kind_words (view_of header.now)))) }
+    ensures refused { IfErr result info.IsWrite }
+{
+    print(text, FlagWord("escaped"))?;
+    match header {
+        ImageHeader::Boot(header) => {
+            print(text, NumberWord("version", header.version() as u64))?;
+            print(text, NumberWord("page", header.page_size() as u64))
+        }
+        ImageHeader::Vendor(header) => {
+            print(text, FlagWord("vendor"))?;
+            print(text, NumberWord("version", header.version() as u64))?;
+            print(text, NumberWord("page", header.page_size() as u64))
+        }
+    }
+}
+
+fn section_words<O: Output>(
+    image: &Image,
+    folder: &str,
+    text: &mut Text<'_, O>,
+    m: &mut Meter,
+) -> Result<(), SectionFault>
+    ensures lines { OnOk
+        result (Prints O.written O.write_faults text.old text.new
+        (words.words_text (flat_map (words.section_words folder.now (words.has_table (view_of image.now.header)))
+        (places_of (view_of image.now.header))))) }
+    ensures refused { IfErr result info.IsWrite }
+{
+    let table = has_table(&image.header);
+    for i in 0..sections(image) {
+        m.tick();
+        section_word(section(image, i), folder, table, text)?;
+    }
+    Ok(())
+}
+
+fn section_word<O: Output>(
+    place: Place,
+    folder: &str,
+    table: bool,
+    text: &mut Text<'_, O>,
+) -> Result<(), SectionFault>
+    ensures lines { OnOk
+        result (Prints O.written O.write_faults text.old text.new (words.words_text (words.section_words folder.now table place))) }
+    ensures refused { IfErr result info.IsWrite }
+{
+    match section_option(table, place.kind) {
+        Some(name) => {
+            let file = place.kind.name();
+            print(text, PartWord { name, folder, file })
+        }
+        None => Ok(()),
+    }
+}
+
+// The version has a table of fragments.
+fn has_table(header: &ImageHeader) -> bool
+    ensures { result ≡ words.has_table (view_of header.now) }
+{
+    match header {
+        ImageHeader::Boot(_) => false,
+        ImageHeader::Vendor(VendorHeader::V3(_)) => false,
+        ImageHeader::Vendor(VendorHeader::V4(..)) => true,
+    }
+}
+
+// The option that a section is given by, where there is one: a vendor ramdisk with a table is given by its fragments,
+// and the table with them.
+fn section_option(table: bool, section: Section) -> Option<&'static str>
+    ensures { MatchOption result (words.section_option table section ≡ None) (λ name. words.section_option table section
+        ≡ Some name.now) }
+{
+    match section {
+        Section::Kernel => Some("kernel"),
+        Section::Ramdisk => Some("ramdisk"),
+        Section::Second => Some("second"),
+        Section::RecoveryDtbo => Some("recovery-dtbo"),
+        Section::Dtb => Some("dtb"),
+        Section::Signature => Some("signature"),
+        Section::VendorRamdisk => { if table { None } else { Some("ramdisk") } }
+        Section::Table => None,
+        Section::Bootconfig => Some("bootconfig"),
+    }
+}
+
+fn address_words<O: Output>(
+    header: &ImageHeader,
+    text: &mut Text<'_, O>,
+) -> Result<(), SectionFault>
+    ensures lines { OnOk
+        result (Prints O.written O.write_faults text.old text.new (words.words_text (words.address_words (view_of header.now)))) }
+    ensures refused { IfErr result info.IsWrite }
+{
+    address_word(header, Address::Kernel, text)?;
+    address_word(header, Address::Ramdisk, text)?;
+    address_word(header, Address::Second, text)?;
+    address_word(header, Address::Tags, text)?;
+    address_word(header, Address::Dtb, text)
+}
+
+fn address_word<O: Output>(
+    header: &ImageHeader,
+    which: Address,
+    text: &mut Text<'_, O>,
+) -> Result<(), SectionFault>
+    ensures lines { OnOk
+        result (Prints O.written O.write_faults text.old text.new (words.words_text (words.address_word (view_of header.now) which))) }
+    ensures refused { IfErr result info.IsWrite }
+{
+    match address_of(header, which) {
+        Some(address) => print(text, NumberWord(address_option(which), address)),
+        None => Ok(()),
+    }
+}
+
+fn address_option(which: Address) -> &'static str
+    ensures { result.now ≡ words.address_option which }
+{
+    match which {
+        Address::Kernel => "kernel-addr",
+        Address::Ramdisk => "ramdisk-addr",
+        Address::Second => "second-addr",
+        Address::Tags => "tags-addr",
+        Address::Dtb => "dtb-addr",
+    }
+}
+
+fn name_words<O: Output>(header: &ImageHeader, text: &mut Text<'_, O>) -> Result<(), SectionFault>
+    ensures lines { OnOk
+        result (Prints O.written O.write_faults text.old text.new (words.words_text (words.name_words (view_of header.now)))) }
+    ensures refused { IfErr result info.IsWrite }
+{
+    match text_field_of(header, TextField::Name) {
+        Some(front) => {
+            let name = "name";
+            let back = &[];
+            print(text, TextWord { name, front, back })
+        }
+        None => Ok(()),
+    }
+}
+
+fn cmdline_word<O: Output>(header: &ImageHeader, text: &mut Text<'_, O>) -> Result<(), SectionFault>
+    ensures lines { OnOk
+        result (Prints O.written O.write_faults text.old text.new (words.words_text (words.cmdline_word (view_of header.now) ∷ []))) }
+    ensures refused { IfErr result info.IsWrite }
+{
+    let name = "cmdline";
+    let front = text_field_of(header, TextField::Cmdline).unwrap_or(&[]);
+    let back = text_field_of(header, TextField::Extra).unwrap_or(&[]);
+    print(text, TextWord { name, front, back })
+}
+
+fn os_words<O: Output>(header: &ImageHeader, text: &mut Text<'_, O>) -> Result<(), SectionFault>
+    ensures lines { OnOk
+        result (Prints O.written O.write_faults text.old text.new (words.words_text (words.os_words (view_of header.now)))) }
+    ensures refused { IfErr result info.IsWrite }
+{
+    match os_version_of(header) {
+        Some(os) => print(text, OsOption(os)),
+        None => Ok(()),
+    }
+}
+
+fn fragment_words<S: Source, O: Output>(
+    image: &Image,
+    folder: &str,
+    source: &mut S,
+    text: &mut Text<'_, O>,
+    w: &mut Window,
+    m: &mut Meter,
+) -> Result<(), SectionFault>
+    ensures content { IsTrue S.tells → OnOk result (S.content source.new ≡ S.content source.old) }
+    ensures lines { IsTrue S.tells →
+        OnOk
+        result (Prints O.written O.write_faults text.old text.new
+        (words.words_text (words.fragment_words folder.now (S.content source.old) (view_of image.now.header)
+        (fragment_count (view_of image.now.header))))) }
+    ensures faults { S.read_faults source.old ≤ S.read_faults source.new }
+    ensures refused { IsTrue S.tells → IsOpened (S.content source.old) image.now →
+        IfErr result (λ f. info.PrintCause f (S.read_faults source.old) (S.read_faults source.new)) }
+{
+    for i in 0..fragments(image) {
+        m.tick();
+        let entry = match fragment(image, i, source, w, m) {
+            Ok(entry) => entry,
+            Err(fault) => return Err(fault),
+        };
+        match entry_words(i, &entry, folder, text, m) {
+            Ok(()) => {}
+            Err(fault) => return Err(fault),
+        }
+    }
+    Ok(())
+}
+
+fn entry_words<O: Output>(
+    index: u32,
+    entry: &RamdiskEntry,
+    folder: &str,
+    text: &mut Text<'_, O>,
+    m: &mut Meter,
+) -> Result<(), SectionFault>
+    ensures lines { OnOk
+        result (Prints O.written O.write_faults text.old text.new (words.words_text (words.entry_words folder.now index entry.now))) }
+    ensures refused { IfErr result info.IsWrite }
+{
+    let option = FragmentOption {
+        index,
+        kind: entry.ramdisk_type,
+        name: name_bytes(&entry.name),
+        folder,
+    };
+    print(text, option)?;
+    board_words(index, &entry.board_id, text, m)
+}
+
+// A name as far as it is not zero, or all of it where it is no text.
+fn name_bytes(name: &[u8; 32]) -> &[u8]
+    ensures { result.now ≡ words.name_bytes name.now }
+{
+    let text = front_text(name);
+    if is_zero(&name[text.len()..]) {
+        text
+    } else {
+        name
+    }
+}
+
+fn is_zero(bytes: &[u8]) -> bool
+    ensures { result ≡ all_zero bytes.now }
+{
+    for byte in bytes {
+        if *byte != 0 {
+            return false;
+        }
+    }
+    true
+}
+
+fn board_words<O: Output>(
+    fragment: u32,
+    board_id: &[u32; 16],
+    text: &mut Text<'_, O>,
+    m: &mut Meter,
+) -> Result<(), SectionFault>
+    ensures lines { OnOk
+        result (Prints O.written O.write_faults text.old text.new (words.words_text (words.board_words fragment 0 board_id.now))) }
+    ensures refused { IfErr result info.IsWrite }
+{
+    for place in 0..16 {
+        m.tick();
+        board_word(fragment, place, board_id[place as usize], text)?;
+    }
+    Ok(())
+}
+
+fn board_word<O: Output>(
+    fragment: u32,
+    place: u32,
+    number: u32,
+    text: &mut Text<'_, O>,
+) -> Result<(), SectionFault>
+    ensures lines { OnOk
+        result (Prints O.written O.write_faults text.old text.new (words.words_text (words.board_word fragment place number))) }
+    ensures refused { IfErr result info.IsWrite }
+{
+    if number == 0 {
+        return Ok(());
+    }
+    let option = BoardOption {
+        fragment,
+        place,
+        number,
+    };
+    print(text, option)
+}
+
+// Prints one word and the end of its line, whose fault is a write's.
+fn print<O: Output, D: fmt::Display + Drop>(
+    text: &mut Text<'_, O>,
+    word: D,
+) -> Result<(), SectionFault>
+    ensures line { OnOk
+        result (IfSome (D.output word) (λ bs. Prints O.written O.write_faults text.old text.new (words.words_text (bs ∷ [])))) }
+    ensures refused { IfErr result info.IsWrite }
+{
+    match text.line(word) {
+        Ok(()) => Ok(()),
+        Err(fault) => Err(SectionFault::Write(fault)),
+    }
+}

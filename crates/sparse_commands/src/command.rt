@@ -1,0 +1,68 @@
+//! What is to be done with a sparse image, and the command that does it.
+
+use crate::cut::{Cutting, cut_file};
+use crate::expand::expand_files;
+use crate::fault::SparseRefusal;
+use crate::flash::{flash_file, flash_pieces};
+use crate::flash_raw::flash_raw_file;
+use crate::list::list_file;
+use crate::sparse::sparse_file;
+use crate::verify::{verify_file, verify_raw_file};
+use abt_host::{Reading, Report};
+use abt_io::{Meter, Window};
+use abt_words::SparseTask;
+
+/// Does what the words ask for.
+pub fn sparse_command<'a>(
+    reading: Reading,
+    report: &mut Report,
+    task: SparseTask<'a>,
+    w: &mut Window,
+    m: &mut Meter,
+) -> Result<(), SparseRefusal<'a>> {
+    match task {
+        SparseTask::Expand { inputs, output } => {
+            expand_files(reading, report, inputs.as_slice(), output, w, m)
+        }
+        SparseTask::List { input } => list_file(reading, report, input, w, m),
+        SparseTask::Sparse {
+            input,
+            output,
+            block,
+        } => sparse_file(reading, report, input, output, block, w, m),
+        SparseTask::Cut {
+            input,
+            limit,
+            prefix,
+            raw,
+        } => {
+            let order = Cutting {
+                input,
+                limit,
+                prefix,
+                raw,
+            };
+            cut_file(reading, report, order, w, m)
+        }
+        SparseTask::Flash {
+            input,
+            partition,
+            raw,
+            pieces,
+        } => match (pieces, raw) {
+            (Some(pieces), raw) => flash_pieces(
+                reading, report, input, partition, raw, pieces, w, m,
+            ),
+            (None, Some(size)) => flash_raw_file(reading, report, input, partition, size, w, m),
+            (None, None) => flash_file(reading, report, input, partition, w, m),
+        },
+        SparseTask::Verify {
+            input,
+            partition,
+            raw,
+        } => match raw {
+            Some(size) => verify_raw_file(reading, report, input, partition, size, w, m),
+            None => verify_file(reading, report, input, partition, w, m),
+        },
+    }
+}

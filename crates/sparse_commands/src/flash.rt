@@ -1,0 +1,113 @@
+//! The command `flash`: a sparse image straight to a partition, or an image in pieces that go through a spool.
+
+ghost use Rattle.std.specs.Prelude.{◌≡◌};
+
+use crate::fault::{SparseCommandFault, SparseRefusal};
+use crate::lines::Line;
+use crate::pieces::raw_pieces;
+use crate::places::image_place;
+use abt_flash::{Delivered, FlashFault, flash, resume, resume_raw};
+use abt_host::{Place, Reading, Report, Sides, Watched};
+use abt_io::{FilePartition, FileSource, FileSpool, Meter, Source, Window};
+use abt_words::Pieces;
+
+// How often a raw image is read that is flashed in pieces: to plan a piece, to find each run whole, and, part by part,
+// to find the run again and to copy it.
+const RAW_PASSES: u64 = 4;
+
+/// Flashes an image to a partition, which must be there, and prints how many blocks it was. The image is read forward,
+/// so that it may be a pipe.
+pub(crate) fn flash_file<'a>(
+    reading: Reading,
+    report: &mut Report,
+    input: &'a str,
+    partition: &'a str,
+    w: &mut Window,
+    m: &mut Meter,
+) -> Result<(), SparseRefusal<'a>> {
+    let mut reading = reading;
+    let input = Place::new("IN", input);
+    let partition = Place::new("PARTITION", partition);
+    let mut from = reading.input(input)?;
+    report.progress.expect_if(from.length);
+    let mut writing = reading.all_open();
+    let mut onto = writing.partition(partition)?;
+    let mut watched = Watched::new(&mut from.from, &mut report.progress);
+    let blocks = match flash(&mut watched, &mut onto, w, m) {
+        Ok(flashed) => flashed.blocks,
+        Err(fault) => {
+            let sides = Sides::none()
+                .reading(input, from.why())
+                .writing(partition, None);
+            return Err(sides.refuse(SparseCommandFault::Flash(fault)));
+        }
+    };
+    let finished = writing.written_in_place(onto);
+    report.line_of(finished, Line::Blocks(u64::from(blocks)))?;
+    Ok(())
+}
+
+/// Flashes an image in pieces, and prints how many they were. The image is read at any place, so that standard input
+/// will do only where it is a file.
+///
+/// Of a raw image the size of its blocks and the limit are judged before SPOOL is created or emptied.
+pub(crate) fn flash_pieces<'a>(
+    reading: Reading,
+    report: &mut Report,
+    input: &'a str,
+    partition: &'a str,
+    raw: Option<u32>,
+    pieces: Pieces<'a>,
+    w: &mut Window,
+    m: &mut Meter,
+) -> Result<(), SparseRefusal<'a>> {
+    let mut reading = reading;
+    let input = image_place(input);
+    let partition = Place::new("PARTITION", partition);
+    let spool = Place::new("SPOOL", pieces.spool);
+    let mut source = reading.source(input)?;
+    let mut writing = reading.all_open();
+    let mut onto = writing.partition(partition)?;
+    if let Some(size) = raw
+        && let Err(fault) = raw_pieces(&source, size, pieces.limit)
+    {
+        return Err(Sides::none().reading(input, None).refuse(fault));
+    }
+    let mut through = writing.spool(spool, pieces.limit)?;
+    let passes = if raw.is_some() { RAW_PASSES } else { 1 };
+    report.progress.expect(source.length(), passes);
+    let mut watched = Watched::new(&mut source, &mut report.progress);
+    let count = match deliver(&mut watched, raw, pieces, &mut through, &mut onto, w, m) {
+        Ok(delivered) => delivered.pieces,
+        Err(fault) => {
+            let sides = Sides::none()
+                .reading(input, None)
+                .writing(partition, None)
+                .through(spool);
+            return Err(sides.refuse(SparseCommandFault::Flash(fault)));
+        }
+    };
+    let finished = writing.written_in_place(onto);
+    report.line_of(finished, Line::Pieces(count))?;
+    Ok(())
+}
+
+// Flashes the pieces from the one that the words name on.
+fn deliver(
+    source: &mut Watched<'_, FileSource>,
+    raw: Option<u32>,
+    pieces: Pieces<'_>,
+    spool: &mut FileSpool,
+    onto: &mut FilePartition,
+    w: &mut Window,
+    m: &mut Meter,
+) -> Result<Delivered, FlashFault>
+    requires { spool.old.capacity ≡ pieces.limit }
+{
+    let Pieces { limit, from, .. } = pieces;
+    let from = from.max(1);
+    match raw {
+        Some(size) => resume_raw(source, size, limit, from, spool, onto, w, m),
+        None => resume(source, limit, from, spool, onto, w, m),
+    }
+}

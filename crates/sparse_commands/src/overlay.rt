@@ -1,0 +1,104 @@
+//! Several sparse images laid over one another, as the pieces of a cut are: the command `expand IN.. OUT`.
+
+use crate::fault::{SparseCommandFault, SparseRefusal};
+use crate::places::image_place;
+use abt_chunks::Expanded;
+use abt_flash::flash;
+use abt_host::{Finished, HostFault, Place, Reading, Report, Sides, Watched};
+use abt_io::{FileSource, Forward, Meter, Source, Window};
+use abt_runs::{BlockRuns, SparseRuns};
+
+/// How many blocks an image has, and how many bytes each.
+#[derive(Clone, Copy, PartialEq, Eq)]
+struct Shape {
+    blocks: u32,
+    block: u32,
+}
+
+/// Lays images over one another in their order: a file of zeros, to which each is flashed in turn.
+///
+/// All are read, and their shapes compared, before OUT is created or emptied.
+pub(crate) fn overlay<'a>(
+    reading: Reading,
+    report: &mut Report,
+    inputs: &[&'a str],
+    output: Place<'a>,
+    w: &mut Window,
+    m: &mut Meter,
+) -> Result<(Expanded, Finished), SparseRefusal<'a>> {
+    let mut reading = reading;
+    let (sources, shape) = open_all(&mut reading, report, inputs, w, m)?;
+    let blocks = shape.blocks;
+    let bytes = blocks as u64 * shape.block as u64;
+    let mut writing = reading.all_open();
+    let mut zeros = writing.zeros(output, bytes)?;
+    for (source, input) in sources.into_iter().zip(inputs) {
+        m.tick();
+        let mut from = Forward::new(source);
+        let mut watched = Watched::new(&mut from, &mut report.progress);
+        if let Err(fault) = flash(&mut watched, &mut zeros, w, m) {
+            let sides = Sides::none()
+                .reading(image_place(input), None)
+                .begun(output, None);
+            return Err(sides.refuse(SparseCommandFault::Flash(fault)));
+        }
+    }
+    let finished = writing.written_in_place(zeros);
+    Ok((Expanded { blocks, bytes }, finished))
+}
+
+// The images, which are all of one shape.
+fn open_all<'a>(
+    reading: &mut Reading,
+    report: &mut Report,
+    inputs: &[&'a str],
+    w: &mut Window,
+    m: &mut Meter,
+) -> Result<(Vec<FileSource>, Shape), SparseRefusal<'a>> {
+    let mut sources = Vec::new(reading.alloc);
+    let mut shape = None;
+    let mut image = 0u32;
+    for input in inputs {
+        m.tick();
+        image = image.saturating_add(1);
+        let place = image_place(input);
+        let (source, own) = open_one(reading, report, place, w, m)?;
+        if shape.unwrap_or(own) != own {
+            let sides = Sides::none().reading(place, None);
+            return Err(sides.refuse(SparseCommandFault::OtherBlocks { image }));
+        }
+        shape = Some(own);
+        if sources.push(source).is_err() {
+            return Err(SparseRefusal::of(SparseCommandFault::Host(HostFault::Memory)));
+        }
+    }
+    let shape = shape.unwrap_or(Shape {
+        blocks: 0,
+        block: 0,
+    });
+    Ok((sources, shape))
+}
+
+// An image, all of whose chunks are checked, and its shape.
+fn open_one<'a>(
+    reading: &mut Reading,
+    report: &mut Report,
+    place: Place<'a>,
+    w: &mut Window,
+    m: &mut Meter,
+) -> Result<(FileSource, Shape), SparseRefusal<'a>> {
+    let mut source = reading.source(place)?;
+    report.progress.expect(source.length(), 1);
+    let runs = match SparseRuns::open(&mut source, w, m) {
+        Ok(runs) => runs,
+        Err(fault) => {
+            let sides = Sides::none().reading(place, None);
+            return Err(sides.refuse(SparseCommandFault::Run(fault)));
+        }
+    };
+    let shape = Shape {
+        blocks: runs.blocks(),
+        block: runs.block_size(),
+    };
+    Ok((source, shape))
+}

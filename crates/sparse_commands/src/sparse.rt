@@ -1,0 +1,98 @@
+//! The command `sparse`: a raw image as a sparse one.
+
+ghost use Rattle.std.specs.Prelude.{◌≡◌, ◌<◌, ◌≤◌, ◌+◌, ◌*◌, ◌^◌, IfErr, IfOk, OnOk};
+ghost use Rattle.abt_runs.specs.Raw.{Refused};
+ghost use Rattle.sparse_commands.specs.Blocks.{IsBlockSize};
+
+use crate::fault::{SparseCommandFault, SparseRefusal};
+use crate::lines::Line;
+use abt_host::{Finished, ImageOutput, Place, Reading, Report, Sides, Watched, ended, ended_file};
+use abt_io::{FileSource, Meter, Source, Window};
+use abt_placed::sparsify_at;
+use abt_runs::{BlockRuns, RawRuns, RunFault};
+use abt_sparsify::{Written, sparsify};
+
+/// How many bytes of data a raw chunk has at most: whole blocks in 64 MiB.
+const CHUNK_DATA: u32 = 67_108_864;
+
+// A pipe or a device gets each header before what it tells of: the raw image is read to count its chunks, to find each
+// run whole, and to copy it. A regular file is written over, and the raw image read once.
+const PASSES: u64 = 3;
+
+/// Writes the sparse image of a raw one, and prints what it has. `-` is standard output.
+///
+/// The block size is judged before OUT is created or emptied.
+pub(crate) fn sparse_file<'a>(
+    reading: Reading,
+    report: &mut Report,
+    input: &'a str,
+    output: &'a str,
+    block: u32,
+    w: &mut Window,
+    m: &mut Meter,
+) -> Result<(), SparseRefusal<'a>> {
+    let mut reading = reading;
+    let input = Place::new("IN", input);
+    let mut source = reading.source(input)?;
+    let sides = Sides::none().reading(input, None);
+    let blocks = match blocks_of(&source, block) {
+        Ok(blocks) => blocks,
+        Err(fault) => return Err(sides.refuse(SparseCommandFault::Run(fault))),
+    };
+    report.progress.expect(source.length(), 1);
+    let image = reading.all_open().image(Place::new("OUT", output))?;
+    let (written, finished) = write_image(&mut source, blocks, image, sides, report, w, m)?;
+    let line = Line::Sparse {
+        blocks: written.blocks,
+        chunks: written.chunks,
+        bytes: written.bytes,
+    };
+    report.line_of(finished, line)?;
+    Ok(())
+}
+
+/// How many bytes a block has, and how many blocks a raw chunk at most.
+#[derive(Clone, Copy, Drop)]
+struct Blocks {
+    size: u32,
+    most: u32,
+    ghost some: { 1 ≤ most },
+    ghost small: { 12 + most * size < 2 ^ 32 },
+}
+
+fn write_image<'a>(
+    source: &mut FileSource,
+    blocks: Blocks,
+    image: ImageOutput<'a>,
+    sides: Sides<'a>,
+    report: &mut Report,
+    w: &mut Window,
+    m: &mut Meter,
+) -> Result<(Written, Finished), SparseRefusal<'a>> {
+    let Blocks { size, most } = blocks;
+    match image {
+        ImageOutput::File(front) => {
+            let mut file = front.output;
+            let mut watched = Watched::new(source, &mut report.progress);
+            let answer = sparsify_at(&mut watched, size, most, &mut file, w, m);
+            ended_file(answer.map_err(SparseCommandFault::Piece), file, sides)
+        }
+        ImageOutput::Stream(mut stream) => {
+            report.progress.repeat(PASSES);
+            let mut watched = Watched::new(source, &mut report.progress);
+            let answer = sparsify(&mut watched, size, most, &mut stream.to, w, m);
+            ended(answer.map_err(SparseCommandFault::Piece), stream, sides)
+        }
+    }
+}
+
+// A block size that no raw image has is refused before it divides.
+fn blocks_of(source: &FileSource, size: u32) -> Result<Blocks, RunFault>
+    ensures size { IfOk result (λ blocks. blocks.size ≡ size) }
+    ensures granted { OnOk result (IsBlockSize size) }
+    ensures refused { IfErr result (λ fault. Refused fault size source.now.size) }
+{
+    let runs = RawRuns::open(source, size)?;
+    let most = CHUNK_DATA / runs.block_size();
+    Ok(Blocks { size, most })
+}

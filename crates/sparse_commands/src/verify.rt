@@ -1,0 +1,67 @@
+//! The command `verify`: whether an image stands on a partition.
+
+use crate::fault::{SparseCommandFault, SparseRefusal};
+use crate::lines::Line;
+use crate::places::image_place;
+use abt_host::{Place, Reading, Report, Sides, Watched};
+use abt_io::{Meter, Source, Window};
+use abt_verify::{verify, verify_raw};
+
+/// Compares a sparse image with what stands on a partition, and prints how many blocks of it were compared. The image is
+/// read forward, so that it may be a pipe.
+pub(crate) fn verify_file<'a>(
+    reading: Reading,
+    report: &mut Report,
+    input: &'a str,
+    partition: &'a str,
+    w: &mut Window,
+    m: &mut Meter,
+) -> Result<(), SparseRefusal<'a>> {
+    let mut reading = reading;
+    let input = Place::new("IN", input);
+    let partition = Place::new("PARTITION", partition);
+    let mut from = reading.input(input)?;
+    report.progress.expect_if(from.length);
+    let mut against = reading.compared(partition)?;
+    let mut watched = Watched::new(&mut from.from, &mut report.progress);
+    let blocks = match verify(&mut watched, &mut against, w, m) {
+        Ok(verified) => verified.blocks,
+        Err(fault) => {
+            let sides = Sides::none()
+                .reading(input, from.why())
+                .writing(partition, None);
+            return Err(sides.refuse(SparseCommandFault::Verify(fault)));
+        }
+    };
+    report.line(Line::Blocks(blocks))?;
+    Ok(())
+}
+
+/// The same of a raw image in blocks of so many bytes. It is read at any place, so that standard input will do only
+/// where it is a file.
+pub(crate) fn verify_raw_file<'a>(
+    reading: Reading,
+    report: &mut Report,
+    input: &'a str,
+    partition: &'a str,
+    size: u32,
+    w: &mut Window,
+    m: &mut Meter,
+) -> Result<(), SparseRefusal<'a>> {
+    let mut reading = reading;
+    let input = image_place(input);
+    let partition = Place::new("PARTITION", partition);
+    let mut source = reading.source(input)?;
+    report.progress.expect(source.length(), 1);
+    let mut against = reading.compared(partition)?;
+    let mut watched = Watched::new(&mut source, &mut report.progress);
+    let blocks = match verify_raw(&mut watched, size, &mut against, w, m) {
+        Ok(verified) => verified.blocks,
+        Err(fault) => {
+            let sides = Sides::none().reading(input, None).writing(partition, None);
+            return Err(sides.refuse(SparseCommandFault::Verify(fault)));
+        }
+    };
+    report.line(Line::Blocks(blocks))?;
+    Ok(())
+}

@@ -1,0 +1,63 @@
+"""What the checks of a run take of the processors, by crate: proofs, must-fail edits and tests.
+
+It looks at the processes of the toolchain once a second, so each may lose its last second.
+"""
+import collections
+import os
+import threading
+
+TICK = os.sysconf("SC_CLK_TCK")
+KINDS = ("proofs", "edits", "tests")
+
+
+def words_of(process):
+    with open(f"/proc/{process}/cmdline", "rb") as text:
+        return text.read().decode(errors="replace").split("\0")
+
+
+def seconds_of(process):
+    with open(f"/proc/{process}/stat", "rb") as text:
+        fields = text.read().rpartition(b")")[2].split()
+    return sum(int(it) for it in fields[11:15]) / TICK
+
+
+def kind_of(process, words):
+    if "rt-edit" in os.readlink(f"/proc/{process}/cwd"):
+        return "edits"
+    return "tests" if "--test" in words else "proofs"
+
+
+class Costs(threading.Thread):
+    """Watches until `end`."""
+
+    def __init__(self):
+        super().__init__(daemon=True)
+        self.ended, self.seen = threading.Event(), {}
+
+    def run(self):
+        while os.path.isdir("/proc/self") and not self.ended.wait(1):
+            for process in [it for it in os.listdir("/proc") if it.isdigit()]:
+                self.look(process)
+
+    def look(self, process):
+        try:
+            words = words_of(process)
+            if "--crate-name" in words and os.path.basename(words[0]) == "rattle":
+                name = words[words.index("--crate-name") + 1]
+                self.seen[process, name] = kind_of(process, words), seconds_of(process)
+        except (OSError, ValueError, IndexError):
+            pass  # it has ended, or is another user's
+
+    def end(self):
+        self.ended.set()
+        self.join()
+
+    def lines(self):
+        """A line for each crate, dearest first, and the sum."""
+        spent = collections.defaultdict(collections.Counter)
+        for (_, name), (kind, seconds) in self.seen.items():
+            spent[name][kind] += seconds
+            spent["all"][kind] += seconds
+        yield "processor seconds by crate: " + ", ".join(KINDS)
+        for name, of in sorted(spent.items(), key=lambda it: -sum(it[1].values())):
+            yield f"  {name:16} " + " ".join(f"{of[kind]:7.0f}" for kind in KINDS)

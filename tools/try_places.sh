@@ -1,0 +1,40 @@
+#!/usr/bin/env bash
+# Builds what runs elsewhere than here, and tries it: the C library for ARM64 (by QEMU), the WebAssembly module (in Node), and
+# the page (in Chromium). What takes a command that is not there is not run, and that is said. It ends with a line 'N passed,
+# M failed'; the status is 1 where one failed.
+#
+#   tools/try_places.sh             this machine's program is $ABOOTIMG, or build/abootimg; the toolchain's command $RT, or rt
+#
+# The program for ARM64 takes longer: make test TARGET=aarch64 tries it (tools/try_arm64.sh).
+. "$(dirname "$0")/trying.sh" || exit 1
+
+wanted=(wasm abootimg.wasm)
+lacks "the C library for ARM64" aarch64-linux-gnu-gcc qemu-aarch64-static || wanted+=(library arm64.a)
+build() { "$here/tools/build_places.py" "${wanted[@]}" >out 2>err; }
+try "${wanted[*]}" build
+
+if [ -e arm64.a ]; then
+    try_library() { CC='aarch64-linux-gnu-gcc -static' RUN=qemu-aarch64-static "$here/tools/try_c_library.sh" "$@"; }
+    script "ARM64 c library" try_library arm64.a
+fi
+
+# in_node IMAGE: expands it to the file raw.
+in_node() {
+    node $memory64 "$here/examples/expand.mjs" abootimg.wasm "$1" raw >out 2>err
+}
+expands() { in_node "$1" && cmp -s raw "${1%.simg}.raw"; }
+refuses() { ! in_node "$1" && [ "$(cat err)" = "$2" ]; }
+if ! lacks "the module in Node" node; then
+    memory64=--experimental-wasm-memory64
+    node $memory64 -e 0 2>/dev/null || memory64=
+    for image in "$here"/examples/*.simg; do
+        try "expand.mjs of ${image##*/}" expands "$image"
+    done
+    head -c 47 "$here/examples/short.simg" >half
+    try "expand.mjs of half an image" refuses half "refused: 10 (47)"
+fi
+
+make_page() { "$here/web/build.py" abootimg.wasm abootimg.html >out 2>err; }
+try "the page is made" make_page
+script page "$here/web/test_page.py" abootimg.html "$program"
+tried
