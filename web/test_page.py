@@ -109,12 +109,22 @@ class Trial:
         ran = subprocess.run([self.program, *words], stdout=subprocess.PIPE, stderr=subprocess.PIPE, check=False)
         return ran.stdout.decode().splitlines(), ran.stderr.decode().splitlines()
 
+    def download(self, selector):
+        """Presses a button whose work ends in a download, into an empty folder."""
+        for old in os.listdir(self.downloads):
+            os.remove(os.path.join(self.downloads, old))
+        time.sleep(BETWEEN_DOWNLOADS)
+        self.press(selector)
+
     def press(self, selector, then=""):
         """Presses a button, and waits until the work is done."""
         self.browser.value("document.getElementById('status').textContent = ''")
         self.browser.value(f"document.querySelector({selector!r}).click(); {then}")
         self.browser.wait("document.getElementById('status').textContent !== ''")
 
+
+# Chromium lets a page begin ten downloads in a second, and drops what is more.
+BETWEEN_DOWNLOADS = 0.15
 
 FIELDS = {"OS version and patch level": "os", "Name": "name", "Command line": "cmdline",
           "More of the command line": "extra", "Id": "id"}
@@ -173,10 +183,8 @@ def try_expanded(trial, name, path):
     """The image just shown, expanded as a download."""
     raw = os.path.join(trial.work.name, "wanted.raw")
     trial.says("expand", path, raw)
-    for old in os.listdir(trial.downloads):
-        os.remove(os.path.join(trial.downloads, old))
     trial.browser.value("window.showSaveFilePicker = undefined")
-    trial.press("#expand")
+    trial.download("#expand")
     trial.same(f"download of {name}", *same_bytes(trial, raw))
 
 
@@ -256,9 +264,7 @@ def try_parts(trial, name, path):
         wanted = os.path.join(folder, part)
         if os.path.getsize(wanted) == 0:
             continue
-        for old in os.listdir(trial.downloads):
-            os.remove(os.path.join(trial.downloads, old))
-        trial.press(f'[aria-label="Save {part}"]')
+        trial.download(f'[aria-label="Save {part}"]')
         trial.same(f"{part} of {name}", *same_bytes(trial, wanted))
 
 
