@@ -5,59 +5,67 @@ import { walk } from "./sparse.js";
 /** Raw bytes from here on are handed over as a part of the file, and not as a copy. */
 const LARGE = 64 << 10;
 
-/** How much is written at once. */
-const BATCH = 4 << 20;
+/** About how much is written at once: each call to write takes the browser some milliseconds. */
+const BATCH = 64 << 20;
 
 /** Gaps up to this are filled up with zeros, so that what stands around them is written at once. */
-const SMALL_GAP = 16 << 10;
+const SMALL_GAP = 1 << 20;
 
-/** Takes an image's bytes in their order and writes them in batches. What it is never given is zeros. */
+/** So many bytes of one word are made at once; more of them are the same bytes named again, up to 16 times or so. */
+const [FEW, MOST] = [64 << 10, 1 << 20];
+
+/** Bytes that stand over and over, each time at no cost of memory. */
+class Repeated {
+  constructor(bytes) {
+    this.size = bytes.length;
+    this.blob = new Blob([bytes]);
+  }
+
+  /** So many bytes of it, as parts of a blob. */
+  parts(length) {
+    const parts = Array(Math.floor(length / this.size)).fill(this.blob);
+    if (length % this.size > 0) parts.push(this.blob.slice(0, length % this.size));
+    return parts;
+  }
+}
+
+const ZEROS = new Repeated(new Uint8Array(FEW));
+
+/** Takes an image's parts in their order and writes them in batches. What it is never given is zeros. */
 class Batches {
   constructor(sink) {
     this.sink = sink;
-    this.bytes = new Uint8Array(BATCH);
+    this.parts = [];
     this.at = 0;
     this.count = 0;
   }
 
   async #flush() {
     if (this.count === 0) return;
-    const bytes = this.bytes.slice(0, this.count);
+    const blob = new Blob(this.parts);
+    this.parts = [];
     this.count = 0;
-    await this.sink.write(this.at, new Blob([bytes]));
+    await this.sink.write(this.at, blob);
   }
 
-  /** Makes room for bytes at a position. */
-  async #room(position, length) {
-    const end = this.at + this.count;
-    const gap = position - end;
-    if (this.count > 0 && (gap > SMALL_GAP || this.count + gap + length > BATCH)) await this.#flush();
-    if (this.count === 0) {
-      this.at = position;
-      return;
+  /** Puts parts at a position, as many bytes as `length` says: a promise where what is held has to be written first. */
+  put(position, length, parts) {
+    const gap = position - this.at - this.count;
+    if (this.count > 0 && (gap > SMALL_GAP || this.count + gap + length > BATCH)) {
+      return this.#flush().then(() => this.#add(position, 0, length, parts));
     }
-    this.bytes.fill(0, this.count, this.count + gap);
-    this.count += gap;
+    return this.#add(position, this.count > 0 ? gap : 0, length, parts);
   }
 
-  async bytesAt(position, bytes) {
-    let done = 0;
-    while (done < bytes.length) {
-      const some = Math.min(bytes.length - done, BATCH - SMALL_GAP);
-      await this.#room(position + done, some);
-      this.bytes.set(bytes.subarray(done, done + some), this.count);
-      this.count += some;
-      done += some;
-    }
+  #add(position, gap, length, parts) {
+    if (this.count === 0) this.at = position;
+    if (gap > 0) this.parts.push(...ZEROS.parts(gap));
+    this.parts.push(...parts);
+    this.count += gap + length;
   }
 
-  async blobAt(position, blob) {
-    await this.#flush();
-    await this.sink.write(position, blob);
-  }
-
-  async end() {
-    await this.#flush();
+  end() {
+    return this.#flush();
   }
 }
 
@@ -92,7 +100,7 @@ export class FileSink {
 
 /** A download, for browsers that let no page write to a file: parts of the file, copies and zeros in one blob. */
 export class DownloadSink {
-  static zeros = new Blob([new Uint8Array(BATCH)]);
+  static zeros = new Repeated(new Uint8Array(MOST));
   done = "Handed over as a download:";
 
   constructor(name, size) {
@@ -103,11 +111,8 @@ export class DownloadSink {
   }
 
   #zeros(end) {
-    while (this.at < end) {
-      const some = Math.min(BATCH, end - this.at);
-      this.parts.push(some === BATCH ? DownloadSink.zeros : DownloadSink.zeros.slice(0, some));
-      this.at += some;
-    }
+    this.parts = this.parts.concat(DownloadSink.zeros.parts(end - this.at));
+    this.at = end;
   }
 
   async write(position, data) {
@@ -147,8 +152,8 @@ export async function expand(file, module, sink, progress, signal) {
   const step = (part, place, bytes) => {
     progress(part.position);
     if (part.kind === RAW) {
-      if (part.length < LARGE) return batches.bytesAt(part.position, bytes.slice());
-      return batches.blobAt(part.position, file.slice(place, place + part.length));
+      const raw = part.length < LARGE ? bytes.slice() : file.slice(place, place + part.length);
+      return batches.put(part.position, part.length, [raw]);
     }
     if (part.kind === FILL) return repeat(batches, part.position, part.length, module.word(), signal);
     return undefined;
@@ -160,6 +165,7 @@ export async function expand(file, module, sink, progress, signal) {
       return end;
     }
     await batches.end();
+    signal?.throwIfAborted();
     await sink.end();
     return end;
   } catch (error) {
@@ -171,10 +177,12 @@ export async function expand(file, module, sink, progress, signal) {
 /** A word over and over. Zeros stand there already. */
 async function repeat(batches, position, length, word, signal) {
   if (word.every((byte) => byte === 0)) return;
-  const bytes = new Uint8Array(Math.min(length, BATCH / 2)).map((_, i) => word[i % 4]);
-  for (let done = 0; done < length; done += bytes.length) {
+  const size = Math.min(length, Math.max(FEW, Math.min(MOST, length / 16 & ~3)));
+  const words = new Repeated(new Uint8Array(size).map((_, i) => word[i % 4]));
+  for (let done = 0; done < length; done += BATCH) {
     signal?.throwIfAborted();
-    await batches.bytesAt(position + done, bytes.subarray(0, Math.min(bytes.length, length - done)));
+    const some = Math.min(length - done, BATCH);
+    await batches.put(position + done, some, words.parts(some));
   }
 }
 

@@ -3,10 +3,10 @@
 import { CHECKSUM, END, FAULT, FILL, NEED, NOTHING, RAW, WINDOW } from "./module.js";
 
 /** Raw bytes of more than this are passed over, and not read. */
-const LONG = 1 << 20;
+const LONG = 128 << 10;
 
 /** How much is read at first, where it isn't known how much is wanted. */
-const FIRST = 64 << 10;
+const FIRST = 16 << 10;
 
 /**
  * Goes through a sparse image. `step` is called with each part, the place in the file where its bytes begin, and of a

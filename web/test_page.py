@@ -78,7 +78,7 @@ class Trial:
             print(f"NOT SO: {name}", *told, sep="\n    ", flush=True)
 
     def same(self, name, shown, wanted):
-        self.check(name, shown == wanted, f"it shows {shown!r}", f"and not  {wanted!r}")
+        self.check(name, shown == wanted, f"it shows {shown!r}"[:1000], f"and not  {wanted!r}"[:1000])
 
     def wanted(self, name):
         return not self.only or self.only in name
@@ -95,6 +95,8 @@ class Trial:
 
     def show(self, path):
         """Chooses a file, and answers what is shown of it."""
+        # The same file once more is no change, and an old status is no new one.
+        self.browser.value("document.getElementById('file').value = document.getElementById('status').textContent = ''")
         self.browser.choose_file("#file", path)
         self.browser.wait("!/^$|^Reading/.test(document.getElementById('status').textContent)")
         return self.browser.value(SHOWN)
