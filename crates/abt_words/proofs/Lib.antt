@@ -1,2 +1,1 @@
-pub mod NumberWords
-pub mod WordFiles
+pub mod Told

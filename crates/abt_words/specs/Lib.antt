@@ -1,3 +1,1 @@
-pub mod NumberWord
 pub mod Refused
-pub mod WordFile

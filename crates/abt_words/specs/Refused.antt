@@ -1,9 +1,9 @@
 -- Words that are refused.
 use Rattle.std.specs.Prelude.{◌≡◌, ◌↔◌, ◌<◌, ◌^◌, ℕ, List, Bool, IsTrue, string_bytes}
-use Rattle.abt_words.specs.declared.rows.Value.{Value}
+use Rattle.abt_values.specs.declared.rows.Value.{Value}
 use Rattle.abt_words.specs.declared.fault.WordsFault.{WordsFault}
 use Rattle.abt_words.specs.declared.fault.WordsFault.TheVariants.{Usage, BadNumber, Memory}
-use Rattle.abt_words.specs.NumberWord.{IsNumber, IsRead}
+use Rattle.abt_values.specs.NumberWord.{IsNumber, IsRead}
 
 -- a word that writes a number of 64 bits
 abbrev pub HasNumber : List ℕ → Type 0

@@ -1,13 +1,13 @@
 //! What was given for each row of a command's table.
 
 ghost use Rattle.std.specs.Prelude.{◌≡◌, IfOk, IfErr};
-ghost use Rattle.abt_words.specs.NumberWord.{IsRead};
+ghost use Rattle.abt_values.specs.NumberWord.{IsRead};
 ghost use Rattle.abt_words.specs.Refused.{TellsNoNumber};
 
 use crate::fault::WordsFault;
-use crate::numbers::{number_in, number_word};
 use crate::order::Given;
-use crate::rows::{CommandRow, Row};
+use crate::rows::CommandRow;
+use abt_values::{Row, number_in, number_word};
 use clap::ArgMatches;
 use std::alloc::{AllocError, Global};
 

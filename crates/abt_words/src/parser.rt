@@ -1,7 +1,8 @@
 //! The parser of the words, which clap makes of the table.
 
-use crate::rows::{CommandRow, Place, Row, Value};
+use crate::rows::CommandRow;
 use crate::table::{ABOUT, AFTER_HELP, PROGRAM, VERSION, commands, telling};
+use abt_values::{Place, Row, Value};
 use clap::builder::ValueParser;
 use clap::{Arg, ArgAction, Command};
 use std::alloc::{AllocError, Global};

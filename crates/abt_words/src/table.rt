@@ -5,7 +5,8 @@
 
 ghost use Rattle.std.specs.Prelude.{◌≡◌, length};
 
-use crate::rows::{CommandRow, Place, Row, Value, Work};
+use crate::rows::{CommandRow, Work};
+use abt_values::{Place, Row, Value};
 
 /// The program's name and version.
 pub(crate) const PROGRAM: &str = "abootimg";

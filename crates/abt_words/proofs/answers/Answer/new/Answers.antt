@@ -1,6 +1,6 @@
 use Rattle.std.proofs.Common.{rules, ◌<◌, ◌^◌, refl}
 use Rattle.std.specs.Prelude.{IfSome}
-use Rattle.abt_words.proofs.NumberWords.{none_is_some, some_number}
+use Rattle.abt_words.proofs.Told.{none_is_some, some_number}
 use Rattle.abt_words.proofs.answers.Answer.new.Goals as goal
 
 pub returns-in_ok-from_str-in-None-clause-refused :

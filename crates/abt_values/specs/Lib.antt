@@ -1,0 +1,2 @@
+pub mod NumberWord
+pub mod WordFile

@@ -1,0 +1,83 @@
+//! A row of the table of the command line: a word, an option or a flag.
+
+ghost use Rattle.std.specs.Prelude.{◌≡◌, ◌↔◌, IsTrue, false, Contains};
+
+/// A word at its place, an option or a flag.
+#[derive(Clone, Copy)]
+pub struct Row {
+    /// The name: of an option without its hyphens, of a word as help shows it.
+    pub name: &'static str,
+    pub place: Place,
+    /// What its value is.
+    pub value: Value,
+    /// What help calls an option's value.
+    pub value_name: &'static str,
+    pub is_required: bool,
+    /// The value that it has where none is given.
+    pub default: Option<&'static str>,
+    /// The word that it is refused without.
+    pub needs: Option<&'static str>,
+    /// The option that it is refused beside.
+    pub excludes: Option<&'static str>,
+    /// The header versions of boot images that carry it.
+    pub boot: &'static [u32],
+    /// The header versions of vendor boot images that carry it.
+    pub vendor: &'static [u32],
+    pub help: &'static str,
+}
+
+/// Where a row stands on the command line, and how often.
+#[derive(Clone, Copy)]
+pub enum Place {
+    /// A word, by its place among the others.
+    Word,
+    /// One word or more.
+    Words,
+    /// Words behind all others, or none.
+    LastWords,
+    /// `--NAME VALUE`.
+    Option,
+    /// The same, which may be given again.
+    Options,
+    /// `--NAME`.
+    Flag,
+    /// The same, or a hyphen and this letter.
+    ShortFlag(char),
+}
+
+/// What the value of a row is.
+#[derive(Clone, Copy)]
+pub enum Value {
+    /// The path of a file.
+    File,
+    /// A number of 32 bits, as guides write it.
+    Number,
+    /// The same of 64 bits.
+    LongNumber,
+    /// A number of 32 bits in decimal digits, at least this one.
+    Count(u32),
+    /// A text as it is written.
+    Text,
+    /// The same, which may begin with a hyphen.
+    CommandLine,
+    /// `A.B.C-YYYY-MM`.
+    Os,
+    /// One of these names.
+    Name(&'static [&'static str]),
+    /// Whether it was given.
+    IsGiven,
+}
+
+impl Row {
+    /// Whether a boot image, or a vendor boot image, of this header version carries the option.
+    pub fn is_carried_by(&self, is_vendor: bool, version: u32) -> bool
+        ensures vendor { IsTrue is_vendor → (IsTrue result ↔ Contains self.now.vendor.now version) }
+        ensures boot { is_vendor ≡ false → (IsTrue result ↔ Contains self.now.boot.now version) }
+    {
+        if is_vendor {
+            self.vendor.contains(&version)
+        } else {
+            self.boot.contains(&version)
+        }
+    }
+}
