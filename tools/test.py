@@ -70,11 +70,18 @@ def followed(words, name, wrong, **how):
     return passed, failed
 
 
+def lanes():
+    """How many crates are proved side by side, each by one process: every further one of a crate reads all definitions again,
+    some 40 seconds. As many as there are processors, and 4 GB of memory for each."""
+    memory = os.sysconf("SC_PAGE_SIZE") * os.sysconf("SC_PHYS_PAGES")
+    return max(1, min(len(os.sched_getaffinity(0)), memory // 4_000_000_000))
+
+
 def proved_and_tried(rt, wrong):
     """`rt ci`, and what it took by crate."""
     costs = Costs()
     costs.start()
-    counts = followed([rt, "ci"], "rt ci", wrong)
+    counts = followed([rt, "ci"], "rt ci", wrong, env={"RT_JOBS": str(lanes()), **os.environ})
     costs.end()
     print(*costs.lines(), sep="\n", flush=True)
     return counts
