@@ -25,6 +25,8 @@ from repository import HERE
 
 BUILT = os.path.join(HERE, "build", "abootimg.tried")
 LIBRARY = os.path.join(HERE, "build", "libabootimg.a")
+# `rt ci` leaves this behind where it proved the program anew.
+COMPILED = os.path.join(HERE, "crates", "abootimg", "out", "abootimg.o")
 WRONG = re.compile(r"FAILED|NOT SO|NOT PROVED|NOT REFUSED|BAD EDIT")
 LAST = re.compile(r"(?:[\w ]+: )?(\d+) passed, (\d+) failed")
 
@@ -88,10 +90,13 @@ def proved_and_tried(rt, wrong):
 
 
 def built(rt, kind, out):
-    """Builds the program or the library as make does, of what was proved."""
+    """Builds the program or the library as make does, of what was proved. A program that this run proved is only linked."""
     if os.path.exists(out):
         os.remove(out)
-    done = subprocess.run([os.path.join(HERE, "tools/build.py"), "--rt", rt, kind, out], stderr=subprocess.STDOUT)
+    words = [os.path.join(HERE, "tools/build.py"), "--rt", rt, kind, out]
+    if kind == "program" and os.path.isfile(COMPILED):
+        words = [os.path.join(HERE, "tools/link.sh"), COMPILED, out, "--rt", rt]
+    done = subprocess.run(words, stderr=subprocess.STDOUT)
     return 0 if done.returncode == 0 and os.path.isfile(out) else 1
 
 
