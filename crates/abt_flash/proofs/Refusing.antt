@@ -1,10 +1,11 @@
 -- Why a sparse or a raw image is not delivered, from why an opened one is not.
 use Rattle.std.proofs.Common.{◌≡◌, ℕ, ◌+◌, ◌≤◌, Bool, List, length, Result, Ok, Err, sym, ap, ◌∙◌, arith}
-use Rattle.std.specs.Prelude.{IsTrue, IfErr}
+use Rattle.std.specs.Prelude.{IsTrue, IfErr, OnOk, ◌*◌, ◌^◌, ◌-◌, ◌<◌, ◌%◌}
+use Rattle.std.proofs.Math.Nat.{mul-le-mul_right}
 use Rattle.abt_sparse.specs.Reading.{outcome}
 use Rattle.abt_sparse.specs.Block.{classify}
 use Rattle.abt_runs.specs.Sparse.{blocks_in}
-use Rattle.abt_flash.specs.Raw.{RawRefused}
+use Rattle.abt_flash.specs.Raw.{FillsBlocks, IsAllowed, IsFilled, RawRefused}
 use Rattle.abt_flash.specs.Devices.{Counts}
 use Rattle.abt_flash.specs.Delivering.{Refused, Room, StopsFor}
 use Rattle.abt_flash.specs.Sparse.{Fits, IsImage, SparseRefused, size_in}
@@ -62,20 +63,53 @@ fits_sparse x b n limit size o room = fits_of x b n limit size o room
 
 -- ---- a raw image
 
-raw_fault : (e : FlashFault) (x : List ℕ) (long limit b n size made : ℕ) (source spool : Bool) (a z : Counts) → (IsTrue source → length (classify b x) ≡ n) → Refused e limit b n size made source spool a z → RawRefused e b x long limit size made source spool a z
-raw_fault (LimitTooSmall least) x long limit b n size made source spool a z o h = h
-raw_fault (PartitionTooSmall need) x long limit b n size made source spool a z o h = (h.0, h.2, λ t. rw (o t) h.1)
-raw_fault (Read d) x long limit b n size made source spool a z o h = (h.1, h.2)
-raw_fault SourceChanged x long limit b n size made source spool a z o h = h.1
-raw_fault (NoSuchPiece k) x long limit b n size made source spool a z o h = (h.1, h.2, λ t. rw (o t) (h.0))
-raw_fault (Stopped j c) x long limit b n size made source spool a z o h = (h.1, h.2, λ t. rw (o t) (h.0))
+-- a raw image is opened as n blocks
+pub record OpensRaw (b n : ℕ) (x : List ℕ) (long : ℕ) (source : Bool) : Type 0 where
+  pub fills : FillsBlocks b long
+  pub filled : IsFilled n b long
+  pub told : IsTrue source → length (classify b x) ≡ n
+
+within_most : (n b long : ℕ) → n ≤ 2 ^ 32 - 1 → long ≤ n * b → long ≤ (2 ^ 32 - 1) * b
+within_most n b long few covers = omega (arith, mul-le-mul_right b few, covers)
+
+-- what is known of an opened one
+pub opens_runs : (long n b : ℕ) (x : List ℕ) (source : Bool) → 4 ≤ b → b ≤ 65536 → b % 4 ≡ 0 → long ≤ n * b → n * b < long + b → n < 2 ^ 32
+    → (IsTrue source → length (classify b x) ≡ n) → OpensRaw b n x long source
+opens_runs long n b x source some window words covers last few told = record {
+  fills = record { least = some; most = window; words = words; few = within_most n b long (omega (arith, few)) covers };
+  filled = record { covers = covers; last = last };
+  told = told;
+}
+
+pub allowed_in : (b n : ℕ) (x : List ℕ) (long limit size : ℕ) (source : Bool) → OpensRaw b n x long source → Room limit b n size → IsAllowed b x long limit size source
+allowed_in b n x long limit size source o room = record {
+  fills = o.fills;
+  each = room.each;
+  count = n;
+  filled = o.filled;
+  all = room.all;
+  room = λ t. rw (o.told t) room;
+}
+
+raw_fault : (e : FlashFault) (x : List ℕ) (long limit b n size made : ℕ) (source spool : Bool) (a z : Counts) → OpensRaw b n x long source → Refused e limit b n size made source spool a z → RawRefused e b x long limit size made source spool a z
+raw_fault (LimitTooSmall least) x long limit b n size made source spool a z o h = (o.fills, h.0, h.1)
+raw_fault (PartitionTooSmall need) x long limit b n size made source spool a z o h = (o.fills, h.0, h.2, (n, o.filled, h.1), λ t. rw (o.told t) h.1)
+raw_fault (Read d) x long limit b n size made source spool a z o h = (allowed_in b n x long limit size source o h.0, h.1, h.2)
+raw_fault SourceChanged x long limit b n size made source spool a z o h = (allowed_in b n x long limit size source o h.0, h.1)
+raw_fault (NoSuchPiece k) x long limit b n size made source spool a z o h = (allowed_in b n x long limit size source o h.0, h.1, h.2)
+raw_fault (Stopped j c) x long limit b n size made source spool a z o h = (allowed_in b n x long limit size source o h.0, h.1, h.2)
 raw_fault (Sparse f) x long limit b n size made source spool a z o h = absurd h
 raw_fault (Write d) x long limit b n size made source spool a z o h = absurd h
 raw_fault TooLarge x long limit b n size made source spool a z o h = absurd h
 raw_fault (BadBlock k) x long limit b n size made source spool a z o h = absurd h
 raw_fault (Sync d) x long limit b n size made source spool a z o h = absurd h
 
-pub raw_refused : (r : Result Delivered FlashFault) (x : List ℕ) (long limit b n size made : ℕ) (source spool : Bool) (a z : Counts) → (IsTrue source → length (classify b x) ≡ n)
+pub raw_refused : (r : Result Delivered FlashFault) (x : List ℕ) (long limit b n size made : ℕ) (source spool : Bool) (a z : Counts) → OpensRaw b n x long source
     → IfErr r (λ e. Refused e limit b n size made source spool a z) → IfErr r (λ e. RawRefused e b x long limit size made source spool a z)
 raw_refused (Ok d) x long limit b n size made source spool a z o h = tt
 raw_refused (Err e) x long limit b n size made source spool a z o h = raw_fault e x long limit b n size made source spool a z o h
+
+pub raw_allowed : (r : Result Delivered FlashFault) (b n : ℕ) (x : List ℕ) (long limit size : ℕ) (source : Bool) → OpensRaw b n x long source
+    → OnOk r (Room limit b n size) → OnOk r (IsAllowed b x long limit size source)
+raw_allowed (Ok d) b n x long limit size source o room = allowed_in b n x long limit size source o room
+raw_allowed (Err e) b n x long limit size source o room = tt

@@ -13,21 +13,46 @@ use Rattle.abt_flash.specs.declared.fault.FlashFault.TheVariants.{Stopped, NoSuc
 abbrev pub raw_image : ℕ → List ℕ → ImageBlocks
 raw_image b x = record { size = b; blocks = classify b x }
 
--- Why the raw image x, of `long` bytes, is not delivered in blocks of b bytes behind its first pieces, in order: the
--- block size, too many blocks, the limit, the partition, planning, and then a stop alone.
+-- b is a size that blocks may have, and an image can have as many of them as so many bytes fill
+pub record FillsBlocks (b long : ℕ) : Type 0 where
+  pub least : 4 ≤ b
+  pub most : b ≤ 65536
+  pub words : b % 4 ≡ 0
+  pub few : long ≤ (2 ^ 32 - 1) * b
+
+-- n blocks of b bytes are what so many bytes fill, the last of them maybe in part
+pub record IsFilled (n b long : ℕ) : Type 0 where
+  pub covers : long ≤ n * b
+  pub last : n * b < long + b
+
+-- The raw image x, of `long` bytes, can be delivered in blocks of b bytes: there are such blocks, the limit has room
+-- for each, and the partition for all.
+pub record IsAllowed (b : ℕ) (x : List ℕ) (long limit size : ℕ) (source : Bool) : Type 0 where
+  pub fills : FillsBlocks b long
+  pub each : 64 + b ≤ limit
+  pub count : ℕ
+  pub filled : IsFilled count b long
+  pub all : count * b ≤ size
+  pub room : IsTrue source → Room limit b (length (classify b x)) size
+
+-- Why the raw image x, of `long` bytes, is not delivered in blocks of b bytes behind its first pieces. The order holds
+-- for every source: the block size, too many blocks, the limit, the partition, planning, and then a stop alone.
 abbrev pub RawRefused : FlashFault → ℕ → List ℕ → ℕ → ℕ → ℕ → ℕ → Bool → Bool → Counts → Counts → Type 0
 RawRefused (BadBlock q) b x long limit size made source spool a z = (q ≡ b) × ((4 ≤ b) × (b ≤ 65536) × (b % 4 ≡ 0) → ⊥)
 RawRefused TooLarge b x long limit size made source spool a z =
     (4 ≤ b) × (b ≤ 65536) × (b % 4 ≡ 0) × ((2 ^ 32 - 1) * b < long)
-RawRefused (LimitTooSmall least) b x long limit size made source spool a z = (least ≡ 64 + b) × (limit < least)
+RawRefused (LimitTooSmall least) b x long limit size made source spool a z =
+    FillsBlocks b long × (least ≡ 64 + b) × (limit < least)
 RawRefused (PartitionTooSmall need) b x long limit size made source spool a z =
-    (64 + b ≤ limit) × (size < need) × (IsTrue source → need ≡ length (classify b x) * b)
-RawRefused (Read d) b x long limit size made source spool a z = (a.read_faults < z.read_faults) × (d ≡ Failed)
-RawRefused SourceChanged b x long limit size made source spool a z = source ≡ false
+    FillsBlocks b long × (64 + b ≤ limit) × (size < need)
+    × ((n : ℕ) × IsFilled n b long × (need ≡ n * b)) × (IsTrue source → need ≡ length (classify b x) * b)
+RawRefused (Read d) b x long limit size made source spool a z =
+    IsAllowed b x long limit size source × (a.read_faults < z.read_faults) × (d ≡ Failed)
+RawRefused SourceChanged b x long limit size made source spool a z = IsAllowed b x long limit size source × (source ≡ false)
 RawRefused (NoSuchPiece k) b x long limit size made source spool a z =
-    (0 < k) × (k ≤ made) × (IsTrue source → Room limit b (length (classify b x)) size)
+    IsAllowed b x long limit size source × (0 < k) × (k ≤ made)
 RawRefused (Stopped j c) b x long limit size made source spool a z =
-    (made < j) × StopsFor c source spool a z × (IsTrue source → Room limit b (length (classify b x)) size)
+    IsAllowed b x long limit size source × (made < j) × StopsFor c source spool a z
 RawRefused (Sparse f) b x long limit size made source spool a z = ⊥
 RawRefused (Write d) b x long limit size made source spool a z = ⊥
 RawRefused (Sync d) b x long limit size made source spool a z = ⊥

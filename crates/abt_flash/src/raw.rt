@@ -5,7 +5,7 @@ ghost use Rattle.abt_sparse.specs.Block.{classify};
 ghost use Rattle.abt_flash.specs.Devices.{counts, partition_state, spool_state};
 ghost use Rattle.abt_flash.specs.Delivering.{AlwaysMendable, Costs, CountsTo, GivesPieces, IsLeast, LaysBlocks};
 ghost use Rattle.abt_flash.specs.Delivering.{MendsBlocks, NoneFailed, OnEarly, Room, pieces_in};
-ghost use Rattle.abt_flash.specs.Raw.{RawRefused, raw_image};
+ghost use Rattle.abt_flash.specs.Raw.{IsAllowed, RawRefused, raw_image};
 
 use crate::answer::Delivered;
 use crate::delivering::pieces_before;
@@ -30,6 +30,8 @@ pub(crate) fn raw_behind<S: Source, L: Spool, P: Partition>(
     // What is answered.
     ensures granted { IsTrue S.tells →
         OnOk result (Room limit b (length (classify b (S.content source.old))) (P.size partition.old)) }
+    ensures allowed { OnOk result
+        (IsAllowed b (S.content source.old) (S.size source.old) limit (P.size partition.old) S.tells) }
     ensures refused { IfErr result (λ e. RawRefused e b (S.content source.old) (S.size source.old) limit
         (P.size partition.old) before S.tells L.tells
         (counts S.Source L.Input L.Output L.Spool.own P.Partition.own source.old spool.old partition.old)
@@ -92,6 +94,8 @@ pub fn deliver_raw<S: Source, L: Spool, P: Partition>(
     // What is answered.
     ensures granted { IsTrue S.tells →
         OnOk result (Room limit b (length (classify b (S.content source.old))) (P.size partition.old)) }
+    ensures allowed { OnOk result
+        (IsAllowed b (S.content source.old) (S.size source.old) limit (P.size partition.old) S.tells) }
     ensures refused { IfErr result (λ e. RawRefused e b (S.content source.old) (S.size source.old) limit
         (P.size partition.old) 0 S.tells L.tells
         (counts S.Source L.Input L.Output L.Spool.own P.Partition.own source.old spool.old partition.old)
@@ -147,6 +151,8 @@ pub fn resume_raw<S: Source, L: Spool, P: Partition>(
     // What is answered.
     ensures granted { IsTrue S.tells →
         OnOk result (Room limit b (length (classify b (S.content source.old))) (P.size partition.old)) }
+    ensures allowed { OnOk result
+        (IsAllowed b (S.content source.old) (S.size source.old) limit (P.size partition.old) S.tells) }
     ensures refused { IfErr result (λ e. RawRefused e b (S.content source.old) (S.size source.old) limit
         (P.size partition.old) (from_piece - 1) S.tells L.tells
         (counts S.Source L.Input L.Output L.Spool.own P.Partition.own source.old spool.old partition.old)

@@ -13,6 +13,7 @@ returns g c =
     let e = c.raw_behind.ensures in
     record {
       granted = e.granted;
+      allowed = e.allowed;
       refused = e.refused;
       early = e.early;
       some = e.some;

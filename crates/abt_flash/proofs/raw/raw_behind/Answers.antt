@@ -5,7 +5,7 @@ use Rattle.abt_runs.specs.RawLaws.{raw_long}
 use Rattle.abt_flash.specs.Delivering.{ImageBlocks, pieces_in}
 use Rattle.abt_flash.specs.Raw.{raw_image}
 use Rattle.abt_flash.proofs.Records.{costs_more, counts_same, gives_none, gives_same, lays_none, lays_same, least_same, mendable_none, mendable_same, mends_none, mends_same, run_begins, run_early}
-use Rattle.abt_flash.proofs.Refusing.{raw_refused}
+use Rattle.abt_flash.proofs.Refusing.{OpensRaw, opens_runs, raw_allowed, raw_refused}
 use Rattle.abt_flash.proofs.raw.raw_behind.Goals as goal
 use Rattle.abt_flash.proofs.raw.raw_behind.Goals.{In-Ok}
 use Rattle.abt_flash.proofs.raw.raw_behind.Given.{Over}
@@ -24,9 +24,21 @@ returns-in-Ok-clause-granted g c tells =
     let k = (goal.at.returns-in-Ok-clause-granted g c).In-Ok in
     rw (counts g k tells) (rw (c.in-Ok.ensures.size.0) at c.deliver_behind.ensures.granted)
 
+-- it is opened as the blocks that its length fills
+opens : (g : Over) (c : In-Ok g) → OpensRaw c.args.b c.in-Ok.runs.blocks (g.S.Source.content c.args.source.now) (g.S.Source.size c.args.source.now) g.S.Source.tells
+opens g c =
+    let r = c.in-Ok.runs in
+    let size : r.size ≡ c.args.b = c.in-Ok.ensures.size.0 in
+    let long : r.length ≡ g.S.Source.size c.args.source.now = c.in-Ok.ensures.size.1 in
+    rw (← long) (rw (← size) (opens_runs r.length r.blocks r.size _ _ r.some r.window r.words r.covers r.last r.fits (λ tells. rw size (counts g c tells))))
+
 pub returns-in-Ok-clause-refused : goal.returns-in-Ok-clause-refused
 returns-in-Ok-clause-refused g c =
-    raw_refused c.deliver_behind.result _ _ _ _ _ _ _ _ _ _ _ (λ tells. counts g ((goal.at.returns-in-Ok-clause-refused g c).In-Ok) tells) (rw (c.in-Ok.ensures.size.0) at c.deliver_behind.ensures.refused)
+    raw_refused c.deliver_behind.result _ _ _ _ _ _ _ _ _ _ _ (opens g ((goal.at.returns-in-Ok-clause-refused g c).In-Ok)) (rw (c.in-Ok.ensures.size.0) at c.deliver_behind.ensures.refused)
+
+pub returns-in-Ok-clause-allowed : goal.returns-in-Ok-clause-allowed
+returns-in-Ok-clause-allowed g c =
+    raw_allowed c.deliver_behind.result _ _ _ _ _ _ _ (opens g ((goal.at.returns-in-Ok-clause-allowed g c).In-Ok)) (rw (c.in-Ok.ensures.size.0) at c.deliver_behind.ensures.granted)
 
 pub returns-in-Ok-clause-counted : goal.returns-in-Ok-clause-counted
 returns-in-Ok-clause-counted g c tells = counts_same c.deliver_behind.result _ _ _ _ (same g ((goal.at.returns-in-Ok-clause-counted g c).In-Ok)) (c.deliver_behind.ensures.counted tells)
