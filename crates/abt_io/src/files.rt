@@ -1,7 +1,7 @@
 //! Files as a source, a partition and a spool. They tell nothing: what a real file holds between
 //! two calls is beyond a proof. Each call is one positioned read or write, without a buffer.
 
-ghost use Rattle.std.specs.Prelude.{◌≡◌, ◌≤◌, ◌+◌, [], false, not, nat_lt, length, IfOk, refl};
+ghost use Rattle.std.specs.Prelude.{◌≡◌, ◌≤◌, ◌+◌, [], false, not, nat_lt, length, IfOk, IsSome, refl};
 ghost use Rattle.std.proofs.lemmas.Bool.{false≢true};
 ghost use Rattle.abt_io.specs.Frame.{last_cut, nothing_logged};
 ghost use Rattle.abt_io.specs.Held.{filled_count};
@@ -31,7 +31,8 @@ pub struct FileSource {
 impl FileSource {
     /// Takes the file's length, once. A refusal drops the file.
     pub fn new(file: File) -> Result<FileSource, DeviceFault>
-        ensures { IfOk result (λ s. (s.reads.number ≡ 0) × (s.given.number ≡ 0) × (s.faults.number ≡ 0)) }
+        ensures begins { IfOk result (λ s. (s.reads.number ≡ 0) × (s.given.number ≡ 0) × (s.faults.number ≡ 0)) }
+        ensures kept { IfOk result (λ s. IsSome s.file) }
     {
         let mut file = file;
         let size = length_of(&mut file)?;

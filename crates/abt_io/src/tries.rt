@@ -3,7 +3,8 @@
 //! Each is tried at most 2^64 - 1 times: the loops are `for` loops over a range, so they end. Every
 //! error, and a write of a nonempty list that took nothing, is `Failed`.
 
-ghost use Rattle.std.specs.Prelude.{◌≡◌, ◌<◌, ◌≤◌, IfOk, IfErr, IfSome, length};
+ghost use Rattle.std.specs.Prelude.{◌≡◌, ◌≢◌, ◌<◌, ◌≤◌, Some, None, Ok, Err, IfOk, IfErr, IfSome, length};
+ghost use Rattle.std.specs.IoError.{error_kind};
 ghost use Rattle.abt_io.specs.Count.{count_of};
 
 use crate::DeviceFault;
@@ -18,6 +19,10 @@ fn moved(answer: io::Result<usize>, least: usize) -> Option<Result<usize, Device
     ensures within { IfSome result (λ r. count_of r ≤ count_of answer) }
     ensures progress { IfSome result (λ r. IfOk r (λ n. least ≤ n)) }
     ensures failed { IfSome result (λ r. IfErr r (λ e. e ≡ DeviceFault.Failed)) }
+    ensures told { IfOk answer (λ n. least ≤ n → result ≡ Some (Ok n)) }
+    ensures few { IfOk answer (λ n. n < least → result ≡ Some (Err DeviceFault.Failed)) }
+    ensures again { IfErr answer (λ e. error_kind e ≡ ErrorKind.Interrupted → result ≡ None) }
+    ensures given_up { IfErr answer (λ e. error_kind e ≢ ErrorKind.Interrupted → result ≡ Some (Err DeviceFault.Failed)) }
 {
     match answer {
         Ok(n) => {
