@@ -50,7 +50,8 @@ enum {
     ABT_TOO_MANY_BLOCKS = 8,     /* with this chunk there are more blocks than total_blks: its index */
     ABT_TOO_FEW_BLOCKS = 9,      /* all chunks have fewer blocks than total_blks: how many they have */
     ABT_TRUNCATED = 10,          /* the input ends within the image: how many bytes it has */
-    ABT_STATE = 90               /* none of these calls left such a state: it was not set, or was overwritten */
+    ABT_STATE = 90               /* the state's numbers are no reader's: it was not set, or was overwritten (with the
+                                    numbers of another reader, it is read on as that one) */
 };
 
 /* A reader between two calls. It may be copied and kept anywhere; its numbers are the library's own. */
@@ -65,14 +66,15 @@ typedef struct abt_sparse {
 
 /* A part of an image. */
 typedef struct abt_part {
-    uint64_t position; /* where its first byte lies in the expanded image */
+    uint64_t position; /* where its first byte lies in the expanded image; 0 where a fault is answered again */
     uint64_t length;   /* how many bytes of the expanded image it has, 0 where it has none */
     size_t used;       /* how many bytes of the input were used: go on behind them */
-    size_t offset;     /* of ABT_RAW: where its bytes begin in the input that was lent; they end within those used */
-    uint64_t detail;   /* of ABT_FAULT: what belongs to the fault */
+    size_t offset;     /* of ABT_RAW: where its bytes begin in the input that was lent; they end within those used;
+                          else 0 */
+    uint64_t detail;   /* of ABT_FAULT: what belongs to the fault; else 0 */
     uint32_t kind;     /* ABT_NEED to ABT_FAULT */
     uint32_t fault;    /* not 0 exactly where kind is ABT_FAULT */
-    uint8_t word[4];   /* of ABT_FILL, in the order of its bytes */
+    uint8_t word[4];   /* of ABT_FILL, in the order of its bytes; else 0 */
 } abt_part;
 
 /* How large an image is. */

@@ -22,9 +22,22 @@ parts_told p = p.a ∷ p.b ∷ p.c ∷ p.year ∷ p.month ∷ []
 abbrev pub os_told : ℕ → List ℕ
 os_told n = parts_told (os_parts n)
 
+-- no address is told, as none is of boot 3 and 4, and of bytes that are no header
+pub record HasNoAddress (o : AbtFields) : Type 0 where
+  pub kernel : o.kernel_addr ≡ 0
+  pub ramdisk : o.ramdisk_addr ≡ 0
+  pub second : o.second_addr ≡ 0
+  pub tags : o.tags_addr ≡ 0
+  pub dtb : o.dtb_addr ≡ 0
+
+abbrev pub no_os : List ℕ
+no_os = 0 ∷ 0 ∷ 0 ∷ 0 ∷ 0 ∷ []
+
 -- what boot 0 to 2 have in common
 pub record TellsFront (f : BootFront) (sum : ℕ) (o : AbtFields) : Type 0 where
   pub fault : o.fault ≡ 0
+  pub detail : o.detail ≡ 0
+  pub reserved : o.reserved ≡ 0
   pub has : o.has ≡ sum
   pub kernel_addr : o.kernel_addr ≡ f.kernel_addr
   pub ramdisk_addr : o.ramdisk_addr ≡ f.ramdisk_addr
@@ -37,23 +50,30 @@ pub record TellsFront (f : BootFront) (sum : ℕ) (o : AbtFields) : Type 0 where
   pub extra : o.extra ≡ f.extra_cmdline
   pub fragments : o.fragments ≡ 0
 
--- what boot 3 and 4 have
+-- what boot 3 and 4 have; they have no address
 pub record TellsShort (f : ShortFront) (o : AbtFields) : Type 0 where
   pub fault : o.fault ≡ 0
+  pub detail : o.detail ≡ 0
+  pub reserved : o.reserved ≡ 0
   pub has : o.has ≡ 160
   pub os : o.os ≡ os_told f.os_version.number
   pub cmdline : take 1536 o.cmdline ≡ f.cmdline
   pub fragments : o.fragments ≡ 0
+  pub addresses : HasNoAddress o
 
 abbrev pub FieldsOfBoot : BootHeader → AbtFields → Type 0
-FieldsOfBoot (V0 f) o = TellsFront f 1007 o
-FieldsOfBoot (V1 f d) o = TellsFront f 1007 o
+FieldsOfBoot (V0 f) o = TellsFront f 1007 o × (o.dtb_addr ≡ 0)
+FieldsOfBoot (V1 f d) o = TellsFront f 1007 o × (o.dtb_addr ≡ 0)
 FieldsOfBoot (V2 f d t) o = TellsFront f 1023 o × (o.dtb_addr ≡ t.dtb_addr)
 FieldsOfBoot (V3 f) o = TellsShort f o
 FieldsOfBoot (V4 f signature) o = TellsShort f o
 
 pub record TellsVendorFront (f : VendorFront) (o : AbtFields) : Type 0 where
   pub fault : o.fault ≡ 0
+  pub detail : o.detail ≡ 0
+  pub reserved : o.reserved ≡ 0
+  pub second_addr : o.second_addr ≡ 0
+  pub os : o.os ≡ no_os
   pub has : o.has ≡ 219
   pub kernel_addr : o.kernel_addr ≡ f.kernel_addr
   pub ramdisk_addr : o.ramdisk_addr ≡ f.ramdisk_addr
@@ -70,10 +90,15 @@ fragments_of (Some t) = t.entry_num
 abbrev pub FieldsOfVendor : Vendor → AbtFields → Type 0
 FieldsOfVendor v o = TellsVendorFront v.front o × (o.fragments ≡ fragments_of v.tail)
 
+-- a fault, and no number beside it
 pub record Lacks (f : HeaderFault) (o : AbtFields) : Type 0 where
   pub fault : o.fault ≡ fault_number f
   pub detail : o.detail ≡ header_detail f
+  pub reserved : o.reserved ≡ 0
   pub has : o.has ≡ 0
+  pub fragments : o.fragments ≡ 0
+  pub addresses : HasNoAddress o
+  pub os : o.os ≡ no_os
 
 -- a boot image; where the magic is not its own, a vendor boot image
 abbrev pub FieldsAre : Result BootHeader HeaderFault → Result Vendor HeaderFault → AbtFields → Type 0

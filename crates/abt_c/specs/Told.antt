@@ -44,6 +44,8 @@ pub record Shows (ps : List Place) (o : AbtBoot) : Type 0 where
 
 pub record TellsBoot (h : BootHeader) (o : AbtBoot) : Type 0 where
   pub fault : o.fault ≡ 0
+  pub detail : o.detail ≡ 0
+  pub reserved : o.reserved ≡ 0
   pub kind : o.kind ≡ 1
   pub version : o.version ≡ boot_version h
   pub page_size : o.page_size ≡ boot_page h
@@ -52,6 +54,8 @@ pub record TellsBoot (h : BootHeader) (o : AbtBoot) : Type 0 where
 
 pub record TellsVendor (h : Vendor) (o : AbtBoot) : Type 0 where
   pub fault : o.fault ≡ 0
+  pub detail : o.detail ≡ 0
+  pub reserved : o.reserved ≡ 0
   pub kind : o.kind ≡ 2
   pub version : o.version ≡ vendor_version h
   pub page_size : o.page_size ≡ vendor_page h
@@ -65,10 +69,16 @@ header_detail (faults.PageSize n) = n
 header_detail (faults.Short need) = need
 header_detail f = 0
 
+-- a fault, and 0 in all else
 pub record Fails (f : HeaderFault) (o : AbtBoot) : Type 0 where
   pub fault : o.fault ≡ fault_number f
   pub detail : o.detail ≡ header_detail f
-  pub count : o.count ≡ 0
+  pub reserved : o.reserved ≡ 0
+  pub kind : o.kind ≡ 0
+  pub version : o.version ≡ 0
+  pub page_size : o.page_size ≡ 0
+  pub header_size : o.header_size ≡ 0
+  pub shows : Shows [] o
 
 -- a boot image; where the magic is not its own, a vendor boot image
 abbrev pub InfoIs : Result BootHeader HeaderFault → Result Vendor HeaderFault → AbtBoot → Type 0

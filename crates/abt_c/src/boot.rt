@@ -51,6 +51,8 @@ fn shown(places: &Sections) -> AbtBoot
     requires { length places.now ≤ 5 }
     ensures shows { Shows places.now result }
     ensures fault { result.fault ≡ 0 }
+    ensures detail { result.detail ≡ 0 }
+    ensures reserved { result.reserved ≡ 0 }
 {
     AbtBoot {
         fault: 0,

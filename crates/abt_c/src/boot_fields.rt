@@ -4,8 +4,8 @@ ghost use Rattle.std.specs.Prelude.{◌≡◌, ◌≤◌, ◌<◌, length, take}
 ghost use Rattle.abt_headers.specs.Boot.{boot_at};
 ghost use Rattle.abt_headers.specs.Entry.{entry_at};
 ghost use Rattle.abt_headers.specs.Vendor.{vendor_at, view};
-ghost use Rattle.abt_c.specs.Fields.{FieldsAre, FieldsOfBoot, FieldsOfVendor, Lacks, TellsFront, TellsShort};
-ghost use Rattle.abt_c.specs.Fields.{TellsVendorFront, fragment_told, os_told};
+ghost use Rattle.abt_c.specs.Fields.{FieldsAre, FieldsOfBoot, FieldsOfVendor, HasNoAddress, Lacks, TellsFront};
+ghost use Rattle.abt_c.specs.Fields.{TellsShort, TellsVendorFront, fragment_told, no_os, os_told};
 
 use crate::boot::detail;
 use abt_headers::{
@@ -57,6 +57,9 @@ fn none(fault: u32, detail: u32) -> AbtFields
     ensures detail { result.detail ≡ detail }
     ensures has { result.has ≡ 0 }
     ensures fragments { result.fragments ≡ 0 }
+    ensures reserved { result.reserved ≡ 0 }
+    ensures addresses { HasNoAddress result }
+    ensures os { result.os ≡ no_os }
 {
     AbtFields {
         fault,
@@ -96,7 +99,8 @@ fn os_parts(os: OsVersion) -> [u32; 5]
 
 /// The fields of boot 0 to 2.
 fn front_told(front: &BootFront) -> AbtFields
-    ensures { TellsFront front.now 1007 result }
+    ensures tells { TellsFront front.now 1007 result }
+    ensures dtb { result.dtb_addr ≡ 0 }
 {
     let mut told = none(0, 0);
     told.has = 1007;

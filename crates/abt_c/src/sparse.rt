@@ -2,6 +2,7 @@
 
 ghost use Rattle.std.specs.Prelude.{◌≡◌, ◌≤◌, ◌<◌, ◌+◌, ◌*◌, ◌↔◌, take, length};
 ghost use Rattle.abt_c.specs.Standing.{Ended, IsLeft, Told, no_size, place_of};
+ghost use Rattle.abt_c.specs.Telling.{IsBare};
 
 use crate::state::{AbtPart, AbtSize, AbtSparse};
 use crate::stored::{puller_in, state_of};
@@ -10,9 +11,11 @@ use abt_chunks::{Pull, Puller};
 
 /// What is answered in a state that has failed: its fault once more, where it is one of an image.
 fn again(state: &AbtSparse) -> AbtPart
+    ensures bare { IsBare result }
     ensures kind { result.kind ≡ 6 }
     ensures used { result.used ≡ 0 }
     ensures some { 0 < result.fault }
+    ensures spoiled { result.fault ≡ 90 → result.detail ≡ 0 }
     ensures same { 0 < state.now.fault → state.now.fault ≤ 12 → (result.fault ≡ state.now.fault) ×
         (result.detail ≡ state.now.detail) }
 {
@@ -59,12 +62,14 @@ pub extern "C" fn abt_sparse_next(state: &mut AbtSparse, input: &[u8], out: &mut
     ensures told { state.old.phase < 3 → (out.new.fault ≡ 90 → ⊥) →
         Told out.new state.old state.new (take out.new.used input.now) }
     ensures lent { out.new.kind ≡ 1 → out.new.offset + out.new.length ≤ out.new.used }
+    ensures offset { (out.new.kind ≡ 1 → ⊥) → out.new.offset ≡ 0 }
     ensures place { state.old.phase < 3 → (out.new.fault ≡ 90 → ⊥) → out.new.position ≡ place_of state.old }
     // A state that these calls left is taken and left so; another one is left as it is.
     ensures left { IsLeft state.old → IsLeft state.new × (out.new.fault ≡ 90 → ⊥) }
     ensures spoiled { out.new.fault ≡ 90 → state.new ≡ state.old }
+    ensures bare { out.new.fault ≡ 90 → IsBare out.new × (out.new.detail ≡ 0) }
     // After a fault it answers that again.
-    ensures again { 3 ≤ state.old.phase → (state.new ≡ state.old) × (out.new.used ≡ 0) }
+    ensures again { 3 ≤ state.old.phase → (state.new ≡ state.old) × IsBare out.new }
     ensures same { IsLeft state.old → 3 ≤ state.old.phase → (out.new.fault ≡ state.old.fault) ×
         (out.new.detail ≡ state.old.detail) }
 {
@@ -97,8 +102,10 @@ pub extern "C" fn abt_sparse_last(state: &mut AbtSparse, out: &mut AbtPart) -> u
     ensures told { state.old.phase < 3 → (out.new.fault ≡ 90 → ⊥) → Ended out.new state.old state.new }
     ensures place { state.old.phase < 3 → (out.new.fault ≡ 90 → ⊥) → out.new.position ≡ place_of state.old }
     ensures left { IsLeft state.old → IsLeft state.new × (out.new.fault ≡ 90 → ⊥) }
+    ensures offset { out.new.offset ≡ 0 }
     ensures spoiled { out.new.fault ≡ 90 → state.new ≡ state.old }
-    ensures again { 3 ≤ state.old.phase → state.new ≡ state.old }
+    ensures bare { out.new.fault ≡ 90 → IsBare out.new × (out.new.detail ≡ 0) }
+    ensures again { 3 ≤ state.old.phase → (state.new ≡ state.old) × IsBare out.new }
     ensures same { IsLeft state.old → 3 ≤ state.old.phase → (out.new.fault ≡ state.old.fault) ×
         (out.new.detail ≡ state.old.detail) }
 {

@@ -2,7 +2,7 @@
 
 ghost use Rattle.std.specs.Prelude.{◌≡◌, ◌<◌, ◌≤◌, ◌+◌, ◌*◌, ◌^◌};
 ghost use Rattle.abt_chunks.specs.Pulling.{pulled_by};
-ghost use Rattle.abt_c.specs.Telling.{PartIs, detail_of};
+ghost use Rattle.abt_c.specs.Telling.{IsBare, PartIs, detail_of};
 
 use crate::state::AbtPart;
 use abt_chunks::{Part, Pull, SparseFault};
@@ -47,6 +47,7 @@ pub fn detail(fault: SparseFault) -> u64
 
 /// A fault and nothing else.
 pub fn refused(fault: u32, detail: u64) -> AbtPart
+    ensures bare { IsBare result }
     ensures used { result.used ≡ 0 }
     ensures offset { result.offset ≡ 0 }
     ensures kind { result.kind ≡ 6 }

@@ -100,13 +100,15 @@ fn with_unfinished(
 
 // What the system says of a call that failed, without its number; else what can be done.
 fn why<F: Told>(alloc: Global, number: Option<i32>, fault: &F) -> Result<String, AllocError> {
-    let told = match number {
-        Some(number) if fault.is_of_a_device() => {
-            let error = io::Error::from_raw_os_error(number);
-            format!(in alloc; "{error}")?
-        }
-        _ => String::from_str(alloc, fault.advice())?,
-    };
+    match number {
+        Some(number) if fault.is_of_a_device() => told_by_system(alloc, number),
+        _ => String::from_str(alloc, fault.advice()),
+    }
+}
+
+fn told_by_system(alloc: Global, number: i32) -> Result<String, AllocError> {
+    let error = io::Error::from_raw_os_error(number);
+    let told = format!(in alloc; "{error}")?;
     match told.as_str().split_once(" (os error ") {
         Some((text, _)) => String::from_str(alloc, text),
         None => Ok(told),

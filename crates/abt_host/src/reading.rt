@@ -62,11 +62,21 @@ impl Reading {
         ensures reads { OnOk result (ReadsOne self.old self.new) }
     {
         if place.is_standard() {
-            self.take(identity_of_stream(self.rt, "/dev/stdin"), place)?;
-            return InputFile::standard(self.rt, self.alloc);
+            return self.standard(place);
         }
-        let Opened { file, found } = self.opened(place, Access::Forward)?;
-        InputFile::of_file(self.alloc, file, found)
+        match self.opened(place, Access::Forward) {
+            Ok(Opened { file, found }) => InputFile::of_file(self.alloc, file, found),
+            Err(refusal) => Err(refusal),
+        }
+    }
+
+    fn standard<'a>(&mut self, place: Place<'a>) -> Result<InputFile, HostRefusal<'a>>
+        ensures reads { OnOk result (ReadsOne self.old self.new) }
+    {
+        match self.take(identity_of_stream(self.rt, "/dev/stdin"), place) {
+            Ok(()) => InputFile::standard(self.rt, self.alloc),
+            Err(refusal) => Err(refusal),
+        }
     }
 
     /// Opens what is read at any place. What is neither a file nor a block device has no length, and is refused.
@@ -105,20 +115,10 @@ impl Reading {
         ensures length { IfOk result (λ text. length (string_bytes text) ≤ 2 ^ 20) }
     {
         let input = self.input(place)?;
-        let mut bytes = Vec::new(self.alloc);
-        let mut front = input.from.reader.take(TEXT + 1);
-        if let Err(error) = front.read_to_end(&mut bytes) {
-            if error.kind() == io::ErrorKind::OutOfMemory {
-                return Err(HostRefusal::memory());
-            }
-            return Err(HostRefusal::at(HostFault::Read, place, error.raw_os_error()));
-        }
-        if bytes.len() as u64 > TEXT {
-            return Err(HostRefusal::at(HostFault::TooLong, place, None));
-        }
-        match String::from_utf8(bytes) {
+        match text_of(self.alloc, input) {
             Ok(text) => Ok(text),
-            Err(_) => Err(HostRefusal::at(HostFault::NotText, place, None)),
+            Err((HostFault::Memory, _)) => Err(HostRefusal::memory()),
+            Err((fault, why)) => Err(HostRefusal::at(fault, place, why)),
         }
     }
 
@@ -167,5 +167,26 @@ fn source_of<'a>(file: File, place: Place<'a>) -> Result<FileSource, HostRefusal
     match FileSource::new(file) {
         Ok(source) => Ok(source),
         Err(_) => Err(HostRefusal::at(HostFault::CannotOpen, place, None)),
+    }
+}
+
+// All bytes of a file, as a text of at most so many.
+fn text_of(alloc: Global, input: InputFile) -> Result<String, (HostFault, Option<i32>)>
+    ensures { IfOk result (λ text. length (string_bytes text) ≤ 2 ^ 20) }
+{
+    let mut bytes = Vec::new(alloc);
+    let mut front = input.from.reader.take(TEXT + 1);
+    if let Err(error) = front.read_to_end(&mut bytes) {
+        return Err(match error.kind() {
+            io::ErrorKind::OutOfMemory => (HostFault::Memory, None),
+            _ => (HostFault::Read, error.raw_os_error()),
+        });
+    }
+    if bytes.len() as u64 > TEXT {
+        return Err((HostFault::TooLong, None));
+    }
+    match String::from_utf8(bytes) {
+        Ok(text) => Ok(text),
+        Err(_) => Err((HostFault::NotText, None)),
     }
 }

@@ -127,14 +127,9 @@ impl<'a> HostRefusal<'a> {
         ensures fault { result.fault ≡ self.entry.fault }
         ensures untold { result.about.is_untold ≡ is_untold }
     {
-        let about = About {
-            is_untold,
-            ..self.about
-        };
-        HostRefusal {
-            fault: self.fault,
-            about,
-        }
+        let mut refusal = self;
+        refusal.about.is_untold = is_untold;
+        refusal
     }
 }
 

@@ -5,7 +5,7 @@ use crate::place::Place;
 use crate::progress::Progress;
 use crate::refusal::{HostFault, HostRefusal};
 use crate::sink::Sink;
-use abt_io::ToWrite;
+use abt_io::{DeviceFault, ToWrite};
 use abt_text::print_line;
 use std::fmt;
 use std::rt::Stderr;
@@ -46,17 +46,20 @@ impl Report {
     /// Prints a line.
     pub fn line<'a, D: fmt::Display + Drop>(&mut self, line: D) -> Result<(), HostRefusal<'a>> {
         self.progress.erase();
-        let told = if self.is_data_on_output {
-            print_line(&mut self.err, line)
-        } else {
-            print_line(&mut self.out, line)
-        };
-        match told {
+        match self.print(line) {
             Ok(()) => Ok(()),
             Err(_) => {
                 let place = Place::new("report", "standard output");
                 Err(HostRefusal::at(HostFault::Write, place, self.out.writer.why))
             }
+        }
+    }
+
+    fn print<D: fmt::Display + Drop>(&mut self, line: D) -> Result<(), DeviceFault> {
+        if self.is_data_on_output {
+            print_line(&mut self.err, line)
+        } else {
+            print_line(&mut self.out, line)
         }
     }
 

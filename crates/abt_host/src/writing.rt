@@ -191,7 +191,10 @@ impl Writing {
             return Ok(None);
         }
         let mut how = OpenOptions::new();
-        Ok(Some(how.write(true).open(&self.rt, "/dev/stdout")?))
+        match how.write(true).open(&self.rt, "/dev/stdout") {
+            Ok(file) => Ok(Some(file)),
+            Err(error) => Err(error),
+        }
     }
 
     // An output that takes small writes together.
