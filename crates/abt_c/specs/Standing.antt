@@ -53,6 +53,7 @@ pub record Stands (s : AbtSparse) (p : Puller) : Type 0 where
   pub kind : kind_at s.kind ≡ Some p.walk.kind
   pub due : s.due ≡ (if p.walk.due then 1 else 0)
   pub word : s.word ≡ p.walk.word
+  pub blocks : s.blocks ≡ p.walk.blocks
   pub index : s.index ≡ p.walk.index
   pub have : s.have ≡ p.walk.have
   pub extra : s.extra ≡ p.walk.extra
