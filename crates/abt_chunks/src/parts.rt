@@ -97,26 +97,27 @@ impl Walk {
         Part::Nothing
     }
 
-    /// Raw bytes, which are blocks as they are. Those that came before the input ended count.
-    pub(crate) fn take_raw(&mut self, got: &[u8]) -> Part
+    /// So many raw bytes, which are blocks as they are, whatever bytes they are. Those that came before the input ended
+    /// count.
+    pub(crate) fn take_raw(&mut self, n: usize) -> Part
         requires here { AtTurn Turn.Raw self.old }
-        requires asked { length got.now ≤ self.old.raw }
-        ensures says { (t : List ℕ) → (length got.now < 1 → t ≡ []) → Says result self.old self.new got.now t }
-        ensures lists { (t : List ℕ) → (length got.now < 1 → t ≡ []) → Shows result self.old self.new got.now t }
-        ensures short { length got.now < 1 → IsTrue (is_fault result) }
-        ensures turn { TurnTaken result self.old self.new (length got.now) }
+        requires asked { n ≤ self.old.raw }
+        ensures says { (c t : List ℕ) → length c ≡ n → (n < 1 → t ≡ []) → Says result self.old self.new c t }
+        ensures lists { (c t : List ℕ) → length c ≡ n → (n < 1 → t ≡ []) → Shows result self.old self.new c t }
+        ensures short { n < 1 → IsTrue (is_fault result) }
+        ensures turn { TurnTaken result self.old self.new n }
         ensures within { (fills skips : ℕ) → Within result fills skips }
         ensures empties { (fills skips : ℕ) → Empties result self.old self.new fills skips }
         ensures closes { Closes result self.old.phase self.old }
         ensures cause { Caused result self.old.phase 1 0 }
         ensures place { IsTrue (goes_on result) → place_of self.new ≡ place_of self.old + given_by result }
     {
-        if got.is_empty() {
+        if n == 0 {
             return self.fail(SparseFault::Truncated { at: self.position });
         }
-        self.raw -= got.len() as u64;
-        self.position += got.len() as u64;
-        Part::Raw(got.len())
+        self.raw -= n as u64;
+        self.position += n as u64;
+        Part::Raw(n)
     }
 
     /// The word of a fill, or the value of a checksum.
@@ -310,7 +311,7 @@ impl Walk {
         match turn {
             Turn::Header => self.take_header(got),
             Turn::Extra => self.take_extra(got),
-            Turn::Raw => self.take_raw(got),
+            Turn::Raw => self.take_raw(got.len()),
             Turn::Word => self.take_word(got),
             Turn::Fill => self.give_fill(fills),
             Turn::Gap => self.give_gap(skips),

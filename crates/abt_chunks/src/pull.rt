@@ -143,7 +143,7 @@ impl Puller {
                 used: 0,
             };
         }
-        let part = self.walk.take_raw(&bytes[..n]);
+        let part = self.walk.take_raw(n);
         Pulled {
             pull: Pull::Gives(part),
             used: n,
