@@ -65,8 +65,8 @@ impl Reading {
             self.take(identity_of_stream(self.rt, "/dev/stdin"), place)?;
             return InputFile::standard(self.rt, self.alloc);
         }
-        let Opened { file, found } = self.opened(place, Access::Forward)?;
-        InputFile::of_file(self.alloc, file, found)
+        let opened = self.opened(place, Access::Forward)?;
+        InputFile::of_file(self.alloc, opened, place)
     }
 
     /// Opens what is read at any place. What is neither a file nor a block device has no length, and is refused.
@@ -106,7 +106,7 @@ impl Reading {
     {
         let input = self.input(place)?;
         let mut bytes = Vec::new(self.alloc);
-        let mut front = input.from.reader.take(TEXT + 1);
+        let mut front = input.into_reader().take(TEXT + 1);
         if let Err(error) = front.read_to_end(&mut bytes) {
             if error.kind() == io::ErrorKind::OutOfMemory {
                 return Err(HostRefusal::memory());

@@ -1,4 +1,4 @@
-use Rattle.std.proofs.Common.{length, ◌+◌, ◌++◌, [], arith, ◌≡◌, ◌≤◌, ap, sym, ◌∙◌, length-append, refl}
+use Rattle.std.proofs.Common.{length, ◌+◌, ◌++◌, [], arith, ◌≡◌, ap, ◌∙◌, length-append, refl}
 use Rattle.std.proofs.lemmas.List.{nil_from_length}
 use Rattle.abt_sparse.specs.View.{view}
 use Rattle.abt_chunks.proofs.Onward.{short_raw, past_raw}
@@ -8,8 +8,8 @@ use Rattle.abt_chunks.specs.ListingAhead.{begun_listing, lacking}
 use Rattle.abt_chunks.proofs.Listed.{upcoming_body, short_listing, open_raw, raw_behind}
 use Rattle.abt_chunks.proofs.walk.Walk.take_raw.Goals as goal
 
-pub returns-then-clause-says : goal.returns-then-clause-says
-returns-then-clause-says c got t long e =
+pub returns-then-n-eq0-clause-says : goal.returns-then-n-eq0-clause-says
+returns-then-n-eq0-clause-says c got t long e =
     let s = c.args.self.now in let h = c.requires.here in
     let n : got ++ t ≡ [] = nil_from_length (got ++ t) (omega (arith, length-append got t, long, ap length (e (omega arith)))) in
     let sz : s.position + 0 ≡ s.position = omega arith in
@@ -21,8 +21,8 @@ returns-clause-says c got t long e =
     let sz : s.position + length (got ++ t) ≡ s.position + n + length t = omega (arith, length-append got t, long) in
     (long, rw (h.0, h.1, h.2, sz) (past_raw s.due (view s.header) s.index s.have s.raw s.words s.word (s.position + n + length t) got t n long c.requires.asked))
 
-pub returns-then-clause-lists : goal.returns-then-clause-lists
-returns-then-clause-lists c got t long e =
+pub returns-then-n-eq0-clause-lists : goal.returns-then-n-eq0-clause-lists
+returns-then-n-eq0-clause-lists c got t long e =
     let s = c.args.self.now in let h = c.requires.here in
     let none : length (got ++ t) ≡ 0 = omega (arith, length-append got t, long, ap length (e (omega arith))) in
     let sz : s.position ≡ s.position + length (got ++ t) = omega arith in
