@@ -8,3 +8,4 @@ pub mod Finishing
 pub mod Showing
 pub mod Repeated
 pub mod Needed
+pub mod PullMoved

@@ -1,12 +1,11 @@
 -- What a listing shows, from one place to the next.
-use Rattle.std.proofs.Common.{◌≡◌, ℕ, zero, suc, ◌+◌, ◌-◌, ◌*◌, ◌<◌, ◌≤◌, Bool, true, false, if◌then◌else◌, List, [], ◌∷◌, ◌++◌, length, take, drop, Some, Ok, Err, refl, sym, ap, ◌∙◌, arith, inl, inr, zero-add, length-append, ◌==◌, ◌&&◌, nat_lt, ltb-false, ltb-true, le-ltb, lt-ltb, eqb-true, eq-eqb, ne_eqb}
+use Rattle.std.proofs.Common.{◌≡◌, ℕ, suc, ◌+◌, ◌-◌, ◌*◌, ◌<◌, ◌≤◌, Bool, true, false, if◌then◌else◌, List, [], ◌∷◌, ◌++◌, length, take, drop, Some, Ok, Err, refl, sym, ap, ◌∙◌, arith, inl, inr, zero-add, length-append, ◌==◌, ◌&&◌, nat_lt, ltb-false, ltb-true, le-ltb, lt-ltb, eqb-true, eq-eqb, ne_eqb}
 use Rattle.std.proofs.lemmas.Bool.{cases_Bool}
 use Rattle.std.proofs.lemmas.List.{take_at, drop_at, drop-take}
 use Rattle.abt_sparse.specs.declared.fault.SparseFault.{SparseFault}
 use Rattle.abt_sparse.specs.declared.fault.SparseFault.TheVariants.{TooFewBlocks, Truncated, Read, Write}
 use Rattle.abt_sparse.specs.declared.kind.ChunkKind.{ChunkKind}
 use Rattle.abt_sparse.specs.declared.kind.ChunkKind.TheVariants as kinds
-use Rattle.abt_sparse.specs.Block.{split}
 use Rattle.abt_sparse.specs.Chunk.{Header, Chunk}
 use Rattle.abt_sparse.specs.Reading.{checked_header, data_len, counted, chunk_from, partial_of, Got, Bad, chunk_at, ChunksRead, Done, Failed, behind, chunks_at}
 use Rattle.abt_sparse.proofs.ChunkLaws.{length-split}

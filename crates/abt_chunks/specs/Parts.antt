@@ -47,6 +47,18 @@ abbrev pub is_fault : Part → Bool
 is_fault (parts.Fault f) = true
 is_fault q = false
 
+-- a header or a word was read, or one is refused
+abbrev pub IsRead : Part → Type 0
+IsRead parts.Nothing = Unit {0}
+IsRead (parts.Fault f) = Unit {0}
+IsRead q = ⊥
+
+-- so many raw bytes, or a refusal
+abbrev pub IsRaw : Part → ℕ → Type 0
+IsRaw (parts.Raw k) n = k ≡ n
+IsRaw (parts.Fault f) n = Unit {0}
+IsRaw q n = ⊥
+
 -- of fills and gaps at most so many words
 abbrev pub Within : Part → ℕ → ℕ → Type 0
 Within (parts.Words word n) fill skip = (0 < n) × (n ≤ fill) × (length word ≡ 4)

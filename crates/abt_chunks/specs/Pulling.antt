@@ -1,10 +1,14 @@
 -- The reading machine that is fed its input in pieces: what it holds, and what a pull says.
-use Rattle.std.specs.Prelude.{◌≡◌, ℕ, ◌<◌, ◌≤◌, ◌++◌, List, take}
+use Rattle.std.specs.Prelude.{◌≡◌, ℕ, ◌<◌, ◌≤◌, ◌++◌, List, take, min, true}
 use Rattle.abt_chunks.specs.declared.feed.Pull.{Pull}
 use Rattle.abt_chunks.specs.declared.feed.Pull.TheVariants as pulls
 use Rattle.abt_chunks.specs.declared.feed.Puller.{Puller}
 use Rattle.abt_chunks.specs.declared.walk.Part.TheVariants as parts
-use Rattle.abt_chunks.specs.Parts.{Says, Leaves, given_by}
+use Rattle.abt_chunks.specs.declared.feed.Pulled.{Pulled}
+use Rattle.abt_chunks.specs.declared.walk.Walk.{Walk}
+use Rattle.abt_chunks.specs.ListingAhead.{at_end}
+use Rattle.abt_chunks.specs.Parts.{Says, Leaves, given_by, goes_on}
+use Rattle.abt_chunks.specs.Turns.{todo}
 
 -- the bytes that it holds
 abbrev pub front_of : Puller → List ℕ
@@ -39,3 +43,24 @@ IsUsed q used n = Unit {0}
 abbrev pub PullLeaves : Pull → Puller → Type 0
 PullLeaves (pulls.Gives q) p = Leaves q p.walk.phase
 PullLeaves q p = Unit {0}
+
+-- What a pull made of n bytes: raw bytes are all that came of those that are left, a header or a word used one at least,
+-- and a fill and a gap are given whole, and use none. The end uses none.
+abbrev pub PullMoves : Pull → Walk → Walk → ℕ → ℕ → Type 0
+PullMoves (pulls.Gives (parts.Raw k)) s s' used n = (0 < used) × (used ≡ min s.raw n)
+PullMoves (pulls.Gives parts.Nothing) s s' used n = 0 < used
+PullMoves (pulls.Gives (parts.Words word k)) s s' used n = (used ≡ 0) × (at_end s' ≡ true)
+PullMoves (pulls.Gives (parts.Skip k)) s s' used n = (used ≡ 0) × (at_end s' ≡ true)
+PullMoves (pulls.Gives parts.End) s s' used n = used ≡ 0
+PullMoves q s s' used n = Unit {0}
+
+-- behind each part that another one follows less is left to do
+abbrev pub PullFalls : Pull → Walk → Walk → Type 0
+PullFalls (pulls.Gives q) s s' = goes_on q ≡ true → todo s' < todo s
+PullFalls q s s' = Unit {0}
+
+-- where the image has ended or was refused, a pull uses nothing, changes nothing, and asks for nothing more
+pub record IsAgain (r : Pulled) (p p' : Puller) : Type 0 where
+  pub same : p' ≡ p
+  pub unused : r.used ≡ 0
+  pub given : r.pull ≡ pulls.Need → ⊥

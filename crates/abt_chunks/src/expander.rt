@@ -99,6 +99,7 @@ impl Expander {
         ensures steps { m.new.steps.number ≡ m.old.steps.number + 1 }
         ensures greatest { m.new.greatest.number ≡ max m.old.greatest.number (I.given input.new - I.given input.old) }
     {
+        self.walk.is_counted();
         let all = self.walk.words.max(1);
         let taken = self.walk.part(all, all, input, w, m);
         let done = write_part(taken.part, output, w, m);

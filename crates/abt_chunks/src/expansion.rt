@@ -1,12 +1,13 @@
 //! What an expander writes of each part of an image.
 
-ghost use Rattle.std.specs.Prelude.{◌≡◌, ◌<◌, ◌≤◌, ◌+◌, ◌-◌, ◌*◌, ◌++◌, OnOk, OnErr, length, take, replicate};
+ghost use Rattle.std.specs.Prelude.{◌≡◌, ◌<◌, ◌≤◌, ◌+◌, ◌-◌, ◌*◌, ◌^◌, ◌++◌, OnOk, OnErr, length, take, replicate};
 ghost use Rattle.std.specs.List.{concat};
 ghost use Rattle.abt_io.specs.Count.{full_of};
 ghost use Rattle.abt_chunks.specs.Expanding.{laid_by, IsQuiet, IsWords, IsWritable};
+ghost use Rattle.abt_chunks.specs.Parts.{given_by};
 
 use crate::walk::Part;
-use abt_io::{DeviceFault, Meter, Output, WORDS, Window, lay_word, write_out};
+use abt_io::{DeviceFault, Meter, Output, WORDS, Window, lay_word, write_out, write_zeros};
 
 /// Writes what a part gives where nothing was before, which of a gap is zeros. Raw bytes are taken from the window.
 pub(crate) fn write_part<O: Output>(
@@ -15,7 +16,8 @@ pub(crate) fn write_part<O: Output>(
     w: &mut Window,
     m: &mut Meter,
 ) -> Result<(), DeviceFault>
-    requires { IsWritable part }
+    requires writable { IsWritable part }
+    requires fits { given_by part < 2 ^ 64 }
     ensures ok { OnOk result (O.written output.new ≡ O.written output.old ++ laid_by part w.old.bytes) }
     ensures front { O.written output.new ≡ O.written output.old ++ take
         (length (O.written output.new) - length (O.written output.old)) (laid_by part w.old.bytes) }
@@ -38,9 +40,45 @@ pub(crate) fn write_part<O: Output>(
 {
     match part {
         Part::Raw(n) => write_out(output, w.part(0, n), m),
-        Part::Words(word, n) => write_words(word, n, output, w, m),
-        Part::Skip(n) => write_words([0; 4], n, output, w, m),
+        Part::Words(word, n) => write_fill(word, n, output, w, m),
+        Part::Skip(n) => write_zeros(output, 4 * n, w, m),
         _ => Ok(()),
+    }
+}
+
+/// Writes a word so many times. Zeros are as many a call as the output takes.
+fn write_fill<O: Output>(
+    word: [u8; 4],
+    n: u64,
+    output: &mut O,
+    w: &mut Window,
+    m: &mut Meter,
+) -> Result<(), DeviceFault>
+    requires some { 0 < n }
+    requires fits { 4 * n < 2 ^ 64 }
+    ensures ok { OnOk result (O.written output.new ≡ O.written output.old ++ concat (replicate n word)) }
+    ensures front { O.written output.new ≡ O.written output.old ++ take
+        (length (O.written output.new) - length (O.written output.old)) (concat (replicate n word)) }
+    ensures grown { length (O.written output.old) ≤ length (O.written output.new) }
+    ensures all { OnOk result (length (O.written output.new) ≡ length (O.written output.old) + 4 * n) }
+    ensures frame { O.write_frame output.new ≡ O.write_frame output.old }
+    ensures faults { O.write_faults output.old ≤ O.write_faults output.new }
+    ensures cause { OnErr result (O.write_faults output.old < O.write_faults output.new) }
+    ensures clean { OnOk result (O.write_faults output.new ≡ O.write_faults output.old) }
+    ensures full_faults { O.full_faults output.new ≡ O.full_faults output.old + full_of result }
+    ensures calls { O.writes output.new + 2 * length (O.written output.old) ≤ O.writes output.old + 2 * length
+        (O.written output.new) + 1 }
+    ensures turns { m.new.turns.number + 2 * length (O.written output.old) ≤ m.old.turns.number + 2 * length
+        (O.written output.new) + 16 }
+    ensures few { OnOk result (m.new.turns.number + 2 * length (O.written output.old) ≤ m.old.turns.number +
+        2 * length (O.written output.new)) }
+    ensures steps { m.new.steps.number ≡ m.old.steps.number }
+    ensures greatest { m.new.greatest.number ≡ m.old.greatest.number }
+{
+    if word == [0; 4] {
+        write_zeros(output, 4 * n, w, m)
+    } else {
+        write_words(word, n, output, w, m)
     }
 }
 

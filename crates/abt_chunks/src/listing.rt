@@ -1,21 +1,23 @@
 //! The chunks of a sparse image, one after the other.
 
 ghost use Rattle.std.specs.Prelude.{◌≡◌, ◌<◌, ◌≤◌, ◌+◌, ◌-◌, ◌*◌, IsTrue, IfErr, IfOk, MatchResult, OnOk, true, false};
-ghost use Rattle.std.specs.Prelude.{length, drop, max};
+ghost use Rattle.std.specs.Prelude.{ℕ, List, length, take, drop, max};
 ghost use Rattle.abt_sparse.specs.Cause.{full_answered};
-ghost use Rattle.abt_chunks.specs.Cause.{Clean, UnlessCut, wanted};
+ghost use Rattle.abt_chunks.specs.Cause.{Clean, CleanPart, UnlessCut, full_in_part, wanted};
 ghost use Rattle.abt_chunks.specs.Expanding.{IsGoing, OnDone, OnMore, Rises, Stands, UnlessDevice};
 ghost use Rattle.abt_chunks.specs.Listing.{headless, listing_of};
-ghost use Rattle.abt_chunks.specs.Taking.{ReadsOn, input_state};
-ghost use Rattle.abt_chunks.specs.Turns.{IsOver, todo};
-ghost use Rattle.abt_chunks.specs.ListingAhead.{MayEnd, Numbers, at_end, info_at, is_between};
+ghost use Rattle.abt_chunks.specs.Parts.{Caused, is_fault};
+ghost use Rattle.abt_chunks.specs.Taking.{ReadsOn, TurnTaken, input_state};
+ghost use Rattle.abt_chunks.specs.Turns.{AtTurn, IsOver, todo};
+ghost use Rattle.abt_chunks.specs.ListingAhead.{Closes, Empties, Lists, MayEnd, Numbers, at_end, info_at};
+ghost use Rattle.abt_chunks.specs.ListingAhead.{is_between};
 ghost use Rattle.abt_chunks.specs.Showing.{IsFew, ListsTo, Lists_next, Opens, Passes, Settles, Stands_next};
 
 use crate::expander::answer;
 use crate::kinds::has_word;
 use crate::progress::{ChunkInfo, Progress};
-use crate::walk::{Phase, Walk};
-use abt_io::{Input, Meter, Window};
+use crate::walk::{Phase, Taken, Turn, Walk};
+use abt_io::{Input, Meter, Window, pass_full};
 use abt_sparse::{SparseFault, SparseHeader};
 
 /// Reads a sparse image chunk by chunk, and writes nothing. Between two calls it stands behind the image's header
@@ -24,6 +26,74 @@ use abt_sparse::{SparseFault, SparseHeader};
 pub struct Chunks {
     pub walk: Walk,
     pub ghost between: { is_between walk.phase walk ≡ true },
+}
+
+/// Raw bytes, of which a listing shows none: they are passed over, at most a window of them.
+fn pass_raw<I: Input>(walk: &mut Walk, input: &mut I, w: &mut Window, m: &mut Meter) -> Taken
+    requires { AtTurn Turn.Raw walk.old }
+    ensures received { I.given input.new ≡ I.given input.old + result.received }
+    ensures small { result.received ≤ 65536 }
+    ensures wanted { result.received ≤ wanted walk.old }
+    ensures input { ReadsOn I.tells (input_state I.Input input.old) (input_state I.Input input.new) }
+    ensures lists { IsTrue I.tells → (t : List ℕ) → (is_fault result.part ≡ true → t ≡ I.remaining input.new) →
+        Lists result.part walk.old walk.new (take result.received (I.remaining input.old)) t }
+    ensures turn { TurnTaken result.part walk.old walk.new result.received }
+    ensures empties { (n : ℕ) → Empties result.part walk.old walk.new n n }
+    ensures closes { Closes result.part walk.old.phase walk.old }
+    ensures cause { Caused result.part walk.old.phase (I.read_faults input.old) (I.read_faults input.new) }
+    ensures clean { CleanPart result.part (I.read_faults input.old) (I.read_faults input.new) }
+    ensures failed { IsGoing walk.old.phase → full_in_part result.part ≡ 0 }
+    ensures over { IsOver walk.old.phase → (walk.new ≡ walk.old) × (input.new ≡ input.old) }
+    ensures reads { I.reads input.new ≤ I.reads input.old + result.received + 1 }
+    ensures turns { m.new.turns.number ≤ m.old.turns.number + result.received + 1 }
+    ensures steps { m.new.steps.number ≡ m.old.steps.number }
+    ensures greatest { m.new.greatest.number ≡ m.old.greatest.number }
+{
+    let ask = walk.ask(Turn::Raw);
+    w.is_whole();
+    let got = pass_full(input, w.part_mut(0, ask), m);
+    let part = match got.fault {
+        Some(fault) => walk.fail(SparseFault::Read(fault)),
+        None => walk.take_raw(got.count),
+    };
+    Taken {
+        part,
+        received: got.count as u32,
+    }
+}
+
+/// What comes next of an image. Raw bytes are passed over, and all else is read; of a fill and of a gap it gives at most
+/// so many words.
+fn next_part<I: Input>(
+    walk: &mut Walk,
+    most: u64,
+    input: &mut I,
+    w: &mut Window,
+    m: &mut Meter,
+) -> Taken
+    requires { 0 < most }
+    ensures received { I.given input.new ≡ I.given input.old + result.received }
+    ensures small { result.received ≤ 65536 }
+    ensures wanted { result.received ≤ wanted walk.old }
+    ensures input { ReadsOn I.tells (input_state I.Input input.old) (input_state I.Input input.new) }
+    ensures lists { IsTrue I.tells → (t : List ℕ) → (is_fault result.part ≡ true → t ≡ I.remaining input.new) →
+        Lists result.part walk.old walk.new (take result.received (I.remaining input.old)) t }
+    ensures turn { TurnTaken result.part walk.old walk.new result.received }
+    ensures empties { Empties result.part walk.old walk.new most most }
+    ensures closes { Closes result.part walk.old.phase walk.old }
+    ensures cause { Caused result.part walk.old.phase (I.read_faults input.old) (I.read_faults input.new) }
+    ensures clean { CleanPart result.part (I.read_faults input.old) (I.read_faults input.new) }
+    ensures failed { IsGoing walk.old.phase → full_in_part result.part ≡ 0 }
+    ensures over { IsOver walk.old.phase → (walk.new ≡ walk.old) × (input.new ≡ input.old) }
+    ensures reads { I.reads input.new ≤ I.reads input.old + result.received + 1 }
+    ensures turns { m.new.turns.number ≤ m.old.turns.number + result.received + 1 }
+    ensures steps { m.new.steps.number ≡ m.old.steps.number }
+    ensures greatest { m.new.greatest.number ≡ m.old.greatest.number }
+{
+    match walk.turn() {
+        Turn::Raw => pass_raw(walk, input, w, m),
+        _ => walk.part(most, most, input, w, m),
+    }
 }
 
 /// One step of the reading machine, whose blocks go nowhere: the words of a fill or of a gap are passed at once.
@@ -54,7 +124,7 @@ fn step<I: Input>(
     ensures greatest { m.new.greatest.number ≡ max m.old.greatest.number (I.given input.new - I.given input.old) }
 {
     let all = walk.words.max(1);
-    let taken = walk.part(all, all, input, w, m);
+    let taken = next_part(walk, all, input, w, m);
     m.close_step(taken.received);
     answer(taken.part)
 }

@@ -10,7 +10,8 @@ ghost use Rattle.abt_sparse.specs.Reading.{kind_at, number_at};
 ghost use Rattle.abt_chunks.specs.Cause.{CleanPart, full_in_part, wanted};
 ghost use Rattle.abt_chunks.specs.Expanding.{IsGoing};
 ghost use Rattle.abt_chunks.specs.Turns.{AtTurn, IsOver, ask_of, needed_of, todo};
-ghost use Rattle.abt_chunks.specs.Parts.{Says, Leaves, Moved, Within, Caused, Told, given_by, is_fault, goes_on};
+ghost use Rattle.abt_chunks.specs.Parts.{Says, IsRaw, IsRead, Leaves, Moved, Within, Caused, Told};
+ghost use Rattle.abt_chunks.specs.Parts.{given_by, is_fault, goes_on};
 ghost use Rattle.abt_chunks.specs.Places.{place_of, upto_of};
 ghost use Rattle.abt_chunks.specs.ListingAhead.{Shows, Lists, Numbers, Empties, Closes};
 ghost use Rattle.abt_chunks.specs.Taking.{ReadsOn, TurnTaken, input_state};
@@ -36,6 +37,7 @@ impl Walk {
     fn take_header(&mut self, got: &[u8]) -> Part
         requires here { AtTurn Turn.Header self.old }
         requires asked { length got.now ≤ 28 }
+        ensures read { IsRead result }
         ensures no_blocks { given_by result ≡ 0 }
         ensures says { (t : List ℕ) → (length got.now < 28 → t ≡ []) → Says result self.old self.new got.now t }
         ensures lists { (t : List ℕ) → (length got.now < 28 → t ≡ []) → Shows result self.old self.new got.now t }
@@ -78,6 +80,7 @@ impl Walk {
     pub(crate) fn take_extra(&mut self, got: &[u8]) -> Part
         requires here { AtTurn Turn.Extra self.old }
         requires asked { length got.now ≤ self.old.extra }
+        ensures read { IsRead result }
         ensures no_blocks { given_by result ≡ 0 }
         ensures says { (t : List ℕ) → (length got.now < 1 → t ≡ []) → Says result self.old self.new got.now t }
         ensures lists { (t : List ℕ) → (length got.now < 1 → t ≡ []) → Shows result self.old self.new got.now t }
@@ -97,32 +100,35 @@ impl Walk {
         Part::Nothing
     }
 
-    /// Raw bytes, which are blocks as they are. Those that came before the input ended count.
-    pub(crate) fn take_raw(&mut self, got: &[u8]) -> Part
+    /// So many raw bytes, which are blocks as they are, whatever bytes they are. Those that came before the input ended
+    /// count.
+    pub(crate) fn take_raw(&mut self, n: usize) -> Part
         requires here { AtTurn Turn.Raw self.old }
-        requires asked { length got.now ≤ self.old.raw }
-        ensures says { (t : List ℕ) → (length got.now < 1 → t ≡ []) → Says result self.old self.new got.now t }
-        ensures lists { (t : List ℕ) → (length got.now < 1 → t ≡ []) → Shows result self.old self.new got.now t }
-        ensures short { length got.now < 1 → IsTrue (is_fault result) }
-        ensures turn { TurnTaken result self.old self.new (length got.now) }
+        requires asked { n ≤ self.old.raw }
+        ensures raw { IsRaw result n }
+        ensures says { (c t : List ℕ) → length c ≡ n → (n < 1 → t ≡ []) → Says result self.old self.new c t }
+        ensures lists { (c t : List ℕ) → length c ≡ n → (n < 1 → t ≡ []) → Shows result self.old self.new c t }
+        ensures short { n < 1 → IsTrue (is_fault result) }
+        ensures turn { TurnTaken result self.old self.new n }
         ensures within { (fills skips : ℕ) → Within result fills skips }
         ensures empties { (fills skips : ℕ) → Empties result self.old self.new fills skips }
         ensures closes { Closes result self.old.phase self.old }
         ensures cause { Caused result self.old.phase 1 0 }
         ensures place { IsTrue (goes_on result) → place_of self.new ≡ place_of self.old + given_by result }
     {
-        if got.is_empty() {
+        if n == 0 {
             return self.fail(SparseFault::Truncated { at: self.position });
         }
-        self.raw -= got.len() as u64;
-        self.position += got.len() as u64;
-        Part::Raw(got.len())
+        self.raw -= n as u64;
+        self.position += n as u64;
+        Part::Raw(n)
     }
 
     /// The word of a fill, or the value of a checksum.
     fn take_word(&mut self, got: &[u8]) -> Part
         requires here { AtTurn Turn.Word self.old }
         requires asked { length got.now ≤ 4 }
+        ensures read { IsRead result }
         ensures no_blocks { given_by result ≡ 0 }
         ensures says { (t : List ℕ) → (length got.now < 4 → t ≡ []) → Says result self.old self.new got.now t }
         ensures lists { (t : List ℕ) → (length got.now < 4 → t ≡ []) → Shows result self.old self.new got.now t }
@@ -148,6 +154,7 @@ impl Walk {
     fn take_chunk(&mut self, got: &[u8]) -> Part
         requires here { AtTurn Turn.Chunk self.old }
         requires asked { length got.now ≤ 12 }
+        ensures read { IsRead result }
         ensures no_blocks { given_by result ≡ 0 }
         ensures says { (t : List ℕ) → (length got.now < 12 → t ≡ []) → Says result self.old self.new got.now t }
         ensures lists { (t : List ℕ) → (length got.now < 12 → t ≡ []) → Shows result self.old self.new got.now t }
@@ -174,6 +181,7 @@ impl Walk {
         requires here { AtTurn Turn.Chunk self.old }
         requires whole { length got.now ≡ 12 }
         requires known { kind_at (number_at 0 2 got.now) ≡ Some kind }
+        ensures read { IsRead result }
         ensures no_blocks { given_by result ≡ 0 }
         ensures says { (t : List ℕ) → Says result self.old self.new got.now t }
         ensures lists { (t : List ℕ) → Shows result self.old self.new got.now t }
@@ -293,6 +301,7 @@ impl Walk {
         requires asked { length got.now ≤ ask_of turn self.old }
         requires fills { 0 < fills }
         requires skips { 0 < skips }
+        ensures read { TakesWhole turn → IsRead result }
         ensures no_blocks { TakesWhole turn → given_by result ≡ 0 }
         ensures says { (t : List ℕ) → (length got.now < needed_of turn → t ≡ []) →
             Says result self.old self.new got.now t }
@@ -310,7 +319,7 @@ impl Walk {
         match turn {
             Turn::Header => self.take_header(got),
             Turn::Extra => self.take_extra(got),
-            Turn::Raw => self.take_raw(got),
+            Turn::Raw => self.take_raw(got.len()),
             Turn::Word => self.take_word(got),
             Turn::Fill => self.give_fill(fills),
             Turn::Gap => self.give_gap(skips),

@@ -1,8 +1,8 @@
 //! Where a walk stands: what it does next, how many bytes it asks for, and where the next block's byte lies.
 
-ghost use Rattle.std.specs.Prelude.{◌≡◌, ◌≤◌};
+ghost use Rattle.std.specs.Prelude.{◌≡◌, ◌<◌, ◌≤◌, ◌^◌};
 ghost use Rattle.abt_chunks.specs.Turns.{AtTurn, ask_of};
-ghost use Rattle.abt_chunks.specs.Places.{place_of};
+ghost use Rattle.abt_chunks.specs.Places.{place_of, upto_of};
 ghost use Rattle.abt_chunks.specs.ListingAhead.{at_end};
 
 use crate::kinds::{bytes_left, nothing_left};
@@ -30,6 +30,18 @@ impl Walk {
             _ => {
                 let given = data_length(self.header.blk_sz, ChunkKind::Raw, self.have);
                 given - bytes_left(self.kind, self.raw, self.words)
+            }
+        }
+    }
+
+    /// The blocks of the chunks so far are fewer bytes than a `u64` counts, which contracts alone need to be told.
+    pub(crate) fn is_counted(&self)
+        ensures { upto_of self.now < 2 ^ 64 }
+    {
+        match self.phase {
+            Phase::Header => {}
+            _ => {
+                let _all = data_length(self.header.blk_sz, ChunkKind::Raw, self.have);
             }
         }
     }

@@ -3,10 +3,11 @@
 
 ghost use Rattle.std.specs.Prelude.{◌≡◌, ◌≤◌, ◌<◌, ◌+◌, ◌++◌, ℕ, List, [], length, take};
 ghost use Rattle.abt_chunks.specs.Feeding.{TakesWhole, whole_next, whole_of};
-ghost use Rattle.abt_chunks.specs.Turns.{AtTurn, needed_of};
+ghost use Rattle.abt_chunks.specs.Turns.{AtTurn, IsOver, needed_of};
 ghost use Rattle.abt_chunks.specs.Parts.{Leaves, Says, given_by};
 ghost use Rattle.abt_chunks.specs.Places.{place_of, upto_of};
-ghost use Rattle.abt_chunks.specs.Pulling.{IsKept, IsLent, IsUsed, PullLeaves, PullSays, front_of, pulled_by};
+ghost use Rattle.abt_chunks.specs.Pulling.{IsAgain, IsKept, IsLent, IsUsed, PullFalls, PullLeaves, PullMoves};
+ghost use Rattle.abt_chunks.specs.Pulling.{PullSays, front_of, pulled_by};
 
 use crate::feed::{Pull, Pulled, Puller};
 use crate::walk::{Part, Phase, Turn, Walk};
@@ -103,6 +104,8 @@ impl Puller {
         ensures kept { IsKept result.pull self.old self.new }
         ensures leaves { PullLeaves result.pull self.new }
         ensures inside { place_of self.old.walk + pulled_by result.pull ≤ upto_of self.old.walk }
+        ensures moves { PullMoves result.pull self.old.walk self.new.walk result.used (length bytes.now) }
+        ensures falls { PullFalls result.pull self.old.walk self.new.walk }
     {
         let whole = needed(turn);
         let used = bytes.len().min(whole - self.count);
@@ -135,6 +138,8 @@ impl Puller {
         ensures kept { IsKept result.pull self.old self.new }
         ensures leaves { PullLeaves result.pull self.new }
         ensures inside { place_of self.old.walk + pulled_by result.pull ≤ upto_of self.old.walk }
+        ensures moves { PullMoves result.pull self.old.walk self.new.walk result.used (length bytes.now) }
+        ensures falls { PullFalls result.pull self.old.walk self.new.walk }
     {
         let n = self.walk.raw.min(bytes.len() as u64) as usize;
         if n == 0 {
@@ -143,7 +148,7 @@ impl Puller {
                 used: 0,
             };
         }
-        let part = self.walk.take_raw(&bytes[..n]);
+        let part = self.walk.take_raw(n);
         Pulled {
             pull: Pull::Gives(part),
             used: n,
@@ -161,6 +166,8 @@ impl Puller {
         ensures kept { IsKept result.pull self.old self.new }
         ensures leaves { PullLeaves result.pull self.new }
         ensures inside { place_of self.old.walk + pulled_by result.pull ≤ upto_of self.old.walk }
+        ensures moves { PullMoves result.pull self.old.walk self.new.walk result.used (length bytes.now) }
+        ensures falls { PullFalls result.pull self.old.walk self.new.walk }
     {
         let n = bytes.len().min(self.walk.extra as usize);
         if n == 0 {
@@ -188,7 +195,11 @@ impl Puller {
         ensures kept { IsKept result.pull self.old self.new }
         ensures leaves { PullLeaves result.pull self.new }
         ensures inside { place_of self.old.walk + pulled_by result.pull ≤ upto_of self.old.walk }
+        ensures moves { (n : ℕ) → PullMoves result.pull self.old.walk self.new.walk result.used n }
+        ensures falls { PullFalls result.pull self.old.walk self.new.walk }
+        ensures again { IsOver self.old.walk.phase → IsAgain result self.old self.new }
     {
+        let _words = self.walk.words;
         let part = self.walk.take(turn, &[], u64::MAX, u64::MAX);
         Pulled {
             pull: Pull::Gives(part),
@@ -205,6 +216,9 @@ impl Puller {
         ensures kept { IsKept result.pull self.old self.new }
         ensures leaves { PullLeaves result.pull self.new }
         ensures inside { place_of self.old.walk + pulled_by result.pull ≤ upto_of self.old.walk }
+        ensures moves { PullMoves result.pull self.old.walk self.new.walk result.used (length bytes.now) }
+        ensures falls { PullFalls result.pull self.old.walk self.new.walk }
+        ensures again { IsOver self.old.walk.phase → IsAgain result self.old self.new }
     {
         let turn = next(&self.walk);
         match turn {
@@ -226,6 +240,8 @@ impl Puller {
         ensures says { Says result self.old.walk self.new.walk (front_of self.old) [] }
         ensures empty { self.new.count ≡ 0 }
         ensures leaves { Leaves result self.new.walk.phase }
+        ensures falls { PullFalls (Pull.Gives result) self.old.walk self.new.walk }
+        ensures again { IsOver self.old.walk.phase → self.new.walk ≡ self.old.walk }
         ensures inside { place_of self.old.walk + given_by result ≤ upto_of self.old.walk }
     {
         let turn = next(&self.walk);

@@ -1,6 +1,6 @@
 //! An output that takes small writes together. What it was given is what the system took and what it holds still.
 
-ghost use Rattle.std.specs.Prelude.{◌≡◌, ◌<◌, ◌≤◌, ◌+◌, false, length, take, IfOk, IfErr, OnErr};
+ghost use Rattle.std.specs.Prelude.{◌≡◌, ◌<◌, ◌≤◌, ◌+◌, ◌++◌, false, length, take, replicate, IfOk, IfErr, OnErr};
 ghost use Rattle.abt_host.specs.Given.{given};
 ghost use Rattle.abt_io.specs.Count.{count_of};
 ghost use Rattle.abt_io.specs.Moment.{put_at};
@@ -86,6 +86,18 @@ fn put_through(writer: &mut BufWriter<Sink>, at: u64, bytes: &[u8]) -> Result<us
     writer.get_mut().put_at(at, bytes)
 }
 
+// Sends what a writer holds, and makes its file longer by a hole. How many zeros that gave it.
+fn lay_through(writer: &mut BufWriter<Sink>, n: u64) -> Result<u64, DeviceFault>
+    ensures within { count_of result ≤ n }
+    ensures written { given writer.new ≡ given writer.old ++ replicate (count_of result) 0 }
+    ensures failed { IfErr result (λ e. e ≡ DeviceFault.Failed) }
+{
+    if writer.flush().is_err() {
+        return Err(DeviceFault::Failed);
+    }
+    Ok(writer.get_mut().lay_hole(n))
+}
+
 impl Output for Gathered {
     ghost written = { λ o. given o.writer };
 
@@ -105,6 +117,28 @@ impl Output for Gathered {
                 self.faults.add(1);
                 Err(DeviceFault::Failed)
             }
+        }
+    }
+    fn write_zeros(&mut self, n: u64, zeros: &[u8]) -> Result<u64, DeviceFault> {
+        if self.writer.get_ref().takes_hole(n) {
+            match lay_through(&mut self.writer, n) {
+                Ok(laid) => {
+                    if laid > 0 {
+                        self.calls.add(1);
+                        return Ok(laid);
+                    }
+                }
+                Err(fault) => {
+                    self.calls.add(1);
+                    self.faults.add(1);
+                    return Err(fault);
+                }
+            }
+        }
+        let some = n.min(zeros.len() as u64) as usize;
+        match self.write(&zeros[..some]) {
+            Ok(k) => Ok(k as u64),
+            Err(fault) => Err(fault),
         }
     }
 }

@@ -1,19 +1,23 @@
 //! What is read forward: a file, or standard input.
 
-use crate::opening::Found;
+ghost use Rattle.std.specs.Io.{ReadsAtMost};
+ghost use Rattle.std.specs.Prelude.{◌≤◌, [], false};
+ghost use Rattle.std.proofs.lemmas.Bool.{false≢true};
+
+use crate::opening::{Found, Opened, not_opened};
+use crate::place::Place;
 use crate::refusal::HostRefusal;
-use abt_io::FromRead;
+use abt_io::{DeviceFault, FromRead, Input};
 use std::alloc::Global;
 use std::fs::File;
 use std::io;
-use std::io::{BufReader, Read};
+use std::io::{BufRead, BufReader, Read, Seek, SeekFrom};
 use std::rt::Stdin;
 
-/// A file or standard input, read through a buffer, so that headers of chunks, which are small, come many at a time. A
-/// read that asks for as much as the buffer holds, as those of raw data do, goes around it once it is empty.
+/// A file or standard input.
 #[derive(Drop)]
 pub struct InputFile {
-    pub from: FromRead<BufReader<Origin>>,
+    pub from: Passing,
     /// How long a regular file is.
     pub length: Option<u64>,
 }
@@ -28,15 +32,19 @@ impl InputFile {
 
     pub(crate) fn of_file<'a>(
         alloc: Global,
-        file: File,
-        found: Found,
+        opened: Opened,
+        place: Place<'a>,
     ) -> Result<InputFile, HostRefusal<'a>> {
+        let Opened { file, found } = opened;
         let length = if found.is_file {
             Some(found.length)
         } else {
             None
         };
-        InputFile::buffered(alloc, Bytes::File(file), length)
+        match with_place(file, found) {
+            Ok(bytes) => InputFile::buffered(alloc, bytes, length),
+            Err(error) => Err(not_opened(&error, place)),
+        }
     }
 
     fn buffered<'a>(
@@ -46,23 +54,112 @@ impl InputFile {
     ) -> Result<InputFile, HostRefusal<'a>> {
         match BufReader::new(alloc, Origin { bytes, why: None }) {
             Ok(reader) => Ok(InputFile {
-                from: FromRead::new(reader),
+                from: Passing {
+                    from: FromRead::new(reader),
+                },
                 length,
             }),
             Err(_) => Err(HostRefusal::memory()),
         }
     }
 
+    /// Its bytes, to be read as any others.
+    pub(crate) fn into_reader(self) -> BufReader<Origin> {
+        self.from.from.reader
+    }
+
     /// Why its last call failed, where one did.
     pub fn why(&self) -> Option<i32> {
-        self.from.reader.get_ref().why
+        self.from.from.reader.get_ref().why
     }
+}
+
+/// Reads through a buffer, so that headers of chunks, which are small, come many at a time. A read that asks for as much
+/// as the buffer holds, as those of raw data do, goes around it once it is empty. Bytes that nobody wants are not read:
+/// a file that has a place goes on behind them.
+#[derive(Drop)]
+pub struct Passing {
+    from: FromRead<BufReader<Origin>>,
+}
+
+impl Input for Passing {
+    ghost tells = { false };
+
+    ghost remaining = { λ _. [] };
+
+    ghost reads = { λ s. s.from.calls.number };
+
+    ghost given = { λ s. s.from.count.number };
+
+    ghost read_faults = { λ s. s.from.faults.number };
+
+    ghost are_bytes = { λ _ t. absurd (false≢true t) };
+
+    fn read(&mut self, out: &mut [u8]) -> Result<usize, DeviceFault> {
+        self.from.read(out)
+    }
+
+    fn pass(&mut self, room: &mut [u8]) -> Result<usize, DeviceFault> {
+        let n = passed(&mut self.from.reader, room.len());
+        if n == 0 {
+            return self.from.read(room);
+        }
+        self.from.calls.add(1);
+        self.from.count.add(n as u64);
+        Ok(n)
+    }
+}
+
+// Passes over bytes that the buffer holds, or where it holds none over those that come next: at most so many.
+fn passed(reader: &mut BufReader<Origin>, most: usize) -> usize
+    ensures { result ≤ most }
+{
+    let n = reader.buffer().len().min(most);
+    if n == 0 {
+        return reader.get_mut().pass(most);
+    }
+    reader.consume(n);
+    n
 }
 
 #[derive(Drop)]
 enum Bytes {
-    File(File),
+    /// What is only read, as a pipe.
+    Stream(File),
+    /// A file that has a place, and where its next byte is.
+    Placed { file: File, at: u64, size: Size },
     Standard(Stdin),
+}
+
+/// How long a file is.
+#[derive(Clone, Copy, Drop)]
+enum Size {
+    /// A regular file tells it, and may change.
+    Told,
+    /// A block device is always as long.
+    Fixed(u64),
+}
+
+// A regular file and a block device have a place, which is at their front.
+fn with_place(file: File, found: Found) -> io::Result<Bytes> {
+    let mut file = file;
+    if found.is_file {
+        return Ok(Bytes::Placed {
+            file,
+            at: 0,
+            size: Size::Told,
+        });
+    }
+    if found.is_block {
+        let size = file.seek(SeekFrom::End(0))?;
+        file.seek(SeekFrom::Start(0))?;
+        return Ok(Bytes::Placed {
+            file,
+            at: 0,
+            size: Size::Fixed(size),
+        });
+    }
+    Ok(Bytes::Stream(file))
 }
 
 /// A reader that keeps why it failed.
@@ -72,15 +169,63 @@ pub struct Origin {
     why: Option<i32>,
 }
 
+impl Origin {
+    // Goes on behind at most so many bytes, none of them beyond the end. It answers how many: none where only a read can
+    // tell.
+    fn pass(&mut self, most: usize) -> usize
+        ensures { result ≤ most }
+    {
+        match &mut self.bytes {
+            Bytes::Stream(_) => 0,
+            Bytes::Standard(_) => 0,
+            Bytes::Placed { file, at, size } => {
+                let left = size_of(file, *size).saturating_sub(*at);
+                let n = left.min(most as u64);
+                if n == 0 {
+                    return 0;
+                }
+                let behind = at.saturating_add(n);
+                match file.seek(SeekFrom::Start(behind)) {
+                    Ok(_) => {
+                        *at = behind;
+                        n as usize
+                    }
+                    Err(_) => 0,
+                }
+            }
+        }
+    }
+}
+
+fn size_of(file: &File, size: Size) -> u64 {
+    match size {
+        Size::Fixed(bytes) => bytes,
+        Size::Told => match file.metadata() {
+            Ok(metadata) => metadata.len(),
+            Err(_) => 0,
+        },
+    }
+}
+
 impl Read for Origin {
     fn read(&mut self, bytes: &mut [u8]) -> io::Result<usize> {
         let answer = match &mut self.bytes {
-            Bytes::File(file) => file.read(bytes),
+            Bytes::Stream(file) => file.read(bytes),
             Bytes::Standard(stdin) => stdin.read(bytes),
+            Bytes::Placed { file, at, .. } => read_on(file, at, bytes),
         };
         if let Err(error) = &answer {
             self.why = error.raw_os_error();
         }
         answer
     }
+}
+
+// Reads at the place of a file, which goes on behind what came.
+fn read_on(file: &mut File, at: &mut u64, bytes: &mut [u8]) -> io::Result<usize>
+    ensures { ReadsAtMost result bytes.new }
+{
+    let n = file.read(bytes)?;
+    *at = at.saturating_add(n as u64);
+    Ok(n)
 }

@@ -44,7 +44,7 @@ pub use ending::{ended, ended_file, ended_front};
 pub use gathered::Gathered;
 pub use identity::{Identity, identity_at};
 pub use image_file::ImageFile;
-pub use input_file::InputFile;
+pub use input_file::{InputFile, Passing};
 pub use output_file::{Finished, ImageOutput, OutputFile, finish_front};
 pub use place::Place;
 pub use progress::Progress;

@@ -50,6 +50,7 @@ impl Access {
 pub struct Found {
     pub identity: Identity,
     pub is_file: bool,
+    pub is_block: bool,
     /// How long a regular file is.
     pub length: u64,
 }
@@ -106,6 +107,7 @@ fn opened_at(rt: HostRuntime, path: &str, access: Access) -> io::Result<Opened> 
     let found = Found {
         identity: Identity::new(&metadata),
         is_file: metadata.is_file(),
+        is_block: metadata.file_type().is_block_device(),
         length: metadata.len(),
     };
     Ok(Opened { file, found })

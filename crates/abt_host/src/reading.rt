@@ -65,7 +65,7 @@ impl Reading {
             return self.standard(place);
         }
         match self.opened(place, Access::Forward) {
-            Ok(Opened { file, found }) => InputFile::of_file(self.alloc, file, found),
+            Ok(opened) => InputFile::of_file(self.alloc, opened, place),
             Err(refusal) => Err(refusal),
         }
     }
@@ -175,7 +175,7 @@ fn text_of(alloc: Global, input: InputFile) -> Result<String, (HostFault, Option
     ensures { IfOk result (λ text. length (string_bytes text) ≤ 2 ^ 20) }
 {
     let mut bytes = Vec::new(alloc);
-    let mut front = input.from.reader.take(TEXT + 1);
+    let mut front = input.into_reader().take(TEXT + 1);
     if let Err(error) = front.read_to_end(&mut bytes) {
         return Err(match error.kind() {
             io::ErrorKind::OutOfMemory => (HostFault::Memory, None),

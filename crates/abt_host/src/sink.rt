@@ -1,9 +1,9 @@
 //! Where bytes go: a file, a raw image with holes for its zeros, or standard output.
 
-ghost use Rattle.std.specs.Prelude.{◌≡◌, ◌<◌, ◌≤◌, Some, length, take, IfOk, IfErr, OnErr};
+ghost use Rattle.std.specs.Prelude.{◌≡◌, ◌<◌, ◌≤◌, Some, length, take, replicate, IfOk, IfErr, OnErr};
 ghost use Rattle.std.specs.Io.{WritesAtMost};
 ghost use Rattle.abt_io.specs.Count.{count_of};
-ghost use Rattle.abt_io.specs.Frame.{nothing_logged};
+ghost use Rattle.abt_io.specs.Frame.{nothing_logged, and_bytes};
 ghost use Rattle.abt_io.specs.Over.{and_put};
 
 use abt_io::{DeviceFault, Log};
@@ -12,6 +12,9 @@ use std::io;
 use std::io::{ErrorKind, Write};
 use std::os::unix::fs::FileExt;
 use std::rt::Stdout;
+
+// No hole of a file is smaller.
+const PAGE: u64 = 4096;
 
 #[derive(Drop)]
 enum Target {
@@ -122,6 +125,30 @@ impl Sink {
         }
     }
 
+    /// Whether so many zeros may be a hole.
+    pub(crate) fn takes_hole(&self, n: u64) -> bool {
+        match &self.target {
+            Target::Holes { .. } => n >= PAGE,
+            Target::File(_) => false,
+            Target::Standard { .. } => false,
+        }
+    }
+
+    /// Makes the file longer by a hole of at most so many zeros, and answers how many. It answers 0 where that cannot be
+    /// done.
+    pub(crate) fn lay_hole(&mut self, n: u64) -> u64
+        ensures within { result ≤ n }
+        ensures laid { self.new.log.state ≡ and_bytes self.old.log.state (replicate result 0) }
+    {
+        let laid = match &mut self.target {
+            Target::Holes { file, length } => longer(file, length, n),
+            Target::File(_) => 0,
+            Target::Standard { .. } => 0,
+        };
+        self.log.append_zeros(laid);
+        laid
+    }
+
     /// Has it synced, where that is wanted, and answers what the system took. Why it could not be synced, by the number
     /// of the system's error. A file is closed then; standard output stays open.
     pub(crate) fn end(self, is_synced: bool) -> Result<Log, Option<i32>>
@@ -197,6 +224,23 @@ fn write_behind(file: &File, length: u64, bytes: &[u8]) -> io::Result<usize>
         }
     }
     file.write_at(bytes, length)
+}
+
+// Makes a file longer by so many zeros at once. Where it cannot be so long, by half as many, and so on. It answers by how
+// many.
+fn longer(file: &File, length: &mut u64, n: u64) -> u64
+    ensures { result ≤ n }
+{
+    let mut some = n;
+    while some >= PAGE {
+        let end = length.saturating_add(some);
+        if file.set_len(end).is_ok() {
+            *length = end;
+            return some;
+        }
+        some /= 2;
+    }
+    0
 }
 
 // Most data that isn't zero shows it at an end. What is left is looked at as a whole, which is fast.

@@ -40,6 +40,16 @@ impl<D: Input> Input for Watched<'_, D> {
             Err(fault) => Err(fault),
         }
     }
+
+    fn pass(&mut self, room: &mut [u8]) -> Result<usize, DeviceFault> {
+        match self.device.pass(room) {
+            Ok(n) => {
+                self.progress.advance(n);
+                Ok(n)
+            }
+            Err(fault) => Err(fault),
+        }
+    }
 }
 
 impl<D: Source> Source for Watched<'_, D> {
@@ -94,6 +104,16 @@ impl<D: Output> Output for Watched<'_, D> {
             Ok(n) => {
                 self.progress.advance(n);
                 Ok(n)
+            }
+            Err(fault) => Err(fault),
+        }
+    }
+
+    fn write_zeros(&mut self, n: u64, zeros: &[u8]) -> Result<u64, DeviceFault> {
+        match self.device.write_zeros(n, zeros) {
+            Ok(some) => {
+                self.progress.advance(some as usize);
+                Ok(some)
             }
             Err(fault) => Err(fault),
         }

@@ -1,5 +1,5 @@
 -- What is written part after part: bytes of a source, and zeros.
-use Rattle.std.proofs.Common.{◌≡◌, ℕ, ◌+◌, ◌-◌, ◌≤◌, List, ◌++◌, length, take, drop, replicate, sym, ap, ◌∙◌, append_assoc, arith}
+use Rattle.std.proofs.Common.{◌≡◌, ℕ, ◌+◌, ◌-◌, ◌≤◌, List, [], ◌++◌, length, take, drop, replicate, sym, ap, ◌∙◌, append_assoc, append-nil, arith}
 use Rattle.std.proofs.lemmas.List.{replicate-append-replicate, take-take, take-replicate, drop-drop}
 use Rattle.abt_io.proofs.Parts.{take_plus}
 
@@ -27,13 +27,18 @@ zeros_more w0 w w' part at ask before e same =
     e ∙ ap (λ (l : List ℕ). w ++ l) same ∙ ap (λ (l : List ℕ). l ++ replicate ask 0) before
     ∙ append_assoc w0 (replicate at 0) (replicate ask 0) ∙ ap (λ (l : List ℕ). w0 ++ l) (replicate-append-replicate at ask 0)
 
-pub zeros_front : (w0 w w' part : List ℕ) (at ask n d : ℕ) → w ≡ w0 ++ replicate at 0 → w' ≡ w ++ take d part → part ≡ replicate ask 0 → d ≤ ask → at + ask ≤ n → length w' - length w0 ≡ at + d
+-- a front of the n zeros, where the last call wrote none
+pub zeros_stay : (w0 w w' : List ℕ) (at n : ℕ) → w ≡ w0 ++ replicate at 0 → w' ≡ w ++ [] → at ≤ n → length w ≡ length w0 + at
     → w' ≡ w0 ++ take (length w' - length w0) (replicate n 0)
-zeros_front w0 w w' part at ask n d before e same le room long =
-    let part_is : take d part ≡ replicate d 0 = ap (λ (l : List ℕ). take d l) same ∙ take-replicate d ask 0 le in
-    zeros_more w0 w w' (take d part) at d before e part_is
-    ∙ ap (λ (l : List ℕ). w0 ++ l) (sym (take-replicate (at + d) n 0 (omega arith)))
-    ∙ ap (λ (j : ℕ). w0 ++ take j (replicate n 0)) (sym long)
+zeros_stay w0 w w' at n before e room long =
+    let same : w' ≡ w = e ∙ append-nil w in
+    let here : length w' - length w0 ≡ at = omega (arith, ap length same) in
+    same ∙ before ∙ ap (λ (l : List ℕ). w0 ++ l) (sym (take-replicate at n 0 room))
+    ∙ ap (λ (j : ℕ). w0 ++ take j (replicate n 0)) (sym here)
+
+-- the part of a window is all zeros
+pub zeros_all : (part : List ℕ) (front : ℕ) → part ≡ replicate front 0 → length part ≡ front → part ≡ replicate (length part) 0
+zeros_all part front e long = e ∙ ap (λ (k : ℕ). replicate k 0) (sym long)
 
 -- what was written stays, one part after another
 pub grown_more : (w0 w1 w2 : List ℕ) → take (length w0) w1 ≡ w0 → take (length w1) w2 ≡ w1 → length w0 ≤ length w1 → take (length w0) w2 ≡ w0

@@ -140,7 +140,7 @@ fn lay_zeros(w: &mut Window, n: usize)
     w.part_mut(0, n).fill(0);
 }
 
-/// Writes `n` zeros. It receives nothing and closes no step.
+/// Writes `n` zeros, as many a call as the output takes. It receives nothing and closes no step.
 pub fn write_zeros<O: Output>(
     output: &mut O,
     n: u64,
@@ -159,19 +159,21 @@ pub fn write_zeros<O: Output>(
     ensures clean { OnOk result (O.write_faults output.new ≡ O.write_faults output.old) }
     ensures full_faults { O.full_faults output.new ≡ O.full_faults output.old + full_of result }
     ensures writes { O.writes output.new
-        ≤ O.writes output.old + 2 * (length (O.written output.new) - length (O.written output.old)) + 1 }
+        ≤ O.writes output.old + (length (O.written output.new) - length (O.written output.old)) + 1 }
     ensures turns { m.new.turns.number
-        ≤ m.old.turns.number + 3 * (length (O.written output.new) - length (O.written output.old)) + 2 }
+        ≤ m.old.turns.number + (length (O.written output.new) - length (O.written output.old)) + 1 }
     ensures steps { m.new.steps.number ≡ m.old.steps.number }
     ensures greatest { m.new.greatest.number ≡ m.old.greatest.number }
 {
-    lay_zeros(w, n.min(WINDOW as u64) as usize);
+    let front = n.min(WINDOW as u64) as usize;
+    lay_zeros(w, front);
     let mut at = 0;
     while at < n {
         m.tick();
-        let ask = (n - at).min(WINDOW as u64) as usize;
-        write_out(output, w.part(0, ask), m)?;
-        at += ask as u64;
+        match output.write_zeros(n - at, w.part(0, front)) {
+            Ok(some) => at += some,
+            Err(fault) => return Err(fault),
+        }
     }
     Ok(())
 }

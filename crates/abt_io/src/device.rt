@@ -7,7 +7,7 @@
 //! that tells them. The laws below the last function of a trait hold between any two calls.
 
 ghost use Rattle.std.specs.Prelude.{◌≡◌, ◌<◌, ◌≤◌, ◌+◌, ◌-◌, ◌^◌, ◌++◌, [], ◌∷◌, ℕ, List, Bool, IsTrue, IfOk, IfErr};
-ghost use Rattle.std.specs.Prelude.{OnOk, OnErr, IsErrOf, is_ok, false, if◌then◌else◌, length, take, drop};
+ghost use Rattle.std.specs.Prelude.{OnOk, OnErr, IsErrOf, is_ok, false, if◌then◌else◌, length, take, drop, replicate};
 ghost use Rattle.abt_io.specs.Bytes.{AreBytes};
 ghost use Rattle.abt_io.specs.Count.{count_of, full_of};
 ghost use Rattle.abt_io.specs.Frame.{ReadFrame, reads_alone, WriteFrame, writes_alone, PartitionFrame, no_partition};
@@ -61,6 +61,25 @@ pub trait Input {
         ensures clean { OnOk result (read_faults self.new ≡ read_faults self.old) }
         ensures failed { IfErr result (λ e. e ≡ DeviceFault.Failed) };
 
+    /// Passes over the next bytes, at most as many as `room` has room for: a read of which nobody wants the
+    /// bytes. What `room` holds behind it is anything.
+    fn pass(&mut self, room: &mut [u8]) -> Result<usize, DeviceFault>
+        requires { length room.old ≤ 65536 }
+        ensures within { count_of result ≤ length room.new }
+        ensures present { IsTrue tells → count_of result ≤ length (remaining self.old) }
+        ensures rest { IsTrue tells → remaining self.new ≡ drop (count_of result) (remaining self.old) }
+        ensures ended { IsTrue tells → IfOk result (λ n. n ≡ 0 → 0 < length room.new → remaining self.old ≡ []) }
+        ensures frame { read_frame self.new ≡ read_frame self.old }
+        ensures calls { reads self.new ≡ reads self.old + 1 }
+        ensures counted { given self.new ≡ given self.old + count_of result }
+        ensures faults { read_faults self.old ≤ read_faults self.new }
+        ensures cause { OnErr result (read_faults self.old < read_faults self.new) }
+        ensures clean { OnOk result (read_faults self.new ≡ read_faults self.old) }
+        ensures failed { IfErr result (λ e. e ≡ DeviceFault.Failed) }
+    {
+        self.read(room)
+    }
+
     /// What it tells are bytes.
     ghost are_bytes: { (s : Self) → IsTrue tells → AreBytes (remaining s) };
 }
@@ -99,6 +118,31 @@ pub trait Output {
         ensures full_faults { full_faults self.new ≡ full_faults self.old + full_of result }
         ensures full { IsErrOf result DeviceFault.Full → IsTrue (is_full self.old) }
         ensures still_full { IsErrOf result DeviceFault.Full → IsTrue (is_full self.new) };
+
+    /// Writes at most so many zeros, as `write` would, and answers how many. `zeros` is what they may be taken
+    /// from: an output that can lay any number of them by one call does, and needs none of it.
+    fn write_zeros(&mut self, n: u64, zeros: &[u8]) -> Result<u64, DeviceFault>
+        requires window { length zeros.now ≤ 65536 }
+        requires some { 0 < length zeros.now }
+        requires zeros { zeros.now ≡ replicate (length zeros.now) 0 }
+        ensures within { count_of result ≤ n }
+        ensures progress { IfOk result (λ k. 0 < n → 0 < k) }
+        ensures written { written self.new ≡ written self.old ++ replicate (count_of result) 0 }
+        ensures frame { write_frame self.new ≡ write_frame self.old }
+        ensures calls { writes self.new ≡ writes self.old + 1 }
+        ensures faults { write_faults self.old ≤ write_faults self.new }
+        ensures cause { OnErr result (write_faults self.old < write_faults self.new) }
+        ensures clean { OnOk result (write_faults self.new ≡ write_faults self.old) }
+        ensures full_faults { full_faults self.new ≡ full_faults self.old + full_of result }
+        ensures full { IsErrOf result DeviceFault.Full → IsTrue (is_full self.old) }
+        ensures still_full { IsErrOf result DeviceFault.Full → IsTrue (is_full self.new) }
+    {
+        let some = n.min(zeros.len() as u64) as usize;
+        match self.write(&zeros[..some]) {
+            Ok(k) => Ok(k as u64),
+            Err(fault) => Err(fault),
+        }
+    }
 }
 
 /// Gives the bytes at any place. A read answers 0 only for an empty ask, or where there is nothing.

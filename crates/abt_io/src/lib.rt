@@ -18,7 +18,7 @@
 //! - `device`: the five traits, and `overwrite`, an output that can be written over; `front_last`: one whose first
 //!   bytes are laid last. Their words stand in `specs/`: `Count`, `Bytes`, `Frame` (what a read or a write leaves as it
 //!   was), `Moment` (what a crash may leave), `Over` (what writing over leaves), `Cause` (who failed).
-//! - `full_reads`, `writing`, `copying`: the movers, generic over the traits.
+//! - `full_reads`, `passing`, `writing`, `copying`: the movers, generic over the traits.
 //! - `slices`, `partition`, `spool`: devices over lent memory, which tell their bytes; `bytes` and
 //!   `cells` serve them. `forward`: a source read from its front.
 //! - `files`, `file_output`, `streams` (with `tries`): files, readers and writers, which tell nothing.
@@ -43,6 +43,7 @@ mod log;
 mod meter;
 mod overwrite;
 mod partition;
+mod passing;
 mod slices;
 mod spool;
 mod streams;
@@ -68,6 +69,7 @@ pub use log::Log;
 pub use meter::Meter;
 pub use overwrite::Overwrite;
 pub use partition::SlicePartition;
+pub use passing::pass_full;
 pub use slices::{SliceOutput, SliceSource};
 pub use spool::SliceSpool;
 pub use streams::{FromRead, ToWrite};

@@ -1,6 +1,6 @@
 //! All that a device was ever given, which only contracts see. It takes no bytes at run time.
 
-ghost use Rattle.std.specs.Prelude.{◌≡◌};
+ghost use Rattle.std.specs.Prelude.{◌≡◌, replicate};
 ghost use Rattle.std.specs.Borrow.{ftrue};
 ghost use Rattle.abt_io.specs.Frame.{Logged, nothing_logged, and_bytes, and_cut};
 ghost use Rattle.abt_io.specs.Over.{and_put};
@@ -29,6 +29,12 @@ impl Log {
     #[inline(always)]
     pub fn append(&mut self, _bytes: &[u8])
         ensures { self.new.state ≡ and_bytes self.old.state _bytes.now }
+    {}
+
+    /// The device took so many zeros.
+    #[inline(always)]
+    pub fn append_zeros(&mut self, _n: u64)
+        ensures { self.new.state ≡ and_bytes self.old.state (replicate _n 0) }
     {}
 
     /// The device took these bytes over what stood at a place.

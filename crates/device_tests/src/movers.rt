@@ -43,6 +43,36 @@ fn copying_a_range_stops_where_the_source_ends(rt: HostRuntime) {
     assert!(rt; output.written() == b"cdefg\0\0h".as_slice());
 }
 
+fn three_zeros<O: Output>(output: &mut O) -> Result<u64, DeviceFault> {
+    output.write_zeros(3, &[0; 2])
+}
+
+#[test]
+fn zeros_are_as_many_a_call_as_the_output_takes(rt: HostRuntime) {
+    let mut room = *b"....";
+    let mut output = Cut::new(SliceOutput::new(&mut room), 2);
+    let mut w = Window::new();
+    let mut m = Meter::new();
+    assert!(rt; write_zeros(&mut output, 3, &mut w, &mut m) == Ok(()));
+    // It has room for one more.
+    assert!(rt; three_zeros(&mut output) == Ok(1));
+    assert!(rt; three_zeros(&mut output) == Err(DeviceFault::Full));
+    assert!(rt; output.device.written() == b"\0\0\0\0".as_slice());
+}
+
+#[test]
+fn what_is_passed_over_is_not_read_again(rt: HostRuntime) {
+    let mut room = [0u8; 5];
+    let mut rest = *b"....";
+    let mut m = Meter::new();
+    let mut forward = Cut::new(Forward::new(SliceSource::new(b"abcdefgh")), 3);
+    assert!(rt; pass_full(&mut forward, &mut room, &mut m).count == 5);
+    assert!(rt; read_full(&mut forward, &mut rest, &mut m).count == 3);
+    assert!(rt; rest == *b"fgh.");
+    // Behind the end nothing is.
+    assert!(rt; pass_full(&mut forward, &mut room, &mut m).count == 0);
+}
+
 #[test]
 fn a_word_is_laid_as_often_as_asked(rt: HostRuntime) {
     let mut w = Window::new();

@@ -1,37 +1,32 @@
-use Rattle.std.proofs.Common.{arith, ◌∙◌, ◌≡◌, ◌-◌, ◌+◌, ap, length, take, ℕ}
-use Rattle.abt_io.proofs.Copied.{zeros_part, zeros_more, zeros_front}
+use Rattle.std.proofs.Common.{arith, ◌∙◌, ◌≡◌, ◌≤◌, ◌-◌, ◌+◌, ap, refl, length, take, replicate, length-append, ℕ}
+use Rattle.std.proofs.lemmas.List.{length-replicate}
+use Rattle.abt_io.proofs.Copied.{zeros_part, zeros_more, zeros_stay, zeros_all}
 use Rattle.abt_io.proofs.copying.write_zeros.Goals as goal
 
-pub returns-in_err-write_out-clause-front : goal.returns-in_err-write_out-clause-front
-returns-in_err-write_out-clause-front g c =
-    let e = c.in_err-write_out.ensures in
-    let i = c.loop-at.invariant in
-    let at = c.loop-at.at in
-    let ask = c.min-ask.result in
+pub write_zeros-requires-clause-zeros : goal.write_zeros-requires-clause-zeros
+write_zeros-requires-clause-zeros g c =
+    let front = c.min-front.result in
     let bytes = c.lay_zeros.new.w.bytes in
-    let part_is : c.part.result.now ≡ take ask bytes = c.part.ensures.value ∙ ap (λ (k : ℕ). take k bytes) (let z : ask - 0 ≡ ask = omega arith in z) in
-    let zeros = zeros_part bytes c.part.result.now c.min.result ask c.lay_zeros.ensures part_is (omega arith) in
-    let written = g.O.Output.written in
-    let w0 = written c.args.output.now in
-    let w1 = written c.loop-at.output in
-    let w2 = written c.write_out.new.output in
-    let d = length w2 - length w1 in
-    let grown : length w2 - length w0 ≡ at + d = omega arith in
-    zeros_front w0 w1 w2 c.part.result.now at ask c.args.n d i.written e.front zeros (omega arith) (omega arith) grown
+    let part_is : c.part.result.now ≡ take front bytes = c.part.ensures.value ∙ ap (λ (k : ℕ). take k bytes) (let z : front - 0 ≡ front = omega arith in z) in
+    zeros_all _ front (zeros_part bytes c.part.result.now front front c.lay_zeros.ensures part_is (let le : front ≤ front = omega arith in le)) (omega arith)
+
+pub returns-in-Err-clause-front : goal.returns-in-Err-clause-front
+returns-in-Err-clause-front g c =
+    let i = c.loop-at.invariant in
+    zeros_stay _ _ _ c.loop-at.at c.args.n i.written (rw c.in-Err.is at c.write_zeros.ensures.written) i.within i.long
 
 pub loop-at-preserved : goal.loop-at-preserved
 loop-at-preserved g c =
-    let e = c.in_ok-write_out.ensures in
+    let e = c.in-Ok.ensures in
     let i = c.loop-at.invariant in
-    let at = c.loop-at.at in
-    let ask = c.min-ask.result in
-    let bytes = c.lay_zeros.new.w.bytes in
-    let part_is : c.part.result.now ≡ take ask bytes = c.part.ensures.value ∙ ap (λ (k : ℕ). take k bytes) (let z : ask - 0 ≡ ask = omega arith in z) in
-    let zeros = zeros_part bytes c.part.result.now c.min.result ask c.lay_zeros.ensures part_is (omega arith) in
+    let some = c.in-Ok.some in
+    let written = g.O.Output.written in
+    let longer : length (written c.write_zeros.new.self) ≡ length (written c.loop-at.output) + some =
+    omega (arith, ap length e.written, length-append (written c.loop-at.output) (replicate some 0), length-replicate {A = ℕ} some 0) in
     record {
       within = omega arith;
       long = omega arith;
-      written = zeros_more _ _ _ c.part.result.now at ask i.written e.ok zeros;
+      written = zeros_more _ _ _ (replicate some 0) c.loop-at.at some i.written e.written refl;
       write_frame = e.frame ∙ i.write_frame;
       write_faults = omega arith;
       full_faults = omega arith;

@@ -1,4 +1,4 @@
-use Rattle.std.proofs.Common.{length, ◌-◌, ◌≡◌, ◌≤◌, ◌+◌, ◌*◌, ◌++◌, replicate}
+use Rattle.std.proofs.Common.{length, ◌-◌, ◌≡◌, ◌≤◌, ◌+◌, ◌++◌, replicate}
 use Rattle.abt_io.proofs.copying.write_zeros.Given as goal
 
 abbrev pub invariant-loop-at : goal.invariant-loop-at
@@ -11,8 +11,8 @@ invariant-loop-at g l =
       write_frame : g.O.Output.write_frame l.output ≡ g.O.Output.write_frame l.fn.output;
       write_faults : g.O.Output.write_faults l.output ≡ g.O.Output.write_faults l.fn.output;
       full_faults : g.O.Output.full_faults l.output ≡ g.O.Output.full_faults l.fn.output;
-      writes : g.O.Output.writes l.output ≤ g.O.Output.writes l.fn.output + 2 * l.at;
-      turns : l.m.turns.number ≤ l.fn.m.turns.number + 3 * l.at;
+      writes : g.O.Output.writes l.output ≤ g.O.Output.writes l.fn.output + l.at;
+      turns : l.m.turns.number ≤ l.fn.m.turns.number + l.at;
       steps : l.m.steps.number ≡ l.fn.m.steps.number;
       greatest : l.m.greatest.number ≡ l.fn.m.greatest.number;
     }

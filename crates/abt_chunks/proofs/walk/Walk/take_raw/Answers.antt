@@ -1,4 +1,4 @@
-use Rattle.std.proofs.Common.{length, ◌+◌, ◌++◌, [], arith, ◌≡◌, ap, sym, ◌∙◌, length-append, eqb-true, refl}
+use Rattle.std.proofs.Common.{length, ◌+◌, ◌++◌, [], arith, ◌≡◌, ap, ◌∙◌, length-append, refl}
 use Rattle.std.proofs.lemmas.List.{nil_from_length}
 use Rattle.abt_sparse.specs.View.{view}
 use Rattle.abt_chunks.proofs.Onward.{short_raw, past_raw}
@@ -8,32 +8,30 @@ use Rattle.abt_chunks.specs.ListingAhead.{begun_listing, lacking}
 use Rattle.abt_chunks.proofs.Listed.{upcoming_body, short_listing, open_raw, raw_behind}
 use Rattle.abt_chunks.proofs.walk.Walk.take_raw.Goals as goal
 
-pub returns-then-is_empty-clause-says : goal.returns-then-is_empty-clause-says
-returns-then-is_empty-clause-says c t e =
-    let s = c.args.self.now in let h = c.requires.here in let got = c.args.got.now in
-    let z : length got ≡ 0 = eqb-true _ _ (sym c.is_empty.ensures ∙ c.if-is_empty.true) in
-    let n : got ++ t ≡ [] = nil_from_length (got ++ t) (omega (arith, length-append got t, ap length (e (omega arith)))) in
+pub returns-then-n-eq0-clause-says : goal.returns-then-n-eq0-clause-says
+returns-then-n-eq0-clause-says c got t long e =
+    let s = c.args.self.now in let h = c.requires.here in
+    let n : got ++ t ≡ [] = nil_from_length (got ++ t) (omega (arith, length-append got t, long, ap length (e (omega arith)))) in
     let sz : s.position + 0 ≡ s.position = omega arith in
     rw (c.fail.ensures.part, h.0, h.1, h.2, n, sz) (short_raw s.due (view s.header) s.index s.have s.raw s.words s.word s.position h.3)
 
 pub returns-clause-says : goal.returns-clause-says
-returns-clause-says c t e =
-    let s = c.args.self.now in let h = c.requires.here in let got = c.args.got.now in
-    let sz : s.position + length (got ++ t) ≡ s.position + length got + length t = omega (arith, length-append got t) in
-    (refl, rw (h.0, h.1, h.2, sz) (past_raw s.due (view s.header) s.index s.have s.raw s.words s.word (s.position + length got + length t) got t (length got) refl c.requires.asked))
+returns-clause-says c got t long e =
+    let s = c.args.self.now in let h = c.requires.here in let n = c.args.n in
+    let sz : s.position + length (got ++ t) ≡ s.position + n + length t = omega (arith, length-append got t, long) in
+    (long, rw (h.0, h.1, h.2, sz) (past_raw s.due (view s.header) s.index s.have s.raw s.words s.word (s.position + n + length t) got t n long c.requires.asked))
 
-pub returns-then-is_empty-clause-lists : goal.returns-then-is_empty-clause-lists
-returns-then-is_empty-clause-lists c t e =
-    let s = c.args.self.now in let h = c.requires.here in let got = c.args.got.now in
-    let z : length got ≡ 0 = eqb-true _ _ (sym c.is_empty.ensures ∙ c.if-is_empty.true) in
-    let none : length (got ++ t) ≡ 0 = omega (arith, length-append got t, ap length (e (omega arith))) in
+pub returns-then-n-eq0-clause-lists : goal.returns-then-n-eq0-clause-lists
+returns-then-n-eq0-clause-lists c got t long e =
+    let s = c.args.self.now in let h = c.requires.here in
+    let none : length (got ++ t) ≡ 0 = omega (arith, length-append got t, long, ap length (e (omega arith))) in
     let sz : s.position ≡ s.position + length (got ++ t) = omega arith in
     let lacks : lacking s.kind s.due s.raw ≡ s.raw = rw h.2 refl in
     rw c.fail.ensures.part (short_listing s (got ++ t) _ h.0 (open_raw s h.2 h.3) (omega (arith, h.3, lacks)) (ap Truncated sz))
 
 pub returns-clause-lists : goal.returns-clause-lists
-returns-clause-lists c t e =
-    let s = c.args.self.now in let h = c.requires.here in let got = c.args.got.now in
-    let sz : s.position + length (got ++ t) ≡ s.position + length got + length t = omega (arith, length-append got t) in
-    upcoming_body s false (got ++ t) h.0 (open_raw s h.2 h.3) ∙ ap (λ (n : ℕ). begun_listing s.kind s.due (view s.header) s.index s.have s.extra s.raw s.word s.blocks n (got ++ t)) sz
-    ∙ raw_behind s.kind s.due (view s.header) s.index s.have s.extra s.raw s.word s.blocks (s.position + length got + length t) got t (length got) h.2 h.1 refl c.requires.asked
+returns-clause-lists c got t long e =
+    let s = c.args.self.now in let h = c.requires.here in let n = c.args.n in
+    let sz : s.position + length (got ++ t) ≡ s.position + n + length t = omega (arith, length-append got t, long) in
+    upcoming_body s false (got ++ t) h.0 (open_raw s h.2 h.3) ∙ ap (λ (k : ℕ). begun_listing s.kind s.due (view s.header) s.index s.have s.extra s.raw s.word s.blocks k (got ++ t)) sz
+    ∙ raw_behind s.kind s.due (view s.header) s.index s.have s.extra s.raw s.word s.blocks (s.position + n + length t) got t n h.2 h.1 long c.requires.asked
