@@ -1,5 +1,5 @@
 -- Zeros that are written from a slice of zeros.
-use Rattle.std.proofs.Common.{◌≡◌, ℕ, ◌≤◌, List, [], ◌++◌, length, take, replicate, sym, ap, ◌∙◌, arith, append-nil}
+use Rattle.std.proofs.Common.{◌≡◌, ℕ, ◌≤◌, List, ◌++◌, length, take, replicate, ap, ◌∙◌, arith, append-nil}
 use Rattle.std.proofs.lemmas.List.{take-take, take-replicate}
 
 -- a front of a front of zeros

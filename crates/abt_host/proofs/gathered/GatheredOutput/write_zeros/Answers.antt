@@ -1,4 +1,4 @@
-use Rattle.std.proofs.Common.{◌≡◌, ◌≤◌, ℕ, length, arith, ap, refl, length-take, min}
+use Rattle.std.proofs.Common.{◌≡◌, ◌≤◌, length, arith, refl, length-take}
 use Rattle.abt_host.specs.Given.{given}
 use Rattle.abt_host.proofs.Zeros.{none_laid, zeros_written}
 use Rattle.abt_host.proofs.gathered.GatheredOutput.write_zeros.Goals as goal
