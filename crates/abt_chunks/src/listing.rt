@@ -62,8 +62,8 @@ fn pass_raw<I: Input>(walk: &mut Walk, input: &mut I, w: &mut Window, m: &mut Me
     }
 }
 
-/// What comes next of an image. Raw bytes are passed over, and all else is read; of a fill and of a gap it gives at most
-/// so many words.
+/// What comes next of an image. Raw bytes are passed over, and all else is read; of a fill and of a gap it gives at
+/// most so many words.
 fn next_part<I: Input>(
     walk: &mut Walk,
     most: u64,
@@ -224,8 +224,8 @@ impl Chunks {
         self.walk.header
     }
 
-    /// The next chunk, once its data has been read, and none behind the last one where the blocks of the chunks are
-    /// as many as the header says. After a fault and after none it answers that again, and reads nothing.
+    /// The next chunk, once its data has been read or passed over, and none behind the last one where the blocks of the
+    /// chunks are as many as the header says. After a fault and after none it answers that again, and reads nothing.
     pub fn next<I: Input>(
         &mut self,
         input: &mut I,

@@ -119,6 +119,7 @@ impl Output for Gathered {
             }
         }
     }
+
     fn write_zeros(&mut self, n: u64, zeros: &[u8]) -> Result<u64, DeviceFault> {
         if self.writer.get_ref().takes_hole(n) {
             match lay_through(&mut self.writer, n) {

@@ -74,9 +74,9 @@ impl InputFile {
     }
 }
 
-/// Reads through a buffer, so that headers of chunks, which are small, come many at a time. A read that asks for as much
-/// as the buffer holds, as those of raw data do, goes around it once it is empty. Bytes that nobody wants are not read:
-/// a file that has a place goes on behind them.
+/// Reads through a buffer, so that headers of chunks, which are small, come many at a time. A read that asks for as
+/// much as the buffer holds, as those of raw data do, goes around it once it is empty. Bytes that nobody wants are not
+/// read: a file that has a place goes on behind them.
 #[derive(Drop)]
 pub struct Passing {
     from: FromRead<BufReader<Origin>>,
@@ -170,8 +170,8 @@ pub struct Origin {
 }
 
 impl Origin {
-    // Goes on behind at most so many bytes, none of them beyond the end. It answers how many: none where only a read can
-    // tell.
+    // Goes on behind at most so many bytes, none of them beyond the end. It answers how many: none where only a read
+    // can tell.
     fn pass(&mut self, most: usize) -> usize
         ensures { result ≤ most }
     {

@@ -11,7 +11,7 @@
 //! | `identity.rt`, `taken.rt`, `streams.rt` | which file it is; the files that no output may be; where reports go |
 //! | `opening.rt` | one file that is opened: how, and what it has to be |
 //! | `reading.rt`, `writing.rt` | all that is read, and then all that is written |
-//! | `input_file.rt` | what is read forward: a file or standard input |
+//! | `input_file.rt` | what is read forward: a file or standard input; a file is passed over by its place |
 //! | `sink.rt`, `gathered.rt`, `output_file.rt`, `image_file.rt` | where bytes go, and an output that is brought to its end |
 //! | `ending.rt` | what a call answered, once its output is at its end |
 //! | `progress.rt`, `watched.rt` | how far a command is, and devices whose bytes are counted for it |

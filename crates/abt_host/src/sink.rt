@@ -134,8 +134,7 @@ impl Sink {
         }
     }
 
-    /// Makes the file longer by a hole of at most so many zeros, and answers how many. It answers 0 where that cannot be
-    /// done.
+    /// Makes the file longer by a hole of at most so many zeros, and answers how many: 0 where that cannot be done.
     pub(crate) fn lay_hole(&mut self, n: u64) -> u64
         ensures within { result ≤ n }
         ensures laid { self.new.log.state ≡ and_bytes self.old.log.state (replicate result 0) }
@@ -226,8 +225,8 @@ fn write_behind(file: &File, length: u64, bytes: &[u8]) -> io::Result<usize>
     file.write_at(bytes, length)
 }
 
-// Makes a file longer by so many zeros at once. Where it cannot be so long, by half as many, and so on. It answers by how
-// many.
+// Makes a file longer by so many zeros at once, or where it cannot be so long by half as many, and so on. It answers by
+// how many.
 fn longer(file: &File, length: &mut u64, n: u64) -> u64
     ensures { result ≤ n }
 {

@@ -1,0 +1,20 @@
+use Rattle.std.proofs.Common.{◌≡◌, ◌≤◌, length, arith, refl, length-take}
+use Rattle.abt_host.specs.Given.{given}
+use Rattle.abt_host.proofs.Zeros.{none_laid, zeros_written}
+use Rattle.abt_host.proofs.gathered.GatheredOutput.write_zeros.Goals as goal
+use Rattle.abt_host.proofs.gathered.GatheredOutput.write_zeros.Goals.{then-takes_hole+in-Ok+else-laid-gt0, else-takes_hole}
+
+pub returns-in-Ok-write-clause-written : goal.returns-in-Ok-write-clause-written
+returns-in-Ok-write-clause-written c =
+    let k = c.in-Ok-write.k in
+    let zeros = c.args.zeros.now in
+    let some = c.min-some.result in
+    let room : some ≤ length zeros = omega arith in
+    let within : k ≤ some = omega (arith, c.in-Ok-write.ensures.within, length-take some zeros) in
+    let same : given c.if-takes_hole.self.writer ≡ given c.args.self.now.writer = elim c.if-takes_hole.branch [
+      | then-takes_hole+in-Ok+else-laid-gt0 w ↦
+          let none : w.in-Ok.laid ≡ 0 = omega arith in
+          rw w.self-is (none_laid _ _ w.in-Ok.laid w.in-Ok.ensures.written none)
+      | else-takes_hole w ↦ rw w.self-is refl
+    ] in
+    zeros_written _ _ _ zeros k some same c.in-Ok-write.ensures.written c.requires.zeros within room
