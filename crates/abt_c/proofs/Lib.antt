@@ -1,3 +1,4 @@
 pub mod Carried
 pub mod Sections
 pub mod Tellings
+pub mod Moved

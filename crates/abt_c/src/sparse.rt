@@ -2,6 +2,7 @@
 
 ghost use Rattle.std.specs.Prelude.{◌≡◌, ◌≤◌, ◌<◌, ◌+◌, ◌*◌, ◌↔◌, take, length};
 ghost use Rattle.abt_c.specs.Standing.{Ended, IsLeft, Told, no_size, place_of};
+ghost use Rattle.abt_c.specs.Moving.{Moves};
 ghost use Rattle.abt_c.specs.Telling.{IsBare};
 
 use crate::state::{AbtPart, AbtSize, AbtSparse};
@@ -61,6 +62,9 @@ pub extern "C" fn abt_sparse_next(state: &mut AbtSparse, input: &[u8], out: &mut
     // What lay ahead of the state is this part, and then what lies ahead of it now, whatever bytes follow.
     ensures told { state.old.phase < 3 → (out.new.fault ≡ 90 → ⊥) →
         Told out.new state.old state.new (take out.new.used input.now) }
+    // What it made of the input, and that less is left to do behind it.
+    ensures moves { state.old.phase < 3 → (out.new.fault ≡ 90 → ⊥) →
+        Moves out.new state.old state.new (length input.now) }
     ensures lent { out.new.kind ≡ 1 → out.new.offset + out.new.length ≤ out.new.used }
     ensures offset { (out.new.kind ≡ 1 → ⊥) → out.new.offset ≡ 0 }
     ensures place { state.old.phase < 3 → (out.new.fault ≡ 90 → ⊥) → out.new.position ≡ place_of state.old }
@@ -68,7 +72,9 @@ pub extern "C" fn abt_sparse_next(state: &mut AbtSparse, input: &[u8], out: &mut
     ensures left { IsLeft state.old → IsLeft state.new × (out.new.fault ≡ 90 → ⊥) }
     ensures spoiled { out.new.fault ≡ 90 → state.new ≡ state.old }
     ensures bare { out.new.fault ≡ 90 → IsBare out.new × (out.new.detail ≡ 0) }
-    // After a fault it answers that again.
+    // After the end it answers that again, and after a fault that.
+    ensures ended { state.old.phase ≡ 2 → (out.new.fault ≡ 90 → ⊥) →
+        (out.new.kind ≡ 5) × (out.new.used ≡ 0) × (state.new.phase ≡ 2) }
     ensures again { 3 ≤ state.old.phase → (state.new ≡ state.old) × IsBare out.new }
     ensures same { IsLeft state.old → 3 ≤ state.old.phase → (out.new.fault ≡ state.old.fault) ×
         (out.new.detail ≡ state.old.detail) }

@@ -1,6 +1,8 @@
-use Rattle.std.proofs.Common.{ℕ, take, sym, subst, arith}
+use Rattle.std.proofs.Common.{◌≡◌, ℕ, take, sym, subst, arith, ap, ◌∙◌}
+use Rattle.abt_c.specs.Standing.{phase_number}
 use Rattle.abt_c.specs.Standing.{StateSays}
 use Rattle.abt_c.proofs.Carried.{carried}
+use Rattle.abt_c.proofs.Moved.{done_is_over, ends_again, moved}
 use Rattle.abt_c.proofs.Tellings.{not_spoiled}
 use Rattle.abt_c.proofs.sparse.abt_sparse_next.Goals as goal
 
@@ -20,3 +22,18 @@ returns-in-Some-clause-left c l = (
   record { puller = c.pull-pulled.new.self; stands = c.state_of.ensures.stands; fault = c.state_of.ensures.fault; detail = c.state_of.ensures.detail },
   not_spoiled c.pull-pulled.result.pull c.part_of.result c.part_of.ensures.is,
 )
+
+pub returns-in-Some-clause-moves : goal.returns-in-Some-clause-moves
+returns-in-Some-clause-moves c live x =
+    let h = c.pull-pulled in
+    moved h.result.pull c.part_of.result c.args.state.now c.state_of.result c.in-Some.puller h.new.self h.result.used _ c.part_of.ensures.used c.part_of.ensures.is
+    c.in-Some.ensures.some c.state_of.ensures.stands h.ensures.moves h.ensures.falls
+
+pub returns-in-Some-clause-ended : goal.returns-in-Some-clause-ended
+returns-in-Some-clause-ended c done x =
+    let h = c.pull-pulled in
+    let e = c.in-Some.ensures.some in
+    let was : phase_number c.in-Some.puller.walk.phase ≡ 2 = sym e.phase ∙ done in
+    let again = h.ensures.again (done_is_over c.in-Some.puller.walk.phase was) in
+    let is : phase_number h.new.self.walk.phase ≡ 2 = ap (λ p. phase_number p.walk.phase) again.same ∙ was in
+    (ends_again h.result.pull c.part_of.result h.new.self is again.given h.ensures.leaves c.part_of.ensures.is, c.part_of.ensures.used ∙ again.unused, c.state_of.ensures.stands.phase ∙ is)
