@@ -10,7 +10,8 @@ use abt_io::{Meter, Window};
 use abt_values::expanded;
 use abt_words::{Order, Task, order_of};
 use boot_commands::{BootCommand, boot_command};
-use sparse_commands::{SparseCommandFault, sparse_command};
+use sparse_commands::sparse_command;
+use sparse_rules::SparseCommandFault;
 use sparse_texts::demo;
 use std::io::IsTerminal;
 

@@ -5,7 +5,7 @@ ghost use Rattle.abt_host.specs.Host.{is_not_text};
 
 use abt_host::{DONE, HostRefusal, Report, answer};
 use abt_text::Text;
-use sparse_commands::SparseRefusal;
+use sparse_rules::SparseRefusal;
 use std::fmt;
 
 /// Prints a text that is asked for, and answers the exit status.

@@ -2,7 +2,6 @@
 
 use crate::cut::{Cutting, cut_file};
 use crate::expand::expand_files;
-use crate::fault::SparseRefusal;
 use crate::flash::{flash_file, flash_pieces};
 use crate::flash_raw::flash_raw_file;
 use crate::list::list_file;
@@ -11,6 +10,7 @@ use crate::verify::{verify_file, verify_raw_file};
 use abt_host::{Reading, Report};
 use abt_io::{Meter, Window};
 use abt_words::SparseTask;
+use sparse_rules::SparseRefusal;
 
 /// Does what the words ask for.
 pub fn sparse_command<'a>(

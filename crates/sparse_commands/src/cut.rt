@@ -1,12 +1,10 @@
 //! The command `cut`: an image in pieces for a download limit, each into a file of its own.
 
-use crate::fault::SparseRefusal;
-use crate::lines::{LeftOver, Line};
 use crate::piece_names::refuse_image_as_piece;
 use crate::pieces::Pieces;
-use crate::places::PieceFiles;
 use abt_host::{Place, Reading, Report, Sides, Writing};
 use abt_io::{FileSource, Meter, Source, Window};
+use sparse_rules::{LeftOver, Line, PieceFiles, SparseRefusal};
 
 /// What to cut, and into which files.
 #[derive(Clone, Copy, Drop)]

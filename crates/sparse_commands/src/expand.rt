@@ -1,11 +1,10 @@
 //! The command `expand`: the raw image that a sparse image stands for, or several together.
 
-use crate::fault::{SparseCommandFault, SparseRefusal};
-use crate::lines::Line;
 use crate::overlay::overlay;
 use abt_chunks::{Expanded, expand};
 use abt_host::{Finished, Place, Reading, Report, Sides, Watched, ended};
 use abt_io::{Meter, Window};
+use sparse_rules::{Line, SparseCommandFault, SparseRefusal};
 
 /// Writes the raw image of a sparse one, or of several laid over one another, and prints what it has.
 ///

@@ -2,14 +2,11 @@
 
 ghost use Rattle.std.specs.Prelude.{◌≡◌};
 
-use crate::fault::{SparseCommandFault, SparseRefusal};
-use crate::lines::Line;
-use crate::pieces::raw_pieces;
-use crate::places::image_place;
 use abt_flash::{Delivered, FlashFault, flash, resume, resume_raw};
 use abt_host::{Place, Reading, Report, Sides, Watched};
 use abt_io::{FilePartition, FileSource, FileSpool, Meter, Source, Window};
 use abt_words::Pieces;
+use sparse_rules::{Line, SparseCommandFault, SparseRefusal, image_place, raw_pieces};
 
 // How often a raw image is read that is flashed in pieces: to plan a piece, to find each run whole, and, part by part,
 // to find the run again and to copy it.

@@ -1,8 +1,8 @@
 //! The command `list`: the header and the chunks of a sparse image.
 
-use crate::fault::{SparseCommandFault, SparseRefusal};
 use abt_host::{Place, Reading, Report, Sides};
 use abt_io::{Meter, Window};
+use sparse_rules::{SparseCommandFault, SparseRefusal};
 use sparse_texts::report_list;
 
 /// Prints the header and each chunk of a sparse image. `-` is standard input.

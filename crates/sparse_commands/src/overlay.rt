@@ -1,12 +1,11 @@
 //! Several sparse images laid over one another, as the pieces of a cut are: the command `expand IN.. OUT`.
 
-use crate::fault::{SparseCommandFault, SparseRefusal};
-use crate::places::image_place;
 use abt_chunks::Expanded;
 use abt_flash::flash;
 use abt_host::{Finished, HostFault, Place, Reading, Report, Sides, Watched};
 use abt_io::{FileSource, Forward, Meter, Source, Window};
 use abt_runs::{BlockRuns, SparseRuns};
+use sparse_rules::{SparseCommandFault, SparseRefusal, image_place};
 
 /// How many blocks an image has, and how many bytes each.
 #[derive(Clone, Copy, PartialEq, Eq)]

@@ -1,19 +1,10 @@
 //! The command `sparse`: a raw image as a sparse one.
 
-ghost use Rattle.std.specs.Prelude.{◌≡◌, ◌<◌, ◌≤◌, ◌+◌, ◌*◌, ◌^◌, IfErr, IfOk, OnOk};
-ghost use Rattle.abt_runs.specs.Raw.{Refused};
-ghost use Rattle.sparse_commands.specs.Blocks.{IsBlockSize};
-
-use crate::fault::{SparseCommandFault, SparseRefusal};
-use crate::lines::Line;
 use abt_host::{Finished, ImageOutput, Place, Reading, Report, Sides, Watched, ended, ended_file};
 use abt_io::{FileSource, Meter, Source, Window};
 use abt_placed::sparsify_at;
-use abt_runs::{BlockRuns, RawRuns, RunFault};
 use abt_sparsify::{Written, sparsify};
-
-/// How many bytes of data a raw chunk has at most: whole blocks in 64 MiB.
-const CHUNK_DATA: u32 = 67_108_864;
+use sparse_rules::{Blocks, Line, SparseCommandFault, SparseRefusal, blocks_of};
 
 // A pipe or a device gets each header before what it tells of: the raw image is read to count its chunks, to find each
 // run whole, and to copy it. A regular file is written over, and the raw image read once.
@@ -51,15 +42,6 @@ pub(crate) fn sparse_file<'a>(
     Ok(())
 }
 
-/// How many bytes a block has, and how many blocks a raw chunk at most.
-#[derive(Clone, Copy, Drop)]
-struct Blocks {
-    size: u32,
-    most: u32,
-    ghost some: { 1 ≤ most },
-    ghost small: { 12 + most * size < 2 ^ 32 },
-}
-
 fn write_image<'a>(
     source: &mut FileSource,
     blocks: Blocks,
@@ -84,15 +66,4 @@ fn write_image<'a>(
             ended(answer.map_err(SparseCommandFault::Piece), stream, sides)
         }
     }
-}
-
-// A block size that no raw image has is refused before it divides.
-fn blocks_of(source: &FileSource, size: u32) -> Result<Blocks, RunFault>
-    ensures size { IfOk result (λ blocks. blocks.size ≡ size) }
-    ensures granted { OnOk result (IsBlockSize size) }
-    ensures refused { IfErr result (λ fault. Refused fault size source.now.size) }
-{
-    let runs = RawRuns::open(source, size)?;
-    let most = CHUNK_DATA / runs.block_size();
-    Ok(Blocks { size, most })
 }

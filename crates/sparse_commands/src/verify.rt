@@ -1,11 +1,9 @@
 //! The command `verify`: whether an image stands on a partition.
 
-use crate::fault::{SparseCommandFault, SparseRefusal};
-use crate::lines::Line;
-use crate::places::image_place;
 use abt_host::{Place, Reading, Report, Sides, Watched};
 use abt_io::{Meter, Source, Window};
 use abt_verify::{verify, verify_raw};
+use sparse_rules::{Line, SparseCommandFault, SparseRefusal, image_place};
 
 /// Compares a sparse image with what stands on a partition, and prints how many blocks of it were compared. The image is
 /// read forward, so that it may be a pipe.

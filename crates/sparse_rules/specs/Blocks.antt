@@ -2,8 +2,8 @@
 use Rattle.std.specs.Prelude.{◌≡◌, ◌<◌, ◌≤◌, ◌+◌, ◌%◌, ℕ}
 use Rattle.abt_pieces.specs.declared.fault.PieceFault.TheVariants.{LimitTooSmall}
 use Rattle.abt_runs.specs.Raw.{Refused}
-use Rattle.sparse_commands.specs.declared.fault.SparseCommandFault.{SparseCommandFault}
-use Rattle.sparse_commands.specs.declared.fault.SparseCommandFault.TheVariants as faults
+use Rattle.sparse_rules.specs.declared.fault.SparseCommandFault.{SparseCommandFault}
+use Rattle.sparse_rules.specs.declared.fault.SparseCommandFault.TheVariants as faults
 
 -- a block has whole words, and at most 65,536 bytes
 abbrev pub IsBlockSize : ℕ → Type 0

@@ -1,7 +1,7 @@
 -- What a command prints of what was done.
 use Rattle.std.specs.Prelude.{ℕ, List, ◌++◌, codes, decimal}
-use Rattle.sparse_commands.specs.declared.lines.Line.{Line}
-use Rattle.sparse_commands.specs.declared.lines.Line.TheVariants as lines
+use Rattle.sparse_rules.specs.declared.lines.Line.{Line}
+use Rattle.sparse_rules.specs.declared.lines.Line.TheVariants as lines
 
 abbrev pub text_of : Line → List ℕ
 text_of (lines.Expanded blocks bytes) = codes "blocks " ++ (decimal blocks ++ (codes " bytes " ++ decimal bytes))

@@ -1,14 +1,14 @@
 //! What a command prints of what was done.
 
 ghost use Rattle.std.specs.Prelude.{Some};
-ghost use Rattle.sparse_commands.specs.Lines.{text_of};
+ghost use Rattle.sparse_rules.specs.Lines.{text_of};
 
 use abt_host::Place;
 use std::fmt;
 
 /// A line of a report.
 #[derive(Clone, Copy, Drop)]
-pub(crate) enum Line {
+pub enum Line {
     /// Of a raw image that was written.
     Expanded {
         blocks: u32,
@@ -58,7 +58,7 @@ impl fmt::Display for Line {
 
 /// A file of an older cut that is no piece of this one.
 #[derive(Clone, Copy, Drop)]
-pub(crate) struct LeftOver<'a>(pub Place<'a>);
+pub struct LeftOver<'a>(pub Place<'a>);
 
 impl fmt::Display for LeftOver<'_> {
     fn fmt<W: fmt::Write>(&self, f: &mut fmt::Formatter<W>) -> fmt::Result {

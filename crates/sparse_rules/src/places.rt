@@ -5,13 +5,13 @@ ghost use Rattle.std.specs.Prelude.{◌≡◌, ◌<◌, ◌+◌, Some};
 use abt_host::Place;
 
 /// An image that is read at any place: `-` is standard input, which will do only where it is a file.
-pub(crate) fn image_place<'a>(input: &'a str) -> Place<'a> {
+pub fn image_place<'a>(input: &'a str) -> Place<'a> {
     Place::new("IN", if input == "-" { "/dev/stdin" } else { input })
 }
 
 /// The files of pieces, in turn: `PREFIX.1`, `PREFIX.2` and so on.
 #[derive(Drop)]
-pub(crate) struct PieceFiles<'a> {
+pub struct PieceFiles<'a> {
     prefix: &'a str,
     /// How many there were.
     pub count: u32,
@@ -19,7 +19,7 @@ pub(crate) struct PieceFiles<'a> {
 
 impl<'a> PieceFiles<'a> {
     /// There was none yet.
-    pub(crate) fn new(prefix: &'a str) -> PieceFiles<'a>
+    pub fn new(prefix: &'a str) -> PieceFiles<'a>
         ensures begins { result.prefix.now ≡ prefix.now }
         ensures none { result.count ≡ 0 }
     {
@@ -27,7 +27,7 @@ impl<'a> PieceFiles<'a> {
     }
 
     /// The file of the next piece, which is counted.
-    pub(crate) fn next(&mut self) -> Place<'a>
+    pub fn next(&mut self) -> Place<'a>
         ensures name { result.name ≡ self.old.prefix }
         ensures number { result.number ≡ Some self.new.count }
         ensures counted { self.old.count < 4294967295 → self.new.count ≡ self.old.count + 1 }

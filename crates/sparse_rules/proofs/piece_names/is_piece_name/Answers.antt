@@ -1,7 +1,7 @@
 use Rattle.std.proofs.Common.{rules, arith, ◌≡◌, ◌<◌, length, None}
 use Rattle.std.proofs.lemmas.Str.Pattern.{strip_prefix_char}
-use Rattle.sparse_commands.proofs.Points.{behind, by_digits, no_point}
-use Rattle.sparse_commands.proofs.piece_names.is_piece_name.Goals as goal
+use Rattle.sparse_rules.proofs.Points.{behind, by_digits, no_point}
+use Rattle.sparse_rules.proofs.piece_names.is_piece_name.Goals as goal
 
 pub returns-then-not-is_empty : goal.returns-then-not-is_empty
 returns-then-not-is_empty c =

@@ -1,8 +1,8 @@
 use Rattle.std.proofs.Common.{rules, tests}
 use Rattle.std.proofs.lemmas.Iterator.{cases_from_all, YieldsList-from_slice}
-use Rattle.sparse_commands.specs.PieceNames.{IsDigit}
-use Rattle.sparse_commands.proofs.Points.{decided}
-use Rattle.sparse_commands.proofs.piece_names.are_digits.Goals as goal
+use Rattle.sparse_rules.specs.PieceNames.{IsDigit}
+use Rattle.sparse_rules.proofs.Points.{decided}
+use Rattle.sparse_rules.proofs.piece_names.are_digits.Goals as goal
 
 pub returns : goal.returns
 returns c =

@@ -2,15 +2,15 @@
 
 ghost use Rattle.std.specs.Prelude.{◌≡◌, List, ℕ};
 ghost use Rattle.abt_text.specs.Printed.{Prints};
-ghost use Rattle.sparse_commands.specs.Fault.{number_of, side_of_cause, side_of_number, wrong_words};
-ghost use Rattle.sparse_commands.specs.declared.fault.SparseCommandFault.TheVariants.{Host};
+ghost use Rattle.sparse_rules.specs.Fault.{number_of, side_of_cause, side_of_number, wrong_words};
+ghost use Rattle.sparse_rules.specs.declared.fault.SparseCommandFault.TheVariants.{Host};
 
-use abt_chunks::SparseFault;
 use abt_flash::{Cause, FlashFault};
 use abt_host::{HostFault, HostRefusal, Place, Refusal, Side, Told};
 use abt_io::Output;
 use abt_pieces::PieceFault;
 use abt_runs::RunFault;
+use abt_sparse::SparseFault;
 use abt_text::Text;
 use abt_verify::VerifyFault;
 

@@ -3,7 +3,7 @@ use Rattle.std.proofs.Common.{◌≡◌, ◌≢◌, ◌↔◌, ◌∙◌, ℕ, �
 use Rattle.std.specs.List.{All, AllWithin, HoldsAt}
 use Rattle.std.proofs.lemmas.Bool.{false≢true}
 use Rattle.std.proofs.lemmas.List.{append_cancel_left}
-use Rattle.sparse_commands.specs.PieceNames.{IsDigit, IsPieceName}
+use Rattle.sparse_rules.specs.PieceNames.{IsDigit, IsPieceName}
 
 -- what stands behind a front that was taken off
 pub behind : (prefix path rest : List ℕ) (n : ℕ) → path ≡ prefix ++ drop n path → rest ≡ drop n path → path ≡ prefix ++ rest

@@ -12,8 +12,8 @@ use Rattle.abt_flash.specs.declared.fault.FlashFault.TheVariants as flashes
 use Rattle.abt_host.specs.Host.{is_not_text}
 use Rattle.abt_host.specs.declared.told.Side.{Side}
 use Rattle.abt_host.specs.declared.told.Side.TheVariants as sides
-use Rattle.sparse_commands.specs.declared.fault.SparseCommandFault.{SparseCommandFault}
-use Rattle.sparse_commands.specs.declared.fault.SparseCommandFault.TheVariants as faults
+use Rattle.sparse_rules.specs.declared.fault.SparseCommandFault.{SparseCommandFault}
+use Rattle.sparse_rules.specs.declared.fault.SparseCommandFault.TheVariants as faults
 
 -- the words are wrong, rather than what they name
 abbrev pub wrong_words : SparseCommandFault → Bool

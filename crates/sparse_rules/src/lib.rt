@@ -1,0 +1,27 @@
+//! What the commands of sparse images go by: the faults that they are refused for, the lines that they print, the names
+//! of the files of pieces, which blocks and pieces a raw image has, and flashing it straight to a partition.
+//!
+//! | file | has |
+//! |---|---|
+//! | `fault.rt` | why a command is refused: the fault's number, its text, and which file it is about |
+//! | `lines.rt` | what a command prints of what was done |
+//! | `places.rt`, `piece_names.rt` | the files that the words name, and the names of those of pieces |
+//! | `blocks.rt`, `pieces.rt` | which blocks and which pieces a raw image has, or why it has none |
+//! | `flash_raw.rt` | each block of a raw image to a partition |
+#![tactic(auto)]
+
+mod blocks;
+mod fault;
+mod flash_raw;
+mod lines;
+mod piece_names;
+mod pieces;
+mod places;
+
+pub use blocks::{Blocks, blocks_of};
+pub use fault::{SparseCommandFault, SparseRefusal};
+pub use flash_raw::flash_blocks;
+pub use lines::{LeftOver, Line};
+pub use piece_names::is_piece_name;
+pub use pieces::{PiecesOf, raw_pieces};
+pub use places::{PieceFiles, image_place};
