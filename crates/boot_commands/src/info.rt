@@ -1,11 +1,11 @@
 //! The command `info`: what the header of a boot image says, and what checking it finds.
 
 use crate::command::BootOutcome;
-use crate::fault::BootCommandFault;
 use abt_host::{Place, Reading, Refusal, Report, Sides};
 use abt_io::{Meter, Window};
 use abt_sections::{SectionFault, Verdict};
 use boot_findings::{Findings, find_reasons};
+use boot_rules::BootCommandFault;
 use boot_texts::{Notation, report_info};
 
 /// Prints what the header of an image file says. With the check it also prints the reason of each answer that is no,

@@ -1,21 +1,17 @@
 //! The command `pack`: a boot image or a vendor boot image of its parts.
 
-ghost use Rattle.std.specs.Prelude.{◌≡◌, Err, IfOk, MatchResult, false};
-ghost use Rattle.boot_commands.specs.Fault.{of_version};
-ghost use Rattle.boot_fields.specs.Kind.{is_version, version_of};
+ghost use Rattle.std.specs.Prelude.{◌≡◌, MatchResult, false};
+ghost use Rattle.boot_rules.specs.Fault.{of_version};
+ghost use Rattle.boot_fields.specs.Kind.{is_version};
 
 use crate::command::BootOutcome;
-use crate::fault::BootCommandFault;
-use crate::image_output::{Contents, write_image};
-use crate::pack_command::PackCommand;
-use crate::pack_fields::{no_fields, with_given, without_empty};
-use crate::part_source::PartSource;
+use crate::image_output::write_image;
+use crate::own_fields::without_empty;
 use crate::parts::open_parts;
 use crate::ramdisks::Ramdisks;
 use abt_host::{Reading, Refusal, Report};
 use abt_io::{Meter, Window};
-use abt_sections::BootSpec;
-use boot_fields::ImageKind;
+use boot_rules::{Contents, PackCommand, PartSource, judge_words};
 
 /// Packs the image that the words ask for, and prints how many bytes it has.
 ///
@@ -31,7 +27,7 @@ pub(crate) fn pack_file<'t, 'a>(
         (λ refusal. refusal.fault ≡ of_version command.now.version) }
 {
     let texts = &command.texts;
-    let (kind, fields) = match judged(command) {
+    let (kind, fields) = match judge_words(command) {
         Ok(judged) => judged,
         Err(fault) => return Err(Refusal::of(fault)),
     };
@@ -53,21 +49,4 @@ pub(crate) fn pack_file<'t, 'a>(
         trailing: PartSource::empty(),
     };
     write_image(reading, report, contents, &*command.output, w, m)
-}
-
-// The kind of image that the words ask for, and its fields.
-fn judged<'t, 'a>(
-    command: &'t PackCommand<'a>,
-) -> Result<(ImageKind, BootSpec<'t>), BootCommandFault<'a>>
-    ensures version { is_version command.now.is_vendor command.now.version ≡ false →
-        result ≡ Err (of_version command.now.version) }
-    ensures fields { IfOk result (λ judged. judged.1.version ≡ version_of judged.0) }
-{
-    let kind = match ImageKind::new(command.is_vendor, command.version) {
-        Ok(kind) => kind,
-        Err(fault) => return Err(BootCommandFault::of_header(fault)),
-    };
-    command.texts.check(kind)?;
-    let fields = with_given(no_fields(), kind, command.page, &command.texts)?;
-    Ok((kind, fields))
 }

@@ -1,16 +1,15 @@
 //! The parts that an image is packed from, each open to be read.
 
 ghost use Rattle.std.specs.Prelude.{◌≡◌, length, IfOk};
-ghost use Rattle.boot_commands.specs.Parts.{row_count};
+ghost use Rattle.boot_rules.specs.Parts.{row_count};
 
-use crate::pack_texts::PackTexts;
-use crate::part_source::PartSource;
 use abt_headers::Section;
 use abt_host::{HostFault, HostRefusal, Place, Reading};
 use abt_io::FileSource;
 use abt_sections::Image;
 use boot_fields::ImageKind;
 use boot_findings::place_of;
+use boot_rules::{PackTexts, PartSource};
 
 /// A part: the option that gives it, and the section that it fills.
 #[derive(Clone, Copy)]

@@ -2,16 +2,13 @@
 
 ghost use Rattle.std.specs.Prelude.{◌≡◌, length};
 
-use crate::board_ids::set_board_ids;
-use crate::fault::BootCommandFault;
-use crate::pack_texts::PackTexts;
-use crate::part_source::PartSource;
 use crate::parts::{Own, open_file};
 use abt_headers::{RamdiskEntry, Section};
 use abt_host::{HostFault, HostRefusal, Reading};
 use abt_io::{Meter, Window};
 use abt_sections::{FragmentSpec, fragment, fragments};
 use boot_findings::place_of;
+use boot_rules::{BootCommandFault, PackTexts, PartSource, set_board_ids};
 use std::alloc::Global;
 
 /// The fragments of a vendor ramdisk, each with what it is read from.

@@ -1,17 +1,12 @@
 //! The command `repack`: an image with other parts and fields, all else kept.
 
-ghost use Rattle.std.specs.Prelude.{◌≡◌, codes, false};
-ghost use Rattle.boot_commands.specs.Texts.{HasNone};
+ghost use Rattle.std.specs.Prelude.{◌≡◌};
 ghost use Rattle.boot_fields.specs.Kind.{version_of};
 
 use crate::command::BootOutcome;
-use crate::fault::BootCommandFault;
-use crate::image_output::{Contents, write_image};
+use crate::image_output::write_image;
 use crate::lines::LeftOutNote;
-use crate::pack_command::PackCommand;
-use crate::pack_fields::{own_cmdline, own_fields, with_given, without_empty};
-use crate::pack_texts::PackTexts;
-use crate::part_source::PartSource;
+use crate::own_fields::{own_cmdline, own_fields, without_empty};
 use crate::parts::{Own, open_parts};
 use crate::ramdisks::{Ramdisks, entries_of};
 use abt_headers::{RamdiskEntry, Section};
@@ -19,7 +14,10 @@ use abt_host::{HostFault, HostRefusal, Place, Reading, Refusal, Report, Sides};
 use abt_io::{Meter, Window};
 use abt_sections::{BootSpec, open};
 use boot_fields::ImageKind;
-use boot_findings::{Anew, LeftOut, count_left_out, end_of, in_no_fragment, place_of};
+use boot_findings::{LeftOut, count_left_out, end_of, in_no_fragment, place_of};
+use boot_rules::{
+    BootCommandFault, Contents, PackCommand, PackTexts, PartSource, anew_of, with_given,
+};
 use std::alloc::Global;
 
 /// What an image that is packed again has, beside its sections.
@@ -114,19 +112,6 @@ fn judged<'a>(
             left,
         }),
         Err(_) => Err(BootCommandFault::Host(HostFault::Memory)),
-    }
-}
-
-// What is given anew, or kept as it is.
-fn anew_of(texts: &PackTexts<'_>, keeps_trailing: bool) -> Anew
-    ensures name { result.name ≡ false → HasNone texts.now.options.items (codes "name") }
-    ensures cmdline { result.cmdline ≡ false → HasNone texts.now.options.items (codes "cmdline") }
-    ensures trailing { result.trailing ≡ keeps_trailing }
-{
-    Anew {
-        name: texts.has("name"),
-        cmdline: texts.has("cmdline"),
-        trailing: keeps_trailing,
     }
 }
 

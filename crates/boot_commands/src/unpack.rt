@@ -2,16 +2,15 @@
 
 ghost use Rattle.std.specs.Prelude.{◌≡◌, ◌<◌, length};
 ghost use Rattle.abt_sections.specs.Header.{fragment_count, places_of, view_of};
-ghost use Rattle.boot_commands.specs.Unpacked.{IsPart, part_count};
 
 use crate::command::BootOutcome;
-use crate::fault::BootCommandFault;
-use crate::part_names::{Part, PartLine};
+use crate::lines::PartLine;
 use abt_host::{OutputFile, Place, Progress, Reading, Report, Sides, Watched, Writing, ended};
 use abt_io::{FileSource, Meter, Window};
 use abt_sections::{
     Image, SectionFault, fragment, fragments, open, section, sections, unpack, unpack_fragment,
 };
+use boot_rules::{BootCommandFault, part_count, part_of};
 use boot_texts::write_words;
 
 /// An image that is taken apart.
@@ -62,29 +61,6 @@ pub(crate) fn unpack_file<'t, 'a>(
         write_part(&mut taken, i, &mut writing, report, w, m)?;
     }
     Ok(())
-}
-
-// How many files are written.
-fn part_count(image: &Image, with_words: bool) -> u64
-    ensures { result ≡ part_count (view_of image.now.header) with_words }
-{
-    let parts = sections(image) as u64 + fragments(image) as u64;
-    if with_words { parts + 1 } else { parts }
-}
-
-// The file that is written as file `i`: sections come first, then fragments, then the words.
-fn part_of(image: &Image, i: u64) -> Part
-    ensures { IsPart (view_of image.now.header) i result }
-{
-    let sections = sections(image) as u64;
-    if i < sections {
-        return Part::Section(section(image, i as usize).kind);
-    }
-    let index = i - sections;
-    if index < fragments(image) as u64 {
-        return Part::Fragment(index as u32);
-    }
-    Part::Words
 }
 
 fn write_part<'t, 'a>(
