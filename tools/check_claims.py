@@ -25,7 +25,7 @@ HERE = os.path.dirname(os.path.dirname(os.path.abspath(__file__)))
 MOST_LINES = 700
 DOCUMENTS = ("README.md", "CONTRIBUTING.md", "CHANGELOG.md", "docs/*.md")
 # What these do is called by the program alone, and most of it only in its own crate.
-OF_THE_PROGRAM = ("abt_words", "abt_host", "sparse_commands", "boot_commands", "abootimg")
+OF_THE_PROGRAM = ("abt_words", "abt_host", "sparse_commands", "boot_rules", "boot_commands", "abootimg")
 
 
 class Checks:
