@@ -9,15 +9,18 @@
 //! | `info.rt`, `unpack.rt` | the command of that name |
 //! | `pack.rt`, `repack.rt` | the command of that name |
 //! | `pack_order.rt` | what these two are told, as bytes |
-//! | `own_fields.rt` | the fields of an image that is packed again |
-//! | `parts.rt`, `ramdisks.rt` | its parts and its ramdisk fragments, each open to be read |
-//! | `image_output.rt`, `lines.rt` | writing it, and what is printed of it |
+//! | `own.rt`, `own_fields.rt` | an image that is read, and the fields that it has |
+//! | `parts.rt`, `ramdisks.rt` | the parts and ramdisk fragments of one that is packed, each open to be read |
+//! | `filling.rt`, `image_output.rt` | all that it is written from, and writing it |
+//! | `lines.rt` | what is printed of what was done |
 #![tactic(auto)]
 
 mod command;
+mod filling;
 mod image_output;
 mod info;
 mod lines;
+mod own;
 mod own_fields;
 mod pack;
 mod pack_order;

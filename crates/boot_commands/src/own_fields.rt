@@ -1,14 +1,8 @@
-//! The fields that an image has of its own, where it is packed again, and those that are empty with their parts.
+//! The fields that an image has of its own, where it is packed again.
 
-ghost use Rattle.std.specs.Prelude.{◌≡◌};
-
-use crate::parts::is_empty;
-use abt_headers::{OsVersion, Section};
+use abt_headers::OsVersion;
 use abt_sections::{BootSpec, ImageHeader};
-use boot_fields::{
-    Address, ImageKind, TextField, address_of, front_text, os_version_of, text_field_of,
-};
-use boot_rules::{PackTexts, PartSource, counts_ramdisk, counts_second};
+use boot_fields::{Address, TextField, address_of, front_text, os_version_of, text_field_of};
 use std::alloc::{AllocError, Global};
 
 /// The fields that a header has, with the command line that it has; the others are empty.
@@ -44,26 +38,4 @@ pub(crate) fn own_cmdline(alloc: Global, header: &ImageHeader) -> Result<Vec<u8>
     let end = front_text(text.as_slice()).len();
     text.truncate(end);
     Ok(text)
-}
-
-/// These fields, in which mkbootimg's 0 is the address of a ramdisk and a second stage that a boot image doesn't have,
-/// where addresses count from a base.
-pub(crate) fn without_empty<'t>(
-    fields: BootSpec<'t>,
-    kind: ImageKind,
-    texts: &PackTexts<'_>,
-    parts: &[PartSource<'_>],
-) -> BootSpec<'t>
-    ensures { result.version ≡ fields.entry.version }
-{
-    let mut fields = fields;
-    if let ImageKind::Boot(_) = kind {
-        if counts_ramdisk(texts) && is_empty(kind, parts, Section::Ramdisk) {
-            fields.ramdisk_addr = 0;
-        }
-        if counts_second(texts) && is_empty(kind, parts, Section::Second) {
-            fields.second_addr = 0;
-        }
-    }
-    fields
 }

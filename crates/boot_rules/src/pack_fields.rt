@@ -8,7 +8,7 @@ ghost use Rattle.boot_rules.specs.Texts.{IsChosen};
 ghost use Rattle.boot_fields.specs.Kind.{version_of};
 
 use crate::fault::BootCommandFault;
-use crate::loads::addresses_of;
+use crate::loads::{Addresses, addresses_of};
 use crate::pack_texts::PackTexts;
 use abt_headers::{HeaderFault, OsVersion};
 use abt_sections::{BootSpec, VendorSpec};
@@ -44,21 +44,7 @@ pub fn with_given<'a, 't>(
     ensures cmdline { IfOk result (λ fields.
         IsChosen texts.now.options.items (codes "cmdline") own.entry.cmdline.now fields.cmdline.now) }
 {
-    let own_addresses = [
-        own.kernel_addr as u64,
-        own.ramdisk_addr as u64,
-        own.second_addr as u64,
-        own.tags_addr as u64,
-        own.dtb_addr,
-    ];
-    let addresses = match addresses_of(texts, own_addresses) {
-        Ok(addresses) => addresses,
-        Err(word) => return Err(BootCommandFault::BadNumber(word)),
-    };
-    let os = match os_of(texts, own.os) {
-        Ok(os) => os,
-        Err(fault) => return Err(BootCommandFault::of_header(fault)),
-    };
+    let (addresses, os) = given_numbers(&own, texts)?;
     Ok(BootSpec {
         version: kind.version(),
         page: page.unwrap_or(own.page),
@@ -71,6 +57,28 @@ pub fn with_given<'a, 't>(
         name: texts.bytes_or("name", own.name),
         cmdline: texts.bytes_or("cmdline", own.cmdline),
     })
+}
+
+// The addresses, and the OS version and patch level: those that were given, and else those of these fields.
+fn given_numbers<'a>(
+    own: &BootSpec<'_>,
+    texts: &PackTexts<'a>,
+) -> Result<(Addresses, OsVersion), BootCommandFault<'a>> {
+    let own_addresses = [
+        own.kernel_addr as u64,
+        own.ramdisk_addr as u64,
+        own.second_addr as u64,
+        own.tags_addr as u64,
+        own.dtb_addr,
+    ];
+    let addresses = match addresses_of(texts, own_addresses) {
+        Ok(addresses) => addresses,
+        Err(word) => return Err(BootCommandFault::BadNumber(word)),
+    };
+    match os_of(texts, own.os) {
+        Ok(os) => Ok((addresses, os)),
+        Err(fault) => Err(BootCommandFault::of_header(fault)),
+    }
 }
 
 // (each has room, as `addresses_of` says)
