@@ -5,7 +5,7 @@ use boot_rules::Part;
 use std::fmt;
 
 /// The line of an image that was written: how many bytes it has.
-#[derive(Clone, Copy, Drop)]
+#[derive(Drop)]
 pub(crate) struct ImageLine(pub u64);
 
 impl fmt::Display for ImageLine {
@@ -16,7 +16,7 @@ impl fmt::Display for ImageLine {
 }
 
 /// What an image that is packed again leaves out.
-#[derive(Clone, Copy, Drop)]
+#[derive(Drop)]
 pub(crate) struct LeftOutNote(pub LeftOut);
 
 impl fmt::Display for LeftOutNote {
@@ -27,7 +27,7 @@ impl fmt::Display for LeftOutNote {
 }
 
 /// The line of a part that was written.
-#[derive(Clone, Copy, Drop)]
+#[derive(Drop)]
 pub(crate) struct PartLine {
     pub part: Part,
     /// How many bytes it has.

@@ -10,7 +10,6 @@ use boot_fields::ImageKind;
 use boot_rules::{PackTexts, PartSource};
 
 /// A part: the option that gives it, and the section that it fills.
-#[derive(Clone, Copy)]
 pub(crate) struct PartRow {
     pub option: &'static str,
     pub section: Section,

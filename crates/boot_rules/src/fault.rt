@@ -12,7 +12,7 @@ use abt_sections::SectionFault;
 use abt_text::{ShownPath, Text};
 
 /// Why a command over boot images is refused.
-#[derive(Clone, Copy, Drop)]
+#[derive(Drop)]
 pub enum BootCommandFault<'a> {
     /// Of files, whatever they hold.
     Host(HostFault),
