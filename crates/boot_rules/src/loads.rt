@@ -100,10 +100,14 @@ fn has_offset(texts: &PackTexts<'_>) -> bool {
 
 // The word that has no room: the address, the offset or the base.
 fn told_word<'a>(texts: &PackTexts<'a>, load: Load) -> &'a str {
-    for name in [load.address, load.offset, "base"] {
-        if let Some(text) = texts.find(name) {
-            return text.word;
-        }
+    if let Some(text) = texts.find(load.address) {
+        return text.word;
     }
-    ""
+    if let Some(text) = texts.find(load.offset) {
+        return text.word;
+    }
+    match texts.find("base") {
+        Some(text) => text.word,
+        None => "",
+    }
 }
