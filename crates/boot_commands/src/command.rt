@@ -1,14 +1,14 @@
 //! Which command over boot images it is.
 
-use crate::fault::BootCommandFault;
 use crate::info::info_file;
 use crate::pack::pack_file;
-use crate::pack_command::PackCommand;
+use crate::pack_order::command_of;
 use crate::repack::repack_file;
 use crate::unpack::unpack_file;
 use abt_host::{Reading, Refusal, Report};
 use abt_io::{Meter, Window};
 use abt_words::BootTask;
+use boot_rules::{BootCommandFault, PackCommand};
 use std::alloc::{AllocError, Global};
 
 /// How a command over boot images ended: the files that it is about are named at `'t`, and its words at `'a`.
@@ -43,9 +43,9 @@ impl<'a> BootCommand<'a> {
     /// Reads the words that stand for bytes.
     pub fn new(alloc: Global, task: BootTask<'a>) -> Result<BootCommand<'a>, AllocError> {
         let kind = match task {
-            BootTask::Pack(order) => Kind::Pack(PackCommand::new(alloc, order)?),
+            BootTask::Pack(order) => Kind::Pack(command_of(alloc, order)?),
             BootTask::Repack { input, order } => {
-                let command = PackCommand::new(alloc, order)?;
+                let command = command_of(alloc, order)?;
                 Kind::Repack { input, command }
             }
             BootTask::Unpack {

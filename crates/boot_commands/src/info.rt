@@ -1,12 +1,12 @@
 //! The command `info`: what the header of a boot image says, and what checking it finds.
 
 use crate::command::BootOutcome;
-use crate::fault::BootCommandFault;
 use abt_host::{Place, Reading, Refusal, Report, Sides};
-use abt_io::{Meter, Window};
+use abt_io::{FileSource, Meter, Window};
 use abt_sections::{SectionFault, Verdict};
 use boot_findings::{Findings, find_reasons};
-use boot_texts::{Notation, report_info};
+use boot_rules::BootCommandFault;
+use boot_texts::{InfoReport, Notation, report_info};
 
 /// Prints what the header of an image file says. With the check it also prints the reason of each answer that is no,
 /// and is refused where there is one.
@@ -29,7 +29,19 @@ pub(crate) fn info_file<'t, 'a>(
     if !with_check {
         return Ok(());
     }
-    let findings = match find_reasons(&told.image, told.verdict, &mut source, w, m) {
+    tell_check(place, &mut source, &told, report, w, m)
+}
+
+// Prints why an answer is no, and is refused where there is one.
+fn tell_check<'t, 'a>(
+    place: Place<'t>,
+    source: &mut FileSource,
+    told: &InfoReport,
+    report: &mut Report,
+    w: &mut Window,
+    m: &mut Meter,
+) -> BootOutcome<'t, 'a> {
+    let findings = match find_reasons(&told.image, told.verdict, source, w, m) {
         Ok(findings) => findings,
         Err(fault) => return Err(refused(place, report, fault)),
     };

@@ -1,19 +1,15 @@
 //! The parts that an image is packed from, each open to be read.
 
 ghost use Rattle.std.specs.Prelude.{◌≡◌, length, IfOk};
-ghost use Rattle.boot_commands.specs.Parts.{row_count};
+ghost use Rattle.boot_rules.specs.Parts.{row_count};
 
-use crate::pack_texts::PackTexts;
-use crate::part_source::PartSource;
+use crate::own::{Own, own_part};
 use abt_headers::Section;
 use abt_host::{HostFault, HostRefusal, Place, Reading};
-use abt_io::FileSource;
-use abt_sections::Image;
 use boot_fields::ImageKind;
-use boot_findings::place_of;
+use boot_rules::{PackTexts, PartSource};
 
 /// A part: the option that gives it, and the section that it fills.
-#[derive(Clone, Copy)]
 pub(crate) struct PartRow {
     pub option: &'static str,
     pub section: Section,
@@ -85,30 +81,6 @@ pub(crate) fn is_empty(kind: ImageKind, parts: &[PartSource<'_>], section: Secti
     true
 }
 
-/// An image that is packed again.
-#[derive(Drop)]
-pub(crate) struct Own<'a> {
-    pub image: Image,
-    pub source: FileSource,
-    pub place: Place<'a>,
-}
-
-impl<'a> Own<'a> {
-    /// So many bytes from a place on, to be read beside the image.
-    pub(crate) fn part(
-        &self,
-        reading: &Reading,
-        at: u64,
-        size: u64,
-    ) -> Result<PartSource<'a>, HostRefusal<'a>> {
-        if size == 0 {
-            return Ok(PartSource::empty());
-        }
-        let file = reading.again(&self.source, self.place)?;
-        Ok(PartSource::range(file, self.place, at, size))
-    }
-}
-
 /// Opens the parts of an image of this kind: each is the file that was given, or else the image's own, or empty.
 pub(crate) fn open_parts<'t>(
     reading: &mut Reading,
@@ -144,20 +116,5 @@ pub(crate) fn open_file<'t>(
             Ok(PartSource::whole(reading.source(place)?, place))
         }
         Err(_) => Err(HostRefusal::at(HostFault::CannotOpen, Place::new(role, word), None)),
-    }
-}
-
-// The part that stands in this section, where there is such an image and it has one.
-fn own_part<'t>(
-    reading: &Reading,
-    own: Option<&Own<'t>>,
-    section: Section,
-) -> Result<PartSource<'t>, HostRefusal<'t>> {
-    let Some(own) = own else {
-        return Ok(PartSource::empty());
-    };
-    match place_of(&own.image, section) {
-        Some(place) => own.part(reading, place.at, place.size as u64),
-        None => Ok(PartSource::empty()),
     }
 }

@@ -2,16 +2,14 @@
 
 ghost use Rattle.std.specs.Prelude.{◌≡◌, length};
 
-use crate::board_ids::set_board_ids;
-use crate::fault::BootCommandFault;
-use crate::pack_texts::PackTexts;
-use crate::part_source::PartSource;
-use crate::parts::{Own, open_file};
+use crate::own::Own;
+use crate::parts::open_file;
 use abt_headers::{RamdiskEntry, Section};
-use abt_host::{HostFault, HostRefusal, Reading};
+use abt_host::{HostFault, HostRefusal, Reading, Refusal};
 use abt_io::{Meter, Window};
 use abt_sections::{FragmentSpec, fragment, fragments};
 use boot_findings::place_of;
+use boot_rules::{BootCommandFault, FragmentText, PackTexts, PartSource, set_board_ids};
 use std::alloc::Global;
 
 /// The fragments of a vendor ramdisk, each with what it is read from.
@@ -38,11 +36,7 @@ impl<'a> Ramdisks<'a> {
     ) -> Result<Ramdisks<'a>, HostRefusal<'a>> {
         let mut ramdisks = Ramdisks::new(reading.alloc);
         for fragment in &texts.fragments {
-            if let Some(spec) = fragment.spec {
-                let path = fragment.path.as_slice();
-                let source = open_file(reading, "FRAGMENT", &*fragment.word, path)?;
-                ramdisks = ramdisks.with(spec, source)?;
-            }
+            ramdisks = ramdisks.with_file(reading, fragment)?;
         }
         Ok(ramdisks)
     }
@@ -53,21 +47,53 @@ impl<'a> Ramdisks<'a> {
         own: &Own<'a>,
         entries: &[RamdiskEntry],
     ) -> Result<Ramdisks<'a>, HostRefusal<'a>> {
-        let mut ramdisks = Ramdisks::new(reading.alloc);
-        let Some(place) = place_of(&own.image, Section::VendorRamdisk) else {
-            return Ok(ramdisks);
-        };
+        let ramdisks = Ramdisks::new(reading.alloc);
+        match place_of(&own.image, Section::VendorRamdisk) {
+            Some(place) => ramdisks.with_entries(reading, own, place.at, entries),
+            None => Ok(ramdisks),
+        }
+    }
+
+    // These and those of an image whose vendor ramdisk begins here.
+    fn with_entries(
+        self,
+        reading: &Reading,
+        own: &Own<'a>,
+        front: u64,
+        entries: &[RamdiskEntry],
+    ) -> Result<Ramdisks<'a>, HostRefusal<'a>> {
+        let mut ramdisks = self;
         for entry in entries {
-            let at = place.at.saturating_add(entry.ramdisk_offset as u64);
-            let source = own.part(reading, at, entry.ramdisk_size as u64)?;
-            let spec = FragmentSpec {
-                kind: entry.ramdisk_type,
-                name: entry.name,
-                board_id: entry.board_id,
-            };
-            ramdisks = ramdisks.with(spec, source)?;
+            ramdisks = ramdisks.with_entry(reading, own, front, entry)?;
         }
         Ok(ramdisks)
+    }
+
+    // These and the one of an entry.
+    fn with_entry(
+        self,
+        reading: &Reading,
+        own: &Own<'a>,
+        front: u64,
+        entry: &RamdiskEntry,
+    ) -> Result<Ramdisks<'a>, HostRefusal<'a>> {
+        let at = front.saturating_add(entry.ramdisk_offset as u64);
+        let source = own.part(reading, at, entry.ramdisk_size as u64)?;
+        self.with(spec_of(entry), source)
+    }
+
+    // These and one that was given.
+    fn with_file(
+        self,
+        reading: &mut Reading,
+        fragment: &'a FragmentText<'_>,
+    ) -> Result<Ramdisks<'a>, HostRefusal<'a>> {
+        let Some(spec) = fragment.spec else {
+            return Ok(self);
+        };
+        let path = fragment.path.as_slice();
+        let source = open_file(reading, "FRAGMENT", &*fragment.word, path)?;
+        self.with(spec, source)
     }
 
     // These and one more.
@@ -90,12 +116,21 @@ impl<'a> Ramdisks<'a> {
     pub(crate) fn with_board_ids<'w>(
         self,
         words: &[&'w str],
-    ) -> Result<Ramdisks<'a>, BootCommandFault<'w>> {
+    ) -> Result<Ramdisks<'a>, Refusal<'a, BootCommandFault<'w>>> {
         let Ramdisks { mut specs, sources } = self;
         match set_board_ids(specs.as_mut_slice(), words) {
             Ok(()) => Ok(Ramdisks { specs, sources }),
-            Err(word) => Err(BootCommandFault::BadBoardId(word)),
+            Err(word) => Err(Refusal::of(BootCommandFault::BadBoardId(word))),
         }
+    }
+}
+
+// What is packed of the fragment of an entry.
+fn spec_of(entry: &RamdiskEntry) -> FragmentSpec {
+    FragmentSpec {
+        kind: entry.ramdisk_type,
+        name: entry.name,
+        board_id: entry.board_id,
     }
 }
 

@@ -1,25 +1,25 @@
 //! The command `repack`: an image with other parts and fields, all else kept.
 
-ghost use Rattle.std.specs.Prelude.{◌≡◌, codes, false};
-ghost use Rattle.boot_commands.specs.Texts.{HasNone};
+ghost use Rattle.std.specs.Prelude.{◌≡◌};
 ghost use Rattle.boot_fields.specs.Kind.{version_of};
 
 use crate::command::BootOutcome;
-use crate::fault::BootCommandFault;
-use crate::image_output::{Contents, write_image};
+use crate::filling::filled;
+use crate::image_output::write_image;
 use crate::lines::LeftOutNote;
-use crate::pack_command::PackCommand;
-use crate::pack_fields::{own_cmdline, own_fields, with_given, without_empty};
-use crate::pack_texts::PackTexts;
-use crate::part_source::PartSource;
-use crate::parts::{Own, open_parts};
+use crate::own::{Own, open_own, trailing_of};
+use crate::own_fields::{own_cmdline, own_fields};
+use crate::parts::open_parts;
 use crate::ramdisks::{Ramdisks, entries_of};
 use abt_headers::{RamdiskEntry, Section};
 use abt_host::{HostFault, HostRefusal, Place, Reading, Refusal, Report, Sides};
 use abt_io::{Meter, Window};
-use abt_sections::{BootSpec, open};
+use abt_sections::BootSpec;
 use boot_fields::ImageKind;
-use boot_findings::{Anew, LeftOut, count_left_out, end_of, in_no_fragment, place_of};
+use boot_findings::{LeftOut, count_left_out, end_of, in_no_fragment, place_of};
+use boot_rules::{
+    BootCommandFault, Contents, PackCommand, PackTexts, PartSource, anew_of, with_given,
+};
 use std::alloc::Global;
 
 /// What an image that is packed again has, beside its sections.
@@ -44,20 +44,13 @@ pub(crate) fn repack_file<'t, 'a>(
     m: &mut Meter,
 ) -> BootOutcome<'t, 'a> {
     let mut reading = reading;
-    let mut own = opened(&mut reading, Place::new("IN", input), w, m)?;
+    let mut own = open_own(&mut reading, Place::new("IN", input), w, m)?;
     let kind = ImageKind::of_header(&own.image.header);
-    let sides = Sides::none().reading(own.place, None);
     let kept = match judged(reading.alloc, &mut own, kind, command, w, m) {
         Ok(kept) => kept,
-        Err(fault) => return Err(sides.refuse(fault)),
+        Err(fault) => return Err(of_own(&own, fault)),
     };
-    let own_fields = own_fields(&own.image.header, kept.cmdline.as_slice());
-    let fields = match with_given(own_fields, kind, command.page, &command.texts) {
-        Ok(fields) => fields,
-        Err(fault) => return Err(sides.refuse(fault)),
-    };
-    let contents = contents_of(&mut reading, &own, fields, kind, &kept, command)?;
-    write_image(reading, report, contents, &*command.output, w, m)?;
+    write_again(reading, report, &own, kind, &kept, command, w, m)?;
     let left = kept.left;
     if !left.is_nothing() {
         report.note(LeftOutNote(left));
@@ -65,24 +58,30 @@ pub(crate) fn repack_file<'t, 'a>(
     Ok(())
 }
 
-fn opened<'t, 'a>(
-    reading: &mut Reading,
-    place: Place<'t>,
+// A fault of the words, where the image is at hand.
+fn of_own<'t, 'a>(own: &Own<'t>, fault: BootCommandFault<'a>) -> Refusal<'t, BootCommandFault<'a>> {
+    Sides::none().reading(own.place, None).refuse(fault)
+}
+
+// Writes the image again, as it is told.
+fn write_again<'t, 'a>(
+    reading: Reading,
+    report: &mut Report,
+    own: &Own<'t>,
+    kind: ImageKind,
+    kept: &Kept,
+    command: &'t PackCommand<'a>,
     w: &mut Window,
     m: &mut Meter,
-) -> Result<Own<'t>, Refusal<'t, BootCommandFault<'a>>> {
-    let mut source = reading.source(place)?;
-    match open(&mut source, w, m) {
-        Ok(image) => Ok(Own {
-            image,
-            source,
-            place,
-        }),
-        Err(fault) => {
-            let sides = Sides::none().reading(place, None);
-            Err(sides.refuse(BootCommandFault::Section(fault)))
-        }
-    }
+) -> BootOutcome<'t, 'a> {
+    let own_fields = own_fields(&own.image.header, kept.cmdline.as_slice());
+    let fields = match with_given(own_fields, kind, command.page, &command.texts) {
+        Ok(fields) => fields,
+        Err(fault) => return Err(of_own(own, fault)),
+    };
+    let mut reading = reading;
+    let contents = contents_of(&mut reading, own, fields, kind, kept, command)?;
+    write_image(reading, report, contents, &*command.output, w, m)
 }
 
 // Judges the words by the image's kind, and counts what is left out of it.
@@ -94,19 +93,11 @@ fn judged<'a>(
     w: &mut Window,
     m: &mut Meter,
 ) -> Result<Kept, BootCommandFault<'a>> {
-    let texts = &command.texts;
-    texts.check(kind)?;
-    let mut entries = Vec::new(alloc);
-    let mut gaps = 0;
-    if kind == ImageKind::Vendor(4) && texts.fragments.as_slice().is_empty() {
-        entries = entries_of(alloc, own, w, m)?;
-        gaps = gaps_of(alloc, own, entries.as_slice())?;
-    }
-    let anew = anew_of(texts, command.keeps_trailing);
-    let left = match count_left_out(&own.image, anew, gaps, &mut own.source, w, m) {
-        Ok(left) => left,
-        Err(fault) => return Err(BootCommandFault::Section(fault)),
-    };
+    command.texts.check(kind)?;
+    let keeps = keeps_fragments(kind, &command.texts);
+    let entries = entries_kept(alloc, own, keeps, w, m)?;
+    let gaps = gaps_kept(alloc, own, keeps, entries.as_slice())?;
+    let left = left_out(own, command, gaps, w, m)?;
     match own_cmdline(alloc, &own.image.header) {
         Ok(cmdline) => Ok(Kept {
             entries,
@@ -117,29 +108,63 @@ fn judged<'a>(
     }
 }
 
-// What is given anew, or kept as it is.
-fn anew_of(texts: &PackTexts<'_>, keeps_trailing: bool) -> Anew
-    ensures name { result.name ≡ false → HasNone texts.now.options.items (codes "name") }
-    ensures cmdline { result.cmdline ≡ false → HasNone texts.now.options.items (codes "cmdline") }
-    ensures trailing { result.trailing ≡ keeps_trailing }
-{
-    Anew {
-        name: texts.has("name"),
-        cmdline: texts.has("cmdline"),
-        trailing: keeps_trailing,
+// Whether an image of this kind has fragments, and keeps its own.
+fn keeps_fragments(kind: ImageKind, texts: &PackTexts<'_>) -> bool {
+    kind == ImageKind::Vendor(4) && texts.fragments.as_slice().is_empty()
+}
+
+// The entries of its table, where its fragments are kept.
+fn entries_kept(
+    alloc: Global,
+    own: &mut Own<'_>,
+    keeps: bool,
+    w: &mut Window,
+    m: &mut Meter,
+) -> Result<Vec<RamdiskEntry>, BootCommandFault<'static>> {
+    if keeps {
+        entries_of(alloc, own, w, m)
+    } else {
+        Ok(Vec::new(alloc))
     }
 }
 
-// How many bytes of the vendor ramdisk lie in no fragment.
-fn gaps_of(
+// How many bytes of the image packing again leaves out, of whose vendor ramdisk so many lie in no fragment.
+fn left_out(
+    own: &mut Own<'_>,
+    command: &PackCommand<'_>,
+    gaps: u64,
+    w: &mut Window,
+    m: &mut Meter,
+) -> Result<LeftOut, BootCommandFault<'static>> {
+    let anew = anew_of(&command.texts, command.keeps_trailing);
+    match count_left_out(&own.image, anew, gaps, &mut own.source, w, m) {
+        Ok(left) => Ok(left),
+        Err(fault) => Err(BootCommandFault::Section(fault)),
+    }
+}
+
+// How many bytes of the vendor ramdisk lie in no fragment, where its fragments are kept.
+fn gaps_kept(
     alloc: Global,
     own: &Own<'_>,
+    keeps: bool,
     entries: &[RamdiskEntry],
 ) -> Result<u64, BootCommandFault<'static>> {
-    let Some(place) = place_of(&own.image, Section::VendorRamdisk) else {
+    if !keeps {
         return Ok(0);
-    };
-    match in_no_fragment(alloc, entries, place.size) {
+    }
+    match place_of(&own.image, Section::VendorRamdisk) {
+        Some(place) => gaps_of(alloc, entries, place.size),
+        None => Ok(0),
+    }
+}
+
+fn gaps_of(
+    alloc: Global,
+    entries: &[RamdiskEntry],
+    size: u32,
+) -> Result<u64, BootCommandFault<'static>> {
+    match in_no_fragment(alloc, entries, size) {
         Ok(bytes) => Ok(bytes),
         Err(_) => Err(BootCommandFault::Host(HostFault::Memory)),
     }
@@ -159,21 +184,9 @@ fn contents_of<'t, 'f, 'a>(
     let texts = &command.texts;
     let ramdisks = ramdisks_of(reading, own, kept, texts)?;
     let parts = open_parts(reading, kind, texts, Some(own))?;
-    let fields = without_empty(fields, kind, texts, parts.as_slice());
-    let ramdisks = match ramdisks.with_board_ids(command.board_ids.as_slice()) {
-        Ok(ramdisks) => ramdisks,
-        Err(fault) => return Err(Refusal::of(fault)),
-    };
+    let ramdisks = ramdisks.with_board_ids(command.board_ids.as_slice())?;
     let trailing = trailing_of(reading, own, command.keeps_trailing)?;
-    let Ramdisks { specs, sources } = ramdisks;
-    Ok(Contents {
-        kind,
-        fields,
-        parts,
-        specs,
-        sources,
-        trailing,
-    })
+    Ok(filled(kind, fields, texts, parts, ramdisks, trailing))
 }
 
 // The fragments that were given, and else its own.
@@ -188,17 +201,4 @@ fn ramdisks_of<'t>(
     } else {
         Ramdisks::open(reading, texts)
     }
-}
-
-// What stands behind the image, where that is kept.
-fn trailing_of<'t>(
-    reading: &Reading,
-    own: &Own<'t>,
-    is_kept: bool,
-) -> Result<PartSource<'t>, HostRefusal<'t>> {
-    if !is_kept {
-        return Ok(PartSource::empty());
-    }
-    let end = end_of(&own.image);
-    own.part(reading, end, own.image.length.saturating_sub(end))
 }

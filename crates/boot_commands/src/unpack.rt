@@ -2,26 +2,19 @@
 
 ghost use Rattle.std.specs.Prelude.{◌≡◌, ◌<◌, length};
 ghost use Rattle.abt_sections.specs.Header.{fragment_count, places_of, view_of};
-ghost use Rattle.boot_commands.specs.Unpacked.{IsPart, part_count};
 
 use crate::command::BootOutcome;
-use crate::fault::BootCommandFault;
-use crate::part_names::{Part, PartLine};
-use abt_host::{OutputFile, Place, Progress, Reading, Report, Sides, Watched, Writing, ended};
+use crate::lines::PartLine;
+use crate::own::{Own, open_own};
+use abt_host::{
+    HostRefusal, OutputFile, Place, Progress, Reading, Report, Sides, Watched, Writing, ended,
+};
 use abt_io::{FileSource, Meter, Window};
 use abt_sections::{
-    Image, SectionFault, fragment, fragments, open, section, sections, unpack, unpack_fragment,
+    Image, SectionFault, fragment, fragments, section, sections, unpack, unpack_fragment,
 };
+use boot_rules::{BootCommandFault, part_count, part_of};
 use boot_texts::write_words;
-
-/// An image that is taken apart.
-#[derive(Drop)]
-struct Taken<'a> {
-    image: Image,
-    source: FileSource,
-    input: Place<'a>,
-    folder: &'a str,
-}
 
 /// Writes each section and then each ramdisk fragment of an image to a file of a folder, and the words that pack it
 /// again.
@@ -38,67 +31,42 @@ pub(crate) fn unpack_file<'t, 'a>(
     m: &mut Meter,
 ) -> BootOutcome<'t, 'a> {
     let mut reading = reading;
-    let input = Place::new("IN", input);
-    let mut source = reading.source(input)?;
-    let image = match open(&mut source, w, m) {
-        Ok(image) => image,
-        Err(fault) => {
-            let fault = BootCommandFault::Section(fault);
-            return Err(Sides::none().reading(input, None).refuse(fault));
-        }
-    };
+    let mut own = open_own(&mut reading, Place::new("IN", input), w, m)?;
     let mut writing = reading.all_open();
-    let mut taken = Taken {
-        image,
-        source,
-        input,
-        folder,
-    };
-    let count = part_count(&taken.image, with_words);
+    let count = part_count(&own.image, with_words);
+    refuse_taken(&own, count, folder, &writing)?;
     for i in 0..count {
-        writing.refuse_taken(part_of(&taken.image, i).place(folder))?;
-    }
-    for i in 0..count {
-        write_part(&mut taken, i, &mut writing, report, w, m)?;
+        write_part(&mut own, i, folder, &mut writing, report, w, m)?;
     }
     Ok(())
 }
 
-// How many files are written.
-fn part_count(image: &Image, with_words: bool) -> u64
-    ensures { result ≡ part_count (view_of image.now.header) with_words }
-{
-    let parts = sections(image) as u64 + fragments(image) as u64;
-    if with_words { parts + 1 } else { parts }
-}
-
-// The file that is written as file `i`: sections come first, then fragments, then the words.
-fn part_of(image: &Image, i: u64) -> Part
-    ensures { IsPart (view_of image.now.header) i result }
-{
-    let sections = sections(image) as u64;
-    if i < sections {
-        return Part::Section(section(image, i as usize).kind);
+// Refuses to write where the image is one of the files.
+fn refuse_taken<'t>(
+    own: &Own<'t>,
+    count: u64,
+    folder: &'t str,
+    writing: &Writing,
+) -> Result<(), HostRefusal<'t>> {
+    for i in 0..count {
+        writing.refuse_taken(part_of(&own.image, i).place(folder))?;
     }
-    let index = i - sections;
-    if index < fragments(image) as u64 {
-        return Part::Fragment(index as u32);
-    }
-    Part::Words
+    Ok(())
 }
 
 fn write_part<'t, 'a>(
-    taken: &mut Taken<'t>,
+    own: &mut Own<'t>,
     i: u64,
+    folder: &'t str,
     writing: &mut Writing,
     report: &mut Report,
     w: &mut Window,
     m: &mut Meter,
 ) -> BootOutcome<'t, 'a> {
-    let part = part_of(&taken.image, i);
-    let mut output = writing.plain(part.place(taken.folder))?;
-    let answer = written(taken, i, &mut output, report, w, m);
-    let sides = Sides::none().reading(taken.input, None);
+    let part = part_of(&own.image, i);
+    let mut output = writing.plain(part.place(folder))?;
+    let answer = written(own, i, folder, &mut output, report, w, m);
+    let sides = Sides::none().reading(own.place, None);
     let (bytes, finished) = ended(BootCommandFault::of_bytes(answer), output, sides)?;
     report.line_of(finished, PartLine { part, bytes })?;
     Ok(())
@@ -106,19 +74,19 @@ fn write_part<'t, 'a>(
 
 // Writes file `i`, and answers how many bytes it has.
 fn written(
-    taken: &mut Taken<'_>,
+    own: &mut Own<'_>,
     i: u64,
+    folder: &str,
     output: &mut OutputFile<'_>,
     report: &mut Report,
     w: &mut Window,
     m: &mut Meter,
 ) -> Result<u64, SectionFault> {
-    let Taken {
+    let Own {
         image,
         source,
-        input: _,
-        folder,
-    } = taken;
+        place: _,
+    } = own;
     let progress = &mut report.progress;
     let front = sections(image) as u64;
     if i < front {

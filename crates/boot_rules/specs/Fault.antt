@@ -1,0 +1,32 @@
+-- Which faults are of the words, and the number of each.
+use Rattle.std.specs.Prelude.{ℕ, Bool, true, false, Option, Some, None}
+use Rattle.abt_host.specs.Host.{is_not_text}
+use Rattle.abt_sections.specs.Fault as section
+use Rattle.abt_headers.specs.declared.fault.HeaderFault.TheVariants as headers
+use Rattle.abt_sections.specs.declared.fault.SectionFault.TheVariants as sections
+use Rattle.boot_rules.specs.declared.fault.BootCommandFault.{BootCommandFault}
+use Rattle.boot_rules.specs.declared.fault.BootCommandFault.TheVariants as faults
+
+-- the words are wrong, rather than what they name
+abbrev pub is_usage : BootCommandFault → Bool
+is_usage (faults.Host fault) = is_not_text fault
+is_usage (faults.Section fault) = false
+is_usage (faults.OptionNotCarried name) = true
+is_usage (faults.BadFragment word) = true
+is_usage (faults.BadNumber word) = true
+is_usage (faults.BadBoardId word) = true
+is_usage faults.CheckFailed = false
+
+-- the number of a fault of an image or a device
+abbrev pub number_of : BootCommandFault → Option ℕ
+number_of (faults.Section fault) = Some (section.fault_number fault)
+number_of (faults.Host fault) = None
+number_of (faults.OptionNotCarried name) = None
+number_of (faults.BadFragment word) = None
+number_of (faults.BadNumber word) = None
+number_of (faults.BadBoardId word) = None
+number_of faults.CheckFailed = None
+
+-- there is no such header version
+abbrev pub of_version : ℕ → BootCommandFault
+of_version n = faults.Section (sections.Header (headers.Version n))

@@ -1,0 +1,38 @@
+//! What the commands over boot images go by: what their words mean for an image, what is refused, and which files are
+//! written.
+//!
+//! What the layer above relies on: `with_given` answers the fields that were given, and the image's own for the others;
+//! `judge` refuses what packing refuses; `set_board_ids` sets the numbers that the words name, in order.
+//!
+//! | file | has |
+//! |---|---|
+//! | `fault.rt` | why a command is refused, and what a user is told of it |
+//! | `pack_command.rt`, `pack_texts.rt` | what `pack` and `repack` are told |
+//! | `pack_fields.rt`, `loads.rt` | the fields that an image is packed from, and where its parts are loaded |
+//! | `board_ids.rt` | the board ids that words set |
+//! | `part_source.rt`, `contents.rt` | what a part is read from; all that an image is written from, and its judge |
+//! | `anew.rt` | what an image that is packed again is given anew |
+//! | `part_names.rt` | the files that `unpack` writes |
+#![tactic(auto)]
+
+mod anew;
+mod board_ids;
+mod contents;
+mod fault;
+mod loads;
+mod pack_command;
+mod pack_fields;
+mod pack_texts;
+mod part_names;
+mod part_source;
+
+pub use anew::anew_of;
+pub use board_ids::set_board_ids;
+pub use contents::{Contents, judge, pack_vendor_parts};
+pub use fault::BootCommandFault;
+pub use loads::{counts_ramdisk, counts_second};
+pub use pack_command::{PackCommand, judge_words};
+pub use pack_fields::with_given;
+pub use pack_texts::{FragmentText, OptionText, PackTexts};
+pub use part_names::{Part, part_count, part_of};
+pub use part_source::PartSource;
