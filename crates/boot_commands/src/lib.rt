@@ -1,7 +1,7 @@
 //! The commands over boot images: pack, repack, unpack and info, each from its order to files and the report.
 //!
-//! What they do with bytes is proved in the crates below, and so is what their words mean, in `boot_rules`. Here all that
-//! is read is opened, then all that is written is created, and one call of the engine does the work.
+//! What they do with bytes is proved in the crates below, and so is what their words mean, in `boot_rules`. Here all
+//! that is read is opened, then all that is written is created, and one call of the engine does the work.
 //!
 //! | file | has |
 //! |---|---|
