@@ -3,7 +3,7 @@
 ghost use Rattle.std.specs.Prelude.{◌≡◌};
 
 use abt_flash::{Delivered, FlashFault, flash, resume, resume_raw};
-use abt_host::{Place, Reading, Report, Sides, Watched};
+use abt_host::{Passing, Place, Reading, Report, Sides, Watched};
 use abt_io::{FilePartition, FileSource, FileSpool, Meter, Source, Window};
 use abt_words::Pieces;
 use sparse_rules::{Line, SparseCommandFault, SparseRefusal, image_place, raw_pieces};
@@ -30,8 +30,8 @@ pub(crate) fn flash_file<'a>(
     let mut writing = reading.all_open();
     let mut onto = writing.partition(partition)?;
     let mut watched = Watched::new(&mut from.from, &mut report.progress);
-    let blocks = match flash(&mut watched, &mut onto, w, m) {
-        Ok(flashed) => flashed.blocks,
+    let blocks = match flashed(&mut watched, &mut onto, w, m) {
+        Ok(blocks) => blocks,
         Err(fault) => {
             let sides = Sides::none()
                 .reading(input, from.why())
@@ -42,6 +42,19 @@ pub(crate) fn flash_file<'a>(
     let finished = writing.written_in_place(onto);
     report.line_of(finished, Line::Blocks(u64::from(blocks)))?;
     Ok(())
+}
+
+// How many blocks were flashed.
+fn flashed(
+    source: &mut Watched<'_, Passing>,
+    onto: &mut FilePartition,
+    w: &mut Window,
+    m: &mut Meter,
+) -> Result<u32, FlashFault> {
+    match flash(source, onto, w, m) {
+        Ok(flashed) => Ok(flashed.blocks),
+        Err(fault) => Err(fault),
+    }
 }
 
 /// Flashes an image in pieces, and prints how many they were. The image is read at any place, so that standard input

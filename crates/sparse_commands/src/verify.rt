@@ -1,8 +1,8 @@
 //! The command `verify`: whether an image stands on a partition.
 
-use abt_host::{Place, Reading, Report, Sides, Watched};
-use abt_io::{Meter, Source, Window};
-use abt_verify::{verify, verify_raw};
+use abt_host::{Passing, Place, Reading, Report, Sides, Watched};
+use abt_io::{FileSource, Meter, Source, Window};
+use abt_verify::{VerifyFault, verify, verify_raw};
 use sparse_rules::{Line, SparseCommandFault, SparseRefusal, image_place};
 
 /// Compares a sparse image with what stands on a partition, and prints how many blocks of it were compared. The image is
@@ -22,8 +22,8 @@ pub(crate) fn verify_file<'a>(
     report.progress.expect_if(from.length);
     let mut against = reading.compared(partition)?;
     let mut watched = Watched::new(&mut from.from, &mut report.progress);
-    let blocks = match verify(&mut watched, &mut against, w, m) {
-        Ok(verified) => verified.blocks,
+    let blocks = match compared(&mut watched, &mut against, w, m) {
+        Ok(blocks) => blocks,
         Err(fault) => {
             let sides = Sides::none()
                 .reading(input, from.why())
@@ -53,8 +53,8 @@ pub(crate) fn verify_raw_file<'a>(
     report.progress.expect(source.length(), 1);
     let mut against = reading.compared(partition)?;
     let mut watched = Watched::new(&mut source, &mut report.progress);
-    let blocks = match verify_raw(&mut watched, size, &mut against, w, m) {
-        Ok(verified) => verified.blocks,
+    let blocks = match compared_raw(&mut watched, size, &mut against, w, m) {
+        Ok(blocks) => blocks,
         Err(fault) => {
             let sides = Sides::none().reading(input, None).writing(partition, None);
             return Err(sides.refuse(SparseCommandFault::Verify(fault)));
@@ -62,4 +62,30 @@ pub(crate) fn verify_raw_file<'a>(
     };
     report.line(Line::Blocks(blocks))?;
     Ok(())
+}
+
+// How many blocks were compared. (What the engine promises is left behind here, so that no exit above is proved with it.)
+fn compared(
+    source: &mut Watched<'_, Passing>,
+    against: &mut FileSource,
+    w: &mut Window,
+    m: &mut Meter,
+) -> Result<u64, VerifyFault> {
+    match verify(source, against, w, m) {
+        Ok(verified) => Ok(verified.blocks),
+        Err(fault) => Err(fault),
+    }
+}
+
+fn compared_raw(
+    source: &mut Watched<'_, FileSource>,
+    size: u32,
+    against: &mut FileSource,
+    w: &mut Window,
+    m: &mut Meter,
+) -> Result<u64, VerifyFault> {
+    match verify_raw(source, size, against, w, m) {
+        Ok(verified) => Ok(verified.blocks),
+        Err(fault) => Err(fault),
+    }
 }
