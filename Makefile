@@ -115,11 +115,7 @@ compare: $(PROGRAM)
 	ABOOTIMG=$(PROGRAM) tools/flash_loop.sh
 
 bench: $(PROGRAM)
-	bench/expand.py --program $(PROGRAM)
-	bench/cut.py --program $(PROGRAM)
-	bench/flash.py --program $(PROGRAM)
-	bench/verify.py --program $(PROGRAM)
-	bench/boot.py --program $(PROGRAM)
+	bench/table.py --program $(PROGRAM)
 
 faults: $(PROGRAM)
 	@ABOOTIMG=$(PROGRAM) tools/try_faults.py

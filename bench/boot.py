@@ -15,7 +15,7 @@ import subprocess
 import sys
 
 sys.dont_write_bytecode = True
-from timing import in_turn, parser, peak, print_medians, print_ratio, require, same, work_folder
+from timing import FLOOR, floor, in_turn, parser, peak, print_medians, print_ratio, require, same, work_folder
 
 VERSIONS = ("0", "3")
 
@@ -57,6 +57,7 @@ def jobs_of(program, at):
         jobs[f"mkbootimg {version}"] = (
             [mkbootimg, "--header_version", version, "--pagesize", "2048", *no_base, *parts, "--output", at("theirs" + version)],
             at("theirs" + version))
+    jobs[FLOOR] = (floor(copied=zip((at("kernel"), at("ramdisk")), (at("moved"), at("moved_too")))), at("moved_too"))
     for version in VERSIONS:
         image = at("image" + version)
         jobs[f"unpack boot {version}"] = ([program, "unpack", image, at("our_parts")], at("our_parts"))
@@ -86,8 +87,10 @@ def compare(words, at):
     median = print_medians(took, memory)
     for version in VERSIONS:
         print_ratio(median, f"pack boot {version}", f"mkbootimg {version}")
+        print_ratio(median, f"pack boot {version}", FLOOR)
         for name in ("unpack", "info"):
             print_ratio(median, f"{name} boot {version}", f"unpack_bootimg {version}")
+        print_ratio(median, f"unpack boot {version}", FLOOR)
 
 
 if __name__ == "__main__":

@@ -23,7 +23,7 @@ import subprocess
 import sys
 
 sys.dont_write_bytecode = True
-from timing import BLOCK, MAKE, in_turn, parser, peak, print_medians, print_ratio, require, same, work_folder
+from timing import BLOCK, FLOOR, MAKE, floor, in_turn, parser, peak, print_medians, print_ratio, require, same, work_folder
 
 LIMIT = str(64 << 20)
 
@@ -93,6 +93,7 @@ def compare(words, name, make, at):
     raw, image = at("raw"), at("image")
     make_images(words, make, raw, image)
     img2simg, simg2simg = shutil.which("img2simg"), shutil.which("simg2simg")
+    moved = at("moved")
     both = f"{img2simg} {raw} {at('both')} {BLOCK} && {simg2simg} {at('both')} {at('both_piece')} {LIMIT}"
     # For each program: its words, what it writes, and what it is compared with.
     runs = {
@@ -103,6 +104,8 @@ def compare(words, name, make, at):
         "cut --raw": (
             [words.program, "cut", raw, LIMIT, at("other"), "--raw", str(BLOCK)], at("other."), "img2simg, simg2simg"),
         "img2simg, simg2simg": ([shutil.which("sh"), "-c", both], at("both"), None),
+        FLOOR + " to make it": (floor(read=[raw], copied=[(image, moved)]), moved, None),
+        FLOOR + " to cut it": (floor(copied=[(image, moved)]), moved, None),
     }
     lines = {program: line for program, (line, _, _) in runs.items()}
     memory = {program: peak(line, at("peak")) for program, line in lines.items()}
@@ -113,7 +116,8 @@ def compare(words, name, make, at):
     median = print_medians(took, memory)
     for program, (_, _, other) in runs.items():
         if other:
-            print_ratio(median, program, other)
+            print_ratio(median, program, other, f" of {name}")
+            print_ratio(median, program, FLOOR + (" to cut it" if program == "cut" else " to make it"), f" of {name}")
 
 
 if __name__ == "__main__":

@@ -1,5 +1,5 @@
 #!/usr/bin/env python3
-"""Times `abootimg expand` and `abootimg list` against simg2img and `dd bs=64k`, in one run and in turn.
+"""Times `abootimg expand` and `abootimg list` against simg2img, simg_dump and `dd bs=64k`, in one run and in turn.
 
   bench/expand.py [--program build/abootimg] [--folder FOLDER] [--mib 1024] [--rounds 7] [--chunks 3000000]
 
@@ -14,7 +14,7 @@ import subprocess
 import sys
 
 sys.dont_write_bytecode = True
-from timing import MAKE, in_turn, parser, peak, print_medians, print_ratio, same, work_folder
+from timing import FLOOR, MAKE, floor, in_turn, parser, peak, print_medians, print_ratio, same, work_folder
 
 
 def main():
@@ -34,14 +34,17 @@ def compare(words, at):
         "list": ([words.program, "list", at("image")], None),
         "expand of many chunks": ([words.program, "expand", at("many"), at("our_many")], at("our_many")),
         "list of many chunks": ([words.program, "list", at("many")], None),
-        "dd bs=64k of the raw image": (
+        "dd of the raw image, bs=64k": (
             [shutil.which("dd"), "if=" + at("raw"), "of=" + at("copy"), "bs=64k"], at("copy")),
-        "cat of the sparse image": ([shutil.which("cat"), at("image")], None),
+        FLOOR: (floor(copied=[(at("image"), at("moved"))]), at("moved")),
     }
     simg2img = shutil.which("simg2img")
     if simg2img:
         runs["simg2img"] = ([simg2img, at("image"), at("theirs")], at("theirs"))
         runs["simg2img of many chunks"] = ([simg2img, at("many"), at("their_many")], at("their_many"))
+    simg_dump = shutil.which("simg_dump")
+    if simg_dump:
+        runs["simg_dump"] = ([simg_dump, at("image")], None)
     # The raw image for dd, and one run of each that isn't counted.
     subprocess.run([words.program, "expand", at("image"), at("raw")], check=True, stdout=subprocess.DEVNULL)
     lines = {name: line for name, (line, _) in runs.items()}
@@ -59,7 +62,7 @@ def compare(words, at):
     print(f"{words.mib} MiB, and {words.chunks} chunks, {words.rounds} rounds, in {at('')}")
     median = print_medians(took, memory)
     for name, others in (
-            ("expand", ("simg2img", "dd bs=64k of the raw image", "cat of the sparse image")), ("list", ("simg2img",)),
+            ("expand", ("simg2img", FLOOR, "dd of the raw image, bs=64k")), ("list", ("simg2img", "simg_dump", FLOOR)),
             ("expand of many chunks", ("simg2img of many chunks",)), ("list of many chunks", ("simg2img of many chunks",))):
         for other in others:
             if other in median:

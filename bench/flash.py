@@ -8,7 +8,7 @@ partition is a file of as many bytes, full of ones, whose pages are all there. B
 
   flash           `flash IN PARTITION`: straight to the partition, and a sync at the end
   flash in pieces `flash IN PARTITION LIMIT SPOOL`: pieces of at most --limit MiB (128), each synced
-  flash raw       the same with --raw 4096, of the expanded image
+  flash raw       both with --raw 4096, of the expanded image
   dd              `dd bs=1M conv=fsync,notrunc` of the expanded image to the partition: what writing alone costs
   simg2img, dd    expanding to a file first, and then the dd, which is what these replace
 
@@ -59,7 +59,8 @@ def compare(words, at):
     runs = {
         "flash": ([program, "flash", at("image"), at("partition")], at("over")),
         "flash in pieces": ([program, "flash", at("image"), at("partition"), limit, at("spool")], at("over")),
-        "flash raw": (
+        "flash raw": ([program, "flash", at("zeros"), at("partition"), "--raw", str(BLOCK)], at("zeros")),
+        "flash raw in pieces": (
             [program, "flash", at("zeros"), at("partition"), limit, at("spool"), "--raw", str(BLOCK)], at("zeros")),
         "dd": (dd, at("zeros")),
     }
@@ -78,7 +79,7 @@ def compare(words, at):
     took = in_turn({name: line for name, (line, _) in runs.items()}, words.rounds, lambda name: os.sync())
     print(f"{words.mib} MiB, pieces of {words.limit} MiB, {words.rounds} rounds, in {at('')}")
     median = print_medians(took, memory)
-    for name in ("flash", "flash in pieces", "flash raw"):
+    for name in ("flash", "flash in pieces", "flash raw", "flash raw in pieces"):
         for other in median:
             if not other.startswith("flash"):
                 print_ratio(median, name, other)

@@ -18,6 +18,18 @@ HERE = os.path.dirname(os.path.dirname(os.path.abspath(__file__)))
 MAKE = os.path.join(HERE, "tools/make_sparse.py")
 LAY = os.path.join(HERE, "tools/lay_sparse.py")
 BLOCK = 4096
+# The name of the run that a command can't beat begins so.
+FLOOR = "dd bs=64k"
+# What was printed as a ratio: the command, what it stands beside, and the ratio of the medians.
+RATIOS = []
+
+
+def floor(read=(), copied=()):
+    """The words that read these files by `dd bs=64k`, and that copy those others, each a path and where its copy goes: the bytes
+    that a command reads and writes, moved and not looked at."""
+    parts = [f"dd if={path} of=/dev/null bs=64k status=none" for path in read]
+    parts += [f"rm -f {to} && dd if={path} of={to} bs=64k status=none" for path, to in copied]
+    return [shutil.which("sh"), "-c", " && ".join(parts)]
 
 
 def parser(description, mib=1024, rounds=5):
@@ -97,6 +109,8 @@ def print_medians(took, memory):
     return median
 
 
-def print_ratio(median, name, other):
+def print_ratio(median, name, other, of=""):
+    """Prints how long a program took beside another, and keeps it under its name with what the run was of."""
+    RATIOS.append((name + of, other, median[name][0] / median[other][0]))
     print(f"  {name} / {other}: {median[name][0] / median[other][0]:.2f},"
           f" of processor time {median[name][1] / max(median[other][1], 0.001):.2f}", flush=True)

@@ -17,7 +17,7 @@ import subprocess
 import sys
 
 sys.dont_write_bytecode = True
-from timing import BLOCK, LAY, MAKE, in_turn, parser, peak, print_medians, print_ratio, work_folder
+from timing import BLOCK, FLOOR, LAY, MAKE, floor, in_turn, parser, peak, print_medians, print_ratio, work_folder
 
 
 def main():
@@ -36,13 +36,16 @@ def compare(words, at):
         "verify": [words.program, "verify", at("image"), at("partition")],
         "verify raw": [words.program, "verify", at("raw"), at("partition"), "--raw", str(BLOCK)],
         "cmp": [shutil.which("cmp"), at("raw"), at("partition")],
+        FLOOR + " of both": floor(read=[at("image"), at("partition")]),
+        FLOOR + " of both, raw": floor(read=[at("raw"), at("partition")]),
     }
     memory = {name: peak(line, at("peak")) for name, line in lines.items()}
     took = in_turn(lines, words.rounds)
     print(f"{words.mib} MiB, {words.rounds} rounds, in {at('')}")
     median = print_medians(took, memory)
-    for name in ("verify", "verify raw"):
+    for name, moved in (("verify", " of both"), ("verify raw", " of both, raw")):
         print_ratio(median, name, "cmp")
+        print_ratio(median, name, FLOOR + moved)
 
 
 if __name__ == "__main__":
