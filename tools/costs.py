@@ -1,13 +1,18 @@
-"""What the checks of a run take of the processors, by crate: proofs, must-fail edits and tests.
+"""What the checks of a run take of the processors, by crate: proofs, the proofs that edits begin with, edits and tests.
 
 It looks at the processes of the toolchain once a second, so each may lose its last second.
 """
 import collections
 import os
+import re
 import threading
 
+from repository import HERE
+
 TICK = os.sysconf("SC_CLK_TCK")
-KINDS = ("proofs", "edits", "tests")
+KINDS = ("proofs", "seeds", "edits", "tests")
+# How many of the dearest edits are named.
+DEAREST = 12
 
 
 def words_of(process):
@@ -22,9 +27,17 @@ def seconds_of(process):
 
 
 def kind_of(process, words):
-    if "rt-edit" in os.readlink(f"/proc/{process}/cwd"):
-        return "edits"
-    return "tests" if "--test" in words else "proofs"
+    """What a check is for, and of an edit its number among those of the crate (none where it is tried from nothing)."""
+    if "rt-edit" not in os.readlink(f"/proc/{process}/cwd"):
+        return ("tests" if "--test" in words else "proofs"), None
+    over = words[words.index("--incremental") + 1] if "--incremental" in words else ""
+    number = re.search(r"/rt-edits-[^/]*/(\d+)$", over)
+    return ("seeds" if over.endswith("/seed") else "edits"), int(number[1]) if number else None
+
+
+def edits_of(name):
+    folder = os.path.join(HERE, "crates", name, "must-fail")
+    return sorted(it for it in os.listdir(folder) if it.endswith(".edit"))
 
 
 class Costs(threading.Thread):
@@ -44,7 +57,7 @@ class Costs(threading.Thread):
             words = words_of(process)
             if "--crate-name" in words and os.path.basename(words[0]) == "rattle":
                 name = words[words.index("--crate-name") + 1]
-                self.seen[process, name] = kind_of(process, words), seconds_of(process)
+                self.seen[process, name] = *kind_of(process, words), seconds_of(process)
         except (OSError, ValueError, IndexError):
             pass  # it has ended, or is another user's
 
@@ -53,11 +66,18 @@ class Costs(threading.Thread):
         self.join()
 
     def lines(self):
-        """A line for each crate, dearest first, and the sum."""
+        """A line for each crate, dearest first, and the sum; then the dearest edits."""
         spent = collections.defaultdict(collections.Counter)
-        for (_, name), (kind, seconds) in self.seen.items():
+        edits = collections.Counter()
+        for (_, name), (kind, number, seconds) in self.seen.items():
             spent[name][kind] += seconds
             spent["all"][kind] += seconds
+            if kind == "edits":
+                edits[name, number or 0] += seconds
         yield "processor seconds by crate: " + ", ".join(KINDS)
         for name, of in sorted(spent.items(), key=lambda it: -sum(it[1].values())):
             yield f"  {name:16} " + " ".join(f"{of[kind]:7.0f}" for kind in KINDS)
+        if edits:
+            yield "the dearest edits, in processor seconds"
+        for (name, number), seconds in edits.most_common(DEAREST):
+            yield f"  {seconds:7.0f}  {name}/{edits_of(name)[number]}"

@@ -76,11 +76,15 @@ impl Sink {
         Sink::of(Target::File(file))
     }
 
-    /// The file of a raw image, in which zeros may be holes. It is a regular one, and empty.
-    pub(crate) fn with_holes(file: File) -> Sink
+    /// The file of a raw image, which is empty. In a regular one zeros may be holes.
+    pub(crate) fn raw(file: File, is_regular: bool) -> Sink
         ensures { result.log.state ≡ nothing_logged }
     {
-        Sink::of(Target::Holes { file, length: 0 })
+        if is_regular {
+            Sink::of(Target::Holes { file, length: 0 })
+        } else {
+            Sink::of(Target::File(file))
+        }
     }
 
     /// Standard output, and a handle of its file where that is going to be synced.
@@ -156,7 +160,7 @@ impl Sink {
         if !is_synced {
             return Ok(self.log);
         }
-        let synced = match self.target {
+        let ended = match self.target {
             Target::File(file) => file.sync_all(),
             Target::Holes { file, .. } => file.sync_all(),
             Target::Standard {
@@ -165,7 +169,7 @@ impl Sink {
             } => file.sync_all(),
             Target::Standard { file: None, .. } => Ok(()),
         };
-        match synced {
+        match ended {
             Ok(()) => Ok(self.log),
             Err(error) => Err(error.raw_os_error()),
         }

@@ -81,11 +81,7 @@ impl Writing {
             return self.standard(place);
         }
         let Opened { file, found } = self.created(place, Access::Create)?;
-        let sink = if found.is_file {
-            Sink::with_holes(file)
-        } else {
-            Sink::file(file)
-        };
+        let sink = Sink::raw(file, found.is_file);
         self.buffered(place, sink, found.identity.holds_data)
     }
 
@@ -190,8 +186,8 @@ impl Writing {
         if !self.is_synced || !output.holds_data {
             return Ok(None);
         }
-        let mut how = OpenOptions::new();
-        match how.write(true).open(&self.rt, "/dev/stdout") {
+        let mut options = OpenOptions::new();
+        match options.write(true).open(&self.rt, "/dev/stdout") {
             Ok(file) => Ok(Some(file)),
             Err(error) => Err(error),
         }
