@@ -14,8 +14,9 @@ mod telling;
 mod word_files;
 mod wrong_words;
 
-use abt_host::{REFUSED, Report, USAGE};
+use abt_host::{REFUSED, USAGE};
 use abt_io::{Meter, Window};
+use abt_output::Report;
 use running::{demonstrate, run};
 use std::fs::{File, OpenOptions};
 use std::os::fd::{AsRawFd, IntoRawFd};

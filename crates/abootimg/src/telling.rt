@@ -1,9 +1,11 @@
 //! What is told beside what a command tells itself.
 
 ghost use Rattle.std.specs.Prelude.{◌≡◌, ◌≤◌, ◌++◌, IfSome, if◌then◌else◌};
-ghost use Rattle.abt_host.specs.Host.{is_not_text};
+ghost use Rattle.abt_refusals.specs.Host.{is_not_text};
 
-use abt_host::{DONE, HostRefusal, Report, answer};
+use abt_host::{DONE, answer};
+use abt_output::Report;
+use abt_refusals::HostRefusal;
 use abt_text::Text;
 use sparse_rules::SparseRefusal;
 use std::fmt;

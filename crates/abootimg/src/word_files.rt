@@ -1,6 +1,7 @@
 //! Words that stand for the lines of a file: `@FILE`.
 
-use abt_host::{HostRefusal, Place, Reading};
+use abt_host::Reading;
+use abt_refusals::{HostRefusal, Place};
 use abt_values::file_of;
 
 /// The texts of the files that these words name, in order. They are read, so no output may be one of them.

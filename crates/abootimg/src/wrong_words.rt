@@ -4,7 +4,9 @@ ghost use Rattle.std.specs.Prelude.{◌≡◌, ◌≢◌, ◌≤◌};
 ghost use Rattle.abootimg.specs.Mistake.{IsMistake};
 
 use crate::telling::{print, refused};
-use abt_host::{HostRefusal, Report, USAGE};
+use abt_host::USAGE;
+use abt_output::Report;
+use abt_refusals::HostRefusal;
 use abt_text::{ShownPath, Text};
 use abt_words::{WordsFault, order_of};
 use std::alloc::{AllocError, Global};

@@ -2,10 +2,8 @@
 
 ghost use Rattle.std.specs.Prelude.{◌≡◌, IfErr, OnOk, if◌then◌else◌};
 
-use crate::place::Place;
-use crate::refusal::Refusal;
-use crate::report::Report;
-use crate::told::Told;
+use abt_output::Report;
+use abt_refusals::{Place, Refusal, Told};
 use abt_text::Text;
 use std::alloc::{AllocError, Global};
 use std::io;

@@ -5,9 +5,8 @@ ghost use Rattle.std.specs.Prelude.{◌≤◌, [], false};
 ghost use Rattle.std.proofs.lemmas.Bool.{false≢true};
 
 use crate::opening::{Found, Opened, not_opened};
-use crate::place::Place;
-use crate::refusal::HostRefusal;
 use abt_io::{DeviceFault, FromRead, Input};
+use abt_refusals::{HostRefusal, Place};
 use std::alloc::Global;
 use std::fs::File;
 use std::io;

@@ -5,8 +5,7 @@ ghost use Rattle.std.specs.Fs.{asks_write};
 ghost use Rattle.abt_host.specs.Access.{writes};
 
 use crate::identity::Identity;
-use crate::place::Place;
-use crate::refusal::{HostFault, HostRefusal};
+use abt_refusals::{HostFault, HostRefusal, Place};
 use std::alloc::Global;
 use std::fs::{File, Metadata, OpenOptions};
 use std::os::unix::fs::FileTypeExt;

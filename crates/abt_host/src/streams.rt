@@ -4,8 +4,7 @@ ghost use Rattle.std.specs.Prelude.{◌≡◌, ◌↔◌, IsTrue, OnOk, IfErr};
 ghost use Rattle.abt_host.specs.Streams.{Reported};
 
 use crate::identity::{Identity, identity_of_stream};
-use crate::place::Place;
-use crate::refusal::{HostFault, HostRefusal};
+use abt_refusals::{HostFault, HostRefusal, Place};
 
 /// What standard output and standard error are.
 #[derive(Clone, Copy, Drop)]

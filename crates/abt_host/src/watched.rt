@@ -1,7 +1,7 @@
 //! A device whose bytes are counted as they move, so that a terminal shows how far a command is.
 
-use crate::progress::Progress;
 use abt_io::{DeviceFault, Input, Output, Overwrite, Source};
+use abt_output::Progress;
 
 /// Does what its device does, and counts the bytes that it moves. It is of each kind that its device is of.
 #[derive(Drop)]

@@ -1,29 +1,21 @@
 //! All that a command writes, once all that it reads is open.
 
 ghost use Rattle.std.specs.Prelude.{◌≡◌, ◌↔◌, ◌⊎◌, [], true, IsTrue, OnOk, OnErr, IfOk, IfErr};
-ghost use Rattle.abt_host.specs.Given.{given};
+ghost use Rattle.abt_output.specs.Given.{given};
 ghost use Rattle.abt_io.specs.Frame.{nothing_logged};
 ghost use Rattle.abt_host.specs.Access.{writes};
 ghost use Rattle.abt_host.specs.Taken.{Forbidden, Adds, WritesOne};
 
-use crate::gathered::Gathered;
 use crate::identity::{Identity, identity_at};
-use crate::image_file::ImageFile;
 use crate::opening::{Access, Opened, not_opened, open_file};
-use crate::output_file::{Finished, ImageOutput, OutputFile};
-use crate::place::Place;
-use crate::refusal::{HostFault, HostRefusal};
-use crate::sink::Sink;
 use crate::streams::Streams;
 use crate::taken::Taken;
-use abt_io::{FilePartition, FileSpool, FrontLast, Log};
+use abt_io::{FilePartition, FileSpool, FrontLast};
+use abt_output::{Finished, ImageFile, ImageOutput, OutputFile, Sink};
+use abt_refusals::{HostFault, HostRefusal, Place};
 use std::alloc::Global;
 use std::fs::{File, OpenOptions};
 use std::io;
-use std::io::BufWriter;
-
-// How many bytes are taken together at most: a page, since no hole is smaller.
-const PAGE: usize = 4096;
 
 /// Opens and creates what is written. Each file is looked at, by device and inode, before it is emptied: none is one
 /// that is read, or that is written already.
@@ -137,11 +129,8 @@ impl Writing {
     }
 
     /// What was written in place, by a call that syncs it at its end, is at its end.
-    pub fn written_in_place(&self, _synced: FilePartition) -> Finished {
-        Finished {
-            sent: Log::new(),
-            is_data_on_output: self.is_data_on_output,
-        }
+    pub fn written_in_place(&self, synced: FilePartition) -> Finished {
+        Finished::in_place(synced, self.is_data_on_output)
     }
 
     /// Refuses a path that is going to be written where it is a file that is read, or written already.
@@ -204,15 +193,8 @@ impl Writing {
         ensures empty { IfOk result (λ output. given output.to.writer ≡ []) }
         ensures data { IfOk result (λ output. output.is_data_on_output ≡ self.now.is_data_on_output) }
     {
-        match BufWriter::with_capacity(self.alloc, PAGE, sink) {
-            Ok(writer) => Ok(OutputFile {
-                to: Gathered::new(writer),
-                place,
-                is_synced: self.is_synced && holds_data,
-                is_data_on_output: self.is_data_on_output,
-            }),
-            Err(_) => Err(HostRefusal::memory().begun(place)),
-        }
+        let is_synced = self.is_synced && holds_data;
+        OutputFile::new(self.alloc, place, sink, is_synced, self.is_data_on_output)
     }
 
     // Opens an output as it is, and empties it once it is known that it is no other file of this run.

@@ -7,11 +7,10 @@ ghost use Rattle.boot_rules.specs.Refused.{refusal_of};
 
 use crate::command::BootOutcome;
 use crate::lines::ImageLine;
-use abt_host::{
-    Finished, ImageOutput, Place, Reading, Refusal, Report, Sides, Watched, ended, ended_file,
-    ended_front,
-};
+use abt_host::{Reading, Watched};
 use abt_io::{CopyFault, Meter, Output, Overwrite, Window, copy_range};
+use abt_output::{Finished, ImageOutput, Report, ended, ended_file, ended_front};
+use abt_refusals::{Place, Refusal, Sides};
 use abt_sections::{SectionFault, pack_boot, pack_boot_once};
 use boot_fields::ImageKind;
 use boot_rules::{BootCommandFault, Contents, PartSource, judge, pack_vendor_parts};

@@ -1,8 +1,10 @@
 //! The command `info`: what the header of a boot image says, and what checking it finds.
 
 use crate::command::BootOutcome;
-use abt_host::{Place, Reading, Refusal, Report, Sides};
+use abt_host::Reading;
 use abt_io::{FileSource, Meter, Window};
+use abt_output::Report;
+use abt_refusals::{Place, Refusal, Sides};
 use abt_sections::{SectionFault, Verdict};
 use boot_findings::{Findings, find_reasons};
 use boot_rules::BootCommandFault;

@@ -1,8 +1,9 @@
 //! An image that is open, and what is read beside it.
 
 use abt_headers::Section;
-use abt_host::{HostRefusal, Place, Reading, Refusal, Sides};
+use abt_host::Reading;
 use abt_io::{FileSource, Meter, Window};
+use abt_refusals::{HostRefusal, Place, Refusal, Sides};
 use abt_sections::{Image, open};
 use boot_findings::{end_of, place_of};
 use boot_rules::{BootCommandFault, PartSource};

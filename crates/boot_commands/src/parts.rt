@@ -5,7 +5,8 @@ ghost use Rattle.boot_rules.specs.Parts.{row_count};
 
 use crate::own::{Own, own_part};
 use abt_headers::Section;
-use abt_host::{HostFault, HostRefusal, Place, Reading};
+use abt_host::Reading;
+use abt_refusals::{HostFault, HostRefusal, Place};
 use boot_fields::ImageKind;
 use boot_rules::{PackTexts, PartSource};
 

@@ -6,10 +6,10 @@ ghost use Rattle.abt_sections.specs.Header.{fragment_count, places_of, view_of};
 use crate::command::BootOutcome;
 use crate::lines::PartLine;
 use crate::own::{Own, open_own};
-use abt_host::{
-    HostRefusal, OutputFile, Place, Progress, Reading, Report, Sides, Watched, Writing, ended,
-};
+use abt_host::{Reading, Watched, Writing};
 use abt_io::{FileSource, Meter, Window};
+use abt_output::{OutputFile, Progress, Report, ended};
+use abt_refusals::{HostRefusal, Place, Sides};
 use abt_sections::{
     Image, SectionFault, fragment, fragments, section, sections, unpack, unpack_fragment,
 };

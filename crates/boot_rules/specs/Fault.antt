@@ -1,6 +1,6 @@
 -- Which faults are of the words, and the number of each.
 use Rattle.std.specs.Prelude.{ℕ, Bool, true, false, Option, Some, None}
-use Rattle.abt_host.specs.Host.{is_not_text}
+use Rattle.abt_refusals.specs.Host.{is_not_text}
 use Rattle.abt_sections.specs.Fault as section
 use Rattle.abt_headers.specs.declared.fault.HeaderFault.TheVariants as headers
 use Rattle.abt_sections.specs.declared.fault.SectionFault.TheVariants as sections

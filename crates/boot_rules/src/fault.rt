@@ -6,8 +6,8 @@ ghost use Rattle.boot_rules.specs.Fault.{is_usage, number_of};
 ghost use Rattle.boot_rules.specs.declared.fault.BootCommandFault.TheVariants.{Host};
 
 use abt_headers::HeaderFault;
-use abt_host::{HostFault, Place, Side, Told};
 use abt_io::Output;
+use abt_refusals::{HostFault, Place, Side, Told};
 use abt_sections::SectionFault;
 use abt_text::{ShownPath, Text};
 

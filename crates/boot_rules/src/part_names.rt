@@ -5,7 +5,7 @@ ghost use Rattle.abt_sections.specs.Header.{view_of};
 ghost use Rattle.boot_rules.specs.Unpacked.{IsPart, part_count};
 
 use abt_headers::Section;
-use abt_host::Place;
+use abt_refusals::Place;
 use abt_sections::{Image, fragments, section, sections};
 
 /// A file that `unpack` writes.

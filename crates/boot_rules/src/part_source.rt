@@ -3,8 +3,8 @@
 ghost use Rattle.std.specs.Prelude.{◌≡◌, [], false};
 ghost use Rattle.std.proofs.lemmas.Bool.{false≢true};
 
-use abt_host::Place;
 use abt_io::{DeviceFault, FileSource, Source};
+use abt_refusals::Place;
 use std::fs::File;
 use std::io::{Seek, SeekFrom};
 

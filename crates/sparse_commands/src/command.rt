@@ -7,8 +7,9 @@ use crate::flash_raw::flash_raw_file;
 use crate::list::list_file;
 use crate::sparse::sparse_file;
 use crate::verify::{verify_file, verify_raw_file};
-use abt_host::{Reading, Report};
+use abt_host::Reading;
 use abt_io::{Meter, Window};
+use abt_output::Report;
 use abt_words::SparseTask;
 use sparse_rules::SparseRefusal;
 

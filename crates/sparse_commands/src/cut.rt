@@ -2,8 +2,10 @@
 
 use crate::piece_names::refuse_image_as_piece;
 use crate::pieces::Pieces;
-use abt_host::{Place, Reading, Report, Sides, Writing};
+use abt_host::{Reading, Writing};
 use abt_io::{FileSource, Meter, Source, Window};
+use abt_output::Report;
+use abt_refusals::{Place, Sides};
 use sparse_rules::{LeftOver, Line, PieceFiles, SparseRefusal};
 
 /// What to cut, and into which files.

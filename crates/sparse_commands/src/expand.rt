@@ -2,8 +2,10 @@
 
 use crate::overlay::overlay;
 use abt_chunks::{Expanded, expand};
-use abt_host::{Finished, Place, Reading, Report, Sides, Watched, ended};
+use abt_host::{Reading, Watched};
 use abt_io::{Meter, Window};
+use abt_output::{Finished, Report, ended};
+use abt_refusals::{Place, Sides};
 use sparse_rules::{Line, SparseCommandFault, SparseRefusal};
 
 /// Writes the raw image of a sparse one, or of several laid over one another, and prints what it has.

@@ -3,8 +3,10 @@
 ghost use Rattle.std.specs.Prelude.{◌≡◌};
 
 use abt_flash::{Delivered, FlashFault, flash, resume, resume_raw};
-use abt_host::{Passing, Place, Reading, Report, Sides, Watched};
+use abt_host::{Passing, Reading, Watched};
 use abt_io::{FilePartition, FileSource, FileSpool, Meter, Source, Window};
+use abt_output::Report;
+use abt_refusals::{Place, Sides};
 use abt_words::Pieces;
 use sparse_rules::{Line, SparseCommandFault, SparseRefusal, image_place, raw_pieces};
 

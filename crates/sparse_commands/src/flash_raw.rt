@@ -1,7 +1,9 @@
 //! The command `flash` of a raw image that goes straight to a partition.
 
-use abt_host::{Place, Reading, Report, Sides, Watched};
+use abt_host::{Reading, Watched};
 use abt_io::{Meter, Source, Window};
+use abt_output::Report;
+use abt_refusals::{Place, Sides};
 use sparse_rules::{Line, SparseRefusal, flash_blocks, image_place};
 
 /// Flashes a raw image in blocks of so many bytes to a partition, which must be there, and prints how many they were. It

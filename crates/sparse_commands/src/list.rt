@@ -1,7 +1,9 @@
 //! The command `list`: the header and the chunks of a sparse image.
 
-use abt_host::{Place, Reading, Report, Sides};
+use abt_host::Reading;
 use abt_io::{Meter, Window};
+use abt_output::Report;
+use abt_refusals::{Place, Sides};
 use sparse_rules::{SparseCommandFault, SparseRefusal};
 use sparse_texts::report_list;
 

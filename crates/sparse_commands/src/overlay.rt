@@ -2,8 +2,10 @@
 
 use abt_chunks::Expanded;
 use abt_flash::flash;
-use abt_host::{Finished, HostFault, Place, Reading, Report, Sides, Watched};
+use abt_host::{Reading, Watched};
 use abt_io::{FileSource, Forward, Meter, Source, Window};
+use abt_output::{Finished, Report};
+use abt_refusals::{HostFault, Place, Sides};
 use abt_runs::{BlockRuns, SparseRuns};
 use sparse_rules::{SparseCommandFault, SparseRefusal, image_place};
 

@@ -1,6 +1,7 @@
 //! An image that has the name of one of the files of pieces.
 
-use abt_host::{HostRefusal, Place, Writing};
+use abt_host::Writing;
+use abt_refusals::{HostRefusal, Place};
 use sparse_rules::{PieceFiles, is_piece_name};
 
 /// Refuses an image that has the name of a piece, or is one of the files that stand there for pieces.

@@ -1,11 +1,11 @@
 //! The pieces of a sparse or a raw image, each written to a file of its own.
 
-use abt_host::{
-    Finished, ImageFile, ImageOutput, Progress, Sides, Watched, ended, ended_file, ended_front,
-};
+use abt_host::Watched;
 use abt_io::{FileSource, Meter, Output, Window};
+use abt_output::{Finished, ImageFile, ImageOutput, Progress, ended, ended_file, ended_front};
 use abt_pieces::Piece;
 use abt_placed::next_piece_at;
+use abt_refusals::Sides;
 use abt_runs::{BlockRuns, RawRuns, SparseRuns};
 use sparse_rules::{PiecesOf, SparseCommandFault, SparseRefusal, raw_pieces};
 

@@ -1,8 +1,10 @@
 //! The command `sparse`: a raw image as a sparse one.
 
-use abt_host::{Finished, ImageOutput, Place, Reading, Report, Sides, Watched, ended, ended_file};
+use abt_host::{Reading, Watched};
 use abt_io::{FileSource, Meter, Source, Window};
+use abt_output::{Finished, ImageOutput, Report, ended, ended_file};
 use abt_placed::sparsify_at;
+use abt_refusals::{Place, Sides};
 use abt_sparsify::{Written, sparsify};
 use sparse_rules::{Blocks, Line, SparseCommandFault, SparseRefusal, blocks_of};
 

@@ -1,7 +1,9 @@
 //! The command `verify`: whether an image stands on a partition.
 
-use abt_host::{Passing, Place, Reading, Report, Sides, Watched};
+use abt_host::{Passing, Reading, Watched};
 use abt_io::{FileSource, Meter, Source, Window};
+use abt_output::Report;
+use abt_refusals::{Place, Sides};
 use abt_verify::{VerifyFault, verify, verify_raw};
 use sparse_rules::{Line, SparseCommandFault, SparseRefusal, image_place};
 

@@ -9,9 +9,9 @@ use Rattle.abt_flash.specs.declared.fault.Cause.{Cause}
 use Rattle.abt_flash.specs.declared.fault.Cause.TheVariants as causes
 use Rattle.abt_flash.specs.declared.fault.FlashFault.{FlashFault}
 use Rattle.abt_flash.specs.declared.fault.FlashFault.TheVariants as flashes
-use Rattle.abt_host.specs.Host.{is_not_text}
-use Rattle.abt_host.specs.declared.told.Side.{Side}
-use Rattle.abt_host.specs.declared.told.Side.TheVariants as sides
+use Rattle.abt_refusals.specs.Host.{is_not_text}
+use Rattle.abt_refusals.specs.declared.told.Side.{Side}
+use Rattle.abt_refusals.specs.declared.told.Side.TheVariants as sides
 use Rattle.sparse_rules.specs.declared.fault.SparseCommandFault.{SparseCommandFault}
 use Rattle.sparse_rules.specs.declared.fault.SparseCommandFault.TheVariants as faults
 

@@ -6,9 +6,9 @@ ghost use Rattle.sparse_rules.specs.Fault.{number_of, side_of_cause, side_of_num
 ghost use Rattle.sparse_rules.specs.declared.fault.SparseCommandFault.TheVariants.{Host};
 
 use abt_flash::{Cause, FlashFault};
-use abt_host::{HostFault, HostRefusal, Place, Refusal, Side, Told};
 use abt_io::Output;
 use abt_pieces::PieceFault;
+use abt_refusals::{HostFault, HostRefusal, Place, Refusal, Side, Told};
 use abt_runs::RunFault;
 use abt_sparse::SparseFault;
 use abt_text::Text;

@@ -3,7 +3,7 @@
 ghost use Rattle.std.specs.Prelude.{Some};
 ghost use Rattle.sparse_rules.specs.Lines.{text_of};
 
-use abt_host::Place;
+use abt_refusals::Place;
 use std::fmt;
 
 /// A line of a report.

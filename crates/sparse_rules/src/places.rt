@@ -2,7 +2,7 @@
 
 ghost use Rattle.std.specs.Prelude.{◌≡◌, ◌<◌, ◌+◌, Some};
 
-use abt_host::Place;
+use abt_refusals::Place;
 
 /// An image that is read at any place: `-` is standard input, which will do only where it is a file.
 pub fn image_place<'a>(input: &'a str) -> Place<'a> {

@@ -3,14 +3,13 @@
 //! Where the call was refused, the output is sent what it took, and the fault of the call is told.
 
 ghost use Rattle.std.specs.Prelude.{◌≡◌, IsOk, IfOk, IfErr, OnOk};
-ghost use Rattle.abt_host.specs.Given.{given};
+ghost use Rattle.abt_output.specs.Given.{given};
 ghost use Rattle.abt_io.specs.Over.{with_front};
 
 use crate::image_file::ImageFile;
 use crate::output_file::{Finished, OutputFile, finish_front};
-use crate::refusal::{HostFault, Refusal, Sides};
-use crate::told::Told;
 use abt_io::{FrontLast, Meter};
+use abt_refusals::{HostFault, Refusal, Sides, Told};
 
 /// What a call answered that wrote an output from its front on.
 pub fn ended<'a, T: Drop, F: Told + From<HostFault> + Drop>(

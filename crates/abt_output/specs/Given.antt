@@ -2,7 +2,7 @@
 use Rattle.std.specs.Prelude.{ℕ, List, ◌++◌}
 use Rattle.std.specs.Io.Buffered.{writer_inner, writer_buffer}
 use Rattle.std.specs.declared.io.buffered.BufWriter.{BufWriter}
-use Rattle.abt_host.specs.declared.sink.Sink.{Sink}
+use Rattle.abt_output.specs.declared.sink.Sink.{Sink}
 
 -- what the system took, and then what it holds still
 abbrev pub given : {A : Type 0} → BufWriter Sink A → List ℕ

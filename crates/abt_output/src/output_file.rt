@@ -1,14 +1,20 @@
 //! An output that is written from its front on, and how it is brought to its end.
 
-ghost use Rattle.std.specs.Prelude.{◌≡◌, IfOk};
-ghost use Rattle.abt_host.specs.Given.{given};
+ghost use Rattle.std.specs.Prelude.{◌≡◌, [], IfOk};
+ghost use Rattle.abt_output.specs.Given.{given};
+ghost use Rattle.abt_io.specs.Frame.{nothing_logged};
 ghost use Rattle.abt_io.specs.Over.{with_front};
 
 use crate::gathered::Gathered;
 use crate::image_file::ImageFile;
-use crate::place::Place;
-use crate::refusal::{HostFault, HostRefusal};
-use abt_io::{FrontLast, Log, Meter};
+use crate::sink::Sink;
+use abt_io::{FilePartition, FrontLast, Log, Meter};
+use abt_refusals::{HostFault, HostRefusal, Place};
+use std::alloc::Global;
+use std::io::BufWriter;
+
+// How many bytes are taken together at most: a page, since no hole is smaller.
+const PAGE: usize = 4096;
 
 /// A file, a pipe, a device or standard output, which takes small writes together.
 #[derive(Drop)]
@@ -16,8 +22,9 @@ pub struct OutputFile<'a> {
     pub to: Gathered,
     pub place: Place<'a>,
     // Whether it is synced at its end.
-    pub(crate) is_synced: bool,
-    pub(crate) is_data_on_output: bool,
+    is_synced: bool,
+    // Whether data goes to where standard output goes.
+    is_data_on_output: bool,
 }
 
 /// An output that is at its end: the system took all that was written.
@@ -25,10 +32,18 @@ pub struct OutputFile<'a> {
 pub struct Finished {
     /// What the system took.
     pub(crate) sent: Log,
-    pub(crate) is_data_on_output: bool,
+    is_data_on_output: bool,
 }
 
 impl Finished {
+    /// What was written in place, by a call that syncs it at its end, is at its end.
+    pub fn in_place(_synced: FilePartition, is_data_on_output: bool) -> Finished {
+        Finished {
+            sent: Log::new(),
+            is_data_on_output,
+        }
+    }
+
     /// Whether data went to where standard output goes.
     pub fn is_data_on_output(&self) -> bool {
         self.is_data_on_output
@@ -36,6 +51,29 @@ impl Finished {
 }
 
 impl<'a> OutputFile<'a> {
+    /// An output that takes small writes together, and is synced at its end where that is wanted.
+    pub fn new(
+        alloc: Global,
+        place: Place<'a>,
+        sink: Sink,
+        is_synced: bool,
+        is_data_on_output: bool,
+    ) -> Result<OutputFile<'a>, HostRefusal<'a>>
+        requires { sink.log.state ≡ nothing_logged }
+        ensures empty { IfOk result (λ output. given output.to.writer ≡ []) }
+        ensures data { IfOk result (λ output. output.is_data_on_output ≡ is_data_on_output) }
+    {
+        match BufWriter::with_capacity(alloc, PAGE, sink) {
+            Ok(writer) => Ok(OutputFile {
+                to: Gathered::new(writer),
+                place,
+                is_synced,
+                is_data_on_output,
+            }),
+            Err(_) => Err(HostRefusal::memory().begun(place)),
+        }
+    }
+
     /// Why its last call failed, where one did.
     pub fn why(&self) -> Option<i32> {
         self.to.why()

@@ -1,8 +1,8 @@
 use Rattle.std.proofs.Common.{◌≡◌, ◌≤◌, length, arith, refl, length-take}
-use Rattle.abt_host.specs.Given.{given}
-use Rattle.abt_host.proofs.Zeros.{none_laid, zeros_written}
-use Rattle.abt_host.proofs.gathered.GatheredOutput.write_zeros.Goals as goal
-use Rattle.abt_host.proofs.gathered.GatheredOutput.write_zeros.Goals.{then-takes_hole+in-Ok+else-laid-gt0, else-takes_hole}
+use Rattle.abt_output.specs.Given.{given}
+use Rattle.abt_output.proofs.Zeros.{none_laid, zeros_written}
+use Rattle.abt_output.proofs.gathered.GatheredOutput.write_zeros.Goals as goal
+use Rattle.abt_output.proofs.gathered.GatheredOutput.write_zeros.Goals.{then-takes_hole+in-Ok+else-laid-gt0, else-takes_hole}
 
 pub returns-in-Ok-write-clause-written : goal.returns-in-Ok-write-clause-written
 returns-in-Ok-write-clause-written c =

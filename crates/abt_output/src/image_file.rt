@@ -2,12 +2,11 @@
 //! over.
 
 ghost use Rattle.std.specs.Prelude.{◌≡◌, [], false, length, IfOk};
-ghost use Rattle.abt_host.specs.Given.{given};
+ghost use Rattle.abt_output.specs.Given.{given};
 
 use crate::output_file::{Finished, OutputFile};
-use crate::place::Place;
-use crate::refusal::{HostFault, HostRefusal};
 use abt_io::{DeviceFault, Output, Overwrite};
+use abt_refusals::{HostFault, HostRefusal, Place};
 
 /// A regular file that is written from its front on, and over what was written.
 #[derive(Drop)]
@@ -19,7 +18,7 @@ pub struct ImageFile<'a> {
 
 impl<'a> ImageFile<'a> {
     /// Begins at the front of this output, which is an empty file.
-    pub(crate) fn new(output: OutputFile<'a>) -> ImageFile<'a>
+    pub fn new(output: OutputFile<'a>) -> ImageFile<'a>
         requires { given output.to.writer ≡ [] }
         ensures { result.output ≡ output.entry }
     {

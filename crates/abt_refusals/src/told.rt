@@ -1,7 +1,7 @@
 //! What a user is told of a fault.
 
 ghost use Rattle.std.specs.Prelude.{◌≡◌, Bool, List, ℕ};
-ghost use Rattle.abt_host.specs.Host.{is_not_text};
+ghost use Rattle.abt_refusals.specs.Host.{is_not_text};
 ghost use Rattle.abt_text.specs.Printed.{Prints};
 
 use crate::place::Place;

@@ -1,11 +1,10 @@
 //! What a command prints.
 
 use crate::output_file::Finished;
-use crate::place::Place;
 use crate::progress::Progress;
-use crate::refusal::{HostFault, HostRefusal};
 use crate::sink::Sink;
 use abt_io::{DeviceFault, ToWrite};
+use abt_refusals::{HostFault, HostRefusal, Place};
 use abt_text::print_line;
 use std::fmt;
 use std::rt::Stderr;

@@ -123,7 +123,7 @@ impl<'a> HostRefusal<'a> {
     }
 
     /// The same, where nothing may be told of it.
-    pub(crate) fn untold_if(self, is_untold: bool) -> HostRefusal<'a>
+    pub fn untold_if(self, is_untold: bool) -> HostRefusal<'a>
         ensures fault { result.fault ≡ self.entry.fault }
         ensures untold { result.about.is_untold ≡ is_untold }
     {

@@ -1,7 +1,7 @@
 //! An output that takes small writes together. What it was given is what the system took and what it holds still.
 
 ghost use Rattle.std.specs.Prelude.{◌≡◌, ◌<◌, ◌≤◌, ◌+◌, ◌++◌, false, length, take, replicate, IfOk, IfErr, OnErr};
-ghost use Rattle.abt_host.specs.Given.{given};
+ghost use Rattle.abt_output.specs.Given.{given};
 ghost use Rattle.abt_io.specs.Count.{count_of};
 ghost use Rattle.abt_io.specs.Moment.{put_at};
 

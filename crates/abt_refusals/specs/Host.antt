@@ -1,7 +1,7 @@
 -- Which faults of files are of the words.
 use Rattle.std.specs.Prelude.{Bool, true, false}
-use Rattle.abt_host.specs.declared.refusal.HostFault.{HostFault}
-use Rattle.abt_host.specs.declared.refusal.HostFault.TheVariants as faults
+use Rattle.abt_refusals.specs.declared.refusal.HostFault.{HostFault}
+use Rattle.abt_refusals.specs.declared.refusal.HostFault.TheVariants as faults
 
 -- a file of words is no text, or too long
 abbrev pub is_not_text : HostFault → Bool

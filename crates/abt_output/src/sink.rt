@@ -70,14 +70,14 @@ pub struct Sink {
 
 impl Sink {
     /// A file, which is given all bytes.
-    pub(crate) fn file(file: File) -> Sink
+    pub fn file(file: File) -> Sink
         ensures { result.log.state ≡ nothing_logged }
     {
         Sink::of(Target::File(file))
     }
 
     /// The file of a raw image, which is empty. In a regular one zeros may be holes.
-    pub(crate) fn raw(file: File, is_regular: bool) -> Sink
+    pub fn raw(file: File, is_regular: bool) -> Sink
         ensures { result.log.state ≡ nothing_logged }
     {
         if is_regular {
@@ -88,7 +88,7 @@ impl Sink {
     }
 
     /// Standard output, and a handle of its file where that is going to be synced.
-    pub(crate) fn standard(stdout: Stdout, file: Option<File>) -> Sink
+    pub fn standard(stdout: Stdout, file: Option<File>) -> Sink
         ensures { result.log.state ≡ nothing_logged }
     {
         Sink::of(Target::Standard { stdout, file })

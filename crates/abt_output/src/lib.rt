@@ -1,0 +1,27 @@
+//! What a command gives out: outputs that are brought to their end, what it prints, and how far it is. It opens nothing.
+//!
+//! An output is at its end where it gave a `Finished`, which nothing else makes but a partition that was written in place.
+//!
+//! | file | has |
+//! |---|---|
+//! | `sink.rt`, `gathered.rt` | where bytes go, with holes for zeros; small writes that go out together |
+//! | `output_file.rt`, `image_file.rt` | an output, and one that has a magic, brought to their end |
+//! | `ending.rt` | what a call answered, once its output is at its end |
+//! | `progress.rt`, `report.rt` | how far a command is, and what it prints |
+#![tactic(auto)]
+
+mod ending;
+mod gathered;
+mod image_file;
+mod output_file;
+mod progress;
+mod report;
+mod sink;
+
+pub use ending::{ended, ended_file, ended_front};
+pub use gathered::Gathered;
+pub use image_file::ImageFile;
+pub use output_file::{Finished, ImageOutput, OutputFile, finish_front};
+pub use progress::Progress;
+pub use report::Report;
+pub use sink::Sink;
