@@ -96,6 +96,50 @@ over_quiet q p e over = tt
 pub quiet_over : (q : Part) (s s1 : Walk) → Leaves q s1.phase → s1 ≡ s → IsOver s.phase → IsQuiet q
 quiet_over q s s1 e same over = over_quiet q s.phase (rw same at e) over
 
+-- a fault of the image blames no device, whatever it did
+caused_header : (f : SparseFault) (r r' : ℕ) → Caused (parts.Fault f) phases.Header 1 0 → Caused (parts.Fault f) phases.Header r r'
+caused_header (faults.Read d) r r' h = absurd (omega (arith, h))
+caused_header (faults.Write d) r r' h = absurd h
+caused_header f r r' h = tt
+
+caused_body : (f : SparseFault) (r r' : ℕ) → Caused (parts.Fault f) phases.Body 1 0 → Caused (parts.Fault f) phases.Body r r'
+caused_body (faults.Read d) r r' h = absurd (omega (arith, h))
+caused_body (faults.Write d) r r' h = absurd h
+caused_body f r r' h = tt
+
+caused_done : (f : SparseFault) (r r' : ℕ) → Caused (parts.Fault f) phases.Done 1 0 → Caused (parts.Fault f) phases.Done r r'
+caused_done (faults.Read d) r r' h = absurd (omega (arith, h))
+caused_done (faults.Write d) r r' h = absurd h
+caused_done f r r' h = tt
+
+caused_fault : (f : SparseFault) (p : Phase) (r r' : ℕ) → Caused (parts.Fault f) p 1 0 → Caused (parts.Fault f) p r r'
+caused_fault f phases.Header r r' h = caused_header f r r' h
+caused_fault f phases.Body r r' h = caused_body f r r' h
+caused_fault f phases.Done r r' h = caused_done f r r' h
+caused_fault f (phases.Failed g) r r' h = h
+
+pub own_caused : (q : Part) (p : Phase) (r r' : ℕ) → Caused q p 1 0 → Caused q p r r'
+own_caused (parts.Fault f) p r r' h = caused_fault f p r r' h
+own_caused q p r r' h = tt
+
+-- and a failed read the input, which a walk that is over does not read
+pub read_caused : (d : DeviceFault) (p : Phase) (r r' : ℕ) → r < r' → (IsOver p → r' ≡ r) → Caused (parts.Fault (faults.Read d)) p r r'
+read_caused d phases.Header r r' rose none = rose
+read_caused d phases.Body r r' rose none = rose
+read_caused d phases.Done r r' rose none = rose
+read_caused d (phases.Failed f) r r' rose none = absurd (omega (arith, rose, none tt))
+
+pub asks_none : (turn : Turn) (s : Walk) → AtTurn turn s → IsOver s.phase → ask_of turn s ≡ 0
+asks_none turns.Header s h over = absurd (rw h at over)
+asks_none turns.Extra s h over = absurd (rw h.0 at over)
+asks_none turns.Raw s h over = absurd (rw h.0 at over)
+asks_none turns.Word s h over = absurd (rw h.0 at over)
+asks_none turns.Fill s h over = refl
+asks_none turns.Gap s h over = refl
+asks_none turns.Chunk s h over = absurd (rw h.0 at over)
+asks_none turns.End s h over = refl
+asks_none turns.Over s h over = refl
+
 -- where the output fails, the input has not
 pub written_clean : (q : Part) (r r' w w' : ℕ) → CleanPart q r r' → (IsQuiet q → w' ≡ w) → w < w' → r' ≡ r
 written_clean (parts.Fault f) r r' w w' h quiet more = absurd (omega (arith, quiet tt))
