@@ -66,5 +66,5 @@ returns-in-Err-clause-cause g c =
     let o = c.steps.opening in
     let x = g.S.Source.content c.args.source.now in
     let same : IsTrue g.S.Source.tells → IsTrue g.S.Source.tells × SameLength o.stage o.length (g.S.Source.content c.steps.source) =
-        λ tells. (tells, rw (i.kept tells) (same_length o.stage (view o.header) o.length o.index o.have o.at x (ends (outcome x)) (i.told tells))) in
+    λ tells. (tells, rw (i.kept tells) (same_length o.stage (view o.header) o.length o.index o.have o.at x (ends (outcome x)) (i.told tells))) in
     caused o.stage c.in-Err.fault (g.S.Source.read_faults c.args.source.now) (g.S.Source.read_faults c.steps.source) (g.S.Source.read_faults c.opening_step.new.source) _ _ i.faults i.going same c.in-Err.ensures.cause
