@@ -249,3 +249,8 @@ returns g c =
       clean = f.clean (none_is _ c.in_default.is);
       cause = tt;
     }
+
+pub overflow_mul-room : goal.overflow_mul-room
+overflow_mul-room g c =
+    let window : c.asked-asked.result * c.args.self.now.size ≤ c.args.from.ask * c.args.self.now.size = mul-le-mul_right c.args.self.now.size c.asked-asked.ensures.ask in
+    omega (arith, window, c.requires.within.window)
