@@ -30,7 +30,7 @@ use Rattle.abt_verify.specs.declared.stage.Stage.TheVariants as stages
 use Rattle.abt_verify.specs.Comparing.{IsStill, PartDiffers, cells_by, said_of}
 use Rattle.abt_verify.specs.Fault.{HasCause, PartCause, Rises}
 use Rattle.abt_verify.specs.Standing.{FirstDiffers, Stands, from_place, said_by}
-use Rattle.abt_verify.specs.Stepping.{Compares, Goes, OnMore, answer_of}
+use Rattle.abt_verify.specs.Stepping.{Compares, Goes, Leaves, OnMore, answer_of}
 use Rattle.abt_verify.proofs.Said.{said_nones, said_somes, stands_none}
 
 -- ---- where the blocks end
@@ -140,6 +140,20 @@ fault_blamed f ph r r' p p' going h clean full e = (tt, clean, e)
 pub answer_blamed : (q : Part) (ph : Phase) (r r' p p' : ℕ) → IsGoing ph → Caused q ph r r' → CleanPart q r r' → full_in_part q ≡ 0 → p' ≡ p → Rises (answer_of q) r r' p p'
 answer_blamed (parts.Fault f) ph r r' p p' going h clean full e = fault_blamed f ph r r' p p' going h clean full e
 answer_blamed q ph r r' p p' going h clean full e = (clean, e)
+
+-- ---- the phase that is left
+
+pub fault_leaves : (f : VerifyFault) (ph : Phase) (p p' : ℕ) → PartCause (Some f) p p' → Leaves (Err f) ph
+fault_leaves (fails.Sparse f) ph p p' h = absurd h
+fault_leaves f ph p p' h = tt
+
+sparse_leaves : (f : SparseFault) (ph : Phase) → PartLeaves (parts.Fault f) ph → Leaves (answer_of (parts.Fault f)) ph
+sparse_leaves (faults.Read d) ph h = tt
+sparse_leaves f ph h = h
+
+pub answer_leaves : (q : Part) (ph : Phase) → PartLeaves q ph → Leaves (answer_of q) ph
+answer_leaves (parts.Fault f) ph h = sparse_leaves f ph h
+answer_leaves q ph h = h
 
 -- ---- what a step compares
 
