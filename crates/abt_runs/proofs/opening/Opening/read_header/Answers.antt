@@ -1,4 +1,4 @@
-use Rattle.std.proofs.Common.{arith, ap, sym, ◌∙◌, ◌≡◌, ◌<◌, ℕ, Bool, true, false, length, Result, Ok, Err}
+use Rattle.std.proofs.Common.{arith, ap, sym, ◌∙◌, ◌≡◌, ℕ, Bool, true, false, length, Result, Ok, Err}
 use Rattle.std.specs.Prelude.{IfErr, IsTrue}
 use Rattle.abt_sparse.specs.View.{view}
 use Rattle.abt_sparse.specs.declared.fault.SparseFault.TheVariants.{Truncated}
