@@ -15,9 +15,9 @@ use Rattle.abt_chunks.specs.declared.walk.Part.TheVariants as parts
 use Rattle.abt_chunks.specs.declared.walk.Turn.{Turn}
 use Rattle.abt_chunks.specs.declared.walk.Turn.TheVariants as turns
 use Rattle.abt_chunks.specs.Cause.{Clean, CleanPart, full_in_part, UnlessCut, wanted, wanted_in, head_wanted, data_wanted}
-use Rattle.abt_chunks.specs.Expanding.{IsGoing, IsQuiet, answer_of}
+use Rattle.abt_chunks.specs.Expanding.{IsGoing, IsQuiet, Rises, answer_of}
 use Rattle.abt_chunks.specs.Turns.{AtTurn, ask_of, IsOver, SpentBy}
-use Rattle.abt_chunks.specs.Parts.{Caused}
+use Rattle.abt_chunks.specs.Parts.{Caused, Leaves}
 use Rattle.abt_chunks.specs.ListingAhead.{Closes, at_end, is_between, is_spent}
 use Rattle.abt_chunks.specs.Ahead.{due_of}
 use Rattle.std.proofs.lemmas.Bool.{cases_Bool}
@@ -64,6 +64,81 @@ answer_clean q r r' w w' h e = (h, e)
 pub answer_full : (q : Part) → full_answered (answer_of q) ≡ full_in_part q
 answer_full (parts.Fault f) = refl
 answer_full q = refl
+
+-- the device that a step's answer blames has failed
+rises_header : (f : SparseFault) (r r' w w' : ℕ) → Caused (parts.Fault f) phases.Header r r' → Rises (answer_of (parts.Fault f)) r r' w w'
+rises_header (faults.Read d) r r' w w' h = h
+rises_header (faults.Write d) r r' w w' h = absurd h
+rises_header f r r' w w' h = tt
+
+rises_body : (f : SparseFault) (r r' w w' : ℕ) → Caused (parts.Fault f) phases.Body r r' → Rises (answer_of (parts.Fault f)) r r' w w'
+rises_body (faults.Read d) r r' w w' h = h
+rises_body (faults.Write d) r r' w w' h = absurd h
+rises_body f r r' w w' h = tt
+
+rises_here : (f : SparseFault) (p : Phase) (r r' w w' : ℕ) → IsGoing p → Caused (parts.Fault f) p r r' → Rises (answer_of (parts.Fault f)) r r' w w'
+rises_here f phases.Header r r' w w' going h = rises_header f r r' w w' h
+rises_here f phases.Body r r' w w' going h = rises_body f r r' w w' h
+rises_here f phases.Done r r' w w' going h = absurd going
+rises_here f (phases.Failed g) r r' w w' going h = absurd going
+
+pub answer_rises : (q : Part) (p : Phase) (r r' w w' : ℕ) → IsGoing p → Caused q p r r' → Rises (answer_of q) r r' w w'
+answer_rises (parts.Fault f) p r r' w w' going h = rises_here f p r r' w w' going h
+answer_rises q p r r' w w' going h = tt
+
+-- a walk that is over gives nothing to write
+over_quiet : (q : Part) (p : Phase) → Leaves q p → IsOver p → IsQuiet q
+over_quiet (parts.Raw n) p e over = rw e at over
+over_quiet (parts.Words word n) p e over = rw e at over
+over_quiet (parts.Skip n) p e over = rw e at over
+over_quiet q p e over = tt
+
+pub quiet_over : (q : Part) (s s1 : Walk) → Leaves q s1.phase → s1 ≡ s → IsOver s.phase → IsQuiet q
+quiet_over q s s1 e same over = over_quiet q s.phase (rw same at e) over
+
+-- a fault of the image blames no device, whatever it did
+caused_header : (f : SparseFault) (r r' : ℕ) → Caused (parts.Fault f) phases.Header 1 0 → Caused (parts.Fault f) phases.Header r r'
+caused_header (faults.Read d) r r' h = absurd (omega (arith, h))
+caused_header (faults.Write d) r r' h = absurd h
+caused_header f r r' h = tt
+
+caused_body : (f : SparseFault) (r r' : ℕ) → Caused (parts.Fault f) phases.Body 1 0 → Caused (parts.Fault f) phases.Body r r'
+caused_body (faults.Read d) r r' h = absurd (omega (arith, h))
+caused_body (faults.Write d) r r' h = absurd h
+caused_body f r r' h = tt
+
+caused_done : (f : SparseFault) (r r' : ℕ) → Caused (parts.Fault f) phases.Done 1 0 → Caused (parts.Fault f) phases.Done r r'
+caused_done (faults.Read d) r r' h = absurd (omega (arith, h))
+caused_done (faults.Write d) r r' h = absurd h
+caused_done f r r' h = tt
+
+caused_fault : (f : SparseFault) (p : Phase) (r r' : ℕ) → Caused (parts.Fault f) p 1 0 → Caused (parts.Fault f) p r r'
+caused_fault f phases.Header r r' h = caused_header f r r' h
+caused_fault f phases.Body r r' h = caused_body f r r' h
+caused_fault f phases.Done r r' h = caused_done f r r' h
+caused_fault f (phases.Failed g) r r' h = h
+
+pub own_caused : (q : Part) (p : Phase) (r r' : ℕ) → Caused q p 1 0 → Caused q p r r'
+own_caused (parts.Fault f) p r r' h = caused_fault f p r r' h
+own_caused q p r r' h = tt
+
+-- and a failed read the input, which a walk that is over does not read
+pub read_caused : (d : DeviceFault) (p : Phase) (r r' : ℕ) → r < r' → (IsOver p → r' ≡ r) → Caused (parts.Fault (faults.Read d)) p r r'
+read_caused d phases.Header r r' rose none = rose
+read_caused d phases.Body r r' rose none = rose
+read_caused d phases.Done r r' rose none = rose
+read_caused d (phases.Failed f) r r' rose none = absurd (omega (arith, rose, none tt))
+
+pub asks_none : (turn : Turn) (s : Walk) → AtTurn turn s → IsOver s.phase → ask_of turn s ≡ 0
+asks_none turns.Header s h over = absurd (rw h at over)
+asks_none turns.Extra s h over = absurd (rw h.0 at over)
+asks_none turns.Raw s h over = absurd (rw h.0 at over)
+asks_none turns.Word s h over = absurd (rw h.0 at over)
+asks_none turns.Fill s h over = refl
+asks_none turns.Gap s h over = refl
+asks_none turns.Chunk s h over = absurd (rw h.0 at over)
+asks_none turns.End s h over = refl
+asks_none turns.Over s h over = refl
 
 -- where the output fails, the input has not
 pub written_clean : (q : Part) (r r' w w' : ℕ) → CleanPart q r r' → (IsQuiet q → w' ≡ w) → w < w' → r' ≡ r

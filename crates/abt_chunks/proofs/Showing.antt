@@ -13,7 +13,7 @@ use Rattle.abt_chunks.specs.Expanding.{answer_of, OnMore}
 use Rattle.abt_chunks.specs.Listing.{Listing, listing_from, listing_of}
 use Rattle.abt_chunks.specs.Turns.{IsOver}
 use Rattle.abt_chunks.specs.Parts.{Moved}
-use Rattle.abt_chunks.specs.ListingAhead.{Numbers, is_between, at_end, Empties, Lists, info_at, shown_before, upcoming, with_begun}
+use Rattle.abt_chunks.specs.ListingAhead.{MayEnd, Numbers, is_between, at_end, Empties, Lists, info_at, shown_before, upcoming, with_begun}
 use Rattle.abt_chunks.specs.Showing.{ListsTo}
 use Rattle.abt_chunks.proofs.Listed.{ended_listing, upcoming_body, upcoming_header}
 
@@ -49,6 +49,13 @@ more_index phases.Body s s1 r b e again stands n =
     let i : s1.index ≡ s.index + 1 = n.0 ∙ ap (λ (v : Bool). if v then s.index + 1 else s.index) b in (omega arith, n.1 b)
 more_index phases.Done s s1 r b e again stands n = absurd (let q : phases.Body ≡ phases.Done = sym stands ∙ ap (λ (w : Walk). w.phase) (again tt) ∙ e in cc)
 more_index (phases.Failed f) s s1 r b e again stands n = absurd (let q : phases.Body ≡ phases.Failed f = sym stands ∙ ap (λ (w : Walk). w.phase) (again tt) ∙ e in cc)
+
+-- where the image ends, or has ended before, its header stays
+pub ended_header : (p : Phase) (s s1 : Walk) → s.phase ≡ p → MayEnd p s → (s.phase ≡ phases.Body → s1.header ≡ s.header) → (IsOver p → s1 ≡ s) → s1.header ≡ s.header
+ended_header phases.Header s s1 e may same again = absurd may
+ended_header phases.Body s s1 e may same again = same e
+ended_header phases.Done s s1 e may same again = ap (λ (w : Walk). w.header) (again tt)
+ended_header (phases.Failed f) s s1 e may same again = absurd may
 
 -- a chunk is shown
 pub shown_next : (s s1 s2 : Walk) (x x1 y : List ℕ) → upcoming s x ≡ with_begun s1 x1 → with_begun s1 x1 ≡ with_begun s2 y

@@ -1,10 +1,11 @@
 -- A raw image: what stands so far, and the next bytes of it.
-use Rattle.std.proofs.Common.{◌≡◌, ℕ, ◌+◌, ◌≤◌, List, ◌++◌, length, take, drop, Option, Some, None, Err, sym, ap, subst, ◌∙◌, arith, take-append-drop, ◌==◌, nat_lt, ltb-false, inl, inr}
-use Rattle.std.specs.Prelude.{OnOk, IfNone}
+use Rattle.std.proofs.Common.{◌≡◌, ℕ, ◌+◌, ◌<◌, ◌≤◌, Bool, true, false, refl, le-ltb, if◌then◌else◌, List, ◌++◌, length, take, drop, Option, Some, None, Err, sym, ap, subst, ◌∙◌, arith, take-append-drop, ◌==◌, nat_lt, ltb-false, inl, inr}
+use Rattle.std.specs.Prelude.{OnOk, IfNone, IfSome, IsNone, IsTrue}
 use Rattle.std.proofs.lemmas.List.{length-map, length-take-le, map-append, take_all}
 use Rattle.std.proofs.lemmas.Bool.{cases_Bool}
 use Rattle.abt_io.specs.declared.device.DeviceFault.{DeviceFault}
-use Rattle.abt_verify.specs.Fault.{short_fault}
+use Rattle.abt_io.specs.declared.device.DeviceFault.TheVariants as devices
+use Rattle.abt_verify.specs.Fault.{HasRawCause, PartCause, PieceCause, short_fault}
 use Rattle.abt_io.proofs.Parts.{take_plus}
 use Rattle.abt_chunks.specs.declared.progress.Progress.{Progress}
 use Rattle.abt_chunks.specs.Ahead.{somes}
@@ -66,3 +67,36 @@ all_came None came wanted e = elim (cases_Bool (nat_lt came wanted)) [
 ]
 
 -- ---- refusals
+
+not_telling : (b : Bool) → (IsTrue b → ⊥) → b ≡ false
+not_telling true h = absurd (h refl)
+not_telling false h = refl
+
+too_few : (b : Bool) (f : VerifyFault) (tells : Bool) (r r' p : ℕ) → (let a : Option VerifyFault = Some f in a ≡ (if b then Some fails.SourceChanged else None)) → (b ≡ true → tells ≡ false) → r' ≡ r → HasRawCause f tells r r' p p
+too_few true f tells r r' p e changed same = subst (λ (g : VerifyFault). HasRawCause g tells r r' p p) (let z : fails.SourceChanged ≡ f = cc in z) (changed refl, same, refl)
+too_few false f tells r r' p e changed same = absurd cc
+
+-- why fewer bytes came than were asked for: the source failed, or has changed, and the partition is not read
+pub short_cause : (o : Option DeviceFault) (came wanted : ℕ) (f : VerifyFault) (tells : Bool) (r r' p : ℕ) → (let a : Option VerifyFault = Some f in a ≡ short_fault o came wanted)
+    → IfSome o (λ d. r < r') → IfSome o (λ d. d ≡ devices.Failed) → (IsNone o → r' ≡ r) → (IsTrue tells → IsNone o → wanted ≤ came) → HasRawCause f tells r r' p p
+short_cause (Some d) came wanted f tells r r' p e rose failed clean all = subst (λ (g : VerifyFault). HasRawCause g tells r r' p p) (let z : fails.Read d ≡ f = cc in z) (rose, failed, refl)
+short_cause None came wanted f tells r r' p e rose failed clean all =
+    let changed = λ (t : nat_lt came wanted ≡ true). not_telling tells (λ told. absurd (let z : true ≡ false = sym t ∙ le-ltb _ _ (all told refl) in cc)) in
+    too_few (nat_lt came wanted) f tells r r' p e changed (clean refl)
+
+part_fault : (f : VerifyFault) (tells : Bool) (r r' p p' : ℕ) → r' ≡ r → PartCause (Some f) p p' → HasRawCause f tells r r' p p'
+part_fault (fails.Sparse f) tells r r' p p' e h = absurd h
+part_fault (fails.Read d) tells r r' p p' e h = absurd h
+part_fault (fails.PartitionRead d) tells r r' p p' e h = (h.0, h.1, e)
+part_fault (fails.Differs n) tells r r' p p' e h = (e, h)
+part_fault fails.SourceChanged tells r r' p p' e h = absurd h
+part_fault (fails.BadBlock n) tells r r' p p' e h = absurd h
+
+-- where all came, the partition alone is to blame
+pub part_cause : (o : Option VerifyFault) (tells : Bool) (r r' p p' : ℕ) → r' ≡ r → PartCause o p p' → PieceCause o tells r r' p p'
+part_cause None tells r r' p p' e h = (e, h)
+part_cause (Some f) tells r r' p p' e h = part_fault f tells r r' p p' e h
+
+pub none_failed : (o : Option DeviceFault) (came wanted : ℕ) → (let a : Option VerifyFault = None in a ≡ short_fault o came wanted) → IsNone o
+none_failed (Some d) came wanted e = absurd cc
+none_failed None came wanted e = refl

@@ -5,7 +5,11 @@ use Rattle.std.specs.Prelude.{IsTrue}
 use Rattle.std.specs.List.{concat}
 use Rattle.std.proofs.lemmas.List.{length-map, length-replicate, length-take-le}
 use Rattle.abt_io.proofs.Words.{length_words}
+use Rattle.abt_io.specs.Count.{full_in}
 use Rattle.abt_io.specs.declared.device.DeviceFault.{DeviceFault}
+use Rattle.abt_io.specs.declared.device.DeviceFault.TheVariants as devices
+use Rattle.abt_sparse.specs.Cause.{full_in_fault}
+use Rattle.abt_chunks.specs.Cause.{CleanPart, full_in_part}
 use Rattle.abt_sparse.specs.declared.fault.SparseFault.{SparseFault}
 use Rattle.abt_sparse.specs.declared.fault.SparseFault.TheVariants as faults
 use Rattle.abt_chunks.specs.declared.progress.Progress.{Progress}
@@ -24,9 +28,9 @@ use Rattle.abt_verify.specs.declared.fault.VerifyFault.TheVariants as fails
 use Rattle.abt_verify.specs.declared.stage.Stage.{Stage}
 use Rattle.abt_verify.specs.declared.stage.Stage.TheVariants as stages
 use Rattle.abt_verify.specs.Comparing.{IsStill, PartDiffers, cells_by, said_of}
-use Rattle.abt_verify.specs.Fault.{PartCause}
+use Rattle.abt_verify.specs.Fault.{HasCause, PartCause, Rises}
 use Rattle.abt_verify.specs.Standing.{FirstDiffers, Stands, from_place, said_by}
-use Rattle.abt_verify.specs.Stepping.{Compares, Goes, OnMore, answer_of}
+use Rattle.abt_verify.specs.Stepping.{Compares, Goes, Leaves, OnMore, answer_of}
 use Rattle.abt_verify.proofs.Said.{said_nones, said_somes, stands_none}
 
 -- ---- where the blocks end
@@ -96,6 +100,60 @@ at_fault s' t f e = ap (λ (ph : Phase). ahead_in ph s' t) e
 
 some_none : (f : VerifyFault) → (let a : Option VerifyFault = Some f in a ≡ None) → ⊥
 some_none f e = cc
+
+-- ---- who is to blame
+
+-- where the partition is blamed, no fault of the image or of the input was told
+clean_unless_still : (q : Part) (r r' : ℕ) → CleanPart q r r' → (IsStill q → ⊥) → r' ≡ r
+clean_unless_still (parts.Fault f) r r' h moves = absurd (moves tt)
+clean_unless_still q r r' h moves = h
+
+part_blamed : (f : VerifyFault) (r r' p p' : ℕ) → r' ≡ r → PartCause (Some f) p p' → HasCause f r r' p p'
+part_blamed (fails.Sparse f) r r' p p' e h = absurd h
+part_blamed (fails.Read d) r r' p p' e h = absurd h
+part_blamed (fails.PartitionRead d) r r' p p' e h = (h.0, h.1, e)
+part_blamed (fails.Differs n) r r' p p' e h = (e, h)
+part_blamed fails.SourceChanged r r' p p' e h = absurd h
+part_blamed (fails.BadBlock n) r r' p p' e h = absurd h
+
+pub partition_blamed : (q : Part) (f : VerifyFault) (r r' p p' : ℕ) → CleanPart q r r' → (IsStill q → ⊥) → PartCause (Some f) p p' → HasCause f r r' p p'
+partition_blamed q f r r' p p' clean moves h = part_blamed f r r' p p' (clean_unless_still q r r' clean moves) h
+
+pub not_still : (f : VerifyFault) (o : Option VerifyFault) → o ≡ Some f → o ≡ None → ⊥
+not_still f o e none = some_none f (sym e ∙ none)
+
+read_rose : (d : DeviceFault) (ph : Phase) (r r' : ℕ) → IsGoing ph → Caused (parts.Fault (faults.Read d)) ph r r' → r < r'
+read_rose d phases.Header r r' going h = h
+read_rose d phases.Body r r' going h = h
+read_rose d phases.Done r r' going h = absurd going
+read_rose d (phases.Failed f) r r' going h = absurd going
+
+read_failed : (d : DeviceFault) → full_in d ≡ 0 → d ≡ devices.Failed
+read_failed devices.Failed e = refl
+read_failed devices.Full e = absurd (omega (arith, e))
+
+fault_blamed : (f : SparseFault) (ph : Phase) (r r' p p' : ℕ) → IsGoing ph → Caused (parts.Fault f) ph r r' → CleanPart (parts.Fault f) r r' → full_in_fault f ≡ 0 → p' ≡ p → Rises (answer_of (parts.Fault f)) r r' p p'
+fault_blamed (faults.Read d) ph r r' p p' going h clean full e = (read_rose d ph r r' going h, read_failed d full, e)
+fault_blamed (faults.Write d) ph r r' p p' going h clean full e = absurd (write_caused d ph r r' going h)
+fault_blamed f ph r r' p p' going h clean full e = (tt, clean, e)
+
+pub answer_blamed : (q : Part) (ph : Phase) (r r' p p' : ℕ) → IsGoing ph → Caused q ph r r' → CleanPart q r r' → full_in_part q ≡ 0 → p' ≡ p → Rises (answer_of q) r r' p p'
+answer_blamed (parts.Fault f) ph r r' p p' going h clean full e = fault_blamed f ph r r' p p' going h clean full e
+answer_blamed q ph r r' p p' going h clean full e = (clean, e)
+
+-- ---- the phase that is left
+
+pub fault_leaves : (f : VerifyFault) (ph : Phase) (p p' : ℕ) → PartCause (Some f) p p' → Leaves (Err f) ph
+fault_leaves (fails.Sparse f) ph p p' h = absurd h
+fault_leaves f ph p p' h = tt
+
+sparse_leaves : (f : SparseFault) (ph : Phase) → PartLeaves (parts.Fault f) ph → Leaves (answer_of (parts.Fault f)) ph
+sparse_leaves (faults.Read d) ph h = tt
+sparse_leaves f ph h = h
+
+pub answer_leaves : (q : Part) (ph : Phase) → PartLeaves q ph → Leaves (answer_of q) ph
+answer_leaves (parts.Fault f) ph h = sparse_leaves f ph h
+answer_leaves q ph h = h
 
 -- ---- what a step compares
 

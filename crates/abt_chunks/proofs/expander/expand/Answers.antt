@@ -123,3 +123,18 @@ returns-in-Err-clause-clean g c = let i = c.steps.invariant in rw (i.read_faults
 
 pub returns-in-Err-clause-full_faults : goal.returns-in-Err-clause-full_faults
 returns-in-Err-clause-full_faults g c = let i = c.steps.invariant in rw i.full_faults at (c.in-Err.ensures.full_faults i.going)
+
+pub returns-in-Err-clause-cause : goal.returns-in-Err-clause-cause
+returns-in-Err-clause-cause g c = let i = c.steps.invariant in rw (i.read_faults, i.write_faults) at (c.in-Err.ensures.cause i.going)
+
+pub returns-in-Err-clause-calls : goal.returns-in-Err-clause-calls
+returns-in-Err-clause-calls g c = omega arith
+
+pub returns-in-Ok-Done-clause-calls : goal.returns-in-Ok-Done-clause-calls
+returns-in-Ok-Done-clause-calls g c = omega arith
+
+pub returns-in-Err-clause-turns : goal.returns-in-Err-clause-turns
+returns-in-Err-clause-turns g c = omega arith
+
+pub returns-in-Ok-Done-clause-turns : goal.returns-in-Ok-Done-clause-turns
+returns-in-Ok-Done-clause-turns g c = omega arith

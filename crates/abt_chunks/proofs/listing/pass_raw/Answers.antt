@@ -1,7 +1,8 @@
 use Rattle.std.proofs.Common.{◌≡◌, ◌≤◌, ◌<◌, length, ◌-◌, take, drop, arith, ap, ◌∙◌, refl, length-take, length-drop, min}
 use Rattle.std.proofs.lemmas.List.{drop_all, length-take-le}
-use Rattle.abt_chunks.proofs.Causes.{clean_part, own_part, read_closes, asked_wanted}
+use Rattle.abt_chunks.proofs.Causes.{clean_part, own_part, own_caused, read_caused, read_closes, asked_wanted}
 use Rattle.abt_io.specs.Count.{full_in}
+use Rattle.abt_chunks.specs.Turns.{IsOver}
 use Rattle.abt_chunks.specs.declared.walk.Turn.TheVariants as turns
 use Rattle.abt_chunks.proofs.Listed.{lists}
 use Rattle.abt_chunks.proofs.listing.pass_raw.Goals as goal
@@ -46,3 +47,12 @@ pub returns-clause-wanted : goal.returns-clause-wanted
 returns-clause-wanted g c =
     let asked : length c.pass_full-got.new.room ≡ min c.args.walk.now.raw 65536 = let a = c.pass_full-got.auto.room in let v = ap length c.part_mut.ensures.value in omega (arith, a, v, c.ask-ask.ensures.value, c.ask-ask.ensures.room, length-take (c.ask-ask.result - 0) (drop 0 c.args.w.now.bytes), length-drop 0 c.args.w.now.bytes, c.is_whole.ensures) in
     omega (arith, asked, c.pass_full-got.ensures.within, asked_wanted turns.Raw c.args.walk.now c.requires)
+
+pub returns-clause-over : goal.returns-clause-over
+returns-clause-over g c over = absurd (rw c.requires.0 at over)
+
+pub returns-clause-cause : goal.returns-clause-cause
+returns-clause-cause g c = elim c.match-got.branch [
+  | in-Some w ↦ rw (w.part-is, w.fail-part.ensures.part) (read_caused w.in-Some.fault c.args.walk.now.phase (g.I.Input.read_faults c.args.input.now) (g.I.Input.read_faults c.pass_full-got.new.input) (rw w.in-Some.is at c.pass_full-got.ensures.cause) (λ (over : IsOver c.args.walk.now.phase). absurd (rw c.requires.0 at over)))
+  | in-None w ↦ rw w.part-is (own_caused w.take_raw-part.result c.args.walk.now.phase (g.I.Input.read_faults c.args.input.now) (g.I.Input.read_faults c.pass_full-got.new.input) w.take_raw-part.ensures.cause)
+]

@@ -1,6 +1,6 @@
 use Rattle.std.proofs.Common.{◌≡◌, ◌-◌, ◌++◌, ℕ, List, refl, take, arith, ap, ◌∙◌, take-append-drop}
 use Rattle.abt_chunks.proofs.Showing.{lists_to, moves_on}
-use Rattle.abt_chunks.proofs.Causes.{answer_clean, answer_full, refuse_part}
+use Rattle.abt_chunks.proofs.Causes.{answer_clean, answer_full, answer_rises, refuse_part}
 use Rattle.abt_chunks.proofs.listing.step.Goals as goal
 
 pub returns-clause-lists : goal.returns-clause-lists
@@ -29,3 +29,7 @@ returns-clause-failed g c going = rw c.answer.ensures (answer_full c.next_part-t
 
 pub returns-clause-refuses : goal.returns-clause-refuses
 returns-clause-refuses g c = rw c.answer.ensures (refuse_part c.next_part-taken.result.part c.args.walk.now.phase c.args.walk.now c.next_part-taken.ensures.closes)
+
+pub returns-clause-cause : goal.returns-clause-cause
+returns-clause-cause g c going =
+    rw c.answer.ensures (answer_rises c.next_part-taken.result.part c.args.walk.now.phase (g.I.Input.read_faults c.args.input.now) (g.I.Input.read_faults c.next_part-taken.new.input) 0 0 going c.next_part-taken.ensures.cause)

@@ -1,8 +1,11 @@
-use Rattle.std.proofs.Common.{◌≡◌, ◌<◌, ◌+◌, ◌-◌, Ok, Result, length, arith, refl, ap, sym, ◌∙◌, ℕ}
+use Rattle.std.proofs.Common.{◌≡◌, ◌<◌, ◌+◌, ◌-◌, Bool, Ok, Err, Result, length, arith, refl, ap, sym, ◌∙◌, ℕ}
 use Rattle.std.specs.Int.{div_ceil}
 use Rattle.abt_chunks.specs.declared.progress.Progress.{Progress}
 use Rattle.abt_chunks.specs.declared.progress.Progress.TheVariants.{Done, More}
+use Rattle.abt_verify.specs.Fault.{HasRawCause, RawCause}
 use Rattle.abt_verify.specs.declared.fault.VerifyFault.{VerifyFault}
+use Rattle.abt_verify.specs.declared.fault.VerifyFault.TheVariants.{BadBlock}
+use Rattle.abt_verify.specs.declared.stage.Verified.{Verified}
 use Rattle.abt_verify.proofs.Said.{stands_nothing}
 use Rattle.abt_verify.proofs.RawSteps.{raw_all}
 use Rattle.abt_verify.proofs.raw_verifying.verify_raw.Goals as goal
@@ -78,3 +81,13 @@ returns-in-Ok-Done-clause-verifies g c tells =
       blocks = c.div_ceil.ensures ∙ ap (λ (k : ℕ). div_ceil c.step.new.self.length k) c.from.ensures ∙ ap (λ (n : ℕ). div_ceil n c.args.b) long;
       once = omega (arith, counted, i.compared, ended, long, e.at);
     }
+
+-- a step refuses no block size
+step_cause : (f : VerifyFault) (tells : Bool) (r r' p p' : ℕ) → HasRawCause f tells r r' p p' → RawCause (let a : Result Verified VerifyFault = Err f in a) tells r r' p p'
+step_cause (BadBlock n) tells r r' p p' h = absurd h
+step_cause f tells r r' p p' h = h
+
+pub returns-in-Err-clause-cause : goal.returns-in-Err-clause-cause
+returns-in-Err-clause-cause g c =
+    let i = c.steps.invariant in
+    step_cause c.in-Err.fault g.S.Source.tells (g.S.Source.read_faults c.args.source.now) (g.S.Source.read_faults c.step.new.source) (g.P.Source.read_faults c.args.partition.now) (g.P.Source.read_faults c.step.new.partition) (rw (i.read_faults, i.partition_faults) at (c.in-Err.ensures.cause i.goes))

@@ -1,7 +1,7 @@
 use Rattle.std.proofs.Common.{◌≡◌, ◌-◌, take, arith, ap}
 use Rattle.abt_chunks.proofs.Finishing.{onward, begins, fault_errs, held_part}
 use Rattle.std.proofs.Common.{◌∙◌}
-use Rattle.abt_chunks.proofs.Causes.{answer_clean, answer_full, written_clean}
+use Rattle.abt_chunks.proofs.Causes.{answer_clean, answer_full, answer_rises, quiet_over, written_clean}
 use Rattle.abt_chunks.proofs.expander.Expander.step.Goals as goal
 
 pub returns-in-Ok-clause-told : goal.returns-in-Ok-clause-told
@@ -58,3 +58,24 @@ pub returns-in-Ok-clause-full_faults : goal.returns-in-Ok-clause-full_faults
 returns-in-Ok-clause-full_faults g c going =
     let none = answer_full c.part-taken.result.part ∙ c.part-taken.ensures.failed going in
     rw (c.answer.ensures, none) c.in-Ok.ensures.full_faults
+
+pub returns-in-Ok-clause-cause : goal.returns-in-Ok-clause-cause
+returns-in-Ok-clause-cause g c going =
+    rw c.answer.ensures (answer_rises c.part-taken.result.part c.args.self.now.walk.phase (g.I.Input.read_faults c.args.input.now) (g.I.Input.read_faults c.part-taken.new.input)
+    (g.O.Output.write_faults c.args.output.now) (g.O.Output.write_faults c.write_part-done.new.output) going c.part-taken.ensures.cause)
+
+pub returns-in-Err-clause-cause : goal.returns-in-Err-clause-cause
+returns-in-Err-clause-cause g c going = c.in-Err.ensures.cause
+
+pub returns-in-Ok-clause-again : goal.returns-in-Ok-clause-again
+returns-in-Ok-clause-again g c over =
+    let p = c.part-taken.ensures in
+    let same = p.over over in
+    (same.0, same.1, c.write_part-done.ensures.quiet (quiet_over c.part-taken.result.part c.args.self.now.walk c.part-taken.new.self p.turn.leaves same.0 over))
+
+-- no write fails where none is made
+pub returns-in-Err-clause-again : goal.returns-in-Err-clause-again
+returns-in-Err-clause-again g c over =
+    let p = c.part-taken.ensures in
+    let quiet = c.write_part-done.ensures.quiet (quiet_over c.part-taken.result.part c.args.self.now.walk c.part-taken.new.self p.turn.leaves (p.over over).0 over) in
+    absurd (omega (arith, c.in-Err.ensures.cause, ap g.O.Output.write_faults quiet))

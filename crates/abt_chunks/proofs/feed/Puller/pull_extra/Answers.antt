@@ -1,4 +1,4 @@
-use Rattle.std.proofs.Common.{◌≡◌, ◌<◌, arith}
+use Rattle.std.proofs.Common.{◌<◌, arith}
 use Rattle.abt_chunks.proofs.PullMoved.{read_moves}
 use Rattle.abt_chunks.proofs.feed.Puller.pull_extra.Goals as goal
 

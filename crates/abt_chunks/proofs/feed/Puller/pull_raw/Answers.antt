@@ -1,4 +1,4 @@
-use Rattle.std.proofs.Common.{◌≡◌, ◌<◌, arith}
+use Rattle.std.proofs.Common.{◌<◌, arith}
 use Rattle.abt_chunks.proofs.PullMoved.{raw_moves}
 use Rattle.abt_chunks.proofs.feed.Puller.pull_raw.Goals as goal
 

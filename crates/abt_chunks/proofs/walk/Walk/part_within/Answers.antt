@@ -1,10 +1,10 @@
 use Rattle.std.proofs.Common.{◌≡◌, ◌≤◌, ◌<◌, ℕ, List, length, ◌-◌, take, drop, ◌++◌, arith, ap, ◌∙◌, subst, refl, length-take, length-drop, min}
 use Rattle.std.proofs.lemmas.List.{drop_all, take-append-le}
-use Rattle.abt_chunks.specs.Turns.{ask_of, needed_of}
+use Rattle.abt_chunks.specs.Turns.{IsOver, ask_of, needed_of}
 use Rattle.abt_chunks.specs.Parts.{Says}
 use Rattle.abt_chunks.specs.ListingAhead.{Shows}
 use Rattle.abt_chunks.proofs.Turns.{told, needed_asked, needed_room}
-use Rattle.abt_chunks.proofs.Causes.{clean_part, own_part, read_closes, asked_wanted}
+use Rattle.abt_chunks.proofs.Causes.{clean_part, own_part, own_caused, read_caused, read_closes, asks_none, asked_wanted}
 use Rattle.abt_io.specs.Count.{full_in}
 use Rattle.abt_chunks.proofs.Listed.{lists}
 use Rattle.abt_chunks.proofs.walk.Walk.part_within.Goals as goal
@@ -69,3 +69,21 @@ returns-clause-wanted g c =
     let n = c.read_full-got.result.count in
     let asked : length c.read_full-got.new.out ≡ min (ask_of c.turn-turn.result c.args.self.now) c.args.most = let a = c.read_full-got.auto.out in let v = ap length c.part_mut.ensures.value in omega (arith, a, v, c.ask-wish.ensures.value, c.ask-wish.ensures.room, c.min-ask.ensures, length-take (c.min-ask.result - 0) (drop 0 c.args.w.now.bytes), length-drop 0 c.args.w.now.bytes, c.is_whole.ensures) in
     omega (arith, asked, c.read_full-got.ensures.within, asked_wanted c.turn-turn.result c.args.self.now c.turn-turn.ensures)
+
+pub returns-clause-over : goal.returns-clause-over
+returns-clause-over g c over =
+    let none : length c.part_mut.result.now ≡ 0 = omega (arith, c.part_mut.ensures.long, c.min-ask.ensures, c.ask-wish.ensures.value, asks_none c.turn-turn.result c.args.self.now c.turn-turn.ensures over) in
+    let same = c.read_full-got.ensures.none none in
+    elim c.match-got.branch [
+      | in-Some w ↦ absurd (omega (arith, rw w.in-Some.is at c.read_full-got.ensures.cause, ap g.I.Input.read_faults same))
+      | in-None w ↦ (rw w.self-is (w.take-part.ensures.over over), same)
+    ]
+
+pub returns-clause-cause : goal.returns-clause-cause
+returns-clause-cause g c = elim c.match-got.branch [
+  | in-Some w ↦
+      let none = λ (over : IsOver c.args.self.now.phase). let n : length c.part_mut.result.now ≡ 0 = omega (arith, c.part_mut.ensures.long, c.min-ask.ensures, c.ask-wish.ensures.value, asks_none c.turn-turn.result c.args.self.now c.turn-turn.ensures over) in
+      ap g.I.Input.read_faults (c.read_full-got.ensures.none n) in
+      rw (w.part-is, w.fail-part.ensures.part) (read_caused w.in-Some.fault c.args.self.now.phase (g.I.Input.read_faults c.args.input.now) (g.I.Input.read_faults c.read_full-got.new.input) (rw w.in-Some.is at c.read_full-got.ensures.cause) none)
+  | in-None w ↦ rw w.part-is (own_caused w.take-part.result c.args.self.now.phase (g.I.Input.read_faults c.args.input.now) (g.I.Input.read_faults c.read_full-got.new.input) w.take-part.ensures.cause)
+]

@@ -1,4 +1,4 @@
-use Rattle.std.proofs.Common.{arith, ◌∙◌, sym, ap, ◌≡◌, ◌≤◌, ◌*◌, ◌+◌, ℕ, length, take, drop, replicate, ◌++◌, ◌-◌}
+use Rattle.std.proofs.Common.{◌<◌, ◌^◌, mul-le-mul_right, arith, ◌∙◌, sym, ap, ◌≡◌, ◌≤◌, ◌*◌, ◌+◌, ℕ, length, take, drop, replicate, ◌++◌, ◌-◌}
 use Rattle.std.proofs.lemmas.List.{take-append-le, length-take-le}
 use Rattle.std.proofs.Math.Seq.{take-append_seam}
 use Rattle.abt_sparse.specs.Block.{block_count}
@@ -41,3 +41,18 @@ returns-else-n-eq0-clause-bytes g c tells q within raws le =
     take-append-le n c.read_at.new.out _ r.within ∙ r.bytes tells
     ∙ sym (raw_copied s.size c.args.here.block q n c.args.at s.blocks x count (let z : c.args.here.block + q ≤ s.blocks = omega (arith, within, c.requires.within.within) in z) raws le
     ∙ filled_within x n (c.args.here.block * s.size + c.args.at) (s.size * block_count s.size x) (omega (arith, e, r.present tells)))
+
+-- all blocks have fewer bytes than 2 ^ 48
+of_blocks : (n blocks size : ℕ) → n ≤ blocks → blocks < 2 ^ 32 → size ≤ 65536 → n * size ≤ 2 ^ 48
+of_blocks n blocks size le few small = let m : n * size ≤ 4294967296 * size = mul-le-mul_right size (let z : n ≤ 4294967296 = omega (arith, le, few) in z) in omega (arith, m, small)
+
+pub overflow_mul-pos : goal.overflow_mul-pos
+overflow_mul-pos g c =
+    let s = c.args.self.now in
+    omega (arith, of_blocks c.args.here.block s.blocks s.size c.requires.within.within s.fits s.window)
+
+pub overflow_add-pos : goal.overflow_add-pos
+overflow_add-pos g c =
+    let s = c.args.self.now in
+    let behind = of_blocks (s.blocks - c.args.here.block) s.blocks s.size (let z : s.blocks - c.args.here.block ≤ s.blocks = omega arith in z) s.fits s.window in
+    omega (arith, of_blocks c.args.here.block s.blocks s.size c.requires.within.within s.fits s.window, behind, c.requires.room)

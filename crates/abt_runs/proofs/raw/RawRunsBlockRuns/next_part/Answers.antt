@@ -1,11 +1,10 @@
-use Rattle.std.proofs.Common.{arith, ◌∙◌, ap, refl, sym, ◌≡◌, ◌*◌, ◌+◌, ◌≤◌, ◌<◌, ◌-◌, ℕ, min, true, false, length, mul-le-mul_right, IsTrue}
+use Rattle.std.proofs.Common.{arith, ◌∙◌, ap, refl, sym, ◌≡◌, ◌*◌, ◌≤◌, ◌<◌, ◌-◌, ℕ, min, true, false, length, mul-le-mul_right}
 use Rattle.std.specs.Prelude.{is_some, Option, None}
 use Rattle.std.proofs.lemmas.Bool.{true≢false}
 use Rattle.abt_runs.specs.RawLaws.{raw_long, raw_count, raw_padded, own_size}
 use Rattle.abt_runs.specs.Raw.{RawPlace}
 use Rattle.abt_runs.specs.Part.{is_end}
 use Rattle.abt_runs.specs.declared.part.RunFault.{RunFault}
-use Rattle.abt_runs.specs.declared.part.Cursor.{Cursor}
 use Rattle.abt_runs.proofs.Chunked.{not_telling}
 use Rattle.abt_runs.proofs.Classes.{raw_all, never, if_none}
 use Rattle.abt_runs.proofs.Charges.{raw_charged, charge_fresh, charge_end, raw_turns, raw_takes, raw_copies, raw_onward, raw_first, minus_zero, raw_next, no_more, no_more_than, none_added, none_behind, few_turns, none_greatest}
@@ -249,3 +248,8 @@ returns g c =
       clean = f.clean (none_is _ c.in_default.is);
       cause = tt;
     }
+
+pub overflow_mul-room : goal.overflow_mul-room
+overflow_mul-room g c =
+    let window : c.asked-asked.result * c.args.self.now.size ≤ c.args.from.ask * c.args.self.now.size = mul-le-mul_right c.args.self.now.size c.asked-asked.ensures.ask in
+    omega (arith, window, c.requires.within.window)

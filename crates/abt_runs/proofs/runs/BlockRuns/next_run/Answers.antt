@@ -123,3 +123,80 @@ returns-in-None-clause-turns g c =
     let padded = (g.met.Self.BlockRuns.padded c.parts.self c.parts.run.next).0 in
     let one : runs.one c.parts.self ≡ runs.one c.args.self.now = rw i.same refl in
     rw steps (omega (arith, i.turns, e.turns, tick.turns, padded, one, i.more, e.given))
+
+pub returns-then-room-eq0-clause-places : goal.returns-then-room-eq0-clause-places
+returns-then-room-eq0-clause-places g c tells = let i = c.parts.invariant in (i.here_place tells, i.next_place tells)
+
+pub returns-then-room-eq0-clause-stands : goal.returns-then-room-eq0-clause-stands
+returns-then-room-eq0-clause-stands g c tells = c.parts.invariant.stands tells
+
+pub returns-then-room-eq0-clause-within : goal.returns-then-room-eq0-clause-within
+returns-then-room-eq0-clause-within g c = let i = c.parts.invariant in (i.here_within, i.next_within)
+
+pub returns-then-room-eq0-clause-reached : goal.returns-then-room-eq0-clause-reached
+returns-then-room-eq0-clause-reached g c = c.parts.invariant.reached
+
+pub returns-then-room-eq0-clause-nowhere : goal.returns-then-room-eq0-clause-nowhere
+returns-then-room-eq0-clause-nowhere g c = c.parts.invariant.nowhere
+
+pub returns-then-room-eq0-clause-moved : goal.returns-then-room-eq0-clause-moved
+returns-then-room-eq0-clause-moved g c = let i = c.parts.invariant in (i.here, i.next)
+
+pub returns-then-room-eq0-clause-capped : goal.returns-then-room-eq0-clause-capped
+returns-then-room-eq0-clause-capped g c = record { raw = c.parts.invariant.few }
+
+pub returns-then-room-eq0-clause-charged : goal.returns-then-room-eq0-clause-charged
+returns-then-room-eq0-clause-charged g c = omega (arith, c.parts.invariant.charged)
+
+pub returns-then-room-eq0-clause-received : goal.returns-then-room-eq0-clause-received
+returns-then-room-eq0-clause-received g c = omega (arith, c.parts.invariant.received, c.tick.ensures.steps)
+
+pub returns-then-room-eq0-clause-calls : goal.returns-then-room-eq0-clause-calls
+returns-then-room-eq0-clause-calls g c = omega (arith, c.parts.invariant.calls, c.tick.ensures.steps)
+
+pub returns-then-room-eq0-clause-turns : goal.returns-then-room-eq0-clause-turns
+returns-then-room-eq0-clause-turns g c = rw c.tick.ensures.steps (omega (arith, c.parts.invariant.turns, c.tick.ensures.turns))
+
+pub returns-in-None-clause-places : goal.returns-in-None-clause-places
+returns-in-None-clause-places g c tells = let i = c.parts.invariant in (i.here_place tells, i.next_place tells)
+
+pub returns-in-None-clause-stands : goal.returns-in-None-clause-stands
+returns-in-None-clause-stands g c tells = c.parts.invariant.stands tells
+
+pub returns-in-None-clause-within : goal.returns-in-None-clause-within
+returns-in-None-clause-within g c = let i = c.parts.invariant in (i.here_within, i.next_within)
+
+pub returns-in-None-clause-reached : goal.returns-in-None-clause-reached
+returns-in-None-clause-reached g c = c.parts.invariant.reached
+
+pub returns-in-None-clause-nowhere : goal.returns-in-None-clause-nowhere
+returns-in-None-clause-nowhere g c = c.parts.invariant.nowhere
+
+pub returns-in-None-clause-moved : goal.returns-in-None-clause-moved
+returns-in-None-clause-moved g c = let i = c.parts.invariant in (i.here, i.next)
+
+pub returns-in-None-clause-capped : goal.returns-in-None-clause-capped
+returns-in-None-clause-capped g c = record { raw = c.parts.invariant.few }
+
+pub returns-in-None-clause-received : goal.returns-in-None-clause-received
+returns-in-None-clause-received g c = let i = c.parts.invariant in let e = c.in-Ok.ensures in let steps : c.next_part.new.m.steps.number ≡ c.parts.m.steps.number + 1 = e.steps ∙ ap (λ (n : ℕ). n + 1) c.tick.ensures.steps in omega (arith, i.received, e.received, steps)
+
+pub returns-in-None-clause-calls : goal.returns-in-None-clause-calls
+returns-in-None-clause-calls g c = let i = c.parts.invariant in let e = c.in-Ok.ensures in let steps : c.next_part.new.m.steps.number ≡ c.parts.m.steps.number + 1 = e.steps ∙ ap (λ (n : ℕ). n + 1) c.tick.ensures.steps in omega (arith, i.calls, e.calls, steps, i.more, e.given)
+
+pub returns-in-Err-clause-received : goal.returns-in-Err-clause-received
+returns-in-Err-clause-received g c = let i = c.parts.invariant in let e = c.in-Err.ensures in let steps : c.next_part.new.m.steps.number ≡ c.parts.m.steps.number + 1 = e.steps ∙ ap (λ (n : ℕ). n + 1) c.tick.ensures.steps in omega (arith, i.received, e.received, steps)
+
+pub returns-in-Err-clause-calls : goal.returns-in-Err-clause-calls
+returns-in-Err-clause-calls g c = let i = c.parts.invariant in let e = c.in-Err.ensures in let steps : c.next_part.new.m.steps.number ≡ c.parts.m.steps.number + 1 = e.steps ∙ ap (λ (n : ℕ). n + 1) c.tick.ensures.steps in omega (arith, i.calls, e.calls, steps, i.more, e.given)
+
+pub returns-in-Err-clause-turns : goal.returns-in-Err-clause-turns
+returns-in-Err-clause-turns g c =
+    let runs = g.Self.BlockRuns in
+    let i = c.parts.invariant in
+    let e = c.in-Err.ensures in
+    let tick = c.tick.ensures in
+    let steps : c.next_part.new.m.steps.number ≡ c.parts.m.steps.number + 1 = e.steps ∙ ap (λ (n : ℕ). n + 1) tick.steps in
+    let padded = (g.met.Self.BlockRuns.padded c.parts.self c.parts.run.next).0 in
+    let one : runs.one c.parts.self ≡ runs.one c.args.self.now = rw i.same refl in
+    rw steps (omega (arith, i.turns, e.turns, tick.turns, padded, one, i.more, e.given))

@@ -1,5 +1,5 @@
 use Rattle.std.proofs.Common.{◌≡◌, ◌-◌, ◌≤◌, length, take, arith, ap, ◌∙◌, sym, length-take}
-use Rattle.abt_verify.proofs.Steps.{compared_part, going_phase, refused_part, said_le}
+use Rattle.abt_verify.proofs.Steps.{answer_blamed, answer_leaves, compared_part, fault_leaves, going_phase, not_still, partition_blamed, refused_part, said_le}
 use Rattle.abt_verify.proofs.verifier.Verifier.step.Goals as goal
 use Rattle.abt_verify.proofs.verifier.Verifier.step.Goals.{in-None, in-Some}
 
@@ -32,3 +32,28 @@ returns-after-done-clause-told g c tells goes =
           q _ _ (going_phase c.args.self.now.stage s.phase goes) p.cause p.turn.moved p.within p.turn.leaves (p.says tells) p.place (omega (arith, d.given, all))
           (λ t. rw (c.place-at.ensures, w.in-None.is) at (d.stands t)))
     ])
+
+pub returns-after-done-clause-cause : goal.returns-after-done-clause-cause
+returns-after-done-clause-cause g c goes =
+    let p = c.part_within-taken.ensures in
+    let d = c.compare_part-done.ensures in
+    let q = c.part_within-taken.result.part in
+    let going = going_phase c.args.self.now.stage c.args.self.now.walk.phase goes in
+    elim c.match-done.branch [
+      | in-Some w ↦ rw w.answer-is (partition_blamed q w.in-Some.fault (g.I.Input.read_faults c.args.input.now) (g.I.Input.read_faults c.part_within-taken.new.input) (g.P.Source.read_faults c.args.partition.now) (g.P.Source.read_faults c.compare_part-done.new.partition)
+          p.clean (λ still. not_still w.in-Some.fault c.compare_part-done.result.fault w.in-Some.is (d.still still).0) (rw w.in-Some.is at d.cause))
+      | in-None w ↦ rw (w.answer-is, w.answer-answer.ensures) (answer_blamed q c.args.self.now.walk.phase (g.I.Input.read_faults c.args.input.now) (g.I.Input.read_faults c.part_within-taken.new.input) (g.P.Source.read_faults c.args.partition.now) (g.P.Source.read_faults c.compare_part-done.new.partition)
+          going p.cause p.clean (p.failed going) (rw w.in-None.is at d.cause))
+    ]
+
+pub returns-after-done-clause-leaves : goal.returns-after-done-clause-leaves
+returns-after-done-clause-leaves g c goes =
+    let q = c.part_within-taken.result.part in
+    let ph = c.part_within-taken.new.self.phase in
+    elim c.match-done.branch [
+      | in-Some w ↦ rw w.answer-is (fault_leaves w.in-Some.fault ph (g.P.Source.read_faults c.args.partition.now) (g.P.Source.read_faults c.compare_part-done.new.partition) (rw w.in-Some.is at c.compare_part-done.ensures.cause))
+      | in-None w ↦ rw (w.answer-is, w.answer-answer.ensures) (answer_leaves q ph c.part_within-taken.ensures.turn.leaves)
+    ]
+
+pub returns-after-done-clause-again : goal.returns-after-done-clause-again
+returns-after-done-clause-again g c over = absurd (rw c.in-Going.is at over)
