@@ -1,4 +1,5 @@
 pub mod Accepting
+pub mod Beginnings
 pub mod Beyond
 pub mod BootCanonical
 pub mod Bytes

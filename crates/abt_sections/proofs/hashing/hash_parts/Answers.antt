@@ -45,3 +45,15 @@ returns-in-Err-clause-cause g c =
 pub returns-clause-id : goal.returns-clause-id
 returns-clause-id g c = λ tells.
     id_is g.S.Source.content c.args.parts.now c.loop-i.i c.finalize-digest.result c.id_field.result (omega arith) (c.finalize-digest.ensures _ (c.loop-i.invariant.hashed tells)) c.id_field.ensures
+
+pub returns-in-Err-clause-content : goal.returns-in-Err-clause-content
+returns-in-Err-clause-content g c =
+    λ tells. kept g.S.Source.content c.loop-i.parts c.loop-i.i c.index-parts-i.result c.hash_part.new.part (c.in-Err.ensures.content tells) ∙ c.loop-i.invariant.content tells
+
+pub returns-in-Err-clause-size : goal.returns-in-Err-clause-size
+returns-in-Err-clause-size g c =
+    λ tells. kept g.S.Source.size c.loop-i.parts c.loop-i.i c.index-parts-i.result c.hash_part.new.part (c.in-Err.ensures.size tells) ∙ c.loop-i.invariant.size tells
+
+pub returns-in-Err-clause-frame : goal.returns-in-Err-clause-frame
+returns-in-Err-clause-frame g c =
+    kept g.S.Source.read_frame c.loop-i.parts c.loop-i.i c.index-parts-i.result c.hash_part.new.part c.in-Err.ensures.frame ∙ c.loop-i.invariant.frame

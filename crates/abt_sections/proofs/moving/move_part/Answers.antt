@@ -2,6 +2,7 @@ use Rattle.std.proofs.Common.{arith}
 use Rattle.abt_sections.proofs.Causes.{on_ok, on_ok_then}
 use Rattle.abt_sections.proofs.Digests.{hash_more}
 use Rattle.abt_sections.proofs.Growing.{padded_whole, grows_on, grows_by}
+use Rattle.abt_sections.proofs.Beginnings.{grows_none}
 use Rattle.abt_sections.proofs.moving.move_part.Goals as goal
 
 pub returns-clause-hashed : goal.returns-clause-hashed
@@ -17,3 +18,6 @@ returns-clause-written g c = λ tells.
 
 pub returns-clause-grown : goal.returns-clause-grown
 returns-clause-grown g c = grows_on _ _ _ c.in-Ok.ensures.grown (grows_by _ _ _ c.write_padding.ensures.front) (omega (arith, c.in-Ok.ensures.all))
+
+pub returns-then-length-size-clause-grown : goal.returns-then-length-size-clause-grown
+returns-then-length-size-clause-grown g c = grows_none _

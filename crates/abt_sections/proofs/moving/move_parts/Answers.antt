@@ -1,4 +1,4 @@
-use Rattle.std.proofs.Common.{◌≡◌, ◌≤◌, ◌+◌, ◌*◌, ℕ, List, arith, ap, ◌∙◌, length, length-set, map, get_or, take, ◌++◌}
+use Rattle.std.proofs.Common.{◌≡◌, ◌≤◌, ◌+◌, ◌*◌, ℕ, List, arith, ap, ◌∙◌, length, length-set, map, get_or, take, ◌++◌, refl, sym, append-nil}
 use Rattle.std.specs.Prelude.{IsTrue}
 use Rattle.std.proofs.lemmas.List.Sums.{sum_by-set, sum_by_more}
 use Rattle.abt_headers.specs.Page.{pages}
@@ -11,6 +11,8 @@ use Rattle.abt_sections.proofs.Growing.{grows_on}
 use Rattle.abt_sections.proofs.Growing as growing
 use Rattle.abt_sections.proofs.Layouts.{laid_next, laid_less, sum_next, sum_less}
 use Rattle.abt_sections.proofs.Parts.{kept, next_part, part_size, sizes_next}
+use Rattle.abt_sections.proofs.Beginnings.{grows_none}
+use Rattle.std.proofs.lemmas.List.{take_all, length-map}
 use Rattle.abt_sections.proofs.moving.move_parts.Goals as goal
 
 pub returns-in-Err-clause-grown : goal.returns-in-Err-clause-grown
@@ -92,3 +94,34 @@ returns-in-Err-clause-frame g c =
 pub returns-in-Err-clause-content : goal.returns-in-Err-clause-content
 returns-in-Err-clause-content g c = λ tells.
     kept g.S.Source.content c.loop-i.parts c.loop-i.i c.index-parts-i.result c.move_part.new.part (c.in-Err.ensures.content tells) ∙ c.loop-i.invariant.content tells
+
+pub loop-i-init : goal.loop-i-init
+loop-i-init g c =
+    record {
+      long = refl;
+      content = λ tells. refl;
+      size = λ tells. refl;
+      frame = refl;
+      once = omega arith;
+      written = λ tells. sym (append-nil _);
+      hashed = λ wanted tells held. held;
+      grown = grows_none _;
+      all = omega arith;
+      lasting = refl;
+      write_frame = refl;
+      read_faults = refl;
+      write_faults = refl;
+      full_faults = refl;
+    }
+
+pub returns-clause-hashed : goal.returns-clause-hashed
+returns-clause-hashed g c =
+    λ wanted tells none.
+    let all = map g.S.Source.content c.args.parts.now in
+    rw (take_all c.loop-i.i all (omega (arith, length-map c.args.parts.now g.S.Source.content))) at (c.loop-i.invariant.hashed wanted tells none)
+
+pub returns-clause-written : goal.returns-clause-written
+returns-clause-written g c =
+    λ tells.
+    let all = map g.S.Source.content c.args.parts.now in
+    rw (take_all c.loop-i.i all (omega (arith, length-map c.args.parts.now g.S.Source.content))) at (c.loop-i.invariant.written tells)

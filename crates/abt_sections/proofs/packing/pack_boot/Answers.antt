@@ -6,6 +6,7 @@ use Rattle.abt_headers.specs.Boot.{boot_page}
 use Rattle.abt_sections.proofs.Sizing.{sizes_are}
 use Rattle.abt_sections.proofs.Canons.{canon_is, size_is}
 use Rattle.abt_sections.proofs.Growing.{begins_is}
+use Rattle.abt_sections.proofs.Beginnings.{same_sizes}
 use Rattle.abt_sections.proofs.packing.pack_boot.Goals as goal
 
 pub returns-in_err-write_image-clause-front : goal.returns-in_err-write_image-clause-front
@@ -65,3 +66,7 @@ returns-clause-packed g c =
     ∙ ap (λ (q : ℕ). image_size (boot_page h) q (take count sizes)) c.size.ensures
     ∙ e in
     (bytes, omega (arith, bytes, e', c.in_ok-write_image.ensures.all))
+
+pub returns-clause-lasting : goal.returns-clause-lasting
+returns-clause-lasting g c =
+    same_sizes g.S.Source.size c.args.parts.now c.write_image.new.parts c.in_ok-sizes.sizes (length c.id_for.new.parts) c.in_ok-sizes.ensures.value.1 (omega arith) c.in_ok-write_image.ensures.lasting

@@ -1,4 +1,4 @@
-use Rattle.std.proofs.Common.{◌≡◌, inr, ℕ, List, ap, ◌∙◌, map, length, take, arith}
+use Rattle.std.proofs.Common.{◌≡◌, inr, ℕ, List, ap, ◌∙◌, map, length, take, arith, refl}
 use Rattle.std.proofs.lemmas.List.{length-map}
 use Rattle.abt_headers.specs.Boot.{boot_page}
 use Rattle.abt_sections.specs.Fields.{boot_fields, filled}
@@ -9,6 +9,7 @@ use Rattle.abt_sections.proofs.Sizing.{sizes_are, sum_of_sizes}
 use Rattle.abt_sections.proofs.Canons.{size_is, once_size, once_written}
 use Rattle.abt_sections.proofs.Magic.{opens_as_nothing}
 use Rattle.abt_sections.proofs.Placing.{page_stands}
+use Rattle.abt_sections.proofs.Beginnings.{grows_none, same_sizes}
 use Rattle.abt_sections.proofs.packing_once.pack_boot_once.Goals as goal
 
 pub lay_header-requires-clause-zeros : goal.lay_header-requires-clause-zeros
@@ -82,3 +83,13 @@ returns-clause-packed g c =
     ∙ ap (λ (q : ℕ). image_size (boot_page h) q (take count sizes)) c.size.ensures
     ∙ e in
     (bytes, omega (arith, bytes, o, rw c.bytes.ensures.value at c.in_ok-id.ensures.all, c.lay_header.ensures.long))
+
+pub returns-in_err-page-clause-grown : goal.returns-in_err-page-clause-grown
+returns-in_err-page-clause-grown g c = grows_none _
+
+pub returns-in_err-sizes-clause-grown : goal.returns-in_err-sizes-clause-grown
+returns-in_err-sizes-clause-grown g c = grows_none _
+
+pub returns-clause-lasting : goal.returns-clause-lasting
+returns-clause-lasting g c =
+    same_sizes g.S.Source.size c.args.parts.now c.write_behind.new.parts c.in_ok-sizes.sizes (length c.args.parts.now) c.in_ok-sizes.ensures.value.1 refl c.in_ok-id.ensures.lasting

@@ -10,6 +10,7 @@ use Rattle.abt_sections.proofs.Growing.{begins_then, begins_stop, begins_is}
 use Rattle.abt_sections.proofs.Growing as growing
 use Rattle.abt_sections.proofs.Layouts.{laid_next, laid_at, laid_less}
 use Rattle.abt_sections.proofs.Parts.{kept, next_part, part_size, sizes_next}
+use Rattle.std.proofs.lemmas.List.{take_all, length-map}
 use Rattle.abt_sections.proofs.writing.write_parts.Goals as goal
 
 pub returns-in-Err-clause-front : goal.returns-in-Err-clause-front
@@ -86,3 +87,14 @@ returns-in-Err-clause-frame g c =
 pub returns-in-Err-clause-content : goal.returns-in-Err-clause-content
 returns-in-Err-clause-content g c = λ tells.
     kept g.S.Source.content c.loop-i.parts c.loop-i.i c.index-parts-i.result c.write_part.new.part (c.in-Err.ensures.content tells) ∙ c.loop-i.invariant.content tells
+
+pub returns-in-Err-clause-read_faults : goal.returns-in-Err-clause-read_faults
+returns-in-Err-clause-read_faults g c =
+    let f = g.S.Source.read_faults in
+    omega (arith, c.loop-i.invariant.read_faults, sum_by-set f c.loop-i.parts c.loop-i.i c.write_part.new.part c.index-parts-i.result (omega arith), c.in-Err.ensures.read_faults)
+
+pub returns-clause-written : goal.returns-clause-written
+returns-clause-written g c =
+    λ tells.
+    let all = map g.S.Source.content c.args.parts.now in
+    rw (take_all c.loop-i.i all (omega (arith, length-map c.args.parts.now g.S.Source.content))) at (c.loop-i.invariant.written tells)
