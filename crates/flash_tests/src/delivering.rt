@@ -1,17 +1,18 @@
 //! Images that go through a spool in pieces.
 
-ghost use Rattle.std.specs.Prelude.{◌≤◌, length};
-
 use abt_flash::FlashFault::{LimitTooSmall, NoSuchPiece, PartitionTooSmall, Sparse, Stopped};
 use abt_flash::{Cause, Delivered, FlashFault, deliver, deliver_runs, resume};
 use abt_io::{DeviceFault, Marred, Meter, SlicePartition, SliceSource, SliceSpool, Window};
 use abt_runs::SparseRuns;
 use abt_sparse::SparseFault::{TooManyBlocks, Truncated};
 use test_data::counting::Counting;
+use test_data::standing::holds;
 use test_data::vectors::{
     EMPTY, GAPS, LARGEST_BLOCK, LONG_HEADERS, MIXED_IMAGE, MOST_BLOCKS, NO_GAP, ONE_GAP,
     SECOND_OF_THREE, SHORT_HEADERS, THIRD_OF_THREE, THREE_KINDS, TOO_MANY, WITH_CHECKSUM,
 };
+
+type Answer = Result<Delivered, FlashFault>;
 
 /// An image, how many of its bytes come at most, the limit, the piece to begin from (0: a delivery, and no resuming),
 /// how long the partition is; what is to be answered, how many bytes of pieces the spool was given, and what stands
@@ -22,7 +23,7 @@ type Row = (
     u32,
     u32,
     usize,
-    Result<Delivered, FlashFault>,
+    Answer,
     u64,
     &'static [u8],
 );
@@ -75,16 +76,24 @@ const ROWS: [Row; 35] = [
     (&TOO_MANY, ALL, 67, 0, 3, Err(Sparse(TooManyBlocks { chunk: 1 })), 0, b""),
 ];
 
+/// The last piece of an image at the limit 68.
+const LAST: [(&[u8], &[u8]); 5] = [
+    (&NO_GAP, &THIRD_OF_THREE),
+    (&THREE_KINDS, &SECOND_OF_THREE),
+    (&LONG_HEADERS, &SHORT_HEADERS),
+    (&GAPS, &ONE_GAP),
+    (&EMPTY, &EMPTY),
+];
+
 /// Delivers or resumes through a spool of this room: the answer, and how many bytes the spool was given.
 fn delivered(
     image: &[u8],
     limit: u32,
     from: u32,
-    room: &mut [u8],
+    room: &mut [u8; 100],
     cells: &mut [u8],
-) -> (Result<Delivered, FlashFault>, u64)
-    requires { limit ≤ length room.old }
-{
+) -> (Answer, u64) {
+    let limit = limit.min(100);
     let mut source = SliceSource::new(image);
     let mut spool = Counting::new(SliceSpool::new(room));
     let mut partition = SlicePartition::new(cells);
@@ -113,39 +122,33 @@ fn delivered(
     (answer, spool.taken)
 }
 
-/// Whether these bytes stand at the front, and dots behind them.
-fn holds(cells: &[u8; 26], stands: &[u8]) -> bool {
-    cells.starts_with(stands) && cells.iter().skip(stands.len()).all(|cell| *cell == b'.')
+fn is_right(row: &Row) -> bool {
+    let (image, came, limit, from, long, want, spooled, stands) = *row;
+    let image = image.get(..came).unwrap_or(image);
+    let mut cells = [b'.'; 26];
+    let (answer, given) = delivered(
+        image,
+        limit,
+        from,
+        &mut [0; 100],
+        &mut cells[..long.min(26)],
+    );
+    answer == want && given == spooled && holds(&cells, stands)
 }
 
 #[test]
 fn each_row_is_answered_as_it_says(rt: HostRuntime) {
-    for (image, came, limit, from, long, want, spooled, stands) in ROWS {
-        let image = image.get(..came).unwrap_or(image);
-        let mut room = [0u8; 100];
-        let mut cells = [b'.'; 26];
-        let limit = limit.min(100);
-        let (answer, given) = delivered(image, limit, from, &mut room, &mut cells[..long.min(26)]);
-        assert!(rt; answer == want, "{image:?} at {limit} from {from}");
-        assert!(rt; given == spooled, "{image:?} at {limit} from {from}");
-        assert!(rt; holds(&cells, stands), "{image:?} at {limit} from {from}");
+    for (i, row) in ROWS.iter().enumerate() {
+        assert!(rt; is_right(row), "row {i}");
     }
 }
 
 #[test]
 fn the_spool_is_left_with_the_last_piece(rt: HostRuntime) {
-    let rows: [(&[u8], &[u8]); 5] = [
-        (&NO_GAP, &THIRD_OF_THREE),
-        (&THREE_KINDS, &SECOND_OF_THREE),
-        (&LONG_HEADERS, &SHORT_HEADERS),
-        (&GAPS, &ONE_GAP),
-        (&EMPTY, &EMPTY),
-    ];
-    for (image, last) in rows {
-        let mut room = [0u8; 68];
+    for (image, last) in LAST.iter() {
+        let mut room = [0; 100];
         let (answer, _) = delivered(image, 68, 0, &mut room, &mut [b'.'; 20]);
-        assert!(rt; answer.is_ok());
-        assert!(rt; room.starts_with(last));
+        assert!(rt; answer.is_ok() && room.starts_with(last));
     }
 }
 
@@ -176,7 +179,7 @@ fn an_opened_image_is_delivered(rt: HostRuntime) {
 /// The first write over byte 4 fails and leaves EE in its range.
 #[test]
 fn a_stop_in_the_second_piece_is_mended_from_there_or_before(rt: HostRuntime) {
-    let mut room = [0u8; 68];
+    let mut room = [0u8; 100];
     let mut cells = [0xffu8; 16];
     {
         let mut source = SliceSource::new(&NO_GAP);

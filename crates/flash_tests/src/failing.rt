@@ -5,12 +5,20 @@ use abt_flash::{Cause, Delivered, FlashFault, deliver};
 use abt_io::{DeviceFault, Faulty, Meter, SlicePartition, SliceSource, SliceSpool, Window};
 use test_data::vectors::NO_GAP;
 
-#[derive(Clone, Copy, PartialEq, Drop)]
+#[derive(Clone, Copy, Drop)]
 enum Device {
     Source,
     Spool,
     Partition,
 }
+
+/// What stands when so many pieces are written.
+const STATES: [&[u8; 16]; 4] = [
+    b"................",
+    b"ABCD............",
+    b"ABCD\x04\x03\x02\x01........",
+    b"ABCD\x04\x03\x02\x01WXYZ....",
+];
 
 /// Delivers `NO_GAP` in three pieces where call `n` of a device fails, at 0 none: the answer, and how many calls that
 /// device had.
@@ -19,11 +27,15 @@ fn delivered(
     n: u64,
     cells: &mut [u8; 16],
 ) -> (Result<Delivered, FlashFault>, u64) {
-    let at = |device: Device| if device == failing { n } else { 0 };
+    let (read, spooled, written) = match failing {
+        Device::Source => (n, 0, 0),
+        Device::Spool => (0, n, 0),
+        Device::Partition => (0, 0, n),
+    };
     let mut room = [0u8; 68];
-    let mut source = Faulty::new(SliceSource::new(&NO_GAP), at(Device::Source));
-    let mut spool = Faulty::new(SliceSpool::new(&mut room), at(Device::Spool));
-    let mut partition = Faulty::new(SlicePartition::new(cells), at(Device::Partition));
+    let mut source = Faulty::new(SliceSource::new(&NO_GAP), read);
+    let mut spool = Faulty::new(SliceSpool::new(&mut room), spooled);
+    let mut partition = Faulty::new(SlicePartition::new(cells), written);
     let mut w = Window::new();
     let mut m = Meter::new();
     let answer = deliver(&mut source, 68, &mut spool, &mut partition, &mut w, &mut m);
@@ -37,57 +49,59 @@ fn delivered(
 
 /// Whether a failing call of this device may be the cause of a stop.
 fn is_of(failing: Device, cause: Cause) -> bool {
-    match cause {
-        Cause::Read(fault) => failing == Device::Source && fault == DeviceFault::Failed,
-        Cause::SpoolWrite(fault) | Cause::SpoolRead(fault) => {
-            failing == Device::Spool && fault == DeviceFault::Failed
-        }
-        Cause::Write(fault) | Cause::Sync(fault) => {
-            failing == Device::Partition && fault == DeviceFault::Failed
-        }
-        Cause::SourceChanged | Cause::SpoolChanged => false,
-    }
-}
-
-/// Whether the pieces before this one stand, of this one all or nothing, and none behind it.
-fn is_before(piece: u32, cells: &[u8; 16]) -> bool {
-    let states: [&[u8; 16]; 4] = [
-        b"................",
-        b"ABCD............",
-        b"ABCD\x04\x03\x02\x01........",
-        b"ABCD\x04\x03\x02\x01WXYZ....",
-    ];
-    match piece {
-        1 => cells == states[0] || cells == states[1],
-        2 => cells == states[1] || cells == states[2],
-        3 => cells == states[2] || cells == states[3],
+    match (failing, cause) {
+        (Device::Source, Cause::Read(DeviceFault::Failed)) => true,
+        (Device::Spool, Cause::SpoolWrite(DeviceFault::Failed)) => true,
+        (Device::Spool, Cause::SpoolRead(DeviceFault::Failed)) => true,
+        (Device::Partition, Cause::Write(DeviceFault::Failed)) => true,
+        (Device::Partition, Cause::Sync(DeviceFault::Failed)) => true,
         _ => false,
     }
 }
 
+/// Whether so many pieces stand, and nothing else.
+fn stand(pieces: u32, cells: &[u8; 16]) -> bool {
+    match STATES.get(pieces as usize) {
+        Some(state) => *state == cells,
+        None => false,
+    }
+}
+
+/// Whether the delivery in which call `n` of a device fails ends as it should, where the device has so many calls.
+fn is_right(failing: Device, n: u64, calls: u64) -> bool {
+    let mut cells = [b'.'; 16];
+    let (answer, seen) = delivered(failing, n, &mut cells);
+    let ended = match answer {
+        Ok(_) => n > calls && stand(3, &cells),
+        // The pieces before this one stand, of this one all or nothing, and none behind it.
+        Err(Stopped { piece, cause }) => {
+            is_of(failing, cause)
+                && piece > 0
+                && piece < 4
+                && (stand(piece, &cells) || stand(piece.saturating_sub(1), &cells))
+        }
+        // Before anything was written.
+        Err(Read(_)) => matches!(failing, Device::Source) && stand(0, &cells),
+        Err(_) => false,
+    };
+    ended && seen == n.min(calls)
+}
+
+/// How often each is called at least; the partition has a write and a sync for each piece.
+const CALLS: [(Device, u64); 3] = [
+    (Device::Source, 12),
+    (Device::Spool, 9),
+    (Device::Partition, 6),
+];
+
 #[test]
 fn each_call_of_each_device_fails_and_whole_pieces_stand(rt: HostRuntime) {
-    // How often each is called at least; the partition has a write and a sync for each piece.
-    for (failing, few) in [
-        (Device::Source, 12),
-        (Device::Spool, 9),
-        (Device::Partition, 6),
-    ] {
-        let (done, calls) = delivered(failing, 0, &mut [b'.'; 16]);
+    for (failing, few) in CALLS.iter() {
+        let (done, calls) = delivered(*failing, 0, &mut [b'.'; 16]);
         assert!(rt; done == Ok(Delivered { pieces: 3 }));
-        assert!(rt; calls >= few);
+        assert!(rt; calls >= *few);
         for n in 1..calls.saturating_add(2) {
-            let mut cells = [b'.'; 16];
-            let (answer, seen) = delivered(failing, n, &mut cells);
-            assert!(rt; seen == n.min(calls));
-            let as_it_should = match answer {
-                Ok(_) => n > calls && cells == *b"ABCD\x04\x03\x02\x01WXYZ....",
-                Err(Stopped { piece, cause }) => is_of(failing, cause) && is_before(piece, &cells),
-                // Before anything was written.
-                Err(Read(_)) => failing == Device::Source && cells == [b'.'; 16],
-                Err(_) => false,
-            };
-            assert!(rt; as_it_should, "call {n}: {answer:?}");
+            assert!(rt; is_right(*failing, n, calls), "call {n}");
         }
     }
 }

@@ -1,26 +1,21 @@
 //! Images that are flashed as they are read.
 
-ghost use Rattle.std.specs.Prelude.{◌<◌};
-
 use abt_chunks::Progress;
 use abt_flash::FlashFault::{PartitionTooSmall, Read, Sparse};
 use abt_flash::{FlashFault, Flashed, Flasher, flash};
 use abt_io::{Cut, DeviceFault, Faulty, Forward, Meter, SlicePartition, SliceSource, Window};
 use abt_sparse::SparseFault::{Magic, TooFewBlocks, TooManyBlocks, Truncated};
+use test_data::standing::holds;
 use test_data::vectors::{
     EMPTY, GAP_BETWEEN, LETTERS, LONG_HEADERS, MOST_BLOCKS, NO_GAP, THREE_KINDS, TOO_MANY,
     WITH_CHECKSUM,
 };
 
+type Answer = Result<Flashed, FlashFault>;
+
 /// An image, how many of its bytes come at most, how long the partition is, what is to be answered, and what stands
 /// then before the dots that stood there.
-type Row = (
-    &'static [u8],
-    usize,
-    usize,
-    Result<Flashed, FlashFault>,
-    &'static [u8],
-);
+type Row = (&'static [u8], usize, usize, Answer, &'static [u8]);
 
 const ALL: usize = 1000;
 
@@ -61,60 +56,54 @@ const TOO_FEW: [u8; 44] = [
     0xc1, 0xca, 0, 0, 1, 0, 0, 0, 16, 0, 0, 0, b'A', b'B', b'C', b'D',
 ];
 
-/// Flashes where each device takes or gives at most so many bytes in a call.
-fn flashed(image: &[u8], most: usize, room: &mut [u8]) -> Result<Flashed, FlashFault>
-    requires { 0 < most }
-{
-    let mut input = Cut::new(Forward::new(SliceSource::new(image)), most);
+/// Flashes where each device takes or gives at most so many bytes in a call, and read `n` fails, at 0 none: the answer,
+/// and how many reads there were.
+fn flashed(image: &[u8], most: usize, n: u64, room: &mut [u8]) -> (Answer, u64) {
+    let most = most.max(1);
+    let mut input = Faulty::new(Cut::new(Forward::new(SliceSource::new(image)), most), n);
     let mut partition = Cut::new(SlicePartition::new(room), most);
-    let mut w = Window::new();
-    let mut m = Meter::new();
-    flash(&mut input, &mut partition, &mut w, &mut m)
-}
-
-#[test]
-fn each_row_is_answered_as_it_says(rt: HostRuntime) {
-    for (image, came, long, want, stands) in ROWS {
-        let image = image.get(..came).unwrap_or(image);
-        for most in [1, 13, 1000] {
-            let mut room = [b'.'; 16];
-            let answer = flashed(image, most, &mut room[..long.min(16)]);
-            assert!(rt; answer == want, "{most} of {image:?}");
-            assert!(rt; room.starts_with(stands), "{most} of {image:?}");
-            assert!(rt; room.ends_with(&b"................"[stands.len().min(16)..]));
-        }
-    }
-}
-
-/// Flashes `THREE_KINDS` where read `n` fails, at 0 none: the answer, and how many there were.
-fn read_fails(n: u64, room: &mut [u8; 16]) -> (Result<Flashed, FlashFault>, u64) {
-    let mut input = Faulty::new(Cut::new(Forward::new(SliceSource::new(&THREE_KINDS)), 5), n);
-    let mut partition = SlicePartition::new(room);
     let mut w = Window::new();
     let mut m = Meter::new();
     let answer = flash(&mut input, &mut partition, &mut w, &mut m);
     (answer, input.seen)
 }
 
+fn is_right(row: &Row, most: usize) -> bool {
+    let (image, came, long, want, stands) = *row;
+    let image = image.get(..came).unwrap_or(image);
+    let mut room = [b'.'; 16];
+    let (answer, _) = flashed(image, most, 0, &mut room[..long.min(16)]);
+    answer == want && holds(&room, stands)
+}
+
+#[test]
+fn each_row_is_answered_as_it_says(rt: HostRuntime) {
+    for (i, row) in ROWS.iter().enumerate() {
+        for most in [1, 13, 1000] {
+            assert!(rt; is_right(row, most), "row {i} by {most}");
+        }
+    }
+}
+
 #[test]
 fn each_read_fails_and_what_came_before_stands(rt: HostRuntime) {
-    let (done, calls) = read_fails(0, &mut [b'.'; 16]);
+    let (done, calls) = flashed(&THREE_KINDS, 5, 0, &mut [b'.'; 16]);
     assert!(rt; done == Ok(Flashed { blocks: 2 }));
     // 28 bytes, three times twelve and twice four, at most five in a call.
     assert!(rt; calls == 6 + 3 * 3 + 2);
     for n in 1..calls.saturating_add(2) {
         let mut room = [b'.'; 16];
-        let (answer, seen) = read_fails(n, &mut room);
+        let (answer, seen) = flashed(&THREE_KINDS, 5, n, &mut room);
         let failed = Err(Read(DeviceFault::Failed));
         assert!(rt; answer == (if n > calls { done } else { failed }));
         assert!(rt; seen == n.min(calls));
         // The word of the first block comes in call 10, that of the second in call 14.
         let stands: &[u8] = match n {
-            0..=10 => b"................",
-            11..=14 => b"ABCD............",
-            _ => b"ABCD\x04\x03\x02\x01........",
+            0..=10 => b"",
+            11..=14 => b"ABCD",
+            _ => b"ABCD\x04\x03\x02\x01",
         };
-        assert!(rt; room.as_slice() == stands, "call {n}");
+        assert!(rt; holds(&room, stands), "call {n}");
     }
 }
 

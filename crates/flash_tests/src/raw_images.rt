@@ -6,21 +6,15 @@ use abt_flash::FlashFault::{
 use abt_flash::{Cause, Delivered, FlashFault, deliver_raw, resume_raw};
 use abt_io::{Long, Meter, SlicePartition, SliceSource, SliceSpool, Window};
 use test_data::counting::Counting;
+use test_data::standing::holds;
 use test_data::vectors::{MIXED, MIXED_SECOND, OVER_MIXED};
+
+type Answer = Result<Delivered, FlashFault>;
 
 /// How many bytes the source has and how many it claims, the block size, the piece to begin from (0: a delivery, and
 /// no resuming), how long the partition is; what is to be answered, how many bytes of pieces the spool was given, and
 /// what stands then before the dots that stood there. The limit is 88.
-type Row = (
-    usize,
-    u64,
-    u32,
-    u32,
-    usize,
-    Result<Delivered, FlashFault>,
-    u64,
-    &'static [u8],
-);
+type Row = (usize, u64, u32, u32, usize, Answer, u64, &'static [u8]);
 
 /// One byte more than 2^32 - 1 blocks of 4.
 const LARGE: u64 = 17_179_869_181;
@@ -50,19 +44,21 @@ const ROWS: [Row; 16] = [
 
 /// Delivers or resumes: the answer, and how many bytes the spool was given.
 fn delivered(
-    source: &mut Long<SliceSource<'_>>,
+    bytes: &[u8],
+    claims: u64,
     block: u32,
     from: u32,
     room: &mut [u8; 88],
     cells: &mut [u8],
-) -> (Result<Delivered, FlashFault>, u64) {
+) -> (Answer, u64) {
+    let mut source = Long::new(SliceSource::new(bytes), claims);
     let mut spool = Counting::new(SliceSpool::new(room));
     let mut partition = SlicePartition::new(cells);
     let mut w = Window::new();
     let mut m = Meter::new();
     let answer = if from == 0 {
         deliver_raw(
-            source,
+            &mut source,
             block,
             88,
             &mut spool,
@@ -72,7 +68,7 @@ fn delivered(
         )
     } else {
         resume_raw(
-            source,
+            &mut source,
             block,
             88,
             from,
@@ -85,29 +81,22 @@ fn delivered(
     (answer, spool.taken)
 }
 
+fn is_right(row: &Row) -> bool {
+    let (has, claims, block, from, long, want, spooled, stands) = *row;
+    let mut room = [0u8; 88];
+    let mut cells = [b'.'; 32];
+    let bytes = &MIXED[..has.min(18)];
+    let written = &mut cells[..long.min(32)];
+    let (answer, given) = delivered(bytes, claims, block, from, &mut room, written);
+    answer == want
+        && given == spooled
+        && holds(&cells, stands)
+        && (answer.is_err() || has == 0 || room.starts_with(&MIXED_SECOND))
+}
+
 #[test]
 fn each_row_is_answered_as_it_says(rt: HostRuntime) {
-    for (has, claims, block, from, long, want, spooled, stands) in ROWS {
-        let mut source = Long::new(SliceSource::new(&MIXED[..has.min(18)]), claims);
-        let mut room = [0u8; 88];
-        let mut cells = [b'.'; 32];
-        let (answer, given) = delivered(
-            &mut source,
-            block,
-            from,
-            &mut room,
-            &mut cells[..long.min(32)],
-        );
-        assert!(rt; answer == want, "{claims} in blocks of {block} from {from}");
-        assert!(rt;
-            given == spooled,
-            "{claims} in blocks of {block} from {from}"
-        );
-        assert!(rt;
-            cells.starts_with(stands),
-            "{claims} in blocks of {block} from {from}"
-        );
-        assert!(rt; cells.ends_with(&b"................................"[stands.len().min(32)..]));
-        assert!(rt; !answer.is_ok() || has == 0 || room.starts_with(&MIXED_SECOND));
+    for (i, row) in ROWS.iter().enumerate() {
+        assert!(rt; is_right(row), "row {i}");
     }
 }

@@ -2,7 +2,6 @@
 
 use abt_flash::{Delivered, FlashFault, deliver, deliver_raw, resume, resume_raw};
 use abt_io::{CrashPartition, Faulty, Meter, Pick, SliceSource, SliceSpool, Window};
-use std::process::Abort;
 use test_data::vectors::{MIXED, NO_GAP};
 
 const PICKS: [Pick; 3] = [Pick::Old, Pick::New, Pick::Byte(0x5A)];
@@ -86,77 +85,78 @@ fn stopped(
     answer
 }
 
-/// The piece in which this stopped; 0 where it came to its end, and the image stands. Behind the image nothing changes.
-fn piece_of<R: Abort>(
-    rt: &R,
-    job: Job,
-    answer: Result<Delivered, FlashFault>,
-    now: &[u8; 32],
-) -> u32 {
-    assert!(rt; now.ends_with(b"........"));
+/// The piece in which this stopped; 0 where it came to its end, and the image stands; `u32::MAX` where that is neither,
+/// or something behind the image changed.
+fn piece_of(job: Job, answer: Result<Delivered, FlashFault>, now: &[u8; 32]) -> u32 {
     match answer {
-        Ok(_) => {
-            assert!(rt; now == job.leaves);
-            0
-        }
-        Err(FlashFault::Stopped { piece, .. }) => piece,
-        Err(_) => u32::MAX,
+        Ok(_) if now == job.leaves => 0,
+        Err(FlashFault::Stopped { piece, .. }) if now.ends_with(b"........") => piece,
+        _ => u32::MAX,
     }
 }
 
-/// After a stop in this piece, resuming from each piece up to it ends with the whole image.
-fn is_mended<R: Abort>(rt: &R, job: Job, piece: u32, now: &[u8; 32]) {
-    assert!(rt; piece <= job.pieces);
+/// Whether resuming from each piece up to this one, in which it stopped, ends with the whole image.
+fn is_mended(job: Job, piece: u32, now: &[u8; 32]) -> bool {
     for from in 1..=3u32 {
         if from <= piece {
             let mut mended = *now;
             let answer = stopped(job, from, 0, Pick::Old, &mut mended);
             let pieces = job.pieces.saturating_add(1).saturating_sub(from);
-            assert!(rt; answer == Ok(Delivered { pieces }));
-            assert!(rt; mended == *job.leaves);
+            if answer != Ok(Delivered { pieces }) || mended != *job.leaves {
+                return false;
+            }
         }
     }
+    piece <= job.pieces
 }
 
-/// Stops at each call of a delivery, or of a resuming from a piece above 0, each mended: how many there were.
-fn stops<R: Abort>(rt: &R, job: Job, from: u32, pick: Pick, before: &[u8; 32]) -> u64 {
+/// Stops at each call of a delivery, or of a resuming from a piece above 0, each mended: how many there were, 0 where
+/// one is not mended.
+fn stops(job: Job, from: u32, pick: Pick, before: &[u8; 32]) -> u64 {
     let mut stops = 0;
     for n in 1..10 {
         let mut now = *before;
         let answer = stopped(job, from, n, pick, &mut now);
-        let piece = piece_of(rt, job, answer, &now);
+        let piece = piece_of(job, answer, &now);
         if piece > 0 {
-            is_mended(rt, job, piece, &now);
-            assert!(rt; from <= piece);
+            if piece < from || !is_mended(job, piece, &now) {
+                return 0;
+            }
             stops = n;
         }
     }
     stops
 }
 
+/// Whether a stop at call `n` is mended from each piece up to it, also after a second stop at any call of that.
+fn second_is_mended(job: Job, n: u64, pick: Pick) -> bool {
+    let mut now = *b"................................";
+    let answer = stopped(job, 0, n, pick, &mut now);
+    let piece = piece_of(job, answer, &now);
+    for from in 1..=3u32 {
+        if from <= piece && stops(job, from, pick, &now) == 0 {
+            return false;
+        }
+    }
+    piece <= job.pieces
+}
+
 #[test]
 fn a_stop_at_each_call_is_mended_from_each_piece_up_to_it(rt: HostRuntime) {
-    for pick in PICKS {
+    for pick in PICKS.iter() {
         for (job, calls) in JOBS.iter().zip([6, 5]) {
             // Each run is written once and each piece synced once.
-            assert!(rt; stops(&rt, *job, 0, pick, b"................................") == calls);
+            assert!(rt; stops(*job, 0, *pick, b"................................") == calls);
         }
     }
 }
 
 #[test]
 fn a_second_stop_within_a_resuming_is_mended_too(rt: HostRuntime) {
-    for pick in PICKS {
-        for job in JOBS {
+    for pick in PICKS.iter() {
+        for job in JOBS.iter() {
             for n in 1..7 {
-                let mut now = *b"................................";
-                let answer = stopped(job, 0, n, pick, &mut now);
-                let piece = piece_of(&rt, job, answer, &now);
-                for from in 1..=3u32 {
-                    if from <= piece {
-                        assert!(rt; stops(&rt, job, from, pick, &now) > 0);
-                    }
-                }
+                assert!(rt; second_is_mended(*job, n, *pick), "call {n}");
             }
         }
     }

@@ -1,7 +1,7 @@
 //! Cutting raw images: published pieces, by each of the calls that cut.
 
-use abt_chunks::expand;
-use abt_io::{Cut, DeviceFault, Faulty, Forward, Long, Meter, SliceOutput, SliceSource, Window};
+use crate::expanding::expanded;
+use abt_io::{Cut, DeviceFault, Faulty, Long, Meter, SliceOutput, SliceSource, Window};
 use abt_pieces::{Cutter, Piece, PieceFault, PieceProgress};
 use abt_placed::next_piece_at;
 use abt_runs::RawRuns;
@@ -40,6 +40,18 @@ fn a_raw_image_is_cut_into_two_pieces(rt: HostRuntime) -> Result<(), Fail> {
     Ok(())
 }
 
+type Answer = Result<[Option<Piece>; 3], PieceFault>;
+
+/// Both pieces, and that there is no other.
+const PIECES: Answer = Ok([Some(FIRST), Some(SECOND), None]);
+
+/// Whether both pieces stand, one behind the other, and nothing behind them.
+fn both_stand(room: &[u8; 200]) -> bool {
+    room.starts_with(&MIXED_FIRST)
+        && room[76..].starts_with(&MIXED_SECOND)
+        && room[136..] == [0; 64]
+}
+
 /// Passing over the first piece, and then the second in steps.
 #[test]
 fn a_piece_is_passed_over_and_the_next_cut_in_steps(rt: HostRuntime) -> Result<(), Fail> {
@@ -62,54 +74,74 @@ fn a_piece_is_passed_over_and_the_next_cut_in_steps(rt: HostRuntime) -> Result<(
     Ok(())
 }
 
-/// The same pieces in one pass, where written bytes can be written over. Each byte is read once, and at most a window
-/// again for each piece.
-#[test]
-fn the_pieces_are_cut_in_one_pass(rt: HostRuntime) -> Result<(), Fail> {
+/// What calls answer that cut one piece each in one pass, where written bytes can be written over; and how many bytes
+/// the first of them read.
+fn cut_at(room: &mut [u8; 200], handed: &mut u64) -> Answer {
     let mut source = Counting::new(SliceSource::new(&MIXED));
+    let mut output = Cut::new(SliceOutput::new(room), 5);
     let mut w = Window::new();
     let mut m = Meter::new();
-    let mut cutter = Cutter::open(RawRuns::open(&source, 8)?, 88)?;
-    let mut room = [0; 200];
-    let mut output = Cut::new(SliceOutput::new(&mut room), 5);
+    let runs = match RawRuns::open(&source, 8) {
+        Ok(runs) => runs,
+        Err(_) => return Err(PieceFault::TooLarge),
+    };
+    let mut cutter = Cutter::open(runs, 88)?;
     let first = next_piece_at(&mut cutter, &mut source, &mut output, &mut w, &mut m)?;
-    assert!(rt; first == Some(FIRST));
-    assert!(rt; output.device.written() == MIXED_FIRST.as_slice());
-    assert!(rt; source.handed == 18);
+    *handed = source.handed;
     let second = next_piece_at(&mut cutter, &mut source, &mut output, &mut w, &mut m)?;
-    assert!(rt; second == Some(SECOND));
-    assert!(rt; output.device.written().ends_with(&MIXED_SECOND));
-    assert!(rt; next_piece_at(&mut cutter, &mut source, &mut output, &mut w, &mut m)? == None);
-    Ok(())
+    let third = next_piece_at(&mut cutter, &mut source, &mut output, &mut w, &mut m)?;
+    Ok([first, second, third])
 }
 
-/// Writes the first piece in one pass, three bytes in a call, where write `n` fails, at 0 none: the answer, and whether
-/// a reader takes what stands.
-fn placed(n: u64) -> Result<(Result<Option<Piece>, PieceFault>, bool), Fail> {
-    let mut room = [0u8; 107];
+/// Each byte is read once, and at most a window again for each piece.
+#[test]
+fn the_pieces_are_cut_in_one_pass(rt: HostRuntime) {
+    let mut room = [0; 200];
+    let mut handed = 0;
+    assert!(rt; cut_at(&mut room, &mut handed) == PIECES);
+    assert!(rt; both_stand(&room) && handed == 18);
+}
+
+/// Writes the first piece in one pass, three bytes in a call, where write `n` fails, at 0 none: how many bytes stand.
+fn placed(n: u64, room: &mut [u8; 107]) -> (Result<Option<Piece>, PieceFault>, usize) {
+    let mut source = SliceSource::new(&MIXED);
+    let mut output = Faulty::new(Cut::new(SliceOutput::new(room), 3), n);
     let mut w = Window::new();
     let mut m = Meter::new();
-    let mut source = SliceSource::new(&MIXED);
-    let mut output = Faulty::new(Cut::new(SliceOutput::new(&mut room), 3), n);
-    let mut cutter = Cutter::open(RawRuns::open(&source, 8)?, 88)?;
+    let runs = match RawRuns::open(&source, 8) {
+        Ok(runs) => runs,
+        Err(_) => return (Err(PieceFault::TooLarge), 0),
+    };
+    let mut cutter = match Cutter::open(runs, 88) {
+        Ok(cutter) => cutter,
+        Err(fault) => return (Err(fault), 0),
+    };
     let answer = next_piece_at(&mut cutter, &mut source, &mut output, &mut w, &mut m);
-    let mut expansion = [0u8; 40];
-    let mut input = Forward::new(SliceSource::new(output.device.device.written()));
-    let read = expand(
-        &mut input,
-        &mut SliceOutput::new(&mut expansion),
-        &mut w,
-        &mut m,
+    (answer, output.device.device.written().len())
+}
+
+/// Whether a reader takes what stands after that.
+fn is_read_back(n: u64, want: Result<Option<Piece>, PieceFault>) -> Option<bool> {
+    let mut room = [0; 107];
+    let (answer, written) = placed(n, &mut room);
+    let (read, _) = expanded(
+        &room[..written.min(107)],
+        [1000, 1000],
+        [0, 0],
+        &mut [0; 40],
     );
-    Ok((answer, read.is_ok()))
+    if answer == want {
+        Some(read.is_ok())
+    } else {
+        None
+    }
 }
 
 #[test]
-fn a_write_fails_and_no_image_stands(rt: HostRuntime) -> Result<(), Fail> {
+fn a_write_fails_and_no_image_stands(rt: HostRuntime) {
     let failed = Err(PieceFault::Write(DeviceFault::Failed));
     for n in 1..30 {
-        assert!(rt; placed(n)? == (failed, false), "write {n}");
+        assert!(rt; is_read_back(n, failed) == Some(false), "write {n}");
     }
-    assert!(rt; placed(0)? == (Ok(Some(FIRST)), true));
-    Ok(())
+    assert!(rt; is_read_back(0, Ok(Some(FIRST))) == Some(true));
 }

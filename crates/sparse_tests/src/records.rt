@@ -1,7 +1,5 @@
 //! The records at their bytes, each refusal in its turn, and the texts of the faults.
 
-ghost use Rattle.std.specs.Prelude.{◌<◌};
-
 use abt_io::DeviceFault;
 use abt_sparse::{
     ChunkHeader, ChunkKind, SparseFault, SparseHeader, carries_raw, each_piece, ends_early,
@@ -18,130 +16,115 @@ const HEADER: [u8; 28] = [
     0,
 ];
 
-/// The same with another byte at a place, and at a second one.
-fn header_with(place: usize, byte: u8, other_place: usize, other: u8) -> [u8; 28]
-    requires places { place < 28 }
-    requires other_places { other_place < 28 }
-{
-    let mut bytes = HEADER;
-    bytes[place] = byte;
-    bytes[other_place] = other;
-    bytes
-}
+/// Records, and what they say.
+#[rattlefmt::skip]
+const HEADERS: [([u8; 28], SparseHeader); 2] = [
+    (HEADER, SparseHeader {
+        minor: 0, file_hdr_sz: 28, chunk_hdr_sz: 12, blk_sz: 4, total_blks: 3, total_chunks: 3, image_checksum: 0,
+    }),
+    // Each field has its place.
+    ([
+        0x3a, 0xff, 0x26, 0xed, 1, 0, 7, 1, 32, 2, 16, 3, 4, 5, 6, 7, 8, 9, 10, 11, 12, 13, 14, 15, 0x78, 0x56, 0x34,
+        0x12,
+    ], SparseHeader {
+        minor: 0x0107, file_hdr_sz: 0x0220, chunk_hdr_sz: 0x0310, blk_sz: 0x0706_0504, total_blks: 0x0b0a_0908,
+        total_chunks: 0x0f0e_0d0c, image_checksum: 0x1234_5678,
+    }),
+];
 
 #[test]
-fn a_header_is_encoded_and_decoded(rt: HostRuntime) -> Result<(), Fail> {
-    let header = SparseHeader::decode(&HEADER)?;
-    assert!(rt; (header.minor, header.file_hdr_sz, header.chunk_hdr_sz) == (0, 28, 12));
-    assert!(rt;
-        (
-            header.blk_sz,
-            header.total_blks,
-            header.total_chunks,
-            header.image_checksum
-        ) == (4, 3, 3, 0)
-    );
-    assert!(rt; header.encode() == HEADER);
-    assert!(rt; header_of(HEADER.as_slice())? == header);
-    Ok(())
+fn a_header_is_encoded_and_decoded(rt: HostRuntime) {
+    for (bytes, header) in HEADERS.iter() {
+        assert!(rt; SparseHeader::decode(bytes) == Ok(*header));
+        assert!(rt; header.encode() == *bytes);
+        assert!(rt; header_of(bytes.as_slice()) == Ok(*header));
+    }
 }
 
-#[test]
-fn each_field_has_its_place(rt: HostRuntime) -> Result<(), Fail> {
-    let bytes = [
-        0x3a, 0xff, 0x26, 0xed, 1, 0, 7, 1, 32, 2, 16, 3, 4, 5, 6, 7, 8, 9, 10, 11, 12, 13, 14, 15,
-        0x78, 0x56, 0x34, 0x12,
-    ];
-    let header = SparseHeader::decode(&bytes)?;
-    assert!(rt;
-        (header.minor, header.file_hdr_sz, header.chunk_hdr_sz) == (0x0107, 0x0220, 0x0310)
-    );
-    assert!(rt; (header.blk_sz, header.total_blks) == (0x0706_0504, 0x0b0a_0908));
-    assert!(rt; (header.total_chunks, header.image_checksum) == (0x0f0e_0d0c, 0x1234_5678));
-    assert!(rt; header.encode() == bytes);
-    Ok(())
-}
+/// Two places of `HEADER`, the byte that stands at each in its place, and what that is refused for.
+const REFUSALS: [(usize, u8, usize, u8, SparseFault); 6] = [
+    (0, 0x3b, 4, 2, SparseFault::Magic),
+    (4, 2, 8, 27, SparseFault::Major(2)),
+    (8, 27, 10, 11, SparseFault::FileHeaderSize(27)),
+    (10, 11, 12, 6, SparseFault::ChunkHeaderSize(11)),
+    (12, 6, 6, 9, SparseFault::BlockSize(6)),
+    (12, 0, 6, 9, SparseFault::BlockSize(0)),
+];
 
 #[test]
 fn the_first_check_that_fails_is_answered(rt: HostRuntime) {
-    assert!(rt; SparseHeader::decode(&header_with(0, 0x3b, 4, 2)) == Err(SparseFault::Magic));
-    assert!(rt; SparseHeader::decode(&header_with(4, 2, 8, 27)) == Err(SparseFault::Major(2)));
-    assert!(rt;
-        SparseHeader::decode(&header_with(8, 27, 10, 11)) == Err(SparseFault::FileHeaderSize(27))
-    );
-    assert!(rt;
-        SparseHeader::decode(&header_with(10, 11, 12, 6)) == Err(SparseFault::ChunkHeaderSize(11))
-    );
-    assert!(rt; SparseHeader::decode(&header_with(12, 6, 6, 9)) == Err(SparseFault::BlockSize(6)));
-    assert!(rt; SparseHeader::decode(&header_with(12, 0, 6, 9)) == Err(SparseFault::BlockSize(0)));
+    for (place, byte, other_place, other, fault) in REFUSALS.iter() {
+        let mut bytes = HEADER;
+        bytes[*place % 28] = *byte;
+        bytes[*other_place % 28] = *other;
+        assert!(rt; SparseHeader::decode(&bytes) == Err(*fault));
+    }
 }
+
+const CHUNK: ChunkHeader = ChunkHeader {
+    kind: ChunkKind::Raw,
+    blocks: 16_385,
+    total: 65_552,
+};
+
+/// The first two bytes, the two that are reserved, and what that says.
+const CHUNKS: [(u8, [u8; 2], Result<ChunkHeader, u16>); 3] = [
+    (0xc1, [0, 0], Ok(CHUNK)),
+    (0xc1, [0x34, 0x12], Ok(CHUNK)),
+    (0xc5, [0, 0], Err(0xCAC5)),
+];
 
 #[test]
 fn a_chunk_header_is_encoded_and_decoded(rt: HostRuntime) {
-    let header = ChunkHeader {
-        kind: ChunkKind::Raw,
-        blocks: 16_385,
-        total: 65_552,
-    };
-    let bytes = [0xc1, 0xca, 0, 0, 0x01, 0x40, 0, 0, 0x10, 0, 1, 0];
-    assert!(rt; header.encode() == bytes);
-    assert!(rt; ChunkHeader::decode(&bytes) == Ok(header));
-    let reserved = [0xc1, 0xca, 0x34, 0x12, 0x01, 0x40, 0, 0, 0x10, 0, 1, 0];
-    assert!(rt; ChunkHeader::decode(&reserved) == Ok(header));
-    let unknown = [0xc5, 0xca, 0, 0, 0x01, 0x40, 0, 0, 0x10, 0, 1, 0];
-    assert!(rt; ChunkHeader::decode(&unknown) == Err(0xCAC5));
+    assert!(rt; CHUNK.encode() == [0xc1, 0xca, 0, 0, 0x01, 0x40, 0, 0, 0x10, 0, 1, 0]);
+    for (code, [low, high], header) in CHUNKS.iter() {
+        let bytes = [*code, 0xca, *low, *high, 0x01, 0x40, 0, 0, 0x10, 0, 1, 0];
+        assert!(rt; ChunkHeader::decode(&bytes) == *header);
+    }
 }
+
+const KINDS: [(u16, Option<ChunkKind>); 5] = [
+    (0xCAC1, Some(ChunkKind::Raw)),
+    (0xCAC2, Some(ChunkKind::Fill)),
+    (0xCAC3, Some(ChunkKind::Skip)),
+    (0xCAC4, Some(ChunkKind::Crc)),
+    (0xCAC0, None),
+];
 
 #[test]
 fn each_kind_has_its_number(rt: HostRuntime) {
-    assert!(rt; ChunkKind::from_code(0xCAC1) == Some(ChunkKind::Raw));
-    assert!(rt; ChunkKind::from_code(0xCAC2) == Some(ChunkKind::Fill));
-    assert!(rt; ChunkKind::from_code(0xCAC3) == Some(ChunkKind::Skip));
-    assert!(rt; ChunkKind::from_code(0xCAC4) == Some(ChunkKind::Crc));
-    assert!(rt; ChunkKind::from_code(0xCAC0) == None);
+    for (code, kind) in KINDS.iter() {
+        assert!(rt; ChunkKind::from_code(*code) == *kind);
+    }
     assert!(rt; ChunkKind::Crc.code() == 0xCAC4);
     assert!(rt; u16_at(HEADER.as_slice(), 8) == 28);
     assert!(rt; u32_at(HEADER.as_slice(), 0) == 0xED26_FF3A);
 }
 
+#[rattlefmt::skip]
+const FAULTS: [(SparseFault, u32, &str); 12] = [
+    (SparseFault::Magic, 1, "1 Magic"),
+    (SparseFault::Major(2), 2, "2 Major 2"),
+    (SparseFault::FileHeaderSize(27), 3, "3 FileHeaderSize 27"),
+    (SparseFault::ChunkHeaderSize(11), 4, "4 ChunkHeaderSize 11"),
+    (SparseFault::BlockSize(6), 5, "5 BlockSize 6"),
+    (SparseFault::ChunkType { chunk: 1, kind: 51_909 }, 6, "6 ChunkType chunk 1 kind 51909"),
+    (SparseFault::ChunkLength { chunk: 2 }, 7, "7 ChunkLength chunk 2"),
+    (SparseFault::TooManyBlocks { chunk: 3 }, 8, "8 TooManyBlocks chunk 3"),
+    (SparseFault::TooFewBlocks { have: 4 }, 9, "9 TooFewBlocks have 4"),
+    (SparseFault::Truncated { at: 47 }, 10, "10 Truncated at 47"),
+    (SparseFault::Read(DeviceFault::Failed), 11, "11 Read"),
+    (SparseFault::Write(DeviceFault::Full), 12, "12 Write"),
+];
+
 #[test]
 fn each_fault_has_its_number_and_text(rt: HostRuntime) -> Result<(), Fail> {
-    let faults = [
-        (SparseFault::Magic, 1, "1 Magic"),
-        (SparseFault::Major(2), 2, "2 Major 2"),
-        (SparseFault::FileHeaderSize(27), 3, "3 FileHeaderSize 27"),
-        (SparseFault::ChunkHeaderSize(11), 4, "4 ChunkHeaderSize 11"),
-        (SparseFault::BlockSize(6), 5, "5 BlockSize 6"),
-        (
-            SparseFault::ChunkType {
-                chunk: 1,
-                kind: 51_909,
-            },
-            6,
-            "6 ChunkType chunk 1 kind 51909",
-        ),
-        (
-            SparseFault::ChunkLength { chunk: 2 },
-            7,
-            "7 ChunkLength chunk 2",
-        ),
-        (
-            SparseFault::TooManyBlocks { chunk: 3 },
-            8,
-            "8 TooManyBlocks chunk 3",
-        ),
-        (
-            SparseFault::TooFewBlocks { have: 4 },
-            9,
-            "9 TooFewBlocks have 4",
-        ),
-        (SparseFault::Truncated { at: 47 }, 10, "10 Truncated at 47"),
-        (SparseFault::Read(DeviceFault::Failed), 11, "11 Read"),
-        (SparseFault::Write(DeviceFault::Full), 12, "12 Write"),
-    ];
-    for (fault, number, text) in faults {
-        assert!(rt; fault.number() == number);
-        assert!(rt; format!(in rt.alloc(); "{fault}")?.as_str() == text);
+    for (fault, number, text) in FAULTS.iter() {
+        let shown = format!(in rt.alloc(); "{fault}")?;
+        assert!(rt;
+            fault.number() == *number && shown.as_str() == *text,
+            "{text}"
+        );
     }
     Ok(())
 }

@@ -1,13 +1,14 @@
 //! What is no image: its first fault, and what an expansion gives before that.
 
-use abt_chunks::expand;
-use abt_io::{Cut, Forward, Meter, SliceOutput, SliceSource, Window};
+use crate::expanding::{changed, expanded};
+use abt_io::{Cut, Meter, SliceSource, Window};
 use abt_runs::{RunFault, SparseRuns};
 use abt_sparse::SparseFault;
 use abt_sparse::SparseFault::{
     BlockSize, ChunkHeaderSize, ChunkLength, ChunkType, FileHeaderSize, Magic, Major, TooFewBlocks,
     TooManyBlocks, Truncated,
 };
+use test_data::standing::holds;
 use test_data::vectors::{LONG_HEADERS, THREE_KINDS, TOO_MANY, TWO_HALVES, WITH_CHECKSUM};
 
 /// An image, a place in it and the byte that stands there in its place, the fault, and what the blocks before it give.
@@ -36,42 +37,27 @@ const ROWS: [Row; 16] = [
     (&LONG_HEADERS, 20, 2, Truncated { at: 48 }, b"\0\0\0\0"),
 ];
 
-/// Expands where each device takes or gives at most so many bytes in a call.
-pub(crate) fn expanded(image: &[u8], most: usize, room: &mut [u8]) -> Option<SparseFault> {
-    let most = most.max(1);
-    let mut input = Cut::new(Forward::new(SliceSource::new(image)), most);
-    let mut output = Cut::new(SliceOutput::new(room), most);
-    let mut w = Window::new();
-    let mut m = Meter::new();
-    expand(&mut input, &mut output, &mut w, &mut m).err()
-}
-
 /// Opens an image as classed blocks.
 fn opened(image: &[u8]) -> Option<RunFault> {
     let mut source = Cut::new(SliceSource::new(image), 5);
     SparseRuns::open(&mut source, &mut Window::new(), &mut Meter::new()).err()
 }
 
-/// Whether these bytes stand at the front, and dots behind them.
-pub(crate) fn holds(room: &[u8; 16], stands: &[u8]) -> bool {
-    room.starts_with(stands) && room.iter().skip(stands.len()).all(|byte| *byte == b'.')
+/// Whether both find this fault, and the blocks before it expand to these bytes.
+fn is_found(image: &[u8], fault: SparseFault, stands: &[u8]) -> bool {
+    let mut room = [b'.'; 16];
+    let (answer, _) = expanded(image, [13, 13], [0, 0], &mut room);
+    answer == Err(fault) && holds(&room, stands) && opened(image) == Some(RunFault::Sparse(fault))
 }
 
 #[test]
 fn each_fault_is_found_by_expanding_and_by_opening(rt: HostRuntime) {
-    for (image, place, byte, fault, stands) in ROWS {
-        let mut bytes = [0u8; 88];
-        for (cell, byte) in bytes.iter_mut().zip(image.iter()) {
-            *cell = *byte;
-        }
-        if place < 88 {
-            bytes[place] = byte;
-        }
-        let bytes = &bytes[..image.len().min(88)];
-        let mut room = [b'.'; 16];
-        assert!(rt; expanded(bytes, 13, &mut room) == Some(fault), "{fault}");
-        assert!(rt; holds(&room, stands), "{fault}");
-        assert!(rt; opened(bytes) == Some(RunFault::Sparse(fault)), "{fault}");
+    for (image, place, byte, fault, stands) in ROWS.iter() {
+        let bytes = changed(image, *place, *byte);
+        assert!(rt;
+            is_found(&bytes[..image.len().min(88)], *fault, stands),
+            "{fault}"
+        );
     }
 }
 
@@ -85,26 +71,16 @@ fn each_beginning_is_truncated_and_what_it_gives_stands(rt: HostRuntime) {
             60..=71 => 8,
             _ => 12,
         };
-        let bytes = &WITH_CHECKSUM[..at];
-        let mut room = [b'.'; 16];
+        let stands = &b"ABCD\x04\x03\x02\x01\0\0\0\0"[..came];
         let fault = Truncated { at: at as u64 };
-        assert!(rt; expanded(bytes, 13, &mut room) == Some(fault));
-        assert!(rt;
-            holds(&room, &b"ABCD\x04\x03\x02\x01\0\0\0\0"[..came]),
-            "at {at}"
-        );
-        assert!(rt; opened(bytes) == Some(RunFault::Sparse(fault)));
+        assert!(rt; is_found(&WITH_CHECKSUM[..at], fault, stands), "at {at}");
     }
 }
 
 #[test]
 fn longer_headers_that_are_cut_off_are_truncated(rt: HostRuntime) {
     for at in [31usize, 47] {
-        let mut room = [b'.'; 16];
-        let fault = Truncated { at: at as u64 };
-        assert!(rt; expanded(&LONG_HEADERS[..at], 13, &mut room) == Some(fault));
-        assert!(rt; holds(&room, b""));
-        assert!(rt; opened(&LONG_HEADERS[..at]) == Some(RunFault::Sparse(fault)));
+        assert!(rt; is_found(&LONG_HEADERS[..at], Truncated { at: at as u64 }, b""));
     }
 }
 

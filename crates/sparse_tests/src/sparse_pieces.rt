@@ -71,58 +71,107 @@ fn cut(
     cutting
 }
 
-/// An image, the limit, and its pieces with the block behind the last of each.
-type Row = (&'static [u8], u32, &'static [(u32, &'static [u8])]);
+/// The block behind the last of a piece, and its bytes.
+type Whole = (u32, &'static [u8]);
+
+const OF_THREE_KINDS: [Whole; 2] = [(1, &FIRST_OF_THREE), (3, &SECOND_OF_THREE)];
+
+const OF_NO_GAP: [Whole; 3] = [
+    (1, &FIRST_OF_THREE),
+    (2, &SECOND_OF_THREE),
+    (3, &THIRD_OF_THREE),
+];
+
+const OF_EMPTY: [Whole; 1] = [(0, &EMPTY)];
+
+/// An image, the limit, and its pieces.
+type Row = (&'static [u8], u32, &'static [Whole]);
 
 #[rattlefmt::skip]
 const ROWS: [Row; 13] = [
     // The don't care at the end weighs nothing, so it goes with the fill. One piece would have 72 bytes, but weighs 84.
-    (&THREE_KINDS, 68, &[(1, &FIRST_OF_THREE), (3, &SECOND_OF_THREE)]),
-    (&THREE_KINDS, 72, &[(1, &FIRST_OF_THREE), (3, &SECOND_OF_THREE)]),
-    (&THREE_KINDS, 83, &[(1, &FIRST_OF_THREE), (3, &SECOND_OF_THREE)]),
+    (&THREE_KINDS, 68, &OF_THREE_KINDS),
+    (&THREE_KINDS, 72, &OF_THREE_KINDS),
+    (&THREE_KINDS, 83, &OF_THREE_KINDS),
     (&THREE_KINDS, 84, &[(3, &THREE_KINDS)]),
-    (&NO_GAP, 68, &[(1, &FIRST_OF_THREE), (2, &SECOND_OF_THREE), (3, &THIRD_OF_THREE)]),
+    (&NO_GAP, 68, &OF_NO_GAP),
     (&NO_GAP, 84, &[(2, &THREE_KINDS), (3, &THIRD_OF_THREE)]),
     (&GAP_BETWEEN, 96, &[(3, &GAP_BETWEEN)]),
     (&GAP_BETWEEN, 95, &[(2, &FIRST_OF_THREE), (3, &THIRD_OF_THREE)]),
     (&MIXED_IMAGE, 88, &[(2, &MIXED_FIRST), (3, &MIXED_SECOND)]),
-    (&EMPTY, 68, &[(0, &EMPTY)]),
+    (&EMPTY, 68, &OF_EMPTY),
     (&GAPS, 68, &[(5, &ONE_GAP)]),
     (&LONG_HEADERS, 68, &[(1, &SHORT_HEADERS)]),
     (&MOST_BLOCKS, 68, &[(4_294_967_295, &MOST_BLOCKS)]),
 ];
 
+/// Cuts an image that becomes another after so many calls, where a call of each device fails, at 0 none. Also how many
+/// bytes were written, and how many calls each device had.
+fn cut_changing(
+    images: [&[u8]; 2],
+    calls: u64,
+    limit: u32,
+    failing: [u64; 2],
+    room: &mut [u8],
+) -> (Cutting, usize, [u64; 2]) {
+    let source = SwitchSource::new(images[0], images[1], calls);
+    let mut source = Faulty::new(source, failing[0]);
+    let mut output = Faulty::new(SliceOutput::new(room), failing[1]);
+    let cutting = cut(&mut source, limit, &mut output);
+    let written = output.device.written().len();
+    (cutting, written, [source.seen, output.seen])
+}
+
+/// How many bytes of these pieces are still to be written; None where what is written is no beginning of them.
+fn left(pieces: &[Whole], written: &[u8]) -> Option<usize> {
+    let mut rest = written;
+    let mut left = 0usize;
+    for (_, bytes) in pieces.iter() {
+        let n = rest.len().min(bytes.len());
+        if !bytes.starts_with(&rest[..n]) {
+            return None;
+        }
+        rest = &rest[n..];
+        left = left.saturating_add(bytes.len() - n);
+    }
+    if rest.is_empty() { Some(left) } else { None }
+}
+
+fn is_cut_into(image: &[u8], limit: u32, pieces: &[Whole]) -> bool {
+    let mut room = [0u8; 256];
+    let (cutting, written, _) = cut_changing([image, image], 0, limit, [0, 0], &mut room);
+    for (end, (past, _)) in cutting.ends.iter().zip(pieces.iter()) {
+        if *end != *past {
+            return false;
+        }
+    }
+    let whole = left(pieces, &room[..written.min(256)]) == Some(0);
+    whole && cutting.fault == 0 && cutting.count == pieces.len()
+}
+
 #[test]
 fn published_images_are_cut_into_published_pieces(rt: HostRuntime) {
-    for (image, limit, pieces) in ROWS {
-        let mut source = Faulty::new(SwitchSource::new(image, image, 0), 0);
-        let mut room = [0u8; 256];
-        let mut output = Faulty::new(SliceOutput::new(&mut room), 0);
-        let cutting = cut(&mut source, limit, &mut output);
-        assert!(rt; (cutting.fault, cutting.count) == (0, pieces.len()));
-        let mut rest = output.device.written();
-        for (end, (past, bytes)) in cutting.ends.iter().zip(pieces) {
-            assert!(rt; *end == *past, "piece up to {past} at {limit}");
-            assert!(rt; rest.starts_with(bytes), "piece up to {past} at {limit}");
-            rest = rest.get(bytes.len()..).unwrap_or(&[]);
-        }
-        assert!(rt; rest.is_empty());
+    for (i, (image, limit, pieces)) in ROWS.iter().enumerate() {
+        assert!(rt; is_cut_into(image, *limit, pieces), "row {i}");
     }
+}
+
+/// The header of 10,000 chunks, and as many raw chunks without blocks.
+fn many_chunks() -> [u8; 120_028] {
+    let mut image = [0u8; 120_028];
+    for i in 0..120_028usize {
+        image[i] = if i < 28 {
+            HEADER_OF_MANY[i]
+        } else {
+            NO_BLOCKS[(i - 28) % 12]
+        };
+    }
+    image
 }
 
 #[test]
 fn chunks_without_blocks_make_no_piece_of_their_own(rt: HostRuntime) {
-    let mut image = [0u8; 120_028];
-    image[..28].copy_from_slice(&HEADER_OF_MANY);
-    for chunk in image[28..].chunks_exact_mut(12) {
-        chunk.copy_from_slice(&NO_BLOCKS);
-    }
-    let mut source = Faulty::new(SwitchSource::new(&image, &image, 0), 0);
-    let mut room = [0u8; 256];
-    let mut output = Faulty::new(SliceOutput::new(&mut room), 0);
-    let cutting = cut(&mut source, 68, &mut output);
-    assert!(rt; (cutting.fault, cutting.count) == (0, 1));
-    assert!(rt; output.device.written() == EMPTY.as_slice());
+    assert!(rt; is_cut_into(&many_chunks(), 68, &OF_EMPTY));
 }
 
 /// Why a limit is refused for the blocks of this image, if it is.
@@ -153,21 +202,15 @@ fn a_limit_that_no_piece_fits_is_refused(rt: HostRuntime) {
 /// refused for what it is.
 #[test]
 fn a_source_that_shrinks_gives_a_beginning_of_its_pieces(rt: HostRuntime) {
-    let mut whole = [0u8; 124];
-    whole[..56].copy_from_slice(&FIRST_OF_THREE);
-    whole[56..].copy_from_slice(&SECOND_OF_THREE);
     let mut is_whole = false;
     for calls in 0..40 {
-        let source = SwitchSource::new(&THREE_KINDS, &THREE_KINDS[..40], calls);
-        let mut source = Faulty::new(source, 0);
+        let images = [THREE_KINDS.as_slice(), &THREE_KINDS[..40]];
         let mut room = [0u8; 256];
-        let mut output = Faulty::new(SliceOutput::new(&mut room), 0);
-        let cutting = cut(&mut source, 68, &mut output);
-        let written = output.device.written();
-        assert!(rt; whole.starts_with(written));
-        assert!(rt; written.len() as u64 <= cutting.bytes.saturating_add(68));
+        let (cutting, written, _) = cut_changing(images, calls, 68, [0, 0], &mut room);
+        let left = left(&OF_THREE_KINDS, &room[..written.min(256)]);
+        assert!(rt; left.is_some() && written as u64 <= cutting.bytes.saturating_add(68));
         is_whole = cutting.fault == 0;
-        assert!(rt; is_whole == (written.len() == 124));
+        assert!(rt; is_whole == (left == Some(0)));
         assert!(rt; cutting.fault <= 10 || cutting.fault == 14);
     }
     assert!(rt; is_whole);
@@ -180,12 +223,11 @@ fn a_source_that_grows_makes_no_piece_too_long(rt: HostRuntime) {
     other[..40].copy_from_slice(&FRONT_OF_LONG_CHUNK);
     let mut is_whole = false;
     for calls in 0..60 {
-        let mut source = Faulty::new(SwitchSource::new(&NO_GAP, &other, calls), 0);
+        let images = [NO_GAP.as_slice(), other.as_slice()];
         let mut room = [0u8; 1_000];
-        let mut output = Faulty::new(SliceOutput::new(&mut room), 0);
-        let cutting = cut(&mut source, 68, &mut output);
+        let (cutting, written, _) = cut_changing(images, calls, 68, [0, 0], &mut room);
         assert!(rt; cutting.longest <= 68);
-        assert!(rt; output.device.written().len() as u64 <= cutting.bytes.saturating_add(68));
+        assert!(rt; written as u64 <= cutting.bytes.saturating_add(68));
         is_whole = (cutting.fault, cutting.count, cutting.bytes) == (0, 3, 180);
     }
     assert!(rt; is_whole);
@@ -194,17 +236,12 @@ fn a_source_that_grows_makes_no_piece_too_long(rt: HostRuntime) {
 /// Cuts `NO_GAP` into its three pieces, where a call of each device fails, at 0 none. What was written is a beginning
 /// of the pieces, and all of them where none fails. The fault, 0 for none, and how many calls each device had.
 fn failing(read: u64, write: u64) -> (u32, u64, u64, bool) {
-    let mut whole = [0u8; 180];
-    whole[..56].copy_from_slice(&FIRST_OF_THREE);
-    whole[56..124].copy_from_slice(&SECOND_OF_THREE);
-    whole[124..].copy_from_slice(&THIRD_OF_THREE);
-    let mut source = Faulty::new(SwitchSource::new(&NO_GAP, &NO_GAP, 0), read);
     let mut room = [0u8; 256];
-    let mut output = Faulty::new(SliceOutput::new(&mut room), write);
-    let cutting = cut(&mut source, 68, &mut output);
-    let written = output.device.written();
-    let stands = whole.starts_with(written) && (cutting.fault == 0) == (written.len() == 180);
-    (cutting.fault, source.seen, output.seen, stands)
+    let images = [NO_GAP.as_slice(), NO_GAP.as_slice()];
+    let (cutting, written, [reads, writes]) = cut_changing(images, 0, 68, [read, write], &mut room);
+    let left = left(&OF_NO_GAP, &room[..written.min(256)]);
+    let stands = left.is_some() && (cutting.fault == 0) == (left == Some(0));
+    (cutting.fault, reads, writes, stands)
 }
 
 #[test]

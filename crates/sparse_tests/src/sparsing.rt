@@ -1,9 +1,9 @@
 //! A raw image written as a sparse one, from end to end or where written bytes can be written over.
 
-ghost use Rattle.std.specs.Prelude.{◌<◌, ◌≤◌, ◌+◌, ◌*◌, ◌^◌};
+ghost use Rattle.std.specs.Prelude.{◌≤◌, ◌<◌, ◌+◌, ◌*◌, ◌^◌};
 
-use abt_chunks::expand;
-use abt_io::{Cut, DeviceFault, Faulty, Forward, Long, Meter, SliceOutput, SliceSource, Window};
+use crate::expanding::expanded;
+use abt_io::{Cut, DeviceFault, Faulty, Long, Meter, SliceOutput, SliceSource, Window};
 use abt_pieces::PieceFault;
 use abt_pieces::PieceFault::{BadBlock, SourceChanged, TooLarge};
 use abt_placed::sparsify_at;
@@ -17,116 +17,157 @@ enum Way {
     WrittenOver,
 }
 
-const WAYS: [Way; 2] = [Way::EndToEnd, Way::WrittenOver];
+type Answer = Result<Written, PieceFault>;
 
-/// Writes the image of a source that claims so many bytes, a few in a call. What stands, if anything, is `image`.
-fn written(
+/// Bytes, how many of them the source claims to have, the block size, how many blocks a raw chunk has at most, what is
+/// answered, and what stands then, where that is told.
+type Row = (&'static [u8], u64, u32, u32, Answer, Option<&'static [u8]>);
+
+/// One byte more than 2^32 - 1 blocks of 4.
+const LARGE: u64 = 17_179_869_181;
+
+#[rattlefmt::skip]
+const ROWS: [Row; 9] = [
+    (&WORDS, 10, 4, 1, Ok(Written { blocks: 3, chunks: 2, bytes: 60 }), Some(&WORDS_IMAGE)),
+    (&MIXED, 18, 8, 100, Ok(Written { blocks: 3, chunks: 2, bytes: 72 }), Some(&MIXED_IMAGE)),
+    (&LETTERS, 40, 8, 2, OF_LETTERS, Some(&LETTERS_IMAGE)),
+    (&[], 0, 4, 1, Ok(Written { blocks: 0, chunks: 0, bytes: 28 }), Some(&EMPTY)),
+    // A bad block size is refused before the length, and both before anything is written.
+    (&WORDS, LARGE, 0, 1, Err(BadBlock(0)), Some(&[])),
+    (&WORDS, LARGE, 6, 1, Err(BadBlock(6)), Some(&[])),
+    (&WORDS, LARGE, 65_540, 1, Err(BadBlock(65_540)), Some(&[])),
+    (&WORDS, LARGE, 4, 1, Err(TooLarge), Some(&[])),
+    // A source that is shorter than it says has changed.
+    (&WORDS, 12, 4, 1, Err(SourceChanged), None),
+];
+
+const OF_LETTERS: Answer = Ok(Written {
+    blocks: 5,
+    chunks: 3,
+    bytes: 104,
+});
+
+/// What a writing came to.
+#[derive(Drop)]
+struct Writing {
+    answer: Answer,
+    /// How many bytes were written.
+    written: usize,
+    reads: u64,
+    writes: u64,
+}
+
+/// Writes the image of a source that claims so many bytes, where the source gives and the output takes at most so many
+/// bytes in a call, and a call of each fails, at 0 none.
+fn write(
     way: Way,
     bytes: &[u8],
     claims: u64,
     size: u32,
     most: u32,
-    image: &[u8],
-) -> (Result<Written, PieceFault>, bool)
+    cut: [usize; 2],
+    failing: [u64; 2],
+    room: &mut [u8; 120],
+) -> Writing
     requires some { 1 ≤ most }
     requires small { 12 + most * size < 2 ^ 32 }
 {
-    let mut room = [0u8; 120];
-    let mut source = Long::new(Cut::new(SliceSource::new(bytes), 3), claims);
-    let mut output = Cut::new(SliceOutput::new(&mut room), 5);
+    let source = Cut::new(SliceSource::new(bytes), cut[0].max(1));
+    let output = Cut::new(SliceOutput::new(room), cut[1].max(1));
+    let mut source = Faulty::new(Long::new(source, claims), failing[0]);
+    let mut output = Faulty::new(output, failing[1]);
     let mut w = Window::new();
     let mut m = Meter::new();
     let answer = match way {
         Way::EndToEnd => sparsify(&mut source, size, most, &mut output, &mut w, &mut m),
         Way::WrittenOver => sparsify_at(&mut source, size, most, &mut output, &mut w, &mut m),
     };
-    (answer, output.device.written() == image)
-}
-
-fn whole(blocks: u32, chunks: u32, bytes: u64) -> Result<Written, PieceFault> {
-    Ok(Written {
-        blocks,
-        chunks,
-        bytes,
-    })
-}
-
-#[test]
-fn published_images_are_written(rt: HostRuntime) {
-    for way in WAYS {
-        assert!(rt; written(way, &WORDS, 10, 4, 1, &WORDS_IMAGE) == (whole(3, 2, 60), true));
-        assert!(rt; written(way, &MIXED, 18, 8, 100, &MIXED_IMAGE) == (whole(3, 2, 72), true));
-        assert!(rt; written(way, &LETTERS, 40, 8, 2, &LETTERS_IMAGE) == (whole(5, 3, 104), true));
-        assert!(rt; written(way, &[], 0, 4, 1, &EMPTY) == (whole(0, 0, 28), true));
+    Writing {
+        answer,
+        written: output.device.device.written().len(),
+        reads: source.seen,
+        writes: output.seen,
     }
 }
 
-/// A bad block size is refused before the length, and both before anything is written.
-#[test]
-fn what_has_no_image_is_refused(rt: HostRuntime) {
-    // One byte more than 2^32 - 1 blocks of 4.
-    let large = 17_179_869_181;
-    for way in WAYS {
-        for size in [0, 6, 65_540] {
-            assert!(rt; written(way, &WORDS, large, size, 1, &[]) == (Err(BadBlock(size)), true));
+fn is_right(way: Way, row: &Row) -> bool {
+    let (bytes, claims, size, most, want, image) = *row;
+    match most.checked_mul(size) {
+        Some(chunk) if most > 0 && chunk < 1_000_000_000 => {
+            let mut room = [0u8; 120];
+            let writing = write(way, bytes, claims, size, most, [3, 5], [0, 0], &mut room);
+            let stands = &room[..writing.written.min(120)];
+            writing.answer == want && image.unwrap_or(stands) == stands
         }
-        assert!(rt; written(way, &WORDS, large, 4, 1, &[]) == (Err(TooLarge), true));
-        // A source that is shorter than it says has changed.
-        assert!(rt; written(way, &WORDS, 12, 4, 1, &[]).0 == Err(SourceChanged));
+        _ => false,
+    }
+}
+
+#[test]
+fn each_row_is_answered_as_it_says(rt: HostRuntime) {
+    for (i, row) in ROWS.iter().enumerate() {
+        assert!(rt; is_right(Way::EndToEnd, row), "row {i} from end to end");
+        assert!(rt; is_right(Way::WrittenOver, row), "row {i} written over");
     }
 }
 
 /// Writes the image of `LETTERS` where a call of each device fails, at 0 none. What was written is a beginning of the
 /// image. The answer, and how many calls each device had.
-fn failing(read: u64, write: u64) -> (Result<Written, PieceFault>, u64, u64, bool) {
-    let mut room = [0; 120];
-    let mut source = Faulty::new(SliceSource::new(&LETTERS), read);
-    let mut output = Faulty::new(SliceOutput::new(&mut room), write);
-    let mut w = Window::new();
-    let mut m = Meter::new();
-    let answer = sparsify(&mut source, 8, 2, &mut output, &mut w, &mut m);
-    let stands = LETTERS_IMAGE.starts_with(output.device.written());
-    (answer, source.seen, output.seen, stands)
+fn failing(read: u64, write_at: u64) -> (Answer, u64, u64, bool) {
+    let mut room = [0u8; 120];
+    let failing = [read, write_at];
+    let writing = write(
+        Way::EndToEnd,
+        &LETTERS,
+        40,
+        8,
+        2,
+        [1000, 1000],
+        failing,
+        &mut room,
+    );
+    let stands = LETTERS_IMAGE.starts_with(&room[..writing.written.min(120)]);
+    (writing.answer, writing.reads, writing.writes, stands)
 }
 
 #[test]
 fn each_call_fails_and_a_beginning_stands(rt: HostRuntime) {
     let (done, reads, writes, _) = failing(0, 0);
-    assert!(rt; done == whole(5, 3, 104));
+    assert!(rt; done == OF_LETTERS);
     // The header, and for each of the three chunks its header and its data.
     assert!(rt; writes == 7);
     for n in 1..reads.saturating_add(2) {
         let (answer, seen, _, stands) = failing(n, 0);
         let failed = Err(PieceFault::Read(DeviceFault::Failed));
         assert!(rt; answer == (if n > reads { done } else { failed }));
-        assert!(rt; (seen, stands) == (n.min(reads), true));
+        assert!(rt; stands && seen == n.min(reads), "read {n}");
     }
     for n in 1..9u64 {
         let (answer, _, seen, stands) = failing(0, n);
         let failed = Err(PieceFault::Write(DeviceFault::Failed));
         assert!(rt; answer == (if n > 7 { done } else { failed }));
-        assert!(rt; (seen, stands) == (n.min(7), true));
+        assert!(rt; stands && seen == n.min(7), "write {n}");
     }
 }
 
 /// Writes the image of a source that claims to have 40 bytes in one pass, where write `n` fails, at 0 none: the answer,
 /// and whether a reader takes what stands.
-fn placed(bytes: &[u8], n: u64) -> (Result<Written, PieceFault>, bool) {
+fn placed(bytes: &[u8], n: u64) -> (Answer, bool) {
     let mut room = [0u8; 120];
     let mut expansion = [0u8; 60];
-    let mut w = Window::new();
-    let mut m = Meter::new();
-    let mut source = Long::new(SliceSource::new(bytes), 40);
-    let mut output = Faulty::new(Cut::new(SliceOutput::new(&mut room), 3), n);
-    let answer = sparsify_at(&mut source, 8, 2, &mut output, &mut w, &mut m);
-    let mut input = Forward::new(SliceSource::new(output.device.device.written()));
-    let read = expand(
-        &mut input,
-        &mut SliceOutput::new(&mut expansion),
-        &mut w,
-        &mut m,
+    let writing = write(
+        Way::WrittenOver,
+        bytes,
+        40,
+        8,
+        2,
+        [1000, 3],
+        [0, n],
+        &mut room,
     );
-    (answer, read.is_ok())
+    let stands = &room[..writing.written.min(120)];
+    let (read, _) = expanded(stands, [1000, 1000], [0, 0], &mut expansion);
+    (writing.answer, read.is_ok())
 }
 
 #[test]
@@ -136,5 +177,5 @@ fn a_call_of_one_pass_fails_and_no_image_stands(rt: HostRuntime) {
         assert!(rt; placed(&LETTERS, n) == (failed, false), "write {n}");
     }
     assert!(rt; placed(&LETTERS[..10], 0) == (Err(SourceChanged), false));
-    assert!(rt; placed(&LETTERS, 0) == (whole(5, 3, 104), true));
+    assert!(rt; placed(&LETTERS, 0) == (OF_LETTERS, true));
 }

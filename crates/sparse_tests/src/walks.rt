@@ -40,46 +40,59 @@ const REFUSALS: [(u64, u32, RunFault); 5] = [
 
 #[test]
 fn a_raw_image_is_refused_for_its_blocks(rt: HostRuntime) {
-    for (long, size, fault) in REFUSALS {
-        let source = Long::new(SliceSource::new(&[]), long);
-        assert!(rt;
-            RawRuns::open(&source, size).err() == Some(fault),
-            "{fault}"
-        );
+    for (long, size, fault) in REFUSALS.iter() {
+        let source = Long::new(SliceSource::new(&[]), *long);
+        assert!(rt; RawRuns::open(&source, *size).err() == Some(*fault));
     }
     let source = SliceSource::new(&MIXED);
     assert!(rt; RawRuns::open(&source, 65_536).map(|runs| runs.blocks) == Ok(1));
 }
 
-#[test]
-fn a_raw_image_is_walked_in_runs_of_at_most_the_cap(rt: HostRuntime) -> Result<(), Fail> {
+/// The runs of a raw image of three blocks: the first of at most one block, from there one of at most one and one of at
+/// most five, and the one behind that.
+fn raw_runs() -> Result<[(RunKind, u32); 4], RunFault> {
     let mut source = Cut::new(SliceSource::new(&MIXED), 3);
     let mut w = Window::new();
     let mut m = Meter::new();
     let mut runs = RawRuns::open(&source, 8)?;
     let start = runs.start();
     let fill = runs.next_run(&mut source, start, 1, &mut w, &mut m)?;
-    assert!(rt; (fill.kind, fill.blocks) == (RunKind::Fill(*b"AAAA"), 1));
     let one = runs.next_run(&mut source, fill.next, 1, &mut w, &mut m)?;
-    assert!(rt; (one.kind, one.blocks) == (RunKind::Raw, 1));
     let two = runs.next_run(&mut source, fill.next, 5, &mut w, &mut m)?;
-    assert!(rt; (two.kind, two.blocks) == (RunKind::Raw, 2));
     let end = runs.next_run(&mut source, two.next, 5, &mut w, &mut m)?;
-    assert!(rt; end.kind == RunKind::End);
-    Ok(())
+    Ok([
+        (fill.kind, fill.blocks),
+        (one.kind, one.blocks),
+        (two.kind, two.blocks),
+        (end.kind, 0),
+    ])
 }
 
 #[test]
-fn chunks_of_one_class_make_one_run(rt: HostRuntime) -> Result<(), Fail> {
+fn a_raw_image_is_walked_in_runs_of_at_most_the_cap(rt: HostRuntime) {
+    let runs = [
+        (RunKind::Fill(*b"AAAA"), 1),
+        (RunKind::Raw, 1),
+        (RunKind::Raw, 2),
+        (RunKind::End, 0),
+    ];
+    assert!(rt; raw_runs() == Ok(runs));
+}
+
+/// The length of `GAPS`, and its first run.
+fn run_of_gaps() -> Result<(u64, RunKind, u32), RunFault> {
     let mut source = SliceSource::new(&GAPS);
     let mut w = Window::new();
     let mut m = Meter::new();
     let mut runs = SparseRuns::open(&mut source, &mut w, &mut m)?;
-    assert!(rt; runs.image == 76);
     let start = runs.start();
     let skip = runs.next_run(&mut source, start, 1, &mut w, &mut m)?;
-    assert!(rt; (skip.kind, skip.blocks) == (RunKind::Skip, 5));
-    Ok(())
+    Ok((runs.image, skip.kind, skip.blocks))
+}
+
+#[test]
+fn chunks_of_one_class_make_one_run(rt: HostRuntime) {
+    assert!(rt; run_of_gaps() == Ok((76, RunKind::Skip, 5)));
 }
 
 #[test]
@@ -150,19 +163,26 @@ fn a_read_of_a_raw_image_fails_and_is_answered(rt: HostRuntime) {
     }
 }
 
+const FAULTS: [(RunFault, u32, &str); 5] = [
+    (
+        RunFault::Sparse(SparseFault::Truncated { at: 47 }),
+        10,
+        "10 Truncated at 47",
+    ),
+    (RunFault::Read(DeviceFault::Failed), 11, "11 Read"),
+    (RunFault::TooLarge, 13, "13 TooLarge"),
+    (RunFault::SourceChanged, 14, "14 SourceChanged"),
+    (RunFault::BadBlock(6), 15, "15 BadBlock 6"),
+];
+
 #[test]
 fn each_fault_has_its_number_and_text(rt: HostRuntime) -> Result<(), Fail> {
-    let truncated = SparseFault::Truncated { at: 47 };
-    let faults = [
-        (RunFault::Sparse(truncated), 10, "10 Truncated at 47"),
-        (RunFault::Read(DeviceFault::Failed), 11, "11 Read"),
-        (RunFault::TooLarge, 13, "13 TooLarge"),
-        (RunFault::SourceChanged, 14, "14 SourceChanged"),
-        (RunFault::BadBlock(6), 15, "15 BadBlock 6"),
-    ];
-    for (fault, number, text) in faults {
-        assert!(rt; fault.number() == number);
-        assert!(rt; format!(in rt.alloc(); "{fault}")?.as_str() == text);
+    for (fault, number, text) in FAULTS.iter() {
+        let shown = format!(in rt.alloc(); "{fault}")?;
+        assert!(rt;
+            fault.number() == *number && shown.as_str() == *text,
+            "{text}"
+        );
     }
     Ok(())
 }
