@@ -1,17 +1,12 @@
 //! A crash after each call of a small program, with each pick.
 
-ghost use Rattle.std.specs.Prelude.{◌≤◌};
-
+use crate::calls::put_and_sync;
 use abt_io::*;
 
 /// Writes `AB` from byte 1 on and makes it last, then the same with `CD` from byte 2 on.
-fn two_writes<P: Partition>(partition: &mut P) -> Result<(), DeviceFault>
-    requires { 4 ≤ P.size partition.old }
-{
-    partition.write_at(1, b"AB")?;
-    partition.sync()?;
-    partition.write_at(2, b"CD")?;
-    partition.sync()
+fn two_writes<P: Partition>(partition: &mut P) -> Result<(), DeviceFault> {
+    put_and_sync(partition, 1, b"AB")?;
+    put_and_sync(partition, 2, b"CD")
 }
 
 /// What is left where call `n` fails, by the crash model.

@@ -1,6 +1,6 @@
 //! Each call of a device fails in turn and does not reach it; sources that lie or change.
 
-use crate::calls::{through_partition, through_spool};
+use crate::calls::{copied, filled, filled_at, put_at, through_partition, through_spool};
 use abt_io::*;
 
 #[test]
@@ -41,10 +41,8 @@ fn each_read_of_a_source_fails_and_what_came_before_stands(rt: HostRuntime) {
         let mut room = [0u8; 4];
         let mut output = SliceOutput::new(&mut room);
         let mut source = Faulty::new(Cut::new(SliceSource::new(b"abcd"), 2), n);
-        let mut w = Window::new();
-        let mut m = Meter::new();
-        let copied = copy_range(&mut source, 0, 4, &mut output, &mut w, &mut m);
-        assert!(rt; copied.is_ok() == (n == 3), "call {n}");
+        let answer = copied(&mut source, 0, 4, &mut output);
+        assert!(rt; answer.is_ok() == (n == 3), "call {n}");
         assert!(rt; output.written().len() as u64 == 2 * (n - 1), "call {n}");
         assert!(rt; source.seen == n.min(2), "call {n}");
     }
@@ -53,10 +51,9 @@ fn each_read_of_a_source_fails_and_what_came_before_stands(rt: HostRuntime) {
 #[test]
 fn what_an_input_gave_before_a_failed_read_stands(rt: HostRuntime) {
     let mut out = *b"....";
-    let mut m = Meter::new();
     let input = Forward::new(SliceSource::new(b"abcd"));
     let mut input = Faulty::new(Cut::new(input, 3), 2);
-    let found = read_full(&mut input, &mut out, &mut m);
+    let found = filled(&mut input, &mut out);
     assert!(rt; found.count == 3);
     assert!(rt; found.fault == Some(DeviceFault::Failed));
     assert!(rt; out == *b"abc.");
@@ -68,11 +65,10 @@ fn what_an_input_gave_before_a_failed_read_stands(rt: HostRuntime) {
 #[test]
 fn a_marred_write_fills_its_range(rt: HostRuntime) {
     let mut room = *b"......";
-    let mut m = Meter::new();
     {
         let mut partition = Marred::new(SlicePartition::new(&mut room), 3, b'?');
-        assert!(rt; write_all_at(&mut partition, 2, b"cd", &mut m) == Err(DeviceFault::Failed));
-        assert!(rt; write_all_at(&mut partition, 3, b"d", &mut m) == Ok(()));
+        assert!(rt; put_at(&mut partition, 2, b"cd") == Err(DeviceFault::Failed));
+        assert!(rt; put_at(&mut partition, 3, b"d") == Ok(()));
     }
     assert!(rt; room == *b"..?d..");
 }
@@ -80,21 +76,19 @@ fn a_marred_write_fills_its_range(rt: HostRuntime) {
 #[test]
 fn a_source_claims_more_than_it_has(rt: HostRuntime) {
     let mut out = [0u8; 4];
-    let mut m = Meter::new();
     let mut long = Long::new(SliceSource::new(b"abc"), 1 << 32);
     assert!(rt; long.length() == 1 << 32);
-    assert!(rt; read_full_at(&mut long, 0, &mut out, &mut m).count == 3);
+    assert!(rt; filled_at(&mut long, 0, &mut out).count == 3);
 }
 
 #[test]
 fn a_source_is_another_after_some_calls(rt: HostRuntime) {
     let mut out = [0u8; 4];
-    let mut m = Meter::new();
     let mut source = SwitchSource::new(b"abc", b"wxyz", 2);
     assert!(rt; source.length() == 3);
     // Three bytes, and then the end.
-    assert!(rt; read_full_at(&mut source, 0, &mut out, &mut m).count == 3);
+    assert!(rt; filled_at(&mut source, 0, &mut out).count == 3);
     assert!(rt; source.length() == 4);
-    assert!(rt; read_full_at(&mut source, 0, &mut out, &mut m).count == 4);
+    assert!(rt; filled_at(&mut source, 0, &mut out).count == 4);
     assert!(rt; out == *b"wxyz");
 }

@@ -1,25 +1,28 @@
 //! Outputs whose written bytes are written over, and those whose first bytes are laid last.
 
-ghost use Rattle.std.specs.Prelude.{◌≤◌, length};
-
+use crate::calls::put;
 use abt_io::*;
 
-/// Writes `abcdef`, then these bytes over it from a place on, and then `gh`. Full, where they reach past the end.
-pub(crate) fn written_over<O: Overwrite>(
-    output: &mut O,
-    at: u64,
-    bytes: &[u8],
-) -> Result<(), DeviceFault>
-    requires { length bytes.now ≤ 65536 }
-{
-    let mut m = Meter::new();
-    write_out(output, b"abcdef", &mut m)?;
-    let end = output.position();
-    if at > end || bytes.len() as u64 > end - at {
+/// Writes these bytes over what stands from a place on. Full, where they reach past the end.
+fn put_over<O: Overwrite>(output: &mut O, at: u32, bytes: &[u8]) -> Result<(), DeviceFault> {
+    if bytes.len() > WINDOW {
         return Err(DeviceFault::Full);
     }
-    write_over_all(output, at, bytes, &mut m)?;
-    write_out(output, b"gh", &mut m)
+    if at as u64 + bytes.len() as u64 > output.position() {
+        return Err(DeviceFault::Full);
+    }
+    write_over_all(output, at as u64, bytes, &mut Meter::new())
+}
+
+/// Writes `abcdef`, then these bytes over it from a place on, and then `gh`.
+pub(crate) fn written_over<O: Overwrite>(
+    output: &mut O,
+    at: u32,
+    bytes: &[u8],
+) -> Result<(), DeviceFault> {
+    put(output, b"abcdef")?;
+    put_over(output, at, bytes)?;
+    put(output, b"gh")
 }
 
 #[test]
@@ -55,10 +58,9 @@ fn each_call_fails_and_what_was_written_before_stands(rt: HostRuntime) {
 #[test]
 fn the_first_bytes_are_laid_last(rt: HostRuntime) {
     let mut room = *b"................";
-    let mut m = Meter::new();
     let mut output = FrontLast::new(SliceOutput::new(&mut room));
-    assert!(rt; write_out(&mut output, b"ANDROID!kernel", &mut m) == Ok(()));
+    assert!(rt; put(&mut output, b"ANDROID!kernel") == Ok(()));
     assert!(rt; output.output.written() == b"\0\0\0\0\0\0\0\0kernel".as_slice());
-    assert!(rt; output.finish(&mut m) == Ok(()));
+    assert!(rt; output.finish(&mut Meter::new()) == Ok(()));
     assert!(rt; output.output.written() == b"ANDROID!kernel".as_slice());
 }

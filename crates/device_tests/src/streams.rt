@@ -1,5 +1,6 @@
 //! Readers and writers that are interrupted or fail.
 
+use crate::calls::{filled, put};
 use abt_io::*;
 use std::io;
 use std::io::{Read, Write};
@@ -57,23 +58,21 @@ impl<T: Write> Write for Halting<T> {
 fn interrupted_calls_are_made_again(rt: HostRuntime) {
     let mut out = *b"....";
     let mut room = *b"....";
-    let mut m = Meter::new();
     let kind = io::ErrorKind::Interrupted;
     let mut input = FromRead::new(Halting::new(b"abcd".as_slice(), kind, 4));
-    assert!(rt; read_full(&mut input, &mut out, &mut m).count == 4);
+    assert!(rt; filled(&mut input, &mut out).count == 4);
     let mut output = ToWrite::new(Halting::new(room.as_mut_slice(), kind, 3));
-    assert!(rt; write_out(&mut output, &out, &mut m) == Ok(()));
+    assert!(rt; put(&mut output, &out) == Ok(()));
     assert!(rt; room == *b"abcd");
 }
 
 #[test]
 fn a_failing_reader_is_answered_once(rt: HostRuntime) {
     let mut out = *b"....";
-    let mut m = Meter::new();
     let mut input = FromRead::new(Halting::new(b"abcd".as_slice(), io::ErrorKind::BrokenPipe, 4));
-    let failed = read_full(&mut input, &mut out, &mut m);
+    let failed = filled(&mut input, &mut out);
     assert!(rt; failed.fault == Some(DeviceFault::Failed));
-    assert!(rt; read_full(&mut input, &mut out, &mut m).count == 4);
+    assert!(rt; filled(&mut input, &mut out).count == 4);
 }
 
 /// One that fails, and one that takes nothing.
@@ -84,8 +83,7 @@ fn a_failing_writer_is_answered(rt: HostRuntime) {
         (io::ErrorKind::Interrupted, 0),
     ] {
         let mut room = *b".";
-        let mut m = Meter::new();
         let mut output = ToWrite::new(Halting::new(room.as_mut_slice(), kind, most));
-        assert!(rt; write_out(&mut output, b"a", &mut m) == Err(DeviceFault::Failed));
+        assert!(rt; put(&mut output, b"a") == Err(DeviceFault::Failed));
     }
 }
