@@ -1,34 +1,30 @@
 //! Sources that are other bytes after some of their calls.
 
-use crate::samples::{PLAIN, boot, pack_four, vendor};
-use abt_io::{Meter, SliceOutput, SliceSource, SwitchSource, Window};
-use abt_sections::{
-    Packed, SectionFault, check, fragment, fragments, open, pack_boot, pack_vendor, unpack_fragment,
-};
+use crate::samples::{boot, checked, entry, opened, pack, pack_four, pack_parts, unpack_entry};
+use abt_io::{SliceOutput, SliceSource, SwitchSource};
+use abt_sections::{Packed, SectionFault, fragments};
 
 /// Another length, and then another entry, stands where the image had one that it accepted.
 #[test]
 fn an_image_that_is_no_longer_accepted_has_changed(rt: HostRuntime) {
     let mut bytes = [1u8; 20480];
     assert!(rt; pack_four(4096, &mut bytes).is_ok());
-    let (mut w, mut m) = (Window::new(), Meter::new());
-    let image = open(&mut SliceSource::new(&bytes), &mut w, &mut m).expect(&rt, "opens");
-    let shorter = check(&image, &mut SliceSource::new(&bytes[1..]), &mut w, &mut m);
+    let image = opened(&mut SliceSource::new(&bytes)).expect(&rt, "opens");
+    assert!(rt; fragments(&image) == 2);
+    let shorter = checked(&image, &mut SliceSource::new(&bytes[1..]));
     assert!(rt; shorter == Err(SectionFault::SourceChanged));
     // The second fragment has one byte more than the vendor ramdisk.
     bytes[12396] = 8;
     let mut room = [1u8; 16];
     let mut source = SliceSource::new(&bytes);
     let mut output = SliceOutput::new(&mut room);
-    if fragments(&image) == 2 {
-        let entry = fragment(&image, 1, &mut source, &mut w, &mut m);
-        assert!(rt; entry == Err(SectionFault::SourceChanged));
-        let done = unpack_fragment(&image, 1, &mut source, &mut output, &mut w, &mut m);
-        assert!(rt; done == Err(SectionFault::SourceChanged));
-        // The first is as it was.
-        let done = unpack_fragment(&image, 0, &mut source, &mut output, &mut w, &mut m);
-        assert!(rt; done == Ok(()));
-    }
+    let second = entry(&image, 1, &mut source);
+    assert!(rt; second == Err(SectionFault::SourceChanged));
+    let done = unpack_entry(&image, 1, &mut source, &mut output);
+    assert!(rt; done == Err(SectionFault::SourceChanged));
+    // The first is as it was.
+    let done = unpack_entry(&image, 0, &mut source, &mut output);
+    assert!(rt; done == Ok(()));
     assert!(rt; output.written() == b"first".as_slice());
 }
 
@@ -39,15 +35,8 @@ fn packed(then: &[u8], room: &mut [u8]) -> Result<Packed, SectionFault> {
         SwitchSource::new(&[], &[], 0),
         SwitchSource::new(&[], &[], 0),
     ];
-    let mut output = SliceOutput::new(room);
-    let (mut w, mut m) = (Window::new(), Meter::new());
-    pack_boot(
-        &boot(0, 2048, &[], &[]),
-        &mut parts,
-        &mut output,
-        &mut w,
-        &mut m,
-    )
+    let spec = boot(0, 2048, &[], &[]);
+    pack(&spec, &mut parts, &mut SliceOutput::new(room))
 }
 
 /// It is read for the id and for its bytes. Other bytes of the same length contradict nothing: the id is that of the
@@ -73,15 +62,6 @@ fn fragments_whose_lengths_change_while_their_sum_stays_have_changed(rt: HostRun
     let mut bootconfig = SwitchSource::new(b"bc", b"bc", 0);
     let mut room = [1u8; 20480];
     let mut output = SliceOutput::new(&mut room);
-    let packed = pack_vendor(
-        &vendor(4, 4096),
-        &[PLAIN, PLAIN],
-        &mut ramdisks,
-        &mut dtb,
-        &mut bootconfig,
-        &mut output,
-        &mut Window::new(),
-        &mut Meter::new(),
-    );
+    let packed = pack_parts(4096, &mut ramdisks, &mut dtb, &mut bootconfig, &mut output);
     assert!(rt; packed == Err(SectionFault::SourceChanged));
 }

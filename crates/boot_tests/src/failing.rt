@@ -1,16 +1,21 @@
 //! One failing call at each place: what is answered, and what stands.
 
-use crate::samples::{FIVE, PLAIN, boot, front, numbers, pack_five, pack_four, vendor};
-use abt_io::{Cut, DeviceFault, Faulty, Meter, SliceOutput, SliceSource, Window};
-use abt_sections::{
-    Image, Packed, SectionFault, check, fragment, fragments, open, pack_boot, pack_vendor,
-    sections, unpack, unpack_fragment,
+use crate::samples::{
+    FIVE, boot, checked, entry, front, numbers, opened, pack, pack_five, pack_four, pack_parts,
+    unpack_entry,
 };
+use abt_io::{Cut, DeviceFault, Faulty, Meter, Output, SliceOutput, SliceSource, Source, Window};
+use abt_sections::{Image, Packed, SectionFault, sections, unpack};
 use std::process::Abort;
 
 /// A source that gives at most 1,000 bytes a call, whose call `n` fails.
 pub(crate) fn part(bytes: &[u8], n: u64) -> Faulty<Cut<SliceSource<'_>>> {
     Faulty::new(Cut::new(SliceSource::new(bytes), 1000), n)
+}
+
+/// Which call of a device fails, where call `n` of one does.
+fn at(device: usize, failing: usize, n: u64) -> u64 {
+    if device == failing { n } else { 0 }
 }
 
 /// Packs the image of version 2 where call `n` of part `failing` fails, or at 5 of the output; at 0 none does. What was
@@ -22,27 +27,21 @@ fn packed<R: Abort>(
     whole: &[u8; 14336],
 ) -> (Result<Packed, SectionFault>, u64) {
     let bytes = numbers();
-    let at = |device: usize| if device == failing { n } else { 0 };
     let mut parts = [
-        part(&bytes, at(0)),
-        part(front(&bytes, 1), at(1)),
-        part(&[], at(2)),
-        part(front(&bytes, 5), at(3)),
-        part(front(&bytes, 2049), at(4)),
+        part(&bytes, at(0, failing, n)),
+        part(front(&bytes, 1), at(1, failing, n)),
+        part(&[], at(2, failing, n)),
+        part(front(&bytes, 5), at(3, failing, n)),
+        part(front(&bytes, 2049), at(4, failing, n)),
     ];
     let mut room = [1u8; 14336];
-    let mut output = Faulty::new(SliceOutput::new(&mut room), at(5));
-    let spec = boot(2, 2048, &[], &[]);
-    let answer = pack_boot(
-        &spec,
-        &mut parts,
-        &mut output,
-        &mut Window::new(),
-        &mut Meter::new(),
-    );
+    let mut output = Faulty::new(SliceOutput::new(&mut room), at(5, failing, n));
+    let answer = pack(&boot(2, 2048, &[], &[]), &mut parts, &mut output);
     assert!(rt; whole.starts_with(output.device.written()));
-    let seen = parts.get(failing).map_or(output.seen, |part| part.seen);
-    (answer, seen)
+    if failing < 5 {
+        return (answer, parts[failing].seen);
+    }
+    (answer, output.seen)
 }
 
 #[test]
@@ -73,6 +72,20 @@ fn each_call_of_packing_fails_and_a_beginning_of_the_image_stands(rt: HostRuntim
     }
 }
 
+/// Writes section `i` of an image.
+fn unpack_section<S: Source, O: Output>(
+    image: &Image,
+    i: usize,
+    source: &mut S,
+    output: &mut O,
+) -> Result<(), SectionFault> {
+    if i >= sections(image) {
+        return Err(SectionFault::Name);
+    }
+    let (mut w, mut m) = (Window::new(), Meter::new());
+    unpack(image, i, source, output, &mut w, &mut m)
+}
+
 /// Unpacks section `i` where a call of each device fails, at 0 none; each moves little in a call. What was written is a
 /// beginning of the part. The answer, and how many calls each device had.
 fn unpacked<R: Abort>(
@@ -87,11 +100,7 @@ fn unpacked<R: Abort>(
     let mut room = [1u8; 3001];
     let mut source = Faulty::new(Cut::new(SliceSource::new(bytes), 1000), read);
     let mut output = Faulty::new(Cut::new(SliceOutput::new(&mut room), 700), write);
-    if i >= sections(image) {
-        return (Err(SectionFault::SourceChanged), 0, 0);
-    }
-    let (mut w, mut m) = (Window::new(), Meter::new());
-    let answer = unpack(image, i, &mut source, &mut output, &mut w, &mut m);
+    let answer = unpack_section(image, i, &mut source, &mut output);
     let written = output.device.device.written();
     let size = FIVE.get(i).copied().unwrap_or(0);
     assert!(rt; front(&part, size).starts_with(written));
@@ -103,8 +112,7 @@ fn unpacked<R: Abort>(
 fn each_call_of_unpacking_each_section_fails_and_a_beginning_of_it_stands(rt: HostRuntime) {
     let mut bytes = [1u8; 14336];
     assert!(rt; pack_five(&mut bytes) == Ok(Packed { bytes: 14336 }));
-    let mut source = SliceSource::new(&bytes);
-    let image = open(&mut source, &mut Window::new(), &mut Meter::new()).expect(&rt, "opens");
+    let image = opened(&mut SliceSource::new(&bytes)).expect(&rt, "opens");
     // Reads of 1,000 bytes, each written by 700.
     for (i, reads, writes) in [(0, 3u64, 6u64), (1, 1, 1), (2, 0, 0), (3, 1, 1), (4, 3, 5)] {
         for n in 1..reads.saturating_add(2) {
@@ -135,20 +143,7 @@ fn vendor_packed(read: u64, write: u64, room: &mut [u8]) -> Result<Packed, Secti
     let mut dtb = part(b"d", 0);
     let mut bootconfig = part(b"bc", 0);
     let mut output = Faulty::new(SliceOutput::new(room), write);
-    let spec = vendor(4, 4096);
-    let fragments = [PLAIN, PLAIN];
-    let (dtb, bootconfig) = (&mut dtb, &mut bootconfig);
-    let (mut w, mut m) = (Window::new(), Meter::new());
-    pack_vendor(
-        &spec,
-        &fragments,
-        &mut ramdisks,
-        dtb,
-        bootconfig,
-        &mut output,
-        &mut w,
-        &mut m,
-    )
+    pack_parts(4096, &mut ramdisks, &mut dtb, &mut bootconfig, &mut output)
 }
 
 #[test]
@@ -169,23 +164,18 @@ fn a_call_of_packing_a_vendor_image_fails(rt: HostRuntime) {
 fn reading_fails(image: &Image, bytes: &[u8; 20480], n: u64) -> [Option<SectionFault>; 4] {
     let mut room = [1u8; 8];
     let mut output = SliceOutput::new(&mut room);
-    let (mut w, mut m) = (Window::new(), Meter::new());
-    let opening = open(&mut part(bytes, n), &mut w, &mut m).err();
-    let checking = check(image, &mut part(bytes, n), &mut w, &mut m).err();
-    if fragments(image) != 2 {
-        return [opening, checking, None, None];
-    }
-    let entry = fragment(image, 1, &mut part(bytes, n), &mut w, &mut m).err();
-    let unpacking = unpack_fragment(image, 1, &mut part(bytes, n), &mut output, &mut w, &mut m);
-    [opening, checking, entry, unpacking.err()]
+    let opening = opened(&mut part(bytes, n)).err();
+    let checking = checked(image, &mut part(bytes, n)).err();
+    let reading = entry(image, 1, &mut part(bytes, n)).err();
+    let unpacking = unpack_entry(image, 1, &mut part(bytes, n), &mut output);
+    [opening, checking, reading, unpacking.err()]
 }
 
 #[test]
 fn a_read_of_opening_checking_and_a_fragment_fails(rt: HostRuntime) {
     let mut bytes = [1u8; 20480];
     assert!(rt; pack_four(4096, &mut bytes).is_ok());
-    let mut source = SliceSource::new(&bytes);
-    let image = open(&mut source, &mut Window::new(), &mut Meter::new()).expect(&rt, "opens");
+    let image = opened(&mut SliceSource::new(&bytes)).expect(&rt, "opens");
     let failed = Some(SectionFault::Read(DeviceFault::Failed));
     // An entry is read in one call, and a fragment in one more.
     assert!(rt; reading_fails(&image, &bytes, 1) == [failed; 4]);

@@ -1,30 +1,18 @@
 //! Whole boot images: packed, opened, checked and unpacked, at values from outside.
 
-ghost use Rattle.std.specs.Prelude.{◌≡◌, ◌≤◌, length};
-ghost use Rattle.abt_sections.specs.Refusal.{boot_names};
-
-use crate::samples::{CANONICAL, boot, found, front, pack_five};
+use crate::samples::{CANONICAL, boot, found, front, pack, pack_five};
 use abt_headers::{HeaderFault, Section};
 use abt_io::{Long, Meter, SliceOutput, SliceSource, Window};
-use abt_sections::{BootSpec, Packed, SectionFault, Verdict, boot_input, image_id, pack_boot};
+use abt_sections::{BootSpec, Packed, SectionFault, Verdict, boot_input, image_id};
 
 /// Packs the kernel byte `K` alone.
-fn packed(spec: &BootSpec, room: &mut [u8]) -> Result<Packed, SectionFault>
-    requires { spec.now.version ≤ 4 → 3 ≡ length (boot_names spec.now.version) }
-{
+fn packed(spec: &BootSpec, room: &mut [u8]) -> Result<Packed, SectionFault> {
     let mut parts = [
         SliceSource::new(b"K"),
         SliceSource::new(&[]),
         SliceSource::new(&[]),
     ];
-    let mut output = SliceOutput::new(room);
-    pack_boot(
-        spec,
-        &mut parts,
-        &mut output,
-        &mut Window::new(),
-        &mut Meter::new(),
-    )
+    pack(spec, &mut parts, &mut SliceOutput::new(room))
 }
 
 /// The SHA-1 of 4b 01000000 00000000 00000000, as `sha1sum` prints it, and twelve zeros.
@@ -101,14 +89,7 @@ fn an_init_boot_has_an_empty_kernel(rt: HostRuntime) {
     let mut room = [1u8; 12288];
     let spec = boot(4, 2048, &[], &[]);
     boot_input(&spec, &parts);
-    let mut output = SliceOutput::new(&mut room);
-    let packed = pack_boot(
-        &spec,
-        &mut parts,
-        &mut output,
-        &mut Window::new(),
-        &mut Meter::new(),
-    );
+    let packed = pack(&spec, &mut parts, &mut SliceOutput::new(&mut room));
     assert!(rt; packed == Ok(Packed { bytes: 12288 }));
     assert!(rt; found(&room) == Ok((3, [4096, 4096, 8192, 0, 0], CANONICAL)));
 }
@@ -148,13 +129,7 @@ fn a_part_of_four_gibibytes_is_too_large(rt: HostRuntime) {
     let mut room = [1u8; 16];
     let mut output = SliceOutput::new(&mut room);
     let spec = boot(0, 2048, &[], &[]);
-    let large = pack_boot(
-        &spec,
-        &mut parts,
-        &mut output,
-        &mut Window::new(),
-        &mut Meter::new(),
-    );
+    let large = pack(&spec, &mut parts, &mut output);
     let section = Section::Kernel;
     assert!(rt; large == Err(SectionFault::SectionTooLarge { section }));
     assert!(rt; output.written().is_empty());

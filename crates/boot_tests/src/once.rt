@@ -1,9 +1,22 @@
 //! Packing that reads each part once: the bytes that `pack_boot` writes, and what stands where a call fails.
 
 use crate::failing::part;
-use crate::samples::{boot, found, front, numbers, pack_five};
-use abt_io::{Cut, DeviceFault, Faulty, Meter, SliceOutput, Window};
-use abt_sections::{Packed, SectionFault, pack_boot_once};
+use crate::samples::{boot, found, front, numbers, pack_five, parts_of};
+use abt_io::{Cut, DeviceFault, Faulty, Meter, Overwrite, SliceOutput, Source, Window};
+use abt_sections::{BootSpec, Packed, SectionFault, pack_boot_once};
+
+/// Packs a boot image of these parts, as `pack` does.
+fn pack_once<S: Source, O: Overwrite>(
+    spec: &BootSpec,
+    parts: &mut [S],
+    output: &mut O,
+) -> Result<Packed, SectionFault> {
+    if parts.len() != parts_of(spec.version) {
+        return Err(SectionFault::Name);
+    }
+    let (mut w, mut m) = (Window::new(), Meter::new());
+    pack_boot_once(spec, parts, output, &mut w, &mut m)
+}
 
 /// Packs the image of version 2 over what stands where call `n` of the kernel or of the output fails, which takes at
 /// most 700 bytes a call; at 0 none does. The answer, and how many calls both had.
@@ -17,9 +30,7 @@ fn packed(read: u64, write: u64, room: &mut [u8]) -> (Result<Packed, SectionFaul
         part(front(&bytes, 2049), 0),
     ];
     let mut output = Faulty::new(Cut::new(SliceOutput::new(room), 700), write);
-    let (mut w, mut m) = (Window::new(), Meter::new());
-    let spec = boot(2, 2048, &[], &[]);
-    let answer = pack_boot_once(&spec, &mut parts, &mut output, &mut w, &mut m);
+    let answer = pack_once(&boot(2, 2048, &[], &[]), &mut parts, &mut output);
     (answer, parts[0].seen, output.seen)
 }
 

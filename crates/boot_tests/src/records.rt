@@ -9,15 +9,23 @@ use abt_headers::{
     boot_long, entry_again, entry_long, front_decides, pages, vendor_again, vendor_front_decides,
     vendor_long,
 };
-use std::test::Fail;
+
+/// Lays a run of bytes from a place on, as much of it as there is room for.
+fn lay(record: &mut [u8], place: usize, run: &[u8]) {
+    if place > record.len() {
+        return;
+    }
+    for i in 0..run.len().min(record.len() - place) {
+        record[place + i] = run[i];
+    }
+}
 
 /// A record of `N` bytes with these runs of bytes, and zeros between them.
 fn record<const N: usize>(runs: &[(usize, &[u8])]) -> [u8; N] {
     let mut record = [0; N];
-    for (place, run) in runs {
-        for (cell, byte) in record.iter_mut().skip(*place).zip(run.iter()) {
-            *cell = *byte;
-        }
+    for i in 0..runs.len() {
+        let (place, run) = runs[i];
+        lay(&mut record, place, run);
     }
     record
 }
@@ -47,79 +55,81 @@ fn decodes_to_vendor(record: &[u8], header: &VendorHeader) -> bool {
         && out.ends_with(front(&[0xee; 16], 2128usize.saturating_sub(size)))
 }
 
-#[test]
-fn the_boot_0_record_of_mkbootimg_is_read(rt: HostRuntime) -> Result<(), Fail> {
-    let id = b"\xdcU\xf0k{\x12\x7f\x17\xfd\x9f\xa6\xe1\xca\x91\xd0$\x97\x82<\xa1";
-    let header = BootHeader::V0(BootFront {
-        kernel_size: 8,
-        kernel_addr: 0x1000_8000,
-        ramdisk_size: 11,
-        ramdisk_addr: 0x1100_0000,
-        second_size: 6,
-        second_addr: 0x10f0_0000,
-        tags_addr: 0x1000_0100,
-        page_size: PageSize::Of2048,
-        os_version: OsVersion::new(13, 0, 0, 2023, 5)?,
-        name: text(b"board0"),
-        cmdline: text(b"console=ttyS0 quiet"),
-        id: text(id),
-        extra_cmdline: [0; 1024],
-    });
-    assert!(rt; decodes_to(&record::<1632>(&vectors::BOOT_0), &header));
-    assert!(rt; header.version() == 0);
-    assert!(rt; header.page_size() == 2048);
-    Ok(())
+/// What `mkbootimg` was given for a record of version 0, 1 or 2; the kernel has 8 bytes and the ramdisk 11.
+struct Given {
+    runs: &'static [(usize, &'static [u8])],
+    page_size: PageSize,
+    page: u32,
+    second_size: u32,
+    second_addr: u32,
+    os: [u32; 5],
+    name: &'static [u8],
+    cmdline: &'static [u8],
+    id: &'static [u8],
 }
 
-#[test]
-fn the_boot_1_record_of_mkbootimg_is_read(rt: HostRuntime) -> Result<(), Fail> {
-    let id = b"SaXu\x81n6\x15\x91\x8e\x99\xa0\x155\xe5\xf3\x19/\x164";
-    let front = BootFront {
+const GIVEN: [Given; 3] = [
+    Given {
+        runs: &vectors::BOOT_0,
+        page_size: PageSize::Of2048,
+        page: 2048,
+        second_size: 6,
+        second_addr: 0x10f0_0000,
+        os: [13, 0, 0, 2023, 5],
+        name: b"board0",
+        cmdline: b"console=ttyS0 quiet",
+        id: b"\xdcU\xf0k{\x12\x7f\x17\xfd\x9f\xa6\xe1\xca\x91\xd0$\x97\x82<\xa1",
+    },
+    Given {
+        runs: &vectors::BOOT_1,
+        page_size: PageSize::Of4096,
+        page: 4096,
+        second_size: 0,
+        second_addr: 0,
+        os: [9, 8, 7, 2018, 12],
+        name: b"board1",
+        cmdline: b"androidboot.slot=a",
+        id: b"SaXu\x81n6\x15\x91\x8e\x99\xa0\x155\xe5\xf3\x19/\x164",
+    },
+    Given {
+        runs: &vectors::BOOT_2,
+        page_size: PageSize::Of16384,
+        page: 16384,
+        second_size: 6,
+        second_addr: 0x10f0_0000,
+        os: [127, 127, 127, 2127, 11],
+        name: b"fifteen_letters",
+        cmdline: b"loglevel=4",
+        id: b"0\x16\xad\x5c\xf5q\xc7\xf1u\xa4\xddv\x0b\xb3\xca\x5c_Ds8",
+    },
+];
+
+fn front_of(given: &Given, os_version: OsVersion) -> BootFront {
+    BootFront {
         kernel_size: 8,
         kernel_addr: 0x1000_8000,
         ramdisk_size: 11,
         ramdisk_addr: 0x1100_0000,
-        second_size: 0,
-        second_addr: 0,
+        second_size: given.second_size,
+        second_addr: given.second_addr,
         tags_addr: 0x1000_0100,
-        page_size: PageSize::Of4096,
-        os_version: OsVersion::new(9, 8, 7, 2018, 12)?,
-        name: text(b"board1"),
-        cmdline: text(b"androidboot.slot=a"),
-        id: text(id),
+        page_size: given.page_size,
+        os_version,
+        name: text(given.name),
+        cmdline: text(given.cmdline),
+        id: text(given.id),
         extra_cmdline: [0; 1024],
-    };
+    }
+}
+
+/// The header of version `i` with this front, as `mkbootimg` filled it.
+fn header_of(i: usize, front: BootFront) -> BootHeader {
     let dtbo = DtboFields {
         recovery_dtbo_size: 13,
         recovery_dtbo_offset: 3 * 4096,
         header_size: 1648,
     };
-    let header = BootHeader::V1(front, dtbo);
-    assert!(rt; decodes_to(&record::<1648>(&vectors::BOOT_1), &header));
-    assert!(rt; header.version() == 1);
-    assert!(rt; header.page_size() == 4096);
-    Ok(())
-}
-
-#[test]
-fn the_boot_2_record_of_mkbootimg_is_read(rt: HostRuntime) -> Result<(), Fail> {
-    let id = b"0\x16\xad\x5c\xf5q\xc7\xf1u\xa4\xddv\x0b\xb3\xca\x5c_Ds8";
-    let front = BootFront {
-        kernel_size: 8,
-        kernel_addr: 0x1000_8000,
-        ramdisk_size: 11,
-        ramdisk_addr: 0x1100_0000,
-        second_size: 6,
-        second_addr: 0x10f0_0000,
-        tags_addr: 0x1000_0100,
-        page_size: PageSize::Of16384,
-        os_version: OsVersion::new(127, 127, 127, 2127, 11)?,
-        name: text(b"fifteen_letters"),
-        cmdline: text(b"loglevel=4"),
-        id: text(id),
-        extra_cmdline: [0; 1024],
-    };
-    let dtbo = DtboFields {
+    let no_dtbo = DtboFields {
         recovery_dtbo_size: 0,
         recovery_dtbo_offset: 0,
         header_size: 1660,
@@ -128,20 +138,43 @@ fn the_boot_2_record_of_mkbootimg_is_read(rt: HostRuntime) -> Result<(), Fail> {
         dtb_size: 11,
         dtb_addr: 0x1_11f0_0000,
     };
-    let header = BootHeader::V2(front, dtbo, dtb);
-    assert!(rt; decodes_to(&record::<1660>(&vectors::BOOT_2), &header));
-    assert!(rt; header.version() == 2);
-    assert!(rt; header.page_size() == 16384);
-    Ok(())
+    match i {
+        0 => BootHeader::V0(front),
+        1 => BootHeader::V1(front, dtbo),
+        _ => BootHeader::V2(front, no_dtbo, dtb),
+    }
+}
+
+/// The version of an Android release and its patch level, of which the test knows that they are in range.
+fn os(parts: [u32; 5]) -> Result<OsVersion, HeaderFault> {
+    OsVersion::new(parts[0], parts[1], parts[2], parts[3], parts[4])
+}
+
+#[test]
+fn boot_records_of_mkbootimg_with_ids_are_read(rt: HostRuntime) {
+    for i in 0..3 {
+        let given = &GIVEN[i];
+        let os = os(given.os).expect(&rt, "is a version");
+        let header = header_of(i, front_of(given, os));
+        let bytes = record::<1660>(given.runs);
+        assert!(rt;
+            decodes_to(front(&bytes, header.size()), &header),
+            "version {i}"
+        );
+        assert!(rt; header.size() == [1632, 1648, 1660][i]);
+        assert!(rt; header.version() as usize == i);
+        assert!(rt; header.page_size() == given.page);
+    }
 }
 
 // This `mkbootimg` writes 1,596 as the header's size, and 2,108 below: they are kept as read.
 #[test]
-fn the_boot_3_record_of_mkbootimg_is_read(rt: HostRuntime) -> Result<(), Fail> {
+fn the_boot_3_record_of_mkbootimg_is_read(rt: HostRuntime) {
+    let os_version = os([11, 0, 0, 2020, 9]).expect(&rt, "is a version");
     let header = BootHeader::V3(ShortFront {
         kernel_size: 8,
         ramdisk_size: 11,
-        os_version: OsVersion::new(11, 0, 0, 2020, 9)?,
+        os_version,
         header_size: 1596,
         reserved: [0; 16],
         cmdline: text(b"init=/init"),
@@ -149,7 +182,6 @@ fn the_boot_3_record_of_mkbootimg_is_read(rt: HostRuntime) -> Result<(), Fail> {
     assert!(rt; decodes_to(&record::<1580>(&vectors::BOOT_3), &header));
     assert!(rt; header.version() == 3);
     assert!(rt; header.page_size() == 4096);
-    Ok(())
 }
 
 #[test]
@@ -428,11 +460,8 @@ fn a_vendor_record_is_refused_for_its_first_fault(rt: HostRuntime) {
 fn seven_page_sizes_are_accepted(rt: HostRuntime) {
     for page in [2048u32, 4096, 8192, 16384, 32768, 65536, 131_072] {
         let bytes = record::<1660>(&[(0, b"ANDROID!"), (36, &page.to_le_bytes())]);
-        let header = BootHeader::decode(&bytes);
-        assert!(rt;
-            header.is_ok_and(|header| header.page_size() == page),
-            "{page}"
-        );
+        let header = BootHeader::decode(&bytes).expect(&rt, "is a header");
+        assert!(rt; header.page_size() == page, "{page}");
     }
     assert!(rt; PageSize::from_bytes(3000) == None);
     assert!(rt; pages(0, 2048) == 0);
@@ -502,11 +531,21 @@ fn an_entry_of_a_ramdisk_table_is_read_and_written(rt: HostRuntime) {
     assert!(rt; entry.encode() == bytes);
 }
 
+const NO_VERSIONS: [[u32; 5]; 7] = [
+    [128, 0, 0, 2023, 5],
+    [1, 128, 0, 2023, 5],
+    [1, 0, 128, 2023, 5],
+    [1, 0, 0, 1999, 5],
+    [1, 0, 0, 2128, 5],
+    [1, 0, 0, 2023, 0],
+    [1, 0, 0, 2023, 13],
+];
+
 #[test]
-fn an_os_version_is_its_bits(rt: HostRuntime) -> Result<(), Fail> {
-    let os = OsVersion::new(13, 0, 0, 2023, 5)?;
-    assert!(rt; os.raw() == 436_207_989);
-    assert!(rt; os.raw().to_le_bytes() == [0x75, 0x01, 0x00, 0x1a]);
+fn an_os_version_is_its_bits(rt: HostRuntime) {
+    let os_version = os([13, 0, 0, 2023, 5]).expect(&rt, "is a version");
+    assert!(rt; os_version.raw() == 436_207_989);
+    assert!(rt; os_version.raw().to_le_bytes() == [0x75, 0x01, 0x00, 0x1a]);
     let parts = OsParts {
         a: 13,
         b: 0,
@@ -523,43 +562,37 @@ fn an_os_version_is_its_bits(rt: HostRuntime) -> Result<(), Fail> {
         month: 15,
     };
     assert!(rt; OsVersion::from_raw(u32::MAX).parts() == all_ones);
-    for (a, b, c, year, month) in [
-        (128, 0, 0, 2023, 5),
-        (1, 128, 0, 2023, 5),
-        (1, 0, 128, 2023, 5),
-        (1, 0, 0, 1999, 5),
-        (1, 0, 0, 2128, 5),
-        (1, 0, 0, 2023, 0),
-        (1, 0, 0, 2023, 13),
-    ] {
-        assert!(rt; OsVersion::new(a, b, c, year, month) == Err(HeaderFault::Os));
+    for parts in NO_VERSIONS {
+        assert!(rt; os(parts) == Err(HeaderFault::Os), "{parts:?}");
     }
-    Ok(())
 }
 
+const FAULTS: [(HeaderFault, u32, &'static str); 6] = [
+    (HeaderFault::Magic, 20, "20 Magic"),
+    (HeaderFault::Version(5), 21, "21 Version 5"),
+    (HeaderFault::PageSize(1024), 22, "22 PageSize 1024"),
+    (HeaderFault::Table, 23, "23 Table"),
+    (HeaderFault::Short { need: 44 }, 25, "25 Short need 44"),
+    (HeaderFault::Os, 28, "28 Os"),
+];
+
+const SECTIONS: [(Section, &'static str); 3] = [
+    (Section::Kernel, "[kernel  ]"),
+    (Section::RecoveryDtbo, "[recovery_dtbo]"),
+    (Section::VendorRamdisk, "[vendor_ramdisk]"),
+];
+
 #[test]
-fn each_fault_and_section_has_its_text(rt: HostRuntime) -> Result<(), Fail> {
-    for (fault, number, want) in [
-        (HeaderFault::Magic, 20, "20 Magic"),
-        (HeaderFault::Version(5), 21, "21 Version 5"),
-        (HeaderFault::PageSize(1024), 22, "22 PageSize 1024"),
-        (HeaderFault::Table, 23, "23 Table"),
-        (HeaderFault::Short { need: 44 }, 25, "25 Short need 44"),
-        (HeaderFault::Os, 28, "28 Os"),
-    ] {
+fn each_fault_and_section_has_its_text(rt: HostRuntime) {
+    for (fault, number, want) in FAULTS {
         assert!(rt; fault.number() == number);
-        let shown = format!(in rt.alloc(); "{fault}")?;
+        let shown = format!(in rt.alloc(); "{fault}").expect(&rt, "is written");
         assert!(rt; shown.as_str() == want);
     }
-    for (section, want) in [
-        (Section::Kernel, "[kernel  ]"),
-        (Section::RecoveryDtbo, "[recovery_dtbo]"),
-        (Section::VendorRamdisk, "[vendor_ramdisk]"),
-    ] {
-        let shown = format!(in rt.alloc(); "[{section:<8}]")?;
+    for (section, want) in SECTIONS {
+        let shown = format!(in rt.alloc(); "[{section:<8}]").expect(&rt, "is written");
         assert!(rt; shown.as_str() == want);
     }
-    Ok(())
 }
 
 // These say something and do nothing.

@@ -1,12 +1,16 @@
-//! Fields and parts that tests pack, and opening what stands.
+//! Fields and parts that tests pack, and the calls that they make, each through its bound.
+//!
+//! But for `boot` and `vendor` they have no clauses: what comes of a call is run and not proved. A number that a call
+//! may not be given is answered by `Err(SectionFault::Name)`, which none of the tests wants.
 
-ghost use Rattle.std.specs.Prelude.{◌≡◌};
+ghost use Rattle.std.specs.Prelude.{◌≡◌, length};
+ghost use Rattle.abt_sections.specs.Refusal.{boot_names};
 
-use abt_headers::OsVersion;
-use abt_io::{Meter, SliceOutput, SliceSource, Window};
+use abt_headers::{OsVersion, RamdiskEntry};
+use abt_io::{Meter, Output, SliceOutput, SliceSource, Source, Window};
 use abt_sections::{
-    BootSpec, FragmentSpec, Packed, SectionFault, VendorSpec, Verdict, check, open, pack_boot,
-    pack_vendor, section, sections,
+    BootSpec, FragmentSpec, Image, Packed, SectionFault, VendorSpec, Verdict, check, fragment,
+    fragments, open, pack_boot, pack_vendor, section, sections, unpack_fragment,
 };
 
 pub(crate) fn boot<'a>(version: u32, page: u32, name: &'a [u8], cmdline: &'a [u8]) -> BootSpec<'a>
@@ -64,25 +68,63 @@ pub(crate) fn numbers() -> [u8; 3000] {
 /// How long the parts of the image of version 2 are, each the first of `numbers`.
 pub(crate) const FIVE: [usize; 5] = [3000, 1, 0, 5, 2049];
 
+/// How many parts an image of this version has.
+pub(crate) fn parts_of(version: u32) -> usize
+    ensures { result ≡ length (boot_names version) }
+{
+    match version {
+        0 => 3,
+        1 => 4,
+        2 => 5,
+        3 => 2,
+        _ => 3,
+    }
+}
+
+/// Packs a boot image of these parts.
+pub(crate) fn pack<S: Source, O: Output>(
+    spec: &BootSpec,
+    parts: &mut [S],
+    output: &mut O,
+) -> Result<Packed, SectionFault> {
+    if parts.len() != parts_of(spec.version) {
+        return Err(SectionFault::Name);
+    }
+    let (mut w, mut m) = (Window::new(), Meter::new());
+    pack_boot(spec, parts, output, &mut w, &mut m)
+}
+
 /// Packs the image of version 2 of these parts, with pages of 2,048 bytes: 14,336 bytes.
 pub(crate) fn pack_five(room: &mut [u8]) -> Result<Packed, SectionFault> {
     let bytes = numbers();
     let mut parts = [
         SliceSource::new(&bytes),
-        SliceSource::new(&bytes[..1]),
+        SliceSource::new(front(&bytes, 1)),
         SliceSource::new(&[]),
-        SliceSource::new(&bytes[..5]),
-        SliceSource::new(&bytes[..2049]),
+        SliceSource::new(front(&bytes, 5)),
+        SliceSource::new(front(&bytes, 2049)),
     ];
-    let mut output = SliceOutput::new(room);
-    let mut w = Window::new();
-    let mut m = Meter::new();
-    pack_boot(
-        &boot(2, 2048, &[], &[]),
-        &mut parts,
-        &mut output,
-        &mut w,
-        &mut m,
+    let spec = boot(2, 2048, &[], &[]);
+    pack(&spec, &mut parts, &mut SliceOutput::new(room))
+}
+
+/// Packs a vendor image of version 4 of these fragments, at most two, a dtb and a bootconfig.
+pub(crate) fn pack_parts<S: Source, O: Output>(
+    page: u32,
+    ramdisks: &mut [S],
+    dtb: &mut S,
+    bootconfig: &mut S,
+    output: &mut O,
+) -> Result<Packed, SectionFault> {
+    let fragments = [PLAIN, PLAIN];
+    if ramdisks.len() > 2 {
+        return Err(SectionFault::Name);
+    }
+    let fragments = &fragments[..ramdisks.len()];
+    let spec = vendor(4, page);
+    let (mut w, mut m) = (Window::new(), Meter::new());
+    pack_vendor(
+        &spec, fragments, ramdisks, dtb, bootconfig, output, &mut w, &mut m,
     )
 }
 
@@ -92,37 +134,62 @@ pub(crate) fn pack_four(page: u32, room: &mut [u8]) -> Result<Packed, SectionFau
     let mut dtb = SliceSource::new(b"d");
     let mut bootconfig = SliceSource::new(b"bc");
     let mut output = SliceOutput::new(room);
-    let mut w = Window::new();
-    let mut m = Meter::new();
-    let fragments = [PLAIN, PLAIN];
-    let (dtb, bootconfig) = (&mut dtb, &mut bootconfig);
-    let spec = vendor(4, page);
-    pack_vendor(
-        &spec,
-        &fragments,
-        &mut ramdisks,
-        dtb,
-        bootconfig,
-        &mut output,
-        &mut w,
-        &mut m,
-    )
+    pack_parts(page, &mut ramdisks, &mut dtb, &mut bootconfig, &mut output)
+}
+
+/// Opens the image at the front of a source.
+pub(crate) fn opened<S: Source>(source: &mut S) -> Result<Image, SectionFault> {
+    open(source, &mut Window::new(), &mut Meter::new())
+}
+
+/// What the check says of an image.
+pub(crate) fn checked<S: Source>(image: &Image, source: &mut S) -> Result<Verdict, SectionFault> {
+    check(image, source, &mut Window::new(), &mut Meter::new())
+}
+
+/// Entry `i` of an image's table.
+pub(crate) fn entry<S: Source>(
+    image: &Image,
+    i: u32,
+    source: &mut S,
+) -> Result<RamdiskEntry, SectionFault> {
+    if i >= fragments(image) {
+        return Err(SectionFault::Name);
+    }
+    fragment(image, i, source, &mut Window::new(), &mut Meter::new())
+}
+
+/// Writes fragment `i` of an image.
+pub(crate) fn unpack_entry<S: Source, O: Output>(
+    image: &Image,
+    i: u32,
+    source: &mut S,
+    output: &mut O,
+) -> Result<(), SectionFault> {
+    if i >= fragments(image) {
+        return Err(SectionFault::Name);
+    }
+    let (mut w, mut m) = (Window::new(), Meter::new());
+    unpack_fragment(image, i, source, output, &mut w, &mut m)
+}
+
+/// Where the sections of an image stand, and 0 behind the last.
+fn places(image: &Image) -> [u64; 5] {
+    let mut places = [0; 5];
+    for i in 0..5 {
+        if i < sections(image) {
+            places[i] = section(image, i).at;
+        }
+    }
+    places
 }
 
 /// Opens and checks an image that stands: how many sections it has, where they stand, and what the check says.
 pub(crate) fn found(bytes: &[u8]) -> Result<(usize, [u64; 5], Verdict), SectionFault> {
     let mut source = SliceSource::new(bytes);
-    let mut w = Window::new();
-    let mut m = Meter::new();
-    let image = open(&mut source, &mut w, &mut m)?;
-    let verdict = check(&image, &mut source, &mut w, &mut m)?;
-    let mut places = [0; 5];
-    for (i, place) in places.iter_mut().enumerate() {
-        if i < sections(&image) {
-            *place = section(&image, i).at;
-        }
-    }
-    Ok((sections(&image), places, verdict))
+    let image = opened(&mut source)?;
+    let verdict = checked(&image, &mut source)?;
+    Ok((sections(&image), places(&image), verdict))
 }
 
 /// What the check says of an image that is canonical.

@@ -1,11 +1,11 @@
 //! Whole vendor boot images: packed, opened, checked and unpacked, at values from outside.
 
-use crate::samples::{CANONICAL, found, front, pack_four, vendor};
+use crate::samples::{
+    CANONICAL, entry, found, front, opened, pack_four, pack_parts, unpack_entry, vendor,
+};
 use abt_headers::{HeaderFault, Section};
 use abt_io::{Meter, SliceOutput, SliceSource, Window};
-use abt_sections::{
-    Packed, SectionFault, fragment, fragments, open, pack_vendor, unpack_fragment, vendor_input,
-};
+use abt_sections::{Packed, SectionFault, fragments, pack_vendor, vendor_input};
 
 #[test]
 fn an_image_of_version_3_is_packed_and_checked(rt: HostRuntime) {
@@ -50,16 +50,7 @@ fn an_image_of_empty_parts_is_one_page(rt: HostRuntime) {
     let mut bootconfig = SliceSource::new(&[]);
     let mut room = [1u8; 4096];
     let mut output = SliceOutput::new(&mut room);
-    let packed = pack_vendor(
-        &vendor(4, 4096),
-        &[],
-        &mut ramdisks,
-        &mut dtb,
-        &mut bootconfig,
-        &mut output,
-        &mut Window::new(),
-        &mut Meter::new(),
-    );
+    let packed = pack_parts(4096, &mut ramdisks, &mut dtb, &mut bootconfig, &mut output);
     assert!(rt; packed == Ok(Packed { bytes: 4096 }));
     assert!(rt; found(&room) == Ok((4, [4096, 4096, 4096, 4096, 0], CANONICAL)));
 }
@@ -69,18 +60,15 @@ fn an_image_of_empty_parts_is_one_page(rt: HostRuntime) {
 fn the_second_of_two_fragments_is_read_and_unpacked(rt: HostRuntime) {
     let mut room = [1u8; 20480];
     assert!(rt; pack_four(4096, &mut room).is_ok());
-    let mut w = Window::new();
-    let mut m = Meter::new();
     let mut source = SliceSource::new(&room);
     let mut out = [b'.'; 16];
     let mut output = SliceOutput::new(&mut out);
-    let image = open(&mut source, &mut w, &mut m).expect(&rt, "opens");
-    if fragments(&image) == 2 {
-        let entry = fragment(&image, 1, &mut source, &mut w, &mut m).expect(&rt, "reads");
-        let numbers = (entry.ramdisk_offset, entry.ramdisk_size, entry.ramdisk_type);
-        assert!(rt; numbers == (5, 7, 1));
-        assert!(rt; unpack_fragment(&image, 1, &mut source, &mut output, &mut w, &mut m) == Ok(()));
-    }
+    let image = opened(&mut source).expect(&rt, "opens");
+    assert!(rt; fragments(&image) == 2);
+    let entry = entry(&image, 1, &mut source).expect(&rt, "reads");
+    let numbers = (entry.ramdisk_offset, entry.ramdisk_size, entry.ramdisk_type);
+    assert!(rt; numbers == (5, 7, 1));
+    assert!(rt; unpack_entry(&image, 1, &mut source, &mut output) == Ok(()));
     assert!(rt; output.written() == b"second!".as_slice());
 }
 
