@@ -1,10 +1,11 @@
 -- What an output was given, where nothing came, or one write came before the last.
-use Rattle.std.proofs.Common.{◌≡◌, ℕ, zero, suc, ◌+◌, ◌-◌, ◌≤◌, List, [], ◌∷◌, ◌++◌, Result, Ok, Err, length, map, take, replicate, refl, sym, ap, ◌∙◌, arith}
+use Rattle.std.proofs.Common.{◌≡◌, ℕ, zero, suc, ◌+◌, ◌-◌, ◌*◌, ◌≤◌, List, [], ◌∷◌, ◌++◌, Result, Ok, Err, length, map, get_or, take, drop, replicate, refl, sym, ap, ◌∙◌, arith}
 use Rattle.std.specs.Prelude.{OnOk}
 use Rattle.std.proofs.lemmas.List.{length-map, take_all, take_at}
+use Rattle.abt_headers.specs.Page.{pages}
 use Rattle.abt_sections.specs.Fields.{filled}
 use Rattle.abt_sections.specs.Grown.{Begins, Grows}
-use Rattle.abt_sections.specs.Layout.{padded, zeros_behind}
+use Rattle.abt_sections.specs.Layout.{padded, zeros_behind, laid_size}
 use Rattle.abt_sections.proofs.Growing.{then_all}
 
 pub grows_none : (a : List ℕ) → Grows a a
@@ -39,3 +40,17 @@ pub same_sizes : {S : Type 0} (f : S → ℕ) (ps ps' : List S) (sizes : List �
 same_sizes f ps ps' sizes n is long e =
     e ∙ ap (λ (l : List ℕ). take n l) is
     ∙ take_at (map f ps) (replicate (5 - length (map f ps)) 0) n (omega (arith, long, length-map ps f))
+
+-- x and y came, and then z where the last call was Ok
+pub ok_last : {X E : Type 0} (r : Result X E) (a b c d x y z : List ℕ) → b ≡ a ++ x → c ≡ b ++ y → OnOk r (d ≡ c ++ z) → OnOk r (d ≡ a ++ (x ++ (y ++ z)))
+ok_last (Ok v) a b c d x y z e f h = then_all a b d x (y ++ z) e (then_all b c d y z f h)
+ok_last (Err k) a b c d x y z e f h = tt
+
+-- how many bytes the last two of four parts take
+pub last_two : (page : ℕ) (sizes : List ℕ) → length sizes ≡ 4 → laid_size page (drop 2 sizes) ≡ pages (get_or sizes 2 0) page * page + pages (get_or sizes 3 0) page * page
+last_two page [] long = absurd (omega (arith, long))
+last_two page (a ∷ []) long = absurd (omega (arith, long))
+last_two page (a ∷ b ∷ []) long = absurd (omega (arith, long))
+last_two page (a ∷ b ∷ c ∷ []) long = absurd (omega (arith, long))
+last_two page (a ∷ b ∷ c ∷ d ∷ []) long = omega arith
+last_two page (a ∷ b ∷ c ∷ d ∷ e ∷ sizes) long = absurd (omega (arith, long))

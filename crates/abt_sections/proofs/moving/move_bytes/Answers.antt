@@ -1,8 +1,9 @@
-use Rattle.std.proofs.Common.{arith, ap, length, ◌∙◌, ◌+◌, ◌≤◌, ◌<◌}
+use Rattle.std.proofs.Common.{arith, ap, length, ◌∙◌, ◌+◌, ◌≤◌, ◌<◌, refl, sym, append-nil}
 use Rattle.std.specs.Prelude.{IsTrue}
 use Rattle.abt_sections.proofs.Digests.{hashed_front}
 use Rattle.abt_sections.proofs.Causes.{move_on}
 use Rattle.abt_sections.proofs.Growing.{grows_on, written_next}
+use Rattle.abt_sections.proofs.Beginnings.{grows_none}
 use Rattle.abt_sections.proofs.moving.move_bytes.Goals as goal
 
 pub loop-at-preserved : goal.loop-at-preserved
@@ -49,3 +50,22 @@ returns-in-Err-clause-cause g c =
     move_on c.in-Err.fault (f c.args.part.now) (f now) (f c.move_step.new.source) (f c.move_step.new.source) (o c.args.output.now) (o c.loop-at.output) (o c.move_step.new.output) (o c.move_step.new.output)
     (IsTrue s.tells → (0 < ask → at + ask ≤ length (s.content now)) → ⊥) (IsTrue s.tells → c.args.n ≤ length (s.content c.args.part.now) → ⊥)
     (omega (arith, i.read_faults)) r (omega (arith, i.write_faults)) w (λ changed tells there. changed tells (λ some. omega (arith, there, ap length (i.content tells)))) e.cause
+
+pub loop-at-init : goal.loop-at-init
+loop-at-init g c =
+    record {
+      within = omega arith;
+      content = λ tells. refl;
+      size = λ tells. refl;
+      frame = refl;
+      once = omega arith;
+      present = λ tells. omega arith;
+      written = λ tells. sym (append-nil _);
+      hashed = λ wanted tells t held. rw (append-nil) held;
+      grown = grows_none _;
+      all = omega arith;
+      write_frame = refl;
+      read_faults = refl;
+      write_faults = refl;
+      full_faults = refl;
+    }

@@ -3,6 +3,7 @@ use Rattle.std.specs.List.{concat}
 use Rattle.abt_headers.specs.Vendor.{view, vendor_page, vendor_record}
 use Rattle.abt_sections.specs.Layout.{padded}
 use Rattle.abt_sections.proofs.Growing.{begins_then, begins_stop}
+use Rattle.abt_sections.proofs.Beginnings.{ok_last}
 use Rattle.abt_sections.proofs.vendor_packing.write_first_sections.Goals as goal
 
 pub returns-in-Err-write_vendor_ramdisk-clause-front : goal.returns-in-Err-write_vendor_ramdisk-clause-front
@@ -23,3 +24,21 @@ returns-clause-front g c = λ tells.
     let e = c.in-Ok-write_vendor_ramdisk.ensures in
     begins_then _ _ _ (padded page (vendor_record v)) (q ++ r) c.in-Ok.ensures.written
     (begins_then _ _ _ q r (rw c.page_size-page.ensures.value at (e.written tells)) (rw c.page_size-page.ensures.value at (c.write_part.ensures.front tells)) c.write_part.ensures.least) (omega (arith, e.least, c.write_part.ensures.least))
+
+pub returns-in-Err-clause-front : goal.returns-in-Err-clause-front
+returns-in-Err-clause-front g c =
+    λ tells.
+    let v = view c.args.header.now in
+    let page = vendor_page v in
+    let q = padded page (concat (map g.S.Source.content c.args.ramdisks.now)) in
+    let r = padded page (g.S.Source.content c.args.dtb.now) in
+    begins_stop _ _ (padded page (vendor_record v)) (q ++ r) c.in-Err.ensures.front
+
+pub returns-clause-written : goal.returns-clause-written
+returns-clause-written g c =
+    λ tells.
+    let v = view c.args.header.now in
+    let page = vendor_page v in
+    let q = padded page (concat (map g.S.Source.content c.args.ramdisks.now)) in
+    let r = padded page (g.S.Source.content c.args.dtb.now) in
+    ok_last c.write_part.result _ _ _ _ (padded page (vendor_record v)) q r c.in-Ok.ensures.written (rw c.page_size-page.ensures.value at (c.in-Ok-write_vendor_ramdisk.ensures.written tells)) (rw c.page_size-page.ensures.value at (c.write_part.ensures.written tells))

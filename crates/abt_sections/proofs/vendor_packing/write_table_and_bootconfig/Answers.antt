@@ -1,9 +1,12 @@
-use Rattle.std.proofs.Common.{◌≡◌, ℕ, List, [], ◌*◌, ◌++◌, append_assoc, append-nil, arith, ap, sym, ◌∙◌, subst, length, length-append, map, get_or, take}
+use Rattle.std.proofs.Common.{◌≡◌, ℕ, List, [], ◌*◌, ◌++◌, append_assoc, append-nil, arith, ap, sym, ◌∙◌, subst, length, length-append, map, get_or, take, ◌+◌}
 use Rattle.std.specs.Prelude.{OnOk}
 use Rattle.abt_sections.specs.Layout.{padded, zeros_behind}
 use Rattle.abt_sections.specs.VendorCanon.{table_for}
-use Rattle.abt_sections.proofs.Causes.{on_ok}
+use Rattle.abt_sections.proofs.Causes.{on_ok, on_ok_then}
 use Rattle.abt_sections.proofs.Growing.{begins_then, begins_stop, begins_is, then_all, still_stands}
+use Rattle.abt_headers.proofs.Places.{enough_pages}
+use Rattle.abt_headers.specs.Page.{pages}
+use Rattle.abt_sections.proofs.Beginnings.{last_two}
 use Rattle.abt_sections.proofs.vendor_packing.write_table_and_bootconfig.Goals as goal
 
 pub returns-in-Err-write_padding-clause-front : goal.returns-in-Err-write_padding-clause-front
@@ -52,3 +55,28 @@ returns-clause-table g c =
     let long : length t ≡ 108 * length c.args.fragments.now = omega (arith, ap length e.written, length-append w0 t, e.all) in
     let whole : g.O.Output.written c.write_padding.new.output ≡ w0 ++ (t ++ zeros_behind (get_or c.args.sizes.now 2 0) page) = then_all _ _ _ t _ e.written p.written in
     on_ok c.write_part.result (still_stands w0 t (zeros_behind (get_or c.args.sizes.now 2 0) page) _ _ long (subst (λ (l : List ℕ). take (length l) (g.O.Output.written c.write_part.new.output) ≡ l) whole c.write_part.ensures.grown))
+
+pub returns-in-Err-clause-most : goal.returns-in-Err-clause-most
+returns-in-Err-clause-most g c =
+    omega (arith, c.in-Err.ensures.most, c.requires.table, enough_pages (get_or c.args.sizes.now 2 0) c.args.page c.requires.some, last_two c.args.page c.args.sizes.now (omega arith))
+
+pub returns-in-Err-write_padding-clause-most : goal.returns-in-Err-write_padding-clause-most
+returns-in-Err-write_padding-clause-most g c =
+    omega (arith, c.in-Ok.ensures.all, c.in-Err-write_padding.ensures.most, c.requires.table, last_two c.args.page c.args.sizes.now (omega arith))
+
+pub returns-clause-most : goal.returns-clause-most
+returns-clause-most g c =
+    omega (arith, c.in-Ok.ensures.all, c.in-Ok-write_padding.ensures.all, c.write_part.ensures.most, c.requires.table, last_two c.args.page c.args.sizes.now (omega arith))
+
+pub returns-clause-all : goal.returns-clause-all
+returns-clause-all g c =
+    let two = last_two c.args.page c.args.sizes.now (omega arith) in
+    on_ok_then c.write_part.result (λ all. omega (arith, c.in-Ok.ensures.all, c.in-Ok-write_padding.ensures.all, c.requires.table, two, all)) c.write_part.ensures.all
+
+pub returns-in-Err-clause-front : goal.returns-in-Err-clause-front
+returns-in-Err-clause-front g c =
+    λ tells.
+    let page = c.args.page in
+    let t = table_for c.args.fragments.now (map g.S.Source.size c.args.ramdisks.now) 0 in
+    begins_is _ _ _ _ (sym (append_assoc t (zeros_behind (length t) page) (padded page (g.S.Source.content c.args.bootconfig.now) ++ [])))
+    (begins_stop _ _ t (zeros_behind (length t) page ++ (padded page (g.S.Source.content c.args.bootconfig.now) ++ [])) c.in-Err.ensures.front)
