@@ -1,20 +1,25 @@
 -- What a step answers to a part that is laid, clause by clause.
-use Rattle.std.proofs.Common.{◌≡◌, ℕ, ◌≤◌, ◌<◌, ◌||◌, Bool, true, false, Err, refl, sym, ◌∙◌, arith, nat_lt, inl, inr}
-use Rattle.std.specs.Prelude.{IsTrue}
+use Rattle.std.proofs.Common.{◌≡◌, ℕ, ◌+◌, ◌*◌, ◌≤◌, ◌<◌, ◌||◌, Bool, List, [], true, false, Ok, Err, refl, sym, ap, ◌∙◌, arith, nat_lt, inl, inr}
+use Rattle.std.specs.Prelude.{IsTrue, if◌then◌else◌}
 use Rattle.std.proofs.lemmas.Bool.{cases_Bool, lt-ltb}
+use Rattle.abt_io.specs.declared.device.DeviceFault.TheVariants as devices
 use Rattle.abt_sparse.specs.declared.fault.SparseFault.TheVariants as faults
 use Rattle.abt_chunks.specs.declared.walk.Part.{Part}
 use Rattle.abt_chunks.specs.declared.walk.Part.TheVariants as parts
 use Rattle.abt_chunks.specs.declared.walk.Phase.{Phase}
 use Rattle.abt_chunks.specs.declared.walk.Phase.TheVariants as phases
 use Rattle.abt_chunks.specs.declared.walk.Walk.{Walk}
+use Rattle.abt_chunks.specs.Expanding.{IsGoing}
 use Rattle.abt_chunks.specs.Turns.{IsOver}
 use Rattle.abt_chunks.specs.Parts.{Leaves as PartLeaves, goes_on}
-use Rattle.abt_chunks.specs.ListingAhead.{Numbers, at_end}
+use Rattle.abt_chunks.specs.ListingAhead.{Closes, Numbers, at_end}
 use Rattle.abt_flash.specs.declared.fault.FlashFault.{FlashFault}
 use Rattle.abt_flash.specs.declared.fault.FlashFault.TheVariants as fails
-use Rattle.abt_flash.specs.Fault.{PutCause}
-use Rattle.abt_flash.specs.Stepping.{Leaves, OnMore, OnShort, answer_of, passed, passed_in}
+use Rattle.abt_flash.specs.Fault.{PutCause, refused_syncs}
+use Rattle.abt_flash.specs.Laying.{Settles, syncs_by}
+use Rattle.abt_flash.specs.Stepping.{Leaves, Measures, OnDone, OnMore, OnShort, answer_of, is_done, need_of, passed, passed_in}
+use Rattle.abt_flash.specs.declared.stage.Stage.TheVariants as stages
+use Rattle.abt_flash.proofs.Steps.{refused_measures}
 
 -- where the answer is more, the part goes on
 pub on_more : (q : Part) (P : Type 0) → (IsTrue (goes_on q) → P) → OnMore (answer_of q) P
@@ -78,3 +83,55 @@ pub faults_rise : (f : FlashFault) (p p' : ℕ) → PutCause {X = Unit {0}} (Err
 faults_rise (fails.Write d) p p' h = omega (arith, h.0)
 faults_rise (fails.Sync d) p p' h = omega (arith, h.0)
 faults_rise f p p' h = absurd h
+
+-- nor does a partition that refuses a part
+pub refused_short : (f : FlashFault) (P : Type 0) (p p' : ℕ) → PutCause {X = Unit {0}} (Err f) p p' → OnShort {X = Unit {0}} (Err f) P
+refused_short (fails.Write d) P p p' h = tt
+refused_short (fails.Sync d) P p p' h = tt
+refused_short f P p p' h = absurd h
+
+-- a partition that is not too small, and at the end of the image the header has been passed
+pub answer_measures : (q : Part) (s : Walk) (size : ℕ) → IsGoing s.phase → Closes q s.phase s → (passed s ≡ true → need_of s ≤ size) → Measures (answer_of q) s size
+answer_measures (parts.Raw n) s size going closes all = all
+answer_measures (parts.Words word n) s size going closes all = all
+answer_measures (parts.Skip n) s size going closes all = all
+answer_measures parts.Nothing s size going closes all = all
+answer_measures parts.End s size going closes all = refused_measures parts.End (fails.Sync devices.Failed) s size 0 1 (omega arith, refl) refl going closes all
+answer_measures (parts.Fault (faults.Read d)) s size going closes all = all
+answer_measures (parts.Fault (faults.Write d)) s size going closes all = all
+answer_measures (parts.Fault f) s size going closes all = all
+
+-- the sync of the end, which has succeeded
+pub answer_done : (q : Part) → syncs_by q (Ok tt) ≡ (if is_done stages.Going (answer_of q) then 1 else 0)
+answer_done (parts.Raw n) = refl
+answer_done (parts.Words word n) = refl
+answer_done (parts.Skip n) = refl
+answer_done parts.Nothing = refl
+answer_done parts.End = refl
+answer_done (parts.Fault f) = refl
+
+pub refused_none : (q : Part) (f : FlashFault) → syncs_by q (Err f) ≡ 0
+refused_none (parts.Raw n) f = refl
+refused_none (parts.Words word n) f = refl
+refused_none (parts.Skip n) f = refl
+refused_none parts.Nothing f = refl
+refused_none parts.End f = refl
+refused_none (parts.Fault e) f = refl
+
+pub answer_refused : (q : Part) → refused_syncs (answer_of q) ≡ 0
+answer_refused (parts.Raw n) = refl
+answer_refused (parts.Words word n) = refl
+answer_refused (parts.Skip n) = refl
+answer_refused parts.Nothing = refl
+answer_refused parts.End = refl
+answer_refused (parts.Fault (faults.Read d)) = refl
+answer_refused (parts.Fault (faults.Write d)) = refl
+answer_refused (parts.Fault f) = refl
+
+pub answer_settles : (q : Part) (pending : List (ℕ × ℕ)) → Settles q pending → OnDone (answer_of q) (pending ≡ [])
+answer_settles (parts.Raw n) pending h = tt
+answer_settles (parts.Words word n) pending h = tt
+answer_settles (parts.Skip n) pending h = tt
+answer_settles parts.Nothing pending h = tt
+answer_settles parts.End pending h = h
+answer_settles (parts.Fault f) pending h = tt

@@ -15,3 +15,4 @@ pub mod Onward
 pub mod Summing
 pub mod Refusing
 pub mod Records
+pub mod Still

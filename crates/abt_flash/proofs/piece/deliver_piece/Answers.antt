@@ -14,6 +14,7 @@ use Rattle.abt_pieces.specs.Fault.{HasCause as CutCause}
 use Rattle.abt_pieces.specs.Image.{Appended, IsImage}
 use Rattle.abt_flash.proofs.PieceFlash.{Reads, cut_stops, image_reads, piece_reads, given_reads, all_flashed, only_devices, flash_stops, laid_stops, unsynced_stops, laid_cut, unsynced_cut, on_flashed, behind_clear, all_read, touched_reads}
 use Rattle.abt_flash.proofs.Spooled.{fits_one, begins_front}
+use Rattle.abt_flash.proofs.Still.{begins_same, fits_same, goes_behind, touches_none}
 use Rattle.abt_flash.proofs.piece.deliver_piece.Goals as goal
 use Rattle.abt_flash.proofs.piece.deliver_piece.Goals.{After-flash, In-Err-next_piece, In-Ok-Some}
 use Rattle.abt_flash.proofs.piece.deliver_piece.Given.{Over}
@@ -474,3 +475,117 @@ returns-in-Ok-flash-clause-spent_end g c tells over =
     let end = rw ends at z.end in
     let most = end over in
     omega (arith, most, c.next_piece.ensures.costs.given)
+
+-- ---- what cannot be: a cutter between pieces has one more
+
+pub unreachable-requires : goal.unreachable-requires
+unreachable-requires g c =
+    let none = rw c.in-Ok-None.field-0-is at c.in-Ok-None.ensures.none in
+    let z = sym c.requires.between ∙ none.0 in
+    cc
+
+-- ---- the rest where the spool was not cleared: nothing else was called
+
+pub returns-in-Err-clause-told : goal.returns-in-Err-clause-told
+returns-in-Err-clause-told g c = c.requires.told
+
+pub returns-in-Err-clause-fits : goal.returns-in-Err-clause-fits
+returns-in-Err-clause-fits g c = fits_same _ _ _ _ _ c.in-Err.ensures.kept c.clear.ensures.written
+
+pub returns-in-Err-clause-begins : goal.returns-in-Err-clause-begins
+returns-in-Err-clause-begins g c tells = begins_same _ _ _ c.clear.ensures.written
+
+pub returns-in-Err-clause-touches : goal.returns-in-Err-clause-touches
+returns-in-Err-clause-touches g c tells spool partition = touches_none _ _ _
+
+pub returns-in-Err-clause-synced : goal.returns-in-Err-clause-synced
+returns-in-Err-clause-synced g c = omega arith
+
+pub returns-in-Err-clause-calls : goal.returns-in-Err-clause-calls
+returns-in-Err-clause-calls g c =
+    let long = ap length c.clear.ensures.written in
+    let e = c.clear.ensures in
+    omega (arith, long, e.given, e.reads, e.writes, e.calls)
+
+pub returns-in-Err-clause-turns : goal.returns-in-Err-clause-turns
+returns-in-Err-clause-turns g c =
+    let long = ap length c.clear.ensures.written in
+    omega (arith, long, c.clear.ensures.given)
+
+pub returns-in-Err-clause-work : goal.returns-in-Err-clause-work
+returns-in-Err-clause-work g c =
+    let long = ap length c.clear.ensures.written in
+    record {
+      given = omega arith;
+      spool_given = omega (arith, c.clear.ensures.given);
+      grown = omega (arith, long);
+      taken = omega arith;
+      steps = omega (arith, c.clear.ensures.given);
+      greatest = omega arith;
+    }
+
+pub returns-in-Err-clause-faults : goal.returns-in-Err-clause-faults
+returns-in-Err-clause-faults g c =
+    record {
+      read = omega arith;
+      write = omega (arith, c.clear.ensures.write_faults, c.clear.ensures.clear_faults);
+      spool = omega (arith, c.clear.ensures.read_faults);
+      put = omega arith;
+    }
+
+-- ---- the rest where the piece was not written: the partition was not called
+
+pub returns-in-Err-next_piece-clause-touches : goal.returns-in-Err-next_piece-clause-touches
+returns-in-Err-next_piece-clause-touches g c tells spool partition = touches_none _ _ _
+
+pub returns-in-Err-next_piece-clause-told : goal.returns-in-Err-next_piece-clause-told
+returns-in-Err-next_piece-clause-told g c = c.next_piece.ensures.told
+
+pub returns-in-Err-next_piece-clause-same : goal.returns-in-Err-next_piece-clause-same
+returns-in-Err-next_piece-clause-same g c = (c.next_piece.ensures.cutter.same_image, c.next_piece.ensures.cutter.same_limit)
+
+pub returns-in-Err-next_piece-clause-synced : goal.returns-in-Err-next_piece-clause-synced
+returns-in-Err-next_piece-clause-synced g c = omega arith
+
+-- ---- the rest where it was flashed, and where that was refused
+
+pub returns-in-Ok-flash-clause-told : goal.returns-in-Ok-flash-clause-told
+returns-in-Ok-flash-clause-told g c = c.next_piece.ensures.told
+
+pub returns-in-Err-flash-clause-told : goal.returns-in-Err-flash-clause-told
+returns-in-Err-flash-clause-told g c = c.next_piece.ensures.told
+
+pub returns-in-Ok-flash-clause-same : goal.returns-in-Ok-flash-clause-same
+returns-in-Ok-flash-clause-same g c = (c.next_piece.ensures.cutter.same_image, c.next_piece.ensures.cutter.same_limit)
+
+pub returns-in-Err-flash-clause-same : goal.returns-in-Err-flash-clause-same
+returns-in-Err-flash-clause-same g c = (c.next_piece.ensures.cutter.same_image, c.next_piece.ensures.cutter.same_limit)
+
+pub returns-in-Ok-flash-clause-behind : goal.returns-in-Ok-flash-clause-behind
+returns-in-Ok-flash-clause-behind g c =
+    let p = rw c.in-Ok-Some.field-0-is at c.in-Ok-Some.ensures.piece in
+    goes_behind _ _ _ _ _ _ _ _ p.one_more p.begins p.ends p.passed
+
+pub returns-in-Ok-flash-clause-greatest_end : goal.returns-in-Ok-flash-clause-greatest_end
+returns-in-Ok-flash-clause-greatest_end g c tells = segment g ((goal.at.returns-in-Ok-flash-clause-greatest_end g c).In-Ok-Some) tells
+
+pub returns-in-Ok-flash-clause-settled : goal.returns-in-Ok-flash-clause-settled
+returns-in-Ok-flash-clause-settled g c = c.in-Ok-flash.ensures.syncs.settled
+
+pub returns-in-Ok-flash-clause-synced : goal.returns-in-Ok-flash-clause-synced
+returns-in-Ok-flash-clause-synced g c = c.in-Ok-flash.ensures.syncs.synced
+
+pub returns-in-Ok-flash-clause-unsynced : goal.returns-in-Ok-flash-clause-unsynced
+returns-in-Ok-flash-clause-unsynced g c = c.in-Ok-flash.ensures.syncs.refused
+
+pub returns-in-Err-flash-clause-synced : goal.returns-in-Err-flash-clause-synced
+returns-in-Err-flash-clause-synced g c = rw c.not_flashed.ensures c.in-Err-flash.ensures.syncs.synced
+
+pub returns-in-Ok-flash-clause-takes : goal.returns-in-Ok-flash-clause-takes
+returns-in-Ok-flash-clause-takes g c =
+    let k = (goal.at.returns-in-Ok-flash-clause-takes g c).After-flash in
+    let same = ap length (after_written g k) in
+    let long = ap length c.clear.ensures.written in
+    let wrote = rw c.in-Ok-Some.field-0-is at c.in-Ok-Some.ensures.long in
+    let takes = rw c.in-Ok-Some.field-0-is at c.in-Ok-Some.ensures.takes in
+    omega (arith, same, long, wrote, takes)

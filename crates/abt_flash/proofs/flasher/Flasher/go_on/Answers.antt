@@ -3,7 +3,7 @@ use Rattle.abt_chunks.specs.declared.walk.Walk.{Walk}
 use Rattle.abt_flash.specs.Stepping.{is_short_of, need_of, passed}
 use Rattle.abt_flash.proofs.Steps.{answer_cause, laid_part, nothing_laid, refused_cause, refused_heads, refused_laid, refused_leaves, refused_measures}
 use Rattle.abt_flash.proofs.Places.{fresh_goes, room_for}
-use Rattle.abt_flash.proofs.Answering.{on_more, never_short, answer_leaves, begins_of, faults_rise}
+use Rattle.abt_flash.proofs.Answering.{on_more, never_short, answer_leaves, answer_done, answer_measures, answer_refused, answer_settles, begins_of, faults_rise, refused_none, refused_short}
 use Rattle.abt_flash.proofs.Heads.{heads}
 use Rattle.abt_flash.proofs.Come.{going_phase}
 use Rattle.abt_flash.proofs.flasher.Flasher.go_on.Goals as goal
@@ -158,3 +158,44 @@ returns-in-Ok-clause-greatest g c = closed _ _ _ _ _ _ _ c.part_within-taken.ens
 
 pub returns-in-Err-clause-greatest : goal.returns-in-Err-clause-greatest
 returns-in-Err-clause-greatest g c = closed _ _ _ _ _ _ _ c.part_within-taken.ensures.greatest c.lay_part-done.ensures.greatest c.close_step-2.ensures.greatest c.part_within-taken.ensures.received
+
+-- ---- the rest of what is answered to a part, by what the part and the walk are
+
+pub returns-in-Ok-clause-measures : goal.returns-in-Ok-clause-measures
+returns-in-Ok-clause-measures g c goes =
+    let s = c.args.self.now.walk in
+    let size = g.P.Source.size c.args.partition.now in
+    let short : is_short_of s size ≡ false = ap (λ (k : ℕ). is_short_of s k) (sym c.length.ensures.size) ∙ sym c.is_short.ensures ∙ c.if-is_short.false in
+    rw c.answer-answer.ensures (answer_measures c.part_within-taken.result.part s size (going_phase c.args.self.now.stage s.phase goes) c.part_within-taken.ensures.closes (λ q. not_short s size short q))
+
+pub returns-in-Ok-clause-synced : goal.returns-in-Ok-clause-synced
+returns-in-Ok-clause-synced g c =
+    let done = answer_done c.part_within-taken.result.part in
+    let synced = c.in-Ok.ensures.synced in
+    rw (c.answer-answer.ensures, c.requires.going) (omega (arith, done, synced))
+
+pub returns-in-Ok-clause-refused_syncs : goal.returns-in-Ok-clause-refused_syncs
+returns-in-Ok-clause-refused_syncs g c goes =
+    let none = answer_refused c.part_within-taken.result.part in
+    let syncs = c.in-Ok.ensures.refused_syncs in
+    rw c.answer-answer.ensures (omega (arith, none, syncs))
+
+pub returns-in-Ok-clause-settled : goal.returns-in-Ok-clause-settled
+returns-in-Ok-clause-settled g c goes tells = rw c.answer-answer.ensures (answer_settles c.part_within-taken.result.part _ (c.in-Ok.ensures.settled tells))
+
+pub returns-in-Ok-clause-few : goal.returns-in-Ok-clause-few
+returns-in-Ok-clause-few g c =
+    let p = c.part_within-taken.ensures in
+    rw c.answer-answer.ensures (on_more c.part_within-taken.result.part _ (λ goes. omega (arith, p.turns, p.received, c.in-Ok.ensures.few, c.close_step-2.ensures.turns)))
+
+pub returns-in-Err-clause-short : goal.returns-in-Err-clause-short
+returns-in-Err-clause-short g c = refused_short c.in-Err.fault _ _ _ c.in-Err.ensures.cause
+
+pub returns-in-Err-clause-refused_syncs : goal.returns-in-Err-clause-refused_syncs
+returns-in-Err-clause-refused_syncs g c goes = c.in-Err.ensures.refused_syncs
+
+pub returns-in-Err-clause-synced : goal.returns-in-Err-clause-synced
+returns-in-Err-clause-synced g c =
+    let none = refused_none c.part_within-taken.result.part c.in-Err.fault in
+    let synced = c.in-Err.ensures.synced in
+    rw c.requires.going (omega (arith, none, synced))

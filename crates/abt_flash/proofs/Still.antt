@@ -1,0 +1,29 @@
+-- Where nothing more was called: what a spool and a partition are left with.
+use Rattle.std.proofs.Common.{◌≡◌, ℕ, ◌+◌, ◌++◌, List, [], Option, length, refl, sym, ap, inl, inr}
+use Rattle.abt_io.specs.Moment.{Past, moment_of}
+use Rattle.abt_io.proofs.Moments.{keeps_same}
+use Rattle.abt_pieces.specs.Cutter.{Passed}
+use Rattle.abt_pieces.specs.declared.stage.Stage.{Stage}
+use Rattle.abt_flash.specs.Laying.{writes}
+use Rattle.abt_flash.specs.Delivering.{Begins, PiecesFit}
+use Rattle.abt_flash.specs.Flashing.{TouchesOnly}
+use Rattle.abt_flash.specs.Going.{GoesBehind}
+use Rattle.abt_flash.proofs.Moments.{during_none}
+use Rattle.abt_flash.proofs.Onward.{passed_stands}
+
+-- nothing was written to the spool, and it was not cleared
+pub fits_same : (limit : ℕ) (cuts cuts' w w' : List ℕ) → cuts' ≡ cuts → w' ≡ w → PiecesFit limit cuts cuts' (length w) (length w')
+fits_same limit cuts cuts' w w' e same = record { clears = []; joined = e; fit = ap length (sym same) }
+
+pub begins_same : (w w' x : List ℕ) → w' ≡ w → Begins w' (w ++ x)
+begins_same w w' x e = record { more = x; joined = ap (λ (y : List ℕ). y ++ x) e }
+
+-- the partition was not called
+pub touches_none : (cs : List (Option ℕ)) (past : Past) (p : List ℕ) → TouchesOnly cs past past p p
+touches_none cs past p = record { kept = keeps_same (writes cs) (moment_of past p); moments = during_none (writes cs) (moment_of past p) (moment_of past p) past.moments }
+
+-- the piece that was made goes on from where the cutter stood
+pub goes_behind : (n k k' s e first past : ℕ) (st : Stage) → k' ≡ k + 1 → first ≡ s → past ≡ e → Passed n first past st → GoesBehind n k k' s e st
+goes_behind n k k' s e first past st made begins ends h =
+    let at = rw (begins, ends) at h in
+    record { made = made; stands = passed_stands n s e st at; moves = at.moves }
