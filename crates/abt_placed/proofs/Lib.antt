@@ -8,3 +8,4 @@ pub mod Segments
 pub mod Sourced
 pub mod Uncut
 pub mod Pieces
+pub mod Rooms
