@@ -9,3 +9,4 @@ pub mod Sourced
 pub mod Uncut
 pub mod Pieces
 pub mod Rooms
+pub mod Within
