@@ -10,3 +10,4 @@ pub mod Uncut
 pub mod Pieces
 pub mod Rooms
 pub mod Within
+pub mod Parts
