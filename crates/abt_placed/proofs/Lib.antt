@@ -8,3 +8,6 @@ pub mod Segments
 pub mod Sourced
 pub mod Uncut
 pub mod Pieces
+pub mod Rooms
+pub mod Within
+pub mod Parts

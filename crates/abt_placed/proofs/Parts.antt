@@ -1,0 +1,74 @@
+-- The numbers of a part that is taken, or of which a write fails.
+use Rattle.std.proofs.Common.{◌≡◌, ℕ, ◌+◌, ◌*◌, ◌<◌, ◌≤◌, true, false, List, length, refl, arith, mul-le-mul_right}
+use Rattle.std.proofs.Common.{Bool, Result, Ok, Err, OnErr, ◌^◌, if◌then◌else◌}
+use Rattle.std.specs.Prelude.{IfErr}
+use Rattle.abt_io.specs.Count.{full_of}
+use Rattle.abt_io.specs.declared.device.DeviceFault.{DeviceFault}
+use Rattle.abt_io.specs.declared.device.DeviceFault.TheVariants.{Failed, Full}
+use Rattle.abt_runs.specs.Part.{is_end}
+use Rattle.abt_runs.specs.declared.part.RunKind.{RunKind}
+use Rattle.abt_runs.specs.declared.part.RunKind.TheVariants as kinds
+use Rattle.abt_pieces.specs.Contents.{data_len}
+use Rattle.abt_placed.specs.Placer.{SoundPlacer, open_len, data_for, kept_for, goes_on, longer, begun, closed, with_part}
+use Rattle.abt_placed.specs.declared.placer.Placer.{Placer}
+use Rattle.abt_placed.proofs.Numbers.{closed_numbers}
+
+-- how long the bytes of a part are
+pub data_long : (k : RunKind) (q b : ℕ) (x : List ℕ) → length x ≡ q * b → length (data_for k x) ≡ data_len k q b
+data_long kinds.Raw q b x e = e
+data_long (kinds.Fill w) q b x e = refl
+data_long kinds.Skip q b x e = refl
+data_long kinds.End q b x e = refl
+
+one_part : (k : RunKind) (q b : ℕ) (x : List ℕ) → length x ≡ q * b → 0 < q → length (kept_for k) + length (data_for k x) ≤ q * (b + 16)
+one_part kinds.Raw q b x e some = let d : q * (b + 16) ≡ q * b + 16 * q = omega arith in let z : length (kept_for kinds.Raw) ≡ 12 = refl in omega (arith, d, e, some, z)
+one_part (kinds.Fill w) q b x e some = omega arith
+one_part kinds.Skip q b x e some = omega arith
+one_part kinds.End q b x e some = omega arith
+
+-- with a chunk begun, and with its bytes
+pub begun_within : (b q long long' long'' : ℕ) (x : List ℕ) (s : Placer) (k : RunKind) → SoundPlacer b long s → length x ≡ q * b → 0 < q → long' + open_len s.kind s.count b ≤ long + s.count * (b + 16) + length (kept_for k)
+    → long'' ≤ long' + length (data_for k x) → long'' ≤ s.front + 28 + (s.blocks + s.count + q) * (b + 16)
+begun_within b q long long' long'' x s k h e some wide more =
+    let o = one_part k q b x e some in
+    let d : (s.blocks + s.count + q) * (b + 16) ≡ s.blocks * (b + 16) + s.count * (b + 16) + q * (b + 16) = omega arith in
+    omega (arith, o, d, h.few, wide, more)
+
+passed_as : (t : Bool) (s : Placer) (k : RunKind) (q : ℕ) → s.chunks ≤ s.blocks → (is_end s.kind ≡ true → s.count ≡ 0) → (is_end s.kind ≡ false → 0 < s.count)
+    → let s' = if t then longer s q else begun (closed s) k q in (s'.blocks + s'.count ≡ s.blocks + s.count + q) × ((s'.most ≡ s.most) × (s'.front ≡ s.front))
+passed_as true s k q c none some = (omega arith, (refl, refl))
+passed_as false s k q c none some = let n = closed_numbers s.kind s c none some in (omega (arith, n.blocks), (n.most, n.front))
+
+-- what stands of a placer that goes on
+pub part_passed : (b long q : ℕ) (s s' : Placer) (k : RunKind) → SoundPlacer b long s → s' ≡ with_part s k q → (s'.blocks + s'.count ≡ s.blocks + s.count + q) × ((s'.most ≡ s.most) × (s'.front ≡ s.front))
+part_passed b long q s s' k h e = rw e (passed_as (goes_on s k) s k q h.chunks h.none h.some)
+
+-- ---- the open chunk is made whole
+
+pub raw_within : (q b old new : ℕ) → 0 < q → new ≡ old → new + (12 + q * b) ≤ old + q * (b + 16)
+raw_within q b old new some e = let d : q * (b + 16) ≡ q * b + 16 * q = omega arith in omega (arith, d, e, some)
+
+pub head_within : (q b head old new : ℕ) → 0 < q → head ≤ 16 → new ≤ old + head → new + 0 ≤ old + q * (b + 16)
+head_within q b head old new some le e = let d : q * (b + 16) ≡ q * b + 16 * q = omega arith in omega (arith, d, e, le, some)
+
+pub raw_fits : (q most b : ℕ) → q ≤ most → 12 + most * b < 2 ^ 32 → 12 + q * b < 2 ^ 32
+raw_fits q most b le small = let m : q * b ≤ most * b = mul-le-mul_right b le in omega (arith, m, small)
+
+-- a device that is full has room for one byte less
+pub full_short : {X : Type 0} (res : Result X DeviceFault) (x y : ℕ) → x ≤ y → OnErr res (x < y) → x + full_of res ≤ y
+full_short (Ok z) x y le h = omega (arith, le)
+full_short (Err Failed) x y le h = omega (arith, le)
+full_short (Err Full) x y le h = omega (arith, h)
+
+pub failed_full : {X : Type 0} (res : Result X DeviceFault) (x y : ℕ) → x ≤ y → IfErr res (λ e. e ≡ Failed) → x + full_of res ≤ y
+failed_full (Ok z) x y le h = omega (arith, le)
+failed_full (Err f) x y le h = rw h (omega (arith, le))
+
+pub stays_within : (k : RunKind) (q b long more : ℕ) → (is_end k ≡ false → 0 < q) → long + open_len k q b ≤ long + q * (b + 16) + more
+stays_within kinds.Raw q b long more some = let z = some refl in let d : q * (b + 16) ≡ q * b + 16 * q = omega arith in omega (arith, z, d)
+stays_within (kinds.Fill w) q b long more some = omega arith
+stays_within kinds.Skip q b long more some = omega arith
+stays_within kinds.End q b long more some = omega arith
+
+pub full_within : {X : Type 0} (res : Result X DeviceFault) (x m y : ℕ) → x ≤ m → OnErr res (x < m) → m ≤ y → x + full_of res ≤ y
+full_within res x m y le short more = omega (arith, full_short res x m le short, more)
