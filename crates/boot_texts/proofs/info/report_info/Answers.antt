@@ -1,5 +1,9 @@
-use Rattle.std.proofs.Common.{rules, arith}
+use Rattle.std.proofs.Common.{◌∙◌, ap, is_some, refl, rules, subst, sym, arith}
+use Rattle.abt_sections.specs.Header.{view_of}
+use Rattle.abt_sections.specs.Open.{IsOpened}
+use Rattle.boot_texts.specs.Info.{IsVerdict}
 use Rattle.boot_texts.proofs.Informing.{info_begins, opening_told, reads_rise}
+use Rattle.boot_texts.proofs.Refusing.{begins_none, opening_caused, opening_writes, reports_all, told_caused, told_reads, told_writes, writes_clean, writes_fail}
 use Rattle.boot_texts.proofs.info.report_info.Goals as goal
 
 pub returns-in-Ok-Ok-clause-begun : goal.returns-in-Ok-Ok-clause-begun
@@ -25,3 +29,54 @@ returns-in-Err-clause-reads g c = opening_told c.in-Err.fault _ _ _ c.in-Err.ens
 
 pub returns-in-Err-default-clause-reads : goal.returns-in-Err-default-clause-reads
 returns-in-Err-default-clause-reads g c = omega (arith, c.in-Ok.ensures.clean, reads_rise c.image_lines-told.result _ _ c.image_lines-told.ensures.reads)
+
+-- an image that does not open prints nothing
+pub returns-in-Err-clause-begun : goal.returns-in-Err-clause-begun
+returns-in-Err-clause-begun g c = λ tells h image v right. begins_none _ _
+
+pub returns-in-Err-clause-refused : goal.returns-in-Err-clause-refused
+returns-in-Err-clause-refused g c = λ tells.
+    opening_caused c.in-Err.fault _ _ _ _ _ c.in-Err.ensures.cause (λ changed. changed tells) (c.in-Err.ensures.opens tells) refl
+
+pub returns-in-Err-clause-failed : goal.returns-in-Err-clause-failed
+returns-in-Err-clause-failed g c = opening_writes c.in-Err.fault _ _ _ _ c.in-Err.ensures.cause
+
+-- the source fails
+pub returns-in-Ok-Err-clause-refused : goal.returns-in-Ok-Err-clause-refused
+returns-in-Ok-Err-clause-refused g c = λ tells.
+    let opened = subst (λ x. IsOpened x c.in-Ok.image) (sym (c.in-Ok.ensures.content tells)) (c.in-Ok.ensures.opens tells) in
+    told_caused c.image_lines-told.result c.in-Ok-Err.fault _ _ _ _ _ c.in-Ok-Err.is-1 c.in-Ok.ensures.clean (c.image_lines-told.ensures.refused tells opened)
+
+pub returns-in-Ok-Err-clause-reads : goal.returns-in-Ok-Err-clause-reads
+returns-in-Ok-Err-clause-reads g c = told_reads c.image_lines-told.result c.in-Ok-Err.fault _ _ _ c.in-Ok-Err.is-1 c.in-Ok.ensures.clean c.image_lines-told.ensures.reads
+
+pub returns-in-Ok-Err-clause-failed : goal.returns-in-Ok-Err-clause-failed
+returns-in-Ok-Err-clause-failed g c =
+    told_writes g.O.Output.written g.O.Output.write_faults c.image_lines-told.result c.in-Ok-Err.fault c.new-text.result c.image_lines-told.new.text c.finish.new.self _ _ _
+    c.in-Ok-Err.is-1 c.image_lines-told.ensures.told c.image_lines-told.ensures.prints.1 c.finish.ensures.prints c.in-Ok-Err.ensures.done c.new-text.ensures.faults (search rules)
+
+-- the output fails
+pub returns-in-Err-default-clause-failed : goal.returns-in-Err-default-clause-failed
+returns-in-Err-default-clause-failed g c =
+    writes_fail g.O.Output.written g.O.Output.write_faults c.new-text.result c.image_lines-told.new.text c.finish.new.self _ _ _
+    c.new-text.ensures.whole c.image_lines-told.ensures.prints.1 c.finish.ensures.prints (ap is_some c.in-Err-default.ensures.failed) c.new-text.ensures.faults (search rules)
+
+-- neither does
+pub returns-in-Ok-Ok-clause-printed : goal.returns-in-Ok-Ok-clause-printed
+returns-in-Ok-Ok-clause-printed g c = λ tells.
+    reports_all g.O.Output.written g.O.Output.write_faults c.args.notation _ _ _ c.new-text.result c.image_lines-told.new.text c.finish.new.self _ _
+    (c.in-Ok.ensures.content tells) (c.in-Ok.ensures.opens tells).has (rw c.in-Ok-Ok.is-1 at (c.image_lines-told.ensures.lines tells))
+    c.finish.ensures.prints c.in-Ok-Ok.ensures.done c.finish.ensures.emptied c.new-text.ensures.nothing_held c.new-text.ensures.written (search rules)
+
+pub returns-in-Ok-Ok-clause-reported : goal.returns-in-Ok-Ok-clause-reported
+returns-in-Ok-Ok-clause-reported g c = λ tells.
+    let verdict = rw c.in-Ok-Ok.is-1 at (c.image_lines-told.ensures.verdict tells) in
+    (c.in-Ok.ensures.opens tells, subst (λ x. IsVerdict x (view_of c.in-Ok.image.header) c.in-Ok-Ok.verdict) (c.in-Ok.ensures.content tells) verdict)
+
+pub returns-in-Ok-Ok-clause-reads : goal.returns-in-Ok-Ok-clause-reads
+returns-in-Ok-Ok-clause-reads g c = (rw c.in-Ok-Ok.is-1 at c.image_lines-told.ensures.reads) ∙ c.in-Ok.ensures.clean
+
+pub returns-in-Ok-Ok-clause-clean : goal.returns-in-Ok-Ok-clause-clean
+returns-in-Ok-Ok-clause-clean g c =
+    writes_clean g.O.Output.written g.O.Output.write_faults c.new-text.result c.image_lines-told.new.text c.finish.new.self _ _ _
+    c.image_lines-told.ensures.prints.1 c.finish.ensures.prints c.in-Ok-Ok.ensures.done c.new-text.ensures.faults (search rules)

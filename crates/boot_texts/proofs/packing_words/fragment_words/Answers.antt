@@ -1,9 +1,11 @@
-use Rattle.std.proofs.Common.{◌≡◌, suc, ◌+◌, subst, ap, ◌∙◌, arith, rules}
+use Rattle.std.proofs.Common.{◌≡◌, sym, suc, ◌+◌, subst, ap, ◌∙◌, arith, rules}
 use Rattle.abt_sections.specs.Header.{entry_of, view_of}
+use Rattle.abt_sections.specs.Open.{IsOpened}
 use Rattle.boot_texts.specs.Words.{entry_words, fragment_words}
 use Rattle.boot_texts.proofs.WordLists.{PrintsWords, both_words}
 use Rattle.abt_text.proofs.Printing.{printed_none}
 use Rattle.std.proofs.Common.{refl}
+use Rattle.boot_texts.proofs.Refusing.{read_refuses, write_prints}
 use Rattle.boot_texts.proofs.packing_words.fragment_words.Goals as goal
 
 pub loop-i-preserved : goal.loop-i-preserved
@@ -32,3 +34,12 @@ loop-i-init g c = record {
   faults = omega arith;
   lines = λ tells. (refl, printed_none _ _ _);
 }
+
+pub returns-in-Err-clause-refused : goal.returns-in-Err-clause-refused
+returns-in-Err-clause-refused g c = λ tells opened.
+    let before = (c.loop-i.invariant.lines tells).0 in
+    let now = subst (λ x. IsOpened x c.args.image.now) (sym before) opened in
+    read_refuses c.in-Err.fault _ _ _ _ c.loop-i.invariant.faults c.in-Err.ensures.cause (λ changed. changed tells now)
+
+pub returns-in-Err-entry_words-clause-refused : goal.returns-in-Err-entry_words-clause-refused
+returns-in-Err-entry_words-clause-refused g c = λ tells opened. write_prints c.in-Err-entry_words.fault _ _ c.in-Err-entry_words.ensures.refused
