@@ -1,6 +1,8 @@
 use Rattle.std.proofs.Common.{◌≡◌, ℕ, ◌+◌, ◌-◌, ◌*◌, ◌≤◌, ◌<◌, ◌^◌, ◌++◌, List, length, Err, refl, sym, ap, ◌∙◌, arith, inl, inr, length-append, append-nil}
 use Rattle.std.specs.List.{concat}
+use Rattle.std.proofs.lemmas.List.{drop_all}
 use Rattle.abt_sparse.specs.Block.{Block, IsBlockSize, cells, over}
+use Rattle.abt_pieces.specs.Contents.{written_in}
 use Rattle.abt_sparse.specs.Laws.{flashed_all}
 use Rattle.abt_pieces.specs.Gather.{frame}
 use Rattle.abt_pieces.specs.Outline.{piece_at}
@@ -11,8 +13,8 @@ use Rattle.abt_pieces.specs.declared.stage.Stage.{Stage}
 use Rattle.abt_pieces.specs.declared.stage.Stage.TheVariants.{Between, Done}
 use Rattle.abt_flash.specs.Delivering.{blocks_in_first, blocks_up_to, with_cuts}
 use Rattle.abt_flash.specs.Going.{StandsAt, Unbroken, frames_left, pieces_left, words_so_far}
-use Rattle.abt_flash.proofs.Left.{behind, first_more, laid_first, laid_next, frames_more, pieces_more, written_more, pieces_behind_are, laid_left, stands_left, one_left, pieces_front}
-use Rattle.abt_flash.proofs.Onward.{unbroken_first, unbroken_more, still_between, now_done, few_more, words_more, calls_on, turns_on, spent_more, spent_last, spent_whole}
+use Rattle.abt_flash.proofs.Left.{behind, first_more, laid_first, laid_next, frames_more, pieces_more, written_more, pieces_behind_are, laid_left, stands_left, none_left, one_left, pieces_front}
+use Rattle.abt_flash.proofs.Onward.{unbroken_first, unbroken_more, still_between, now_done, few_more, words_more, words_most, words_one, calls_on, turns_on, spent_more, spent_last, spent_whole}
 use Rattle.abt_flash.proofs.Spooled.{fits_none, fits_then, written_then, begins_then, cuts_then}
 use Rattle.abt_flash.specs.Delivering.{unsynced_by}
 use Rattle.abt_flash.specs.Fault.{refused_syncs}
@@ -388,3 +390,191 @@ returns-in-Err-clause-stays g c tells spool partition =
           (g.P.Partition.past c.pieces.partition) (g.P.Partition.past c.deliver_piece.new.partition) (g.P.Source.content c.pieces.partition) (g.P.Source.content c.deliver_piece.new.partition)
           size good inside i.synced i.order here.blocks (i.stays tells spool partition p done le entry) moments syncs kept;
     }
+
+-- ---- the rest behind the last piece
+
+pub returns-then-not-more-clause-stops : goal.returns-then-not-more-clause-stops
+returns-then-not-more-clause-stops g c = rw c.delivered.ensures tt
+
+pub returns-then-not-more-clause-some : goal.returns-then-not-more-clause-some
+returns-then-not-more-clause-some g c =
+    let i = c.pieces.invariant in
+    let more = i.some (now_done _ _ _ _ i.unbroken (sym c.more.ensures ∙ c.if-not-more.true)) in
+    let same = i.same_made in
+    rw c.delivered.ensures (omega (arith, more, same))
+
+pub returns-then-not-more-clause-few : goal.returns-then-not-more-clause-few
+returns-then-not-more-clause-few g c =
+    let i = c.pieces.invariant in
+    let few = i.few in
+    let same = i.same_made in
+    let order = i.order in
+    rw c.delivered.ensures (omega (arith, few, same, order))
+
+pub returns-then-not-more-clause-counted : goal.returns-then-not-more-clause-counted
+returns-then-not-more-clause-counted g c tells =
+    let i = c.pieces.invariant in
+    let b = g.R.BlockRuns.size c.args.cutter.now.runs in
+    let all = g.R.BlockRuns.list c.args.cutter.now.runs (g.S.Source.content c.args.source.now) in
+    let is : c.pieces.cutter.stage ≡ Done = now_done _ _ _ _ i.unbroken (sym c.more.ensures ∙ c.if-not-more.true) in
+    let none = none_left c.args.cutter.now.limit b all c.pieces.cutter.made c.pieces.cutter.start.block (rw (i.limit, is) at (i.told tells).cuts) in
+    let same = i.same_made in
+    let order = i.order in
+    rw c.delivered.ensures (omega (arith, none, same, order))
+
+pub returns-then-not-more-clause-laid_up_to : goal.returns-then-not-more-clause-laid_up_to
+returns-then-not-more-clause-laid_up_to g c tells spool partition = rw c.delivered.ensures tt
+
+pub returns-then-not-more-clause-settled : goal.returns-then-not-more-clause-settled
+returns-then-not-more-clause-settled g c tells =
+    let i = c.pieces.invariant in
+    rw c.delivered.ensures (i.settled tells (i.some (now_done _ _ _ _ i.unbroken (sym c.more.ensures ∙ c.if-not-more.true))))
+
+pub returns-then-not-more-clause-synced : goal.returns-then-not-more-clause-synced
+returns-then-not-more-clause-synced g c =
+    let i = c.pieces.invariant in
+    let synced = i.synced in
+    let same = i.same_made in
+    let order = i.order in
+    rw c.delivered.ensures (omega (arith, synced, same, order))
+
+pub returns-then-not-more-clause-unsynced : goal.returns-then-not-more-clause-unsynced
+returns-then-not-more-clause-unsynced g c =
+    let unsynced = c.pieces.invariant.unsynced in
+    rw c.delivered.ensures (omega (arith, unsynced))
+
+pub returns-then-not-more-clause-blocks : goal.returns-then-not-more-clause-blocks
+returns-then-not-more-clause-blocks g c tells spool =
+    let i = c.pieces.invariant in
+    let b = g.R.BlockRuns.size c.args.cutter.now.runs in
+    let all = g.R.BlockRuns.list c.args.cutter.now.runs (g.S.Source.content c.args.source.now) in
+    let is : c.pieces.cutter.stage ≡ Done = now_done _ _ _ _ i.unbroken (sym c.more.ensures ∙ c.if-not-more.true) in
+    let long = g.met.R.BlockRuns.long c.args.cutter.now.runs _ (c.requires.opened tells) in
+    let end : g.R.BlockRuns.count c.args.cutter.now.runs ≤ c.pieces.cutter.start.block = (i.unbroken.done is).1 in
+    let none = ap (λ (l : List Block). b * written_in l) (drop_all c.pieces.cutter.start.block all (omega (arith, long, end))) in
+    let blocks = i.blocks tells spool in
+    rw c.delivered.ensures (omega (arith, none, blocks))
+
+pub returns-then-not-more-clause-long : goal.returns-then-not-more-clause-long
+returns-then-not-more-clause-long g c =
+    let i = c.pieces.invariant in
+    let inside : g.R.BlockRuns.within c.args.cutter.now.runs c.pieces.cutter.start = rw i.runs at c.pieces.cutter.sound.within in
+    let most = (g.met.R.BlockRuns.passed c.args.cutter.now.runs c.pieces.cutter.start inside).1 in
+    let long = i.long in
+    let same = i.same_made in
+    let order = i.order in
+    rw c.delivered.ensures (omega (arith, most, long, same, order))
+
+pub returns-then-not-more-clause-back : goal.returns-then-not-more-clause-back
+returns-then-not-more-clause-back g c tells spool = rw c.delivered.ensures (c.pieces.invariant.back tells spool)
+
+pub returns-then-not-more-clause-calls : goal.returns-then-not-more-clause-calls
+returns-then-not-more-clause-calls g c =
+    let i = c.pieces.invariant in
+    let calls = i.calls in
+    let same = i.same_made in
+    let order = i.order in
+    rw c.delivered.ensures (omega (arith, calls, same, order))
+
+pub returns-then-not-more-clause-turns : goal.returns-then-not-more-clause-turns
+returns-then-not-more-clause-turns g c =
+    let i = c.pieces.invariant in
+    let words = words_most (g.R.BlockRuns.one c.args.cutter.now.runs) (g.R.BlockRuns.count c.args.cutter.now.runs) c.pieces.cutter.start.block c.pieces.cutter.stage i.unbroken.stands in
+    let turns = i.turns in
+    let same = i.same_made in
+    let order = i.order in
+    let tick = c.tick.ensures.turns in
+    rw c.delivered.ensures (omega (arith, turns, words, same, order, tick))
+
+pub returns-then-not-more-clause-work : goal.returns-then-not-more-clause-work
+returns-then-not-more-clause-work g c =
+    let i = c.pieces.invariant in
+    record {
+      given = i.given;
+      spool_given = i.spool_given;
+      grown = i.grown;
+      taken = i.taken;
+      steps = omega (arith, i.steps, c.tick.ensures.steps);
+      greatest = omega (arith, i.greatest, c.tick.ensures.greatest);
+    }
+
+pub returns-then-not-more-clause-faults : goal.returns-then-not-more-clause-faults
+returns-then-not-more-clause-faults g c =
+    let i = c.pieces.invariant in
+    record {
+      read = omega (arith, i.read_faults);
+      write = omega (arith, i.write_faults);
+      spool = omega (arith, i.spool_faults);
+      put = omega (arith, i.put_faults);
+    }
+
+pub returns-then-not-more-clause-clean : goal.returns-then-not-more-clause-clean
+returns-then-not-more-clause-clean g c =
+    let i = c.pieces.invariant in
+    rw c.delivered.ensures (record { read = i.read_faults; write = i.write_faults; spool = i.spool_faults; put = i.put_faults })
+
+-- ---- the rest where a piece was stopped
+
+pub returns-in-Err-clause-few : goal.returns-in-Err-clause-few
+returns-in-Err-clause-few g c =
+    let i = c.pieces.invariant in
+    let is : c.pieces.cutter.stage ≡ Between = still_between _ _ _ _ i.unbroken (sym c.more.ensures ∙ c.if-not-more.false) in
+    let left : c.pieces.cutter.made ≤ c.pieces.cutter.start.block = c.pieces.cutter.sound.left (ap has_more is) in
+    rw c.next_number-piece.ensures (few_more (g.R.BlockRuns.count c.args.cutter.now.runs) c.pieces.cutter.made c.pieces.cutter.start.block left (i.unbroken.between is))
+
+pub returns-in-Err-clause-synced : goal.returns-in-Err-clause-synced
+returns-in-Err-clause-synced g c =
+    let i = c.pieces.invariant in
+    let synced = c.in-Err.ensures.synced in
+    omega (arith, synced, i.synced, c.next_number-piece.ensures)
+
+pub returns-in-Err-clause-calls : goal.returns-in-Err-clause-calls
+returns-in-Err-clause-calls g c =
+    let i = c.pieces.invariant in
+    let more = c.deliver_piece.ensures.calls in
+    let calls = i.calls in
+    let next = c.next_number-piece.ensures in
+    omega (arith, more, calls, next)
+
+pub returns-in-Err-clause-turns : goal.returns-in-Err-clause-turns
+returns-in-Err-clause-turns g c =
+    let i = c.pieces.invariant in
+    let is : c.pieces.cutter.stage ≡ Between = still_between _ _ _ _ i.unbroken (sym c.more.ensures ∙ c.if-not-more.false) in
+    let words = words_one (g.R.BlockRuns.one c.args.cutter.now.runs) (g.R.BlockRuns.count c.args.cutter.now.runs) c.pieces.cutter.start.block c.pieces.cutter.stage is in
+    let more = rw i.runs at c.deliver_piece.ensures.turns in
+    let turns = i.turns in
+    let next = c.next_number-piece.ensures in
+    let tick = c.tick.ensures.turns in
+    omega (arith, more, turns, words, next, tick)
+
+pub returns-in-Err-clause-work : goal.returns-in-Err-clause-work
+returns-in-Err-clause-work g c =
+    let i = c.pieces.invariant in
+    let e = c.deliver_piece.ensures in
+    record {
+      given = omega (arith, i.given, e.work.given);
+      spool_given = omega (arith, i.spool_given, e.work.spool_given);
+      grown = omega (arith, i.grown, e.work.grown);
+      taken = omega (arith, i.taken, e.work.taken);
+      steps = omega (arith, i.steps, e.work.steps, c.tick.ensures.steps);
+      greatest = omega (arith, i.greatest, e.work.greatest, c.tick.ensures.greatest);
+    }
+
+pub returns-in-Err-clause-faults : goal.returns-in-Err-clause-faults
+returns-in-Err-clause-faults g c =
+    let i = c.pieces.invariant in
+    let e = c.deliver_piece.ensures in
+    record {
+      read = omega (arith, i.read_faults, e.faults.read);
+      write = omega (arith, i.write_faults, e.faults.write);
+      spool = omega (arith, i.spool_faults, e.faults.spool);
+      put = omega (arith, i.put_faults, e.faults.put);
+    }
+
+-- ---- what a piece asks for
+
+pub deliver_piece-requires-clause-opened : goal.deliver_piece-requires-clause-opened
+deliver_piece-requires-clause-opened g c tells = let i = c.pieces.invariant in rw (i.runs, i.kept tells) (c.requires.opened tells)
+
+pub deliver_piece-requires-clause-told : goal.deliver_piece-requires-clause-told
+deliver_piece-requires-clause-told g c tells = let i = c.pieces.invariant in rw (i.runs, i.kept tells) (i.told tells)

@@ -1,9 +1,14 @@
-use Rattle.std.proofs.Common.{◌≡◌, ◌<◌, ◌≤◌, ◌+◌, refl, sym, ap, ◌∙◌, arith}
+use Rattle.std.proofs.Common.{◌≡◌, ◌<◌, ◌≤◌, ◌+◌, ℕ, Bool, Err, refl, sym, ap, ◌∙◌, arith, inl, inr}
+use Rattle.abt_pieces.specs.Fault.{HasCause as CutCause}
+use Rattle.abt_pieces.specs.declared.fault.PieceFault.{PieceFault}
+use Rattle.abt_pieces.specs.declared.fault.PieceFault.TheVariants as cuts
 use Rattle.abt_pieces.specs.Cutter.{has_more}
-use Rattle.abt_pieces.specs.declared.stage.Stage.TheVariants.{Between}
-use Rattle.abt_flash.specs.Going.{StandsAt, words_so_far}
-use Rattle.abt_flash.proofs.Left.{one_left}
-use Rattle.abt_flash.proofs.Onward.{charged_more, few_more, passed_stands, still_between, unbroken_more, words_more, words_most, words_one}
+use Rattle.abt_pieces.specs.declared.stage.Stage.TheVariants.{Between, Done}
+use Rattle.abt_flash.specs.Causes.{planning_fault}
+use Rattle.abt_flash.specs.Delivering.{CountsTo}
+use Rattle.abt_flash.specs.Going.{PlanRefused, StandsAt, words_so_far}
+use Rattle.abt_flash.proofs.Left.{none_left, one_left}
+use Rattle.abt_flash.proofs.Onward.{charged_more, few_more, now_done, passed_stands, still_between, unbroken_more, words_more, words_most, words_one}
 use Rattle.abt_flash.proofs.Records.{plan_begins}
 use Rattle.abt_flash.proofs.delivering.plan_pieces.Goals as goal
 
@@ -102,3 +107,53 @@ returns-in-Err-clause-costs g c =
       calls = omega (arith, calls, more_calls, given, i.given);
       turns = omega (arith, turns, words, more_turns, given, tick, i.given);
     }
+
+-- ---- why planning is refused
+
+plan_refused : (e : PieceFault) (before : ℕ) (tells : Bool) (r r' : ℕ) → CutCause e tells r r' 0 0 → PlanRefused (planning_fault e) before tells r r'
+plan_refused (cuts.Read d) before tells r r' h = h
+plan_refused (cuts.Write d) before tells r r' h = absurd (omega (arith, h))
+plan_refused cuts.SourceChanged before tells r r' h = h
+plan_refused cuts.TooLarge before tells r r' h = absurd h
+plan_refused (cuts.BadBlock n) before tells r r' h = absurd h
+plan_refused (cuts.LimitTooSmall n) before tells r r' h = absurd h
+
+plan_counts : (e : PieceFault) (before k : ℕ) → CountsTo (Err (planning_fault e)) before k
+plan_counts (cuts.Read d) before k = tt
+plan_counts (cuts.Write d) before k = tt
+plan_counts cuts.SourceChanged before k = tt
+plan_counts cuts.TooLarge before k = tt
+plan_counts (cuts.BadBlock n) before k = tt
+plan_counts (cuts.LimitTooSmall n) before k = tt
+
+pub returns-in-Err-clause-refused : goal.returns-in-Err-clause-refused
+returns-in-Err-clause-refused g c =
+    let i = c.pieces.invariant in
+    let is : c.pieces.cutter.stage ≡ Between = still_between _ _ _ _ i.unbroken (sym c.more.ensures ∙ c.if-not-more.false) in
+    let faults = i.faults in
+    let cause : CutCause c.in-Err.fault g.S.Source.tells (g.S.Source.read_faults c.pieces.source) (g.S.Source.read_faults c.skip_piece.new.source) 0 0 = elim c.in-Err.ensures.cause [
+      | inl failed ↦ absurd (let z = sym is ∙ failed in cc)
+      | inr h ↦ h
+    ] in
+    rw c.not_planned.ensures (plan_refused c.in-Err.fault _ _ _ _ (rw faults at cause))
+
+pub returns-in-Err-clause-counted : goal.returns-in-Err-clause-counted
+returns-in-Err-clause-counted g c tells = rw c.not_planned.ensures (plan_counts c.in-Err.fault _ _)
+
+pub returns-then-not-more-clause-refused : goal.returns-then-not-more-clause-refused
+returns-then-not-more-clause-refused g c =
+    let i = c.pieces.invariant in
+    ((i.unbroken.done (now_done _ _ _ _ i.unbroken (sym c.more.ensures ∙ c.if-not-more.true))).0, i.planned)
+
+pub returns-then-not-more-clause-counted : goal.returns-then-not-more-clause-counted
+returns-then-not-more-clause-counted g c tells =
+    let i = c.pieces.invariant in
+    let b = g.R.BlockRuns.size c.args.cutter.now.runs in
+    let all = g.R.BlockRuns.list c.args.cutter.now.runs (g.S.Source.content c.args.source.now) in
+    let is : c.pieces.cutter.stage ≡ Done = now_done _ _ _ _ i.unbroken (sym c.more.ensures ∙ c.if-not-more.true) in
+    none_left c.args.cutter.now.limit b all c.pieces.cutter.made c.pieces.cutter.start.block (rw (i.limit, is) at (i.told tells).cuts)
+
+pub returns-then-are_planned-clause-inside : goal.returns-then-are_planned-clause-inside
+returns-then-are_planned-clause-inside g c =
+    let i = c.pieces.invariant in
+    i.unbroken.between (still_between _ _ _ _ i.unbroken (sym c.more.ensures ∙ c.if-not-more.false))

@@ -1,9 +1,12 @@
-use Rattle.std.proofs.Common.{◌≡◌, ◌-◌, ◌*◌, ℕ, List, length, take, arith, ap, refl, sym, ◌∙◌, replicate}
+use Rattle.std.proofs.Common.{◌≡◌, ◌+◌, ◌-◌, ◌*◌, ℕ, List, Result, Ok, Err, length, take, arith, ap, refl, sym, ◌∙◌, replicate}
+use Rattle.std.specs.Prelude.{OnOk, is_ok, if◌then◌else◌}
 use Rattle.std.specs.List.{concat}
 use Rattle.abt_sparse.specs.Block.{over}
 use Rattle.abt_io.proofs.Words.{length_words}
 use Rattle.abt_chunks.specs.Ahead.{somes}
-use Rattle.abt_flash.specs.Laying.{from_place}
+use Rattle.abt_io.specs.declared.device.DeviceFault.{DeviceFault}
+use Rattle.abt_flash.specs.Laying.{from_place, refused_in, syncs_in}
+use Rattle.abt_flash.specs.declared.laying.Task.TheVariants as tasks
 use Rattle.abt_flash.proofs.Cells.{nothing_over, put_over}
 use Rattle.abt_flash.proofs.Moments.{during_put, during_sync, same_content}
 use Rattle.abt_flash.proofs.Tasks.{on_put, on_sync, on_words}
@@ -61,3 +64,62 @@ returns-in-Sync-clause-all g c = rw c.in-Sync.is (on_sync c.sync.result _ (omega
 
 pub returns-in-Nothing-clause-laid : goal.returns-in-Nothing-clause-laid
 returns-in-Nothing-clause-laid g c tells = rw c.in-Nothing.is (sym (nothing_over (g.P.Source.content c.args.partition.now) c.args.at))
+
+-- ---- what is carried out is not idle
+
+pub returns-in-Bytes-clause-still : goal.returns-in-Bytes-clause-still
+returns-in-Bytes-clause-still g c idle = absurd (rw c.in-Bytes.is at idle)
+
+pub returns-in-Bytes-clause-sound : goal.returns-in-Bytes-clause-sound
+returns-in-Bytes-clause-sound g c idle = absurd (rw c.in-Bytes.is at idle)
+
+pub returns-in-Words-clause-still : goal.returns-in-Words-clause-still
+returns-in-Words-clause-still g c idle = absurd (rw c.in-Words.is at idle)
+
+pub returns-in-Words-clause-sound : goal.returns-in-Words-clause-sound
+returns-in-Words-clause-sound g c idle = absurd (rw c.in-Words.is at idle)
+
+pub returns-in-Sync-clause-still : goal.returns-in-Sync-clause-still
+returns-in-Sync-clause-still g c idle = absurd (rw c.in-Sync.is at idle)
+
+pub returns-in-Sync-clause-sound : goal.returns-in-Sync-clause-sound
+returns-in-Sync-clause-sound g c idle = absurd (rw c.in-Sync.is at idle)
+
+-- ---- whatever came of it
+
+on_any : (r : Result (Unit {0}) DeviceFault) (P : Type 0) → P → OnOk r P
+on_any (Ok u) P h = h
+on_any (Err e) P h = tt
+
+sync_counts : (r : Result (Unit {0}) DeviceFault) → (if is_ok r then 1 else 0) ≡ syncs_in tasks.Sync r
+sync_counts (Ok u) = refl
+sync_counts (Err e) = refl
+
+sync_refused : (r : Result (Unit {0}) DeviceFault) → (if is_ok r then 1 else 0) + refused_in tasks.Sync r ≡ 1
+sync_refused (Ok u) = refl
+sync_refused (Err e) = refl
+
+pub returns-in-Bytes-clause-settled : goal.returns-in-Bytes-clause-settled
+returns-in-Bytes-clause-settled g c tells = rw c.in-Bytes.is (on_any c.write_all_at.result _ tt)
+
+pub returns-in-Words-clause-settled : goal.returns-in-Words-clause-settled
+returns-in-Words-clause-settled g c tells = rw c.in-Words.is (on_any c.lay_words.result _ tt)
+
+pub returns-in-Sync-clause-settled : goal.returns-in-Sync-clause-settled
+returns-in-Sync-clause-settled g c tells = rw c.in-Sync.is (c.sync.ensures.settled tells)
+
+pub returns-in-Sync-clause-synced : goal.returns-in-Sync-clause-synced
+returns-in-Sync-clause-synced g c =
+    let counts = sync_counts c.sync.result in
+    let synced = c.sync.ensures.synced in
+    rw c.in-Sync.is (omega (arith, counts, synced))
+
+pub returns-in-Sync-clause-refused_syncs : goal.returns-in-Sync-clause-refused_syncs
+returns-in-Sync-clause-refused_syncs g c =
+    let refused = sync_refused c.sync.result in
+    let synced = c.sync.ensures.synced in
+    let calls = c.sync.ensures.calls in
+    rw c.in-Sync.is (omega (arith, refused, synced, calls))
+
+pub returns-in-Sync-clause-few : goal.returns-in-Sync-clause-few
+returns-in-Sync-clause-few g c = on_any c.sync.result _ (omega (arith, c.sync.ensures.taken))
