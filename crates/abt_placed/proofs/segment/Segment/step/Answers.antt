@@ -165,3 +165,28 @@ pub returns-then-from-runs-clause-ended : goal.returns-then-from-runs-clause-end
 returns-then-from-runs-clause-ended g c is =
     let r = c.args.runs.now in
     none_over g.S.Source.tells (g.S.Source.content c.args.source.now) r.size r.length r.blocks c.args.self.now r.some r.covers r.last c.requires.opened (omega arith)
+
+-- where all are taken
+pub returns-then-from-runs-clause-calls : goal.returns-then-from-runs-clause-calls
+returns-then-from-runs-clause-calls g c =
+    let r = c.args.runs.now in
+    let f = few_zeros (taken c.args.self.now.placer) r.blocks r.size r.length c.requires.within r.last in
+    omega (arith, f)
+
+pub returns-then-from-runs-clause-turns : goal.returns-then-from-runs-clause-turns
+returns-then-from-runs-clause-turns g c =
+    let r = c.args.runs.now in
+    let f = few_zeros (taken c.args.self.now.placer) r.blocks r.size r.length c.requires.within r.last in
+    omega (arith, f)
+
+-- the window has room for what is asked for
+pub overflow_mul-room : goal.overflow_mul-room
+overflow_mul-room g c =
+    let f = fits_window c.min-asked.result c.in_window.result c.args.runs.now.size (omega arith) c.in_window.ensures.fits in
+    omega (arith, f)
+
+pub take_fitting-requires-clause-window : goal.take_fitting-requires-clause-window
+take_fitting-requires-clause-window g c = fits_window c.min-asked.result c.in_window.result c.args.runs.now.size (omega arith) c.in_window.ensures.fits
+
+pub returns-in-Some-clause-calls : goal.returns-in-Some-clause-calls
+returns-in-Some-clause-calls g c = omega (arith, c.load_filled-loaded.ensures.calls, c.place_of-at.ensures.place, c.place_of-at.ensures.within)

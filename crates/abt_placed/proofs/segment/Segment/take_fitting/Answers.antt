@@ -106,3 +106,24 @@ returns-clause-laid g c f p =
     let i = c.loop-done.invariant in
     let z : c.loop-done.done ≡ taken c.loop-done.self.placer - taken c.args.self.now.placer = omega (arith, i.passed) in
     subst (λ (n : ℕ). LaidSegment c.args.size (f ++ classes c.args.size n c.args.w.now.bytes) (g.O.Output.written c.loop-done.output) c.loop-done.self) z (i.laid f p)
+
+-- places in the window
+pub overflow_mul-from : goal.overflow_mul-from
+overflow_mul-from g c = let f = blocks_fit c.loop-done.done c.min-cap.result c.args.blocks c.args.size (omega arith) c.requires.window in omega (arith, f)
+
+pub overflow_add-to : goal.overflow_add-to
+overflow_add-to g c = let f = blocks_fit c.loop-done.done c.min-cap.result c.args.blocks c.args.size (omega arith) c.requires.window in omega (arith, f)
+
+pub overflow_add-past : goal.overflow_add-past
+overflow_add-past g c = let f = blocks_fit c.loop-done.done c.leading-kind.result.1 c.args.blocks c.args.size (omega arith) c.requires.window in omega (arith, f)
+
+pub take_part-requires-clause-window : goal.take_part-requires-clause-window
+take_part-requires-clause-window g c = let f = blocks_fit c.loop-done.done c.leading-kind.result.1 c.args.blocks c.args.size (omega arith) c.requires.window in omega (arith, f, c.part-in-loop-done.ensures.long)
+
+pub returns-in-Err-clause-calls : goal.returns-in-Err-clause-calls
+returns-in-Err-clause-calls g c =
+    let i = c.loop-done.invariant in
+    let n = c.leading-kind.result.1 in
+    let y = take_costs n c.args.size c.leading-kind.ensures.some c.requires.some in
+    let m = more_blocks c.loop-done.done n c.args.blocks c.args.size (omega arith) in
+    omega (arith, i.calls, m, y, c.take_part.ensures.calls)
