@@ -14,7 +14,7 @@ use Rattle.abt_flash.specs.Causes.{opening_fault, planning_fault, run_fault_of}
 use Rattle.abt_flash.specs.Fault.{refused_syncs}
 use Rattle.abt_flash.specs.Devices.{Counts, PartitionState, SpoolState}
 use Rattle.abt_io.specs.declared.meter.Meter.{Meter}
-use Rattle.abt_flash.specs.Delivering.{AlwaysMendable, Begins, Costs, CountsTo, GivesPieces, HasBegun, ImageBlocks, IsLeast, LaysBlocks, MendsBlocks, OnUnsyncedPiece, StaysMendable, begun, blocks_behind, blocks_in_first, blocks_up_to, finished, pieces_behind, pieces_in, with_cuts}
+use Rattle.abt_flash.specs.Delivering.{AlwaysMendable, Begins, Costs, CountsTo, GivesPieces, HasBegun, ImageBlocks, IsLeast, LaysBlocks, LeavesMendable, MendsBlocks, OnStop, OnUnsyncedPiece, StaysMendable, begun, blocks_behind, blocks_in_first, blocks_up_to, finished, pieces_behind, pieces_in, with_cuts}
 use Rattle.abt_flash.specs.Going.{PlanRefused, StopsIn}
 use Rattle.abt_flash.specs.declared.answer.Delivered.{Delivered}
 use Rattle.abt_flash.specs.declared.fault.Cause.{Cause}
@@ -146,13 +146,53 @@ lays_none source spool partition i limit made e s early = record {
   lasts = λ v. tt;
 }
 
-pub mends_none : (i : ImageBlocks) (limit made : ℕ) (e : FlashFault) (s : PartitionState) → MendsBlocks i limit made (Err e) s s
-mends_none i limit made e s = record { stays = stays_none limit i.size i.blocks made s.past s.content; mends = tt }
+none_stopped : (e : FlashFault) (P : ℕ → Type 0) → IsEarly e → OnStop (Err e) P
+none_stopped (Read d) P h = tt
+none_stopped SourceChanged P h = tt
+none_stopped (NoSuchPiece k) P h = tt
+none_stopped (Sparse f) P h = tt
+none_stopped (Write d) P h = tt
+none_stopped TooLarge P h = tt
+none_stopped (BadBlock n) P h = tt
+none_stopped (LimitTooSmall n) P h = tt
+none_stopped (PartitionTooSmall n) P h = tt
+none_stopped (Sync d) P h = absurd h
+none_stopped (Stopped n c) P h = absurd h
+
+pub mends_none : (i : ImageBlocks) (limit made : ℕ) (e : FlashFault) (s : PartitionState) → IsEarly e → MendsBlocks i limit made (Err e) s s
+mends_none i limit made e s early = record {
+  stays = stays_none limit i.size i.blocks made s.past s.content;
+  stopped = none_stopped e _ early;
+  mends = tt;
+}
 
 pub mendable_none : (i : ImageBlocks) (limit : ℕ) (s : PartitionState) → s.past.pending ≡ [] → AlwaysMendable i limit s s
 mendable_none i limit s none = from_fresh i limit s s none (stays_none limit i.size i.blocks 0 s.past s.content)
 
 -- ---- all pieces behind the first ones
+
+-- A stop leaves what is mended from its piece on: each piece before it was synced.
+pub stop_mends : (i : ImageBlocks) (limit made : ℕ) (r : Result Delivered FlashFault) (l s : Bool) (a z : Counts) (old new : PartitionState)
+    → IfErr r (λ e. StopsIn e made l s a z) → new.past.synced ≡ old.past.synced + finished made r
+    → StaysMendable limit i.size i.blocks made old.past new.past old.content new.content
+    → OnStop r (λ j. (p : List ℕ) (done : ℕ) → made ≤ done → LeavesMendable limit i.size i.blocks p done (moment_of old.past old.content)
+        → LeavesMendable limit i.size i.blocks p (j - 1) (moment_of new.past new.content))
+stop_mends i limit made (Ok d) l s a z old new h synced stays = tt
+stop_mends i limit made (Err (Stopped j c)) l s a z old new h synced stays = λ p done le leaves q may.
+    let order : made < j = h.0 in
+    let count : made + (new.past.synced - old.past.synced) ≡ j - 1 = omega (arith, synced, order) in
+    let then : Mendable i.size i.blocks p q (blocks_in_first limit i.size i.blocks (made + (new.past.synced - old.past.synced))) = stays.now p done le leaves q may in
+    rw count at then
+stop_mends i limit made (Err (Read d)) l s a z old new h synced stays = tt
+stop_mends i limit made (Err SourceChanged) l s a z old new h synced stays = tt
+stop_mends i limit made (Err (NoSuchPiece k)) l s a z old new h synced stays = tt
+stop_mends i limit made (Err (Sparse f)) l s a z old new h synced stays = tt
+stop_mends i limit made (Err (Write d)) l s a z old new h synced stays = tt
+stop_mends i limit made (Err TooLarge) l s a z old new h synced stays = tt
+stop_mends i limit made (Err (BadBlock n)) l s a z old new h synced stays = tt
+stop_mends i limit made (Err (LimitTooSmall n)) l s a z old new h synced stays = tt
+stop_mends i limit made (Err (PartitionTooSmall n)) l s a z old new h synced stays = tt
+stop_mends i limit made (Err (Sync d)) l s a z old new h synced stays = tt
 
 pub rest_begins : (source : Bool) (k made : ℕ) (r : Result Delivered FlashFault) (l s : Bool) (a z : Counts) → IfErr r (λ e. StopsIn e made l s a z) → HasBegun source k r made (begun made r)
 rest_begins source k made (Ok d) l s a z h = refl

@@ -104,6 +104,12 @@ OnUnsyncedPiece (Ok d) P = Unit {0}
 OnUnsyncedPiece (Err (Stopped j (causes.Sync d))) P = P j
 OnUnsyncedPiece (Err f) P = Unit {0}
 
+-- P of piece j, where it was stopped in that piece
+abbrev pub OnStop : Result Delivered FlashFault → (ℕ → Type 0) → Type 0
+OnStop (Ok d) P = Unit {0}
+OnStop (Err (Stopped j c)) P = P j
+OnStop (Err f) P = Unit {0}
+
 -- the answer counts k pieces in all
 abbrev pub CountsTo : Result Delivered FlashFault → ℕ → ℕ → Type 0
 CountsTo (Ok d) made k = made + d.pieces ≡ k
@@ -230,11 +236,16 @@ pub record AlwaysMendable (i : ImageBlocks) (limit : ℕ) (old new : PartitionSt
       (MendableThen limit i.size i.blocks old.content 0 old.past.synced)
   pub now : MendableThen limit i.size i.blocks old.content 0 old.past.synced (moment_of new.past new.content)
 
--- What is whole of the image when a call begins behind its first pieces stays so at every moment, and an Ok mends all
--- else.
+-- What is whole of the image when a call begins behind its first pieces, `made`, stays so at every moment, and an Ok
+-- mends all else. Pieces behind the first ones that are whole already are written again, over whatever stands there;
+-- the first ones are neither read nor written, so where they are not whole nothing is said of them.
 pub record MendsBlocks (i : ImageBlocks) (limit made : ℕ) (r : Result Delivered FlashFault)
     (old new : PartitionState) : Type 0 where
   pub stays : StaysMendable limit i.size i.blocks made old.past new.past old.content new.content
+  -- behind a stop in piece j, what stands and whatever a crash may leave of it is mended from j on, or from before it
+  pub stopped : OnStop r (λ j. (p : List ℕ) (done : ℕ) → made ≤ done
+      → LeavesMendable limit i.size i.blocks p done (moment_of old.past old.content)
+      → LeavesMendable limit i.size i.blocks p (j - 1) (moment_of new.past new.content))
   pub mends : OnOk r ((p : List ℕ) (done : ℕ) → made ≤ done
       → Mendable i.size i.blocks p old.content (blocks_in_first limit i.size i.blocks done)
       → new.content ≡ over p (cells i.size i.blocks))

@@ -154,6 +154,10 @@ pub fn deliver_runs<R: BlockRuns + Drop, S: Source, L: Spool, P: Partition>(
         (partition_state P.Source P.Partition.own partition.old)
         (partition_state P.Source P.Partition.own partition.new) }
     // What stays.
+    ensures mends { IsTrue S.tells → IsTrue L.tells → IsTrue P.tells → MendsBlocks
+        (record { size = R.size runs; blocks = R.list runs (S.content source.old) }) limit 0 result
+        (partition_state P.Source P.Partition.own partition.old)
+        (partition_state P.Source P.Partition.own partition.new) }
     ensures mendable { IsTrue S.tells → IsTrue L.tells → IsTrue P.tells → (P.past partition.old).pending
         ≡ [] → AlwaysMendable
         (record { size = R.size runs; blocks = R.list runs (S.content source.old) }) limit

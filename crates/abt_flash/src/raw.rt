@@ -115,6 +115,10 @@ pub fn deliver_raw<S: Source, L: Spool, P: Partition>(
         (partition_state P.Source P.Partition.own partition.old)
         (partition_state P.Source P.Partition.own partition.new) }
     // What stays.
+    ensures mends { IsTrue S.tells → IsTrue L.tells → IsTrue P.tells → MendsBlocks
+        (raw_image b (S.content source.old)) limit 0 result
+        (partition_state P.Source P.Partition.own partition.old)
+        (partition_state P.Source P.Partition.own partition.new) }
     ensures mendable { IsTrue S.tells → IsTrue L.tells → IsTrue P.tells → (P.past partition.old).pending
         ≡ [] → AlwaysMendable
         (raw_image b (S.content source.old)) limit
@@ -135,7 +139,7 @@ pub fn deliver_raw<S: Source, L: Spool, P: Partition>(
     raw_behind(source, b, limit, 0, spool, partition, w, m)
 }
 
-/// Delivers a raw image from a piece on, counted from 1: those before it are planned and passed over.
+/// Delivers a raw image from a piece on, counted from 1, as `resume` does: those before it are planned and passed over.
 pub fn resume_raw<S: Source, L: Spool, P: Partition>(
     source: &mut S,
     b: u32,

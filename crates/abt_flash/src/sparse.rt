@@ -120,6 +120,10 @@ pub fn deliver<S: Source, L: Spool, P: Partition>(
         (partition_state P.Source P.Partition.own partition.old)
         (partition_state P.Source P.Partition.own partition.new) }
     // What stays.
+    ensures mends { IsTrue S.tells → IsTrue L.tells → IsTrue P.tells → MendsBlocks
+        (sparse_image (S.content source.old)) limit 0 result
+        (partition_state P.Source P.Partition.own partition.old)
+        (partition_state P.Source P.Partition.own partition.new) }
     ensures mendable { IsTrue S.tells → IsTrue L.tells → IsTrue P.tells → (P.past partition.old).pending
         ≡ [] → AlwaysMendable
         (sparse_image (S.content source.old)) limit
@@ -141,7 +145,9 @@ pub fn deliver<S: Source, L: Spool, P: Partition>(
     sparse_behind(source, limit, 0, spool, partition, w, m)
 }
 
-/// Delivers from a piece on, counted from 1: those before it are planned and passed over.
+/// Delivers from a piece on, counted from 1: those before it are planned and passed over. All others are written, over
+/// whatever stands there, also where they stood already; so what a stop in this piece or a later one left is mended.
+/// Those before it are neither read nor written: they have to stand.
 pub fn resume<S: Source, L: Spool, P: Partition>(
     source: &mut S,
     limit: u32,

@@ -11,7 +11,7 @@ use Rattle.abt_pieces.specs.declared.stage.Stage.TheVariants.{Between}
 use Rattle.abt_flash.specs.Delivering.{begun, blocks_behind, blocks_in_first, blocks_up_to, pieces_in}
 use Rattle.abt_flash.proofs.Left.{Behind, behind}
 use Rattle.abt_flash.proofs.Mended.{leaves_same}
-use Rattle.abt_flash.proofs.Records.{begins_same, gives_none, lays_none, mendable_none, mends_none, opening_begins, opening_early, plan_early, rest_begins, rest_more}
+use Rattle.abt_flash.proofs.Records.{begins_same, gives_none, lays_none, mendable_none, mends_none, opening_begins, opening_early, plan_early, rest_begins, rest_more, stop_mends}
 use Rattle.abt_flash.proofs.Staying.{blocks_grow, from_first}
 use Rattle.abt_flash.proofs.Summing.{on_ok, on_unsynced, least_of, behind_written, reads_of}
 use Rattle.abt_flash.proofs.opened.deliver_behind.Goals as goal
@@ -25,7 +25,7 @@ pub returns-in-Err-clause-partition : goal.returns-in-Err-clause-partition
 returns-in-Err-clause-partition g c = lays_none _ _ _ _ _ _ _ _ (rw c.not_opened.ensures (opening_early c.in-Err.fault))
 
 pub returns-in-Err-clause-mends : goal.returns-in-Err-clause-mends
-returns-in-Err-clause-mends g c tells spool partition = mends_none _ _ _ _ _
+returns-in-Err-clause-mends g c tells spool partition = mends_none _ _ _ _ _ (rw c.not_opened.ensures (opening_early c.in-Err.fault))
 
 pub returns-in-Err-clause-mendable : goal.returns-in-Err-clause-mendable
 returns-in-Err-clause-mendable g c tells spool partition first none = mendable_none _ _ _ none
@@ -49,7 +49,7 @@ pub returns-then-is_too_small-clause-partition : goal.returns-then-is_too_small-
 returns-then-is_too_small-clause-partition g c = lays_none _ _ _ _ _ _ _ _ tt
 
 pub returns-then-is_too_small-clause-mends : goal.returns-then-is_too_small-clause-mends
-returns-then-is_too_small-clause-mends g c tells spool partition = mends_none _ _ _ _ _
+returns-then-is_too_small-clause-mends g c tells spool partition = mends_none _ _ _ _ _ tt
 
 pub returns-then-is_too_small-clause-mendable : goal.returns-then-is_too_small-clause-mendable
 returns-then-is_too_small-clause-mendable g c tells spool partition first none = mendable_none _ _ _ none
@@ -66,7 +66,7 @@ pub returns-in-Err-plan_pieces-clause-partition : goal.returns-in-Err-plan_piece
 returns-in-Err-plan_pieces-clause-partition g c = lays_none _ _ _ _ _ _ _ _ (plan_early _ _ _ _ _ c.in-Err-plan_pieces.ensures.refused)
 
 pub returns-in-Err-plan_pieces-clause-mends : goal.returns-in-Err-plan_pieces-clause-mends
-returns-in-Err-plan_pieces-clause-mends g c tells spool partition = mends_none _ _ _ _ _
+returns-in-Err-plan_pieces-clause-mends g c tells spool partition = mends_none _ _ _ _ _ (plan_early _ _ _ _ _ c.in-Err-plan_pieces.ensures.refused)
 
 pub returns-in-Err-plan_pieces-clause-counted : goal.returns-in-Err-plan_pieces-clause-counted
 returns-in-Err-plan_pieces-clause-counted g c tells =
@@ -171,8 +171,10 @@ returns-clause-mends g c tells spool partition =
     let made = rw (o.runs, p.limit, o.limit, p.planned.0, p.planned.1) at (p.told tells).cuts in
     let here = behind c.args.limit b all c.args.before c.plan_pieces.new.cutter.start.block Between made (inl refl) (omega (arith, long, within)) in
     let laid = rw (p.runs, o.runs, p.content tells) at (r.laid tells spool partition) in
+    let stays = rw (p.runs, o.runs, p.content tells, p.limit, o.limit, p.planned.1) at (r.stays tells spool partition) in
     record {
-      stays = rw (p.runs, o.runs, p.content tells, p.limit, o.limit, p.planned.1) at (r.stays tells spool partition);
+      stays = stays;
+      stopped = stop_mends _ _ c.args.before c.deliver_rest.result _ _ _ _ _ _ (rw p.planned.1 at r.stops) (rw p.planned.1 at r.synced) stays;
       mends = on_ok c.deliver_rest.result (λ e q done le m. e ∙ mended b all q (g.P.Source.content c.args.partition.now) (blocks_in_first c.args.limit b all done) c.plan_pieces.new.cutter.start.block size good m (rw (← here.blocks) (blocks_grow c.args.limit b all c.args.before done le))) laid;
     }
 

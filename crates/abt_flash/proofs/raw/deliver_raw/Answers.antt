@@ -22,6 +22,7 @@ returns g c =
       clean = e.clean;
       spool = e.spool;
       partition = e.partition;
+      mends = e.mends;
       mendable = λ tells spool partition settled. e.mendable tells spool partition refl settled;
       content = e.content;
       frame = e.frame;

@@ -77,7 +77,7 @@ pub returns-in-Err-clause-partition : goal.returns-in-Err-clause-partition
 returns-in-Err-clause-partition g c = lays_none _ _ _ _ _ _ _ _ (rw c.not_read.ensures (run_early c.in-Err.fault))
 
 pub returns-in-Err-clause-mends : goal.returns-in-Err-clause-mends
-returns-in-Err-clause-mends g c tells spool partition = mends_none _ _ _ _ _
+returns-in-Err-clause-mends g c tells spool partition = mends_none _ _ _ _ _ (rw c.not_read.ensures (run_early c.in-Err.fault))
 
 pub returns-in-Err-clause-costs : goal.returns-in-Err-clause-costs
 returns-in-Err-clause-costs g c = record {
