@@ -10,6 +10,7 @@ Of the tables of docs/CLAIMS.md:
     clause of each name, the definitions are there, and so is each must-fail edit, in the function's crate or one below it;
     where a function names no edit, words say why;
   - each public function of a crate that has a claim is named by one, or in the list of those that no claim names.
+Of the code: no call of the engine counts in a meter of its own, beside the one that it is lent.
 Of all documents: no line is longer than 120 columns, each file that a link or a path in backquotes names is there, and each
 crate of crates.txt is told of in docs/ARCHITECTURE.md. The last line is 'N passed, M failed'.
 """
@@ -29,6 +30,10 @@ OF_THE_PROGRAM = (
     "abt_values", "abt_words", "abt_refusals", "abt_output", "abt_host", "sparse_rules", "sparse_commands", "boot_rules",
     "boot_commands", "abootimg",
 )
+
+
+# The program begins to count, and what it prints and shows is counted by nobody.
+MAKE_METERS = ("abootimg", "abt_output", "abt_text")
 
 
 class Checks:
@@ -249,6 +254,13 @@ def check_rules(checks, rows):
             checks.that(found, f"docs/ARCHITECTURE.md, line {number}: {crate} defines {name}")
 
 
+def check_meters(checks, under):
+    for crate in (it for it in under if it not in MAKE_METERS and not it.endswith("_tests")):
+        files = glob.glob(os.path.join(HERE, "crates", crate, "src", "**", "*.rt"), recursive=True)
+        made = [os.path.relpath(it, HERE) for it in files if "Meter::new(" in "\n".join(lines_of(it))]
+        checks.that(not made, f"{crate} makes no meter{': ' + ', '.join(made) if made else ''}")
+
+
 def main():
     parser = argparse.ArgumentParser(description=__doc__, formatter_class=argparse.RawDescriptionHelpFormatter)
     parser.add_argument("--show", action="store_true", help="print each check, also where it passes")
@@ -262,6 +274,7 @@ def main():
     check_claims(checks, claims, under)
     check_public(checks, claims, under)
     check_rules(checks, [(cells, number) for head, cells, number in tables("docs/ARCHITECTURE.md") if head[0] == "rule"])
+    check_meters(checks, under)
     check_documents(checks, under)
     print(f"{checks.passed} passed, {checks.failed} failed")
     return 1 if checks.failed else 0

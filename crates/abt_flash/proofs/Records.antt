@@ -2,7 +2,7 @@
 use Rattle.std.proofs.Common.{◌≡◌, ℕ, ◌+◌, ◌-◌, ◌*◌, ◌≤◌, ◌<◌, ◌++◌, Bool, List, [], length, Result, Ok, Err, refl, sym, ap, subst, ◌∙◌, arith}
 use Rattle.std.specs.Prelude.{IsTrue, IfErr, IfOk, OnOk}
 use Rattle.std.specs.List.{concat}
-use Rattle.abt_io.specs.Moment.{MayLeave, moment_of}
+use Rattle.abt_io.specs.Moment.{MayLeave, Past, moment_of}
 use Rattle.abt_sparse.specs.Block.{Block, cells, over}
 use Rattle.abt_sparse.specs.Mending.{Mendable}
 use Rattle.abt_pieces.specs.Contents.{written_in}
@@ -172,27 +172,27 @@ mendable_none i limit s none = from_fresh i limit s s none (stays_none limit i.s
 -- ---- all pieces behind the first ones
 
 -- A stop leaves what is mended from its piece on: each piece before it was synced.
-pub stop_mends : (i : ImageBlocks) (limit made : ℕ) (r : Result Delivered FlashFault) (l s : Bool) (a z : Counts) (old new : PartitionState)
-    → IfErr r (λ e. StopsIn e made l s a z) → new.past.synced ≡ old.past.synced + finished made r
-    → StaysMendable limit i.size i.blocks made old.past new.past old.content new.content
-    → OnStop r (λ j. (p : List ℕ) (done : ℕ) → made ≤ done → LeavesMendable limit i.size i.blocks p done (moment_of old.past old.content)
-        → LeavesMendable limit i.size i.blocks p (j - 1) (moment_of new.past new.content))
-stop_mends i limit made (Ok d) l s a z old new h synced stays = tt
-stop_mends i limit made (Err (Stopped j c)) l s a z old new h synced stays = λ p done le leaves q may.
+pub stop_mends : (limit b : ℕ) (l : List Block) (made : ℕ) (r : Result Delivered FlashFault) (source spool : Bool) (a z : Counts) (old new : Past) (before after : List ℕ)
+    → IfErr r (λ e. StopsIn e made source spool a z) → new.synced ≡ old.synced + finished made r
+    → StaysMendable limit b l made old new before after
+    → OnStop r (λ j. (p : List ℕ) (done : ℕ) → made ≤ done → LeavesMendable limit b l p done (moment_of old before)
+        → LeavesMendable limit b l p (j - 1) (moment_of new after))
+stop_mends limit b l made (Ok d) source spool a z old new before after h synced stays = tt
+stop_mends limit b l made (Err (Stopped j c)) source spool a z old new before after h synced stays = λ p done le leaves q may.
     let order : made < j = h.0 in
-    let count : made + (new.past.synced - old.past.synced) ≡ j - 1 = omega (arith, synced, order) in
-    let then : Mendable i.size i.blocks p q (blocks_in_first limit i.size i.blocks (made + (new.past.synced - old.past.synced))) = stays.now p done le leaves q may in
+    let count : made + (new.synced - old.synced) ≡ j - 1 = omega (arith, synced, order) in
+    let then : Mendable b l p q (blocks_in_first limit b l (made + (new.synced - old.synced))) = stays.now p done le leaves q may in
     rw count at then
-stop_mends i limit made (Err (Read d)) l s a z old new h synced stays = tt
-stop_mends i limit made (Err SourceChanged) l s a z old new h synced stays = tt
-stop_mends i limit made (Err (NoSuchPiece k)) l s a z old new h synced stays = tt
-stop_mends i limit made (Err (Sparse f)) l s a z old new h synced stays = tt
-stop_mends i limit made (Err (Write d)) l s a z old new h synced stays = tt
-stop_mends i limit made (Err TooLarge) l s a z old new h synced stays = tt
-stop_mends i limit made (Err (BadBlock n)) l s a z old new h synced stays = tt
-stop_mends i limit made (Err (LimitTooSmall n)) l s a z old new h synced stays = tt
-stop_mends i limit made (Err (PartitionTooSmall n)) l s a z old new h synced stays = tt
-stop_mends i limit made (Err (Sync d)) l s a z old new h synced stays = tt
+stop_mends limit b l made (Err (Read d)) source spool a z old new before after h synced stays = tt
+stop_mends limit b l made (Err SourceChanged) source spool a z old new before after h synced stays = tt
+stop_mends limit b l made (Err (NoSuchPiece k)) source spool a z old new before after h synced stays = tt
+stop_mends limit b l made (Err (Sparse f)) source spool a z old new before after h synced stays = tt
+stop_mends limit b l made (Err (Write d)) source spool a z old new before after h synced stays = tt
+stop_mends limit b l made (Err TooLarge) source spool a z old new before after h synced stays = tt
+stop_mends limit b l made (Err (BadBlock n)) source spool a z old new before after h synced stays = tt
+stop_mends limit b l made (Err (LimitTooSmall n)) source spool a z old new before after h synced stays = tt
+stop_mends limit b l made (Err (PartitionTooSmall n)) source spool a z old new before after h synced stays = tt
+stop_mends limit b l made (Err (Sync d)) source spool a z old new before after h synced stays = tt
 
 pub rest_begins : (source : Bool) (k made : ℕ) (r : Result Delivered FlashFault) (l s : Bool) (a z : Counts) → IfErr r (λ e. StopsIn e made l s a z) → HasBegun source k r made (begun made r)
 rest_begins source k made (Ok d) l s a z h = refl

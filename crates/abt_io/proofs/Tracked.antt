@@ -2,11 +2,13 @@
 use Rattle.std.proofs.Common.{◌≡◌, ℕ, ◌+◌, ◌-◌, ◌<◌, ◌≤◌, Bool, true, false, List, ◌∷◌, ◌++◌, length, take, drop, get_or, replicate, sym, ap, subst, ◌∙◌, arith, inl, inr, length-append, ◌||◌, nat_lt, ltb-true, ltb-false}
 use Rattle.std.proofs.lemmas.Bool.{cases_Bool}
 use Rattle.std.proofs.lemmas.Bool.Decides.{nat_tests}
-use Rattle.std.proofs.lemmas.List.{get_or_append_left, get_or-append_right, get_or-take, get_or-drop, get_or-replicate, length-take-le, length-replicate, length-drop}
+use Rattle.std.proofs.lemmas.List.{get_or_append_left, get_or-append_right, get_or-take, get_or-drop, get_or-replicate, length-take-le, length-replicate, length-drop, take-replicate}
 use Rattle.std.proofs.lemmas.Option.{slice_get-get_or, slice_get_past}
-use Rattle.std.specs.Prelude.{slice_get, Some}
-use Rattle.abt_io.specs.Moment.{Past, Keeps, in_range, is_pending, moment_of, put_at, wrote}
-use Rattle.abt_io.specs.Crash.{IsTracked}
+use Rattle.std.specs.Prelude.{slice_get, Some, Result, Ok, Err, IfOk, OnErr}
+use Rattle.abt_io.specs.Moment.{Past, Keeps, MayLeave, in_range, is_pending, moment_of, put_at, wrote}
+use Rattle.abt_io.specs.Count.{count_of}
+use Rattle.abt_io.specs.Crash.{IsTorn, IsTracked}
+use Rattle.abt_io.specs.declared.device.DeviceFault.{DeviceFault}
 
 front_long : (x b : List ℕ) (at : ℕ) → at ≤ length x → length (take at x ++ b) ≡ at + length b
 front_long x b at le = omega (arith, length-append (take at x) b, length-take-le at x le)
@@ -96,3 +98,28 @@ kept_wrote old new x b at fits e =
       bytes = λ i t. slice_outside x b at i fits t;
       pending = λ i t p. ap (λ (k : Bool). k || is_pending old.pending i) t ∙ p;
     })
+
+-- what a write changed is pending: a crash may leave what stood before
+pub unsettled_wrote : (old new : Past) (x b : List ℕ) (at : ℕ) → at + length b ≤ length x → new ≡ wrote old (put_at x at b) at (length b)
+    → MayLeave (moment_of new (put_at x at b)) x
+unsettled_wrote old new x b at fits e =
+    subst (λ (p : Past). MayLeave (moment_of p (put_at x at b)) x) (sym e) (record {
+      size = sym (put_long x b at fits);
+      kept = λ i free. sym (slice_outside x b at i fits (outside i free));
+    })
+  where
+    outside : (i : ℕ) → (in_range at (length b) i || is_pending old.pending i) ≡ false → in_range at (length b) i ≡ false
+    outside i free = elim (cases_Bool (in_range at (length b) i)) [
+      | inl t ↦ absurd (let w : true ≡ false = sym (ap (λ (k : Bool). k || is_pending old.pending i) t) ∙ free in cc)
+      | inr f ↦ f
+    ]
+
+-- a write of one byte again and again tears its range, unless the partition fails too
+pub torn_of : (mark at n f f' : ℕ) (r : Result ℕ DeviceFault) (fill old new : List ℕ) → fill ≡ replicate n mark → count_of r ≤ length fill
+    → IfOk r (λ k. 0 < length fill → 0 < k) → IfOk r (λ k. new ≡ put_at old at (take k fill)) → OnErr r (f < f') → 0 < n → f' ≡ f → IsTorn mark at n old new
+torn_of mark at n f f' (Ok k) fill old new e within progress written cause some same =
+    let long : length fill ≡ n = ap length e ∙ length-replicate {A = ℕ} n mark in
+    let least : k ≤ length fill = within in
+    let few : k ≤ n = omega (arith, least, long) in
+    record { count = k; some = progress (omega (arith, some, long)); within = few; filled = written ∙ ap (λ (l : List ℕ). put_at old at l) (ap (take k) e ∙ take-replicate k n mark few) }
+torn_of mark at n f f' (Err d) fill old new e within progress written cause some same = let rose : f < f' = cause in absurd (omega (arith, rose, same))

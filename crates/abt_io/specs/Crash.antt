@@ -1,6 +1,6 @@
--- What a crash leaves of a partition in memory, and when its three lists fit together.
-use Rattle.std.specs.Prelude.{◌≡◌, ℕ, ◌<◌, false, List, length, slice_index, nat_eq, cond}
-use Rattle.abt_io.specs.Moment.{is_pending}
+-- What a crash leaves of a partition in memory, when its three lists fit together, and what other test devices leave.
+use Rattle.std.specs.Prelude.{◌≡◌, ℕ, ◌<◌, ◌≤◌, false, List, length, replicate, slice_index, nat_eq, nat_lt, cond}
+use Rattle.abt_io.specs.Moment.{is_pending, put_at}
 use Rattle.abt_io.specs.declared.testing.pick.Pick.{Pick}
 use Rattle.abt_io.specs.declared.testing.pick.Pick.TheVariants.{Old, New, Byte}
 
@@ -21,3 +21,14 @@ pub record IsTracked (now stable touched : List ℕ) (pending : List (ℕ × ℕ
   pub agrees : (i : ℕ) → slice_index touched i ≡ 0 → slice_index stable i ≡ slice_index now i
   pub untouched : (i : ℕ) → slice_index touched i ≡ 0 → is_pending pending i ≡ false
   pub only : (i : ℕ) → i < length now → is_pending pending i ≡ false → slice_index touched i ≡ 0
+
+-- of the n bytes from `at` on, a front is this byte now: at least one of them
+pub record IsTorn (mark at n : ℕ) (old new : List ℕ) : Type 0 where
+  pub count : ℕ
+  pub some : 0 < count
+  pub within : count ≤ n
+  pub filled : new ≡ put_at old at (replicate count mark)
+
+-- which of two lists the next call reads, where so many calls are left of the first
+abbrev pub switched : ℕ → List ℕ → List ℕ → List ℕ
+switched left first second = cond (nat_lt 0 left) first second

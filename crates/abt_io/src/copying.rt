@@ -5,6 +5,7 @@ ghost use Rattle.std.specs.Prelude.{length, take, drop, replicate};
 ghost use Rattle.abt_io.specs.Cause.{CopyCause, full_copied};
 ghost use Rattle.abt_io.specs.Count.{full_of};
 
+use crate::laying::lay_byte;
 use crate::{DeviceFault, Meter, Output, Source, WINDOW, Window, write_out};
 
 /// Why a copy stopped.
@@ -132,14 +133,6 @@ pub fn copy_range<S: Source, O: Output>(
     Ok(())
 }
 
-// Makes the front of the window zeros.
-fn lay_zeros(w: &mut Window, n: usize)
-    requires { n ≤ 65536 }
-    ensures { take n w.new.bytes ≡ replicate n 0 }
-{
-    w.part_mut(0, n).fill(0);
-}
-
 /// Writes `n` zeros, as many a call as the output takes. It receives nothing and closes no step.
 pub fn write_zeros<O: Output>(
     output: &mut O,
@@ -166,7 +159,7 @@ pub fn write_zeros<O: Output>(
     ensures greatest { m.new.greatest.number ≡ m.old.greatest.number }
 {
     let front = n.min(WINDOW as u64) as usize;
-    lay_zeros(w, front);
+    lay_byte(w, front, 0);
     let mut at = 0;
     while at < n {
         m.tick();

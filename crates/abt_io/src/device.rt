@@ -12,8 +12,8 @@ ghost use Rattle.abt_io.specs.Bytes.{AreBytes};
 ghost use Rattle.abt_io.specs.Count.{count_of, full_of};
 ghost use Rattle.abt_io.specs.Frame.{ReadFrame, reads_alone, WriteFrame, writes_alone, PartitionFrame, no_partition};
 ghost use Rattle.abt_io.specs.Frame.{last_cut};
-ghost use Rattle.abt_io.specs.Moment.{Past, Keeps, EachSince, IsNewest, StaysPending, AllPending, in_range};
-ghost use Rattle.abt_io.specs.Moment.{moment_of, put_at};
+ghost use Rattle.abt_io.specs.Moment.{Past, Keeps, EachSince, IsNewest, MayLeave, StaysPending, AllPending};
+ghost use Rattle.abt_io.specs.Moment.{in_range, moment_of, put_at};
 
 /// Why a call of a device was refused. A refused call moves nothing; only a `write_at` that was refused
 /// may leave any bytes in the range that it was asked to write.
@@ -208,8 +208,9 @@ pub trait Source {
 ///
 /// The bytes that a write took are pending from then on, until a sync succeeds; then none is. The rest
 /// of the range that a write was asked to write may have become pending too; where the write failed, any
-/// bytes may stand in that range. No call changes a byte outside, or makes it pending. A crash leaves
-/// every byte that isn't pending as it is, and any value where one is.
+/// bytes may stand in that range. A byte that a write changed is pending, also where the write failed: a
+/// crash may still leave what stood before. No call changes a byte outside, or makes it pending. A crash
+/// leaves every byte that isn't pending as it is, and any value where one is.
 pub trait Partition: Source {
     /// What it was through: the bytes that are pending, the syncs that succeeded and its moments.
     ghost past: { Self → Past };
@@ -244,6 +245,8 @@ pub trait Partition: Source {
             OnOk result (IsNewest (moment_of (past self.new) (Self.content self.new)) (past self.new).moments) }
         ensures pending { IsTrue Self.tells → AllPending (in_range at (count_of result)) (past self.new).pending }
         ensures stays { IsTrue Self.tells → StaysPending (past self.old).pending (past self.new).pending }
+        ensures unsettled { IsTrue Self.tells →
+            MayLeave (moment_of (past self.new) (Self.content self.new)) (Self.content self.old) }
         ensures synced { (past self.new).synced ≡ (past self.old).synced }
         ensures calls { puts self.new ≡ puts self.old + 1 }
         ensures counted { taken self.new ≡ taken self.old + count_of result }

@@ -1,4 +1,4 @@
-//! Filling the window with one word.
+//! Filling the window with one word, or one byte.
 
 ghost use Rattle.std.specs.Prelude.{◌≡◌, ◌<◌, ◌≤◌, ◌+◌, ◌*◌, length, take, replicate};
 ghost use Rattle.std.specs.List.{concat};
@@ -28,4 +28,12 @@ pub fn lay_word(w: &mut Window, word: [u8; 4], n: usize, m: &mut Meter)
         back[..4 * more].copy_from_slice(&front[..4 * more]);
         done += more;
     }
+}
+
+/// Lays a byte over the first `n` bytes of the window.
+pub(crate) fn lay_byte(w: &mut Window, n: usize, byte: u8)
+    requires { n ≤ 65536 }
+    ensures { take n w.new.bytes ≡ replicate n byte }
+{
+    w.part_mut(0, n).fill(byte);
 }

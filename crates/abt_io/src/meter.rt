@@ -6,20 +6,19 @@ use crate::Tally;
 
 /// Counts turns of loops, steps, and the greatest number of bytes that devices handed over within one
 /// step. It takes no bytes at run time, and only contracts see its numbers.
+///
+/// Only the calls below change a count, and none of them lowers it.
 #[derive(Drop)]
 pub struct Meter {
-    pub turns: Tally,
-    pub steps: Tally,
-    pub greatest: Tally,
+    turns: Tally,
+    steps: Tally,
+    greatest: Tally,
 }
 
 impl Meter {
-    /// All counts are 0.
-    pub fn new() -> Meter
-        ensures turns { result.turns.number ≡ 0 }
-        ensures steps { result.steps.number ≡ 0 }
-        ensures greatest { result.greatest.number ≡ 0 }
-    {
+    /// Its counts begin anywhere: contracts say by how much they rise. So a call that put a new meter in the
+    /// place of the one that it was lent could promise nothing of what it did.
+    pub fn new() -> Meter {
         Meter {
             turns: Tally::new(),
             steps: Tally::new(),

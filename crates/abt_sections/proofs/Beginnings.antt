@@ -1,5 +1,5 @@
 -- What an output was given, where nothing came, or one write came before the last.
-use Rattle.std.proofs.Common.{◌≡◌, ℕ, zero, suc, ◌+◌, ◌-◌, ◌*◌, ◌≤◌, List, [], ◌∷◌, ◌++◌, Result, Ok, Err, length, map, get_or, take, drop, replicate, refl, sym, ap, ◌∙◌, arith}
+use Rattle.std.proofs.Common.{◌≡◌, ℕ, zero, suc, ◌+◌, ◌-◌, ◌*◌, ◌≤◌, List, [], ◌∷◌, ◌++◌, Result, Ok, Err, length, map, get_or, take, drop, replicate, refl, sym, ap, ◌∙◌, arith, length-append}
 use Rattle.std.specs.Prelude.{OnOk}
 use Rattle.std.proofs.lemmas.List.{length-map, take_all, take_at}
 use Rattle.abt_headers.specs.Page.{pages}
@@ -54,3 +54,7 @@ last_two page (a ∷ b ∷ []) long = absurd (omega (arith, long))
 last_two page (a ∷ b ∷ c ∷ []) long = absurd (omega (arith, long))
 last_two page (a ∷ b ∷ c ∷ d ∷ []) long = omega arith
 last_two page (a ∷ b ∷ c ∷ d ∷ e ∷ sizes) long = absurd (omega (arith, long))
+
+-- all of x came
+pub begins_all : (a b x : List ℕ) → b ≡ a ++ x → Begins a b x
+begins_all a b x e = e ∙ ap (λ (l : List ℕ). a ++ l) (sym (take_all (length b - length a) x (omega (arith, ap length e, length-append a x))))

@@ -53,7 +53,7 @@ abbrev pub RawRises : {X : Type 0} → Result X VerifyFault → Bool → ℕ →
 RawRises (Ok x) tells r r' p p' = (r' ≡ r) × (p' ≡ p)
 RawRises (Err f) tells r r' p p' = HasRawCause f tells r r' p p'
 
--- 15 comes before any device is read
+-- the same with 15, which is the size of a block and no device's failure
 abbrev pub RawCause : {X : Type 0} → Result X VerifyFault → Bool → ℕ → ℕ → ℕ → ℕ → Type 0
 RawCause (Err (BadBlock n)) tells r r' p p' = (r' ≡ r) × (p' ≡ p)
 RawCause a tells r r' p p' = RawRises a tells r r' p p'

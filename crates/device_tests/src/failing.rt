@@ -67,10 +67,10 @@ fn a_marred_write_fills_its_range(rt: HostRuntime) {
     let mut room = *b"......";
     {
         let mut partition = Marred::new(SlicePartition::new(&mut room), 3, b'?');
-        assert!(rt; put_at(&mut partition, 2, b"cd") == Err(DeviceFault::Failed));
+        assert!(rt; put_at(&mut partition, 2, b"cde") == Err(DeviceFault::Failed));
         assert!(rt; put_at(&mut partition, 3, b"d") == Ok(()));
     }
-    assert!(rt; room == *b"..?d..");
+    assert!(rt; room == *b"..?d?.");
 }
 
 #[test]
@@ -79,6 +79,7 @@ fn a_source_claims_more_than_it_has(rt: HostRuntime) {
     let mut long = Long::new(SliceSource::new(b"abc"), 1 << 32);
     assert!(rt; long.length() == 1 << 32);
     assert!(rt; filled_at(&mut long, 0, &mut out).count == 3);
+    assert!(rt; out == *b"abc\0");
 }
 
 #[test]

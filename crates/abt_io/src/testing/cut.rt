@@ -3,8 +3,8 @@
 ghost use Rattle.std.specs.Prelude.{◌≡◌, ◌<◌, ◌≤◌, ◌+◌, ◌-◌, ◌^◌, ◌++◌, [], IsTrue, IfOk, IfErr, OnOk, OnErr};
 ghost use Rattle.std.specs.Prelude.{IsErrOf, length, take, drop};
 ghost use Rattle.abt_io.specs.Count.{count_of, full_of};
-ghost use Rattle.abt_io.specs.Moment.{Keeps, EachSince, IsNewest, StaysPending, AllPending, in_range, moment_of};
-ghost use Rattle.abt_io.specs.Moment.{put_at};
+ghost use Rattle.abt_io.specs.Moment.{Keeps, EachSince, IsNewest, MayLeave, StaysPending, AllPending};
+ghost use Rattle.abt_io.specs.Moment.{in_range, moment_of, put_at};
 
 use crate::{DeviceFault, Input, Output, Overwrite, Partition, Source, Spool};
 
@@ -220,6 +220,9 @@ impl<D: Partition> Partition for Cut<D> {
         ensures pending { IsTrue D.tells → AllPending (in_range at (count_of result)) (D.past self.new.device).pending }
         ensures stays { IsTrue D.tells →
             StaysPending (D.past self.old.device).pending (D.past self.new.device).pending }
+        ensures unsettled { IsTrue D.tells →
+            MayLeave (moment_of (D.past self.new.device) (D.content self.new.device))
+            (D.content self.old.device) }
         ensures synced { (D.past self.new.device).synced ≡ (D.past self.old.device).synced }
         ensures calls { D.puts self.new.device ≡ D.puts self.old.device + 1 }
         ensures counted { D.taken self.new.device ≡ D.taken self.old.device + count_of result }

@@ -5,8 +5,8 @@ ghost use Rattle.std.specs.Prelude.{OnOk, OnErr, IsErrOf, is_ok, if◌then◌els
 ghost use Rattle.std.specs.Borrow.{sem};
 ghost use Rattle.abt_io.specs.Count.{count_of, full_of};
 ghost use Rattle.abt_io.specs.Inner.{LendsInner};
-ghost use Rattle.abt_io.specs.Moment.{Keeps, EachSince, IsNewest, StaysPending, AllPending, in_range, moment_of};
-ghost use Rattle.abt_io.specs.Moment.{put_at};
+ghost use Rattle.abt_io.specs.Moment.{Keeps, EachSince, IsNewest, MayLeave, StaysPending, AllPending};
+ghost use Rattle.abt_io.specs.Moment.{in_range, moment_of, put_at};
 ghost use Rattle.abt_io.specs.FrameLaws.{counted_reading, counted_writing, counted_partition, more_reading};
 ghost use Rattle.abt_io.specs.FrameLaws.{more_writing, more_partition};
 
@@ -291,6 +291,9 @@ impl<D: Partition> Partition for Faulty<D> {
         ensures pending { IsTrue D.tells → AllPending (in_range at (count_of result)) (D.past self.new.device).pending }
         ensures stays { IsTrue D.tells →
             StaysPending (D.past self.old.device).pending (D.past self.new.device).pending }
+        ensures unsettled { IsTrue D.tells →
+            MayLeave (moment_of (D.past self.new.device) (D.content self.new.device))
+            (D.content self.old.device) }
         ensures synced { (D.past self.new.device).synced ≡ (D.past self.old.device).synced }
         ensures calls { (D.puts self.new.device + self.new.writes.number)
             ≡ (D.puts self.old.device + self.old.writes.number) + 1 }

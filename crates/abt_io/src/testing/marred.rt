@@ -3,10 +3,12 @@
 ghost use Rattle.std.specs.Prelude.{◌≡◌, ◌<◌, ◌≤◌, ◌+◌, IsTrue, IfOk, IfErr, OnOk, OnErr, IsErrOf, false, true};
 ghost use Rattle.std.specs.Prelude.{length, take};
 ghost use Rattle.abt_io.specs.Count.{count_of};
+ghost use Rattle.abt_io.specs.Crash.{IsTorn};
 ghost use Rattle.abt_io.specs.FrameLaws.{marred_partition};
-ghost use Rattle.abt_io.specs.Moment.{Keeps, EachSince, IsNewest, StaysPending, AllPending, in_range, moment_of};
-ghost use Rattle.abt_io.specs.Moment.{put_at};
+ghost use Rattle.abt_io.specs.Moment.{Keeps, EachSince, IsNewest, MayLeave, StaysPending, AllPending};
+ghost use Rattle.abt_io.specs.Moment.{in_range, moment_of, put_at};
 
+use crate::laying::lay_byte;
 use crate::{DeviceFault, Partition, Source, Tally, Window};
 
 /// The first `write_at` whose range holds byte `at` fills that range with `mark` and answers
@@ -112,6 +114,9 @@ impl<P: Partition> Partition for Marred<P> {
             AllPending (in_range at (count_of result)) (P.past self.new.partition).pending }
         ensures stays { IsTrue P.tells →
             StaysPending (P.past self.old.partition).pending (P.past self.new.partition).pending }
+        ensures unsettled { IsTrue P.tells →
+            MayLeave (moment_of (P.past self.new.partition) (P.content self.new.partition))
+            (P.content self.old.partition) }
         ensures synced { (P.past self.new.partition).synced ≡ (P.past self.old.partition).synced }
         ensures calls { P.puts self.new.partition ≡ P.puts self.old.partition + 1 }
         ensures counted { self.new.taken.number ≡ self.old.taken.number + count_of result }
@@ -128,6 +133,11 @@ impl<P: Partition> Partition for Marred<P> {
         ensures failed { IfErr result (λ e. e ≡ DeviceFault.Failed) }
         ensures tears { self.old.is_done ≡ false → at ≤ self.old.at → self.old.at < at + length bytes.now →
             IsErrOf result DeviceFault.Failed × (self.new.is_done ≡ true) }
+        ensures torn { IsTrue P.tells → self.old.is_done ≡ false → at ≤ self.old.at →
+            self.old.at < at + length bytes.now →
+            P.put_faults self.new.partition ≡ P.put_faults self.old.partition →
+            IsTorn self.old.mark at (length bytes.now) (P.content self.old.partition)
+            (P.content self.new.partition) }
         ensures once { self.old.is_done ≡ true → (self.new.is_done ≡ self.old.is_done)
             × (self.new.faults.number ≡ self.old.faults.number) }
         ensures before { self.old.at < at → (self.new.is_done ≡ self.old.is_done)
@@ -140,7 +150,7 @@ impl<P: Partition> Partition for Marred<P> {
         if !self.is_done && at <= self.at && self.at - at < len as u64 {
             self.is_done = true;
             self.faults.add(1);
-            self.window.part_mut(0, len).fill(self.mark);
+            lay_byte(&mut self.window, len, self.mark);
             let _ = self.partition.write_at(at, self.window.part(0, len));
             return Err(DeviceFault::Failed);
         }

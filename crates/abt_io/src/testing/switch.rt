@@ -1,7 +1,8 @@
 //! A source that changes.
 
-ghost use Rattle.std.specs.Prelude.{◌≡◌, ◌-◌, [], false, nat_lt, if◌then◌else◌, length};
+ghost use Rattle.std.specs.Prelude.{◌≡◌, ◌<◌, ◌≤◌, ◌+◌, ◌-◌, [], false, length, take, drop};
 ghost use Rattle.std.proofs.lemmas.Bool.{false≢true};
+ghost use Rattle.abt_io.specs.Crash.{switched};
 
 use crate::bytes::read_part;
 use crate::{DeviceFault, Source, Tally};
@@ -36,6 +37,30 @@ impl<'a> SwitchSource<'a> {
             given: Tally::new(),
         }
     }
+
+    // Reads the list whose turn it is, which is one call less behind it.
+    fn read_next(&mut self, at: u64, out: &mut [u8]) -> usize
+        ensures within { result ≤ length out.new }
+        ensures present { result ≤ length (switched self.old.left self.old.first.now self.old.second.now) - at }
+        ensures bytes { take result out.new
+            ≡ take result (drop at (switched self.old.left self.old.first.now self.old.second.now)) }
+        ensures ended { result ≡ 0 → 0 < length out.new →
+            length (switched self.old.left self.old.first.now self.old.second.now) ≤ at }
+        ensures calls { self.new.reads.number ≡ self.old.reads.number + 1 }
+        ensures counted { self.new.given.number ≡ self.old.given.number + result }
+        ensures left { self.new.left ≡ self.old.left - 1 }
+        ensures same { (self.new.first.now ≡ self.old.first.now) × (self.new.second.now ≡ self.old.second.now) }
+    {
+        self.reads.add(1);
+        let n = if self.left > 0 {
+            read_part(self.first, at, out)
+        } else {
+            read_part(self.second, at, out)
+        };
+        self.left = self.left.saturating_sub(1);
+        self.given.add(n as u64);
+        n
+    }
 }
 
 impl<'a> Source for SwitchSource<'a> {
@@ -43,7 +68,7 @@ impl<'a> Source for SwitchSource<'a> {
 
     ghost content = { λ _. [] };
 
-    ghost size = { λ s. if nat_lt 0 s.left then length s.first.now else length s.second.now };
+    ghost size = { λ s. length (switched s.left s.first.now s.second.now) };
 
     ghost reads = { λ s. s.reads.number };
 
@@ -64,14 +89,6 @@ impl<'a> Source for SwitchSource<'a> {
     }
 
     fn read_at(&mut self, at: u64, out: &mut [u8]) -> Result<usize, DeviceFault> {
-        self.reads.add(1);
-        let n = if self.left > 0 {
-            read_part(self.first, at, out)
-        } else {
-            read_part(self.second, at, out)
-        };
-        self.left = self.left.saturating_sub(1);
-        self.given.add(n as u64);
-        Ok(n)
+        Ok(self.read_next(at, out))
     }
 }

@@ -174,7 +174,7 @@ returns-clause-mends g c tells spool partition =
     let stays = rw (p.runs, o.runs, p.content tells, p.limit, o.limit, p.planned.1) at (r.stays tells spool partition) in
     record {
       stays = stays;
-      stopped = stop_mends _ _ c.args.before c.deliver_rest.result _ _ _ _ _ _ (rw p.planned.1 at r.stops) (rw p.planned.1 at r.synced) stays;
+      stopped = stop_mends _ _ _ _ c.deliver_rest.result _ _ _ _ _ _ _ _ (rw p.planned.1 at r.stops) (rw p.planned.1 at r.synced) stays;
       mends = on_ok c.deliver_rest.result (λ e q done le m. e ∙ mended b all q (g.P.Source.content c.args.partition.now) (blocks_in_first c.args.limit b all done) c.plan_pieces.new.cutter.start.block size good m (rw (← here.blocks) (blocks_grow c.args.limit b all c.args.before done le))) laid;
     }
 

@@ -6,9 +6,9 @@ use Rattle.abt_io.proofs.copying.write_zeros.Goals as goal
 pub write_zeros-requires-clause-zeros : goal.write_zeros-requires-clause-zeros
 write_zeros-requires-clause-zeros g c =
     let front = c.min-front.result in
-    let bytes = c.lay_zeros.new.w.bytes in
+    let bytes = c.lay_byte.new.w.bytes in
     let part_is : c.part.result.now ≡ take front bytes = c.part.ensures.value ∙ ap (λ (k : ℕ). take k bytes) (let z : front - 0 ≡ front = omega arith in z) in
-    zeros_all _ front (zeros_part bytes c.part.result.now front front c.lay_zeros.ensures part_is (let le : front ≤ front = omega arith in le)) (omega arith)
+    zeros_all _ front (zeros_part bytes c.part.result.now front front c.lay_byte.ensures part_is (let le : front ≤ front = omega arith in le)) (omega arith)
 
 pub returns-in-Err-clause-front : goal.returns-in-Err-clause-front
 returns-in-Err-clause-front g c =

@@ -37,3 +37,6 @@ returns-clause-canonical g c = λ tells.
     verdict_is (g.S.Source.content c.args.source.now) (view_of c.args.image.now.header) c.verdict_of.result.canonical c.in-Ok.value c.in-Ok-id_holds.value c.offset_holds.result c.texts_hold.result c.in-Ok-fragments_fill.value
     c.verdict_of.ensures.canonical (c.in-Ok.ensures.value tells) (rw same at (c.in-Ok-id_holds.ensures.value tells)) c.offset_holds.ensures c.texts_hold.ensures
     (rw (then, same) at (c.in-Ok-fragments_fill.ensures.value tells))
+
+pub returns-clause-content : goal.returns-clause-content
+returns-clause-content g c = λ tells. c.fragments_fill.ensures.content tells ∙ (c.id_holds.ensures.content tells ∙ c.in-Ok.ensures.content tells)

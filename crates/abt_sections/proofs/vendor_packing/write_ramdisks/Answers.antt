@@ -7,6 +7,7 @@ use Rattle.abt_sections.proofs.Causes.{part_move}
 use Rattle.abt_sections.proofs.Growing.{begins_then, begins_stop, begins_is, then_all}
 use Rattle.abt_sections.proofs.Layouts.{concat_next, concat_at}
 use Rattle.abt_sections.proofs.Parts.{kept, next_part, part_same}
+use Rattle.std.proofs.lemmas.List.{take_all, length-map}
 use Rattle.abt_sections.proofs.vendor_packing.write_ramdisks.Goals as goal
 
 pub returns-in-Err-clause-front : goal.returns-in-Err-clause-front
@@ -81,3 +82,14 @@ returns-in-Err-clause-size g c = λ tells.
 pub returns-in-Err-clause-frame : goal.returns-in-Err-clause-frame
 returns-in-Err-clause-frame g c =
     kept g.S.Source.read_frame c.loop-i.ramdisks c.loop-i.i c.index-ramdisks-i.result c.write_bytes.new.part c.in-Err.ensures.frame ∙ c.loop-i.invariant.frame
+
+pub returns-in-Err-clause-read_faults : goal.returns-in-Err-clause-read_faults
+returns-in-Err-clause-read_faults g c =
+    let f = g.S.Source.read_faults in
+    omega (arith, c.loop-i.invariant.read_faults, sum_by-set f c.loop-i.ramdisks c.loop-i.i c.write_bytes.new.part c.index-ramdisks-i.result (omega arith), c.in-Err.ensures.read_faults)
+
+pub returns-clause-written : goal.returns-clause-written
+returns-clause-written g c =
+    λ tells.
+    let all = map g.S.Source.content c.args.ramdisks.now in
+    rw (take_all c.loop-i.i all (omega (arith, length-map c.args.ramdisks.now g.S.Source.content))) at (c.loop-i.invariant.written tells)

@@ -1,11 +1,12 @@
 use Rattle.std.proofs.Common.{rules, ◌≡◌, ◌+◌, ◌++◌, ℕ, List, arith, ap, sym, ◌∙◌, map, get_or, take}
-use Rattle.std.proofs.lemmas.List.{get_or_default}
-use Rattle.std.proofs.lemmas.List.Sums.{sum_by_more}
+use Rattle.std.proofs.lemmas.List.{get_or_default, take_all, length-map}
+use Rattle.std.proofs.lemmas.List.Sums.{sum_by_more, sum_by_more_le}
 use Rattle.abt_headers.specs.Entry.{entry_record}
 use Rattle.abt_sections.specs.VendorCanon.{table_for}
 use Rattle.abt_sections.proofs.Parts.{get_map}
 use Rattle.abt_sections.proofs.Growing.{begins_then, begins_stop, begins_is, then_all}
 use Rattle.abt_sections.proofs.VendorTables.{table_next, table_front}
+use Rattle.abt_sections.proofs.Beginnings.{begins_all}
 use Rattle.abt_sections.proofs.vendor_packing.write_table.Goals as goal
 
 pub returns-in-Err-clause-front : goal.returns-in-Err-clause-front
@@ -51,3 +52,33 @@ loop-i-preserved g c =
       write_faults = e.clean ∙ v.write_faults;
       full_faults = omega (arith, e.full_faults, v.full_faults);
     }
+
+pub overflow_cast-size : goal.overflow_cast-size
+overflow_cast-size g c =
+    let f = g.S.Source.size in
+    let ps = c.args.ramdisks.now in
+    omega (arith, c.requires.small, c.length-size.ensures.size, ap f c.index-ramdisks-i.is, sum_by_more_le f ps c.loop-i.i c.index-ramdisks-i.result (omega arith))
+
+pub overflow_add-offset : goal.overflow_add-offset
+overflow_add-offset g c =
+    let f = g.S.Source.size in
+    let ps = c.args.ramdisks.now in
+    omega (arith, c.loop-i.invariant.offset, c.requires.small, c.length-size.ensures.size, ap f c.index-ramdisks-i.is, sum_by_more_le f ps c.loop-i.i c.index-ramdisks-i.result (omega arith))
+
+pub returns-clause-written : goal.returns-clause-written
+returns-clause-written g c =
+    let fs = c.args.fragments.now in
+    let ns = map g.S.Source.size c.args.ramdisks.now in
+    let i = c.loop-i.i in
+    let a = take_all i fs (omega arith) in
+    let b = take_all i ns (omega (arith, length-map c.args.ramdisks.now g.S.Source.size)) in
+    rw (a, b) at c.loop-i.invariant.written
+
+pub returns-clause-front : goal.returns-clause-front
+returns-clause-front g c =
+    let fs = c.args.fragments.now in
+    let ns = map g.S.Source.size c.args.ramdisks.now in
+    let i = c.loop-i.i in
+    let a = take_all i fs (omega arith) in
+    let b = take_all i ns (omega (arith, length-map c.args.ramdisks.now g.S.Source.size)) in
+    begins_all _ _ _ (rw (a, b) at c.loop-i.invariant.written)
