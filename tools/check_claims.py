@@ -10,7 +10,8 @@ Of the tables of docs/CLAIMS.md:
     clause of each name, the definitions are there, and so is each must-fail edit, in the function's crate or one below it;
     where a function names no edit, words say why;
   - each public function of a crate that has a claim is named by one, or in the list of those that no claim names.
-Of the code: no call of the engine counts in a meter of its own, beside the one that it is lent.
+Of the code: no call of the engine counts in a meter of its own, beside the one that it is lent; each lemma of proofs/ is named
+by another one, by an answer or by a contract.
 Of all documents: no line is longer than 120 columns, each file that a link or a path in backquotes names is there, and each
 crate of crates.txt is told of in docs/ARCHITECTURE.md. The last line is 'N passed, M failed'.
 """
@@ -261,6 +262,31 @@ def check_meters(checks, under):
         checks.that(not made, f"{crate} makes no meter{': ' + ', '.join(made) if made else ''}")
 
 
+def check_lemmas(checks, under):
+    """A lemma is named where its name stands outside its own clauses, which begin with it."""
+    texts = {}
+    for crate in under:
+        for part in ("src", "specs", "proofs"):
+            for path in glob.glob(os.path.join(HERE, "crates", crate, part, "**", "*.*"), recursive=True):
+                texts[os.path.relpath(path, HERE)] = lines_of(path)
+    named = set()
+    for lines in texts.values():
+        for line in lines:
+            # (what an import names is used, or the prover says so)
+            words = re.findall(r"[^\s(){}\[\],;.λ]+", line)
+            own = words[1:2] if words[:1] == ["pub"] else words[:1]
+            named.update(words[len(own):] if re.match(r"\s{0,2}\S", line) else words)
+    unnamed = []
+    for path, lines in texts.items():
+        if f"{os.sep}proofs{os.sep}" not in path or os.path.basename(path) in ("Answers.antt", "Invariants.antt", "Proof.antt"):
+            continue
+        for line in lines:
+            lemma = re.match(r"\s{0,2}(?:abbrev )?(?:pub )?([A-Za-z][^\s:({]*) :", line)
+            if lemma and lemma[1] not in named:
+                unnamed.append(f"{path}: {lemma[1]}")
+    checks.that(not unnamed, f"each lemma is named by another{': ' + ', '.join(unnamed) if unnamed else ''}")
+
+
 def main():
     parser = argparse.ArgumentParser(description=__doc__, formatter_class=argparse.RawDescriptionHelpFormatter)
     parser.add_argument("--show", action="store_true", help="print each check, also where it passes")
@@ -275,6 +301,7 @@ def main():
     check_public(checks, claims, under)
     check_rules(checks, [(cells, number) for head, cells, number in tables("docs/ARCHITECTURE.md") if head[0] == "rule"])
     check_meters(checks, under)
+    check_lemmas(checks, under)
     check_documents(checks, under)
     print(f"{checks.passed} passed, {checks.failed} failed")
     return 1 if checks.failed else 0

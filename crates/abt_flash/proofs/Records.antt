@@ -176,7 +176,7 @@ pub stop_mends : (limit b : ℕ) (l : List Block) (made : ℕ) (r : Result Deliv
     → IfErr r (λ e. StopsIn e made source spool a z) → new.synced ≡ old.synced + finished made r
     → StaysMendable limit b l made old new before after
     → OnStop r (λ j. (p : List ℕ) (done : ℕ) → made ≤ done → LeavesMendable limit b l p done (moment_of old before)
-        → LeavesMendable limit b l p (j - 1) (moment_of new after))
+    → LeavesMendable limit b l p (j - 1) (moment_of new after))
 stop_mends limit b l made (Ok d) source spool a z old new before after h synced stays = tt
 stop_mends limit b l made (Err (Stopped j c)) source spool a z old new before after h synced stays = λ p done le leaves q may.
     let order : made < j = h.0 in

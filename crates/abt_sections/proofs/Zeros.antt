@@ -1,10 +1,7 @@
 -- Zeros that are there.
-use Rattle.std.proofs.Common.{◌≡◌, ℕ, ◌+◌, ◌-◌, ◌≤◌, Bool, true, false, ◌&&◌, List, [], ◌∷◌, ◌++◌, length, take, drop, refl, sym, ap, ◌∙◌, arith, drop-drop, ◌==◌, ◌<◌, get_or}
+use Rattle.std.proofs.Common.{◌≡◌, ℕ, ◌+◌, ◌-◌, ◌≤◌, Bool, true, false, ◌&&◌, List, [], ◌∷◌, ◌++◌, length, take, drop, refl, sym, ap, ◌∙◌, arith, drop-drop, ◌==◌}
 use Rattle.abt_io.proofs.Parts.{take_plus}
-use Rattle.std.proofs.lemmas.List.{drop_more}
-use Rattle.abt_headers.specs.declared.sections.Place.{Place}
-use Rattle.abt_sections.specs.Layout.{padding}
-use Rattle.abt_sections.specs.Check.{all_zero, zeros_there, padded_places}
+use Rattle.abt_sections.specs.Check.{all_zero, zeros_there}
 
 and_assoc : (a b c : Bool) → (a && (b && c)) ≡ ((a && b) && c)
 and_assoc true b c = refl
@@ -39,9 +36,3 @@ not_zeros s s' at done got n part same is before e h =
     ∙ all_zero-append (take (done + got) x) (take (n - (done + got)) (drop (done + got) x))
     ∙ ap (λ (t : Bool). t && all_zero (take (n - (done + got)) (drop (done + got) x))) (next_zeros s s' at done got part same is before ∙ e) in
     sym (ap (λ (t : Bool). (length (take n x) == n) && t) all ∙ and_false (length (take n x) == n))
-
-place_at : (x : List ℕ) (page i : ℕ) (ps : List Place) (p : Place) (t : Bool) → i < length ps → p ≡ get_or ps i p → zeros_there x (p.at + p.size) (padding p.size page) ≡ t → padded_places x page (drop i ps) ≡ (t && padded_places x page (drop (i + 1) ps))
-place_at x page i ps p t h is e =
-    ap (padded_places x page) (drop_more ps i p h)
-    ∙ ap (λ (q : Place). zeros_there x (q.at + q.size) (padding q.size page) && padded_places x page (drop (i + 1) ps)) (sym is)
-    ∙ ap (λ (b : Bool). b && padded_places x page (drop (i + 1) ps)) e
