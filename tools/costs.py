@@ -20,10 +20,23 @@ def words_of(process):
         return text.read().decode(errors="replace").split("\0")
 
 
-def seconds_of(process):
+def numbers_of(process):
+    """The fields of its line in /proc behind its name: its parent is the second."""
     with open(f"/proc/{process}/stat", "rb") as text:
-        fields = text.read().rpartition(b")")[2].split()
-    return sum(int(it) for it in fields[11:15]) / TICK
+        return text.read().decode(errors="replace").rpartition(")")[2].split()
+
+
+def seconds_of(process):
+    return sum(int(it) for it in numbers_of(process)[11:15]) / TICK
+
+
+def is_of_this_run(process):
+    """Whether this process has begun it, or one that it began: other runs on the machine are not counted."""
+    while int(process) > 1:
+        if int(process) == os.getpid():
+            return True
+        process = numbers_of(process)[1]
+    return False
 
 
 def kind_of(process, words):
@@ -55,7 +68,7 @@ class Costs(threading.Thread):
     def look(self, process):
         try:
             words = words_of(process)
-            if "--crate-name" in words and os.path.basename(words[0]) == "rattle":
+            if "--crate-name" in words and os.path.basename(words[0]) == "rattle" and is_of_this_run(process):
                 name = words[words.index("--crate-name") + 1]
                 self.seen[process, name] = *kind_of(process, words), seconds_of(process)
         except (OSError, ValueError, IndexError):
