@@ -44,5 +44,9 @@ fn expand_one<'a>(
     let mut watched = Watched::new(&mut from.from, &mut report.progress);
     let answer = expand(&mut watched, &mut to.to, w, m);
     let sides = Sides::none().reading(input, from.why());
-    ended(answer.map_err(SparseCommandFault::Sparse), to, sides)
+    let answer = match answer {
+        Ok(expanded) => Ok(expanded),
+        Err(fault) => Err(SparseCommandFault::Sparse(fault)),
+    };
+    ended(answer, to, sides)
 }

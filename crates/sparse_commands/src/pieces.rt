@@ -32,7 +32,10 @@ impl Pieces {
         match raw {
             Some(size) => Ok(Pieces::Raw(raw_pieces(source, size, limit)?)),
             None => {
-                let runs = SparseRuns::open(source, w, m).map_err(SparseCommandFault::Run)?;
+                let runs = match SparseRuns::open(source, w, m) {
+                    Ok(runs) => runs,
+                    Err(fault) => return Err(SparseCommandFault::Run(fault)),
+                };
                 Ok(Pieces::Sparse(PiecesOf::open(runs, limit)?))
             }
         }

@@ -3,6 +3,7 @@
 use abt_host::{Reading, Watched};
 use abt_io::{FileSource, Meter, Source, Window};
 use abt_output::{Finished, ImageOutput, Report, ended, ended_file};
+use abt_pieces::PieceFault;
 use abt_placed::sparsify_at;
 use abt_refusals::{Place, Sides};
 use abt_sparsify::{Written, sparsify};
@@ -59,13 +60,21 @@ fn write_image<'a>(
             let mut file = front.output;
             let mut watched = Watched::new(source, &mut report.progress);
             let answer = sparsify_at(&mut watched, size, most, &mut file, w, m);
-            ended_file(answer.map_err(SparseCommandFault::Piece), file, sides)
+            ended_file(answered(answer), file, sides)
         }
         ImageOutput::Stream(mut stream) => {
             report.progress.repeat(PASSES);
             let mut watched = Watched::new(source, &mut report.progress);
             let answer = sparsify(&mut watched, size, most, &mut stream.to, w, m);
-            ended(answer.map_err(SparseCommandFault::Piece), stream, sides)
+            ended(answered(answer), stream, sides)
         }
+    }
+}
+
+// What writing the image answered, as this command does.
+fn answered(answer: Result<Written, PieceFault>) -> Result<Written, SparseCommandFault> {
+    match answer {
+        Ok(written) => Ok(written),
+        Err(fault) => Err(SparseCommandFault::Piece(fault)),
     }
 }
