@@ -96,20 +96,39 @@ fn pack_contents<O: Output>(
     m: &mut Meter,
 ) -> Result<u64, SectionFault> {
     let mut output = Watched::new(output, &mut report.progress);
+    let bytes = pack_parts(contents, &mut output, w, m)?;
+    let behind = copy_behind(contents, &mut output, w, m)?;
+    Ok(bytes.saturating_add(behind))
+}
+
+fn pack_parts<O: Output>(
+    contents: &mut Contents<'_, '_>,
+    output: &mut O,
+    w: &mut Window,
+    m: &mut Meter,
+) -> Result<u64, SectionFault> {
     let packed = match contents.kind {
         ImageKind::Boot(_) => {
             let parts = contents.parts.as_mut_slice();
-            pack_boot(&contents.fields, parts, &mut output, w, m)
+            pack_boot(&contents.fields, parts, output, w, m)
         }
-        ImageKind::Vendor(_) => pack_vendor_parts(contents, &mut output, w, m),
+        ImageKind::Vendor(_) => pack_vendor_parts(contents, output, w, m),
     };
-    let bytes = match packed {
-        Ok(packed) => packed.bytes,
-        Err(fault) => return Err(fault),
-    };
+    match packed {
+        Ok(packed) => Ok(packed.bytes),
+        Err(fault) => Err(fault),
+    }
+}
+
+fn copy_behind<O: Output>(
+    contents: &mut Contents<'_, '_>,
+    output: &mut O,
+    w: &mut Window,
+    m: &mut Meter,
+) -> Result<u64, SectionFault> {
     let behind = contents.trailing.size;
-    match copy_range(&mut contents.trailing, 0, behind, &mut output, w, m) {
-        Ok(()) => Ok(bytes.saturating_add(behind)),
+    match copy_range(&mut contents.trailing, 0, behind, output, w, m) {
+        Ok(()) => Ok(behind),
         Err(CopyFault::Read(fault)) => Err(SectionFault::Read(fault)),
         Err(CopyFault::Write(fault)) => Err(SectionFault::Write(fault)),
         Err(CopyFault::Changed) => Err(SectionFault::SourceChanged),
@@ -118,8 +137,16 @@ fn pack_contents<O: Output>(
 
 // How many bytes are read.
 fn bytes_of(contents: &Contents<'_, '_>) -> u64 {
-    let mut bytes = contents.trailing.size;
-    for part in contents.parts.iter().chain(contents.sources.iter()) {
+    let parts = sum_of(contents.parts.as_slice());
+    let ramdisks = sum_of(contents.sources.as_slice());
+    parts
+        .saturating_add(ramdisks)
+        .saturating_add(contents.trailing.size)
+}
+
+fn sum_of(parts: &[PartSource<'_>]) -> u64 {
+    let mut bytes = 0u64;
+    for part in parts {
         bytes = bytes.saturating_add(part.size);
     }
     bytes
@@ -137,15 +164,21 @@ fn is_read_once(contents: &Contents<'_, '_>) -> bool
 
 // The file that a fault of reading is about.
 fn sides_of<'t>(contents: &Contents<'_, 't>) -> Sides<'t> {
-    for part in contents.parts.iter().chain(contents.sources.iter()) {
-        if part.is_at_fault()
-            && let Some(place) = part.place
-        {
-            return Sides::none().reading(place, None);
-        }
-    }
-    match contents.trailing.place {
+    let place = place_at_fault(contents.parts.as_slice())
+        .or(place_at_fault(contents.sources.as_slice()))
+        .or(contents.trailing.place);
+    match place {
         Some(place) => Sides::none().reading(place, None),
         None => Sides::none(),
     }
+}
+
+// The file of the first part whose reading failed.
+fn place_at_fault<'t>(parts: &[PartSource<'t>]) -> Option<Place<'t>> {
+    for part in parts {
+        if part.is_at_fault() && part.place.is_some() {
+            return part.place;
+        }
+    }
+    None
 }

@@ -56,19 +56,26 @@ const BOOTCONFIG: PartRow = PartRow {
     section: Section::Bootconfig,
 };
 
+// Those of boot images, versions 0 to 2, 3 and 4, and of vendor boot images: each version has a run of one of these.
+const BOOT: &[PartRow] = &[KERNEL, RAMDISK, SECOND, RECOVERY_DTBO, DTB];
+
+const SIGNED: &[PartRow] = &[KERNEL, RAMDISK, SIGNATURE];
+
+const VENDOR: &[PartRow] = &[VENDOR_RAMDISK, DTB, BOOTCONFIG];
+
 /// The parts of an image of this kind, in the order of its sections. The ramdisk fragments of a vendor boot image of
 /// version 4 are not among them.
 pub(crate) fn rows_of(kind: ImageKind) -> &'static [PartRow]
     ensures { length result.now ≡ row_count kind }
 {
     match kind {
-        ImageKind::Boot(0) => &[KERNEL, RAMDISK, SECOND],
-        ImageKind::Boot(1) => &[KERNEL, RAMDISK, SECOND, RECOVERY_DTBO],
-        ImageKind::Boot(2) => &[KERNEL, RAMDISK, SECOND, RECOVERY_DTBO, DTB],
-        ImageKind::Boot(3) => &[KERNEL, RAMDISK],
-        ImageKind::Boot(_) => &[KERNEL, RAMDISK, SIGNATURE],
-        ImageKind::Vendor(3) => &[VENDOR_RAMDISK, DTB],
-        ImageKind::Vendor(_) => &[DTB, BOOTCONFIG],
+        ImageKind::Boot(0) => &BOOT[..3],
+        ImageKind::Boot(1) => &BOOT[..4],
+        ImageKind::Boot(2) => BOOT,
+        ImageKind::Boot(3) => &SIGNED[..2],
+        ImageKind::Boot(_) => SIGNED,
+        ImageKind::Vendor(3) => &VENDOR[..2],
+        ImageKind::Vendor(_) => &VENDOR[1..],
     }
 }
 
