@@ -75,3 +75,6 @@ between_undone st between done = absurd cc
 
 pub between_unfailed : (st : Stage) (f : PieceFault) → st ≡ Between → st ≡ Failed f → ⊥
 between_unfailed st f between failed = absurd cc
+
+pub done_unfailed : (st : Stage) (f : PieceFault) → st ≡ Done → st ≡ Failed f → ⊥
+done_unfailed st f done failed = absurd cc

@@ -5,6 +5,9 @@ use Rattle.abt_runs.specs.declared.part.Cursor.{Cursor}
 use Rattle.abt_pieces.specs.Cutter.{ToldCutter, ToldStage, has_failed, is_begun, segments_left}
 use Rattle.abt_pieces.specs.Fault.{HasCause}
 use Rattle.abt_pieces.specs.declared.outline.Outline.{Outline}
+use Rattle.abt_pieces.specs.declared.plan.Planner.{Planner}
+use Rattle.abt_pieces.specs.declared.write.Writer.{Writer}
+use Rattle.abt_pieces.proofs.Joining.{between_undone, between_unfailed, done_unfailed}
 use Rattle.abt_pieces.specs.declared.fault.PieceFault.{PieceFault}
 use Rattle.abt_pieces.specs.declared.fault.PieceFault.TheVariants.{Read, SourceChanged, TooLarge, BadBlock, LimitTooSmall}
 use Rattle.abt_pieces.specs.declared.fault.PieceFault.TheVariants as faults
@@ -60,6 +63,18 @@ begun_undone st o begun done = absurd cc
 
 begun_unfailed : (st : Stage) (o : Outline) (f : PieceFault) → st ≡ Begin o → st ≡ Failed f → ⊥
 begun_unfailed st o f begun failed = absurd cc
+
+plan_undone : (st : Stage) (p : Planner) → st ≡ Plan p → st ≡ Done → ⊥
+plan_undone st p planned done = absurd cc
+
+plan_unfailed : (st : Stage) (p : Planner) (f : PieceFault) → st ≡ Plan p → st ≡ Failed f → ⊥
+plan_unfailed st p f planned failed = absurd cc
+
+write_undone : (st : Stage) (o : Outline) (w : Writer) → st ≡ Write o w → st ≡ Done → ⊥
+write_undone st o w written done = absurd cc
+
+write_unfailed : (st : Stage) (o : Outline) (w : Writer) (f : PieceFault) → st ≡ Write o w → st ≡ Failed f → ⊥
+write_unfailed st o w f written failed = absurd cc
 
 -- the same segments are to come
 still_to_cut : (b limit : ℕ) (l : List Block) (s : ℕ) (st old : Stage) → is_begun st ≡ true → segments_left b limit l s old ≡ segments_left b limit l s Between → segments_left b limit l s st ≡ segments_left b limit l s old
@@ -134,8 +149,8 @@ returns-in-Ok g c =
       full = λ going says. absurd (not_full says);
       cause = tt;
       end = tt;
-      after_last = λ d. absurd (let z : Done ≡ Between = sym d ∙ c.in-Between.is in cc);
-      again = λ f d. absurd (let z : Failed f ≡ Between = sym d ∙ c.in-Between.is in cc);
+      after_last = λ d. absurd (between_undone _ c.in-Between.is d);
+      again = λ f d. absurd (between_unfailed _ f c.in-Between.is d);
     }
 
 -- and the source has failed or changed
@@ -188,8 +203,8 @@ returns-in-Err g c =
       full = λ going says. absurd (none_says _ o.unwritten says);
       cause = inr (cause_unwritten c.in-Err.fault _ _ _ _ _ o.cause);
       end = tt;
-      after_last = λ d. absurd (let z : Done ≡ Between = sym d ∙ c.in-Between.is in cc);
-      again = λ f d. absurd (let z : Failed f ≡ Between = sym d ∙ c.in-Between.is in cc);
+      after_last = λ d. absurd (between_undone _ c.in-Between.is d);
+      again = λ f d. absurd (between_unfailed _ f c.in-Between.is d);
     }
 
 -- a part of the plan
@@ -249,8 +264,8 @@ returns-in-Ok-plan g c =
       full = λ going says. absurd (not_full says);
       cause = tt;
       end = tt;
-      after_last = λ d. absurd (let z : Done ≡ Plan c.in-Plan.planner = sym d ∙ c.in-Plan.is in cc);
-      again = λ f d. absurd (let z : Failed f ≡ Plan c.in-Plan.planner = sym d ∙ c.in-Plan.is in cc);
+      after_last = λ d. absurd (plan_undone _ c.in-Plan.planner c.in-Plan.is d);
+      again = λ f d. absurd (plan_unfailed _ c.in-Plan.planner f c.in-Plan.is d);
     }
 
 -- and the source has failed or changed
@@ -303,8 +318,8 @@ returns-in-Err-plan g c =
       full = λ going says. absurd (none_says _ o.unwritten says);
       cause = inr (cause_unwritten c.in-Err-plan.fault _ _ _ _ _ o.cause);
       end = tt;
-      after_last = λ d. absurd (let z : Done ≡ Plan c.in-Plan.planner = sym d ∙ c.in-Plan.is in cc);
-      again = λ f d. absurd (let z : Failed f ≡ Plan c.in-Plan.planner = sym d ∙ c.in-Plan.is in cc);
+      after_last = λ d. absurd (plan_undone _ c.in-Plan.planner c.in-Plan.is d);
+      again = λ f d. absurd (plan_unfailed _ c.in-Plan.planner f c.in-Plan.is d);
     }
 
 pub plan-requires-clause-told : goal.plan-requires-clause-told
@@ -470,8 +485,8 @@ returns-in-Write g c =
       full = λ going. w.full;
       cause = w.cause;
       end = end_not c.write.result _ w.unended;
-      after_last = λ is. let z : Done ≡ Write c.in-Write.outline c.in-Write.writer = sym is ∙ c.in-Write.is in absurd cc;
-      again = λ f is. let z : Failed f ≡ Write c.in-Write.outline c.in-Write.writer = sym is ∙ c.in-Write.is in absurd cc;
+      after_last = λ is. absurd (write_undone _ c.in-Write.outline c.in-Write.writer c.in-Write.is is);
+      again = λ f is. absurd (write_unfailed _ c.in-Write.outline c.in-Write.writer f c.in-Write.is is);
     }
 
 -- behind the last piece
@@ -520,7 +535,7 @@ returns-in-Done g c =
       cause = tt;
       end = (c.in-Done.is, refl, refl, refl);
       after_last = λ d. refl;
-      again = λ f d. absurd (let z : Failed f ≡ Done = sym d ∙ c.in-Done.is in cc);
+      again = λ f d. absurd (done_unfailed _ f c.in-Done.is d);
     }
 
 -- behind a fault
@@ -568,6 +583,6 @@ returns-in-Failed g c =
       full = λ going says. absurd (failed_goes_not _ c.in-Failed.fault c.in-Failed.is going);
       cause = inl c.in-Failed.is;
       end = tt;
-      after_last = λ d. absurd (let z : Done ≡ Failed c.in-Failed.fault = sym d ∙ c.in-Failed.is in cc);
+      after_last = λ d. absurd (done_unfailed _ c.in-Failed.fault d c.in-Failed.is);
       again = λ f d. (again_same _ f c.in-Failed.fault d c.in-Failed.is, refl, refl, refl);
     }
