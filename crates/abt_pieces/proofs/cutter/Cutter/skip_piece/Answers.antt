@@ -1,7 +1,7 @@
 use Rattle.std.proofs.Common.{rules, ap, sym, refl, arith, ◌∙◌, ◌≡◌, ◌+◌, ℕ, true, inr}
 use Rattle.abt_pieces.specs.Cutter.{has_more}
 use Rattle.abt_pieces.specs.declared.fault.PieceFault.{PieceFault}
-use Rattle.abt_pieces.specs.declared.stage.Stage.TheVariants.{Done, Failed}
+use Rattle.abt_pieces.specs.declared.stage.Stage.TheVariants.{Failed}
 use Rattle.abt_pieces.proofs.Fronts.{as_many, no_more_than}
 use Rattle.abt_pieces.proofs.Cutting.{told_more, told_failed}
 use Rattle.abt_pieces.proofs.Stepping.{Behind, behind_unbegun, behind_passed}
