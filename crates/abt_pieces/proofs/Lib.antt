@@ -10,6 +10,7 @@ pub mod Cutting
 pub mod Counts
 pub mod Spending
 pub mod Stepping
+pub mod Joining
 pub mod SpendingStages
 pub mod Image
 pub mod Turning

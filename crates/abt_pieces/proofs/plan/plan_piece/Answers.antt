@@ -1,4 +1,5 @@
-use Rattle.std.proofs.Common.{rules, arith, ap, ◌+◌, ◌∙◌, refl, ◌≡◌, inl, inr}
+use Rattle.std.proofs.lemmas.Bool.{true≢false}
+use Rattle.std.proofs.Common.{arith, sym, ap, ◌+◌, ◌∙◌, refl, ◌≡◌, inl, inr}
 use Rattle.abt_pieces.proofs.Fronts.{as_many, max_most}
 use Rattle.abt_pieces.proofs.Planning.{first_piece, charged_on}
 use Rattle.abt_pieces.proofs.Counts.{begin_bytes, words_most, words_on}
@@ -51,9 +52,9 @@ loop-m-preserved g c =
       frame = e.frame ∙ i.frame;
       even = e.even;
       room = e.room;
-      charged = charged_on _ _ _ _ _ _ c.loop-m.planner.at _ (rw i.same at (e'.charged test)) i.charged i.inside (λ u s. let t = rw i.same at (e'.stuck u s.0) in let d = t s.1 in absurd cc);
+      charged = charged_on _ _ _ _ _ _ c.loop-m.planner.at _ (rw i.same at (e'.charged test)) i.charged i.inside (λ u s. let t = rw i.same at (e'.stuck u s.0) in true≢false (sym (t s.1) ∙ test));
       inside = λ u. inl (rw i.same at (e'.inside test u));
-      taken = charged_on _ _ _ _ _ _ c.loop-m.planner.at _ (rw i.same at (e'.takes test)) i.taken i.inside_taken (λ u s. let t = rw i.same at (e'.stuck u s.0) in let d = t s.1 in absurd cc);
+      taken = charged_on _ _ _ _ _ _ c.loop-m.planner.at _ (rw i.same at (e'.takes test)) i.taken i.inside_taken (λ u s. let t = rw i.same at (e'.stuck u s.0) in true≢false (sym (t s.1) ∙ test));
       inside_taken = λ u. inl (rw i.same at (e'.inside test u));
       given = omega (arith, i.given, e.given);
       received = let a = i.received in let b = e.received in let d = c.tick.ensures.steps in let s = e.steps in omega (arith, a, b, d, s);
@@ -79,7 +80,7 @@ returns-clause-greatest g c tells =
     let d = rw (i.same, i.kept tells) at (e.ends tells) in
     let f : c.step.new.self.first ≡ c.args.from.block = e.first ∙ i.first in
     let stop = c.if-not-branch.false in
-    first_piece _ _ _ _ _ size.0 c.requires.limit (rw f at p.order) p.within (rw f at (rw p.weight at e.room)) (rw f at (d (search rules)).over)
+    first_piece _ _ _ _ _ size.0 c.requires.limit (rw f at p.order) p.within (rw f at (rw p.weight at e.room)) (rw f at (d stop).over)
 
 pub returns-clause-ends : goal.returns-clause-ends
 returns-clause-ends g c tells =
@@ -87,7 +88,7 @@ returns-clause-ends g c tells =
     let i = c.loop-m.invariant in
     let d = rw (i.same, i.kept tells) at (e.ends tells) in
     let stop = c.if-not-branch.false in
-    d (search rules)
+    d stop
 
 pub returns-clause-charged : goal.returns-clause-charged
 returns-clause-charged g c =

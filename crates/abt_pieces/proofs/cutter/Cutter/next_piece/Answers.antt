@@ -1,7 +1,8 @@
 use Rattle.std.proofs.Common.{refl, rules, arith, ap, ◌∙◌, ◌≡◌, ◌+◌, ◌++◌, ℕ, List, inl, inr}
 use Rattle.abt_pieces.specs.declared.stage.Stage.TheVariants.{Between}
 use Rattle.abt_pieces.proofs.Fronts.{front_join, rest_join, nothing_more, nothing_less, as_many, max_most, not_full}
-use Rattle.abt_pieces.proofs.Stepping.{none_so_far, silent_unbegun, is_between, whole_front, piece_came}
+use Rattle.abt_pieces.proofs.Stepping.{none_so_far, silent_unbegun, whole_front, piece_came}
+use Rattle.abt_pieces.proofs.Joining.{steps_join, greatest_join, counted_join, within_join, long_join, calls_join, writes_join, turns_join, words_join, costs_join, no_fault, from_between, more_no_end, piece_no_end, between_undone, between_unfailed}
 use Rattle.abt_pieces.specs.Fault.{full_cut}
 use Rattle.abt_pieces.specs.Image.{StageMayCome}
 use Rattle.abt_pieces.proofs.Image.{leads_same, leads_join, leads_whole, still_unfailed, between_image}
@@ -52,10 +53,7 @@ steps-preserved g c =
     let costs = e.costs in
     let paid = rw i.runs at on.paid in
     let words = rw i.runs at on.words in
-    let between : c.args.self.now.stage ≡ Between = elim i.fresh [
-      | inl h ↦ h.1
-      | inr h ↦ is_between _ c.requires.unbegun (λ d. let z = rw is at (o.after_last (h.3 ∙ d)) in absurd cc) (λ f d. let z = rw is at (o.again f (h.3 ∙ d)).0 in absurd cc)
-    ] in
+    let between : c.args.self.now.stage ≡ Between = from_between _ _ c.requires.unbegun i.fresh (λ d. more_no_end (rw is at (o.after_last d))) (λ f d. no_fault _ f (o.again f d).0) in
     record {
       runs = e.same.0 ∙ i.runs;
       limit = e.same.1 ∙ i.limit;
@@ -67,17 +65,17 @@ steps-preserved g c =
       told = λ tells. rw (i.runs, i.kept tells) at (e.told tells);
       fresh = inl (begun, between);
       grown = omega (arith, e.costs.grown, i.grown);
-      counted = omega (arith, on.counted, i.counted, costs.grown, i.grown);
+      counted = counted_join _ _ _ _ _ i.grown costs.grown on.counted i.counted;
       front = λ tells. front_join _ _ _ _ _ i.grown e.costs.grown (i.front tells) (i.rest tells) (rw (i.runs, i.kept tells, i.limit, i.start) at (e.front tells));
       rest = λ tells.
           let r = rw is at (o.rest tells) in
           rest_join _ _ _ _ _ _ i.grown e.costs.grown (i.rest tells) (rw (i.runs, i.kept tells, i.limit, i.start) at r);
       given = omega (arith, i.given, e.costs.given);
-      steps = omega (arith, i.steps, e.costs.steps, e.costs.received, c.tick.ensures.steps);
-      greatest = omega (arith, i.greatest, e.costs.greatest, e.costs.received, c.tick.ensures.greatest);
-      calls = let a = i.calls in let b = e.costs.calls in omega (arith, a, b, paid, i.given, e.costs.given, i.grown, e.costs.grown);
-      write_calls = let a = i.write_calls in let b = e.costs.write_calls in omega (arith, a, b, paid, i.given, e.costs.given, i.grown, e.costs.grown);
-      turns = let a = i.turns in let d = c.tick.ensures.turns in omega (arith, a, words, d, paid, i.given, e.costs.given, i.grown, e.costs.grown);
+      steps = steps_join _ _ _ _ _ _ _ i.steps c.tick.ensures.steps costs.steps costs.received;
+      greatest = greatest_join _ _ _ _ _ _ i.greatest c.tick.ensures.greatest costs.greatest costs.received;
+      calls = calls_join _ _ _ _ _ _ _ _ _ _ _ i.given costs.given i.grown costs.grown i.calls costs.calls paid;
+      write_calls = writes_join _ _ _ _ _ _ _ _ _ _ _ i.given costs.given i.grown costs.grown i.write_calls costs.write_calls paid;
+      turns = turns_join _ _ _ _ _ _ _ _ _ _ _ _ _ _ i.given costs.given i.grown costs.grown i.turns c.tick.ensures.turns words paid;
       spent = λ tells.
           let step = rw (i.runs, i.kept tells, i.limit, i.start) at (rw is at (o.spends tells)) in
           stage_joins (λ x. g.R.BlockRuns.within c.args.self.now.runs x × g.R.BlockRuns.place c.args.self.now.runs (g.S.Source.content c.args.source.now) x) (g.R.BlockRuns.charge c.args.self.now.runs) (g.R.BlockRuns.copied c.args.self.now.runs) (g.R.BlockRuns.held c.args.self.now.runs) (g.R.BlockRuns.size c.args.self.now.runs) c.args.self.now.limit (g.R.BlockRuns.count c.args.self.now.runs) (g.R.BlockRuns.one c.args.self.now.runs) c.args.self.now.start (all_passes (g.R.BlockRuns.charge c.args.self.now.runs) (g.R.BlockRuns.copied c.args.self.now.runs) c.args.self.now.start) (g.S.Source.given c.args.source.now) (g.S.Source.given c.steps.source) (g.S.Source.given c.step.new.source) c.step.new.self.stage i.given e.costs.given (step _ (i.spent tells));
@@ -95,10 +93,7 @@ returns-in-Ok-Piece g c =
     let e = c.step.ensures in
     let o = c.in-Ok-Piece.ensures in
     let is = c.in-Ok-Piece.field-0-is in
-    let between : c.args.self.now.stage ≡ Between = elim i.fresh [
-      | inl h ↦ h.1
-      | inr h ↦ is_between _ c.requires.unbegun (λ d. let z = rw is at (o.after_last (h.3 ∙ d)) in absurd cc) (λ f d. let z = rw is at (o.again f (h.3 ∙ d)).0 in absurd cc)
-    ] in
+    let between : c.args.self.now.stage ≡ Between = from_between _ _ c.requires.unbegun i.fresh (λ d. piece_no_end _ (rw is at (o.after_last d))) (λ f d. no_fault _ f (o.again f d).0) in
     let piece = rw is at o.piece in
     let ends = rw is at o.ends in
     record {
@@ -108,7 +103,7 @@ returns-in-Ok-Piece g c =
       write_frame = e.write_frame ∙ i.write_frame;
       told = λ tells. rw (i.runs, i.kept tells) at (e.told tells);
       grown = omega (arith, e.costs.grown, i.grown);
-      within = let few = rw i.limit at e.within in omega (arith, few, i.counted, i.grown, e.costs.grown);
+      within = within_join _ _ _ _ _ i.grown e.costs.grown (rw i.limit at e.within) i.counted;
       front = λ tells. front_join _ _ _ _ _ i.grown e.costs.grown (i.front tells) (i.rest tells) (rw (i.runs, i.kept tells, i.limit, i.start) at (e.front tells));
       image = between_image _ _ _ _ _ between (leads_whole _ _ _ _ _ i.leads (rw i.runs at (rw is at o.all)));
       piece = record {
@@ -119,7 +114,7 @@ returns-in-Ok-Piece g c =
         most = rw i.limit at piece.most;
         one_more = piece.one_more ∙ ap (λ (n : ℕ). n + 1) i.made;
       };
-      long = omega (arith, ends.long, i.counted, i.grown, e.costs.grown);
+      long = long_join _ _ _ _ _ i.grown e.costs.grown ends.long i.counted;
       laid = λ tells.
           let came = rw is at (o.laid tells) in
           let whole = whole_front _ _ _ _ _ _ (i.front tells) (i.rest tells) (rw (i.runs, i.kept tells, i.limit, i.start) at came.written) in
@@ -131,22 +126,16 @@ returns-in-Ok-Piece g c =
             greatest = greatest;
           };
       none = tt;
-      after_last = search rules;
-      again = search rules;
+      after_last = λ d. absurd (between_undone _ between d);
+      again = λ f d. absurd (between_unfailed _ f between d);
       refused = tt;
-      costs = record {
-        given = omega (arith, i.given, e.costs.given);
-        steps = omega (arith, i.steps, e.costs.steps, e.costs.received, c.tick.ensures.steps);
-        greatest = omega (arith, i.greatest, e.costs.greatest, e.costs.received, c.tick.ensures.greatest);
-        calls = omega (arith, i.calls, i.write_calls, e.costs.calls, e.costs.write_calls, i.given, e.costs.given, i.grown, e.costs.grown);
-        turns = let t = rw i.runs at e.costs.turns in omega (arith, i.turns, t, c.tick.ensures.turns, i.given, e.costs.given, i.grown, e.costs.grown);
-      };
+      costs = costs_join _ _ _ _ _ _ _ _ _ _ (rw i.runs at e.costs) i.given i.grown i.steps i.greatest i.calls i.write_calls i.turns c.tick.ensures.steps c.tick.ensures.greatest c.tick.ensures.turns;
       takes = rw (i.runs, i.start) at ends.takes;
       spent = λ tells.
           let step = rw (i.runs, i.kept tells, i.limit, i.start) at (rw is at (o.spent tells)) in
           let z = step _ (i.spent tells) in
           record { most = omega (arith, z.most, i.given, e.costs.given); end = λ over. let y = z.end over in omega (arith, y, i.given, e.costs.given) };
-      words = let t = rw i.runs at ends.words in omega (arith, i.turns, t, c.tick.ensures.turns, i.given, e.costs.given, i.grown, e.costs.grown);
+      words = words_join _ _ _ _ _ _ _ _ _ _ _ _ _ i.given e.costs.given i.grown e.costs.grown i.turns c.tick.ensures.turns (rw i.runs at ends.words);
       failing = record {
         read = omega (arith, i.faults, e.failing.read);
         write = omega (arith, i.write_faults, e.failing.write);
@@ -171,7 +160,7 @@ returns-in-Ok-End g c =
       write_frame = e.write_frame ∙ i.write_frame;
       told = λ tells. rw (i.runs, i.kept tells) at (e.told tells);
       grown = omega (arith, e.costs.grown, i.grown);
-      within = let few = rw i.limit at e.within in omega (arith, few, i.counted, i.grown, e.costs.grown);
+      within = within_join _ _ _ _ _ i.grown e.costs.grown (rw i.limit at e.within) i.counted;
       front = λ tells. front_join _ _ _ _ _ i.grown e.costs.grown (i.front tells) (i.rest tells) (rw (i.runs, i.kept tells, i.limit, i.start) at (e.front tells));
       image = tt;
       piece = tt;
@@ -181,13 +170,7 @@ returns-in-Ok-End g c =
       after_last = search rules;
       again = search rules;
       refused = tt;
-      costs = record {
-        given = omega (arith, i.given, e.costs.given);
-        steps = omega (arith, i.steps, e.costs.steps, e.costs.received, c.tick.ensures.steps);
-        greatest = omega (arith, i.greatest, e.costs.greatest, e.costs.received, c.tick.ensures.greatest);
-        calls = omega (arith, i.calls, i.write_calls, e.costs.calls, e.costs.write_calls, i.given, e.costs.given, i.grown, e.costs.grown);
-        turns = let t = rw i.runs at e.costs.turns in omega (arith, i.turns, t, c.tick.ensures.turns, i.given, e.costs.given, i.grown, e.costs.grown);
-      };
+      costs = costs_join _ _ _ _ _ _ _ _ _ _ (rw i.runs at e.costs) i.given i.grown i.steps i.greatest i.calls i.write_calls i.turns c.tick.ensures.steps c.tick.ensures.greatest c.tick.ensures.turns;
       takes = tt;
       spent = λ tells. tt;
       words = tt;
@@ -214,7 +197,7 @@ returns-in-Err g c =
       write_frame = e.write_frame ∙ i.write_frame;
       told = λ tells. rw (i.runs, i.kept tells) at (e.told tells);
       grown = omega (arith, e.costs.grown, i.grown);
-      within = let few = rw i.limit at e.within in omega (arith, few, i.counted, i.grown, e.costs.grown);
+      within = within_join _ _ _ _ _ i.grown e.costs.grown (rw i.limit at e.within) i.counted;
       front = λ tells. front_join _ _ _ _ _ i.grown e.costs.grown (i.front tells) (i.rest tells) (rw (i.runs, i.kept tells, i.limit, i.start) at (e.front tells));
       image = tt;
       piece = tt;
@@ -224,13 +207,7 @@ returns-in-Err g c =
       after_last = search rules;
       again = search rules;
       refused = o.refused;
-      costs = record {
-        given = omega (arith, i.given, e.costs.given);
-        steps = omega (arith, i.steps, e.costs.steps, e.costs.received, c.tick.ensures.steps);
-        greatest = omega (arith, i.greatest, e.costs.greatest, e.costs.received, c.tick.ensures.greatest);
-        calls = omega (arith, i.calls, i.write_calls, e.costs.calls, e.costs.write_calls, i.given, e.costs.given, i.grown, e.costs.grown);
-        turns = let t = rw i.runs at e.costs.turns in omega (arith, i.turns, t, c.tick.ensures.turns, i.given, e.costs.given, i.grown, e.costs.grown);
-      };
+      costs = costs_join _ _ _ _ _ _ _ _ _ _ (rw i.runs at e.costs) i.given i.grown i.steps i.greatest i.calls i.write_calls i.turns c.tick.ensures.steps c.tick.ensures.greatest c.tick.ensures.turns;
       takes = tt;
       spent = λ tells. tt;
       words = tt;

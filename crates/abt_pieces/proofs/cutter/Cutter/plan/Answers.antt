@@ -1,4 +1,5 @@
 use Rattle.std.proofs.Common.{arith, sym, ◌∙◌, ◌≡◌, ap, refl}
+use Rattle.std.proofs.lemmas.Bool.{true≢false}
 use Rattle.abt_runs.specs.declared.part.Cursor.{Cursor}
 use Rattle.abt_pieces.specs.Fault.{full_in_cut}
 use Rattle.abt_pieces.specs.declared.fault.PieceFault.{PieceFault}
@@ -40,9 +41,9 @@ returns-in-Ok-false g c =
       received = a.received;
       steps = a.steps;
       greatest = a.greatest;
-      taken = plan_takes _ _ _ _ c.args.from c.step.new.self (e.takes test) (e.inside test) (λ u s. let d = e.stuck u s.0 s.1 in absurd cc) c.requires.taken;
+      taken = plan_takes _ _ _ _ c.args.from c.step.new.self (e.takes test) (e.inside test) (λ u s. true≢false (sym (e.stuck u s.0 s.1) ∙ test)) c.requires.taken;
       paid = omega (arith, fetched);
-      spends = λ t h. plan_goes _ _ _ _ c.args.self.now.start t _ _ c.args.from c.step.new.self e.given (e.charged test) e.onward (e.inside test) (λ u s. let d = e.stuck u s.0 s.1 in absurd cc) h;
+      spends = λ t h. plan_goes _ _ _ _ c.args.self.now.start t _ _ c.args.from c.step.new.self e.given (e.charged test) e.onward (e.inside test) (λ u s. true≢false (sym (e.stuck u s.0 s.1) ∙ test)) h;
       calls = a.calls;
       turns = omega (arith, turns, top);
       words = omega (arith, turns, words);

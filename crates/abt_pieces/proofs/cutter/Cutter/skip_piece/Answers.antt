@@ -1,10 +1,11 @@
 use Rattle.std.proofs.Common.{rules, ap, sym, refl, arith, ◌∙◌, ◌≡◌, ◌+◌, ℕ, true, inr}
 use Rattle.abt_pieces.specs.Cutter.{has_more}
 use Rattle.abt_pieces.specs.declared.fault.PieceFault.{PieceFault}
-use Rattle.abt_pieces.specs.declared.stage.Stage.TheVariants.{Done, Failed}
+use Rattle.abt_pieces.specs.declared.stage.Stage.TheVariants.{Failed}
 use Rattle.abt_pieces.proofs.Fronts.{as_many, no_more_than}
 use Rattle.abt_pieces.proofs.Cutting.{told_more, told_failed}
 use Rattle.abt_pieces.proofs.Stepping.{Behind, behind_unbegun, behind_passed}
+use Rattle.abt_pieces.proofs.Joining.{done_unfailed}
 use Rattle.abt_pieces.proofs.cutter.Cutter.skip_piece.Goals as goal
 
 -- no piece is left
@@ -18,7 +19,7 @@ returns-in-Done g c = record {
   exact = λ tells. tt;
   greatest = λ tells. tt;
   none = (c.in-Done.is, refl, refl);
-  again = λ f is. let z : Done ≡ Failed f = sym c.in-Done.is ∙ is in absurd cc;
+  again = λ f is. absurd (done_unfailed _ f c.in-Done.is is);
   refused = tt;
   charged = tt;
   charged_end = tt;

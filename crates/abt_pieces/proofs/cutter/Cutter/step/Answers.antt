@@ -1,13 +1,21 @@
-use Rattle.std.proofs.Common.{arith, rules, ◌*◌, sym, ap, refl, inl, inr, Result, Err, ◌≡◌, ◌≤◌, ◌+◌, ◌∙◌, ◌-◌, ◌++◌, ℕ, List, true, false}
+use Rattle.std.proofs.Common.{arith, max, Bool, ◌<◌, rules, ◌*◌, sym, ap, refl, inl, inr, Result, Err, ◌≡◌, ◌≤◌, ◌+◌, ◌∙◌, ◌-◌, ◌++◌, ℕ, List, true, false}
+use Rattle.std.proofs.lemmas.Bool.{true≢false}
 use Rattle.abt_sparse.specs.Block.{Block}
 use Rattle.abt_runs.specs.declared.part.Cursor.{Cursor}
 use Rattle.abt_pieces.specs.Cutter.{ToldCutter, ToldStage, has_failed, is_begun, segments_left}
+use Rattle.abt_pieces.specs.Fault.{HasCause}
+use Rattle.abt_pieces.specs.declared.outline.Outline.{Outline}
+use Rattle.abt_pieces.specs.declared.plan.Planner.{Planner}
+use Rattle.abt_pieces.specs.declared.write.Writer.{Writer}
+use Rattle.abt_pieces.proofs.Joining.{between_undone, between_unfailed, done_unfailed}
 use Rattle.abt_pieces.specs.declared.fault.PieceFault.{PieceFault}
+use Rattle.abt_pieces.specs.declared.fault.PieceFault.TheVariants.{Read, SourceChanged, TooLarge, BadBlock, LimitTooSmall}
+use Rattle.abt_pieces.specs.declared.fault.PieceFault.TheVariants as faults
 use Rattle.abt_pieces.specs.declared.stage.PieceProgress.{PieceProgress}
 use Rattle.abt_pieces.specs.declared.stage.Stage.{Stage}
 use Rattle.abt_pieces.specs.declared.stage.Stage.TheVariants.{Between, Plan, Begin, Done, Failed, Write}
 use Rattle.abt_pieces.proofs.Fronts.{wrote_part, as_many, no_more, no_more_than, nothing_more, nothing_less, none_more, not_full, unfilled_by, none_says, cause_unwritten}
-use Rattle.abt_pieces.proofs.Stepping.{begun_told, header_comes, first_left}
+use Rattle.abt_pieces.proofs.Stepping.{begun_told, header_comes, first_left, plan_most}
 use Rattle.abt_pieces.proofs.SpendingStages.{outline_writes, plan_begins_spent, nothing_read, end_not}
 use Rattle.abt_sparse.specs.Chunk.{plain_header}
 use Rattle.abt_pieces.proofs.Image.{leads_same, header_leads, whole_header}
@@ -25,6 +33,48 @@ no_bytes_yet b limit n granted = omega (arith, granted)
 
 words_unwritten : (t t' w w' g k : ℕ) → t' + w ≤ t + 2 * g + 3 + w' → t' + w ≤ t + 2 * g + (k - k) + 3 + w'
 words_unwritten t t' w w' g k h = omega (arith, h)
+
+within_header : (limit b w0 w1 : ℕ) → 64 + b ≤ limit → w1 ≤ w0 + 28 → 0 + (w1 - w0) ≤ limit
+within_header limit b w0 w1 granted few = omega (arith, granted, few)
+
+below_header : (limit b w0 w1 : ℕ) → 64 + b ≤ limit → w1 < w0 + 28 → 0 + (w1 - w0) < limit
+below_header limit b w0 w1 granted few = omega (arith, granted, few)
+
+header_few : (w0 w1 g : ℕ) → w1 ≤ w0 + 28 → w1 ≤ w0 + (g - g) + 80
+header_few w0 w1 g few = omega (arith, few)
+
+header_greatest : (x x' g : ℕ) → x' ≡ x → x' ≡ max x (g - g)
+header_greatest x x' g same = omega (arith, same)
+
+header_turns : (p one t t' w0 w1 g : ℕ) → p ≤ one → w0 ≤ w1 → t' + w0 ≤ t + w1 + 1 → t' + p ≤ t + 2 * (g - g) + (w1 - w0) + 3 + 3 * one
+header_turns p one t t' w0 w1 g most grown turns = omega (arith, most, grown, turns)
+
+-- a header reads nothing
+cause_unread : (e : PieceFault) (tells : Bool) (r r' w w' : ℕ) → HasCause e true 0 0 w w' → HasCause e tells r r' w w'
+cause_unread (Read f) tells r r' w w' h = absurd (omega (arith, h.0))
+cause_unread (faults.Write f) tells r r' w w' h = h
+cause_unread SourceChanged tells r r' w w' h = absurd (true≢false h)
+cause_unread TooLarge tells r r' w w' h = absurd h
+cause_unread (BadBlock n) tells r r' w w' h = absurd h
+cause_unread (LimitTooSmall n) tells r r' w w' h = absurd h
+
+begun_undone : (st : Stage) (o : Outline) → st ≡ Begin o → st ≡ Done → ⊥
+begun_undone st o begun done = absurd cc
+
+begun_unfailed : (st : Stage) (o : Outline) (f : PieceFault) → st ≡ Begin o → st ≡ Failed f → ⊥
+begun_unfailed st o f begun failed = absurd cc
+
+plan_undone : (st : Stage) (p : Planner) → st ≡ Plan p → st ≡ Done → ⊥
+plan_undone st p planned done = absurd cc
+
+plan_unfailed : (st : Stage) (p : Planner) (f : PieceFault) → st ≡ Plan p → st ≡ Failed f → ⊥
+plan_unfailed st p f planned failed = absurd cc
+
+write_undone : (st : Stage) (o : Outline) (w : Writer) → st ≡ Write o w → st ≡ Done → ⊥
+write_undone st o w written done = absurd cc
+
+write_unfailed : (st : Stage) (o : Outline) (w : Writer) (f : PieceFault) → st ≡ Write o w → st ≡ Failed f → ⊥
+write_unfailed st o w f written failed = absurd cc
 
 -- the same segments are to come
 still_to_cut : (b limit : ℕ) (l : List Block) (s : ℕ) (st old : Stage) → is_begun st ≡ true → segments_left b limit l s old ≡ segments_left b limit l s Between → segments_left b limit l s st ≡ segments_left b limit l s old
@@ -99,8 +149,8 @@ returns-in-Ok g c =
       full = λ going says. absurd (not_full says);
       cause = tt;
       end = tt;
-      after_last = λ d. absurd (let z : Done ≡ Between = sym d ∙ c.in-Between.is in cc);
-      again = λ f d. absurd (let z : Failed f ≡ Between = sym d ∙ c.in-Between.is in cc);
+      after_last = λ d. absurd (between_undone _ c.in-Between.is d);
+      again = λ f d. absurd (between_unfailed _ f c.in-Between.is d);
     }
 
 -- and the source has failed or changed
@@ -153,8 +203,8 @@ returns-in-Err g c =
       full = λ going says. absurd (none_says _ o.unwritten says);
       cause = inr (cause_unwritten c.in-Err.fault _ _ _ _ _ o.cause);
       end = tt;
-      after_last = λ d. absurd (let z : Done ≡ Between = sym d ∙ c.in-Between.is in cc);
-      again = λ f d. absurd (let z : Failed f ≡ Between = sym d ∙ c.in-Between.is in cc);
+      after_last = λ d. absurd (between_undone _ c.in-Between.is d);
+      again = λ f d. absurd (between_unfailed _ f c.in-Between.is d);
     }
 
 -- a part of the plan
@@ -214,8 +264,8 @@ returns-in-Ok-plan g c =
       full = λ going says. absurd (not_full says);
       cause = tt;
       end = tt;
-      after_last = λ d. absurd (let z : Done ≡ Plan c.in-Plan.planner = sym d ∙ c.in-Plan.is in cc);
-      again = λ f d. absurd (let z : Failed f ≡ Plan c.in-Plan.planner = sym d ∙ c.in-Plan.is in cc);
+      after_last = λ d. absurd (plan_undone _ c.in-Plan.planner c.in-Plan.is d);
+      again = λ f d. absurd (plan_unfailed _ c.in-Plan.planner f c.in-Plan.is d);
     }
 
 -- and the source has failed or changed
@@ -268,8 +318,8 @@ returns-in-Err-plan g c =
       full = λ going says. absurd (none_says _ o.unwritten says);
       cause = inr (cause_unwritten c.in-Err-plan.fault _ _ _ _ _ o.cause);
       end = tt;
-      after_last = λ d. absurd (let z : Done ≡ Plan c.in-Plan.planner = sym d ∙ c.in-Plan.is in cc);
-      again = λ f d. absurd (let z : Failed f ≡ Plan c.in-Plan.planner = sym d ∙ c.in-Plan.is in cc);
+      after_last = λ d. absurd (plan_undone _ c.in-Plan.planner c.in-Plan.is d);
+      again = λ f d. absurd (plan_unfailed _ c.in-Plan.planner f c.in-Plan.is d);
     }
 
 pub plan-requires-clause-told : goal.plan-requires-clause-told
@@ -330,6 +380,82 @@ returns-in-Ok-begin-clause-leads g c =
     let whole = whole_header (plain_header (g.R.BlockRuns.size c.args.self.now.runs) (g.R.BlockRuns.count c.args.self.now.runs) c.in-Begin.outline.chunks) _ _ e.front c.in-Ok-begin.ensures.whole in
     rw (c.in-Ok-begin.ensures.stage, c.in-Begin.is) (header_leads _ _ c.args.self.now.start c.in-Begin.outline _ _ (omega (arith, size.0), size.1, e.fits.0) e.fits.1 e.fits.2 whole)
 
+pub returns-in-Ok-begin-clause-costs : goal.returns-in-Ok-begin-clause-costs
+returns-in-Ok-begin-clause-costs g c =
+    let e = c.begin-in-Begin.ensures in
+    let most = plan_most (g.R.BlockRuns.one c.args.self.now.runs) (g.R.BlockRuns.count c.args.self.now.runs) c.in-Begin.outline.piece.past in
+    record {
+      given = as_many _;
+      received = no_more _ _;
+      grown = e.grown;
+      few = header_few _ _ _ e.within;
+      steps = e.steps;
+      greatest = header_greatest _ _ _ e.greatest;
+      calls = no_more_than _ _ _;
+      write_calls = e.write_calls;
+      turns = rw c.in-Begin.is (header_turns _ _ _ _ _ _ _ most e.grown e.turns);
+    }
+
+pub returns-in-Ok-begin-clause-within : goal.returns-in-Ok-begin-clause-within
+returns-in-Ok-begin-clause-within g c = rw c.in-Begin.is (within_header _ _ _ _ c.args.self.now.sound.granted c.begin-in-Begin.ensures.within)
+
+pub returns-in-Ok-begin-clause-after_last : goal.returns-in-Ok-begin-clause-after_last
+returns-in-Ok-begin-clause-after_last g c d = absurd (begun_undone _ c.in-Begin.outline c.in-Begin.is d)
+
+pub returns-in-Ok-begin-clause-again : goal.returns-in-Ok-begin-clause-again
+returns-in-Ok-begin-clause-again g c f d = absurd (begun_unfailed _ c.in-Begin.outline f c.in-Begin.is d)
+
+pub returns-in-Ok-begin-clause-failing : goal.returns-in-Ok-begin-clause-failing
+returns-in-Ok-begin-clause-failing g c = record { read = as_many _; write = c.begin-in-Begin.ensures.write_faults; clean = (refl, c.in-Ok-begin.ensures.clean) }
+
+pub returns-in-Ok-begin-clause-full : goal.returns-in-Ok-begin-clause-full
+returns-in-Ok-begin-clause-full g c going says = absurd (not_full says)
+
+pub returns-in-Err-begin-clause-costs : goal.returns-in-Err-begin-clause-costs
+returns-in-Err-begin-clause-costs g c =
+    let e = c.begin-in-Begin.ensures in
+    let most = plan_most (g.R.BlockRuns.one c.args.self.now.runs) (g.R.BlockRuns.count c.args.self.now.runs) c.in-Begin.outline.piece.past in
+    record {
+      given = as_many _;
+      received = no_more _ _;
+      grown = e.grown;
+      few = header_few _ _ _ e.within;
+      steps = e.steps;
+      greatest = header_greatest _ _ _ e.greatest;
+      calls = no_more_than _ _ _;
+      write_calls = e.write_calls;
+      turns = rw c.in-Begin.is (header_turns _ _ _ _ _ _ _ most e.grown e.turns);
+    }
+
+pub returns-in-Err-begin-clause-within : goal.returns-in-Err-begin-clause-within
+returns-in-Err-begin-clause-within g c = rw c.in-Begin.is (within_header _ _ _ _ c.args.self.now.sound.granted c.begin-in-Begin.ensures.within)
+
+pub returns-in-Err-begin-clause-after_last : goal.returns-in-Err-begin-clause-after_last
+returns-in-Err-begin-clause-after_last g c d = absurd (begun_undone _ c.in-Begin.outline c.in-Begin.is d)
+
+pub returns-in-Err-begin-clause-again : goal.returns-in-Err-begin-clause-again
+returns-in-Err-begin-clause-again g c f d = absurd (begun_unfailed _ c.in-Begin.outline f c.in-Begin.is d)
+
+pub returns-in-Err-begin-clause-failing : goal.returns-in-Err-begin-clause-failing
+returns-in-Err-begin-clause-failing g c = record { read = as_many _; write = c.begin-in-Begin.ensures.write_faults; clean = tt }
+
+pub returns-in-Err-begin-clause-told : goal.returns-in-Err-begin-clause-told
+returns-in-Err-begin-clause-told g c tells =
+    let self = c.args.self.now in
+    let e = c.begin-in-Begin.ensures in
+    let l = g.R.BlockRuns.list self.runs (g.S.Source.content c.args.source.now) in
+    let b = g.R.BlockRuns.size self.runs in
+    let same : segments_left b self.limit l self.start.block self.stage ≡ segments_left b self.limit l self.start.block Between = rw c.in-Begin.is refl in
+    rw (c.in-Err-begin.ensures.refused, e.rest.0, e.rest.1, e.rest.2) (told_moves _ _ b l self.limit self.made self.start self.stage (Failed c.in-Err-begin.fault) (c.requires.told tells) (sym same) tt)
+
+pub returns-in-Err-begin-clause-full : goal.returns-in-Err-begin-clause-full
+returns-in-Err-begin-clause-full g c going says =
+    let z = c.in-Err-begin.ensures.full says in
+    (z.0, rw c.in-Begin.is (below_header _ _ _ _ c.args.self.now.sound.granted z.1))
+
+pub returns-in-Err-begin-clause-cause : goal.returns-in-Err-begin-clause-cause
+returns-in-Err-begin-clause-cause g c = inr (cause_unread c.in-Err-begin.fault _ _ _ _ _ c.in-Err-begin.ensures.cause)
+
 -- a part of the chunks
 pub returns-in-Write : goal.returns-in-Write
 returns-in-Write g c =
@@ -359,8 +485,8 @@ returns-in-Write g c =
       full = λ going. w.full;
       cause = w.cause;
       end = end_not c.write.result _ w.unended;
-      after_last = λ is. let z : Done ≡ Write c.in-Write.outline c.in-Write.writer = sym is ∙ c.in-Write.is in absurd cc;
-      again = λ f is. let z : Failed f ≡ Write c.in-Write.outline c.in-Write.writer = sym is ∙ c.in-Write.is in absurd cc;
+      after_last = λ is. absurd (write_undone _ c.in-Write.outline c.in-Write.writer c.in-Write.is is);
+      again = λ f is. absurd (write_unfailed _ c.in-Write.outline c.in-Write.writer f c.in-Write.is is);
     }
 
 -- behind the last piece
@@ -409,7 +535,7 @@ returns-in-Done g c =
       cause = tt;
       end = (c.in-Done.is, refl, refl, refl);
       after_last = λ d. refl;
-      again = λ f d. absurd (let z : Failed f ≡ Done = sym d ∙ c.in-Done.is in cc);
+      again = λ f d. absurd (done_unfailed _ f c.in-Done.is d);
     }
 
 -- behind a fault
@@ -457,6 +583,6 @@ returns-in-Failed g c =
       full = λ going says. absurd (failed_goes_not _ c.in-Failed.fault c.in-Failed.is going);
       cause = inl c.in-Failed.is;
       end = tt;
-      after_last = λ d. absurd (let z : Done ≡ Failed c.in-Failed.fault = sym d ∙ c.in-Failed.is in cc);
+      after_last = λ d. absurd (done_unfailed _ c.in-Failed.fault d c.in-Failed.is);
       again = λ f d. (again_same _ f c.in-Failed.fault d c.in-Failed.is, refl, refl, refl);
     }

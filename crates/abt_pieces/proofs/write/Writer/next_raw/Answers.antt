@@ -1,10 +1,13 @@
-use Rattle.std.proofs.Common.{arith, sym, ◌∙◌, ◌≡◌, ◌<◌, Some, None, refl, ◌-◌, IsTrue}
+use Rattle.std.proofs.Common.{arith, sym, ◌∙◌, ◌≡◌, ◌<◌, Some, None, refl, ◌-◌, Option, IsTrue}
 use Rattle.abt_pieces.proofs.Fronts.{not_told, run_causes, run_not_full}
 use Rattle.abt_pieces.proofs.Going.{is_copying, some_of, next_sound, next_writer, write_copies, goes_on, next_next, next_going}
 use Rattle.abt_pieces.proofs.Counts.{segment_words, segment_top, writer_passes}
 use Rattle.abt_pieces.proofs.Spending.{spent_next}
 use Rattle.abt_pieces.proofs.Image.{part_comes, next_same}
 use Rattle.abt_pieces.proofs.write.Writer.next_raw.Goals as goal
+
+some_no_none : {A : Type 0} (x : A) → ◌≡◌ {A = Option A} (Some x) None → ⊥
+some_no_none x h = absurd cc
 
 -- the source has failed
 pub returns-in-Err : goal.returns-in-Err
@@ -145,6 +148,5 @@ returns-in-None g c =
           let is = sym (rw c.block_size-size.ensures at c.and_part.ensures) ∙ c.in-None.is in
           let x = next_writer _ _ _ _ _ _ _ self c.args.copying c.in-Ok.part c.requires.is c.requires.sound (sym (g.met.R.BlockRuns.long c.args.runs.now _ o)) (g.met.R.BlockRuns.are_blocks c.args.runs.now _ o) c.requires.whole (c.requires.told tells)
           (e.part tells) (e.place tells) (e.here_place tells) e.here.0 (e.stands tells) e.capped.raw in
-          let z : Some x.0 ≡ None = sym x.1 ∙ is in
-          absurd cc);
+          some_no_none x.0 (sym x.1 ∙ is));
     }
