@@ -76,3 +76,9 @@ same_laid tells x x' b now s e h = record {
 -- what stood before stands still
 pub front_stays : (f : ℕ) (old now new : List ℕ) → f ≡ length old → take f new ≡ take f now → take (length old) now ≡ old → take (length old) new ≡ old
 front_stays f old now new at same h = ap (λ (n : ℕ). take n new) (sym at) ∙ same ∙ ap (λ (n : ℕ). take n now) at ∙ h
+
+-- how many blocks and chunks there are
+pub whole_counted : (res : Result Written PieceFault) (tells : Bool) (x : List ℕ) (b n r : ℕ) (old new : List ℕ) → IsTrue tells → IfOk res (λ a. a.blocks ≡ n) → IfOk res (λ a. Whole tells x b n r a.chunks old new)
+    → IfOk res (λ a. (a.blocks ≡ length (classify b x)) × (a.chunks ≡ length (chunks_of r (classify b x))))
+whole_counted (Ok a) tells x b n r old new t is w = (is ∙ sym w.count ∙ ap length (w.told t), w.chunks_are ∙ ap (λ l. length (chunks_of r l)) (w.told t))
+whole_counted (Err f) tells x b n r old new t is w = tt

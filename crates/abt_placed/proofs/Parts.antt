@@ -77,3 +77,7 @@ full_within res x m y le short more = omega (arith, full_short res x m le short,
 pub full_once : (f : DeviceFault) → full_in f ≤ 1
 full_once Failed = omega arith
 full_once Full = omega arith
+
+-- the last chunk made whole
+pub closed_within : (b p q front part long long' : ℕ) → long' + part ≤ long + q * (b + 16) → long ≤ front + 28 + p * (b + 16) + part → long' ≤ front + 28 + (p + q) * (b + 16)
+closed_within b p q front part long long' wide few = let d : (p + q) * (b + 16) ≡ p * (b + 16) + q * (b + 16) = omega arith in omega (arith, d, wide, few)
