@@ -133,3 +133,13 @@ header_laid c mid new h r at is long le e f =
     let b : length y ≡ 24 = length-take-le 24 (drop 4 h) (omega (arith, long, length-drop 4 h)) in
     let whole : h ≡ x ++ y = sym (ap (λ (l : List ℕ). x ++ l) (take_all 24 (drop 4 h) (omega (arith, long, length-drop 4 h))) ∙ take-append-drop 4 h) in
     laid_in_two c mid new x y h at (omega (arith, a, b, le)) (e ∙ ap (λ (n : ℕ). put_at c (at + n) y) (sym a)) f whole ∙ ap (put_at c at) is
+
+-- how many bytes each part has
+pub header_parts : (h : List ℕ) → length h ≡ 28 → (length (take 24 (drop 4 h)) ≡ 24) × (length (take 4 h) ≡ 4)
+header_parts h long = (length-take-le 24 (drop 4 h) (omega (arith, long, length-drop 4 h)), length-take-le 4 h (omega (arith, long)))
+
+pub most_of : (w w' n : ℕ) → w' ≤ w + n → n ≡ 24 → w' ≤ w + 28
+most_of w w' n le e = omega (arith, le, e)
+
+pub both_of : (w w' w'' n m : ℕ) → w' ≤ w + n → n ≡ 24 → w'' ≤ w' + m → m ≡ 4 → w'' ≤ w + 28
+both_of w w' w'' n m le e less f = omega (arith, le, e, less, f)

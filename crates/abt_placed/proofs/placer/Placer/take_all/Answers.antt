@@ -1,11 +1,13 @@
-use Rattle.std.proofs.Common.{length, ◌≡◌, ◌*◌, ◌+◌, ◌++◌, ◌∙◌, arith, refl, subst, ℕ}
-use Rattle.std.proofs.Math.Nat.{le_trans}
+use Rattle.std.proofs.Common.{length, ◌≡◌, ◌*◌, ◌+◌, ◌++◌, ◌∙◌, arith, refl, subst, sym, append-nil, List, ℕ}
+use Rattle.std.proofs.Math.Nat.{le_refl, le_trans}
+use Rattle.abt_sparse.specs.Block.{Block}
+use Rattle.abt_pieces.proofs.Fronts.{no_more}
 use Rattle.abt_placed.specs.Placed.{Placed, classes}
 use Rattle.abt_placed.specs.Unfinished.{KeepsFront}
 use Rattle.abt_placed.proofs.Numbers.{blocks_fit}
 use Rattle.abt_placed.proofs.Costs.{look_costs, take_costs, more_blocks, sound_within, wider}
 use Rattle.abt_placed.proofs.Laying.{part_classes, more_taken}
-use Rattle.abt_placed.proofs.Refusing.{keeps_then}
+use Rattle.abt_placed.proofs.Refusing.{keeps_same, keeps_then}
 use Rattle.abt_placed.proofs.placer.Placer.take_all.Goals as goal
 
 pub part-requires-clause-bound : goal.part-requires-clause-bound
@@ -49,6 +51,24 @@ loop-done-preserved g c =
       steps = omega arith;
       greatest = omega arith;
     }
+
+pub loop-done-init : goal.loop-done-init
+loop-done-init g c = record {
+  within = omega arith;
+  sound = c.requires.sound;
+  laid = λ f p. subst (λ (l : List Block). Placed c.args.size l (g.O.Output.written c.args.output.now) c.args.self.now) (sym (append-nil f)) p;
+  passed = omega arith;
+  same = (refl, refl);
+  grown = le_refl _;
+  kept = keeps_same _ _;
+  frame = refl;
+  faults = refl;
+  full_faults = refl;
+  calls = no_more _ _;
+  turns = no_more _ _;
+  steps = refl;
+  greatest = refl;
+}
 
 -- blocks are not laid
 pub returns-in-Err : goal.returns-in-Err

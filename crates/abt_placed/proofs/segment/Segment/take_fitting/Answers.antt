@@ -1,5 +1,7 @@
-use Rattle.std.proofs.Common.{drop, ◌≡◌, ◌*◌, ◌+◌, ◌-◌, ◌++◌, ◌∙◌, arith, refl, subst, true, false, ℕ}
-use Rattle.std.proofs.Math.Nat.{le_trans}
+use Rattle.std.proofs.Common.{drop, ◌≡◌, ◌*◌, ◌+◌, ◌-◌, ◌++◌, ◌∙◌, arith, refl, subst, sym, append-nil, List, true, false, ℕ}
+use Rattle.std.proofs.Math.Nat.{le_refl, le_trans}
+use Rattle.abt_sparse.specs.Block.{Block}
+use Rattle.abt_pieces.proofs.Fronts.{no_more}
 use Rattle.abt_placed.specs.Placed.{classes}
 use Rattle.abt_placed.specs.Segment.{LaidSegment, IsOver}
 use Rattle.abt_placed.specs.Unfinished.{KeepsFront}
@@ -7,7 +9,7 @@ use Rattle.abt_placed.specs.Whole.{taken}
 use Rattle.abt_placed.proofs.Numbers.{blocks_fit}
 use Rattle.abt_placed.proofs.Costs.{look_costs, take_costs, more_blocks}
 use Rattle.abt_placed.proofs.Laying.{part_classes}
-use Rattle.abt_placed.proofs.Refusing.{keeps_then}
+use Rattle.abt_placed.proofs.Refusing.{keeps_same, keeps_then}
 use Rattle.abt_placed.proofs.Segments.{window_over, more_laid}
 use Rattle.abt_placed.proofs.segment.Segment.take_fitting.Goals as goal
 
@@ -53,6 +55,24 @@ loop-done-preserved g c =
       steps = omega arith;
       greatest = omega arith;
     }
+
+pub loop-done-init : goal.loop-done-init
+loop-done-init g c = record {
+  within = omega arith;
+  sound = c.requires.sound;
+  laid = λ f p. subst (λ (l : List Block). LaidSegment c.args.size l (g.O.Output.written c.args.output.now) c.args.self.now) (sym (append-nil f)) p;
+  passed = omega arith;
+  same = (refl, refl, refl, refl);
+  grown = le_refl _;
+  kept = keeps_same _ _;
+  frame = refl;
+  faults = refl;
+  full_faults = refl;
+  calls = no_more _ _;
+  turns = no_more _ _;
+  steps = refl;
+  greatest = refl;
+}
 
 -- the next blocks don't fit
 pub returns-then-ended : goal.returns-then-ended
