@@ -187,7 +187,7 @@ returns g c =
       written = refl;
       bytes = omega (arith, w.grown, t.grown, n.grown);
       whole = whole_piece g.S.Source.tells (g.S.Source.content c.args.source.now) r.size r.length r.blocks c.args.limit c.args.first (taken s.placer) c.end.new.self.placer.chunks old now (take f now) new s r.some r.covers r.last c.requires.opened all.sound all.told all.ended (t.same.2 ∙ b.first) refl (t.same.3 ∙ b.limit) all.inside
-        (front_kept f c.begin-segment.result.placer.front old mid now place (sym t.same.1) kept.ok t.kept) (e.laid all.told.blocks all.told.laid);
+          (front_kept f c.begin-segment.result.placer.front old mid now place (sym t.same.1) kept.ok t.kept) (e.laid all.told.blocks all.told.laid);
       before = all_kept f c.begin-segment.result.placer.front old mid now new place (sym t.same.1) kept.ok t.kept n.before;
       unfinished = tt;
       long = omega (arith, e.long, t.same.3, b.limit, place);

@@ -157,7 +157,7 @@ returns g c =
       blocks = refl;
       long = omega arith;
       whole = same_whole g.S.Source.tells (g.S.Source.content c.loop-whole.source) (g.S.Source.content c.args.source.now) r.size r.blocks c.loop-whole.placer.most c.args.most c.step.new.self.chunks (take c.loop-whole.placer.front now) old new
-        i.content i.most (ap (λ (n : ℕ). take n now) i.front ∙ i.before) (e.whole c.if-whole.true);
+          i.content i.most (ap (λ (n : ℕ). take n now) i.front ∙ i.before) (e.whole c.if-whole.true);
       before = front_stays c.loop-whole.placer.front old now new i.front t.before i.before;
       unfinished = tt;
       within = omega (arith, i.front, t.long);

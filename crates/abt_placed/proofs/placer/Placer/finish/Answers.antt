@@ -101,7 +101,7 @@ returns-in-Ok-lay_header g c =
       same = (ap (λ (p : Placer). p.most) c.and_closed.ensures ∙ n.most, ap (λ (p : Placer). p.front) c.and_closed.ensures ∙ n.front);
       before = l.before ∙ stays.front;
       laid = e.ok ∙ ap (λ (l : List ℕ). put_at l s.front (header_record (plain_header b t.blocks t.chunks))) all.written
-        ∙ ap (λ (p : Placer). put_at (closing s b w) s.front (header_record (plain_header b p.blocks p.chunks))) c.and_closed.ensures;
+          ∙ ap (λ (p : Placer). put_at (closing s b w) s.front (header_record (plain_header b p.blocks p.chunks))) c.and_closed.ensures;
       unfinished = tt;
       grown = omega (arith, k.grown, l.long);
       within = omega (arith, within, l.long);

@@ -222,7 +222,7 @@ returns-in-Ok-take_all g c =
       read_frame = l.frame;
       write_frame = t.frame;
       going = λ on. on_laid g.S.Source.tells x r.size r.length r.blocks want (a * r.size) a w w' c.load_filled-loaded.new.w.bytes s c.take_all.new.self r.some r.covers r.last (omega arith) e.passed laid (e.laid laid.blocks laid.placed) refl
-        (λ tells. (c.requires.opened tells, omega (arith, c.place_of-at.ensures.place, c.place_of-at.ensures.within), rw c.place_of-at.ensures.place at c.min-want.ensures, rw c.place_of-at.ensures.place at (if_none {P = slice_range c.load_filled-loaded.new.w.bytes 0 (a * r.size) ≡ take want (drop c.place_of-at.result x) ++ replicate (a * r.size - want) 0} c.load_filled-loaded.result.fault c.in_default.is (l.bytes tells))));
+          (λ tells. (c.requires.opened tells, omega (arith, c.place_of-at.ensures.place, c.place_of-at.ensures.within), rw c.place_of-at.ensures.place at c.min-want.ensures, rw c.place_of-at.ensures.place at (if_none {P = slice_range c.load_filled-loaded.new.w.bytes 0 (a * r.size) ≡ take want (drop c.place_of-at.result x) ++ replicate (a * r.size - want) 0} c.load_filled-loaded.result.fault c.in_default.is (l.bytes tells))));
       whole = λ is. absurd (let z : false ≡ true = is in cc);
       before = (keeps_less s.front (s.front + 28) w w' (omega arith) t.kept).front;
       unfinished = tt;

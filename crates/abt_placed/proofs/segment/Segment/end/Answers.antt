@@ -70,9 +70,9 @@ returns g c =
           let p = c.skip.new.self in
           let b = c.args.size in
           on_both c.finish.result (t ≡ closed p) (new ≡ put_at (closing p b w') p.front (header_record (plain_header b (closed p).blocks (closed p).chunks)))
-            (LaidPiece b c.args.blocks t.chunks (framed s.first blocks r) (take f w) new)
-            (λ is made. end_laid b c.args.blocks r blocks w w' new s p t h laid (omega arith) e.sound (e.laid (skips s.first ++ blocks) laid.placed) e.passed k.same.0 k.same.1 front is made)
-            n.ok n.laid;
+          (LaidPiece b c.args.blocks t.chunks (framed s.first blocks r) (take f w) new)
+          (λ is made. end_laid b c.args.blocks r blocks w w' new s p t h laid (omega arith) e.sound (e.laid (skips s.first ++ blocks) laid.placed) e.passed k.same.0 k.same.1 front is made)
+          n.ok n.laid;
       before = subst (λ (m : ℕ). take m new ≡ take m w') k.same.1 n.before ∙ front;
       unfinished = subst (λ (m : ℕ). OnErr c.finish.result (IsUnfinished (drop m new))) k.same.1 n.unfinished;
       grown = le_trans k.grown n.grown;
