@@ -1,5 +1,5 @@
 -- The whole image, by what is answered.
-use Rattle.std.proofs.Common.{◌≡◌, ℕ, ◌+◌, ◌*◌, ◌%◌, ◌^◌, ◌<◌, ◌≤◌, Bool, IsTrue, List, [], ◌++◌, length, drop, inl, inr, ◌⊎◌, refl, ap, subst, ◌∙◌, arith, append-nil, length-append, replicate, true, false, Result, Ok, Err, OnOk, OnErr, IfOk}
+use Rattle.std.proofs.Common.{◌≡◌, ℕ, ◌+◌, ◌*◌, ◌%◌, ◌^◌, ◌<◌, ◌≤◌, Bool, IsTrue, List, [], ◌++◌, length, drop, inl, inr, ◌⊎◌, refl, ap, subst, ◌∙◌, arith, append-nil, length-append, replicate, sym, take, true, false, Result, Ok, Err, OnOk, OnErr, IfOk}
 use Rattle.abt_sparse.specs.Block.{classify}
 use Rattle.abt_sparse.specs.Chunk.{spelling, chunks_of, plain_header}
 use Rattle.abt_sparse.specs.Fails.{Spells}
@@ -9,6 +9,7 @@ use Rattle.abt_pieces.specs.Image.{Appended, IsImage}
 use Rattle.abt_sparsify.specs.declared.count.Written.{Written}
 use Rattle.abt_placed.specs.Placer.{SoundPlacer, first_placer}
 use Rattle.abt_placed.specs.declared.placer.Placer.{Placer}
+use Rattle.abt_placed.specs.Placed.{Laid}
 use Rattle.abt_placed.specs.Whole.{Whole}
 use Rattle.abt_placed.specs.Unfinished.{IsUnfinished, IsNoImage}
 use Rattle.abt_placed.proofs.Refusing.{refused}
@@ -63,3 +64,21 @@ first_sound b at r old now s place e some small f =
       most = some;
       small = small;
     })
+
+-- what is laid of a source that tells the same
+pub same_laid : (tells : Bool) (x x' : List ℕ) (b : ℕ) (now : List ℕ) (s : Placer) → (IsTrue tells → x ≡ x') → Laid tells x b now s → Laid tells x' b now s
+same_laid tells x x' b now s e h = record {
+  blocks = h.blocks;
+  placed = h.placed;
+  told = λ t. h.told t ∙ ap (λ (y : List ℕ). take (s.blocks + s.count) (classify b y)) (e t);
+}
+
+-- what stood before stands still
+pub front_stays : (f : ℕ) (old now new : List ℕ) → f ≡ length old → take f new ≡ take f now → take (length old) now ≡ old → take (length old) new ≡ old
+front_stays f old now new at same h = ap (λ (n : ℕ). take n new) (sym at) ∙ same ∙ ap (λ (n : ℕ). take n now) at ∙ h
+
+-- how many blocks and chunks there are
+pub whole_counted : (res : Result Written PieceFault) (tells : Bool) (x : List ℕ) (b n r : ℕ) (old new : List ℕ) → IsTrue tells → IfOk res (λ a. a.blocks ≡ n) → IfOk res (λ a. Whole tells x b n r a.chunks old new)
+    → IfOk res (λ a. (a.blocks ≡ length (classify b x)) × (a.chunks ≡ length (chunks_of r (classify b x))))
+whole_counted (Ok a) tells x b n r old new t is w = (is ∙ sym w.count ∙ ap length (w.told t), w.chunks_are ∙ ap (λ l. length (chunks_of r l)) (w.told t))
+whole_counted (Err f) tells x b n r old new t is w = tt

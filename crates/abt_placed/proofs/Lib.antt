@@ -6,6 +6,7 @@ pub mod Costs
 pub mod Images
 pub mod Segments
 pub mod Sourced
+pub mod Spending
 pub mod Uncut
 pub mod Pieces
 pub mod Rooms

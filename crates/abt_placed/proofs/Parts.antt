@@ -1,8 +1,8 @@
 -- The numbers of a part that is taken, or of which a write fails.
 use Rattle.std.proofs.Common.{◌≡◌, ℕ, ◌+◌, ◌*◌, ◌<◌, ◌≤◌, true, false, List, length, refl, arith, mul-le-mul_right}
 use Rattle.std.proofs.Common.{Bool, Result, Ok, Err, OnErr, ◌^◌, if◌then◌else◌}
-use Rattle.std.specs.Prelude.{IfErr}
-use Rattle.abt_io.specs.Count.{full_of}
+use Rattle.std.specs.Prelude.{IfErr, IsErrOf}
+use Rattle.abt_io.specs.Count.{full_in, full_of}
 use Rattle.abt_io.specs.declared.device.DeviceFault.{DeviceFault}
 use Rattle.abt_io.specs.declared.device.DeviceFault.TheVariants.{Failed, Full}
 use Rattle.abt_runs.specs.Part.{is_end}
@@ -72,3 +72,17 @@ stays_within kinds.End q b long more some = omega arith
 
 pub full_within : {X : Type 0} (res : Result X DeviceFault) (x m y : ℕ) → x ≤ m → OnErr res (x < m) → m ≤ y → x + full_of res ≤ y
 full_within res x m y le short more = omega (arith, full_short res x m le short, more)
+
+-- a fault says at most once that the device is full
+pub full_once : (f : DeviceFault) → full_in f ≤ 1
+full_once Failed = omega arith
+full_once Full = omega arith
+
+-- the last chunk made whole
+pub closed_within : (b p q front part long long' : ℕ) → long' + part ≤ long + q * (b + 16) → long ≤ front + 28 + p * (b + 16) + part → long' ≤ front + 28 + (p + q) * (b + 16)
+closed_within b p q front part long long' wide few = let d : (p + q) * (b + 16) ≡ p * (b + 16) + q * (b + 16) = omega arith in omega (arith, d, wide, few)
+
+-- the same fault in another answer
+pub same_fault : {X Y : Type 0} (f : DeviceFault) → IsErrOf {T = X} {E = DeviceFault} (Err f) Full → IsErrOf {T = Y} {E = DeviceFault} (Err f) Full
+same_fault Failed h = absurd cc
+same_fault Full h = refl

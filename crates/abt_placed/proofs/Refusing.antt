@@ -1,7 +1,7 @@
 -- What is no image is refused, and what stays as it was.
 use Rattle.std.proofs.Common.{inl, inr, ◌⊎◌, ◌≡◌, ℕ, zero, suc, ◌+◌, ◌-◌, ◌*◌, ◌<◌, ◌≤◌, nat_lt, ◌==◌, not, true, List, ◌∷◌, ◌++◌, length, take, drop, replicate, refl, sym, ap, ◌∙◌, arith, append_assoc, append-nil, length-append, length-drop}
 use Rattle.std.proofs.lemmas.Bool.{cases_Bool, eqb-true}
-use Rattle.std.proofs.lemmas.List.{length-take-le, take_all, take-append-drop, take-take, drop-take, drop-drop}
+use Rattle.std.proofs.lemmas.List.{length-take-le, take_all, take-append-drop, take-append-le, take-take, drop-take, drop-drop}
 use Rattle.abt_sparse.specs.declared.fault.SparseFault.TheVariants.{Magic, Truncated}
 use Rattle.abt_sparse.specs.Reading.{outcome, checked_header}
 use Rattle.abt_sparse.specs.Field.{number_at}
@@ -66,6 +66,13 @@ take_less n at w le = sym (take-take n at w le)
 pub keeps_less : (n k : ℕ) (w w' : List ℕ) → n ≤ k → KeepsFront k w w' → KeepsFront n w w'
 keeps_less n k w w' le h = record { front = take_less n k w' le ∙ ap (take n) h.front ∙ sym (take_less n k w le); long = h.long }
 
+-- what is written behind, or laid over what stands behind
+pub keeps_behind : (n : ℕ) (w w' x : List ℕ) → n ≤ length w → w' ≡ w ++ x → KeepsFront n w w'
+keeps_behind n w w' x le e = record { front = ap (take n) e ∙ take-append-le n w x le; long = omega (arith, ap length e, length-append w x) }
+
+pub keeps_before : (n at : ℕ) (w w' : List ℕ) → n ≤ at → take at w' ≡ take at w → length w' ≡ length w → KeepsFront n w w'
+keeps_before n at w w' le h long = keeps_less n at w w' le (record { front = h; long = omega (arith, long) })
+
 front_part : (f n : ℕ) (w : List ℕ) → take n (drop f w) ≡ drop f (take (f + n) w)
 front_part f n w = sym (drop-take f n w)
 
@@ -126,3 +133,13 @@ header_laid c mid new h r at is long le e f =
     let b : length y ≡ 24 = length-take-le 24 (drop 4 h) (omega (arith, long, length-drop 4 h)) in
     let whole : h ≡ x ++ y = sym (ap (λ (l : List ℕ). x ++ l) (take_all 24 (drop 4 h) (omega (arith, long, length-drop 4 h))) ∙ take-append-drop 4 h) in
     laid_in_two c mid new x y h at (omega (arith, a, b, le)) (e ∙ ap (λ (n : ℕ). put_at c (at + n) y) (sym a)) f whole ∙ ap (put_at c at) is
+
+-- how many bytes each part has
+pub header_parts : (h : List ℕ) → length h ≡ 28 → (length (take 24 (drop 4 h)) ≡ 24) × (length (take 4 h) ≡ 4)
+header_parts h long = (length-take-le 24 (drop 4 h) (omega (arith, long, length-drop 4 h)), length-take-le 4 h (omega (arith, long)))
+
+pub most_of : (w w' n : ℕ) → w' ≤ w + n → n ≡ 24 → w' ≤ w + 28
+most_of w w' n le e = omega (arith, le, e)
+
+pub both_of : (w w' w'' n m : ℕ) → w' ≤ w + n → n ≡ 24 → w'' ≤ w' + m → m ≡ 4 → w'' ≤ w + 28
+both_of w w' w'' n m le e less f = omega (arith, le, e, less, f)

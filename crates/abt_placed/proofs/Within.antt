@@ -1,10 +1,12 @@
 -- What a part adds to a segment is within its limit.
-use Rattle.std.proofs.Common.{◌≡◌, ℕ, ◌+◌, ◌-◌, ◌<◌, ◌≤◌, false, arith}
+use Rattle.std.proofs.Common.{◌≡◌, ◌∙◌, ℕ, ◌+◌, ◌-◌, ◌<◌, ◌≤◌, Bool, true, false, if◌then◌else◌, Result, Ok, Err, OnOk, OnErr, arith}
+use Rattle.abt_io.specs.declared.device.DeviceFault.{DeviceFault}
 use Rattle.abt_runs.specs.declared.part.RunKind.{RunKind}
 use Rattle.abt_runs.specs.declared.part.RunKind.TheVariants as kinds
 use Rattle.abt_pieces.specs.Plan.{gain_of}
-use Rattle.abt_placed.specs.Placer.{taking_len}
-use Rattle.abt_placed.specs.Segment.{SoundSegment, is_fresh, tail_of_open}
+use Rattle.abt_placed.specs.Placer.{taking_len, beginning_len, closing_len, goes_on}
+use Rattle.abt_placed.specs.Segment.{SoundSegment, is_fresh, tail_of_open, to_come}
+use Rattle.abt_placed.specs.declared.placer.Placer.{Placer}
 use Rattle.abt_placed.specs.declared.segment.Segment.{Segment}
 use Rattle.abt_placed.proofs.Segments.{raw_room, taking_fits}
 
@@ -14,3 +16,26 @@ taken_within b q gain long long' full s k h some held grows fits adds =
     let room : k ≡ kinds.Raw → s.placer.kind ≡ kinds.Raw → s.placer.count < s.placer.most = λ e raw. raw_room b gain q s long h some (rw e at grows) fits raw in
     let y = taking_fits s.placer k q b held room in
     omega (arith, y, h.fits, h.room, adds, grows, fits)
+
+-- a segment keeps room for what is skipped behind it
+skipping_as : (on : Bool) (k : RunKind) → (if on then 0 else closing_len k + 0) + 12 ≤ to_come k
+skipping_as true kinds.Raw = omega arith
+skipping_as true (kinds.Fill w) = omega arith
+skipping_as true kinds.Skip = omega arith
+skipping_as true kinds.End = omega arith
+skipping_as false kinds.Raw = omega arith
+skipping_as false (kinds.Fill w) = omega arith
+skipping_as false kinds.Skip = omega arith
+skipping_as false kinds.End = omega arith
+
+pub skipping_fits : (s : Placer) → beginning_len s kinds.Skip + 12 ≤ to_come s.kind
+skipping_fits s = skipping_as (goes_on s kinds.Skip) s.kind
+
+-- what has failed, where nothing had before
+pub clean_since : {X : Type 0} (res : Result X DeviceFault) (n m k : ℕ) → m ≡ n → OnOk res (k ≡ m) → OnOk res (k ≡ n)
+clean_since (Ok x) n m k e h = h ∙ e
+clean_since (Err f) n m k e h = tt
+
+pub cause_since : {X : Type 0} (res : Result X DeviceFault) (n m k : ℕ) → m ≡ n → OnErr res (m < k) → OnErr res (n < k)
+cause_since (Ok x) n m k e h = tt
+cause_since (Err f) n m k e h = omega (arith, e, h)

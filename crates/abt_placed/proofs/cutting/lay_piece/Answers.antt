@@ -1,33 +1,20 @@
-use Rattle.std.proofs.Common.{◌≡◌, ◌∙◌, ℕ, sym, refl, subst, inr, arith, length, take}
+use Rattle.std.proofs.Common.{◌≡◌, ◌∙◌, ◌-◌, ℕ, sym, refl, subst, inr, arith, length, take, replicate, ap}
+use Rattle.std.proofs.Math.Nat.{le_trans}
+use Rattle.std.proofs.Math.Seq.{take-append_seam}
+use Rattle.abt_runs.specs.Raw.{RawPlace}
+use Rattle.abt_runs.specs.declared.part.Cursor.{Cursor}
+use Rattle.abt_pieces.proofs.Fronts.{says_full}
 use Rattle.abt_placed.specs.Whole.{taken}
 use Rattle.abt_placed.proofs.Refusing.{broken_off, zeros_refused}
+use Rattle.abt_placed.proofs.Parts.{full_once}
 use Rattle.abt_placed.proofs.Pieces.{first_told, front_kept, all_kept, zeros_stay, unfinished_at, whole_piece}
 use Rattle.abt_placed.proofs.cutting.lay_piece.Goals as goal
-
-pub returns-in-Err-clause-unfinished : goal.returns-in-Err-clause-unfinished
-returns-in-Err-clause-unfinished g c = broken_off (g.O.Output.written c.args.output.now) (g.O.Output.written c.write_out.new.output) c.write_out.ensures.grown c.write_out.ensures.front
 
 pub take_source-requires-clause-told : goal.take_source-requires-clause-told
 take_source-requires-clause-told g c =
     let s = c.begin-segment.result in
     let e = c.begin-segment.ensures in
     first_told g.S.Source.tells (g.S.Source.content c.args.source.now) c.args.runs.now.size c.args.first (g.O.Output.written c.write_out.new.output) s e.first e.taken (e.laid (g.O.Output.written c.args.output.now) (g.O.Output.written c.write_out.new.output) c.position-front.ensures c.in-Ok.ensures.ok)
-
-pub returns-in-Err-take_source-clause-unfinished : goal.returns-in-Err-take_source-clause-unfinished
-returns-in-Err-take_source-clause-unfinished g c =
-    let old = g.O.Output.written c.args.output.now in
-    let mid = g.O.Output.written c.write_out.new.output in
-    let new = g.O.Output.written c.take_source.new.output in
-    let f = c.position-front.result in
-    inr (unfinished_at f old new c.position-front.ensures (zeros_refused f new (zeros_stay f c.begin-segment.result.placer.front old mid new c.position-front.ensures c.begin-segment.ensures.front c.in-Ok.ensures.ok c.take_source.ensures.kept)))
-
-pub returns-in-Err-take_source-clause-before : goal.returns-in-Err-take_source-clause-before
-returns-in-Err-take_source-clause-before g c =
-    let old = g.O.Output.written c.args.output.now in
-    let mid = g.O.Output.written c.write_out.new.output in
-    let new = g.O.Output.written c.take_source.new.output in
-    let f = c.position-front.result in
-    subst (λ (n : ℕ). take n new ≡ old) c.position-front.ensures (front_kept f c.begin-segment.result.placer.front old mid new c.position-front.ensures c.begin-segment.ensures.front c.in-Ok.ensures.ok c.take_source.ensures.kept)
 
 pub end-requires-clause-zeros : goal.end-requires-clause-zeros
 end-requires-clause-zeros g c =
@@ -42,39 +29,180 @@ pub take_source-requires-clause-sound : goal.take_source-requires-clause-sound
 take_source-requires-clause-sound g c =
     c.begin-segment.ensures.sound (length (g.O.Output.written c.write_out.new.output)) (let z = c.in-Ok.ensures.all in omega (arith, z, c.position-front.ensures))
 
-pub returns-in-Err-end-clause-before : goal.returns-in-Err-end-clause-before
-returns-in-Err-end-clause-before g c =
+-- not even the place of the header is kept
+pub returns-in-Err : goal.returns-in-Err
+returns-in-Err g c =
+    let w = c.write_out.ensures in
+    let e = c.in-Err.ensures in
+    let old = g.O.Output.written c.args.output.now in
+    let new = g.O.Output.written c.write_out.new.output in
+    record {
+      content = λ tells. refl;
+      frame = refl;
+      write_frame = w.frame;
+      sound = tt;
+      next = tt;
+      written = tt;
+      bytes = tt;
+      whole = tt;
+      before = ap (take (length old)) w.front ∙ take-append_seam old (take (length new - length old) (replicate 28 0));
+      unfinished = broken_off old new w.grown w.front;
+      long = omega (arith, w.within, c.requires.limit, full_once c.in-Err.fault);
+      grown = w.grown;
+      given = omega arith;
+      received = omega (arith, w.steps);
+      economy = omega arith;
+      last = tt;
+      calls = omega (arith, w.calls);
+      turns = omega (arith, w.turns);
+      greatest = omega (arith, w.greatest);
+      faults = omega arith;
+      write_faults = w.faults;
+      clean = tt;
+      full_faults = e.full_faults;
+      full = λ h. w.full (rw c.in-Err.is (says_full _ h));
+      cause = e.cause;
+    }
+
+-- the segment's blocks are not all taken
+pub returns-in-Err-take_source : goal.returns-in-Err-take_source
+returns-in-Err-take_source g c =
+    let w = c.write_out.ensures in
+    let kept = c.in-Ok.ensures in
+    let t = c.take_source.ensures in
+    let e = c.in-Err-take_source.ensures in
+    let b = c.begin-segment.ensures in
+    let place = c.position-front.ensures in
+    let f = c.position-front.result in
+    let front = c.begin-segment.result.placer.front in
     let old = g.O.Output.written c.args.output.now in
     let mid = g.O.Output.written c.write_out.new.output in
-    let now = g.O.Output.written c.take_source.new.output in
-    let new = g.O.Output.written c.end.new.output in
-    all_kept c.take_source.new.self.placer.front c.begin-segment.result.placer.front old mid now new (c.take_source.ensures.same.1 ∙ c.begin-segment.ensures.front ∙ c.position-front.ensures) (sym c.take_source.ensures.same.1) c.in-Ok.ensures.ok c.take_source.ensures.kept c.end.ensures.before
+    let new = g.O.Output.written c.take_source.new.output in
+    record {
+      content = t.content;
+      frame = t.read_frame;
+      write_frame = t.write_frame ∙ w.frame;
+      sound = tt;
+      next = tt;
+      written = tt;
+      bytes = tt;
+      whole = tt;
+      before = subst (λ (n : ℕ). take n new ≡ old) place (front_kept f front old mid new place b.front kept.ok t.kept);
+      unfinished = inr (unfinished_at f old new place (zeros_refused f new (zeros_stay f front old mid new place b.front kept.ok t.kept)));
+      long = omega (arith, e.long, b.front, b.limit, place);
+      grown = le_trans w.grown t.grown;
+      given = t.given;
+      received = omega (arith, t.received, w.steps);
+      economy = rw b.taken at t.economy;
+      last = tt;
+      calls = omega (arith, t.calls, w.calls);
+      turns = omega (arith, t.turns, w.turns);
+      greatest = omega (arith, t.greatest, w.greatest);
+      faults = t.faults;
+      write_faults = le_trans w.faults t.write_faults;
+      clean = tt;
+      full_faults = omega (arith, e.full_faults, kept.full_faults);
+      full = e.full;
+      cause = rw kept.clean at e.cause;
+    }
 
-pub returns-in-Err-end-clause-unfinished : goal.returns-in-Err-end-clause-unfinished
-returns-in-Err-end-clause-unfinished g c =
-    let old = g.O.Output.written c.args.output.now in
-    let new = g.O.Output.written c.end.new.output in
-    inr (unfinished_at c.take_source.new.self.placer.front old new (c.take_source.ensures.same.1 ∙ c.begin-segment.ensures.front ∙ c.position-front.ensures) c.in-Err-end.ensures.unfinished)
-
-pub returns-clause-before : goal.returns-clause-before
-returns-clause-before g c =
-    let old = g.O.Output.written c.args.output.now in
-    let mid = g.O.Output.written c.write_out.new.output in
-    let now = g.O.Output.written c.take_source.new.output in
-    let new = g.O.Output.written c.end.new.output in
-    all_kept c.take_source.new.self.placer.front c.begin-segment.result.placer.front old mid now new (c.take_source.ensures.same.1 ∙ c.begin-segment.ensures.front ∙ c.position-front.ensures) (sym c.take_source.ensures.same.1) c.in-Ok.ensures.ok c.take_source.ensures.kept c.end.ensures.before
-
-pub returns-clause-whole : goal.returns-clause-whole
-returns-clause-whole g c =
-    let r = c.args.runs.now in
-    let s = c.take_source.new.self in
-    let t = c.in-Ok-take_source.ensures in
-    let same = c.take_source.ensures.same in
+-- the piece is not made whole
+pub returns-in-Err-end : goal.returns-in-Err-end
+returns-in-Err-end g c =
+    let w = c.write_out.ensures in
+    let kept = c.in-Ok.ensures in
+    let t = c.take_source.ensures in
+    let all = c.in-Ok-take_source.ensures in
+    let n = c.end.ensures in
+    let e = c.in-Err-end.ensures in
     let b = c.begin-segment.ensures in
     let old = g.O.Output.written c.args.output.now in
     let mid = g.O.Output.written c.write_out.new.output in
     let now = g.O.Output.written c.take_source.new.output in
+    let new = g.O.Output.written c.end.new.output in
+    let f = c.take_source.new.self.placer.front in
+    let place = t.same.1 ∙ b.front ∙ c.position-front.ensures in
+    record {
+      content = t.content;
+      frame = t.read_frame;
+      write_frame = n.frame ∙ t.write_frame ∙ w.frame;
+      sound = tt;
+      next = tt;
+      written = tt;
+      bytes = tt;
+      whole = tt;
+      before = all_kept f c.begin-segment.result.placer.front old mid now new place (sym t.same.1) kept.ok t.kept n.before;
+      unfinished = inr (unfinished_at f old new place e.unfinished);
+      long = omega (arith, e.long, t.same.3, b.limit, place);
+      grown = le_trans w.grown (le_trans t.grown n.grown);
+      given = t.given;
+      received = omega (arith, t.received, w.steps, n.steps);
+      economy = rw b.taken at t.economy;
+      last = tt;
+      calls = omega (arith, t.calls, w.calls, n.calls);
+      turns = omega (arith, t.turns, w.turns, n.turns);
+      greatest = omega (arith, t.greatest, w.greatest, n.greatest);
+      faults = t.faults;
+      write_faults = le_trans w.faults (le_trans t.write_faults n.faults);
+      clean = tt;
+      full_faults = omega (arith, e.full_faults, all.full_faults, kept.full_faults);
+      full = λ h. n.full (rw c.in-Err-end.is (says_full _ h));
+      cause = omega (arith, e.cause, all.clean.1, kept.clean);
+    }
+
+-- the piece is whole
+pub returns : goal.returns
+returns g c =
+    let w = c.write_out.ensures in
+    let kept = c.in-Ok.ensures in
+    let t = c.take_source.ensures in
+    let all = c.in-Ok-take_source.ensures in
+    let n = c.end.ensures in
+    let e = c.in-Ok-end.ensures in
+    let b = c.begin-segment.ensures in
+    let r = c.args.runs.now in
+    let s = c.take_source.new.self in
+    let old = g.O.Output.written c.args.output.now in
+    let mid = g.O.Output.written c.write_out.new.output in
+    let now = g.O.Output.written c.take_source.new.output in
+    let new = g.O.Output.written c.end.new.output in
     let f = s.placer.front in
-    let place = same.1 ∙ b.front ∙ c.position-front.ensures in
-    whole_piece g.S.Source.tells (g.S.Source.content c.args.source.now) r.size r.length r.blocks c.args.limit c.args.first (taken s.placer) c.end.new.self.placer.chunks old now (take f now) (g.O.Output.written c.end.new.output) s r.some r.covers r.last c.requires.opened t.sound t.told t.ended (same.2 ∙ b.first) refl (same.3 ∙ b.limit) t.inside
-    (front_kept f c.begin-segment.result.placer.front old mid now place (sym same.1) c.in-Ok.ensures.ok c.take_source.ensures.kept) (c.in-Ok-end.ensures.laid t.told.blocks t.told.laid)
+    let place = t.same.1 ∙ b.front ∙ c.position-front.ensures in
+    let next : RawPlace r.blocks r.size (let d : Cursor = record { block = taken s.placer; at = 0; chunk = 0; used = 0; ask = 1 } in d) = record { within = all.inside; some = omega arith; window = omega (arith, r.window); passed = omega arith; used = refl } in
+    record {
+      content = t.content;
+      frame = t.read_frame;
+      write_frame = n.frame ∙ t.write_frame ∙ w.frame;
+      sound = record {
+        first = refl;
+        past = refl;
+        order = omega (arith, all.sound.order, t.same.2, b.first);
+        moves = λ less. omega (arith, all.ended.moves less, t.same.2, b.first);
+        end = all.inside;
+        within = next;
+        least = omega (arith, kept.all, t.grown, n.grown);
+        long = omega (arith, e.long, t.same.3, b.limit, place);
+      };
+      next = next;
+      written = refl;
+      bytes = omega (arith, w.grown, t.grown, n.grown);
+      whole = whole_piece g.S.Source.tells (g.S.Source.content c.args.source.now) r.size r.length r.blocks c.args.limit c.args.first (taken s.placer) c.end.new.self.placer.chunks old now (take f now) new s r.some r.covers r.last c.requires.opened all.sound all.told all.ended (t.same.2 ∙ b.first) refl (t.same.3 ∙ b.limit) all.inside
+          (front_kept f c.begin-segment.result.placer.front old mid now place (sym t.same.1) kept.ok t.kept) (e.laid all.told.blocks all.told.laid);
+      before = all_kept f c.begin-segment.result.placer.front old mid now new place (sym t.same.1) kept.ok t.kept n.before;
+      unfinished = tt;
+      long = omega (arith, e.long, t.same.3, b.limit, place);
+      grown = le_trans w.grown (le_trans t.grown n.grown);
+      given = t.given;
+      received = omega (arith, t.received, w.steps, n.steps);
+      economy = rw b.taken at t.economy;
+      last = rw b.taken at all.last;
+      calls = omega (arith, t.calls, w.calls, n.calls);
+      turns = omega (arith, t.turns, w.turns, n.turns);
+      greatest = omega (arith, t.greatest, w.greatest, n.greatest);
+      faults = t.faults;
+      write_faults = le_trans w.faults (le_trans t.write_faults n.faults);
+      clean = (all.clean.0, e.clean ∙ all.clean.1 ∙ kept.clean);
+      full_faults = omega (arith, e.full_faults, all.full_faults, kept.full_faults);
+      full = λ h. absurd cc;
+      cause = tt;
+    }

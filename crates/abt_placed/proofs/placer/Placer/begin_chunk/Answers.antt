@@ -1,6 +1,7 @@
-use Rattle.std.proofs.Common.{◌∙◌, sym, refl, arith}
+use Rattle.std.proofs.Common.{◌∙◌, ◌+◌, sym, refl, arith}
 use Rattle.abt_placed.proofs.Numbers.{begins_raw}
 use Rattle.abt_placed.proofs.Parts.{full_within, stays_within}
+use Rattle.abt_placed.proofs.Refusing.{keeps_behind, keeps_then}
 use Rattle.abt_placed.proofs.placer.Placer.begin_chunk.Goals as goal
 
 pub returns-in-Raw-clause-written : goal.returns-in-Raw-clause-written
@@ -25,3 +26,9 @@ returns-in-Fill-clause-adds g c = rw (sym c.goes_on.ensures ∙ c.if-goes_on.fal
 pub returns-in-Raw-clause-adds : goal.returns-in-Raw-clause-adds
 returns-in-Raw-clause-adds g c =
     rw (sym c.goes_on.ensures ∙ c.if-goes_on.false, c.in-Raw.is) (full_within c.write_out.result _ _ _ c.write_out.ensures.within c.write_out.ensures.short (omega (arith, c.in-Ok.ensures.adds)))
+
+pub returns-in-Raw-clause-kept : goal.returns-in-Raw-clause-kept
+returns-in-Raw-clause-kept g c =
+    let n = c.args.self.now.front + 28 in
+    let w = g.O.Output.written c.close.new.output in
+    keeps_then n _ w _ c.close.ensures.kept (keeps_behind n w _ _ (omega (arith, c.requires.room, c.close.ensures.grown)) c.write_out.ensures.front)

@@ -1,6 +1,7 @@
-use Rattle.std.proofs.Common.{arith, refl}
+use Rattle.std.proofs.Common.{◌+◌, ◌-◌, ◌*◌, arith, refl}
 use Rattle.abt_placed.proofs.Numbers.{closes_raw}
 use Rattle.abt_placed.proofs.Parts.{raw_within, head_within, raw_fits, full_short, failed_full}
+use Rattle.abt_placed.proofs.Refusing.{keeps_before, keeps_behind}
 use Rattle.abt_placed.proofs.placer.Placer.close.Goals as goal
 
 pub returns-in-Raw-clause-written : goal.returns-in-Raw-clause-written
@@ -45,3 +46,16 @@ overflow_add-total g c =
 
 pub overflow_sub-at : goal.overflow_sub-at
 overflow_sub-at g c = let room = rw c.in-Raw.is at c.requires.room in omega (arith, room, c.position.ensures)
+
+-- the front stays
+pub returns-in-Raw-clause-kept : goal.returns-in-Raw-clause-kept
+returns-in-Raw-clause-kept g c =
+    let s = c.args.self.now in
+    let room = rw c.in-Raw.is at c.requires.room in
+    keeps_before (s.front + 28) (c.position.result - (12 + s.count * c.args.size)) _ _ (omega (arith, room, c.position.ensures)) c.lay_front.ensures.before c.lay_front.ensures.long
+
+pub returns-in-Fill-clause-kept : goal.returns-in-Fill-clause-kept
+returns-in-Fill-clause-kept g c = keeps_behind (c.args.self.now.front + 28) (g.O.Output.written c.args.output.now) _ _ (omega (arith, c.requires.room)) c.write_front.ensures.front
+
+pub returns-in-Skip-clause-kept : goal.returns-in-Skip-clause-kept
+returns-in-Skip-clause-kept g c = keeps_behind (c.args.self.now.front + 28) (g.O.Output.written c.args.output.now) _ _ (omega (arith, c.requires.room)) c.write_front-in-Skip.ensures.front

@@ -2,7 +2,10 @@ use Rattle.abt_io.specs.Moment.{put_at}
 use Rattle.abt_sparse.specs.Chunk.{header_record, plain_header}
 use Rattle.abt_placed.specs.Placer.{closing}
 use Rattle.abt_placed.specs.declared.placer.Placer.{Placer}
-use Rattle.std.proofs.Common.{List, ℕ, ap, ◌+◌, ◌∙◌, arith}
+use Rattle.std.proofs.Common.{List, ℕ, ap, ◌+◌, ◌∙◌, arith, length, refl}
+use Rattle.std.proofs.Math.Nat.{le_trans}
+use Rattle.abt_placed.proofs.Numbers.{closed_numbers}
+use Rattle.abt_placed.proofs.Parts.{closed_within}
 use Rattle.abt_placed.proofs.Refusing.{zeros_kept, zeros_refused, keeps_less}
 use Rattle.abt_placed.proofs.placer.Placer.finish.Goals as goal
 
@@ -10,20 +13,107 @@ pub lay_header-requires-clause-zeros : goal.lay_header-requires-clause-zeros
 lay_header-requires-clause-zeros g c =
     zeros_kept c.args.self.now.front (g.O.Output.written c.args.output.now) (g.O.Output.written c.close.new.output) c.close.ensures.kept c.requires.zeros
 
-pub returns-in-Err-lay_header-clause-before : goal.returns-in-Err-lay_header-clause-before
-returns-in-Err-lay_header-clause-before g c =
-    c.lay_header.ensures.before ∙ (keeps_less c.args.self.now.front (c.args.self.now.front + 28) (g.O.Output.written c.args.output.now) (g.O.Output.written c.close.new.output) (omega arith) c.close.ensures.kept).front
-
-pub returns-in-Err-clause-unfinished : goal.returns-in-Err-clause-unfinished
-returns-in-Err-clause-unfinished g c =
+-- the last chunk is not made whole
+pub returns-in-Err : goal.returns-in-Err
+returns-in-Err g c =
+    let s = c.args.self.now in
+    let h = c.requires.sound in
     let w = g.O.Output.written c.args.output.now in
     let w' = g.O.Output.written c.close.new.output in
-    zeros_refused c.args.self.now.front w' (zeros_kept c.args.self.now.front w w' c.close.ensures.kept c.requires.zeros)
+    let k = c.close.ensures in
+    let stays = keeps_less s.front (s.front + 28) w w' (omega arith) k.kept in
+    let within = closed_within c.args.size s.blocks s.count s.front _ (length w) (length w') k.within h.few in
+    let e = c.in-Err.ensures in
+    record {
+      ok = tt;
+      same = (refl, refl);
+      before = stays.front;
+      laid = tt;
+      unfinished = zeros_refused s.front w' (zeros_kept s.front w w' k.kept c.requires.zeros);
+      grown = k.grown;
+      within = within;
+      adds = e.adds;
+      frame = k.frame;
+      faults = k.faults;
+      clean = tt;
+      full_faults = e.full_faults;
+      full = e.full;
+      cause = e.cause;
+      calls = omega (arith, k.calls);
+      turns = omega (arith, k.turns);
+      steps = k.steps;
+      greatest = k.greatest;
+    }
 
-pub returns-in-Ok-lay_header-clause-laid : goal.returns-in-Ok-lay_header-clause-laid
-returns-in-Ok-lay_header-clause-laid g c =
-    let front = c.args.self.now.front in
+-- the header is not laid
+pub returns-in-Err-lay_header : goal.returns-in-Err-lay_header
+returns-in-Err-lay_header g c =
+    let s = c.args.self.now in
+    let h = c.requires.sound in
+    let w = g.O.Output.written c.args.output.now in
+    let w' = g.O.Output.written c.close.new.output in
+    let k = c.close.ensures in
+    let stays = keeps_less s.front (s.front + 28) w w' (omega arith) k.kept in
+    let within = closed_within c.args.size s.blocks s.count s.front _ (length w) (length w') k.within h.few in
+    let n = closed_numbers s.kind s h.chunks h.none h.some in
+    let l = c.lay_header.ensures in
+    let all = c.in-Ok.ensures in
+    let e = c.in-Err-lay_header.ensures in
+    record {
+      ok = tt;
+      same = (ap (λ (p : Placer). p.most) c.and_closed.ensures ∙ n.most, ap (λ (p : Placer). p.front) c.and_closed.ensures ∙ n.front);
+      before = l.before ∙ stays.front;
+      laid = tt;
+      unfinished = e.unfinished;
+      grown = omega (arith, k.grown, l.long);
+      within = omega (arith, within, l.long);
+      adds = rw e.failed (omega (arith, l.long, all.adds));
+      frame = l.frame ∙ k.frame;
+      faults = le_trans k.faults l.faults;
+      clean = tt;
+      full_faults = rw e.failed (omega (arith, l.full_faults, all.full_faults));
+      full = λ says. absurd (let z = rw e.failed at says in cc);
+      cause = rw all.clean at e.cause;
+      calls = omega (arith, k.calls, l.calls, l.long);
+      turns = omega (arith, k.turns, l.turns, l.long);
+      steps = l.steps ∙ k.steps;
+      greatest = l.greatest ∙ k.greatest;
+    }
+
+-- the image is whole
+pub returns-in-Ok-lay_header : goal.returns-in-Ok-lay_header
+returns-in-Ok-lay_header g c =
+    let s = c.args.self.now in
+    let h = c.requires.sound in
+    let w = g.O.Output.written c.args.output.now in
+    let w' = g.O.Output.written c.close.new.output in
+    let k = c.close.ensures in
+    let stays = keeps_less s.front (s.front + 28) w w' (omega arith) k.kept in
+    let within = closed_within c.args.size s.blocks s.count s.front _ (length w) (length w') k.within h.few in
+    let n = closed_numbers s.kind s h.chunks h.none h.some in
     let b = c.args.size in
     let t = c.and_closed.result in
-    c.in-Ok-lay_header.ensures.ok ∙ ap (λ (l : List ℕ). put_at l front (header_record (plain_header b t.blocks t.chunks))) c.in-Ok.ensures.written
-    ∙ ap (λ (s : Placer). put_at (closing c.args.self.now b (g.O.Output.written c.args.output.now)) front (header_record (plain_header b s.blocks s.chunks))) c.and_closed.ensures
+    let l = c.lay_header.ensures in
+    let all = c.in-Ok.ensures in
+    let e = c.in-Ok-lay_header.ensures in
+    record {
+      ok = c.and_closed.ensures;
+      same = (ap (λ (p : Placer). p.most) c.and_closed.ensures ∙ n.most, ap (λ (p : Placer). p.front) c.and_closed.ensures ∙ n.front);
+      before = l.before ∙ stays.front;
+      laid = e.ok ∙ ap (λ (l : List ℕ). put_at l s.front (header_record (plain_header b t.blocks t.chunks))) all.written
+          ∙ ap (λ (p : Placer). put_at (closing s b w) s.front (header_record (plain_header b p.blocks p.chunks))) c.and_closed.ensures;
+      unfinished = tt;
+      grown = omega (arith, k.grown, l.long);
+      within = omega (arith, within, l.long);
+      adds = omega (arith, l.long, all.adds);
+      frame = l.frame ∙ k.frame;
+      faults = le_trans k.faults l.faults;
+      clean = e.clean ∙ all.clean;
+      full_faults = omega (arith, l.full_faults, all.full_faults);
+      full = λ says. absurd cc;
+      cause = tt;
+      calls = omega (arith, k.calls, l.calls, l.long);
+      turns = omega (arith, k.turns, l.turns, l.long);
+      steps = l.steps ∙ k.steps;
+      greatest = l.greatest ∙ k.greatest;
+    }

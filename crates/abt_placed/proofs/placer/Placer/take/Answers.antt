@@ -1,4 +1,5 @@
-use Rattle.std.proofs.Common.{◌≡◌, ◌∙◌, ap, arith, List, ℕ, ◌++◌}
+use Rattle.std.proofs.Common.{◌≡◌, ◌∙◌, ap, arith, refl, List, ℕ, ◌++◌}
+use Rattle.std.proofs.Math.Nat.{le_trans}
 use Rattle.abt_placed.specs.Placer.{beginning, data_for, taking}
 use Rattle.abt_placed.proofs.Numbers.{sound_taken}
 use Rattle.abt_placed.proofs.Laying.{taken_placed}
@@ -6,60 +7,101 @@ use Rattle.abt_placed.proofs.Parts.{data_long, begun_within, part_passed}
 use Rattle.abt_placed.proofs.Refusing.{keeps_less, keeps_then}
 use Rattle.abt_placed.proofs.placer.Placer.take.Goals as goal
 
-pub returns-clause-sound : goal.returns-clause-sound
-returns-clause-sound g c =
-    sound_taken c.args.size c.args.blocks (g.O.Output.written c.args.output.now) (g.O.Output.written c.begin_chunk.new.output) (g.O.Output.written c.put_data.new.output) c.args.bytes.now c.args.self.now c.and_blocks.result c.args.kind
-    c.requires.some c.requires.goes c.requires.cap c.requires.bytes c.begin_chunk.ensures.within c.requires.sound c.and_blocks.ensures c.in-Ok.ensures.written c.in-Ok-put_data.ensures.written
+-- the class's chunk is not begun
+pub returns-in-Err : goal.returns-in-Err
+returns-in-Err g c =
+    let s = c.args.self.now in
+    let k = c.begin_chunk.ensures in
+    let e = c.in-Err.ensures in
+    record {
+      ok = tt;
+      kept = k.kept;
+      sound = tt;
+      laid = λ blocks placed. tt;
+      passed = tt;
+      same = (refl, refl);
+      grown = k.grown;
+      within = begun_within c.args.size c.args.blocks _ _ _ c.args.bytes.now s c.args.kind c.requires.sound c.requires.bytes c.requires.some k.within (omega arith);
+      adds = omega (arith, e.adds);
+      frame = k.frame;
+      faults = k.faults;
+      clean = tt;
+      full_faults = e.full_faults;
+      full = e.full;
+      cause = e.cause;
+      calls = omega (arith, k.calls);
+      turns = omega (arith, k.turns);
+      steps = k.steps;
+      greatest = k.greatest;
+    }
 
-pub returns-clause-laid : goal.returns-clause-laid
-returns-clause-laid g c blocks placed =
-    let w = g.O.Output.written c.args.output.now in
-    let e : g.O.Output.written c.put_data.new.output ≡ taking c.args.self.now c.args.kind c.args.size c.args.bytes.now w =
-    c.in-Ok-put_data.ensures.written ∙ ap (λ (l : List ℕ). l ++ data_for c.args.kind c.args.bytes.now) {y = beginning c.args.self.now c.args.kind c.args.size w} c.in-Ok.ensures.written in
-    taken_placed c.args.size blocks w (g.O.Output.written c.put_data.new.output) c.args.bytes.now c.args.self.now c.and_blocks.result c.args.kind c.args.blocks
-    c.requires.some c.requires.words c.requires.bytes c.requires.all c.requires.sound c.and_blocks.ensures e placed
-
-pub returns-clause-passed : goal.returns-clause-passed
-returns-clause-passed g c = (part_passed c.args.size _ c.args.blocks c.args.self.now c.and_blocks.result c.args.kind c.requires.sound c.and_blocks.ensures).0
-
-pub returns-clause-same : goal.returns-clause-same
-returns-clause-same g c = (part_passed c.args.size _ c.args.blocks c.args.self.now c.and_blocks.result c.args.kind c.requires.sound c.and_blocks.ensures).1
-
--- how much is laid, whatever fails
-pub returns-clause-within : goal.returns-clause-within
-returns-clause-within g c =
-    begun_within c.args.size c.args.blocks _ _ _ c.args.bytes.now c.args.self.now c.args.kind c.requires.sound c.requires.bytes c.requires.some c.begin_chunk.ensures.within c.put_data.ensures.within
-
-pub returns-in-Err-clause-within : goal.returns-in-Err-clause-within
-returns-in-Err-clause-within g c =
-    begun_within c.args.size c.args.blocks _ _ _ c.args.bytes.now c.args.self.now c.args.kind c.requires.sound c.requires.bytes c.requires.some c.begin_chunk.ensures.within (omega arith)
-
-pub returns-in-Err-put_data-clause-within : goal.returns-in-Err-put_data-clause-within
-returns-in-Err-put_data-clause-within g c =
-    begun_within c.args.size c.args.blocks _ _ _ c.args.bytes.now c.args.self.now c.args.kind c.requires.sound c.requires.bytes c.requires.some c.begin_chunk.ensures.within c.put_data.ensures.within
-
-pub returns-clause-adds : goal.returns-clause-adds
-returns-clause-adds g c =
-    let e = data_long c.args.kind c.args.blocks c.args.size c.args.bytes.now c.requires.bytes in
-    omega (arith, e, c.in-Ok.ensures.adds, c.in-Ok-put_data.ensures.adds)
-
-pub returns-in-Err-clause-adds : goal.returns-in-Err-clause-adds
-returns-in-Err-clause-adds g c = omega (arith, c.in-Err.ensures.adds)
-
-pub returns-in-Err-put_data-clause-adds : goal.returns-in-Err-put_data-clause-adds
-returns-in-Err-put_data-clause-adds g c =
-    let e = data_long c.args.kind c.args.blocks c.args.size c.args.bytes.now c.requires.bytes in
-    omega (arith, e, c.in-Ok.ensures.adds, c.in-Err-put_data.ensures.adds)
-
--- the front stays
-pub returns-clause-kept : goal.returns-clause-kept
-returns-clause-kept g c =
+-- the bytes are not written
+pub returns-in-Err-put_data : goal.returns-in-Err-put_data
+returns-in-Err-put_data g c =
+    let s = c.args.self.now in
+    let k = c.begin_chunk.ensures in
+    let all = c.in-Ok.ensures in
+    let d = c.put_data.ensures in
+    let e = c.in-Err-put_data.ensures in
     let w = g.O.Output.written c.begin_chunk.new.output in
-    let h = c.requires.sound in
-    keeps_then _ _ w _ c.begin_chunk.ensures.kept (keeps_less _ _ w _ (omega (arith, h.room, c.begin_chunk.ensures.grown)) c.put_data.ensures.kept)
+    let long = data_long c.args.kind c.args.blocks c.args.size c.args.bytes.now c.requires.bytes in
+    record {
+      ok = tt;
+      kept = keeps_then _ _ w _ k.kept (keeps_less _ _ w _ (omega (arith, c.requires.sound.room, k.grown)) d.kept);
+      sound = tt;
+      laid = λ blocks placed. tt;
+      passed = tt;
+      same = (refl, refl);
+      grown = le_trans k.grown d.grown;
+      within = begun_within c.args.size c.args.blocks _ _ _ c.args.bytes.now s c.args.kind c.requires.sound c.requires.bytes c.requires.some k.within d.within;
+      adds = omega (arith, long, all.adds, e.adds);
+      frame = d.frame ∙ k.frame;
+      faults = le_trans k.faults d.faults;
+      clean = tt;
+      full_faults = omega (arith, e.full_faults, all.full_faults);
+      full = e.full;
+      cause = rw all.clean at e.cause;
+      calls = omega (arith, k.calls, d.calls);
+      turns = omega (arith, k.turns, d.turns);
+      steps = d.steps ∙ k.steps;
+      greatest = d.greatest ∙ k.greatest;
+    }
 
-pub returns-in-Err-put_data-clause-kept : goal.returns-in-Err-put_data-clause-kept
-returns-in-Err-put_data-clause-kept g c =
+-- the blocks are taken
+pub returns : goal.returns
+returns g c =
+    let s = c.args.self.now in
+    let b = c.args.size in
+    let x = c.args.bytes.now in
+    let t = c.and_blocks.result in
+    let k = c.begin_chunk.ensures in
+    let all = c.in-Ok.ensures in
+    let d = c.put_data.ensures in
+    let e = c.in-Ok-put_data.ensures in
+    let old = g.O.Output.written c.args.output.now in
     let w = g.O.Output.written c.begin_chunk.new.output in
-    let h = c.requires.sound in
-    keeps_then _ _ w _ c.begin_chunk.ensures.kept (keeps_less _ _ w _ (omega (arith, h.room, c.begin_chunk.ensures.grown)) c.put_data.ensures.kept)
+    let new = g.O.Output.written c.put_data.new.output in
+    let long = data_long c.args.kind c.args.blocks b x c.requires.bytes in
+    let made : new ≡ taking s c.args.kind b x old = e.written ∙ ap (λ (l : List ℕ). l ++ data_for c.args.kind x) {y = beginning s c.args.kind b old} all.written in
+    let passed = part_passed b _ c.args.blocks s t c.args.kind c.requires.sound c.and_blocks.ensures in
+    record {
+      ok = c.and_blocks.ensures;
+      kept = keeps_then _ _ w _ k.kept (keeps_less _ _ w _ (omega (arith, c.requires.sound.room, k.grown)) d.kept);
+      sound = sound_taken b c.args.blocks old w new x s t c.args.kind c.requires.some c.requires.goes c.requires.cap c.requires.bytes k.within c.requires.sound c.and_blocks.ensures all.written e.written;
+      laid = λ blocks placed. taken_placed b blocks old new x s t c.args.kind c.args.blocks c.requires.some c.requires.words c.requires.bytes c.requires.all c.requires.sound c.and_blocks.ensures made placed;
+      passed = passed.0;
+      same = passed.1;
+      grown = le_trans k.grown d.grown;
+      within = begun_within b c.args.blocks _ _ _ x s c.args.kind c.requires.sound c.requires.bytes c.requires.some k.within d.within;
+      adds = omega (arith, long, all.adds, e.adds);
+      frame = d.frame ∙ k.frame;
+      faults = le_trans k.faults d.faults;
+      clean = e.clean ∙ all.clean;
+      full_faults = omega (arith, e.full_faults, all.full_faults);
+      full = λ says. absurd cc;
+      cause = tt;
+      calls = omega (arith, k.calls, d.calls);
+      turns = omega (arith, k.turns, d.turns);
+      steps = d.steps ∙ k.steps;
+      greatest = d.greatest ∙ k.greatest;
+    }

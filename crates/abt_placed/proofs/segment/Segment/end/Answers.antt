@@ -1,4 +1,5 @@
 use Rattle.std.proofs.Common.{◌≡◌, ◌+◌, ◌-◌, ◌++◌, ◌∙◌, ℕ, arith, sym, subst, take, drop, replicate, OnErr}
+use Rattle.std.proofs.Math.Nat.{le_trans}
 use Rattle.abt_io.specs.Moment.{put_at}
 use Rattle.abt_sparse.specs.Chunk.{header_record, plain_header}
 use Rattle.abt_sparse.specs.Runs.{framed}
@@ -8,15 +9,9 @@ use Rattle.abt_placed.specs.Unfinished.{IsUnfinished}
 use Rattle.abt_placed.specs.Placed.{skips}
 use Rattle.abt_placed.specs.Whole.{taken}
 use Rattle.abt_placed.proofs.Refusing.{zeros_kept, zeros_refused, keeps_less}
+use Rattle.abt_placed.proofs.Within.{skipping_fits, clean_since, cause_since}
 use Rattle.abt_placed.proofs.Pieces.{on_both, end_laid}
 use Rattle.abt_placed.proofs.segment.Segment.end.Goals as goal
-
-pub returns-in-Err-clause-unfinished : goal.returns-in-Err-clause-unfinished
-returns-in-Err-clause-unfinished g c =
-    let w = g.O.Output.written c.args.output.now in
-    let w' = g.O.Output.written c.skip.new.output in
-    let f = c.args.self.now.placer.front in
-    zeros_refused f w' (zeros_kept f w w' c.skip.ensures.kept c.requires.zeros)
 
 pub finish-requires-clause-zeros : goal.finish-requires-clause-zeros
 finish-requires-clause-zeros g c =
@@ -25,33 +20,71 @@ finish-requires-clause-zeros g c =
     let f = c.args.self.now.placer.front in
     subst (λ (n : ℕ). take 28 (drop n w') ≡ replicate 28 0) (sym c.skip.ensures.same.1) (zeros_kept f w w' c.skip.ensures.kept c.requires.zeros)
 
-pub returns-clause-laid : goal.returns-clause-laid
-returns-clause-laid g c blocks laid =
+-- what is skipped behind the segment is not laid
+pub returns-in-Err : goal.returns-in-Err
+returns-in-Err g c =
     let s = c.args.self.now in
+    let f = s.placer.front in
     let w = g.O.Output.written c.args.output.now in
     let w' = g.O.Output.written c.skip.new.output in
-    let k = c.args.blocks - taken s.placer in
+    let k = c.skip.ensures in
+    let e = c.in-Err.ensures in
+    let h = c.requires.sound in
+    let room = skipping_fits s.placer in
+    record {
+      laid = λ blocks laid. tt;
+      before = (keeps_less f (f + 28) w w' (omega arith) k.kept).front;
+      unfinished = zeros_refused f w' (zeros_kept f w w' k.kept c.requires.zeros);
+      grown = k.grown;
+      long = omega (arith, e.adds, room, h.fits, h.room);
+      frame = k.frame;
+      faults = k.faults;
+      clean = tt;
+      full_faults = e.full_faults;
+      full = e.full;
+      cause = e.cause;
+      calls = omega (arith, k.calls);
+      turns = omega (arith, k.turns);
+      steps = k.steps;
+      greatest = k.greatest;
+    }
+
+-- the headers that are left are laid, or not
+pub returns : goal.returns
+returns g c =
+    let s = c.args.self.now in
+    let f = s.placer.front in
+    let w = g.O.Output.written c.args.output.now in
+    let w' = g.O.Output.written c.skip.new.output in
+    let new = g.O.Output.written c.finish.new.output in
+    let k = c.skip.ensures in
     let e = c.in-Ok.ensures in
-    let t = c.finish.new.self in
-    let new = g.O.Output.written c.finish.new.output in
-    let p = c.skip.new.self in
-    let b = c.args.size in
-    let q = keeps_less s.placer.front (s.placer.front + 28) w w' (omega arith) c.skip.ensures.kept in
-    on_both c.finish.result (t ≡ closed p) (new ≡ put_at (closing p b w') p.front (header_record (plain_header b (closed p).blocks (closed p).chunks)))
-    (LaidPiece b c.args.blocks t.chunks (framed s.first blocks k) (take s.placer.front w) new)
-    (λ is made. end_laid b c.args.blocks k blocks w w' new s p t c.requires.sound laid (omega arith) e.sound (e.laid (skips s.first ++ blocks) laid.placed) e.passed c.skip.ensures.same.0 c.skip.ensures.same.1 q.front is made)
-    c.finish.ensures.ok c.finish.ensures.laid
-
-pub returns-clause-before : goal.returns-clause-before
-returns-clause-before g c =
-    let f = c.args.self.now.placer.front in
-    let w = g.O.Output.written c.args.output.now in
-    let w' = g.O.Output.written c.skip.new.output in
-    let new = g.O.Output.written c.finish.new.output in
-    let k = keeps_less f (f + 28) w w' (omega arith) c.skip.ensures.kept in
-    subst (λ (n : ℕ). take n new ≡ take n w') c.skip.ensures.same.1 c.finish.ensures.before ∙ k.front
-
-pub returns-clause-unfinished : goal.returns-clause-unfinished
-returns-clause-unfinished g c =
-    let new = g.O.Output.written c.finish.new.output in
-    subst (λ (n : ℕ). OnErr c.finish.result (IsUnfinished (drop n new))) c.skip.ensures.same.1 c.finish.ensures.unfinished
+    let n = c.finish.ensures in
+    let h = c.requires.sound in
+    let room = skipping_fits s.placer in
+    let front = (keeps_less f (f + 28) w w' (omega arith) k.kept).front in
+    record {
+      laid = λ blocks laid.
+          let r = c.args.blocks - taken s.placer in
+          let t = c.finish.new.self in
+          let p = c.skip.new.self in
+          let b = c.args.size in
+          on_both c.finish.result (t ≡ closed p) (new ≡ put_at (closing p b w') p.front (header_record (plain_header b (closed p).blocks (closed p).chunks)))
+          (LaidPiece b c.args.blocks t.chunks (framed s.first blocks r) (take f w) new)
+          (λ is made. end_laid b c.args.blocks r blocks w w' new s p t h laid (omega arith) e.sound (e.laid (skips s.first ++ blocks) laid.placed) e.passed k.same.0 k.same.1 front is made)
+          n.ok n.laid;
+      before = subst (λ (m : ℕ). take m new ≡ take m w') k.same.1 n.before ∙ front;
+      unfinished = subst (λ (m : ℕ). OnErr c.finish.result (IsUnfinished (drop m new))) k.same.1 n.unfinished;
+      grown = le_trans k.grown n.grown;
+      long = omega (arith, n.adds, e.closes, room, h.fits, h.room);
+      frame = n.frame ∙ k.frame;
+      faults = le_trans k.faults n.faults;
+      clean = clean_since c.finish.result _ _ _ e.clean n.clean;
+      full_faults = omega (arith, n.full_faults, e.full_faults);
+      full = n.full;
+      cause = cause_since c.finish.result _ _ _ e.clean n.cause;
+      calls = omega (arith, k.calls, n.calls);
+      turns = omega (arith, k.turns, n.turns);
+      steps = n.steps ∙ k.steps;
+      greatest = n.greatest ∙ k.greatest;
+    }

@@ -1,183 +1,278 @@
-use Rattle.std.proofs.Common.{◌≡◌, ◌+◌, ◌-◌, ◌*◌, arith, ap, refl, ℕ}
+use Rattle.std.proofs.Common.{◌≡◌, ◌+◌, ◌-◌, ◌*◌, ◌≤◌, ◌++◌, arith, length, take, drop, replicate, refl, true, false}
+use Rattle.std.proofs.Math.Nat.{le_refl}
+use Rattle.std.specs.Prelude.{IsTrue, slice_range}
 use Rattle.abt_runs.proofs.Classes.{if_none}
-use Rattle.abt_pieces.proofs.Fronts.{not_told}
+use Rattle.abt_pieces.proofs.Fronts.{not_told, says_full, run_causes, run_unfilled, run_unsaid}
 use Rattle.abt_placed.specs.Whole.{taken}
-use Rattle.abt_placed.proofs.Costs.{few_zeros, fits_window, read_more, window}
-use Rattle.abt_placed.proofs.Sourced.{told_on, ended_on, none_over, no_more_than}
+use Rattle.abt_placed.proofs.Refusing.{keeps_same}
+use Rattle.abt_placed.proofs.Costs.{fits_window, read_more}
+use Rattle.abt_placed.proofs.Sourced.{Loaded, told_on, ended_on, none_over, no_more_than}
+use Rattle.abt_placed.proofs.Spending.{Read, read_costs, going_costs, broken_costs, unread_costs, few_got, received_on, greatest_on, last_on}
 use Rattle.abt_placed.proofs.segment.Segment.step.Goals as goal
 
-pub returns-then-length-runs-clause-calls : goal.returns-then-length-runs-clause-calls
-returns-then-length-runs-clause-calls g c =
-    let r = c.args.runs.now in
-    let f = few_zeros (taken c.args.self.now.placer) r.blocks r.size r.length c.requires.within r.last in
-    omega (arith, f)
-
-pub returns-then-length-runs-clause-turns : goal.returns-then-length-runs-clause-turns
-returns-then-length-runs-clause-turns g c =
-    let r = c.args.runs.now in
-    let f = few_zeros (taken c.args.self.now.placer) r.blocks r.size r.length c.requires.within r.last in
-    omega (arith, f)
-
-pub returns-in-Some-clause-received : goal.returns-in-Some-clause-received
-returns-in-Some-clause-received g c =
-    let r = c.args.runs.now in
-    let f = fits_window c.min-asked.result c.in_window.result r.size (omega arith) c.in_window.ensures.fits in
-    omega (arith, f)
-
-pub returns-in-Some-clause-greatest : goal.returns-in-Some-clause-greatest
-returns-in-Some-clause-greatest g c =
-    let r = c.args.runs.now in
-    let f = fits_window c.min-asked.result c.in_window.result r.size (omega arith) c.in_window.ensures.fits in
-    omega (arith, f)
-
-pub returns-in-Ok-clause-received : goal.returns-in-Ok-clause-received
-returns-in-Ok-clause-received g c =
-    let r = c.args.runs.now in
-    let f = fits_window c.min-asked.result c.in_window.result r.size (omega arith) c.in_window.ensures.fits in
-    omega (arith, f)
-
-pub returns-in-Ok-clause-once : goal.returns-in-Ok-clause-once
-returns-in-Ok-clause-once g c is =
-    let r = c.args.runs.now in
-    let i = taken c.args.self.now.placer in
-    let f = few_zeros (i + c.min-asked.result) r.blocks r.size r.length (omega arith) r.last in
-    let read : c.load_filled-loaded.result.received ≡ c.min-want.result = if_none c.load_filled-loaded.result.fault c.in_default.is c.load_filled-loaded.ensures.whole in
-    let x = window i c.min-asked.result r.size r.length c.min-want.result (omega (arith, c.place_of-at.ensures.place, c.place_of-at.ensures.within)) (omega arith) r.some (omega (arith, c.place_of-at.ensures.place, c.min-want.ensures)) in
-    let p : (c.take_fitting.new.self.placer.blocks + c.take_fitting.new.self.placer.count) * r.size ≡ (i + c.min-asked.result) * r.size = ap (λ (n : ℕ). n * r.size) (c.in-Ok.ensures.all is) in
-    omega (arith, p, f, read, x.taken, x.some, x.none, x.read, x.within)
-
-pub returns-in-Ok-clause-going_calls : goal.returns-in-Ok-clause-going_calls
-returns-in-Ok-clause-going_calls g c is =
-    let r = c.args.runs.now in
-    let i = taken c.args.self.now.placer in
-    let f = few_zeros (i + c.min-asked.result) r.blocks r.size r.length (omega arith) r.last in
-    let read : c.load_filled-loaded.result.received ≡ c.min-want.result = if_none c.load_filled-loaded.result.fault c.in_default.is c.load_filled-loaded.ensures.whole in
-    let x = window i c.min-asked.result r.size r.length c.min-want.result (omega (arith, c.place_of-at.ensures.place, c.place_of-at.ensures.within)) (omega arith) r.some (omega (arith, c.place_of-at.ensures.place, c.min-want.ensures)) in
-    let p : (c.take_fitting.new.self.placer.blocks + c.take_fitting.new.self.placer.count) * r.size ≡ (i + c.min-asked.result) * r.size = ap (λ (n : ℕ). n * r.size) (c.in-Ok.ensures.all is) in
-    omega (arith, p, f, read, x.taken, x.some, x.none, x.read, x.within)
-
-pub returns-in-Ok-clause-calls : goal.returns-in-Ok-clause-calls
-returns-in-Ok-clause-calls g c =
-    let r = c.args.runs.now in
-    let i = taken c.args.self.now.placer in
-    let f = few_zeros (i + c.min-asked.result) r.blocks r.size r.length (omega arith) r.last in
-    let read : c.load_filled-loaded.result.received ≡ c.min-want.result = if_none c.load_filled-loaded.result.fault c.in_default.is c.load_filled-loaded.ensures.whole in
-    let x = window i c.min-asked.result r.size r.length c.min-want.result (omega (arith, c.place_of-at.ensures.place, c.place_of-at.ensures.within)) (omega arith) r.some (omega (arith, c.place_of-at.ensures.place, c.min-want.ensures)) in
-    omega (arith, f, read, x.taken, x.some, x.none, x.read, x.within)
-
-pub returns-in-Ok-clause-going_turns : goal.returns-in-Ok-clause-going_turns
-returns-in-Ok-clause-going_turns g c is =
-    let r = c.args.runs.now in
-    let i = taken c.args.self.now.placer in
-    let f = few_zeros (i + c.min-asked.result) r.blocks r.size r.length (omega arith) r.last in
-    let read : c.load_filled-loaded.result.received ≡ c.min-want.result = if_none c.load_filled-loaded.result.fault c.in_default.is c.load_filled-loaded.ensures.whole in
-    let x = window i c.min-asked.result r.size r.length c.min-want.result (omega (arith, c.place_of-at.ensures.place, c.place_of-at.ensures.within)) (omega arith) r.some (omega (arith, c.place_of-at.ensures.place, c.min-want.ensures)) in
-    let p : (c.take_fitting.new.self.placer.blocks + c.take_fitting.new.self.placer.count) * r.size ≡ (i + c.min-asked.result) * r.size = ap (λ (n : ℕ). n * r.size) (c.in-Ok.ensures.all is) in
-    omega (arith, p, f, read, x.taken, x.some, x.none, x.read, x.within)
-
-pub returns-in-Ok-clause-turns : goal.returns-in-Ok-clause-turns
-returns-in-Ok-clause-turns g c =
-    let r = c.args.runs.now in
-    let i = taken c.args.self.now.placer in
-    let f = few_zeros (i + c.min-asked.result) r.blocks r.size r.length (omega arith) r.last in
-    let read : c.load_filled-loaded.result.received ≡ c.min-want.result = if_none c.load_filled-loaded.result.fault c.in_default.is c.load_filled-loaded.ensures.whole in
-    let x = window i c.min-asked.result r.size r.length c.min-want.result (omega (arith, c.place_of-at.ensures.place, c.place_of-at.ensures.within)) (omega arith) r.some (omega (arith, c.place_of-at.ensures.place, c.min-want.ensures)) in
-    omega (arith, f, read, x.taken, x.some, x.none, x.read, x.within)
-
-pub returns-in-Ok-clause-greatest : goal.returns-in-Ok-clause-greatest
-returns-in-Ok-clause-greatest g c =
-    let r = c.args.runs.now in
-    let f = fits_window c.min-asked.result c.in_window.result r.size (omega arith) c.in_window.ensures.fits in
-    omega (arith, f)
-
-pub returns-in-Err-clause-received : goal.returns-in-Err-clause-received
-returns-in-Err-clause-received g c =
-    let r = c.args.runs.now in
-    let f = fits_window c.min-asked.result c.in_window.result r.size (omega arith) c.in_window.ensures.fits in
-    omega (arith, f)
-
-pub returns-in-Err-clause-calls : goal.returns-in-Err-clause-calls
-returns-in-Err-clause-calls g c =
-    let r = c.args.runs.now in
-    let i = taken c.args.self.now.placer in
-    let f = few_zeros (i + c.min-asked.result) r.blocks r.size r.length (omega arith) r.last in
-    let read : c.load_filled-loaded.result.received ≡ c.min-want.result = if_none c.load_filled-loaded.result.fault c.in_default.is c.load_filled-loaded.ensures.whole in
-    let x = window i c.min-asked.result r.size r.length c.min-want.result (omega (arith, c.place_of-at.ensures.place, c.place_of-at.ensures.within)) (omega arith) r.some (omega (arith, c.place_of-at.ensures.place, c.min-want.ensures)) in
-    omega (arith, f, read, x.taken, x.some, x.none, x.read, x.within)
-
-pub returns-in-Err-clause-turns : goal.returns-in-Err-clause-turns
-returns-in-Err-clause-turns g c =
-    let r = c.args.runs.now in
-    let i = taken c.args.self.now.placer in
-    let f = few_zeros (i + c.min-asked.result) r.blocks r.size r.length (omega arith) r.last in
-    let read : c.load_filled-loaded.result.received ≡ c.min-want.result = if_none c.load_filled-loaded.result.fault c.in_default.is c.load_filled-loaded.ensures.whole in
-    let x = window i c.min-asked.result r.size r.length c.min-want.result (omega (arith, c.place_of-at.ensures.place, c.place_of-at.ensures.within)) (omega arith) r.some (omega (arith, c.place_of-at.ensures.place, c.min-want.ensures)) in
-    omega (arith, f, read, x.taken, x.some, x.none, x.read, x.within)
-
-pub returns-in-Err-clause-greatest : goal.returns-in-Err-clause-greatest
-returns-in-Err-clause-greatest g c =
-    let r = c.args.runs.now in
-    let f = fits_window c.min-asked.result c.in_window.result r.size (omega arith) c.in_window.ensures.fits in
-    omega (arith, f)
-
-pub returns-then-length-runs-clause-cause : goal.returns-then-length-runs-clause-cause
-returns-then-length-runs-clause-cause g c =
-    not_told g.S.Source.tells (λ tells. let other = c.if-length-runs.true in absurd (omega (arith, c.length.ensures.told tells, c.requires.opened tells)))
-
-pub returns-in-Ok-clause-last : goal.returns-in-Ok-clause-last
-returns-in-Ok-clause-last g c =
-    let r = c.args.runs.now in
-    let e = c.in-Ok.ensures in
-    let i = taken c.args.self.now.placer in
-    let f = fits_window c.min-asked.result c.in_window.result r.size (omega arith) c.in_window.ensures.fits in
-    let y = read_more i (taken c.take_fitting.new.self.placer) r.size r.length e.order in
-    omega (arith, f, y)
-
-pub returns-in-Ok-clause-told : goal.returns-in-Ok-clause-told
-returns-in-Ok-clause-told g c =
-    let r = c.args.runs.now in
-    let s = c.args.self.now in
-    let s' = c.take_fitting.new.self in
-    let x = g.S.Source.content c.args.source.now in
-    let a = c.min-asked.result in
-    let l = c.requires.told in
-    let e = c.in-Ok.ensures in
-    let few = no_more_than c.in-Ok.ended (taken s.placer) (taken s'.placer) a e.all e.short in
-    told_on g.S.Source.tells x r.size r.length r.blocks a (taken s'.placer - taken s.placer) c.min-want.result (a * r.size) (g.O.Output.written c.args.output.now) (g.O.Output.written c.take_fitting.new.output) c.load_filled-loaded.new.w.bytes s s' r.some r.covers r.last (omega arith) (omega (arith, few, e.order)) (omega (arith, e.order)) c.take_fitting.ensures.same.2 c.requires.sound.order refl l (e.laid l.blocks l.laid)
-    (λ tells. record { long = c.requires.opened tells; there = omega (arith, c.place_of-at.ensures.place, c.place_of-at.ensures.within); asked = omega (arith, c.place_of-at.ensures.place, c.min-want.ensures); bytes = rw c.place_of-at.ensures.place at (if_none c.load_filled-loaded.result.fault c.in_default.is (c.load_filled-loaded.ensures.bytes tells)) })
-
-pub returns-in-Ok-clause-ended : goal.returns-in-Ok-clause-ended
-returns-in-Ok-clause-ended g c is =
-    let r = c.args.runs.now in
-    let s = c.args.self.now in
-    let s' = c.take_fitting.new.self in
-    let x = g.S.Source.content c.args.source.now in
-    let a = c.min-asked.result in
-    let l = c.requires.told in
-    let e = c.in-Ok.ensures in
-    let t = c.take_fitting.ensures in
-    let short = e.short is in
-    ended_on g.S.Source.tells x r.size r.length r.blocks a (taken s'.placer - taken s.placer) c.min-want.result (a * r.size) (g.O.Output.written c.args.output.now) (g.O.Output.written c.take_fitting.new.output) c.load_filled-loaded.new.w.bytes s s' r.some r.covers r.last (omega arith) (omega (arith, short, e.order)) (omega (arith, e.order)) t.same.2 t.same.3 c.requires.sound.order (e.some is) refl l (e.laid l.blocks l.laid)
-    (λ tells. record { long = c.requires.opened tells; there = omega (arith, c.place_of-at.ensures.place, c.place_of-at.ensures.within); asked = omega (arith, c.place_of-at.ensures.place, c.min-want.ensures); bytes = rw c.place_of-at.ensures.place at (if_none c.load_filled-loaded.result.fault c.in_default.is (c.load_filled-loaded.ensures.bytes tells)) })
-    (e.over l.blocks l.laid is)
-
-pub returns-then-from-runs-clause-ended : goal.returns-then-from-runs-clause-ended
-returns-then-from-runs-clause-ended g c is =
-    let r = c.args.runs.now in
-    none_over g.S.Source.tells (g.S.Source.content c.args.source.now) r.size r.length r.blocks c.args.self.now r.some r.covers r.last c.requires.opened (omega arith)
-
 -- where all are taken
-pub returns-then-from-runs-clause-calls : goal.returns-then-from-runs-clause-calls
-returns-then-from-runs-clause-calls g c =
+pub returns-then-from-runs : goal.returns-then-from-runs
+returns-then-from-runs g c =
     let r = c.args.runs.now in
-    let f = few_zeros (taken c.args.self.now.placer) r.blocks r.size r.length c.requires.within r.last in
-    omega (arith, f)
+    let s = c.args.self.now in
+    let q = c.requires in
+    let step = c.close_step.ensures in
+    let given = g.S.Source.given c.args.source.now in
+    let writes = g.O.Output.writes c.args.output.now in
+    let long = length (g.O.Output.written c.args.output.now) in
+    let turns = c.close_step.new.self.turns.number in
+    let x = unread_costs (taken s.placer) r.blocks r.size r.length given (g.S.Source.reads c.args.source.now) writes writes long long c.args.m.now.turns.number turns turns 1 0 q.within r.last (omega arith) step.turns (omega arith) (omega arith) in
+    record {
+      content = λ tells. refl;
+      read_frame = refl;
+      write_frame = refl;
+      told = q.told;
+      ended = λ is. none_over g.S.Source.tells (g.S.Source.content c.args.source.now) r.size r.length r.blocks s r.some r.covers r.last q.opened c.if-from-runs.true;
+      kept = keeps_same _ _;
+      sound = q.sound;
+      on = λ on. absurd (let z : true ≡ false = on in cc);
+      inside = q.within;
+      same = (refl, refl, refl, refl);
+      grown = le_refl _;
+      long = omega (arith, q.sound.fits, q.sound.room);
+      given = le_refl _;
+      received = received_on given given 0 _ _ _ _ (omega arith) refl step.steps refl (omega arith);
+      economy = x.economy;
+      once = λ on. absurd (let z : true ≡ false = on in cc);
+      last = last_on _ _ given given 0 (le_refl _) (omega arith) (omega arith);
+      going_calls = λ on. absurd (let z : true ≡ false = on in cc);
+      calls = x.calls;
+      going_turns = λ on. absurd (let z : true ≡ false = on in cc);
+      turns = x.turns;
+      greatest = greatest_on _ _ _ _ 0 refl step.greatest refl (omega arith);
+      faults = le_refl _;
+      write_faults = le_refl _;
+      clean = (refl, refl);
+      full_faults = omega arith;
+      full = λ h. absurd cc;
+      cause = tt;
+    }
 
-pub returns-then-from-runs-clause-turns : goal.returns-then-from-runs-clause-turns
-returns-then-from-runs-clause-turns g c =
+-- the source is not as long as it was
+pub returns-then-length-runs : goal.returns-then-length-runs
+returns-then-length-runs g c =
     let r = c.args.runs.now in
-    let f = few_zeros (taken c.args.self.now.placer) r.blocks r.size r.length c.requires.within r.last in
-    omega (arith, f)
+    let s = c.args.self.now in
+    let q = c.requires in
+    let step = c.close_step-then-length-runs.ensures in
+    let given = g.S.Source.given c.args.source.now in
+    let writes = g.O.Output.writes c.args.output.now in
+    let long = length (g.O.Output.written c.args.output.now) in
+    let turns = c.close_step-then-length-runs.new.self.turns.number in
+    let x = unread_costs (taken s.placer) r.blocks r.size r.length given (g.S.Source.reads c.args.source.now) writes writes long long c.args.m.now.turns.number turns turns 1 0 q.within r.last (omega arith) step.turns (omega arith) (omega arith) in
+    record {
+      content = λ tells. refl;
+      read_frame = refl;
+      write_frame = refl;
+      told = tt;
+      ended = tt;
+      kept = keeps_same _ _;
+      sound = tt;
+      on = tt;
+      inside = tt;
+      same = (refl, refl, refl, refl);
+      grown = le_refl _;
+      long = omega (arith, q.sound.fits, q.sound.room);
+      given = le_refl _;
+      received = received_on given given 0 _ _ _ _ (omega arith) refl step.steps refl (omega arith);
+      economy = x.economy;
+      once = tt;
+      last = tt;
+      going_calls = tt;
+      calls = x.calls;
+      going_turns = tt;
+      turns = x.turns;
+      greatest = greatest_on _ _ _ _ 0 refl step.greatest refl (omega arith);
+      faults = le_refl _;
+      write_faults = le_refl _;
+      clean = tt;
+      full_faults = omega arith;
+      full = λ h. absurd cc;
+      cause = not_told g.S.Source.tells (λ tells. let other = c.if-length-runs.true in absurd (omega (arith, c.length.ensures.told tells, q.opened tells)));
+    }
+
+-- the window is not read
+pub returns-in-Some : goal.returns-in-Some
+returns-in-Some g c =
+    let r = c.args.runs.now in
+    let s = c.args.self.now in
+    let sound = c.requires.sound in
+    let l = c.load_filled-loaded.ensures in
+    let got = c.load_filled-loaded.result.received in
+    let step = c.close_step-2.ensures in
+    let w = g.O.Output.written c.args.output.now in
+    let fits = fits_window c.min-asked.result c.in_window.result r.size (omega arith) c.in_window.ensures.fits in
+    let few = few_got got c.min-want.result _ _ l.few c.min-want.ensures fits in
+    let unsaid = run_unfilled c.run_fault.result c.in-Some.fault 0 c.run_fault.ensures in
+    let x = broken_costs (taken s.placer) r.size r.length c.place_of-at.result c.min-want.result (c.min-asked.result * r.size) got _ _ _ _ (g.O.Output.writes c.args.output.now) (length w) _ _ _ 1 (omega arith) c.place_of-at.ensures.place c.place_of-at.ensures.within c.min-want.ensures l.few l.given l.calls l.turns step.turns in
+    record {
+      content = l.content;
+      read_frame = l.frame;
+      write_frame = refl;
+      told = tt;
+      ended = tt;
+      kept = keeps_same _ _;
+      sound = tt;
+      on = tt;
+      inside = tt;
+      same = (refl, refl, refl, refl);
+      grown = le_refl _;
+      long = omega (arith, sound.fits, sound.room, unsaid);
+      given = x.more;
+      received = received_on _ _ got _ _ _ _ l.given l.steps step.steps refl few;
+      economy = x.economy;
+      once = tt;
+      last = tt;
+      going_calls = tt;
+      calls = x.calls;
+      going_turns = tt;
+      turns = x.turns;
+      greatest = greatest_on _ _ _ _ got l.greatest step.greatest refl few;
+      faults = l.faults;
+      write_faults = le_refl _;
+      clean = tt;
+      full_faults = run_unfilled c.run_fault.result c.in-Some.fault _ c.run_fault.ensures;
+      full = λ h. absurd (run_unsaid c.run_fault.result c.in-Some.fault c.run_fault.ensures h);
+      cause = run_causes c.run_fault.result c.in-Some.fault g.S.Source.tells _ _ _ _ c.run_fault.ensures (rw c.in-Some.is at l.cause);
+    }
+
+-- what of the window fits is taken
+pub returns-in-Ok : goal.returns-in-Ok
+returns-in-Ok g c =
+    let r = c.args.runs.now in
+    let s = c.args.self.now in
+    let s' = c.take_fitting.new.self in
+    let a = c.min-asked.result in
+    let l = c.load_filled-loaded.ensures in
+    let got = c.load_filled-loaded.result.received in
+    let want = c.min-want.result in
+    let step = c.close_step-2.ensures in
+    let t = c.take_fitting.ensures in
+    let e = c.in-Ok.ensures in
+    let w = g.O.Output.written c.args.output.now in
+    let w' = g.O.Output.written c.take_fitting.new.output in
+    let x = g.S.Source.content c.args.source.now in
+    let told = c.requires.told in
+    let fits = fits_window a c.in_window.result r.size (omega arith) c.in_window.ensures.fits in
+    let few = few_got got want _ _ l.few c.min-want.ensures fits in
+    let within : taken s'.placer ≤ taken s.placer + a = no_more_than c.in-Ok.ended (taken s.placer) (taken s'.placer) a e.all e.short in
+    let read : Read (taken s.placer) a r.size r.length r.blocks want got (g.S.Source.given c.args.source.now) (g.S.Source.given c.load_filled-loaded.new.source) (g.S.Source.reads c.args.source.now) (g.S.Source.reads c.load_filled-loaded.new.source) c.args.m.now.turns.number c.load_filled-loaded.new.m.turns.number =
+    record {
+      below = rw c.place_of-at.ensures.place at c.place_of-at.ensures.within;
+      some = omega arith;
+      four = r.some;
+      is = rw c.place_of-at.ensures.place at c.min-want.ensures;
+      all = if_none {P = got ≡ want} c.load_filled-loaded.result.fault c.in_default.is l.whole;
+      within = omega arith;
+      last = r.last;
+      gives = l.given;
+      calls = l.calls;
+      turns = l.turns;
+    } in
+    let spent = read_costs (taken s.placer) a r.size r.length r.blocks want got _ _ _ _ _ _ _ _ _ _ _ _ 1 (omega arith) read step.turns t.calls t.turns in
+    let loaded : IsTrue g.S.Source.tells → Loaded r.size r.length (taken s.placer) want (a * r.size) x c.load_filled-loaded.new.w.bytes =
+    λ tells. record {
+      long = c.requires.opened tells;
+      there = omega (arith, c.place_of-at.ensures.place, c.place_of-at.ensures.within);
+      asked = rw c.place_of-at.ensures.place at c.min-want.ensures;
+      bytes = rw c.place_of-at.ensures.place at (if_none {P = slice_range c.load_filled-loaded.new.w.bytes 0 (a * r.size) ≡ take want (drop c.place_of-at.result x) ++ replicate (a * r.size - want) 0} c.load_filled-loaded.result.fault c.in_default.is (l.bytes tells));
+    } in
+    record {
+      content = l.content;
+      read_frame = l.frame;
+      write_frame = t.frame;
+      told = told_on g.S.Source.tells x r.size r.length r.blocks a (taken s'.placer - taken s.placer) want (a * r.size) w w' c.load_filled-loaded.new.w.bytes s s' r.some r.covers r.last (omega arith) (omega (arith, within, e.order)) (omega (arith, e.order)) t.same.2 c.requires.sound.order refl told (e.laid told.blocks told.laid) loaded;
+      ended = λ is.
+          let short = e.short is in
+          ended_on g.S.Source.tells x r.size r.length r.blocks a (taken s'.placer - taken s.placer) want (a * r.size) w w' c.load_filled-loaded.new.w.bytes s s' r.some r.covers r.last (omega arith) (omega (arith, short, e.order)) (omega (arith, e.order)) t.same.2 t.same.3 c.requires.sound.order (e.some is) refl told (e.laid told.blocks told.laid) loaded (e.over told.blocks told.laid is);
+      kept = t.kept;
+      sound = e.sound;
+      on = λ on. omega (arith, e.all on);
+      inside = omega (arith, within);
+      same = t.same;
+      grown = t.grown;
+      long = e.long;
+      given = spent.more;
+      received = received_on _ _ got _ _ _ _ l.given l.steps step.steps t.steps few;
+      economy = spent.economy;
+      once = λ on. (going_costs (taken s.placer) (taken s'.placer) a r.size r.length r.blocks want got _ _ _ _ _ _ _ _ _ _ _ _ (e.all on) read step.turns t.calls t.turns).once;
+      last = last_on _ _ _ _ got (read_more (taken s.placer) (taken s'.placer) r.size r.length e.order) l.given few;
+      going_calls = λ on. (going_costs (taken s.placer) (taken s'.placer) a r.size r.length r.blocks want got _ _ _ _ _ _ _ _ _ _ _ _ (e.all on) read step.turns t.calls t.turns).calls;
+      calls = spent.calls;
+      going_turns = λ on. (going_costs (taken s.placer) (taken s'.placer) a r.size r.length r.blocks want got _ _ _ _ _ _ _ _ _ _ _ _ (e.all on) read step.turns t.calls t.turns).turns;
+      turns = spent.turns;
+      greatest = greatest_on _ _ _ _ got l.greatest step.greatest t.greatest few;
+      faults = l.faults;
+      write_faults = t.faults;
+      clean = (l.clean (rw c.in_default.is refl), e.clean);
+      full_faults = e.full_faults;
+      full = λ h. absurd cc;
+      cause = tt;
+    }
+
+-- it is not
+pub returns-in-Err : goal.returns-in-Err
+returns-in-Err g c =
+    let r = c.args.runs.now in
+    let s = c.args.self.now in
+    let a = c.min-asked.result in
+    let l = c.load_filled-loaded.ensures in
+    let got = c.load_filled-loaded.result.received in
+    let want = c.min-want.result in
+    let step = c.close_step-2.ensures in
+    let t = c.take_fitting.ensures in
+    let e = c.in-Err.ensures in
+    let fits = fits_window a c.in_window.result r.size (omega arith) c.in_window.ensures.fits in
+    let few = few_got got want _ _ l.few c.min-want.ensures fits in
+    let read : Read (taken s.placer) a r.size r.length r.blocks want got (g.S.Source.given c.args.source.now) (g.S.Source.given c.load_filled-loaded.new.source) (g.S.Source.reads c.args.source.now) (g.S.Source.reads c.load_filled-loaded.new.source) c.args.m.now.turns.number c.load_filled-loaded.new.m.turns.number =
+    record {
+      below = rw c.place_of-at.ensures.place at c.place_of-at.ensures.within;
+      some = omega arith;
+      four = r.some;
+      is = rw c.place_of-at.ensures.place at c.min-want.ensures;
+      all = if_none {P = got ≡ want} c.load_filled-loaded.result.fault c.in_default.is l.whole;
+      within = omega arith;
+      last = r.last;
+      gives = l.given;
+      calls = l.calls;
+      turns = l.turns;
+    } in
+    let spent = read_costs (taken s.placer) a r.size r.length r.blocks want got _ _ _ _ _ _ _ _ _ _ _ _ 1 (omega arith) read step.turns t.calls t.turns in
+    record {
+      content = l.content;
+      read_frame = l.frame;
+      write_frame = t.frame;
+      told = tt;
+      ended = tt;
+      kept = t.kept;
+      sound = tt;
+      on = tt;
+      inside = tt;
+      same = t.same;
+      grown = t.grown;
+      long = e.long;
+      given = spent.more;
+      received = received_on _ _ got _ _ _ _ l.given l.steps step.steps t.steps few;
+      economy = spent.economy;
+      once = tt;
+      last = tt;
+      going_calls = tt;
+      calls = spent.calls;
+      going_turns = tt;
+      turns = spent.turns;
+      greatest = greatest_on _ _ _ _ got l.greatest step.greatest t.greatest few;
+      faults = l.faults;
+      write_faults = t.faults;
+      clean = tt;
+      full_faults = e.full_faults;
+      full = λ h. t.full (rw c.in-Err.is (says_full _ h));
+      cause = e.cause;
+    }
 
 -- the window has room for what is asked for
 pub overflow_mul-room : goal.overflow_mul-room
@@ -187,6 +282,3 @@ overflow_mul-room g c =
 
 pub take_fitting-requires-clause-window : goal.take_fitting-requires-clause-window
 take_fitting-requires-clause-window g c = fits_window c.min-asked.result c.in_window.result c.args.runs.now.size (omega arith) c.in_window.ensures.fits
-
-pub returns-in-Some-clause-calls : goal.returns-in-Some-clause-calls
-returns-in-Some-clause-calls g c = omega (arith, c.load_filled-loaded.ensures.calls, c.place_of-at.ensures.place, c.place_of-at.ensures.within)

@@ -1,4 +1,7 @@
-use Rattle.std.proofs.Common.{drop, ◌≡◌, ◌*◌, ◌+◌, ◌-◌, ◌++◌, ◌∙◌, arith, refl, subst, ℕ}
+use Rattle.std.proofs.Common.{drop, ◌≡◌, ◌*◌, ◌+◌, ◌-◌, ◌++◌, ◌∙◌, arith, refl, subst, sym, append-nil, List, true, false, ℕ}
+use Rattle.std.proofs.Math.Nat.{le_refl, le_trans}
+use Rattle.abt_sparse.specs.Block.{Block}
+use Rattle.abt_pieces.proofs.Fronts.{no_more}
 use Rattle.abt_placed.specs.Placed.{classes}
 use Rattle.abt_placed.specs.Segment.{LaidSegment, IsOver}
 use Rattle.abt_placed.specs.Unfinished.{KeepsFront}
@@ -6,7 +9,7 @@ use Rattle.abt_placed.specs.Whole.{taken}
 use Rattle.abt_placed.proofs.Numbers.{blocks_fit}
 use Rattle.abt_placed.proofs.Costs.{look_costs, take_costs, more_blocks}
 use Rattle.abt_placed.proofs.Laying.{part_classes}
-use Rattle.abt_placed.proofs.Refusing.{keeps_then}
+use Rattle.abt_placed.proofs.Refusing.{keeps_same, keeps_then}
 use Rattle.abt_placed.proofs.Segments.{window_over, more_laid}
 use Rattle.abt_placed.proofs.segment.Segment.take_fitting.Goals as goal
 
@@ -53,59 +56,146 @@ loop-done-preserved g c =
       greatest = omega arith;
     }
 
-pub returns-then-ended-clause-laid : goal.returns-then-ended-clause-laid
-returns-then-ended-clause-laid g c f p =
-    let i = c.loop-done.invariant in
-    let st = c.in-Ok.ensures.still c.if-ended.true in
-    let z : c.loop-done.done ≡ taken c.loop-done.self.placer - taken c.args.self.now.placer = omega (arith, i.passed) in
-    rw (st.0, st.1) (subst (λ (n : ℕ). LaidSegment c.args.size (f ++ classes c.args.size n c.args.w.now.bytes) (g.O.Output.written c.loop-done.output) c.loop-done.self) z (i.laid f p))
+pub loop-done-init : goal.loop-done-init
+loop-done-init g c = record {
+  within = omega arith;
+  sound = c.requires.sound;
+  laid = λ f p. subst (λ (l : List Block). LaidSegment c.args.size l (g.O.Output.written c.args.output.now) c.args.self.now) (sym (append-nil f)) p;
+  passed = omega arith;
+  same = (refl, refl, refl, refl);
+  grown = le_refl _;
+  kept = keeps_same _ _;
+  frame = refl;
+  faults = refl;
+  full_faults = refl;
+  calls = no_more _ _;
+  turns = no_more _ _;
+  steps = refl;
+  greatest = refl;
+}
 
-pub returns-then-ended-clause-over : goal.returns-then-ended-clause-over
-returns-then-ended-clause-over g c f p on =
+-- the next blocks don't fit
+pub returns-then-ended : goal.returns-then-ended
+returns-then-ended g c =
     let i = c.loop-done.invariant in
     let e = c.in-Ok.ensures in
-    let st = e.still c.if-ended.true in
+    let t = c.take_part.ensures in
+    let on = c.if-ended.true in
+    let st = e.still on in
     let s = c.loop-done.self in
     let w = c.args.w.now.bytes in
     let b = c.args.size in
     let d = c.loop-done.done in
     let n = c.leading-kind.result.1 in
     let a = c.args.blocks in
-    let all = part_classes c.leading-kind.result.0 b n (d * b) (d * b + c.min-cap.result * b) (d * b + n * b) w c.part.result.now c.part-in-loop-done.result.now (let m = more_blocks 0 n c.min-cap.result b (omega (arith, c.leading-kind.ensures.within)) in omega (arith, m)) (omega arith) c.part.ensures.value c.part-in-loop-done.ensures.value c.leading-kind.ensures.all in
-    let o = window_over b d n a (d * b) (d * b + n * b) f w c.part-in-loop-done.result.now (g.O.Output.written c.loop-done.output) s _ c.leading-kind.result.0 c.requires.some c.leading-kind.ensures.some (omega arith) refl (omega arith) c.part-in-loop-done.ensures.value i.sound (i.laid f p) all (omega (arith, c.leading-kind.ensures.within, c.min-cap.ensures, c.cap.ensures.cap)) (e.over c.if-ended.true) in
-    let o' = subst (λ (m : ℕ). IsOver m b (f ++ classes b d w) (drop d (classes b a w))) i.same.3 o in
+    let old = g.O.Output.written c.args.output.now in
+    let now = g.O.Output.written c.loop-done.output in
+    let new = g.O.Output.written c.take_part.new.output in
     let z : d ≡ taken s.placer - taken c.args.self.now.placer = omega (arith, i.passed) in
-    rw st.0 (subst (λ (m : ℕ). IsOver c.args.self.now.limit b (f ++ classes b m w) (drop m (classes b a w))) z o')
+    record {
+      kept = keeps_then (c.args.self.now.placer.front + 28) old now new i.kept (subst (λ (j : ℕ). KeepsFront (j + 28) now new) i.same.1 t.kept);
+      sound = e.sound;
+      laid = λ f p. rw (st.0, st.1) (subst (λ (m : ℕ). LaidSegment b (f ++ classes b m w) now s) z (i.laid f p));
+      order = rw st.0 (omega (arith, i.passed));
+      all = λ is. absurd (let y : true ≡ false = is in cc);
+      short = λ is. rw st.0 (omega (arith, i.passed, c.loop-done-test.true));
+      some = λ is. rw st.0 (omega (arith, e.some on, i.same.2));
+      over = λ f p is.
+          let all = part_classes c.leading-kind.result.0 b n (d * b) (d * b + c.min-cap.result * b) (d * b + n * b) w c.part.result.now c.part-in-loop-done.result.now (let m = more_blocks 0 n c.min-cap.result b (omega (arith, c.leading-kind.ensures.within)) in omega (arith, m)) (omega arith) c.part.ensures.value c.part-in-loop-done.ensures.value c.leading-kind.ensures.all in
+          let o = window_over b d n a (d * b) (d * b + n * b) f w c.part-in-loop-done.result.now now s _ c.leading-kind.result.0 c.requires.some c.leading-kind.ensures.some (omega arith) refl (omega arith) c.part-in-loop-done.ensures.value i.sound (i.laid f p) all (omega (arith, c.leading-kind.ensures.within, c.min-cap.ensures, c.cap.ensures.cap)) (e.over on) in
+          let o' = subst (λ (m : ℕ). IsOver m b (f ++ classes b d w) (drop d (classes b a w))) i.same.3 o in
+          rw st.0 (subst (λ (m : ℕ). IsOver c.args.self.now.limit b (f ++ classes b m w) (drop m (classes b a w))) z o');
+      same = (t.same.0 ∙ i.same.0, t.same.1 ∙ i.same.1, t.same.2 ∙ i.same.2, t.same.3 ∙ i.same.3);
+      grown = le_trans i.grown t.grown;
+      long = omega (arith, e.long, i.same.1, i.same.3);
+      frame = t.frame ∙ i.frame;
+      faults = omega (arith, i.faults, t.faults);
+      clean = e.clean ∙ i.faults;
+      full_faults = omega (arith, e.full_faults, i.full_faults);
+      full = λ h. absurd cc;
+      cause = tt;
+      calls =
+          let m = more_blocks d n a b (omega arith) in
+          rw st.1 (omega (arith, i.calls, m));
+      turns =
+          let k = look_costs n b c.tick.new.self.turns.number c.leading-kind.new.m.turns.number c.leading-kind.ensures.some c.requires.some c.leading-kind.ensures.looked in
+          let m = more_blocks d n a b (omega arith) in
+          omega (arith, i.turns, k, m, t.turns, c.tick.ensures.turns);
+      steps = t.steps ∙ c.leading-kind.ensures.steps ∙ c.tick.ensures.steps ∙ i.steps;
+      greatest = t.greatest ∙ c.leading-kind.ensures.greatest ∙ c.tick.ensures.greatest ∙ i.greatest;
+    }
 
-pub returns-then-ended-clause-calls : goal.returns-then-ended-clause-calls
-returns-then-ended-clause-calls g c =
+-- blocks are not laid
+pub returns-in-Err : goal.returns-in-Err
+returns-in-Err g c =
     let i = c.loop-done.invariant in
-    let st = c.in-Ok.ensures.still c.if-ended.true in
-    let m = more_blocks c.loop-done.done c.leading-kind.result.1 c.args.blocks c.args.size (omega arith) in
-    rw st.1 (omega (arith, i.calls, m))
-
-pub returns-then-ended-clause-turns : goal.returns-then-ended-clause-turns
-returns-then-ended-clause-turns g c =
-    let i = c.loop-done.invariant in
-    let st = c.in-Ok.ensures.still c.if-ended.true in
+    let e = c.in-Err.ensures in
+    let t = c.take_part.ensures in
+    let b = c.args.size in
     let n = c.leading-kind.result.1 in
-    let k = look_costs n c.args.size c.tick.new.self.turns.number c.leading-kind.new.m.turns.number c.leading-kind.ensures.some c.requires.some c.leading-kind.ensures.looked in
-    let m = more_blocks c.loop-done.done n c.args.blocks c.args.size (omega arith) in
-    omega (arith, i.turns, k, m, c.take_part.ensures.turns, c.tick.ensures.turns)
+    let old = g.O.Output.written c.args.output.now in
+    let now = g.O.Output.written c.loop-done.output in
+    let new = g.O.Output.written c.take_part.new.output in
+    let m = more_blocks c.loop-done.done n c.args.blocks b (omega arith) in
+    record {
+      kept = keeps_then (c.args.self.now.placer.front + 28) old now new i.kept (subst (λ (j : ℕ). KeepsFront (j + 28) now new) i.same.1 t.kept);
+      sound = tt;
+      laid = λ f p. tt;
+      order = tt;
+      all = tt;
+      short = tt;
+      some = tt;
+      over = λ f p. tt;
+      same = (t.same.0 ∙ i.same.0, t.same.1 ∙ i.same.1, t.same.2 ∙ i.same.2, t.same.3 ∙ i.same.3);
+      grown = le_trans i.grown t.grown;
+      long = rw (← i.same.1, ← i.same.3) e.long;
+      frame = t.frame ∙ i.frame;
+      faults = omega (arith, i.faults, t.faults);
+      clean = tt;
+      full_faults = rw i.full_faults at e.full_faults;
+      full = e.full;
+      cause = rw i.faults at e.cause;
+      calls =
+          let y = take_costs n b c.leading-kind.ensures.some c.requires.some in
+          omega (arith, i.calls, m, y, t.calls);
+      turns =
+          let k = look_costs n b c.tick.new.self.turns.number c.leading-kind.new.m.turns.number c.leading-kind.ensures.some c.requires.some c.leading-kind.ensures.looked in
+          omega (arith, i.turns, k, m, t.turns, c.tick.ensures.turns);
+      steps = t.steps ∙ c.leading-kind.ensures.steps ∙ c.tick.ensures.steps ∙ i.steps;
+      greatest = t.greatest ∙ c.leading-kind.ensures.greatest ∙ c.tick.ensures.greatest ∙ i.greatest;
+    }
 
-pub returns-in-Err-clause-turns : goal.returns-in-Err-clause-turns
-returns-in-Err-clause-turns g c =
+-- all fit
+pub returns : goal.returns
+returns g c =
     let i = c.loop-done.invariant in
-    let n = c.leading-kind.result.1 in
-    let k = look_costs n c.args.size c.tick.new.self.turns.number c.leading-kind.new.m.turns.number c.leading-kind.ensures.some c.requires.some c.leading-kind.ensures.looked in
-    let m = more_blocks c.loop-done.done n c.args.blocks c.args.size (omega arith) in
-    omega (arith, i.turns, k, m, c.take_part.ensures.turns, c.tick.ensures.turns)
-
-pub returns-clause-laid : goal.returns-clause-laid
-returns-clause-laid g c f p =
-    let i = c.loop-done.invariant in
+    let w = c.args.w.now.bytes in
+    let b = c.args.size in
+    let y : c.loop-done.done ≡ c.args.blocks = omega arith in
     let z : c.loop-done.done ≡ taken c.loop-done.self.placer - taken c.args.self.now.placer = omega (arith, i.passed) in
-    subst (λ (n : ℕ). LaidSegment c.args.size (f ++ classes c.args.size n c.args.w.now.bytes) (g.O.Output.written c.loop-done.output) c.loop-done.self) z (i.laid f p)
+    record {
+      kept = i.kept;
+      sound = i.sound;
+      laid = λ f p. subst (λ (n : ℕ). LaidSegment b (f ++ classes b n w) (g.O.Output.written c.loop-done.output) c.loop-done.self) z (i.laid f p);
+      order = omega (arith, i.passed);
+      all = λ is. rw y at i.passed;
+      short = λ is. absurd (let x : false ≡ true = is in cc);
+      some = λ is. absurd (let x : false ≡ true = is in cc);
+      over = λ f p is. absurd (let x : false ≡ true = is in cc);
+      same = i.same;
+      grown = i.grown;
+      long = omega (arith, i.sound.fits, i.sound.room, i.same.1, i.same.3);
+      frame = i.frame;
+      faults = omega (arith, i.faults);
+      clean = i.faults;
+      full_faults = omega (arith, i.full_faults);
+      full = λ h. absurd cc;
+      cause = tt;
+      calls = rw y at i.calls;
+      turns = rw y at i.turns;
+      steps = i.steps;
+      greatest = i.greatest;
+    }
 
 -- places in the window
 pub overflow_mul-from : goal.overflow_mul-from
@@ -119,11 +209,3 @@ overflow_add-past g c = let f = blocks_fit c.loop-done.done c.leading-kind.resul
 
 pub take_part-requires-clause-window : goal.take_part-requires-clause-window
 take_part-requires-clause-window g c = let f = blocks_fit c.loop-done.done c.leading-kind.result.1 c.args.blocks c.args.size (omega arith) c.requires.window in omega (arith, f, c.part-in-loop-done.ensures.long)
-
-pub returns-in-Err-clause-calls : goal.returns-in-Err-clause-calls
-returns-in-Err-clause-calls g c =
-    let i = c.loop-done.invariant in
-    let n = c.leading-kind.result.1 in
-    let y = take_costs n c.args.size c.leading-kind.ensures.some c.requires.some in
-    let m = more_blocks c.loop-done.done n c.args.blocks c.args.size (omega arith) in
-    omega (arith, i.calls, m, y, c.take_part.ensures.calls)
