@@ -8,15 +8,25 @@ use Rattle.abt_sparse.proofs.Totals.{length-pieces}
 use Rattle.abt_pieces.specs.Contents.{written_in}
 use Rattle.abt_pieces.specs.SpentStage.{all_passes}
 use Rattle.abt_pieces.specs.declared.stage.Stage.TheVariants.{Between}
-use Rattle.abt_flash.specs.Delivering.{begun, blocks_behind, blocks_in_first, blocks_up_to, pieces_in}
+use Rattle.abt_flash.specs.Delivering.{Room, begun, blocks_behind, blocks_in_first, blocks_up_to, pieces_in}
 use Rattle.abt_flash.proofs.Left.{Behind, behind}
 use Rattle.abt_flash.proofs.Mended.{leaves_same}
-use Rattle.abt_flash.proofs.Records.{begins_same, gives_none, lays_none, mendable_none, mends_none, opening_begins, opening_early, plan_early, rest_begins, rest_more, stop_mends}
+use Rattle.abt_flash.proofs.Records.{begins_same, early_holds, gives_none, lays_none, mendable_none, mends_none, opening_begins, opening_counts, opening_early, opening_refuses, plan_early, plan_refuses, rest_begins, rest_early, rest_more, stop_mends}
+use Rattle.abt_flash.proofs.Refusing.{rest_refuses}
 use Rattle.abt_flash.proofs.Staying.{blocks_grow, from_first}
-use Rattle.abt_flash.proofs.Summing.{on_ok, on_unsynced, least_of, behind_written, reads_of}
+use Rattle.abt_flash.proofs.Summing.{on_any, on_ok, on_unsynced, least_of, behind_written, reads_of}
 use Rattle.abt_flash.proofs.opened.deliver_behind.Goals as goal
 
 -- ---- where no cutter was opened
+
+pub returns-in-Err-clause-refused : goal.returns-in-Err-clause-refused
+returns-in-Err-clause-refused g c = let small = c.in-Err.ensures.refused in rw c.not_opened.ensures (opening_refuses c.in-Err.fault _ _ _ _ _ _ _ _ _ small.0 small.1)
+
+pub returns-in-Err-clause-early : goal.returns-in-Err-clause-early
+returns-in-Err-clause-early g c = early_holds c.not_opened.result _ (refl, refl)
+
+pub returns-in-Err-clause-counted : goal.returns-in-Err-clause-counted
+returns-in-Err-clause-counted g c tells = rw c.not_opened.ensures (opening_counts c.in-Err.fault _ _)
 
 pub returns-in-Err-clause-spool : goal.returns-in-Err-clause-spool
 returns-in-Err-clause-spool g c = gives_none _ _ _ _ _ _ _
@@ -42,6 +52,13 @@ returns-in-Err-clause-costs g c = record {
 
 -- ---- where the partition is too small
 
+pub returns-then-is_too_small-clause-refused : goal.returns-then-is_too_small-clause-refused
+returns-then-is_too_small-clause-refused g c =
+    let o = c.in-Ok.ensures in
+    let count : c.blocks-2.result ≡ g.R.BlockRuns.count c.args.runs = rw o.runs at c.blocks-2.ensures in
+    let size : c.block_size.result ≡ g.R.BlockRuns.size c.args.runs = rw o.runs at c.block_size.ensures in
+    (o.granted, rw (count, size) refl, rw c.length.ensures.size at c.if-is_too_small.ensures)
+
 pub returns-then-is_too_small-clause-spool : goal.returns-then-is_too_small-clause-spool
 returns-then-is_too_small-clause-spool g c = gives_none _ _ _ _ _ _ _
 
@@ -58,6 +75,17 @@ pub returns-then-is_too_small-clause-costs : goal.returns-then-is_too_small-clau
 returns-then-is_too_small-clause-costs g c = record { begun = 0; counted = refl; calls = omega arith; turns = omega arith; steps = omega arith; greatest = omega arith }
 
 -- ---- where planning was refused
+
+pub returns-in-Err-plan_pieces-clause-refused : goal.returns-in-Err-plan_pieces-clause-refused
+returns-in-Err-plan_pieces-clause-refused g c =
+    let o = c.in-Ok.ensures in
+    let count : c.blocks-2.result ≡ g.R.BlockRuns.count c.args.runs = rw o.runs at c.blocks-2.ensures in
+    let size : c.block_size.result ≡ g.R.BlockRuns.size c.args.runs = rw o.runs at c.block_size.ensures in
+    let room : Room c.args.limit (g.R.BlockRuns.size c.args.runs) (g.R.BlockRuns.count c.args.runs) (g.P.Source.size c.args.partition.now) = record { each = o.granted; all = rw (count, size, c.length.ensures.size) at c.if-is_too_small.ensures } in
+    plan_refuses c.in-Err-plan_pieces.fault _ _ _ _ _ _ _ _ _ room c.in-Err-plan_pieces.ensures.refused
+
+pub returns-in-Err-plan_pieces-clause-early : goal.returns-in-Err-plan_pieces-clause-early
+returns-in-Err-plan_pieces-clause-early g c = early_holds c.in-Err-plan_pieces.fault _ (refl, refl)
 
 pub returns-in-Err-plan_pieces-clause-spool : goal.returns-in-Err-plan_pieces-clause-spool
 returns-in-Err-plan_pieces-clause-spool g c = gives_none _ _ _ _ _ _ _
@@ -95,6 +123,35 @@ returns-in-Err-plan_pieces-clause-costs g c =
     }
 
 -- ---- where all pieces behind the first ones were delivered, or one was stopped
+
+pub returns-clause-granted : goal.returns-clause-granted
+returns-clause-granted g c =
+    let o = c.in-Ok.ensures in
+    let count : c.blocks-2.result ≡ g.R.BlockRuns.count c.args.runs = rw o.runs at c.blocks-2.ensures in
+    let size : c.block_size.result ≡ g.R.BlockRuns.size c.args.runs = rw o.runs at c.block_size.ensures in
+    let room : Room c.args.limit (g.R.BlockRuns.size c.args.runs) (g.R.BlockRuns.count c.args.runs) (g.P.Source.size c.args.partition.now) = record { each = o.granted; all = rw (count, size, c.length.ensures.size) at c.if-is_too_small.ensures } in
+    on_any c.deliver_rest.result room
+
+pub returns-clause-refused : goal.returns-clause-refused
+returns-clause-refused g c =
+    let o = c.in-Ok.ensures in
+    let p = c.in-Ok-plan_pieces.ensures in
+    let count : c.blocks-2.result ≡ g.R.BlockRuns.count c.args.runs = rw o.runs at c.blocks-2.ensures in
+    let size : c.block_size.result ≡ g.R.BlockRuns.size c.args.runs = rw o.runs at c.block_size.ensures in
+    let room : Room c.args.limit (g.R.BlockRuns.size c.args.runs) (g.R.BlockRuns.count c.args.runs) (g.P.Source.size c.args.partition.now) = record { each = o.granted; all = rw (count, size, c.length.ensures.size) at c.if-is_too_small.ensures } in
+    rest_refuses c.deliver_rest.result _ _ _ _ _ _ _ _ _ _ (record { read = p.faults; write = omega arith; spool = omega arith; put = omega arith }) room (rw p.planned.1 at c.deliver_rest.ensures.stops)
+
+pub returns-clause-early : goal.returns-clause-early
+returns-clause-early g c = rest_early _ c.deliver_rest.result _ _ _ _ _ c.deliver_rest.ensures.stops
+
+pub returns-clause-content : goal.returns-clause-content
+returns-clause-content g c tells = c.deliver_rest.ensures.content tells ∙ c.in-Ok-plan_pieces.ensures.content tells
+
+pub returns-clause-frame : goal.returns-clause-frame
+returns-clause-frame g c = c.deliver_rest.ensures.frame ∙ c.in-Ok-plan_pieces.ensures.frame
+
+pub returns-clause-long : goal.returns-clause-long
+returns-clause-long g c = rw (c.in-Ok-plan_pieces.ensures.runs, c.in-Ok.ensures.runs) at c.deliver_rest.ensures.long
 
 pub returns-clause-counted : goal.returns-clause-counted
 returns-clause-counted g c tells =
