@@ -1,5 +1,5 @@
 -- A delivery from piece to piece, in numbers.
-use Rattle.std.proofs.Common.{◌≡◌, ℕ, ◌+◌, ◌*◌, ◌≤◌, ◌<◌, ◌⊎◌, max, nat_lt, true, false, refl, sym, ap, ◌∙◌, arith, inl, inr}
+use Rattle.std.proofs.Common.{◌-◌, ◌≡◌, ℕ, ◌+◌, ◌*◌, ◌≤◌, ◌<◌, ◌⊎◌, max, nat_lt, true, false, refl, sym, ap, ◌∙◌, arith, inl, inr}
 use Rattle.std.proofs.lemmas.Bool.{cases_Bool, ltb-true, ltb-false}
 use Rattle.abt_pieces.specs.Cutter.{Passed, has_more, piece_words}
 use Rattle.abt_pieces.specs.declared.stage.Stage.{Stage}
@@ -26,6 +26,10 @@ few_more n made e le inside = elim (cases_Bool (nat_lt 0 made)) [
   | inl t ↦ let lt = inside (ltb-true 0 made t) in omega (arith, lt, le)
   | inr t ↦ let z = ltb-false 0 made t in omega (arith, z)
 ]
+
+-- each piece leaves fewer of them
+pub fewer_then : (n made e then : ℕ) → made ≤ e → (0 < made → e < n) → then ≡ made + 1 → (n + 1) - then < (n + 1) - made
+fewer_then n made e then le inside next = let few = few_more n made e le inside in omega (arith, few, next)
 
 -- words that were compared without being read
 words_between : (one n s : ℕ) → words_so_far one n s Between ≤ one

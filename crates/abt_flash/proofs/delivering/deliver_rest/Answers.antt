@@ -14,7 +14,7 @@ use Rattle.abt_pieces.specs.declared.stage.Stage.TheVariants.{Between, Done}
 use Rattle.abt_flash.specs.Delivering.{blocks_in_first, blocks_up_to, with_cuts}
 use Rattle.abt_flash.specs.Going.{StandsAt, Unbroken, frames_left, pieces_left, words_so_far}
 use Rattle.abt_flash.proofs.Left.{behind, first_more, laid_first, laid_next, frames_more, pieces_more, written_more, pieces_behind_are, laid_left, stands_left, none_left, one_left, pieces_front}
-use Rattle.abt_flash.proofs.Onward.{unbroken_first, unbroken_more, still_between, now_done, few_more, words_more, words_most, words_one, calls_on, turns_on, spent_more, spent_last, spent_whole}
+use Rattle.abt_flash.proofs.Onward.{unbroken_first, unbroken_more, still_between, now_done, few_more, fewer_then, words_more, words_most, words_one, calls_on, turns_on, spent_more, spent_last, spent_whole}
 use Rattle.abt_flash.proofs.Spooled.{fits_none, fits_then, written_then, begins_then, cuts_then}
 use Rattle.abt_flash.specs.Delivering.{unsynced_by}
 use Rattle.abt_flash.specs.Fault.{refused_syncs}
@@ -185,6 +185,13 @@ pieces-preserved g c =
       put_faults = o.clean.put ∙ i.put_faults;
       unsynced = omega (arith, i.unsynced, o.unsynced);
     }
+
+pub pieces-smaller : goal.pieces-smaller
+pieces-smaller g c =
+    let i = c.pieces.invariant in
+    let o = c.in-Ok.ensures in
+    let is : c.pieces.cutter.stage ≡ Between = still_between _ _ _ _ i.unbroken (sym c.more.ensures ∙ c.if-not-more.false) in
+    fewer_then (g.R.BlockRuns.count c.args.cutter.now.runs) c.pieces.cutter.made c.pieces.cutter.start.block c.deliver_piece.new.cutter.made (c.pieces.cutter.sound.left (ap has_more is)) (i.unbroken.between is) o.behind.made
 
 -- ---- behind the last piece
 
