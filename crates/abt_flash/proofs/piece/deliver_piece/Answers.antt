@@ -589,3 +589,38 @@ returns-in-Ok-flash-clause-takes g c =
     let wrote = rw c.in-Ok-Some.field-0-is at c.in-Ok-Some.ensures.long in
     let takes = rw c.in-Ok-Some.field-0-is at c.in-Ok-Some.ensures.takes in
     omega (arith, same, long, wrote, takes)
+
+-- ---- what is only said of a piece that was delivered, where it was not flashed
+
+pub returns-in-Err-flash-clause-behind : goal.returns-in-Err-flash-clause-behind
+returns-in-Err-flash-clause-behind g c = rw c.not_flashed.ensures tt
+
+pub returns-in-Err-flash-clause-cut : goal.returns-in-Err-flash-clause-cut
+returns-in-Err-flash-clause-cut g c = rw c.not_flashed.ensures tt
+
+pub returns-in-Err-flash-clause-written : goal.returns-in-Err-flash-clause-written
+returns-in-Err-flash-clause-written g c tells = rw c.not_flashed.ensures tt
+
+pub returns-in-Err-flash-clause-settled : goal.returns-in-Err-flash-clause-settled
+returns-in-Err-flash-clause-settled g c tells = rw c.not_flashed.ensures tt
+
+pub returns-in-Err-flash-clause-blocks : goal.returns-in-Err-flash-clause-blocks
+returns-in-Err-flash-clause-blocks g c tells spool = rw c.not_flashed.ensures tt
+
+pub returns-in-Err-flash-clause-takes : goal.returns-in-Err-flash-clause-takes
+returns-in-Err-flash-clause-takes g c = rw c.not_flashed.ensures tt
+
+pub returns-in-Err-flash-clause-back : goal.returns-in-Err-flash-clause-back
+returns-in-Err-flash-clause-back g c tells spool = rw c.not_flashed.ensures tt
+
+pub returns-in-Err-flash-clause-spent : goal.returns-in-Err-flash-clause-spent
+returns-in-Err-flash-clause-spent g c tells = rw c.not_flashed.ensures tt
+
+pub returns-in-Err-flash-clause-spent_end : goal.returns-in-Err-flash-clause-spent_end
+returns-in-Err-flash-clause-spent_end g c tells = rw c.not_flashed.ensures tt
+
+pub returns-in-Err-flash-clause-words : goal.returns-in-Err-flash-clause-words
+returns-in-Err-flash-clause-words g c = rw c.not_flashed.ensures tt
+
+pub returns-in-Err-flash-clause-clean : goal.returns-in-Err-flash-clause-clean
+returns-in-Err-flash-clause-clean g c = rw c.not_flashed.ensures tt
