@@ -1,5 +1,6 @@
 use Rattle.std.specs.Prelude.{IsTrue}
 use Rattle.std.proofs.Common.{◌≡◌, ℕ, ◌+◌, ◌*◌, ◌≤◌, ◌<◌, ◌^◌, List, length, drop, Err, refl, sym, ap, ◌∙◌, arith, inl}
+use Rattle.std.proofs.lemmas.Nat.{mul-lt}
 use Rattle.abt_io.specs.Moment.{MayLeave, moment_of}
 use Rattle.abt_sparse.specs.Block.{IsBlockSize, cells, over}
 use Rattle.abt_sparse.proofs.MendLaws.{mended}
@@ -11,6 +12,7 @@ use Rattle.abt_pieces.specs.declared.stage.Stage.TheVariants.{Between}
 use Rattle.abt_flash.specs.Delivering.{Room, begun, blocks_behind, blocks_in_first, blocks_up_to, pieces_in}
 use Rattle.abt_flash.proofs.Left.{Behind, behind}
 use Rattle.abt_flash.proofs.Mended.{leaves_same}
+use Rattle.abt_flash.proofs.Onward.{up_on}
 use Rattle.abt_flash.proofs.Records.{begins_same, early_holds, gives_none, lays_none, mendable_none, mends_none, opening_begins, opening_counts, opening_early, opening_refuses, plan_early, plan_refuses, rest_begins, rest_early, rest_more, stop_mends}
 use Rattle.abt_flash.proofs.Refusing.{rest_refuses}
 use Rattle.abt_flash.proofs.Staying.{blocks_grow, from_first}
@@ -276,3 +278,51 @@ pub returns-clause-clean : goal.returns-clause-clean
 returns-clause-clean g c =
     let before = c.in-Ok-plan_pieces.ensures.clean in
     on_ok c.deliver_rest.result (λ e. record { read = e.read ∙ before; write = e.write; spool = e.spool; put = e.put }) c.deliver_rest.ensures.clean
+
+-- ---- what planning and delivering ask for
+
+pub plan_pieces-requires-clause-opened : goal.plan_pieces-requires-clause-opened
+plan_pieces-requires-clause-opened g c tells = rw c.in-Ok.ensures.runs (c.requires.opened tells)
+
+pub plan_pieces-requires-clause-told : goal.plan_pieces-requires-clause-told
+plan_pieces-requires-clause-told g c tells = let o = c.in-Ok.ensures in rw o.runs (o.told _ (c.requires.opened tells))
+
+pub deliver_rest-requires-clause-inside : goal.deliver_rest-requires-clause-inside
+deliver_rest-requires-clause-inside g c = let p = c.in-Ok-plan_pieces.ensures in rw p.runs p.inside
+
+pub deliver_rest-requires-clause-few : goal.deliver_rest-requires-clause-few
+deliver_rest-requires-clause-few g c = let p = c.in-Ok-plan_pieces.ensures in rw p.runs p.few
+
+pub deliver_rest-requires-clause-opened : goal.deliver_rest-requires-clause-opened
+deliver_rest-requires-clause-opened g c tells =
+    let p = c.in-Ok-plan_pieces.ensures in
+    rw (p.runs, c.in-Ok.ensures.runs, p.content tells) (c.requires.opened tells)
+
+pub deliver_rest-requires-clause-told : goal.deliver_rest-requires-clause-told
+deliver_rest-requires-clause-told g c tells = let p = c.in-Ok-plan_pieces.ensures in rw (p.runs, p.content tells) (p.told tells)
+
+pub deliver_rest-requires-clause-capacity : goal.deliver_rest-requires-clause-capacity
+deliver_rest-requires-clause-capacity g c = rw (c.in-Ok-plan_pieces.ensures.limit, c.in-Ok.ensures.limit) c.requires.capacity
+
+pub deliver_rest-requires-clause-room : goal.deliver_rest-requires-clause-room
+deliver_rest-requires-clause-room g c =
+    let room = rw (c.blocks-2.ensures, c.block_size.ensures, c.length.ensures.size) at c.if-is_too_small.ensures in
+    rw c.in-Ok-plan_pieces.ensures.runs room
+
+-- ---- what only grows
+
+pub returns-clause-grown : goal.returns-clause-grown
+returns-clause-grown g c =
+    let p = c.in-Ok-plan_pieces.ensures in
+    let w = c.deliver_rest.ensures.work in
+    (up_on _ _ _ p.given w.given, w.spool_given, w.grown, w.taken)
+
+pub returns-clause-faults : goal.returns-clause-faults
+returns-clause-faults g c = up_on _ _ _ c.in-Ok-plan_pieces.ensures.faults c.deliver_rest.ensures.faults.read
+
+-- ---- the bytes of all blocks fit 64 bits
+
+pub overflow_mul-need : goal.overflow_mul-need
+overflow_mul-need g c =
+    let less = mul-lt c.blocks-2.result c.block_size.result 4294967296 4294967296 c.blocks-2.type_inv c.block_size.type_inv in
+    omega (arith, less)
