@@ -624,3 +624,47 @@ returns-in-Err-flash-clause-words g c = rw c.not_flashed.ensures tt
 
 pub returns-in-Err-flash-clause-clean : goal.returns-in-Err-flash-clause-clean
 returns-in-Err-flash-clause-clean g c = rw c.not_flashed.ensures tt
+
+-- ---- what a callee says as it stands
+
+pub next_piece-requires-clause-unbegun : goal.next_piece-requires-clause-unbegun
+next_piece-requires-clause-unbegun g c = rw c.requires.between refl
+
+pub next_piece-requires-clause-opened : goal.next_piece-requires-clause-opened
+next_piece-requires-clause-opened g c = c.requires.opened
+
+pub next_piece-requires-clause-told : goal.next_piece-requires-clause-told
+next_piece-requires-clause-told g c = c.requires.told
+
+pub returns-in-Err-clause-capacity : goal.returns-in-Err-clause-capacity
+returns-in-Err-clause-capacity g c = c.clear.ensures.size
+
+pub returns-in-Err-next_piece-clause-content : goal.returns-in-Err-next_piece-clause-content
+returns-in-Err-next_piece-clause-content g c = c.next_piece.ensures.content
+
+pub returns-in-Err-next_piece-clause-frame : goal.returns-in-Err-next_piece-clause-frame
+returns-in-Err-next_piece-clause-frame g c = c.next_piece.ensures.frame
+
+pub returns-in-Ok-flash-clause-content : goal.returns-in-Ok-flash-clause-content
+returns-in-Ok-flash-clause-content g c = c.next_piece.ensures.content
+
+pub returns-in-Ok-flash-clause-frame : goal.returns-in-Ok-flash-clause-frame
+returns-in-Ok-flash-clause-frame g c = c.next_piece.ensures.frame
+
+pub returns-in-Err-flash-clause-content : goal.returns-in-Err-flash-clause-content
+returns-in-Err-flash-clause-content g c = c.next_piece.ensures.content
+
+pub returns-in-Err-flash-clause-frame : goal.returns-in-Err-flash-clause-frame
+returns-in-Err-flash-clause-frame g c = c.next_piece.ensures.frame
+
+pub returns-in-Ok-flash-clause-size : goal.returns-in-Ok-flash-clause-size
+returns-in-Ok-flash-clause-size g c = c.flash.ensures.size
+
+pub returns-in-Ok-flash-clause-unread : goal.returns-in-Ok-flash-clause-unread
+returns-in-Ok-flash-clause-unread g c = (c.flash.ensures.unread.0, c.flash.ensures.unread.1)
+
+pub returns-in-Err-flash-clause-size : goal.returns-in-Err-flash-clause-size
+returns-in-Err-flash-clause-size g c = c.flash.ensures.size
+
+pub returns-in-Err-flash-clause-unread : goal.returns-in-Err-flash-clause-unread
+returns-in-Err-flash-clause-unread g c = (c.flash.ensures.unread.0, c.flash.ensures.unread.1)
