@@ -1,5 +1,5 @@
 -- A delivery from piece to piece, in numbers.
-use Rattle.std.proofs.Common.{◌≡◌, ℕ, ◌+◌, ◌*◌, ◌≤◌, ◌<◌, ◌⊎◌, max, nat_lt, true, false, refl, sym, ap, ◌∙◌, arith, inl, inr}
+use Rattle.std.proofs.Common.{◌-◌, ◌≡◌, ℕ, ◌+◌, ◌*◌, ◌≤◌, ◌<◌, ◌⊎◌, max, nat_lt, true, false, refl, sym, ap, ◌∙◌, arith, inl, inr}
 use Rattle.std.proofs.lemmas.Bool.{cases_Bool, ltb-true, ltb-false}
 use Rattle.abt_pieces.specs.Cutter.{Passed, has_more, piece_words}
 use Rattle.abt_pieces.specs.declared.stage.Stage.{Stage}
@@ -26,6 +26,10 @@ few_more n made e le inside = elim (cases_Bool (nat_lt 0 made)) [
   | inl t ↦ let lt = inside (ltb-true 0 made t) in omega (arith, lt, le)
   | inr t ↦ let z = ltb-false 0 made t in omega (arith, z)
 ]
+
+-- each piece leaves fewer of them
+pub fewer_then : (n made e then : ℕ) → made ≤ e → (0 < made → e < n) → then ≡ made + 1 → (n + 1) - then < (n + 1) - made
+fewer_then n made e then le inside next = let few = few_more n made e le inside in omega (arith, few, next)
 
 -- words that were compared without being read
 words_between : (one n s : ℕ) → words_so_far one n s Between ≤ one
@@ -89,3 +93,35 @@ calls_on x0 x x' y0 y y' k0 k k' h i e = omega (arith, h, i, e)
 
 pub turns_on : (t0 t t1 t' y0 y y' k0 k k' w w' p : ℕ) → t1 ≡ t + 1 → t' + 8 * y ≤ t1 + 8 * y' + 256 + p → w + p ≤ w' → t + 8 * y0 + 258 * k0 ≤ t0 + 8 * y + w + 258 * k → k' ≡ k + 1 → t' + 8 * y0 + 258 * k0 ≤ t0 + 8 * y' + w' + 258 * k'
 turns_on t0 t t1 t' y0 y y' k0 k k' w w' p tick h words i e = omega (arith, tick, h, words, i, e)
+
+-- ---- and what else one piece more moves
+
+pub up_on : (x0 x x' : ℕ) → x0 ≤ x → x ≤ x' → x0 ≤ x'
+up_on x0 x x' i h = omega (arith, i, h)
+
+pub order_on : (k0 k k' : ℕ) → k0 ≤ k → k' ≡ k + 1 → k0 ≤ k'
+order_on k0 k k' i e = omega (arith, i, e)
+
+pub some_on : (k0 k k' : ℕ) → k0 ≤ k → k' ≡ k + 1 → k0 < k'
+some_on k0 k k' i e = omega (arith, i, e)
+
+pub steps_on : (x0 x x' s0 s s1 s' : ℕ) → x' + 65580 * s1 ≤ x + 65580 * s' → x + 65580 * s0 ≤ x0 + 65580 * s → s1 ≡ s → x' + 65580 * s0 ≤ x0 + 65580 * s'
+steps_on x0 x x' s0 s s1 s' h i e = omega (arith, h, i, e)
+
+pub greatest_on : (g0 g g1 g' : ℕ) → g' ≤ max g1 65580 → g ≤ max g0 65580 → g1 ≡ g → g' ≤ max g0 65580
+greatest_on g0 g g1 g' h i e = omega (arith, h, i, e)
+
+pub synced_on : (s0 s s' k0 k k' : ℕ) → s + k0 ≡ s0 + k → s' ≡ s + 1 → k' ≡ k + 1 → s' + k0 ≡ s0 + k'
+synced_on s0 s s' k0 k k' i h e = omega (arith, i, h, e)
+
+pub unsynced_on : (u0 u u' s0 s s' : ℕ) → u + s0 ≡ u0 + s → u' + s ≡ u + s' + 0 → u' + s0 ≡ u0 + s'
+unsynced_on u0 u u' s0 s s' i h = omega (arith, i, h)
+
+pub long_on : (x0 x x' t0 t t' k0 k k' : ℕ) → x' + t ≤ x + t' + 80 → x + t0 + 80 * k0 ≤ x0 + t + 80 * k → k' ≡ k + 1 → x' + t0 + 80 * k0 ≤ x0 + t' + 80 * k'
+long_on x0 x x' t0 t t' k0 k k' h i e = omega (arith, h, i, e)
+
+pub back_on : (b0 b b' w0 w w' : ℕ) → b' + w ≡ b + w' → b + w0 ≡ b0 + w → b' + w0 ≡ b0 + w'
+back_on b0 b b' w0 w w' h i = omega (arith, h, i)
+
+pub blocks_on : (b t0 t t' w f w' : ℕ) → t' ≡ t + b * f → w ≡ f + w' → t + b * w ≡ t0 → t' + b * w' ≡ t0
+blocks_on b t0 t t' w f w' h e i = let sum : b * w ≡ b * (f + w') = ap (λ (k : ℕ). b * k) e in omega (arith, h, sum, i)

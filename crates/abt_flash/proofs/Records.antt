@@ -14,7 +14,7 @@ use Rattle.abt_flash.specs.Causes.{opening_fault, planning_fault, run_fault_of}
 use Rattle.abt_flash.specs.Fault.{refused_syncs}
 use Rattle.abt_flash.specs.Devices.{Counts, PartitionState, SpoolState}
 use Rattle.abt_io.specs.declared.meter.Meter.{Meter}
-use Rattle.abt_flash.specs.Delivering.{AlwaysMendable, Begins, Costs, CountsTo, GivesPieces, HasBegun, ImageBlocks, IsLeast, LaysBlocks, LeavesMendable, MendsBlocks, OnStop, OnUnsyncedPiece, StaysMendable, begun, blocks_behind, blocks_in_first, blocks_up_to, finished, pieces_behind, pieces_in, with_cuts}
+use Rattle.abt_flash.specs.Delivering.{AlwaysMendable, Begins, Costs, CountsTo, GivesPieces, HasBegun, ImageBlocks, IsLeast, LaysBlocks, LeavesMendable, MendsBlocks, OnEarly, OnStop, OnUnsyncedPiece, Refused, Room, StaysMendable, begun, blocks_behind, blocks_in_first, blocks_up_to, finished, pieces_behind, pieces_in, with_cuts}
 use Rattle.abt_flash.specs.Going.{PlanRefused, StopsIn}
 use Rattle.abt_flash.specs.declared.answer.Delivered.{Delivered}
 use Rattle.abt_flash.specs.declared.fault.Cause.{Cause}
@@ -169,7 +169,62 @@ mends_none i limit made e s early = record {
 pub mendable_none : (i : ImageBlocks) (limit : ℕ) (s : PartitionState) → s.past.pending ≡ [] → AlwaysMendable i limit s s
 mendable_none i limit s none = from_fresh i limit s s none (stays_none limit i.size i.blocks 0 s.past s.content)
 
+-- an image that has room is refused as planning was
+pub plan_refuses : (e : FlashFault) (limit b n size made : ℕ) (source spool : Bool) (a z : Counts) → Room limit b n size → PlanRefused e made source a.read_faults z.read_faults → Refused e limit b n size made source spool a z
+plan_refuses (Read d) limit b n size made source spool a z room h = (room, h.0, h.1)
+plan_refuses SourceChanged limit b n size made source spool a z room h = (room, h)
+plan_refuses (NoSuchPiece k) limit b n size made source spool a z room h = (room, h.0, h.1)
+plan_refuses (Sparse f) limit b n size made source spool a z room h = absurd h
+plan_refuses (Write d) limit b n size made source spool a z room h = absurd h
+plan_refuses TooLarge limit b n size made source spool a z room h = absurd h
+plan_refuses (BadBlock k) limit b n size made source spool a z room h = absurd h
+plan_refuses (LimitTooSmall k) limit b n size made source spool a z room h = absurd h
+plan_refuses (PartitionTooSmall k) limit b n size made source spool a z room h = absurd h
+plan_refuses (Sync d) limit b n size made source spool a z room h = absurd h
+plan_refuses (Stopped k c) limit b n size made source spool a z room h = absurd h
+
+-- and where its cutter was not opened, for its limit
+pub opening_refuses : (f : PieceFault) (limit b n size made : ℕ) (source spool : Bool) (a z : Counts) → f ≡ cuts.LimitTooSmall (64 + b) → limit < 64 + b → Refused (opening_fault f) limit b n size made source spool a z
+opening_refuses f limit b n size made source spool a z is small = rw is (refl, small)
+
+pub opening_counts : (f : PieceFault) (made k : ℕ) → CountsTo (Err (opening_fault f)) made k
+opening_counts (cuts.LimitTooSmall n) made k = tt
+opening_counts (cuts.Read d) made k = tt
+opening_counts (cuts.Write d) made k = tt
+opening_counts cuts.SourceChanged made k = tt
+opening_counts cuts.TooLarge made k = tt
+opening_counts (cuts.BadBlock n) made k = tt
+
+-- what holds at any refusal holds at an early one
+pub early_holds : (e : FlashFault) (P : Type 0) → P → OnEarly (Err e) P
+early_holds (Stopped j c) P h = tt
+early_holds (Read d) P h = h
+early_holds SourceChanged P h = h
+early_holds (NoSuchPiece k) P h = h
+early_holds (Sparse f) P h = h
+early_holds (Write d) P h = h
+early_holds TooLarge P h = h
+early_holds (BadBlock n) P h = h
+early_holds (LimitTooSmall n) P h = h
+early_holds (PartitionTooSmall n) P h = h
+early_holds (Sync d) P h = h
+
 -- ---- all pieces behind the first ones
+
+-- a stop is not early
+pub rest_early : (made : ℕ) (r : Result Delivered FlashFault) (l s : Bool) (a z : Counts) (P : Type 0) → IfErr r (λ e. StopsIn e made l s a z) → OnEarly r P
+rest_early made (Ok d) l s a z P h = tt
+rest_early made (Err (Stopped j c)) l s a z P h = tt
+rest_early made (Err (NoSuchPiece j)) l s a z P h = absurd h
+rest_early made (Err (Read d)) l s a z P h = absurd h
+rest_early made (Err SourceChanged) l s a z P h = absurd h
+rest_early made (Err (Sparse f)) l s a z P h = absurd h
+rest_early made (Err (Write d)) l s a z P h = absurd h
+rest_early made (Err TooLarge) l s a z P h = absurd h
+rest_early made (Err (BadBlock n)) l s a z P h = absurd h
+rest_early made (Err (LimitTooSmall n)) l s a z P h = absurd h
+rest_early made (Err (PartitionTooSmall n)) l s a z P h = absurd h
+rest_early made (Err (Sync d)) l s a z P h = absurd h
 
 -- A stop leaves what is mended from its piece on: each piece before it was synced.
 pub stop_mends : (limit b : ℕ) (l : List Block) (made : ℕ) (r : Result Delivered FlashFault) (source spool : Bool) (a z : Counts) (old new : Past) (before after : List ℕ)

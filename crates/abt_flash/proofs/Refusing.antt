@@ -8,6 +8,7 @@ use Rattle.abt_runs.specs.Sparse.{blocks_in}
 use Rattle.abt_flash.specs.Raw.{FillsBlocks, IsAllowed, IsFilled, RawRefused}
 use Rattle.abt_flash.specs.Devices.{Counts}
 use Rattle.abt_flash.specs.Delivering.{Refused, Room, StopsFor}
+use Rattle.abt_flash.specs.Going.{StopsIn}
 use Rattle.abt_flash.specs.Sparse.{Fits, IsImage, SparseRefused, size_in}
 use Rattle.abt_flash.specs.declared.fault.Cause.{Cause}
 use Rattle.abt_flash.specs.declared.fault.Cause.TheVariants as causes
@@ -39,6 +40,21 @@ stops_since (causes.Sync d) source spool a b z le h = let x = le.put in let y = 
 stops_since (causes.SpoolWrite d) source spool a b z le h = let x = le.write in let y = h.0 in (omega (arith, y, x), h.1)
 stops_since (causes.SpoolRead d) source spool a b z le h = let x = le.spool in let y = h.0 in (omega (arith, y, x), h.1)
 stops_since causes.SpoolChanged source spool a b z le h = h
+
+-- an image that has room is refused behind its first pieces by a stop alone
+pub rest_refuses : (r : Result Delivered FlashFault) (limit b n size made : ℕ) (source spool : Bool) (a c z : Counts) → NoFewer a c → Room limit b n size → IfErr r (λ e. StopsIn e made source spool c z) → IfErr r (λ e. Refused e limit b n size made source spool a z)
+rest_refuses (Ok d) limit b n size made source spool a c z le room h = tt
+rest_refuses (Err (Stopped j s)) limit b n size made source spool a c z le room h = (room, h.0, stops_since s source spool a c z le h.1)
+rest_refuses (Err (NoSuchPiece j)) limit b n size made source spool a c z le room h = absurd h
+rest_refuses (Err (Read d)) limit b n size made source spool a c z le room h = absurd h
+rest_refuses (Err SourceChanged) limit b n size made source spool a c z le room h = absurd h
+rest_refuses (Err (Sparse f)) limit b n size made source spool a c z le room h = absurd h
+rest_refuses (Err (Write d)) limit b n size made source spool a c z le room h = absurd h
+rest_refuses (Err TooLarge) limit b n size made source spool a c z le room h = absurd h
+rest_refuses (Err (BadBlock k)) limit b n size made source spool a c z le room h = absurd h
+rest_refuses (Err (LimitTooSmall k)) limit b n size made source spool a c z le room h = absurd h
+rest_refuses (Err (PartitionTooSmall k)) limit b n size made source spool a c z le room h = absurd h
+rest_refuses (Err (Sync d)) limit b n size made source spool a c z le room h = absurd h
 
 pub sparse_fault : (e : FlashFault) (x : List ℕ) (limit b n size made : ℕ) (source spool : Bool) (a c z : Counts) → NoFewer a c → (IsTrue source → Opens x b n) → Refused e limit b n size made source spool c z → SparseRefused e x limit size made source spool a z
 sparse_fault (LimitTooSmall least) x limit b n size made source spool a c z le o h = (h.1, λ t. ((o t).image, h.0 ∙ ap (λ (k : ℕ). 64 + k) (sym (o t).size)))

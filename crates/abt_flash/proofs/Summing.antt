@@ -21,6 +21,10 @@ pub on_ok : {X E : Type 0} {P Q : Type 0} (r : Result X E) → (P → Q) → OnO
 on_ok (Ok x) f h = f h
 on_ok (Err e) f h = tt
 
+pub on_any : {X E : Type 0} {P : Type 0} (r : Result X E) → P → OnOk r P
+on_any (Ok x) h = h
+on_any (Err e) h = tt
+
 pub on_unsynced : (r : Result Delivered FlashFault) (P Q : ℕ → Type 0) → ((j : ℕ) → P j → Q j) → OnUnsyncedPiece r P → OnUnsyncedPiece r Q
 on_unsynced (Ok d) P Q go h = tt
 on_unsynced (Err (flashes.Stopped j (causes.Sync d))) P Q go h = go j h

@@ -14,7 +14,7 @@ use Rattle.abt_pieces.specs.declared.stage.Stage.TheVariants.{Between, Done}
 use Rattle.abt_flash.specs.Delivering.{blocks_in_first, blocks_up_to, with_cuts}
 use Rattle.abt_flash.specs.Going.{StandsAt, Unbroken, frames_left, pieces_left, words_so_far}
 use Rattle.abt_flash.proofs.Left.{behind, first_more, laid_first, laid_next, frames_more, pieces_more, written_more, pieces_behind_are, laid_left, stands_left, none_left, one_left, pieces_front}
-use Rattle.abt_flash.proofs.Onward.{unbroken_first, unbroken_more, still_between, now_done, few_more, words_more, words_most, words_one, calls_on, turns_on, spent_more, spent_last, spent_whole}
+use Rattle.abt_flash.proofs.Onward.{back_on, blocks_on, greatest_on, long_on, order_on, some_on, steps_on, synced_on, unsynced_on, up_on, unbroken_first, unbroken_more, still_between, now_done, few_more, fewer_then, words_more, words_most, words_one, calls_on, turns_on, spent_more, spent_last, spent_whole}
 use Rattle.abt_flash.proofs.Spooled.{fits_none, fits_then, written_then, begins_then, cuts_then}
 use Rattle.abt_flash.specs.Delivering.{unsynced_by}
 use Rattle.abt_flash.specs.Fault.{refused_syncs}
@@ -109,9 +109,9 @@ pieces-preserved g c =
       frame = e.frame ∙ i.frame;
       unbroken = unbroken;
       few = rw o.behind.made (few_more n c.pieces.cutter.made s left inside);
-      order = omega (arith, i.order, o.behind.made);
+      order = order_on _ _ _ i.order o.behind.made;
       same_made = i.same_made;
-      some = λ d. omega (arith, i.order, o.behind.made);
+      some = λ d. some_on _ _ _ i.order o.behind.made;
       capacity = e.capacity ∙ i.capacity;
       size = e.size ∙ i.size;
       unread = (e.unread.0 ∙ i.unread.0, e.unread.1 ∙ i.unread.1);
@@ -160,31 +160,35 @@ pieces-preserved g c =
           size good (omega (arith, h.order, h.within)) i.synced i.order here.blocks (i.stays tells spool partition p done le entry) (rw (i.runs, i.kept tells, i.limit) at (e.touches tells spool partition).moments)
           next h.order h.within o.synced then_on.blocks (o.settled partition) (rw (i.runs, i.kept tells) at (o.laid tells spool partition));
       settled = λ tells lt. o.settled tells;
-      synced = omega (arith, i.synced, o.synced, o.behind.made);
+      synced = synced_on _ _ _ _ _ _ i.synced o.synced o.behind.made;
       blocks = λ tells spool.
           let h : FirstPiece b all most s next = rw (i.runs, i.kept tells, i.limit) at (o.greatest_end tells) in
-          let wrote = rw (i.runs, i.kept tells) at (o.blocks tells spool) in
-          let sum = ap (λ (k : ℕ). b * k) (written_more all s next h.order) in
-          let before = i.blocks tells spool in
-          omega (arith, wrote, sum, before);
-      given = omega (arith, i.given, e.work.given);
-      spool_given = omega (arith, i.spool_given, e.work.spool_given);
-      grown = omega (arith, i.grown, e.work.grown);
-      taken = omega (arith, i.taken, e.work.taken);
-      long = let z = rw i.runs at o.takes in omega (arith, z, i.long, o.behind.made);
-      back = λ tells spool. let z = o.back tells spool in let y = i.back tells spool in omega (arith, z, y);
+          blocks_on b _ _ _ _ _ _ (rw (i.runs, i.kept tells) at (o.blocks tells spool)) (written_more all s next h.order) (i.blocks tells spool);
+      given = up_on _ _ _ i.given e.work.given;
+      spool_given = up_on _ _ _ i.spool_given e.work.spool_given;
+      grown = up_on _ _ _ i.grown e.work.grown;
+      taken = up_on _ _ _ i.taken e.work.taken;
+      long = long_on _ _ _ _ _ _ _ _ _ (rw i.runs at o.takes) i.long o.behind.made;
+      back = λ tells spool. back_on _ _ _ _ _ _ (o.back tells spool) (i.back tells spool);
       spent = λ tells d. spent_more (given c.args.source.now) (given c.pieces.source) (given c.deliver_piece.new.source) (passes c.args.cutter.now.start) (passes c.pieces.cutter.start) (passes c.deliver_piece.new.cutter.start) c.args.cutter.now.made c.pieces.cutter.made c.deliver_piece.new.cutter.made one o.behind.made (rw i.runs at (o.spent tells)) (i.spent tells is);
       spent_end = λ tells d. spent_last (given c.args.source.now) (given c.pieces.source) (given c.deliver_piece.new.source) (passes c.args.cutter.now.start) (passes c.pieces.cutter.start) (passes c.deliver_piece.new.cutter.start) c.args.cutter.now.made c.pieces.cutter.made c.deliver_piece.new.cutter.made one o.behind.made ((rw i.runs at (o.spent_end tells)) (unbroken.done d).1) (i.spent tells is);
       calls = calls_on _ _ _ _ _ _ _ _ _ e.calls i.calls o.behind.made;
       turns = turns_on _ _ _ _ _ _ _ _ _ _ _ _ _ c.tick.ensures.turns (rw i.runs at o.words) words (rw is at i.turns) o.behind.made;
-      steps = omega (arith, e.work.steps, i.steps, c.tick.ensures.steps);
-      greatest = omega (arith, e.work.greatest, i.greatest, c.tick.ensures.greatest);
+      steps = steps_on _ _ _ _ _ _ _ e.work.steps i.steps c.tick.ensures.steps;
+      greatest = greatest_on _ _ _ _ e.work.greatest i.greatest c.tick.ensures.greatest;
       read_faults = o.clean.read ∙ i.read_faults;
       write_faults = o.clean.write ∙ i.write_faults;
       spool_faults = o.clean.spool ∙ i.spool_faults;
       put_faults = o.clean.put ∙ i.put_faults;
-      unsynced = omega (arith, i.unsynced, o.unsynced);
+      unsynced = unsynced_on _ _ _ _ _ _ i.unsynced o.unsynced;
     }
+
+pub pieces-smaller : goal.pieces-smaller
+pieces-smaller g c =
+    let i = c.pieces.invariant in
+    let o = c.in-Ok.ensures in
+    let is : c.pieces.cutter.stage ≡ Between = still_between _ _ _ _ i.unbroken (sym c.more.ensures ∙ c.if-not-more.false) in
+    fewer_then (g.R.BlockRuns.count c.args.cutter.now.runs) c.pieces.cutter.made c.pieces.cutter.start.block c.deliver_piece.new.cutter.made (c.pieces.cutter.sound.left (ap has_more is)) (i.unbroken.between is) o.behind.made
 
 -- ---- behind the last piece
 
@@ -552,12 +556,12 @@ returns-in-Err-clause-work g c =
     let i = c.pieces.invariant in
     let e = c.deliver_piece.ensures in
     record {
-      given = omega (arith, i.given, e.work.given);
-      spool_given = omega (arith, i.spool_given, e.work.spool_given);
-      grown = omega (arith, i.grown, e.work.grown);
-      taken = omega (arith, i.taken, e.work.taken);
-      steps = omega (arith, i.steps, e.work.steps, c.tick.ensures.steps);
-      greatest = omega (arith, i.greatest, e.work.greatest, c.tick.ensures.greatest);
+      given = up_on _ _ _ i.given e.work.given;
+      spool_given = up_on _ _ _ i.spool_given e.work.spool_given;
+      grown = up_on _ _ _ i.grown e.work.grown;
+      taken = up_on _ _ _ i.taken e.work.taken;
+      steps = steps_on _ _ _ _ _ _ _ e.work.steps i.steps c.tick.ensures.steps;
+      greatest = greatest_on _ _ _ _ e.work.greatest i.greatest c.tick.ensures.greatest;
     }
 
 pub returns-in-Err-clause-faults : goal.returns-in-Err-clause-faults

@@ -1,5 +1,6 @@
 use Rattle.std.specs.Prelude.{IsTrue}
 use Rattle.std.proofs.Common.{◌≡◌, ℕ, ◌+◌, ◌*◌, ◌≤◌, ◌<◌, ◌^◌, List, length, drop, Err, refl, sym, ap, ◌∙◌, arith, inl}
+use Rattle.std.proofs.lemmas.Nat.{mul-lt}
 use Rattle.abt_io.specs.Moment.{MayLeave, moment_of}
 use Rattle.abt_sparse.specs.Block.{IsBlockSize, cells, over}
 use Rattle.abt_sparse.proofs.MendLaws.{mended}
@@ -8,15 +9,26 @@ use Rattle.abt_sparse.proofs.Totals.{length-pieces}
 use Rattle.abt_pieces.specs.Contents.{written_in}
 use Rattle.abt_pieces.specs.SpentStage.{all_passes}
 use Rattle.abt_pieces.specs.declared.stage.Stage.TheVariants.{Between}
-use Rattle.abt_flash.specs.Delivering.{begun, blocks_behind, blocks_in_first, blocks_up_to, pieces_in}
+use Rattle.abt_flash.specs.Delivering.{Room, begun, blocks_behind, blocks_in_first, blocks_up_to, pieces_in}
 use Rattle.abt_flash.proofs.Left.{Behind, behind}
 use Rattle.abt_flash.proofs.Mended.{leaves_same}
-use Rattle.abt_flash.proofs.Records.{begins_same, gives_none, lays_none, mendable_none, mends_none, opening_begins, opening_early, plan_early, rest_begins, rest_more, stop_mends}
+use Rattle.abt_flash.proofs.Onward.{up_on}
+use Rattle.abt_flash.proofs.Records.{begins_same, early_holds, gives_none, lays_none, mendable_none, mends_none, opening_begins, opening_counts, opening_early, opening_refuses, plan_early, plan_refuses, rest_begins, rest_early, rest_more, stop_mends}
+use Rattle.abt_flash.proofs.Refusing.{rest_refuses}
 use Rattle.abt_flash.proofs.Staying.{blocks_grow, from_first}
-use Rattle.abt_flash.proofs.Summing.{on_ok, on_unsynced, least_of, behind_written, reads_of}
+use Rattle.abt_flash.proofs.Summing.{on_any, on_ok, on_unsynced, least_of, behind_written, reads_of}
 use Rattle.abt_flash.proofs.opened.deliver_behind.Goals as goal
 
 -- ---- where no cutter was opened
+
+pub returns-in-Err-clause-refused : goal.returns-in-Err-clause-refused
+returns-in-Err-clause-refused g c = let small = c.in-Err.ensures.refused in rw c.not_opened.ensures (opening_refuses c.in-Err.fault _ _ _ _ _ _ _ _ _ small.0 small.1)
+
+pub returns-in-Err-clause-early : goal.returns-in-Err-clause-early
+returns-in-Err-clause-early g c = early_holds c.not_opened.result _ (refl, refl)
+
+pub returns-in-Err-clause-counted : goal.returns-in-Err-clause-counted
+returns-in-Err-clause-counted g c tells = rw c.not_opened.ensures (opening_counts c.in-Err.fault _ _)
 
 pub returns-in-Err-clause-spool : goal.returns-in-Err-clause-spool
 returns-in-Err-clause-spool g c = gives_none _ _ _ _ _ _ _
@@ -42,6 +54,13 @@ returns-in-Err-clause-costs g c = record {
 
 -- ---- where the partition is too small
 
+pub returns-then-is_too_small-clause-refused : goal.returns-then-is_too_small-clause-refused
+returns-then-is_too_small-clause-refused g c =
+    let o = c.in-Ok.ensures in
+    let count : c.blocks-2.result ≡ g.R.BlockRuns.count c.args.runs = rw o.runs at c.blocks-2.ensures in
+    let size : c.block_size.result ≡ g.R.BlockRuns.size c.args.runs = rw o.runs at c.block_size.ensures in
+    (o.granted, rw (count, size) refl, rw c.length.ensures.size at c.if-is_too_small.ensures)
+
 pub returns-then-is_too_small-clause-spool : goal.returns-then-is_too_small-clause-spool
 returns-then-is_too_small-clause-spool g c = gives_none _ _ _ _ _ _ _
 
@@ -58,6 +77,17 @@ pub returns-then-is_too_small-clause-costs : goal.returns-then-is_too_small-clau
 returns-then-is_too_small-clause-costs g c = record { begun = 0; counted = refl; calls = omega arith; turns = omega arith; steps = omega arith; greatest = omega arith }
 
 -- ---- where planning was refused
+
+pub returns-in-Err-plan_pieces-clause-refused : goal.returns-in-Err-plan_pieces-clause-refused
+returns-in-Err-plan_pieces-clause-refused g c =
+    let o = c.in-Ok.ensures in
+    let count : c.blocks-2.result ≡ g.R.BlockRuns.count c.args.runs = rw o.runs at c.blocks-2.ensures in
+    let size : c.block_size.result ≡ g.R.BlockRuns.size c.args.runs = rw o.runs at c.block_size.ensures in
+    let room : Room c.args.limit (g.R.BlockRuns.size c.args.runs) (g.R.BlockRuns.count c.args.runs) (g.P.Source.size c.args.partition.now) = record { each = o.granted; all = rw (count, size, c.length.ensures.size) at c.if-is_too_small.ensures } in
+    plan_refuses c.in-Err-plan_pieces.fault _ _ _ _ _ _ _ _ _ room c.in-Err-plan_pieces.ensures.refused
+
+pub returns-in-Err-plan_pieces-clause-early : goal.returns-in-Err-plan_pieces-clause-early
+returns-in-Err-plan_pieces-clause-early g c = early_holds c.in-Err-plan_pieces.fault _ (refl, refl)
 
 pub returns-in-Err-plan_pieces-clause-spool : goal.returns-in-Err-plan_pieces-clause-spool
 returns-in-Err-plan_pieces-clause-spool g c = gives_none _ _ _ _ _ _ _
@@ -95,6 +125,35 @@ returns-in-Err-plan_pieces-clause-costs g c =
     }
 
 -- ---- where all pieces behind the first ones were delivered, or one was stopped
+
+pub returns-clause-granted : goal.returns-clause-granted
+returns-clause-granted g c =
+    let o = c.in-Ok.ensures in
+    let count : c.blocks-2.result ≡ g.R.BlockRuns.count c.args.runs = rw o.runs at c.blocks-2.ensures in
+    let size : c.block_size.result ≡ g.R.BlockRuns.size c.args.runs = rw o.runs at c.block_size.ensures in
+    let room : Room c.args.limit (g.R.BlockRuns.size c.args.runs) (g.R.BlockRuns.count c.args.runs) (g.P.Source.size c.args.partition.now) = record { each = o.granted; all = rw (count, size, c.length.ensures.size) at c.if-is_too_small.ensures } in
+    on_any c.deliver_rest.result room
+
+pub returns-clause-refused : goal.returns-clause-refused
+returns-clause-refused g c =
+    let o = c.in-Ok.ensures in
+    let p = c.in-Ok-plan_pieces.ensures in
+    let count : c.blocks-2.result ≡ g.R.BlockRuns.count c.args.runs = rw o.runs at c.blocks-2.ensures in
+    let size : c.block_size.result ≡ g.R.BlockRuns.size c.args.runs = rw o.runs at c.block_size.ensures in
+    let room : Room c.args.limit (g.R.BlockRuns.size c.args.runs) (g.R.BlockRuns.count c.args.runs) (g.P.Source.size c.args.partition.now) = record { each = o.granted; all = rw (count, size, c.length.ensures.size) at c.if-is_too_small.ensures } in
+    rest_refuses c.deliver_rest.result _ _ _ _ _ _ _ _ _ _ (record { read = p.faults; write = omega arith; spool = omega arith; put = omega arith }) room (rw p.planned.1 at c.deliver_rest.ensures.stops)
+
+pub returns-clause-early : goal.returns-clause-early
+returns-clause-early g c = rest_early _ c.deliver_rest.result _ _ _ _ _ c.deliver_rest.ensures.stops
+
+pub returns-clause-content : goal.returns-clause-content
+returns-clause-content g c tells = c.deliver_rest.ensures.content tells ∙ c.in-Ok-plan_pieces.ensures.content tells
+
+pub returns-clause-frame : goal.returns-clause-frame
+returns-clause-frame g c = c.deliver_rest.ensures.frame ∙ c.in-Ok-plan_pieces.ensures.frame
+
+pub returns-clause-long : goal.returns-clause-long
+returns-clause-long g c = rw (c.in-Ok-plan_pieces.ensures.runs, c.in-Ok.ensures.runs) at c.deliver_rest.ensures.long
 
 pub returns-clause-counted : goal.returns-clause-counted
 returns-clause-counted g c tells =
@@ -219,3 +278,51 @@ pub returns-clause-clean : goal.returns-clause-clean
 returns-clause-clean g c =
     let before = c.in-Ok-plan_pieces.ensures.clean in
     on_ok c.deliver_rest.result (λ e. record { read = e.read ∙ before; write = e.write; spool = e.spool; put = e.put }) c.deliver_rest.ensures.clean
+
+-- ---- what planning and delivering ask for
+
+pub plan_pieces-requires-clause-opened : goal.plan_pieces-requires-clause-opened
+plan_pieces-requires-clause-opened g c tells = rw c.in-Ok.ensures.runs (c.requires.opened tells)
+
+pub plan_pieces-requires-clause-told : goal.plan_pieces-requires-clause-told
+plan_pieces-requires-clause-told g c tells = let o = c.in-Ok.ensures in rw o.runs (o.told _ (c.requires.opened tells))
+
+pub deliver_rest-requires-clause-inside : goal.deliver_rest-requires-clause-inside
+deliver_rest-requires-clause-inside g c = let p = c.in-Ok-plan_pieces.ensures in rw p.runs p.inside
+
+pub deliver_rest-requires-clause-few : goal.deliver_rest-requires-clause-few
+deliver_rest-requires-clause-few g c = let p = c.in-Ok-plan_pieces.ensures in rw p.runs p.few
+
+pub deliver_rest-requires-clause-opened : goal.deliver_rest-requires-clause-opened
+deliver_rest-requires-clause-opened g c tells =
+    let p = c.in-Ok-plan_pieces.ensures in
+    rw (p.runs, c.in-Ok.ensures.runs, p.content tells) (c.requires.opened tells)
+
+pub deliver_rest-requires-clause-told : goal.deliver_rest-requires-clause-told
+deliver_rest-requires-clause-told g c tells = let p = c.in-Ok-plan_pieces.ensures in rw (p.runs, p.content tells) (p.told tells)
+
+pub deliver_rest-requires-clause-capacity : goal.deliver_rest-requires-clause-capacity
+deliver_rest-requires-clause-capacity g c = rw (c.in-Ok-plan_pieces.ensures.limit, c.in-Ok.ensures.limit) c.requires.capacity
+
+pub deliver_rest-requires-clause-room : goal.deliver_rest-requires-clause-room
+deliver_rest-requires-clause-room g c =
+    let room = rw (c.blocks-2.ensures, c.block_size.ensures, c.length.ensures.size) at c.if-is_too_small.ensures in
+    rw c.in-Ok-plan_pieces.ensures.runs room
+
+-- ---- what only grows
+
+pub returns-clause-grown : goal.returns-clause-grown
+returns-clause-grown g c =
+    let p = c.in-Ok-plan_pieces.ensures in
+    let w = c.deliver_rest.ensures.work in
+    (up_on _ _ _ p.given w.given, w.spool_given, w.grown, w.taken)
+
+pub returns-clause-faults : goal.returns-clause-faults
+returns-clause-faults g c = up_on _ _ _ c.in-Ok-plan_pieces.ensures.faults c.deliver_rest.ensures.faults.read
+
+-- ---- the bytes of all blocks fit 64 bits
+
+pub overflow_mul-need : goal.overflow_mul-need
+overflow_mul-need g c =
+    let less = mul-lt c.blocks-2.result c.block_size.result 4294967296 4294967296 c.blocks-2.type_inv c.block_size.type_inv in
+    omega (arith, less)

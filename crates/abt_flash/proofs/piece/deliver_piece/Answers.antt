@@ -589,3 +589,82 @@ returns-in-Ok-flash-clause-takes g c =
     let wrote = rw c.in-Ok-Some.field-0-is at c.in-Ok-Some.ensures.long in
     let takes = rw c.in-Ok-Some.field-0-is at c.in-Ok-Some.ensures.takes in
     omega (arith, same, long, wrote, takes)
+
+-- ---- what is only said of a piece that was delivered, where it was not flashed
+
+pub returns-in-Err-flash-clause-behind : goal.returns-in-Err-flash-clause-behind
+returns-in-Err-flash-clause-behind g c = rw c.not_flashed.ensures tt
+
+pub returns-in-Err-flash-clause-cut : goal.returns-in-Err-flash-clause-cut
+returns-in-Err-flash-clause-cut g c = rw c.not_flashed.ensures tt
+
+pub returns-in-Err-flash-clause-written : goal.returns-in-Err-flash-clause-written
+returns-in-Err-flash-clause-written g c tells = rw c.not_flashed.ensures tt
+
+pub returns-in-Err-flash-clause-settled : goal.returns-in-Err-flash-clause-settled
+returns-in-Err-flash-clause-settled g c tells = rw c.not_flashed.ensures tt
+
+pub returns-in-Err-flash-clause-blocks : goal.returns-in-Err-flash-clause-blocks
+returns-in-Err-flash-clause-blocks g c tells spool = rw c.not_flashed.ensures tt
+
+pub returns-in-Err-flash-clause-takes : goal.returns-in-Err-flash-clause-takes
+returns-in-Err-flash-clause-takes g c = rw c.not_flashed.ensures tt
+
+pub returns-in-Err-flash-clause-back : goal.returns-in-Err-flash-clause-back
+returns-in-Err-flash-clause-back g c tells spool = rw c.not_flashed.ensures tt
+
+pub returns-in-Err-flash-clause-spent : goal.returns-in-Err-flash-clause-spent
+returns-in-Err-flash-clause-spent g c tells = rw c.not_flashed.ensures tt
+
+pub returns-in-Err-flash-clause-spent_end : goal.returns-in-Err-flash-clause-spent_end
+returns-in-Err-flash-clause-spent_end g c tells = rw c.not_flashed.ensures tt
+
+pub returns-in-Err-flash-clause-words : goal.returns-in-Err-flash-clause-words
+returns-in-Err-flash-clause-words g c = rw c.not_flashed.ensures tt
+
+pub returns-in-Err-flash-clause-clean : goal.returns-in-Err-flash-clause-clean
+returns-in-Err-flash-clause-clean g c = rw c.not_flashed.ensures tt
+
+-- ---- what a callee says as it stands
+
+pub next_piece-requires-clause-unbegun : goal.next_piece-requires-clause-unbegun
+next_piece-requires-clause-unbegun g c = rw c.requires.between refl
+
+pub next_piece-requires-clause-opened : goal.next_piece-requires-clause-opened
+next_piece-requires-clause-opened g c = c.requires.opened
+
+pub next_piece-requires-clause-told : goal.next_piece-requires-clause-told
+next_piece-requires-clause-told g c = c.requires.told
+
+pub returns-in-Err-clause-capacity : goal.returns-in-Err-clause-capacity
+returns-in-Err-clause-capacity g c = c.clear.ensures.size
+
+pub returns-in-Err-next_piece-clause-content : goal.returns-in-Err-next_piece-clause-content
+returns-in-Err-next_piece-clause-content g c = c.next_piece.ensures.content
+
+pub returns-in-Err-next_piece-clause-frame : goal.returns-in-Err-next_piece-clause-frame
+returns-in-Err-next_piece-clause-frame g c = c.next_piece.ensures.frame
+
+pub returns-in-Ok-flash-clause-content : goal.returns-in-Ok-flash-clause-content
+returns-in-Ok-flash-clause-content g c = c.next_piece.ensures.content
+
+pub returns-in-Ok-flash-clause-frame : goal.returns-in-Ok-flash-clause-frame
+returns-in-Ok-flash-clause-frame g c = c.next_piece.ensures.frame
+
+pub returns-in-Err-flash-clause-content : goal.returns-in-Err-flash-clause-content
+returns-in-Err-flash-clause-content g c = c.next_piece.ensures.content
+
+pub returns-in-Err-flash-clause-frame : goal.returns-in-Err-flash-clause-frame
+returns-in-Err-flash-clause-frame g c = c.next_piece.ensures.frame
+
+pub returns-in-Ok-flash-clause-size : goal.returns-in-Ok-flash-clause-size
+returns-in-Ok-flash-clause-size g c = c.flash.ensures.size
+
+pub returns-in-Ok-flash-clause-unread : goal.returns-in-Ok-flash-clause-unread
+returns-in-Ok-flash-clause-unread g c = (c.flash.ensures.unread.0, c.flash.ensures.unread.1)
+
+pub returns-in-Err-flash-clause-size : goal.returns-in-Err-flash-clause-size
+returns-in-Err-flash-clause-size g c = c.flash.ensures.size
+
+pub returns-in-Err-flash-clause-unread : goal.returns-in-Err-flash-clause-unread
+returns-in-Err-flash-clause-unread g c = (c.flash.ensures.unread.0, c.flash.ensures.unread.1)
