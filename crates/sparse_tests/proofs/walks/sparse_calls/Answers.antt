@@ -1,0 +1,8 @@
+use Rattle.sparse_tests.proofs.walks.sparse_calls.Goals as goal
+
+pub copy-requires-clause-told : goal.copy-requires-clause-told
+copy-requires-clause-told c = λ tells.
+    let part = c.in_ok-next_part.ensures in
+    let run = c.in_ok-raw.ensures in
+    let image = c.in_ok-runs.ensures in
+    rw (part.content tells, part.same, run.content tells, run.same, image.content tells) (image.opened tells, rw (image.content tells) at (run.places tells).0)
