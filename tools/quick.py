@@ -17,7 +17,8 @@ from concurrent.futures import ThreadPoolExecutor
 sys.dont_write_bytecode = True
 from repository import HERE, crate_at, crate_lines
 
-SCRIPTS = (("tools/check_claims.py",), ("tools/edits.py", "--check"), ("tools/make_completions.py", "--check"))
+SCRIPTS = (
+    ("tools/check_claims.py",), ("tools/check_weight.py",), ("tools/edits.py", "--check"), ("tools/make_completions.py", "--check"))
 LAST = re.compile(r"(?:[\w ]+: )?(\d+) passed, (\d+) failed")
 TESTED = re.compile(r"test result: \w+\. (\d+) passed; (\d+) failed")
 WRONG = re.compile(r"error|FAILED|failed|panicked|NOT SO|fault")

@@ -1,0 +1,92 @@
+#!/usr/bin/env python3
+"""Holds what makes the project hard to read to what it is today, so that it only falls.
+
+  tools/check_weight.py [--show]      --show: also the functions and names themselves, heaviest first
+
+Counted are the functions of each crate, those whose contracts have more than 15 and more than 20 clauses, and the names that
+two files of specs/ define. A count above the figure here fails; one below it fails too, until the figure is taken down to it.
+The last line is 'N passed, M failed'.
+"""
+import argparse
+import collections
+import glob
+import os
+import re
+import sys
+
+sys.dont_write_bytecode = True
+from repository import HERE, crate_lines
+
+# The most functions of a crate, and those that have more; docs/DECISIONS.md says why these are not taken apart.
+FUNCTIONS = 100
+MORE_FUNCTIONS = {"abt_io": 156, "abt_sections": 122}
+# How many functions have contracts of more clauses than this.
+LONG_CONTRACTS = {15: 122, 20: 57}
+NAMES_DEFINED_TWICE = 107
+
+FUNCTION = re.compile(r"\s*(?:pub(?:\(\w+\))? )?(?:const )?(?:unsafe )?(?:extern \"C\" )?(?:final )?fn (\w+)")
+CLAUSE = re.compile(r"\s*(?:requires|ensures)\b")
+DEFINED = re.compile(r"(?:(?:unfoldable|abbrev|opaque) )*pub (?:(?:unfoldable|abbrev|data|record) )*(?!mod\b|use\b)([^\s:({]+)")
+
+
+def lines_below(crate, part, ending):
+    """Each file of a part of a crate, by its path, with its lines."""
+    for path in sorted(glob.glob(os.path.join(HERE, "crates", crate, part, "**", f"*.{ending}"), recursive=True)):
+        with open(path, encoding="utf-8") as text:
+            yield os.path.relpath(path, HERE), text.read().splitlines()
+
+
+def contracts(crate):
+    """The functions of a crate, each with the number of its clauses."""
+    for path, lines in lines_below(crate, "src", "rt"):
+        name, clauses = None, 0
+        for line in [*lines, "fn end"]:
+            found = FUNCTION.match(line)
+            if found:
+                if name:
+                    yield clauses, f"{path}: {name}"
+                name, clauses = found[1], 0
+            clauses += bool(CLAUSE.match(line))
+
+
+def defined_twice(crates):
+    """The names that more than one file of specs/ defines, with those files."""
+    places = collections.defaultdict(list)
+    for crate in crates:
+        for path, lines in lines_below(crate, "specs", "antt"):
+            for name in {it[1] for it in map(DEFINED.match, lines) if it}:
+                places[name].append(f"{crate}.{os.path.basename(path)[:-5]}")
+    return sorted((it for it in places.items() if len(it[1]) > 1), key=lambda it: (-len(it[1]), it[0]))
+
+
+def main():
+    parser = argparse.ArgumentParser(description=__doc__, formatter_class=argparse.RawDescriptionHelpFormatter)
+    parser.add_argument("--show", action="store_true")
+    show, counts = parser.parse_args().show, collections.Counter()
+
+    def that(is_so, what):
+        counts[is_so] += 1
+        if show or not is_so:
+            print(f"{'ok' if is_so else 'NOT SO'}: {what}")
+
+    crates, functions = list(crate_lines()[0]), []
+    for crate in crates:
+        own = list(contracts(crate))
+        most = MORE_FUNCTIONS.get(crate)
+        that(len(own) <= FUNCTIONS if most is None else len(own) == most,
+             f"{crate} has {len(own)} functions; {f'at most {FUNCTIONS}' if most is None else most}")
+        functions += own
+    for clauses, figure in LONG_CONTRACTS.items():
+        long = sum(many > clauses for many, _ in functions)
+        that(long == figure, f"{long} functions have more than {clauses} clauses; {figure}")
+    twice = defined_twice(crates)
+    that(len(twice) == NAMES_DEFINED_TWICE, f"{len(twice)} names are defined in two files of specs/; {NAMES_DEFINED_TWICE}")
+    if show:
+        print(*(f"{many} {name}" for many, name in sorted(functions, reverse=True) if many > min(LONG_CONTRACTS)), sep="\n")
+        print(*(f"{name}: {', '.join(files)}" for name, files in twice), sep="\n")
+    print(f"{counts[True]} passed, {counts[False]} failed")
+    return 1 if counts[False] else 0
+
+
+if __name__ == "__main__":
+    sys.exit(main())
