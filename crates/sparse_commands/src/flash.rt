@@ -2,6 +2,7 @@
 
 ghost use Rattle.std.specs.Prelude.{◌≡◌};
 
+use crate::pieces::RAW_PASSES;
 use abt_flash::{Delivered, FlashFault, flash, resume, resume_raw};
 use abt_host::{Passing, Reading, Watched};
 use abt_io::{FilePartition, FileSource, FileSpool, Meter, Source, Window};
@@ -9,10 +10,6 @@ use abt_output::Report;
 use abt_refusals::{Place, Sides};
 use abt_words::Pieces;
 use sparse_rules::{Line, SparseCommandFault, SparseRefusal, image_place, raw_pieces};
-
-// How often a raw image is read that is flashed in pieces: to plan a piece, to find each run whole, and, part by part,
-// to find the run again and to copy it.
-const RAW_PASSES: u64 = 4;
 
 /// Flashes an image to a partition, which must be there, and prints how many blocks it was. The image is read forward,
 /// so that it may be a pipe.
