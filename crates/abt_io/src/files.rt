@@ -1,11 +1,13 @@
 //! Files as a source, a partition and a spool. They tell nothing: what a real file holds between
-//! two calls is beyond a proof. Each call is one positioned read or write, without a buffer.
+//! two calls is beyond a proof. Each write is one positioned write, without a buffer. Small reads of a source and of a
+//! spool are read ahead (`ahead`), and every other read is one positioned read.
 
 ghost use Rattle.std.specs.Prelude.{◌≡◌, ◌≤◌, ◌+◌, [], false, not, nat_lt, length, IfOk, IsSome, refl};
 ghost use Rattle.std.proofs.lemmas.Bool.{false≢true};
 ghost use Rattle.abt_io.specs.Frame.{last_cut, nothing_logged};
 ghost use Rattle.abt_io.specs.Held.{filled_count};
 
+use crate::ahead::Ahead;
 use crate::{DeviceFault, Input, Log, Output, Partition, Source, Spool, Tally, tries};
 use std::fs::{File, OpenFile};
 use std::io::{Seek, SeekFrom};
@@ -23,6 +25,7 @@ fn length_of(file: &mut File) -> Result<u64, DeviceFault> {
 pub struct FileSource {
     pub file: Option<File>,
     pub size: u64,
+    ahead: Ahead,
     pub reads: Tally,
     pub given: Tally,
     pub faults: Tally,
@@ -39,6 +42,7 @@ impl FileSource {
         Ok(FileSource {
             file: Some(file),
             size,
+            ahead: Ahead::new(),
             reads: Tally::new(),
             given: Tally::new(),
             faults: Tally::new(),
@@ -52,6 +56,7 @@ impl FileSource {
         FileSource {
             file: None,
             size: 0,
+            ahead: Ahead::new(),
             reads: Tally::new(),
             given: Tally::new(),
             faults: Tally::new(),
@@ -85,7 +90,7 @@ impl Source for FileSource {
         let Some(file) = &self.file else {
             return Ok(0);
         };
-        match tries::read_at(file, at, out) {
+        match self.ahead.read_at(file, at, out) {
             Ok(n) => {
                 self.given.add(n as u64);
                 Ok(n)
@@ -230,6 +235,7 @@ pub struct FileSpool {
     pub capacity: u64,
     pub used: u64,
     pub seen: u64,
+    ahead: Ahead,
     pub log: Log,
     pub reads: Tally,
     pub given: Tally,
@@ -257,6 +263,7 @@ impl FileSpool {
             capacity,
             used: 0,
             seen: 0,
+            ahead: Ahead::new(),
             log: Log::new(),
             reads: Tally::new(),
             given: Tally::new(),
@@ -299,7 +306,7 @@ impl Input for FileSpool {
         self.reads.add(1);
         let left = self.used.saturating_sub(self.seen);
         let ask = left.min(out.len() as u64) as usize;
-        match tries::read_at(&self.file, self.seen, &mut out[..ask]) {
+        match self.ahead.read_at(&self.file, self.seen, &mut out[..ask]) {
             Ok(n) => {
                 self.given.add(n as u64);
                 self.seen = self.seen.saturating_add(n as u64);
@@ -347,6 +354,7 @@ impl Output for FileSpool {
             return Err(DeviceFault::Full);
         }
         let n = (self.capacity - used).min(bytes.len() as u64) as usize;
+        self.ahead.forget();
         match tries::write_at(&self.file, used, &bytes[..n]) {
             Ok(taken) => {
                 self.log.append(&bytes[..taken]);
@@ -388,6 +396,7 @@ impl Spool for FileSpool {
     /// Cuts the file off at its front; it stays open.
     fn clear(&mut self) -> Result<(), DeviceFault> {
         self.clears.add(1);
+        self.ahead.forget();
         match self.file.set_len(0) {
             Ok(()) => {
                 self.log.cut();
