@@ -7,6 +7,7 @@ ghost use Rattle.abt_chunks.specs.ListingAhead.{is_spent};
 use abt_sparse::ChunkKind;
 
 /// How many bytes of the chunk's blocks are still to be given.
+#[inline(always)]
 pub(crate) fn bytes_left(kind: ChunkKind, raw: u64, words: u64) -> u64
     requires { left_of kind raw words < 2 ^ 64 }
     ensures { result ≡ left_of kind raw words }
@@ -20,6 +21,7 @@ pub(crate) fn bytes_left(kind: ChunkKind, raw: u64, words: u64) -> u64
 }
 
 /// How many raw bytes are to be read of it.
+#[inline(always)]
 pub(crate) fn raw_bytes(kind: ChunkKind, blocks: u32, block_size: u32) -> u64
     ensures { result ≡ raw_of kind blocks block_size }
 {
@@ -30,6 +32,7 @@ pub(crate) fn raw_bytes(kind: ChunkKind, blocks: u32, block_size: u32) -> u64
 }
 
 /// Whether its data is one word.
+#[inline(always)]
 pub(crate) fn has_word(kind: ChunkKind) -> bool
     ensures { result ≡ due_of kind }
 {
@@ -41,6 +44,7 @@ pub(crate) fn has_word(kind: ChunkKind) -> bool
 }
 
 /// How many words of four bytes it gives without reading them.
+#[inline(always)]
 pub(crate) fn laid_words(kind: ChunkKind, blocks: u32, block_size: u32) -> u64
     ensures { result ≡ words_of kind blocks block_size }
 {
@@ -52,6 +56,7 @@ pub(crate) fn laid_words(kind: ChunkKind, blocks: u32, block_size: u32) -> u64
 }
 
 /// Whether nothing is left of such a chunk, neither of its data nor of the words that it gives.
+#[inline(always)]
 pub(crate) fn nothing_left(kind: ChunkKind, due: bool, raw: u64, words: u64) -> bool
     ensures { result ≡ is_spent kind due raw words }
 {

@@ -77,6 +77,7 @@ impl Walk {
     }
 
     /// Bytes of a header behind the part of it that this version knows. They are passed over.
+    #[inline(always)]
     pub(crate) fn take_extra(&mut self, got: &[u8]) -> Part
         requires here { AtTurn Turn.Extra self.old }
         requires asked { length got.now ≤ self.old.extra }
@@ -102,6 +103,7 @@ impl Walk {
 
     /// So many raw bytes, which are blocks as they are, whatever bytes they are. Those that came before the input ended
     /// count.
+    #[inline(always)]
     pub(crate) fn take_raw(&mut self, n: usize) -> Part
         requires here { AtTurn Turn.Raw self.old }
         requires asked { n ≤ self.old.raw }
@@ -125,6 +127,7 @@ impl Walk {
     }
 
     /// The word of a fill, or the value of a checksum.
+    #[inline(always)]
     fn take_word(&mut self, got: &[u8]) -> Part
         requires here { AtTurn Turn.Word self.old }
         requires asked { length got.now ≤ 4 }
@@ -151,6 +154,7 @@ impl Walk {
     }
 
     /// The header of a chunk, twelve bytes.
+    #[inline(always)]
     fn take_chunk(&mut self, got: &[u8]) -> Part
         requires here { AtTurn Turn.Chunk self.old }
         requires asked { length got.now ≤ 12 }
@@ -177,6 +181,7 @@ impl Walk {
     }
 
     /// The same, of a kind that the format knows: its length is checked, and then its blocks.
+    #[inline(always)]
     fn take_known(&mut self, got: &[u8], kind: ChunkKind) -> Part
         requires here { AtTurn Turn.Chunk self.old }
         requires whole { length got.now ≡ 12 }
@@ -221,6 +226,7 @@ impl Walk {
     }
 
     /// Words of a fill, as many as are left and at most `most`. Nothing is read for them.
+    #[inline(always)]
     fn give_fill(&mut self, most: u64) -> Part
         requires here { AtTurn Turn.Fill self.old }
         requires some { 0 < most }
@@ -240,6 +246,7 @@ impl Walk {
     }
 
     /// Words of a gap, as many as are left and at most `most`. Nothing is read for them.
+    #[inline(always)]
     fn give_gap(&mut self, most: u64) -> Part
         requires here { AtTurn Turn.Gap self.old }
         requires some { 0 < most }
@@ -259,6 +266,7 @@ impl Walk {
     }
 
     /// Behind the last chunk: the blocks of all chunks are as many as the header says, or too few.
+    #[inline(always)]
     fn end(&mut self) -> Part
         requires here { AtTurn Turn.End self.old }
         ensures says { (t : List ℕ) → Says result self.old self.new [] t }
@@ -296,6 +304,7 @@ impl Walk {
     }
 
     /// Takes a turn with the bytes that came for it.
+    #[inline(always)]
     pub(crate) fn take(&mut self, turn: Turn, got: &[u8], fills: u64, skips: u64) -> Part
         requires here { AtTurn turn self.old }
         requires asked { length got.now ≤ ask_of turn self.old }
@@ -331,6 +340,7 @@ impl Walk {
 
     /// One step: reads what comes next, at most a window, and tells what it gives. Raw bytes stand in the front of the
     /// window. Of a fill it gives at most `fills` words of four bytes, of a gap at most `skips`.
+    #[inline(always)]
     pub fn part<I: Input>(
         &mut self,
         fills: u64,
@@ -371,6 +381,7 @@ impl Walk {
     }
 
     /// The same with at most `most` bytes read, so that a caller has the rest of the window for itself.
+    #[inline(always)]
     pub fn part_within<I: Input>(
         &mut self,
         fills: u64,

@@ -22,6 +22,7 @@ impl Walk {
     }
 
     /// Where the next byte of a block lies in the expanded image, in bytes from its first block.
+    #[inline(always)]
     pub fn place(&self) -> u64
         ensures { result ≡ place_of self.now }
     {
@@ -47,6 +48,7 @@ impl Walk {
     }
 
     /// What the walk does next.
+    #[inline(always)]
     pub(crate) fn turn(&self) -> Turn
         ensures { AtTurn result self.now }
     {
@@ -64,6 +66,7 @@ impl Walk {
     }
 
     /// Nothing is left of what was begun, the image's header or a chunk.
+    #[inline(always)]
     pub fn is_at_end(&self) -> bool
         ensures { result ≡ at_end self.now }
     {
@@ -72,6 +75,7 @@ impl Walk {
 
     /// The same within a chunk, once its header has been passed: its data, then the words that it gives, then the
     /// next chunk or the end.
+    #[inline(always)]
     fn turn_in_data(&self) -> Turn
         requires body { self.now.phase ≡ Phase.Body }
         requires extra { self.now.extra ≡ 0 }
@@ -110,6 +114,7 @@ impl Walk {
     }
 
     /// How many bytes that takes, at most a window: what is longer is taken in several steps.
+    #[inline(always)]
     pub(crate) fn ask(&self, turn: Turn) -> usize
         ensures value { result ≡ ask_of turn self.now }
         ensures room { result ≤ 65536 }

@@ -31,6 +31,7 @@ pub enum Task {
 }
 
 /// What is done for a part. A gap is left as it is, and so is what comes behind a fault.
+#[inline(always)]
 fn task_for(part: Part) -> Task
     ensures { result ≡ task_of part }
 {
@@ -45,6 +46,7 @@ fn task_for(part: Part) -> Task
 }
 
 /// What is answered once the partition has.
+#[inline(always)]
 fn answer_to(task: Task, done: Result<(), DeviceFault>) -> Result<(), FlashFault>
     ensures { result ≡ answered task done }
 {
@@ -132,6 +134,7 @@ fn lay_words<P: Partition>(
 }
 
 /// Does a task, which writes from a place on.
+#[inline(always)]
 fn carry_out<P: Partition>(
     task: Task,
     at: u64,
@@ -186,6 +189,7 @@ fn carry_out<P: Partition>(
 
 /// Writes what a part gives from a place on; of a gap nothing, which leaves the bytes as they are. At the end of the
 /// image the partition is synced.
+#[inline(always)]
 pub(crate) fn lay_part<P: Partition>(
     part: Part,
     at: u64,

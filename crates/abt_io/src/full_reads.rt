@@ -14,6 +14,7 @@ pub struct FullRead {
 }
 
 /// Reads until `out` is full, the input has ended or it fails. An empty `out` asks for nothing.
+#[inline(always)]
 pub fn read_full<I: Input>(input: &mut I, out: &mut [u8], m: &mut Meter) -> FullRead
     requires { length out.old ≤ 65536 }
     ensures within { result.count ≤ length out.new }
@@ -63,6 +64,7 @@ pub fn read_full<I: Input>(input: &mut I, out: &mut [u8], m: &mut Meter) -> Full
 
 /// Reads the bytes from a place on, until `out` is full, the source has ended or it fails. An
 /// empty `out` asks for nothing.
+#[inline(always)]
 pub fn read_full_at<S: Source>(source: &mut S, at: u64, out: &mut [u8], m: &mut Meter) -> FullRead
     requires window { length out.old ≤ 65536 }
     requires below { at + length out.old < 2 ^ 64 }

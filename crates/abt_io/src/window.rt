@@ -29,6 +29,7 @@ impl Window {
     }
 
     /// The bytes from `a` up to and without `b`, lent and not copied.
+    #[inline(always)]
     pub fn part(&self, a: usize, b: usize) -> &[u8]
         requires order { a ≤ b }
         requires bound { b ≤ 65536 }
@@ -40,6 +41,7 @@ impl Window {
 
     /// The same, for writing. Once the loan ends, the window is as before with these bytes written
     /// over.
+    #[inline(always)]
     pub fn part_mut(&mut self, a: usize, b: usize) -> &mut [u8]
         requires order { a ≤ b }
         requires bound { b ≤ 65536 }

@@ -9,6 +9,7 @@ ghost use Rattle.abt_io.specs.Over.{WritesFront};
 use crate::{DeviceFault, Meter, Output, Overwrite, Partition};
 
 /// Writes all of these bytes. Where it fails, a front of them is written, as far as `front` says.
+#[inline(always)]
 pub fn write_out<O: Output>(output: &mut O, bytes: &[u8], m: &mut Meter) -> Result<(), DeviceFault>
     requires { length bytes.now ≤ 65536 }
     ensures ok { OnOk result (O.written output.new ≡ O.written output.old ++ bytes.now) }
@@ -44,6 +45,7 @@ pub fn write_out<O: Output>(output: &mut O, bytes: &[u8], m: &mut Meter) -> Resu
 
 /// Writes all of these bytes at a place. Where it fails, the range may hold any bytes; all others are
 /// as they were.
+#[inline(always)]
 pub fn write_all_at<P: Partition>(
     partition: &mut P,
     at: u64,

@@ -11,6 +11,7 @@ use abt_io::{DeviceFault, Meter, Output, write_out};
 use abt_runs::RunKind;
 use abt_sparse::{ChunkHeader, ChunkKind, SparseHeader};
 
+#[inline(always)]
 fn side_by_side(header: [u8; 12], word: [u8; 4]) -> [u8; 16]
     ensures { result ≡ header ++ word }
 {
@@ -21,6 +22,7 @@ fn side_by_side(header: [u8; 12], word: [u8; 4]) -> [u8; 16]
 }
 
 /// The header of a chunk, and behind it the word of a fill.
+#[inline(always)]
 pub fn chunk_front(kind: RunKind, blocks: u32, total: u32) -> [u8; 16]
     ensures { take (length_of_head kind) result ≡ front_bytes kind blocks total }
 {
@@ -38,6 +40,7 @@ pub fn chunk_front(kind: RunKind, blocks: u32, total: u32) -> [u8; 16]
 }
 
 /// Writes what stands in front of a chunk's blocks: its header (`chunk_header_t`), and the word of a fill.
+#[inline(always)]
 pub fn write_front<O: Output>(
     output: &mut O,
     kind: RunKind,

@@ -12,6 +12,7 @@ use abt_io::{Meter, Source, Window};
 use abt_runs::{BlockRuns, Cursor, Run, RunFault, RunKind, are_alike};
 
 /// One part of a piece: of the image from `first` up to `past`, and don't care behind it. One step.
+#[inline(always)]
 pub fn framed_part<R: BlockRuns, S: Source>(
     runs: &mut R,
     source: &mut S,
@@ -149,6 +150,7 @@ impl Gatherer {
     }
 
     /// With a part more, and the run that has ended before it, if one has.
+    #[inline(always)]
     fn and_part(self, part: Run) -> (Gatherer, Option<Run>)
         requires count { self.count + part.blocks < 2 ^ 32 }
         ensures { result ≡ gathered_on self part }
@@ -192,6 +194,7 @@ impl Gatherer {
 
     /// One part more of the piece. A run that has ended is given back whole, and the next begun.
     /// One step.
+    #[inline(always)]
     pub fn gather<R: BlockRuns, S: Source>(
         &mut self,
         runs: &mut R,

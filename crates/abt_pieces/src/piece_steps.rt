@@ -96,6 +96,7 @@ impl<R: BlockRuns + Drop> Cutter<R> {
 
     /// Plans one part more of the next piece. One step.
     #[tactic(auto, using(crate::proofs::Fronts::run_not_full))]
+    #[inline(always)]
     fn plan<S: Source>(
         &mut self,
         from: Planner,
@@ -227,6 +228,7 @@ impl<R: BlockRuns + Drop> Cutter<R> {
     }
 
     /// Writes one part more of a piece, or goes behind it where it is whole. One step.
+    #[inline(always)]
     fn write<S: Source, O: Output>(
         &mut self,
         outline: Outline,
@@ -322,6 +324,7 @@ impl<R: BlockRuns + Drop> Cutter<R> {
     /// received from the source. A piece is answered when it is whole, and `End` behind the last;
     /// then that is answered again, and no device called. It refuses as `next_piece` does, and then
     /// answers the same fault again and calls no device.
+    #[inline(always)]
     pub fn step<S: Source, O: Output>(
         &mut self,
         source: &mut S,

@@ -42,6 +42,7 @@ impl Planner {
     }
 
     /// One part more. True where the piece goes no further.
+    #[inline(always)]
     pub fn step<R: BlockRuns, S: Source>(
         &mut self,
         runs: &mut R,

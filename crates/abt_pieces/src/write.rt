@@ -58,6 +58,7 @@ pub struct Writer {
 }
 
 /// Where the copying of a run begins, if it is raw.
+#[inline(always)]
 fn copy_from(run: Run, bytes: u64) -> Option<Copying>
     ensures { result ≡ starts run.kind run.here bytes }
 {
@@ -75,6 +76,7 @@ fn copy_from(run: Run, bytes: u64) -> Option<Copying>
 
 impl Copying {
     /// With the part behind the one that is copied, if that is raw.
+    #[inline(always)]
     fn and_part(self, part: Run, size: u32) -> Option<Copying>
         ensures { result ≡ next_copying self part size }
     {
@@ -97,6 +99,7 @@ impl Copying {
     }
 
     /// With so many bytes more copied, if any are left then.
+    #[inline(always)]
     fn and_bytes(self, count: u64) -> Option<Copying>
         requires left { count ≤ self.left }
         requires done { self.done + count < 2 ^ 64 }
@@ -130,6 +133,7 @@ impl Writer {
 
     /// Writes what stands in front of a run's blocks, where the piece as it was planned has room
     /// for the run. Else the source has changed since.
+    #[inline(always)]
     fn begin_chunk<O: Output>(
         &mut self,
         run: Run,
@@ -182,6 +186,7 @@ impl Writer {
 
     /// Looks for the end of the open run, and begins the chunk of a run that has ended. One step.
     #[tactic(auto, using(crate::proofs::Fronts::run_not_full))]
+    #[inline(always)]
     fn look<R: BlockRuns, S: Source, O: Output>(
         &mut self,
         runs: &mut R,
@@ -278,6 +283,7 @@ impl Writer {
 
     /// Finds the next part of the raw run that is being copied. One step.
     #[tactic(auto, using(crate::proofs::Fronts::run_not_full))]
+    #[inline(always)]
     fn next_raw<R: BlockRuns, S: Source>(
         &mut self,
         copying: Copying,
@@ -355,6 +361,7 @@ impl Writer {
 
     /// Copies bytes of the raw run, up to a window. One step.
     #[tactic(auto, using(crate::proofs::Fronts::run_not_full))]
+    #[inline(always)]
     fn copy_bytes<R: BlockRuns, S: Source, O: Output>(
         &mut self,
         copying: Copying,
@@ -458,6 +465,7 @@ impl Writer {
     }
 
     /// One step of the piece: True where it is whole.
+    #[inline(always)]
     pub fn step<R: BlockRuns, S: Source, O: Output>(
         &mut self,
         runs: &mut R,

@@ -8,6 +8,7 @@ use abt_sparse::{ChunkHeader, ChunkKind, u16_at, u32_at};
 pub const CHUNK_HEADER: usize = 12;
 
 /// The fields, or nothing where the type is unknown.
+#[inline(always)]
 pub fn head_at(bytes: &[u8]) -> Option<ChunkHeader>
     requires { length bytes.now ≡ 12 }
     ensures { result ≡ head_of bytes.now }

@@ -94,6 +94,7 @@ impl Opening {
     }
 
     /// The step over the bytes of a chunk's header.
+    #[inline(always)]
     fn take_chunk(&mut self, bytes: &[u8]) -> Result<Progress, RunFault>
         requires here { self.old.stage ≡ Stage.Chunks }
         requires more { self.old.index < self.old.header.total_chunks }
@@ -116,6 +117,7 @@ impl Opening {
     }
 
     /// The same where the type is known.
+    #[inline(always)]
     fn take_known(&mut self, bytes: &[u8], chunk: ChunkHeader) -> Result<Progress, RunFault>
         requires here { self.old.stage ≡ Stage.Chunks }
         requires more { self.old.index < self.old.header.total_chunks }
@@ -211,6 +213,7 @@ impl Opening {
     }
 
     /// Reads the next chunk's header.
+    #[inline(always)]
     fn read_chunk<S: Source>(
         &mut self,
         source: &mut S,

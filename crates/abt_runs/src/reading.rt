@@ -13,6 +13,7 @@ pub struct Loaded {
 }
 
 /// Reads so many bytes from a place of the source to the front of the window.
+#[inline(always)]
 pub fn load<S: Source>(
     source: &mut S,
     at: u64,

@@ -19,6 +19,7 @@ use crate::{BlockRuns, Cursor, Run, RunFault, RunKind, SparseRuns};
 use abt_io::{Meter, Source, Window};
 use abt_sparse::{ChunkHeader, ChunkKind, counted_blocks, data_length};
 
+#[inline(always)]
 fn is_raw(kind: ChunkKind) -> bool
     ensures { result ≡ raws kind }
 {
@@ -31,6 +32,7 @@ fn is_raw(kind: ChunkKind) -> bool
 }
 
 /// Whether a word is to be read: that of a fill chunk that has blocks.
+#[inline(always)]
 fn has_word(chunk: &ChunkHeader) -> bool
     ensures { result ≡ wants_word chunk.now.kind chunk.now.blocks }
 {
@@ -42,6 +44,7 @@ fn has_word(chunk: &ChunkHeader) -> bool
     }
 }
 
+#[inline(always)]
 fn class_of(kind: ChunkKind, word: [u8; 4]) -> RunKind
     ensures { result ≡ class_of_kind kind word }
 {
@@ -54,6 +57,7 @@ fn class_of(kind: ChunkKind, word: [u8; 4]) -> RunKind
 }
 
 /// The part of a chunk from a place in it on, of raw blocks at most `cap`.
+#[inline(always)]
 fn part_of(chunk: &ChunkHeader, word: [u8; 4], from: Cursor, cap: u32) -> Run
     requires order { from.used ≤ from.block }
     requires used { from.used ≤ counted chunk.now.kind chunk.now.blocks }
@@ -108,6 +112,7 @@ struct Word {
 }
 
 /// Reads the word of a chunk that has one.
+#[inline(always)]
 fn load_word<S: Source>(
     source: &mut S,
     chunk: &ChunkHeader,
@@ -152,6 +157,7 @@ fn load_word<S: Source>(
 
 impl SparseRuns {
     /// Whether a chunk's header is as it was found at opening, as far as numbers tell.
+    #[inline(always)]
     fn fits(&self, chunk: &ChunkHeader, from: Cursor) -> bool
         requires used { from.used ≤ from.block }
         requires at { from.at ≤ self.now.image }
@@ -174,6 +180,7 @@ impl SparseRuns {
     }
 
     /// The chunk that has these bytes as its header, where it is as it was found at opening.
+    #[inline(always)]
     fn chunk_here(&self, bytes: &[u8], from: Cursor) -> Option<ChunkHeader>
         requires whole { length bytes.now ≡ 12 }
         requires used { from.used ≤ from.block }
@@ -290,6 +297,7 @@ impl BlockRuns for SparseRuns {
         }
     }
 
+    #[inline(always)]
     fn next_part<S: Source>(
         &mut self,
         source: &mut S,

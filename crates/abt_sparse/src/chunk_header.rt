@@ -41,6 +41,7 @@ impl ChunkHeader {
     }
 
     /// The twelve bytes of the header, with 0 in the reserved field.
+    #[inline(always)]
     pub fn encode(&self) -> [u8; 12]
         ensures bytes { result ≡ chunk_record self.now 0 }
         ensures again { chunk_header_at result ≡ Ok self.now }
@@ -49,6 +50,7 @@ impl ChunkHeader {
         self.record()
     }
 
+    #[inline(always)]
     fn record(&self) -> [u8; 12]
         ensures { result ≡ chunk_record self.now 0 }
     {

@@ -6,6 +6,7 @@ ghost use Rattle.abt_sparse.specs.Reading.{data_len, counted};
 use crate::kind::ChunkKind;
 
 /// How many bytes of data a chunk of so many blocks has behind its header.
+#[inline(always)]
 pub fn data_length(block_size: u32, kind: ChunkKind, blocks: u32) -> u64
     ensures value { result ≡ data_len block_size kind blocks }
     ensures fits { result < 2 ^ 64 - 2 ^ 32 }
@@ -19,6 +20,7 @@ pub fn data_length(block_size: u32, kind: ChunkKind, blocks: u32) -> u64
 }
 
 /// How many blocks such a chunk counts: a checksum has none, whatever its header says.
+#[inline(always)]
 pub fn counted_blocks(kind: ChunkKind, blocks: u32) -> u32
     ensures { result ≡ counted kind blocks }
 {

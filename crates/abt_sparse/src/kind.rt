@@ -19,6 +19,7 @@ pub enum ChunkKind {
 
 impl ChunkKind {
     /// The kind with this type number, or none where the format has no such number.
+    #[inline(always)]
     pub fn from_code(code: u16) -> Option<ChunkKind>
         ensures { result ≡ kind_at code }
     {
@@ -32,6 +33,7 @@ impl ChunkKind {
     }
 
     /// The type number of the kind.
+    #[inline(always)]
     pub fn code(self) -> u16
         ensures value { result ≡ code self }
         ensures again { kind_at result ≡ Some self }

@@ -6,6 +6,7 @@ ghost use Rattle.abt_sparse.specs.Reading.{number_at};
 use byteorder::{ByteOrder, LittleEndian};
 
 /// The number in the two bytes at `place`.
+#[inline(always)]
 pub fn u16_at(bytes: &[u8], place: usize) -> u16
     requires { place + 2 ≤ length bytes.now }
     ensures { result ≡ number_at place 2 bytes.now }
@@ -14,6 +15,7 @@ pub fn u16_at(bytes: &[u8], place: usize) -> u16
 }
 
 /// The number in the four bytes at `place`.
+#[inline(always)]
 pub fn u32_at(bytes: &[u8], place: usize) -> u32
     requires { place + 4 ≤ length bytes.now }
     ensures { result ≡ number_at place 4 bytes.now }
