@@ -1,7 +1,7 @@
 //! What is read forward: a file, or standard input.
 
 ghost use Rattle.std.specs.Io.{ReadsAtMost};
-ghost use Rattle.std.specs.Prelude.{◌≤◌, [], false};
+ghost use Rattle.std.specs.Prelude.{◌≡◌, ◌≤◌, [], false, length};
 ghost use Rattle.std.proofs.lemmas.Bool.{false≢true};
 
 use crate::opening::{Found, Opened, not_opened};
@@ -95,6 +95,11 @@ impl Input for Passing {
     ghost are_bytes = { λ _ t. absurd (false≢true t) };
 
     fn read(&mut self, out: &mut [u8]) -> Result<usize, DeviceFault> {
+        if take_held(&mut self.from.reader, out) {
+            self.from.calls.add(1);
+            self.from.count.add(out.len() as u64);
+            return Ok(out.len());
+        }
         self.from.read(out)
     }
 
@@ -107,6 +112,19 @@ impl Input for Passing {
         self.from.count.add(n as u64);
         Ok(n)
     }
+}
+
+// Gives what is asked for where the buffer holds all of it, as it does of most headers.
+fn take_held(reader: &mut BufReader<Origin>, out: &mut [u8]) -> bool
+    ensures { length out.new ≡ length out.old }
+{
+    let n = out.len();
+    match reader.buffer().get(..n) {
+        Some(held) => out.copy_from_slice(held),
+        None => return false,
+    }
+    reader.consume(n);
+    true
 }
 
 // Passes over bytes that the buffer holds, or where it holds none over those that come next: at most so many.
