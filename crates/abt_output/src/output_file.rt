@@ -13,8 +13,11 @@ use abt_refusals::{HostFault, HostRefusal, Place};
 use std::alloc::Global;
 use std::io::BufWriter;
 
-// How many bytes are taken together at most: a page, since no hole is smaller.
+// How many bytes are taken together at most where zeros may be a hole: a page, since no hole is smaller.
 const PAGE: usize = 4096;
+
+// The same where all bytes are written: as many as a window has.
+const ROOM: usize = 65_536;
 
 /// A file, a pipe, a device or standard output, which takes small writes together.
 #[derive(Drop)]
@@ -63,7 +66,12 @@ impl<'a> OutputFile<'a> {
         ensures empty { IfOk result (λ output. given output.to.writer ≡ []) }
         ensures data { IfOk result (λ output. output.is_data_on_output ≡ is_data_on_output) }
     {
-        match BufWriter::with_capacity(alloc, PAGE, sink) {
+        let room = if sink.takes_hole(PAGE as u64) {
+            PAGE
+        } else {
+            ROOM
+        };
+        match BufWriter::with_capacity(alloc, room, sink) {
             Ok(writer) => Ok(OutputFile {
                 to: Gathered::new(writer),
                 place,

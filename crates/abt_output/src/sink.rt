@@ -16,13 +16,16 @@ use std::rt::Stdout;
 // No hole of a file is smaller.
 const PAGE: u64 = 4096;
 
+const ZEROS: [u8; PAGE as usize] = [0; PAGE as usize];
+
 #[derive(Drop)]
 enum Target {
     /// A file, a pipe or a device, which is given all bytes.
     File(File),
-    /// A regular file that was just created or emptied. Zeros are a hole, which takes no room and no time; so it holds
-    /// exactly what was written, after every call.
-    Holes { file: File, length: u64 },
+    /// A regular file that was just created or emptied. Zeros are a hole, which takes no room and no time. What was
+    /// written is so long; where the file ends before that, zeros are missing, which come with the next byte that is
+    /// none, or by a flush.
+    Holes { file: File, end: u64, length: u64 },
     /// Standard output, and a second handle of its file where that is going to be synced: std syncs files alone.
     Standard { stdout: Stdout, file: Option<File> },
 }
@@ -51,11 +54,20 @@ impl Target {
         match self {
             Target::File(file) => file.write(bytes),
             Target::Standard { stdout, .. } => stdout.write(bytes),
-            Target::Holes { file, length } => {
-                let n = write_behind(file, *length, bytes)?;
+            Target::Holes { file, end, length } => {
+                let n = write_behind(file, end, *length, bytes)?;
                 *length = length.saturating_add(n as u64);
                 Ok(n)
             }
+        }
+    }
+
+    // Brings the zeros that are missing at the end of a file.
+    fn settle(&mut self) -> io::Result<()> {
+        match self {
+            Target::File(_) => Ok(()),
+            Target::Standard { .. } => Ok(()),
+            Target::Holes { file, end, length } => lay_zeros(file, end, *length),
         }
     }
 }
@@ -81,7 +93,11 @@ impl Sink {
         ensures { result.log.state ≡ nothing_logged }
     {
         if is_regular {
-            Sink::of(Target::Holes { file, length: 0 })
+            Sink::of(Target::Holes {
+                file,
+                end: 0,
+                length: 0,
+            })
         } else {
             Sink::of(Target::File(file))
         }
@@ -138,13 +154,13 @@ impl Sink {
         }
     }
 
-    /// Makes the file longer by a hole of at most so many zeros, and answers how many: 0 where that cannot be done.
+    /// Takes a hole of at most so many zeros, and answers how many: 0 where there are no holes.
     pub(crate) fn lay_hole(&mut self, n: u64) -> u64
         ensures within { result ≤ n }
         ensures laid { self.new.log.state ≡ and_bytes self.old.log.state (replicate result 0) }
     {
         let laid = match &mut self.target {
-            Target::Holes { file, length } => longer(file, length, n),
+            Target::Holes { length, .. } => raise(length, n),
             Target::File(_) => 0,
             Target::Standard { .. } => 0,
         };
@@ -152,15 +168,19 @@ impl Sink {
         laid
     }
 
-    /// Has it synced, where that is wanted, and answers what the system took. Why it could not be synced, by the number
+    /// Brings it to its end, and has it synced, where that is wanted, and answers what the system took. Why it could not be synced, by the number
     /// of the system's error. A file is closed then; standard output stays open.
     pub(crate) fn end(self, is_synced: bool) -> Result<Log, Option<i32>>
         ensures { IfOk result (λ sent. sent.state ≡ self.log.state) }
     {
+        let mut target = self.target;
+        if let Err(error) = target.settle() {
+            return Err(error.raw_os_error());
+        }
         if !is_synced {
             return Ok(self.log);
         }
-        let ended = match self.target {
+        let ended = match target {
             Target::File(file) => file.sync_all(),
             Target::Holes { file, .. } => file.sync_all(),
             Target::Standard {
@@ -193,7 +213,13 @@ impl Write for Sink {
     }
 
     fn flush(&mut self) -> io::Result<()> {
-        Ok(())
+        match self.target.settle() {
+            Ok(()) => Ok(()),
+            Err(error) => {
+                self.why = error.raw_os_error();
+                Err(error)
+            }
+        }
     }
 }
 
@@ -216,17 +242,72 @@ fn write_over(file: &File, at: u64, bytes: &[u8]) -> Result<usize, Option<i32>>
     Err(None)
 }
 
-// Writes at the end of a regular file, where zeros are a hole if the file can have one.
-fn write_behind(file: &File, length: u64, bytes: &[u8]) -> io::Result<usize>
+// Writes behind so many bytes of a regular file. Zeros are left out: a write behind them makes a hole, with no call for
+// it. Where it fails they are laid, and where no write may stand behind the end of a file it is tried again then.
+fn write_behind(file: &File, end: &mut u64, length: u64, bytes: &[u8]) -> io::Result<usize>
     ensures { WritesAtMost result bytes.now }
 {
     if is_zero(bytes) {
-        let longer = length.saturating_add(bytes.len() as u64);
-        if file.set_len(longer).is_ok() {
-            return Ok(bytes.len());
+        return Ok(bytes.len());
+    }
+    let missing = length.saturating_sub(*end);
+    match write_on(file, end, length, bytes) {
+        Ok(n) => Ok(n),
+        Err(error) => {
+            lay_zeros(file, end, length)?;
+            if missing > 0 && needs_zeros(&error) {
+                return write_on(file, end, length, bytes);
+            }
+            Err(error)
         }
     }
-    file.write_at(bytes, length)
+}
+
+// Whether a write was refused for where it stands, and not for want of room or by the disk.
+fn needs_zeros(error: &io::Error) -> bool {
+    match error.kind() {
+        ErrorKind::InvalidInput | ErrorKind::PermissionDenied | ErrorKind::Unsupported => true,
+        _ => false,
+    }
+}
+
+// One write at a place, behind whose bytes the file ends then. A write of nothing makes no file longer.
+fn write_on(file: &File, end: &mut u64, at: u64, bytes: &[u8]) -> io::Result<usize>
+    ensures { WritesAtMost result bytes.now }
+{
+    let n = file.write_at(bytes, at)?;
+    if n > 0 {
+        *end = at.saturating_add(n as u64);
+    }
+    Ok(n)
+}
+
+// So many zeros more, as far as a length can be told.
+fn raise(length: &mut u64, n: u64) -> u64
+    ensures { result ≤ n }
+{
+    let some = n.min(u64::MAX - *length);
+    *length = length.saturating_add(some);
+    some
+}
+
+// Makes a file so long by zeros: by a hole, or as much of one as the file can have, and by writing them where it can
+// have none.
+fn lay_zeros(file: &File, end: &mut u64, length: u64) -> io::Result<()> {
+    if *end < length && file.set_len(length).is_ok() {
+        *end = length;
+    }
+    for _ in 0..u64::MAX {
+        let missing = length.saturating_sub(*end);
+        if missing == 0 {
+            return Ok(());
+        }
+        if longer(file, end, missing) == 0 {
+            let n = write_zeros(file, *end, missing)?;
+            *end = end.saturating_add(n as u64);
+        }
+    }
+    Ok(())
 }
 
 // Makes a file longer by so many zeros at once, or where it cannot be so long by half as many, and so on. It answers by
@@ -244,6 +325,21 @@ fn longer(file: &File, length: &mut u64, n: u64) -> u64
         some /= 2;
     }
     0
+}
+
+// Writes some zeros at the end of a file. A signal that comes in between is no error: none was written.
+fn write_zeros(file: &File, end: u64, n: u64) -> io::Result<usize> {
+    let some = n.min(PAGE) as usize;
+    match file.write_at(&ZEROS[..some], end) {
+        Ok(0) => Err(io::Error::from(ErrorKind::WriteZero)),
+        Ok(n) => Ok(n),
+        Err(error) => {
+            if error.kind() == ErrorKind::Interrupted {
+                return Ok(0);
+            }
+            Err(error)
+        }
+    }
 }
 
 // Most data that isn't zero shows it at an end. What is left is looked at as a whole, which is fast.
