@@ -18,10 +18,11 @@ static void write_all(FILE *out, const uint8_t *bytes, size_t length) {
 
 /* Writes `length` bytes that repeat a word. */
 static void write_words(FILE *out, const uint8_t *word, uint64_t length) {
-    for (size_t i = 0; i < sizeof words; i += 4)
+    size_t laid = length < sizeof words ? (size_t)length : sizeof words;
+    for (size_t i = 0; i < laid; i += 4)
         memcpy(words + i, word, 4);
     while (length > 0) {
-        size_t some = length < sizeof words ? (size_t)length : sizeof words;
+        size_t some = length < laid ? (size_t)length : laid;
         write_all(out, words, some);
         length -= some;
     }

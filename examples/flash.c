@@ -33,10 +33,11 @@ static void write_at(int device, const uint8_t *bytes, uint64_t length, uint64_t
 }
 
 static void fill_at(int device, const uint8_t *word, uint64_t length, uint64_t place) {
-    for (size_t i = 0; i < sizeof words; i += 4)
+    uint64_t laid = length < sizeof words ? length : sizeof words;
+    for (size_t i = 0; i < laid; i += 4)
         memcpy(words + i, word, 4);
     while (length > 0) {
-        uint64_t some = length < sizeof words ? length : sizeof words;
+        uint64_t some = length < laid ? length : laid;
         write_at(device, words, some, place);
         length -= some;
         place += some;
