@@ -1,6 +1,6 @@
 //! Files as a source, a partition and a spool. They tell nothing: what a real file holds between
-//! two calls is beyond a proof. Each write is one positioned write, without a buffer. Small reads of a source and of a
-//! spool are read ahead (`ahead`), and every other read is one positioned read.
+//! two calls is beyond a proof. Each write is one positioned write, without a buffer. Small reads of a long source and
+//! of a spool are read ahead (`ahead`), and every other read is one positioned read.
 
 ghost use Rattle.std.specs.Prelude.{◌≡◌, ◌≤◌, ◌+◌, [], false, not, nat_lt, length, IfOk, IsSome, refl};
 ghost use Rattle.std.proofs.lemmas.Bool.{false≢true};
@@ -19,6 +19,9 @@ fn length_of(file: &mut File) -> Result<u64, DeviceFault> {
         Err(_) => Err(DeviceFault::Failed),
     }
 }
+
+/// A source that is shorter is read as it is asked for: its headers take few calls.
+const SHORT: u64 = 65_536;
 
 /// A file or a block device to read from, or nothing at all.
 #[derive(Drop)]
@@ -90,7 +93,12 @@ impl Source for FileSource {
         let Some(file) = &self.file else {
             return Ok(0);
         };
-        match self.ahead.read_at(file, at, out) {
+        let answer = if self.size < SHORT {
+            tries::read_at(file, at, out)
+        } else {
+            self.ahead.read_at(file, at, out)
+        };
+        match answer {
             Ok(n) => {
                 self.given.add(n as u64);
                 Ok(n)

@@ -168,8 +168,8 @@ impl Sink {
         laid
     }
 
-    /// Brings it to its end, and has it synced, where that is wanted, and answers what the system took. Why it could not be synced, by the number
-    /// of the system's error. A file is closed then; standard output stays open.
+    /// Brings it to its end, has it synced, where that is wanted, and answers what the system took. Why that could not
+    /// be done, by the number of the system's error. A file is closed then; standard output stays open.
     pub(crate) fn end(self, is_synced: bool) -> Result<Log, Option<i32>>
         ensures { IfOk result (λ sent. sent.state ≡ self.log.state) }
     {
