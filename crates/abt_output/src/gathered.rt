@@ -86,13 +86,14 @@ fn put_through(writer: &mut BufWriter<Sink>, at: u64, bytes: &[u8]) -> Result<us
     writer.get_mut().put_at(at, bytes)
 }
 
-// Sends what a writer holds, and makes its file longer by a hole. How many zeros that gave it.
+// Sends what a writer holds, if anything, and takes a hole. How many zeros that gave it. A flush would also lay the hole
+// before this one, with which it is laid now by what comes behind.
 fn lay_through(writer: &mut BufWriter<Sink>, n: u64) -> Result<u64, DeviceFault>
     ensures within { count_of result ≤ n }
     ensures written { given writer.new ≡ given writer.old ++ replicate (count_of result) 0 }
     ensures failed { IfErr result (λ e. e ≡ DeviceFault.Failed) }
 {
-    if writer.flush().is_err() {
+    if !writer.buffer().is_empty() && writer.flush().is_err() {
         return Err(DeviceFault::Failed);
     }
     Ok(writer.get_mut().lay_hole(n))
