@@ -1,13 +1,15 @@
 //! Files as a source, a partition and a spool. They tell nothing: what a real file holds between
-//! two calls is beyond a proof. Each write is one positioned write, without a buffer. Small reads of a long source and
-//! of a spool are read ahead (`ahead`), and every other read is one positioned read.
+//! two calls is beyond a proof. Each write is one positioned write, without a buffer, but for a spool that gathers them
+//! (`behind`). Small reads of a long source and of a spool are read ahead (`ahead`), and every other read is one
+//! positioned read.
 
-ghost use Rattle.std.specs.Prelude.{◌≡◌, ◌≤◌, ◌+◌, [], false, not, nat_lt, length, IfOk, IsSome, refl};
+ghost use Rattle.std.specs.Prelude.{◌≡◌, ◌≤◌, ◌+◌, [], false, not, nat_lt, length, IfOk, IfErr, IsSome, refl};
 ghost use Rattle.std.proofs.lemmas.Bool.{false≢true};
 ghost use Rattle.abt_io.specs.Frame.{last_cut, nothing_logged};
 ghost use Rattle.abt_io.specs.Held.{filled_count};
 
 use crate::ahead::Ahead;
+use crate::behind::{Behind, ROOM};
 use crate::{DeviceFault, Input, Log, Output, Partition, Source, Spool, Tally, tries};
 use std::fs::{File, OpenFile};
 use std::io::{Seek, SeekFrom};
@@ -244,6 +246,7 @@ pub struct FileSpool {
     pub used: u64,
     pub seen: u64,
     ahead: Ahead,
+    behind: Behind,
     pub log: Log,
     pub reads: Tally,
     pub given: Tally,
@@ -272,6 +275,7 @@ impl FileSpool {
             used: 0,
             seen: 0,
             ahead: Ahead::new(),
+            behind: Behind::new(),
             log: Log::new(),
             reads: Tally::new(),
             given: Tally::new(),
@@ -282,6 +286,42 @@ impl FileSpool {
             clears: Tally::new(),
             clear_faults: Tally::new(),
         }
+    }
+
+    /// From here on takes small writes together: up to 64 KiB are held, and written where no more have room, where the
+    /// spool is read, and by `settle`. Where that fails, it is the read that fails, or the write that found no room. A
+    /// spool of a smaller capacity goes on writing each alone.
+    pub fn gather(&mut self)
+        ensures log { self.new.log.state ≡ self.old.log.state }
+        ensures place { (self.new.capacity ≡ self.old.capacity) × (self.new.used ≡ self.old.used) × (self.new.seen ≡
+            self.old.seen) }
+        ensures reads { (self.new.reads.number ≡ self.old.reads.number) × (self.new.given.number ≡
+            self.old.given.number) × (self.new.read_faults.number ≡ self.old.read_faults.number) }
+        ensures writes { (self.new.writes.number ≡ self.old.writes.number) × (self.new.write_faults.number ≡
+            self.old.write_faults.number) × (self.new.full_faults.number ≡ self.old.full_faults.number) }
+        ensures clears { (self.new.clears.number ≡ self.old.clears.number) × (self.new.clear_faults.number ≡
+            self.old.clear_faults.number) }
+    {
+        if self.capacity >= ROOM as u64 {
+            self.behind.begin();
+        }
+    }
+
+    /// Writes what is held. Refused where a byte that was taken since the last clear could not be written, now or by
+    /// an earlier call, so that a read which failed for that reason is told from one which did not.
+    pub fn settle(&mut self) -> Result<(), DeviceFault>
+        ensures log { self.new.log.state ≡ self.old.log.state }
+        ensures place { (self.new.capacity ≡ self.old.capacity) × (self.new.used ≡ self.old.used) × (self.new.seen ≡
+            self.old.seen) }
+        ensures reads { (self.new.reads.number ≡ self.old.reads.number) × (self.new.given.number ≡
+            self.old.given.number) × (self.new.read_faults.number ≡ self.old.read_faults.number) }
+        ensures writes { (self.new.writes.number ≡ self.old.writes.number) × (self.new.write_faults.number ≡
+            self.old.write_faults.number) × (self.new.full_faults.number ≡ self.old.full_faults.number) }
+        ensures clears { (self.new.clears.number ≡ self.old.clears.number) × (self.new.clear_faults.number ≡
+            self.old.clear_faults.number) }
+        ensures failed { IfErr result (λ e. e ≡ DeviceFault.Failed) }
+    {
+        self.behind.settle(&self.file)
     }
 }
 
@@ -314,7 +354,11 @@ impl Input for FileSpool {
         self.reads.add(1);
         let left = self.used.saturating_sub(self.seen);
         let ask = left.min(out.len() as u64) as usize;
-        match self.ahead.read_at(&self.file, self.seen, &mut out[..ask]) {
+        let answer = match self.behind.settle(&self.file) {
+            Ok(()) => self.ahead.read_at(&self.file, self.seen, &mut out[..ask]),
+            Err(fault) => Err(fault),
+        };
+        match answer {
             Ok(n) => {
                 self.given.add(n as u64);
                 self.seen = self.seen.saturating_add(n as u64);
@@ -363,7 +407,7 @@ impl Output for FileSpool {
         }
         let n = (self.capacity - used).min(bytes.len() as u64) as usize;
         self.ahead.forget();
-        match tries::write_at(&self.file, used, &bytes[..n]) {
+        match self.behind.write_at(&self.file, used, &bytes[..n]) {
             Ok(taken) => {
                 self.log.append(&bytes[..taken]);
                 self.used = used + taken as u64;
@@ -407,6 +451,7 @@ impl Spool for FileSpool {
         self.ahead.forget();
         match self.file.set_len(0) {
             Ok(()) => {
+                self.behind.forget();
                 self.log.cut();
                 self.used = 0;
                 self.seen = 0;

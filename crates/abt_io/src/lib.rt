@@ -28,6 +28,7 @@
 #![tactic(auto)]
 
 mod ahead;
+mod behind;
 mod bytes;
 mod cells;
 mod copying;

@@ -1,11 +1,12 @@
 //! The command `flash`: a sparse image straight to a partition, or an image in pieces that go through a spool.
 
-ghost use Rattle.std.specs.Prelude.{◌≡◌};
+ghost use Rattle.std.specs.Prelude.{◌≡◌, ℕ, Err, IfErr, IfOk, IsErr};
+ghost use Rattle.abt_flash.specs.declared.fault.Cause.{Cause};
 
 use crate::pieces::RAW_PASSES;
-use abt_flash::{Delivered, FlashFault, flash, resume, resume_raw};
+use abt_flash::{Cause, Delivered, FlashFault, flash, resume, resume_raw};
 use abt_host::{Passing, Reading, Watched};
-use abt_io::{FilePartition, FileSource, FileSpool, Meter, Source, Window};
+use abt_io::{DeviceFault, FilePartition, FileSource, FileSpool, Meter, Source, Window};
 use abt_output::Report;
 use abt_refusals::{Place, Sides};
 use abt_words::Pieces;
@@ -101,7 +102,7 @@ pub(crate) fn flash_pieces<'a>(
     Ok(())
 }
 
-// Flashes the pieces from the one that the words name on.
+// Flashes the pieces from the one that the words name on. The spool takes its small writes together.
 fn deliver(
     source: &mut Watched<'_, FileSource>,
     raw: Option<u32>,
@@ -115,8 +116,36 @@ fn deliver(
 {
     let Pieces { limit, from, .. } = pieces;
     let from = from.max(1);
-    match raw {
+    spool.gather();
+    let delivered = match raw {
         Some(size) => resume_raw(source, size, limit, from, spool, onto, w, m),
         None => resume(source, limit, from, spool, onto, w, m),
+    };
+    told_of(delivered, from, spool.settle())
+}
+
+// What is told of pieces from this one on, where the spool was settled behind them. A piece whose bytes could not all be
+// written to the spool stopped for that, since whatever else stopped it came later.
+fn told_of(
+    delivered: Result<Delivered, FlashFault>,
+    from: u32,
+    settled: Result<(), DeviceFault>,
+) -> Result<Delivered, FlashFault>
+    ensures settled { IfOk settled (λ _. result ≡ delivered) }
+    ensures stopped { IfErr settled (λ fault. (piece : ℕ) (cause : Cause) → delivered ≡ Err
+        (FlashFault.Stopped piece cause) → result ≡ Err (FlashFault.Stopped piece (Cause.SpoolWrite fault))) }
+    ensures told { IfErr settled (λ _. IsErr result) }
+{
+    let Err(fault) = settled else {
+        return delivered;
+    };
+    let cause = Cause::SpoolWrite(fault);
+    match delivered {
+        Err(FlashFault::Stopped { piece, .. }) => Err(FlashFault::Stopped { piece, cause }),
+        Err(fault) => Err(fault),
+        Ok(delivered) => Err(FlashFault::Stopped {
+            piece: from.saturating_sub(1).saturating_add(delivered.pieces),
+            cause,
+        }),
     }
 }
