@@ -65,17 +65,15 @@ impl Held {
     }
 
     /// Reads the bytes at a place, a few or as many as have room.
-    fn fill(&mut self, file: &File, at: u64, is_next: bool) -> bool {
+    fn fill(&mut self, file: &File, at: u64, is_next: bool) -> Result<(), DeviceFault>
+        ensures failed { IfErr result (λ e. e ≡ DeviceFault.Failed) }
+    {
         let room = if is_next { ROOM } else { FEW };
         self.count = 0;
-        match tries::read_at(file, at, &mut self.bytes[..room]) {
-            Ok(n) => {
-                self.at = at;
-                self.count = n;
-                true
-            }
-            Err(_) => false,
-        }
+        let n = tries::read_at(file, at, &mut self.bytes[..room])?;
+        self.at = at;
+        self.count = n;
+        Ok(())
     }
 }
 
@@ -105,8 +103,8 @@ impl Ahead {
         self.other.count = 0;
     }
 
-    /// One read at a place of a file, of which these bytes are. What is read ahead and cannot be read is no fault of
-    /// the bytes that are wanted: they are read once more, alone.
+    /// One read at a place of a file, of which these bytes are. A read ahead that fails is not tried again: the system
+    /// gives what stands before bytes that can't be read, so the fault is one of the bytes that are wanted.
     pub(crate) fn read_at(
         &mut self,
         file: &File,
@@ -126,14 +124,14 @@ impl Ahead {
         if self.other.has(at, ask) {
             return Ok(self.other.give(at, out));
         }
-        match self.fill(file, at) {
-            Some(held) => Ok(held.give(at, out)),
-            None => tries::read_at(file, at, out),
-        }
+        let held = self.fill(file, at)?;
+        Ok(held.give(at, out))
     }
 
     /// Reads the bytes at a place ahead, over the part that was read first.
-    fn fill(&mut self, file: &File, at: u64) -> Option<&Held> {
+    fn fill(&mut self, file: &File, at: u64) -> Result<&Held, DeviceFault>
+        ensures failed { IfErr result (λ e. e ≡ DeviceFault.Failed) }
+    {
         let is_next = if self.is_other_last {
             self.other.leads_to(at)
         } else {
@@ -145,10 +143,7 @@ impl Ahead {
         } else {
             &mut self.one
         };
-        if held.fill(file, at, is_next) {
-            Some(held)
-        } else {
-            None
-        }
+        held.fill(file, at, is_next)?;
+        Ok(held)
     }
 }
