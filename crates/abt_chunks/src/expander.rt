@@ -21,6 +21,7 @@ use abt_io::{Input, Meter, Output, Window};
 use abt_sparse::{ChunkKind, SparseFault, data_length};
 
 /// What a step answers once its part has been written.
+#[inline(always)]
 pub(crate) fn answer(part: Part) -> Result<Progress, SparseFault>
     ensures { result ≡ answer_of part }
 {
@@ -49,6 +50,7 @@ impl Expander {
     /// One step: at most a window is read, and what it gives is written, a fill or a gap whole. An error is the first
     /// fault of the image (1 to 10) or a device's (11 reading, 12 writing). After an error or Done every step answers
     /// that again and calls no device.
+    #[inline(always)]
     pub fn step<I: Input, O: Output>(
         &mut self,
         input: &mut I,

@@ -10,6 +10,7 @@ use crate::walk::Part;
 use abt_io::{DeviceFault, Meter, Output, WORDS, Window, lay_word, write_out, write_zeros};
 
 /// Writes what a part gives where nothing was before, which of a gap is zeros. Raw bytes are taken from the window.
+#[inline(always)]
 pub(crate) fn write_part<O: Output>(
     part: Part,
     output: &mut O,
@@ -47,6 +48,7 @@ pub(crate) fn write_part<O: Output>(
 }
 
 /// Writes a word so many times. Zeros are as many a call as the output takes.
+#[inline(always)]
 fn write_fill<O: Output>(
     word: [u8; 4],
     n: u64,

@@ -29,6 +29,7 @@ pub struct Chunks {
 }
 
 /// Raw bytes, of which a listing shows none: they are passed over, at most a window of them.
+#[inline(always)]
 fn pass_raw<I: Input>(walk: &mut Walk, input: &mut I, w: &mut Window, m: &mut Meter) -> Taken
     requires { AtTurn Turn.Raw walk.old }
     ensures received { I.given input.new ≡ I.given input.old + result.received }
@@ -64,6 +65,7 @@ fn pass_raw<I: Input>(walk: &mut Walk, input: &mut I, w: &mut Window, m: &mut Me
 
 /// What comes next of an image. Raw bytes are passed over, and all else is read; of a fill and of a gap it gives at
 /// most so many words.
+#[inline(always)]
 fn next_part<I: Input>(
     walk: &mut Walk,
     most: u64,
@@ -97,6 +99,7 @@ fn next_part<I: Input>(
 }
 
 /// One step of the reading machine, whose blocks go nowhere: the words of a fill or of a gap are passed at once.
+#[inline(always)]
 fn step<I: Input>(
     walk: &mut Walk,
     input: &mut I,
@@ -130,6 +133,7 @@ fn step<I: Input>(
 }
 
 /// Reads on to the end of the header or of the chunk that was begun.
+#[inline(always)]
 fn pass<I: Input>(
     walk: &mut Walk,
     input: &mut I,
@@ -164,6 +168,7 @@ fn pass<I: Input>(
 }
 
 /// What is shown of the chunk that has ended.
+#[inline(always)]
 fn info(walk: &Walk) -> ChunkInfo
     ensures { result ≡ info_at walk.now }
 {
@@ -226,6 +231,7 @@ impl Chunks {
 
     /// The next chunk, once its data has been read or passed over, and none behind the last one where the blocks of the
     /// chunks are as many as the header says. After a fault and after none it answers that again, and reads nothing.
+    #[inline(always)]
     pub fn next<I: Input>(
         &mut self,
         input: &mut I,

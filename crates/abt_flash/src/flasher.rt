@@ -28,6 +28,7 @@ pub struct Flasher {
 }
 
 /// How many bytes so many blocks take.
+#[inline(always)]
 fn bytes_of(blocks: u32, block_size: u32) -> u64
     ensures { result ≡ blocks * block_size }
 {
@@ -43,6 +44,7 @@ fn blocks_in(bytes: u64, block_size: u32, most: u32) -> u32
 }
 
 /// How many bytes are written of a part.
+#[inline(always)]
 fn bytes_put(part: Part) -> u64
     requires { put_by part < 2 ^ 64 }
     ensures { result ≡ put_by part }
@@ -65,6 +67,7 @@ fn most_asked() -> usize
 }
 
 /// What a step answers once its part has been laid.
+#[inline(always)]
 fn answer(part: Part) -> Result<Progress, FlashFault>
     ensures { result ≡ answer_of part }
 {
@@ -79,6 +82,7 @@ fn answer(part: Part) -> Result<Progress, FlashFault>
 }
 
 /// Where that leaves the flasher.
+#[inline(always)]
 fn stage_behind(answer: Result<Progress, FlashFault>) -> Stage
     ensures { result ≡ stage_of answer }
 {
@@ -104,6 +108,7 @@ impl Flasher {
     }
 
     /// How many bytes all blocks of the image take.
+    #[inline(always)]
     fn need(&self) -> u64
         ensures { result ≡ need_of self.now.walk }
     {
@@ -111,6 +116,7 @@ impl Flasher {
     }
 
     /// Whether the header of the image has been read, with its extra bytes.
+    #[inline(always)]
     fn has_passed_header(&self) -> bool
         ensures { result ≡ passed self.now.walk }
     {
@@ -130,6 +136,7 @@ impl Flasher {
     }
 
     /// Whether a partition of this size is too small. Each step asks, since it may be lent another one.
+    #[inline(always)]
     fn is_short(&self, size: u64) -> bool
         ensures { result ≡ is_short_of self.now.walk size }
     {
@@ -145,6 +152,7 @@ impl Flasher {
     }
 
     /// A step of a flasher that has neither ended nor failed.
+    #[inline(always)]
     fn go_on<I: Input, P: Partition>(
         &mut self,
         input: &mut I,
@@ -241,6 +249,7 @@ impl Flasher {
     /// that finds the end of the image syncs the partition. A partition that is too small is refused as soon as the
     /// header has been read. An error is a fault of the image (1 to 10) or of a device (11 reading, 12 writing, 18
     /// syncing), or that (17). After an error or Done every step answers that again and calls no device.
+    #[inline(always)]
     pub fn step<I: Input, P: Partition>(
         &mut self,
         input: &mut I,

@@ -28,6 +28,7 @@ pub(crate) struct Compared {
 
 /// Compares the first n bytes of the window with those of the partition from a place on, which are read into its other
 /// half. Where the partition ends before them, the first byte that is missing differs.
+#[inline(always)]
 pub(crate) fn compare_at<P: Source>(
     n: usize,
     at: u64,
@@ -83,6 +84,7 @@ pub(crate) fn compare_at<P: Source>(
 
 /// Compares what a part gives with what stands from a place on; of a gap nothing. Raw bytes stand in the front of the
 /// window, and a word is laid there.
+#[inline(always)]
 pub(crate) fn compare_part<P: Source>(
     part: Part,
     at: u64,
@@ -124,6 +126,7 @@ pub(crate) fn compare_part<P: Source>(
 }
 
 /// Nothing is compared.
+#[inline(always)]
 fn nothing() -> Compared
     ensures { result ≡ record { received = 0; fault = None } }
 {

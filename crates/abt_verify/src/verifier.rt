@@ -40,6 +40,7 @@ fn is_in_range(walk: &Walk)
 }
 
 /// What a step answers once its part stands.
+#[inline(always)]
 fn answer(part: Part) -> Result<Progress, VerifyFault>
     ensures { result ≡ answer_of part }
 {
@@ -54,6 +55,7 @@ fn answer(part: Part) -> Result<Progress, VerifyFault>
 }
 
 /// Where that leaves a verifier.
+#[inline(always)]
 pub(crate) fn stage_behind(answer: Result<Progress, VerifyFault>) -> Stage
     ensures { result ≡ stage_of answer }
 {
@@ -90,6 +92,7 @@ impl Verifier {
     /// partition. Of a gap nothing is read. An error is a fault of the image (1 to 10) or of a device (11 reading the
     /// input, 37 the partition), or the first byte that differs (35), as all behind the partition's end do. After an
     /// error or Done every step answers that again and calls no device.
+    #[inline(always)]
     pub fn step<I: Input, P: Source>(
         &mut self,
         input: &mut I,
