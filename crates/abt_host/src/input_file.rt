@@ -51,7 +51,7 @@ impl InputFile {
         bytes: Bytes,
         length: Option<u64>,
     ) -> Result<InputFile, HostRefusal<'a>> {
-        match BufReader::new(alloc, Origin { bytes, why: None }) {
+        match BufReader::new(alloc, Origin::of(bytes)) {
             Ok(reader) => Ok(InputFile {
                 from: Passing {
                     from: FromRead::new(reader),
@@ -179,14 +179,37 @@ fn with_place(file: File, found: Found) -> io::Result<Bytes> {
     Ok(Bytes::Stream(file))
 }
 
+// How many bytes are read behind those that were passed over: a few headers, since data may follow that is passed over
+// too.
+const FEW: usize = 256;
+
 /// A reader that keeps why it failed.
 #[derive(Drop)]
 pub struct Origin {
     bytes: Bytes,
+    /// Whether bytes were passed over since it was read last.
+    has_passed: bool,
     why: Option<i32>,
 }
 
 impl Origin {
+    fn of(bytes: Bytes) -> Origin {
+        Origin {
+            bytes,
+            has_passed: false,
+            why: None,
+        }
+    }
+
+    // How many of so many bytes the next read asks for.
+    fn most(&mut self, room: usize) -> usize
+        ensures { result ≤ room }
+    {
+        let has_passed = self.has_passed;
+        self.has_passed = false;
+        if has_passed { room.min(FEW) } else { room }
+    }
+
     // Goes on behind at most so many bytes, none of them beyond the end. It answers how many: none where only a read
     // can tell.
     fn pass(&mut self, most: usize) -> usize
@@ -205,6 +228,7 @@ impl Origin {
                 match file.seek(SeekFrom::Start(behind)) {
                     Ok(_) => {
                         *at = behind;
+                        self.has_passed = true;
                         n as usize
                     }
                     Err(_) => 0,
@@ -226,10 +250,11 @@ fn size_of(file: &File, size: Size) -> u64 {
 
 impl Read for Origin {
     fn read(&mut self, bytes: &mut [u8]) -> io::Result<usize> {
+        let most = self.most(bytes.len());
         let answer = match &mut self.bytes {
             Bytes::Stream(file) => file.read(bytes),
             Bytes::Standard(stdin) => stdin.read(bytes),
-            Bytes::Placed { file, at, .. } => read_on(file, at, bytes),
+            Bytes::Placed { file, at, .. } => read_on(file, at, &mut bytes[..most]),
         };
         if let Err(error) = &answer {
             self.why = error.raw_os_error();
