@@ -55,6 +55,17 @@ impl Gathered {
         }
     }
 
+    /// Has the zeros laid that are missing at the end of a file with holes.
+    pub(crate) fn lay_zeros(&mut self) -> Result<(), DeviceFault>
+        ensures kept { given self.new.writer ≡ given self.old.writer }
+        ensures failed { IfErr result (λ e. e ≡ DeviceFault.Failed) }
+    {
+        match self.writer.get_mut().settle() {
+            Ok(()) => Ok(()),
+            Err(_) => Err(DeviceFault::Failed),
+        }
+    }
+
     /// Sends what it holds, where the work before failed.
     pub(crate) fn give_up(self) {
         let mut output = self;

@@ -1,6 +1,6 @@
 //! An output that is written from its front on, and how it is brought to its end.
 
-ghost use Rattle.std.specs.Prelude.{◌≡◌, [], IfOk};
+ghost use Rattle.std.specs.Prelude.{◌≡◌, [], IfErr, IfOk};
 ghost use Rattle.abt_output.specs.Given.{given};
 ghost use Rattle.abt_io.specs.Frame.{nothing_logged};
 ghost use Rattle.abt_io.specs.Over.{with_front};
@@ -8,16 +8,10 @@ ghost use Rattle.abt_io.specs.Over.{with_front};
 use crate::gathered::Gathered;
 use crate::image_file::ImageFile;
 use crate::sink::Sink;
-use abt_io::{FilePartition, FrontLast, Log, Meter};
+use abt_io::{DeviceFault, FilePartition, FrontLast, Log, Meter};
 use abt_refusals::{HostFault, HostRefusal, Place};
 use std::alloc::Global;
 use std::io::BufWriter;
-
-// How many bytes are taken together at most where zeros may be a hole: a page, since no hole is smaller.
-const PAGE: usize = 4096;
-
-// The same where all bytes are written: as many as a window has.
-const ROOM: usize = 65_536;
 
 /// A file, a pipe, a device or standard output, which takes small writes together.
 #[derive(Drop)]
@@ -66,12 +60,7 @@ impl<'a> OutputFile<'a> {
         ensures empty { IfOk result (λ output. given output.to.writer ≡ []) }
         ensures data { IfOk result (λ output. output.is_data_on_output ≡ is_data_on_output) }
     {
-        let room = if sink.takes_hole(PAGE as u64) {
-            PAGE
-        } else {
-            ROOM
-        };
-        match BufWriter::with_capacity(alloc, room, sink) {
+        match BufWriter::with_capacity(alloc, sink.room(), sink) {
             Ok(writer) => Ok(OutputFile {
                 to: Gathered::new(writer),
                 place,
@@ -85,6 +74,15 @@ impl<'a> OutputFile<'a> {
     /// Why its last call failed, where one did.
     pub fn why(&self) -> Option<i32> {
         self.to.why()
+    }
+
+    /// Has the zeros laid that are missing at the end of a file with holes, where the work before failed. Where that
+    /// cannot be done, a write was refused that came before whatever else failed.
+    pub fn lay_zeros(&mut self) -> Result<(), DeviceFault>
+        ensures kept { given self.new.to.writer ≡ given self.old.to.writer }
+        ensures failed { IfErr result (λ e. e ≡ DeviceFault.Failed) }
+    {
+        self.to.lay_zeros()
     }
 
     /// Brings it to its end: what it holds is sent, and it is synced, where that is wanted.

@@ -16,6 +16,13 @@ use std::rt::Stdout;
 // No hole of a file is smaller.
 const PAGE: u64 = 4096;
 
+// How many bytes are taken together at most where the bytes of an image are written before all of it was read: so few
+// that a write which is refused comes before a fault of the image behind them.
+const FEW: usize = PAGE as usize;
+
+// The same where all was looked at before anything is written: as many as a window has.
+const ROOM: usize = 65_536;
+
 const ZEROS: [u8; PAGE as usize] = [0; PAGE as usize];
 
 #[derive(Drop)]
@@ -70,12 +77,28 @@ impl Target {
             Target::Holes { file, end, length } => lay_zeros(file, end, *length),
         }
     }
+
+    // Writes a front of these bytes over what stands at a place. Why the call failed, by its number, where it did.
+    fn put_over(&mut self, at: u64, bytes: &[u8]) -> Result<usize, Option<i32>>
+        ensures within { count_of result ≤ length bytes.now }
+        ensures progress { IfOk result (λ n. 0 < length bytes.now → 0 < n) }
+    {
+        match self {
+            Target::File(file) => write_over(file, at, bytes),
+            Target::Holes { file, end, length } => match lay_zeros(file, end, *length) {
+                Ok(()) => write_over(file, at, bytes),
+                Err(error) => Err(error.raw_os_error()),
+            },
+            Target::Standard { .. } => Err(None),
+        }
+    }
 }
 
 /// A writer that keeps all that the system took, and why it failed.
 #[derive(Drop)]
 pub struct Sink {
     target: Target,
+    room: usize,
     pub why: Option<i32>,
     pub log: Log,
 }
@@ -85,7 +108,7 @@ impl Sink {
     pub fn file(file: File) -> Sink
         ensures { result.log.state ≡ nothing_logged }
     {
-        Sink::of(Target::File(file))
+        Sink::of(Target::File(file), ROOM)
     }
 
     /// The file of a raw image, which is empty. In a regular one zeros may be holes.
@@ -93,13 +116,14 @@ impl Sink {
         ensures { result.log.state ≡ nothing_logged }
     {
         if is_regular {
-            Sink::of(Target::Holes {
+            let target = Target::Holes {
                 file,
                 end: 0,
                 length: 0,
-            })
+            };
+            Sink::of(target, FEW)
         } else {
-            Sink::of(Target::File(file))
+            Sink::of(Target::File(file), FEW)
         }
     }
 
@@ -107,14 +131,15 @@ impl Sink {
     pub fn standard(stdout: Stdout, file: Option<File>) -> Sink
         ensures { result.log.state ≡ nothing_logged }
     {
-        Sink::of(Target::Standard { stdout, file })
+        Sink::of(Target::Standard { stdout, file }, FEW)
     }
 
-    fn of(target: Target) -> Sink
+    fn of(target: Target, room: usize) -> Sink
         ensures { result.log.state ≡ nothing_logged }
     {
         Sink {
             target,
+            room,
             why: None,
             log: Log::new(),
         }
@@ -128,12 +153,7 @@ impl Sink {
         ensures kept { OnErr result (self.new.log.state ≡ self.old.log.state) }
         ensures failed { IfErr result (λ e. e ≡ DeviceFault.Failed) }
     {
-        let answer = match &self.target {
-            Target::File(file) => write_over(file, at, bytes),
-            Target::Holes { file, .. } => write_over(file, at, bytes),
-            Target::Standard { .. } => Err(None),
-        };
-        match answer {
+        match self.target.put_over(at, bytes) {
             Ok(n) => {
                 self.log.put(&bytes[..n], at);
                 Ok(n)
@@ -154,6 +174,11 @@ impl Sink {
         }
     }
 
+    /// How many bytes are to be taken together before they come here.
+    pub(crate) fn room(&self) -> usize {
+        self.room
+    }
+
     /// Takes a hole of at most so many zeros, and answers how many: 0 where there are no holes.
     pub(crate) fn lay_hole(&mut self, n: u64) -> u64
         ensures within { result ≤ n }
@@ -166,6 +191,19 @@ impl Sink {
         };
         self.log.append_zeros(laid);
         laid
+    }
+
+    /// Brings the zeros that are missing at its end.
+    pub(crate) fn settle(&mut self) -> io::Result<()>
+        ensures { self.new.log.state ≡ self.old.log.state }
+    {
+        match self.target.settle() {
+            Ok(()) => Ok(()),
+            Err(error) => {
+                self.why = error.raw_os_error();
+                Err(error)
+            }
+        }
     }
 
     /// Brings it to its end, has it synced, where that is wanted, and answers what the system took. Why that could not
@@ -213,13 +251,7 @@ impl Write for Sink {
     }
 
     fn flush(&mut self) -> io::Result<()> {
-        match self.target.settle() {
-            Ok(()) => Ok(()),
-            Err(error) => {
-                self.why = error.raw_os_error();
-                Err(error)
-            }
-        }
+        self.settle()
     }
 }
 
