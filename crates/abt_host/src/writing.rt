@@ -85,7 +85,12 @@ impl Writing {
             return Ok(ImageOutput::Stream(self.standard(place)?));
         }
         let Opened { file, found } = self.created(place, Access::Create)?;
-        let output = self.buffered(place, Sink::file(file), found.identity.holds_data)?;
+        let sink = if found.is_file {
+            self.held(place, file)?
+        } else {
+            Sink::file(file)
+        };
+        let output = self.buffered(place, sink, found.identity.holds_data)?;
         if found.is_file {
             Ok(ImageOutput::File(FrontLast::new(ImageFile::new(output))))
         } else {
@@ -179,6 +184,16 @@ impl Writing {
         match options.write(true).open(&self.rt, "/dev/stdout") {
             Ok(file) => Ok(Some(file)),
             Err(error) => Err(error),
+        }
+    }
+
+    // The file of an image whose headers are laid late.
+    fn held<'a>(&self, place: Place<'a>, file: File) -> Result<Sink, HostRefusal<'a>>
+        ensures { IfOk result (λ sink. sink.log.state ≡ nothing_logged) }
+    {
+        match Sink::image(self.alloc, file) {
+            Ok(sink) => Ok(sink),
+            Err(_) => Err(HostRefusal::memory().begun(place)),
         }
     }
 

@@ -33,7 +33,8 @@ impl Gathered {
         self.writer.get_ref().why
     }
 
-    /// Sends what it holds, and writes a front of these bytes over what stands at a place. All of them have to fit there.
+    /// Sends what it holds to the sink, and writes a front of these bytes over what stands at a place. All of them have to
+    /// fit there.
     pub(crate) fn put(&mut self, at: u64, bytes: &[u8]) -> Result<usize, DeviceFault>
         ensures within { count_of result ≤ length bytes.now }
         ensures progress { IfOk result (λ n. 0 < length bytes.now → 0 < n) }
@@ -83,7 +84,7 @@ impl Gathered {
     }
 }
 
-// Sends what a writer holds, and writes at a place.
+// Sends what a writer holds, if anything, and writes at a place.
 fn put_through(writer: &mut BufWriter<Sink>, at: u64, bytes: &[u8]) -> Result<usize, DeviceFault>
     ensures within { count_of result ≤ length bytes.now }
     ensures progress { IfOk result (λ n. 0 < length bytes.now → 0 < n) }
@@ -91,7 +92,7 @@ fn put_through(writer: &mut BufWriter<Sink>, at: u64, bytes: &[u8]) -> Result<us
     ensures kept { OnErr result (given writer.new ≡ given writer.old) }
     ensures failed { IfErr result (λ e. e ≡ DeviceFault.Failed) }
 {
-    if writer.flush().is_err() {
+    if !writer.buffer().is_empty() && writer.flush().is_err() {
         return Err(DeviceFault::Failed);
     }
     writer.get_mut().put_at(at, bytes)

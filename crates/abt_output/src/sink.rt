@@ -1,4 +1,4 @@
-//! Where bytes go: a file, a raw image with holes for its zeros, or standard output.
+//! Where bytes go: a file, a raw image with holes for its zeros, an image with headers, or standard output.
 
 ghost use Rattle.std.specs.Prelude.{◌≡◌, ◌<◌, ◌≤◌, Some, length, take, replicate, IfOk, IfErr, OnErr};
 ghost use Rattle.std.specs.Io.{WritesAtMost};
@@ -6,7 +6,9 @@ ghost use Rattle.abt_io.specs.Count.{count_of};
 ghost use Rattle.abt_io.specs.Frame.{nothing_logged, and_bytes};
 ghost use Rattle.abt_io.specs.Over.{and_put};
 
+use crate::held_file::HeldFile;
 use abt_io::{DeviceFault, Log};
+use std::alloc::{AllocError, Global};
 use std::fs::File;
 use std::io;
 use std::io::{ErrorKind, Write};
@@ -33,6 +35,8 @@ enum Target {
     /// written is so long; where the file ends before that, zeros are missing, which come with the next byte that is
     /// none, or by a flush.
     Holes { file: File, end: u64, length: u64 },
+    /// A regular file that was just created or emptied, which takes small writes together itself.
+    Held(HeldFile),
     /// Standard output, and a second handle of its file where that is going to be synced: std syncs files alone.
     Standard { stdout: Stdout, file: Option<File> },
 }
@@ -66,15 +70,17 @@ impl Target {
                 *length = length.saturating_add(n as u64);
                 Ok(n)
             }
+            Target::Held(held) => held.put(bytes),
         }
     }
 
-    // Brings the zeros that are missing at the end of a file.
+    // Brings the zeros that are missing at the end of a file, or what is held of it.
     fn settle(&mut self) -> io::Result<()> {
         match self {
             Target::File(_) => Ok(()),
             Target::Standard { .. } => Ok(()),
             Target::Holes { file, end, length } => lay_zeros(file, end, *length),
+            Target::Held(held) => held.settle(),
         }
     }
 
@@ -89,12 +95,13 @@ impl Target {
                 Ok(()) => write_over(file, at, bytes),
                 Err(error) => Err(error.raw_os_error()),
             },
+            Target::Held(held) => held.put_over(at, bytes),
             Target::Standard { .. } => Err(None),
         }
     }
 }
 
-/// A writer that keeps all that the system took, and why it failed.
+/// A writer that keeps all that it took, and why it failed. At its end the system took all of it.
 #[derive(Drop)]
 pub struct Sink {
     target: Target,
@@ -125,6 +132,14 @@ impl Sink {
         } else {
             Sink::of(Target::File(file), FEW)
         }
+    }
+
+    /// The regular file of an image whose headers are laid late, which is empty. It takes small writes together itself.
+    pub fn image(alloc: Global, file: File) -> Result<Sink, AllocError>
+        ensures { IfOk result (λ sink. sink.log.state ≡ nothing_logged) }
+    {
+        let held = HeldFile::new(alloc, file)?;
+        Ok(Sink::of(Target::Held(held), 0))
     }
 
     /// Standard output, and a handle of its file where that is going to be synced.
@@ -170,6 +185,7 @@ impl Sink {
         match &self.target {
             Target::Holes { .. } => n >= PAGE,
             Target::File(_) => false,
+            Target::Held(_) => false,
             Target::Standard { .. } => false,
         }
     }
@@ -187,13 +203,14 @@ impl Sink {
         let laid = match &mut self.target {
             Target::Holes { length, .. } => raise(length, n),
             Target::File(_) => 0,
+            Target::Held(_) => 0,
             Target::Standard { .. } => 0,
         };
         self.log.append_zeros(laid);
         laid
     }
 
-    /// Brings the zeros that are missing at its end.
+    /// Brings the zeros that are missing at its end, or what is held of it.
     pub(crate) fn settle(&mut self) -> io::Result<()>
         ensures { self.new.log.state ≡ self.old.log.state }
     {
@@ -221,6 +238,7 @@ impl Sink {
         let ended = match target {
             Target::File(file) => file.sync_all(),
             Target::Holes { file, .. } => file.sync_all(),
+            Target::Held(held) => held.sync(),
             Target::Standard {
                 file: Some(file),
                 ..
@@ -256,7 +274,7 @@ impl Write for Sink {
 }
 
 // Writes at a place, once more where a signal came in between. Why the call failed, by its number, where it did.
-fn write_over(file: &File, at: u64, bytes: &[u8]) -> Result<usize, Option<i32>>
+pub(crate) fn write_over(file: &File, at: u64, bytes: &[u8]) -> Result<usize, Option<i32>>
     ensures within { count_of result ≤ length bytes.now }
     ensures progress { IfOk result (λ n. 0 < length bytes.now → 0 < n) }
 {
