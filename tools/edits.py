@@ -5,8 +5,9 @@
   tools/edits.py [--jobs N] [CRATE ..]    tries them: the prover must refuse each (hours); without a CRATE those of all
 
 Both take --rt RT, the command of the toolchain. crates/NAME/must-fail/ has the edits that the gate tries, at most 12 of a
-crate: those that tell most. crates/NAME/more-edits/ has all others, in the same form: a line 'file: src/lib.rt', and then
-pairs of lines 'old: TEXT' and 'new: TEXT', where the old text stands once in the file as the pairs before have made it.
+crate, those that tell most, and on top those of fast paths. crates/NAME/more-edits/ has all others, in the same form: a
+line 'file: src/lib.rt', and then pairs of lines 'old: TEXT' and 'new: TEXT', where the old text stands once in the file as
+the pairs before have made it.
 
 Each crate is tried by `rt ci NAME` in a temporary copy, where all its edits stand in must-fail/. So what passes is kept on this
 machine, for the gate too. The last line is 'N passed, M failed'.
