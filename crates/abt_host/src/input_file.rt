@@ -1,7 +1,8 @@
 //! What is read forward: a file, or standard input.
 
 ghost use Rattle.std.specs.Io.{ReadsAtMost};
-ghost use Rattle.std.specs.Prelude.{◌≡◌, ◌≤◌, [], false, length};
+ghost use Rattle.std.specs.Io.Buffered.{reader_buffer, reader_inner};
+ghost use Rattle.std.specs.Prelude.{◌≡◌, ◌<◌, ◌≤◌, [], false, length, take, drop, IsTrue};
 ghost use Rattle.std.proofs.lemmas.Bool.{false≢true};
 
 use crate::opening::{Found, Opened, not_opened};
@@ -51,7 +52,7 @@ impl InputFile {
         bytes: Bytes,
         length: Option<u64>,
     ) -> Result<InputFile, HostRefusal<'a>> {
-        match BufReader::new(alloc, Origin::of(bytes)) {
+        match BufReader::new(alloc, Origin { bytes, why: None }) {
             Ok(reader) => Ok(InputFile {
                 from: Passing {
                     from: FromRead::new(reader),
@@ -114,11 +115,20 @@ impl Input for Passing {
     }
 }
 
-// Gives what is asked for where the buffer holds all of it, as it does of most headers.
+// Gives what is asked for where the buffer holds all of it, as it does of most headers: what a read of the reader gives
+// then.
 fn take_held(reader: &mut BufReader<Origin>, out: &mut [u8]) -> bool
-    ensures { length out.new ≡ length out.old }
+    ensures found { IsTrue result → (0 < length out.old) × (length out.old ≤ length (reader_buffer reader.old)) }
+    ensures bytes { IsTrue result → out.new ≡ take (length out.old) (reader_buffer reader.old) }
+    ensures rest { IsTrue result → reader_buffer reader.new ≡ drop (length out.old) (reader_buffer reader.old) }
+    ensures inner { reader_inner reader.new ≡ reader_inner reader.old }
+    ensures kept { result ≡ false → (out.new ≡ out.old) × (reader.new ≡ reader.old) }
+    ensures length { length out.new ≡ length out.old }
 {
     let n = out.len();
+    if n == 0 {
+        return false;
+    }
     match reader.buffer().get(..n) {
         Some(held) => out.copy_from_slice(held),
         None => return false,
@@ -179,37 +189,14 @@ fn with_place(file: File, found: Found) -> io::Result<Bytes> {
     Ok(Bytes::Stream(file))
 }
 
-// How many bytes are read behind those that were passed over: a few headers, since data may follow that is passed over
-// too.
-const FEW: usize = 256;
-
 /// A reader that keeps why it failed.
 #[derive(Drop)]
 pub struct Origin {
     bytes: Bytes,
-    /// Whether bytes were passed over since it was read last.
-    has_passed: bool,
     why: Option<i32>,
 }
 
 impl Origin {
-    fn of(bytes: Bytes) -> Origin {
-        Origin {
-            bytes,
-            has_passed: false,
-            why: None,
-        }
-    }
-
-    // How many of so many bytes the next read asks for.
-    fn most(&mut self, room: usize) -> usize
-        ensures { result ≤ room }
-    {
-        let has_passed = self.has_passed;
-        self.has_passed = false;
-        if has_passed { room.min(FEW) } else { room }
-    }
-
     // Goes on behind at most so many bytes, none of them beyond the end. It answers how many: none where only a read
     // can tell.
     fn pass(&mut self, most: usize) -> usize
@@ -228,7 +215,6 @@ impl Origin {
                 match file.seek(SeekFrom::Start(behind)) {
                     Ok(_) => {
                         *at = behind;
-                        self.has_passed = true;
                         n as usize
                     }
                     Err(_) => 0,
@@ -250,11 +236,10 @@ fn size_of(file: &File, size: Size) -> u64 {
 
 impl Read for Origin {
     fn read(&mut self, bytes: &mut [u8]) -> io::Result<usize> {
-        let most = self.most(bytes.len());
         let answer = match &mut self.bytes {
             Bytes::Stream(file) => file.read(bytes),
             Bytes::Standard(stdin) => stdin.read(bytes),
-            Bytes::Placed { file, at, .. } => read_on(file, at, &mut bytes[..most]),
+            Bytes::Placed { file, at, .. } => read_on(file, at, bytes),
         };
         if let Err(error) = &answer {
             self.why = error.raw_os_error();
