@@ -5,9 +5,8 @@
   tools/edits.py [--jobs N] [CRATE ..]    tries them: the prover must refuse each (hours); without a CRATE those of all
 
 Both take --rt RT, the command of the toolchain. crates/NAME/must-fail/ has the edits that the gate tries, at most 12 of a
-crate, those that tell most, and on top those of fast paths. crates/NAME/more-edits/ has all others, in the same form: a
-line 'file: src/lib.rt', and then pairs of lines 'old: TEXT' and 'new: TEXT', where the old text stands once in the file as
-the pairs before have made it.
+crate: those that tell most. crates/NAME/more-edits/ has all others, in the same form: a line 'file: src/lib.rt', and then
+pairs of lines 'old: TEXT' and 'new: TEXT', where the old text stands once in the file as the pairs before have made it.
 
 Each crate is tried by `rt ci NAME` in a temporary copy, where all its edits stand in must-fail/. So what passes is kept on this
 machine, for the gate too. The last line is 'N passed, M failed'.
@@ -29,8 +28,6 @@ from repository import HERE, copy_of, crate_at, crate_lines, with_below
 
 FOLDERS = ("must-fail", "more-edits")
 MOST = 12
-# Those of a fast path, which stands beside the code that it is faster than, come on top.
-OF_FAST_PATHS = {"abt_io": 2}
 TRIED = re.compile(r"must-fail (\w+)/([\w.-]+)\.edit: (.*)")
 FAULTS = ("NOT REFUSED", "BAD EDIT", "NOT TRIED")
 WEAK = ("only because a proof file", "only by a limit")
@@ -94,8 +91,7 @@ def check(names, rt, show):
         words = [os.path.basename(it) for it in paths]
         chosen = sum(os.path.basename(os.path.dirname(it)) == FOLDERS[0] for it in paths)
         if paths:
-            most = MOST + OF_FAST_PATHS.get(crate, 0)
-            that(chosen <= most, f"{crate}: {chosen} edits in the gate, at most {most}")
+            that(chosen <= MOST, f"{crate}: {chosen} edits in the gate, at most {MOST}")
             that(len(set(words)) == len(words), f"{crate}: each edit has a name of its own")
         for path in paths:
             label = os.path.relpath(path, os.path.join(HERE, "crates"))

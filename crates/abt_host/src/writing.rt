@@ -81,12 +81,33 @@ impl Writing {
     pub fn image<'a>(&mut self, place: Place<'a>) -> Result<ImageOutput<'a>, HostRefusal<'a>>
         ensures writes { OnOk result (WritesOne self.old self.new) }
     {
+        self.image_of(place, false)
+    }
+
+    /// The same. A regular file holds up to 64 KiB of what it took, which are written together where no more have room
+    /// and at its end, so this is for who waits for nobody meanwhile.
+    pub fn gathered_image<'a>(
+        &mut self,
+        place: Place<'a>,
+    ) -> Result<ImageOutput<'a>, HostRefusal<'a>>
+        ensures writes { OnOk result (WritesOne self.old self.new) }
+    {
+        self.image_of(place, true)
+    }
+
+    fn image_of<'a>(
+        &mut self,
+        place: Place<'a>,
+        is_gathered: bool,
+    ) -> Result<ImageOutput<'a>, HostRefusal<'a>>
+        ensures writes { OnOk result (WritesOne self.old self.new) }
+    {
         if place.is_standard() {
             return Ok(ImageOutput::Stream(self.standard(place)?));
         }
         let Opened { file, found } = self.created(place, Access::Create)?;
-        let sink = if found.is_file {
-            self.held(place, file)?
+        let sink = if is_gathered && found.is_file {
+            Sink::gathered(self.alloc, file)
         } else {
             Sink::file(file)
         };
@@ -184,16 +205,6 @@ impl Writing {
         match options.write(true).open(&self.rt, "/dev/stdout") {
             Ok(file) => Ok(Some(file)),
             Err(error) => Err(error),
-        }
-    }
-
-    // The file of an image whose headers are laid late.
-    fn held<'a>(&self, place: Place<'a>, file: File) -> Result<Sink, HostRefusal<'a>>
-        ensures { IfOk result (λ sink. sink.log.state ≡ nothing_logged) }
-    {
-        match Sink::image(self.alloc, file) {
-            Ok(sink) => Ok(sink),
-            Err(_) => Err(HostRefusal::memory().begun(place)),
         }
     }
 

@@ -1,15 +1,11 @@
 //! Files as a source, a partition and a spool. They tell nothing: what a real file holds between
-//! two calls is beyond a proof. Each write is one positioned write, without a buffer, but for a spool that gathers them
-//! (`behind`). Small reads of a long source and of a spool are read ahead (`ahead`), and every other read is one
-//! positioned read.
+//! two calls is beyond a proof. Each call is one positioned read or write, without a buffer.
 
-ghost use Rattle.std.specs.Prelude.{◌≡◌, ◌≤◌, ◌+◌, [], false, not, nat_lt, length, IfOk, IfErr, IsSome, refl};
+ghost use Rattle.std.specs.Prelude.{◌≡◌, ◌≤◌, ◌+◌, [], false, not, nat_lt, length, IfOk, IsSome, refl};
 ghost use Rattle.std.proofs.lemmas.Bool.{false≢true};
 ghost use Rattle.abt_io.specs.Frame.{last_cut, nothing_logged};
 ghost use Rattle.abt_io.specs.Held.{filled_count};
 
-use crate::ahead::Ahead;
-use crate::behind::{Behind, ROOM};
 use crate::{DeviceFault, Input, Log, Output, Partition, Source, Spool, Tally, tries};
 use std::fs::{File, OpenFile};
 use std::io::{Seek, SeekFrom};
@@ -22,15 +18,11 @@ fn length_of(file: &mut File) -> Result<u64, DeviceFault> {
     }
 }
 
-/// A source that is shorter is read as it is asked for: its headers take few calls.
-const SHORT: u64 = 65_536;
-
 /// A file or a block device to read from, or nothing at all.
 #[derive(Drop)]
 pub struct FileSource {
     pub file: Option<File>,
     pub size: u64,
-    ahead: Ahead,
     pub reads: Tally,
     pub given: Tally,
     pub faults: Tally,
@@ -47,7 +39,6 @@ impl FileSource {
         Ok(FileSource {
             file: Some(file),
             size,
-            ahead: Ahead::new(),
             reads: Tally::new(),
             given: Tally::new(),
             faults: Tally::new(),
@@ -61,7 +52,6 @@ impl FileSource {
         FileSource {
             file: None,
             size: 0,
-            ahead: Ahead::new(),
             reads: Tally::new(),
             given: Tally::new(),
             faults: Tally::new(),
@@ -95,12 +85,7 @@ impl Source for FileSource {
         let Some(file) = &self.file else {
             return Ok(0);
         };
-        let answer = if self.size < SHORT {
-            tries::read_at(file, at, out)
-        } else {
-            self.ahead.read_at(file, at, out)
-        };
-        match answer {
+        match tries::read_at(file, at, out) {
             Ok(n) => {
                 self.given.add(n as u64);
                 Ok(n)
@@ -245,8 +230,6 @@ pub struct FileSpool {
     pub capacity: u64,
     pub used: u64,
     pub seen: u64,
-    ahead: Ahead,
-    behind: Behind,
     pub log: Log,
     pub reads: Tally,
     pub given: Tally,
@@ -274,8 +257,6 @@ impl FileSpool {
             capacity,
             used: 0,
             seen: 0,
-            ahead: Ahead::new(),
-            behind: Behind::new(),
             log: Log::new(),
             reads: Tally::new(),
             given: Tally::new(),
@@ -286,42 +267,6 @@ impl FileSpool {
             clears: Tally::new(),
             clear_faults: Tally::new(),
         }
-    }
-
-    /// From here on takes small writes together: up to 64 KiB are held, and written where no more have room, where the
-    /// spool is read, and by `settle`. Where that fails, it is the read that fails, or the write that found no room. A
-    /// spool of a smaller capacity goes on writing each alone.
-    pub fn gather(&mut self)
-        ensures log { self.new.log.state ≡ self.old.log.state }
-        ensures place { (self.new.capacity ≡ self.old.capacity) × (self.new.used ≡ self.old.used) × (self.new.seen ≡
-            self.old.seen) }
-        ensures reads { (self.new.reads.number ≡ self.old.reads.number) × (self.new.given.number ≡
-            self.old.given.number) × (self.new.read_faults.number ≡ self.old.read_faults.number) }
-        ensures writes { (self.new.writes.number ≡ self.old.writes.number) × (self.new.write_faults.number ≡
-            self.old.write_faults.number) × (self.new.full_faults.number ≡ self.old.full_faults.number) }
-        ensures clears { (self.new.clears.number ≡ self.old.clears.number) × (self.new.clear_faults.number ≡
-            self.old.clear_faults.number) }
-    {
-        if self.capacity >= ROOM as u64 {
-            self.behind.begin();
-        }
-    }
-
-    /// Writes what is held. Refused where a byte that was taken since the last clear could not be written, now or by
-    /// an earlier call, so that a read which failed for that reason is told from one which did not.
-    pub fn settle(&mut self) -> Result<(), DeviceFault>
-        ensures log { self.new.log.state ≡ self.old.log.state }
-        ensures place { (self.new.capacity ≡ self.old.capacity) × (self.new.used ≡ self.old.used) × (self.new.seen ≡
-            self.old.seen) }
-        ensures reads { (self.new.reads.number ≡ self.old.reads.number) × (self.new.given.number ≡
-            self.old.given.number) × (self.new.read_faults.number ≡ self.old.read_faults.number) }
-        ensures writes { (self.new.writes.number ≡ self.old.writes.number) × (self.new.write_faults.number ≡
-            self.old.write_faults.number) × (self.new.full_faults.number ≡ self.old.full_faults.number) }
-        ensures clears { (self.new.clears.number ≡ self.old.clears.number) × (self.new.clear_faults.number ≡
-            self.old.clear_faults.number) }
-        ensures failed { IfErr result (λ e. e ≡ DeviceFault.Failed) }
-    {
-        self.behind.settle(&self.file)
     }
 }
 
@@ -354,11 +299,7 @@ impl Input for FileSpool {
         self.reads.add(1);
         let left = self.used.saturating_sub(self.seen);
         let ask = left.min(out.len() as u64) as usize;
-        let answer = match self.behind.settle(&self.file) {
-            Ok(()) => self.ahead.read_at(&self.file, self.seen, &mut out[..ask]),
-            Err(fault) => Err(fault),
-        };
-        match answer {
+        match tries::read_at(&self.file, self.seen, &mut out[..ask]) {
             Ok(n) => {
                 self.given.add(n as u64);
                 self.seen = self.seen.saturating_add(n as u64);
@@ -406,8 +347,7 @@ impl Output for FileSpool {
             return Err(DeviceFault::Full);
         }
         let n = (self.capacity - used).min(bytes.len() as u64) as usize;
-        self.ahead.forget();
-        match self.behind.write_at(&self.file, used, &bytes[..n]) {
+        match tries::write_at(&self.file, used, &bytes[..n]) {
             Ok(taken) => {
                 self.log.append(&bytes[..taken]);
                 self.used = used + taken as u64;
@@ -448,10 +388,8 @@ impl Spool for FileSpool {
     /// Cuts the file off at its front; it stays open.
     fn clear(&mut self) -> Result<(), DeviceFault> {
         self.clears.add(1);
-        self.ahead.forget();
         match self.file.set_len(0) {
             Ok(()) => {
-                self.behind.forget();
                 self.log.cut();
                 self.used = 0;
                 self.seen = 0;

@@ -21,14 +21,12 @@
 //! - `full_reads`, `passing`, `writing`, `copying`: the movers, generic over the traits.
 //! - `slices`, `partition`, `spool`: devices over lent memory, which tell their bytes; `bytes` and
 //!   `cells` serve them. `forward`: a source read from its front.
-//! - `files`, `file_output`, `streams` (with `tries` and `ahead`): files, readers and writers, which tell nothing.
+//! - `files`, `file_output`, `streams` (with `tries`): files, readers and writers, which tell nothing.
 //! - `testing`: devices for tests, over any other one. `cut` moves little, `faulty` fails, `marred`
 //!   tears a write, `long` lies about its length, `switch` changes, `crash` (with `pick`) loses power.
 //! - `laws`: how moments of a partition join.
 #![tactic(auto)]
 
-mod ahead;
-mod behind;
 mod bytes;
 mod cells;
 mod copying;

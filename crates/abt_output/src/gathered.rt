@@ -33,8 +33,7 @@ impl Gathered {
         self.writer.get_ref().why
     }
 
-    /// Sends what it holds to the sink, and writes a front of these bytes over what stands at a place. All of them have to
-    /// fit there.
+    /// Sends what it holds, and writes a front of these bytes over what stands at a place. All of them have to fit there.
     pub(crate) fn put(&mut self, at: u64, bytes: &[u8]) -> Result<usize, DeviceFault>
         ensures within { count_of result ≤ length bytes.now }
         ensures progress { IfOk result (λ n. 0 < length bytes.now → 0 < n) }
@@ -56,15 +55,12 @@ impl Gathered {
         }
     }
 
-    /// Has the zeros laid that are missing at the end of a file with holes.
-    pub(crate) fn lay_zeros(&mut self) -> Result<(), DeviceFault>
+    /// Has all written that was sent to the sink.
+    pub(crate) fn settle(&mut self) -> Result<(), DeviceFault>
         ensures kept { given self.new.writer ≡ given self.old.writer }
         ensures failed { IfErr result (λ e. e ≡ DeviceFault.Failed) }
     {
-        match self.writer.get_mut().settle() {
-            Ok(()) => Ok(()),
-            Err(_) => Err(DeviceFault::Failed),
-        }
+        self.writer.get_mut().settle()
     }
 
     /// Sends what it holds, where the work before failed.
@@ -84,7 +80,7 @@ impl Gathered {
     }
 }
 
-// Sends what a writer holds, if anything, and writes at a place.
+// Sends what a writer holds, and writes at a place.
 fn put_through(writer: &mut BufWriter<Sink>, at: u64, bytes: &[u8]) -> Result<usize, DeviceFault>
     ensures within { count_of result ≤ length bytes.now }
     ensures progress { IfOk result (λ n. 0 < length bytes.now → 0 < n) }
@@ -92,20 +88,19 @@ fn put_through(writer: &mut BufWriter<Sink>, at: u64, bytes: &[u8]) -> Result<us
     ensures kept { OnErr result (given writer.new ≡ given writer.old) }
     ensures failed { IfErr result (λ e. e ≡ DeviceFault.Failed) }
 {
-    if !writer.buffer().is_empty() && writer.flush().is_err() {
+    if writer.flush().is_err() {
         return Err(DeviceFault::Failed);
     }
     writer.get_mut().put_at(at, bytes)
 }
 
-// Sends what a writer holds, if anything, and takes a hole. How many zeros that gave it. A flush would also lay the hole
-// before this one, with which it is laid now by what comes behind.
+// Sends what a writer holds, and makes its file longer by a hole. How many zeros that gave it.
 fn lay_through(writer: &mut BufWriter<Sink>, n: u64) -> Result<u64, DeviceFault>
     ensures within { count_of result ≤ n }
     ensures written { given writer.new ≡ given writer.old ++ replicate (count_of result) 0 }
     ensures failed { IfErr result (λ e. e ≡ DeviceFault.Failed) }
 {
-    if !writer.buffer().is_empty() && writer.flush().is_err() {
+    if writer.flush().is_err() {
         return Err(DeviceFault::Failed);
     }
     Ok(writer.get_mut().lay_hole(n))

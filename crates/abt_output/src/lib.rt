@@ -5,7 +5,6 @@
 //! | file | has |
 //! |---|---|
 //! | `sink.rt`, `gathered.rt` | where bytes go, with holes for zeros; small writes that go out together |
-//! | `held_file.rt` | a file that holds what it was given last, where headers are laid late |
 //! | `output_file.rt`, `image_file.rt` | an output, and one that has a magic, brought to their end |
 //! | `ending.rt` | what a call answered, once its output is at its end |
 //! | `progress.rt`, `report.rt` | how far a command is, and what it prints |
@@ -13,7 +12,6 @@
 
 mod ending;
 mod gathered;
-mod held_file;
 mod image_file;
 mod output_file;
 mod progress;

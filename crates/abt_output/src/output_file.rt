@@ -13,6 +13,9 @@ use abt_refusals::{HostFault, HostRefusal, Place};
 use std::alloc::Global;
 use std::io::BufWriter;
 
+// How many bytes are taken together at most: a page, since no hole is smaller.
+const PAGE: usize = 4096;
+
 /// A file, a pipe, a device or standard output, which takes small writes together.
 #[derive(Drop)]
 pub struct OutputFile<'a> {
@@ -60,7 +63,7 @@ impl<'a> OutputFile<'a> {
         ensures empty { IfOk result (λ output. given output.to.writer ≡ []) }
         ensures data { IfOk result (λ output. output.is_data_on_output ≡ is_data_on_output) }
     {
-        match BufWriter::with_capacity(alloc, sink.room(), sink) {
+        match BufWriter::with_capacity(alloc, PAGE, sink) {
             Ok(writer) => Ok(OutputFile {
                 to: Gathered::new(writer),
                 place,
@@ -76,13 +79,13 @@ impl<'a> OutputFile<'a> {
         self.to.why()
     }
 
-    /// Has the zeros laid that are missing at the end of a file with holes, where the work before failed. Where that
-    /// cannot be done, a write was refused that came before whatever else failed.
-    pub fn lay_zeros(&mut self) -> Result<(), DeviceFault>
+    /// Has all written that a gathered file holds, but for the small writes that any output takes together. Where that
+    /// cannot be done, a write is refused that came before the call at hand.
+    pub fn settle(&mut self) -> Result<(), DeviceFault>
         ensures kept { given self.new.to.writer ≡ given self.old.to.writer }
         ensures failed { IfErr result (λ e. e ≡ DeviceFault.Failed) }
     {
-        self.to.lay_zeros()
+        self.to.settle()
     }
 
     /// Brings it to its end: what it holds is sent, and it is synced, where that is wanted.

@@ -1,4 +1,4 @@
-//! Where bytes go: a file, a raw image with holes for its zeros, an image with headers, or standard output.
+//! Where bytes go: a file, a raw image with holes for its zeros, or standard output.
 
 ghost use Rattle.std.specs.Prelude.{◌≡◌, ◌<◌, ◌≤◌, Some, length, take, replicate, IfOk, IfErr, OnErr};
 ghost use Rattle.std.specs.Io.{WritesAtMost};
@@ -6,9 +6,9 @@ ghost use Rattle.abt_io.specs.Count.{count_of};
 ghost use Rattle.abt_io.specs.Frame.{nothing_logged, and_bytes};
 ghost use Rattle.abt_io.specs.Over.{and_put};
 
-use crate::held_file::HeldFile;
+use abt_buffers::{HeldFile, Room};
 use abt_io::{DeviceFault, Log};
-use std::alloc::{AllocError, Global};
+use std::alloc::Global;
 use std::fs::File;
 use std::io;
 use std::io::{ErrorKind, Write};
@@ -18,25 +18,15 @@ use std::rt::Stdout;
 // No hole of a file is smaller.
 const PAGE: u64 = 4096;
 
-// How many bytes are taken together at most where the bytes of an image are written before all of it was read: so few
-// that a write which is refused comes before a fault of the image behind them.
-const FEW: usize = PAGE as usize;
-
-// The same where all was looked at before anything is written: as many as a window has.
-const ROOM: usize = 65_536;
-
-const ZEROS: [u8; PAGE as usize] = [0; PAGE as usize];
-
 #[derive(Drop)]
 enum Target {
     /// A file, a pipe or a device, which is given all bytes.
     File(File),
-    /// A regular file that was just created or emptied. Zeros are a hole, which takes no room and no time. What was
-    /// written is so long; where the file ends before that, zeros are missing, which come with the next byte that is
-    /// none, or by a flush.
-    Holes { file: File, end: u64, length: u64 },
-    /// A regular file that was just created or emptied, which takes small writes together itself.
-    Held(HeldFile),
+    /// A regular file that was just created or emptied. Zeros are a hole, which takes no room and no time; so it holds
+    /// exactly what was written, after every call.
+    Holes { file: File, length: u64 },
+    /// A regular file that was just created or emptied, and holds what it was given last.
+    Held(HeldFile<File>),
     /// Standard output, and a second handle of its file where that is going to be synced: std syncs files alone.
     Standard { stdout: Stdout, file: Option<File> },
 }
@@ -65,8 +55,8 @@ impl Target {
         match self {
             Target::File(file) => file.write(bytes),
             Target::Standard { stdout, .. } => stdout.write(bytes),
-            Target::Holes { file, end, length } => {
-                let n = write_behind(file, end, *length, bytes)?;
+            Target::Holes { file, length } => {
+                let n = write_behind(file, *length, bytes)?;
                 *length = length.saturating_add(n as u64);
                 Ok(n)
             }
@@ -74,38 +64,22 @@ impl Target {
         }
     }
 
-    // Brings the zeros that are missing at the end of a file, or what is held of it.
+    // Has all written that it holds.
     fn settle(&mut self) -> io::Result<()> {
         match self {
             Target::File(_) => Ok(()),
             Target::Standard { .. } => Ok(()),
-            Target::Holes { file, end, length } => lay_zeros(file, end, *length),
+            Target::Holes { .. } => Ok(()),
             Target::Held(held) => held.settle(),
-        }
-    }
-
-    // Writes a front of these bytes over what stands at a place. Why the call failed, by its number, where it did.
-    fn put_over(&mut self, at: u64, bytes: &[u8]) -> Result<usize, Option<i32>>
-        ensures within { count_of result ≤ length bytes.now }
-        ensures progress { IfOk result (λ n. 0 < length bytes.now → 0 < n) }
-    {
-        match self {
-            Target::File(file) => write_over(file, at, bytes),
-            Target::Holes { file, end, length } => match lay_zeros(file, end, *length) {
-                Ok(()) => write_over(file, at, bytes),
-                Err(error) => Err(error.raw_os_error()),
-            },
-            Target::Held(held) => held.put_over(at, bytes),
-            Target::Standard { .. } => Err(None),
         }
     }
 }
 
-/// A writer that keeps all that it took, and why it failed. At its end the system took all of it.
+/// A writer that keeps all that it took, and why it failed. All of that is the system's, but for what a gathered file
+/// holds until its end.
 #[derive(Drop)]
 pub struct Sink {
     target: Target,
-    room: usize,
     pub why: Option<i32>,
     pub log: Log,
 }
@@ -115,7 +89,7 @@ impl Sink {
     pub fn file(file: File) -> Sink
         ensures { result.log.state ≡ nothing_logged }
     {
-        Sink::of(Target::File(file), ROOM)
+        Sink::of(Target::File(file))
     }
 
     /// The file of a raw image, which is empty. In a regular one zeros may be holes.
@@ -123,38 +97,35 @@ impl Sink {
         ensures { result.log.state ≡ nothing_logged }
     {
         if is_regular {
-            let target = Target::Holes {
-                file,
-                end: 0,
-                length: 0,
-            };
-            Sink::of(target, FEW)
+            Sink::of(Target::Holes { file, length: 0 })
         } else {
-            Sink::of(Target::File(file), FEW)
+            Sink::of(Target::File(file))
         }
     }
 
-    /// The regular file of an image whose headers are laid late, which is empty. It takes small writes together itself.
-    pub fn image(alloc: Global, file: File) -> Result<Sink, AllocError>
-        ensures { IfOk result (λ sink. sink.log.state ≡ nothing_logged) }
+    /// A regular file that is empty. It holds up to 64 KiB of what it was given last, and lays headers there in memory;
+    /// where there is no memory for that, it is given all bytes.
+    pub fn gathered(alloc: Global, file: File) -> Sink
+        ensures { result.log.state ≡ nothing_logged }
     {
-        let held = HeldFile::new(alloc, file)?;
-        Ok(Sink::of(Target::Held(held), 0))
+        Sink::of(match Room::new(alloc) {
+            Ok(room) => Target::Held(HeldFile::new(file, room)),
+            Err(_) => Target::File(file),
+        })
     }
 
     /// Standard output, and a handle of its file where that is going to be synced.
     pub fn standard(stdout: Stdout, file: Option<File>) -> Sink
         ensures { result.log.state ≡ nothing_logged }
     {
-        Sink::of(Target::Standard { stdout, file }, FEW)
+        Sink::of(Target::Standard { stdout, file })
     }
 
-    fn of(target: Target, room: usize) -> Sink
+    fn of(target: Target) -> Sink
         ensures { result.log.state ≡ nothing_logged }
     {
         Sink {
             target,
-            room,
             why: None,
             log: Log::new(),
         }
@@ -168,7 +139,13 @@ impl Sink {
         ensures kept { OnErr result (self.new.log.state ≡ self.old.log.state) }
         ensures failed { IfErr result (λ e. e ≡ DeviceFault.Failed) }
     {
-        match self.target.put_over(at, bytes) {
+        let answer = match &mut self.target {
+            Target::File(file) => write_over(file, at, bytes),
+            Target::Holes { file, .. } => write_over(file, at, bytes),
+            Target::Held(held) => held.put_over(at, bytes),
+            Target::Standard { .. } => Err(None),
+        };
+        match answer {
             Ok(n) => {
                 self.log.put(&bytes[..n], at);
                 Ok(n)
@@ -190,18 +167,13 @@ impl Sink {
         }
     }
 
-    /// How many bytes are to be taken together before they come here.
-    pub(crate) fn room(&self) -> usize {
-        self.room
-    }
-
-    /// Takes a hole of at most so many zeros, and answers how many: 0 where there are no holes.
+    /// Makes the file longer by a hole of at most so many zeros, and answers how many: 0 where that cannot be done.
     pub(crate) fn lay_hole(&mut self, n: u64) -> u64
         ensures within { result ≤ n }
         ensures laid { self.new.log.state ≡ and_bytes self.old.log.state (replicate result 0) }
     {
         let laid = match &mut self.target {
-            Target::Holes { length, .. } => raise(length, n),
+            Target::Holes { file, length } => longer(file, length, n),
             Target::File(_) => 0,
             Target::Held(_) => 0,
             Target::Standard { .. } => 0,
@@ -210,21 +182,22 @@ impl Sink {
         laid
     }
 
-    /// Brings the zeros that are missing at its end, or what is held of it.
-    pub(crate) fn settle(&mut self) -> io::Result<()>
-        ensures { self.new.log.state ≡ self.old.log.state }
+    /// Has all written that it holds.
+    pub(crate) fn settle(&mut self) -> Result<(), DeviceFault>
+        ensures kept { self.new.log.state ≡ self.old.log.state }
+        ensures failed { IfErr result (λ e. e ≡ DeviceFault.Failed) }
     {
         match self.target.settle() {
             Ok(()) => Ok(()),
             Err(error) => {
                 self.why = error.raw_os_error();
-                Err(error)
+                Err(DeviceFault::Failed)
             }
         }
     }
 
-    /// Brings it to its end, has it synced, where that is wanted, and answers what the system took. Why that could not
-    /// be done, by the number of the system's error. A file is closed then; standard output stays open.
+    /// Has all written that it holds, and synced, where that is wanted, and answers what the system took. Why that could
+    /// not be done, by the number of the system's error. A file is closed then; standard output stays open.
     pub(crate) fn end(self, is_synced: bool) -> Result<Log, Option<i32>>
         ensures { IfOk result (λ sent. sent.state ≡ self.log.state) }
     {
@@ -238,7 +211,7 @@ impl Sink {
         let ended = match target {
             Target::File(file) => file.sync_all(),
             Target::Holes { file, .. } => file.sync_all(),
-            Target::Held(held) => held.sync(),
+            Target::Held(held) => held.file().sync_all(),
             Target::Standard {
                 file: Some(file),
                 ..
@@ -269,12 +242,12 @@ impl Write for Sink {
     }
 
     fn flush(&mut self) -> io::Result<()> {
-        self.settle()
+        Ok(())
     }
 }
 
 // Writes at a place, once more where a signal came in between. Why the call failed, by its number, where it did.
-pub(crate) fn write_over(file: &File, at: u64, bytes: &[u8]) -> Result<usize, Option<i32>>
+fn write_over(file: &File, at: u64, bytes: &[u8]) -> Result<usize, Option<i32>>
     ensures within { count_of result ≤ length bytes.now }
     ensures progress { IfOk result (λ n. 0 < length bytes.now → 0 < n) }
 {
@@ -292,72 +265,17 @@ pub(crate) fn write_over(file: &File, at: u64, bytes: &[u8]) -> Result<usize, Op
     Err(None)
 }
 
-// Writes behind so many bytes of a regular file. Zeros are left out: a write behind them makes a hole, with no call for
-// it. Where it fails they are laid, and where no write may stand behind the end of a file it is tried again then.
-fn write_behind(file: &File, end: &mut u64, length: u64, bytes: &[u8]) -> io::Result<usize>
+// Writes at the end of a regular file, where zeros are a hole if the file can have one.
+fn write_behind(file: &File, length: u64, bytes: &[u8]) -> io::Result<usize>
     ensures { WritesAtMost result bytes.now }
 {
     if is_zero(bytes) {
-        return Ok(bytes.len());
-    }
-    let missing = length.saturating_sub(*end);
-    match write_on(file, end, length, bytes) {
-        Ok(n) => Ok(n),
-        Err(error) => {
-            lay_zeros(file, end, length)?;
-            if missing > 0 && needs_zeros(&error) {
-                return write_on(file, end, length, bytes);
-            }
-            Err(error)
+        let longer = length.saturating_add(bytes.len() as u64);
+        if file.set_len(longer).is_ok() {
+            return Ok(bytes.len());
         }
     }
-}
-
-// Whether a write was refused for where it stands, and not for want of room or by the disk.
-fn needs_zeros(error: &io::Error) -> bool {
-    match error.kind() {
-        ErrorKind::InvalidInput | ErrorKind::PermissionDenied | ErrorKind::Unsupported => true,
-        _ => false,
-    }
-}
-
-// One write at a place, behind whose bytes the file ends then. A write of nothing makes no file longer.
-fn write_on(file: &File, end: &mut u64, at: u64, bytes: &[u8]) -> io::Result<usize>
-    ensures { WritesAtMost result bytes.now }
-{
-    let n = file.write_at(bytes, at)?;
-    if n > 0 {
-        *end = at.saturating_add(n as u64);
-    }
-    Ok(n)
-}
-
-// So many zeros more, as far as a length can be told.
-fn raise(length: &mut u64, n: u64) -> u64
-    ensures { result ≤ n }
-{
-    let some = n.min(u64::MAX - *length);
-    *length = length.saturating_add(some);
-    some
-}
-
-// Makes a file so long by zeros: by a hole, or as much of one as the file can have, and by writing them where it can
-// have none.
-fn lay_zeros(file: &File, end: &mut u64, length: u64) -> io::Result<()> {
-    if *end < length && file.set_len(length).is_ok() {
-        *end = length;
-    }
-    for _ in 0..u64::MAX {
-        let missing = length.saturating_sub(*end);
-        if missing == 0 {
-            return Ok(());
-        }
-        if longer(file, end, missing) == 0 {
-            let n = write_zeros(file, *end, missing)?;
-            *end = end.saturating_add(n as u64);
-        }
-    }
-    Ok(())
+    file.write_at(bytes, length)
 }
 
 // Makes a file longer by so many zeros at once, or where it cannot be so long by half as many, and so on. It answers by
@@ -375,21 +293,6 @@ fn longer(file: &File, length: &mut u64, n: u64) -> u64
         some /= 2;
     }
     0
-}
-
-// Writes some zeros at the end of a file. A signal that comes in between is no error: none was written.
-fn write_zeros(file: &File, end: u64, n: u64) -> io::Result<usize> {
-    let some = n.min(PAGE) as usize;
-    match file.write_at(&ZEROS[..some], end) {
-        Ok(0) => Err(io::Error::from(ErrorKind::WriteZero)),
-        Ok(n) => Ok(n),
-        Err(error) => {
-            if error.kind() == ErrorKind::Interrupted {
-                return Ok(0);
-            }
-            Err(error)
-        }
-    }
 }
 
 // Most data that isn't zero shows it at an end. What is left is looked at as a whole, which is fast.

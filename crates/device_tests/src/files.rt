@@ -1,6 +1,6 @@
 //! The file devices, on real files in the folder where the tests run.
 
-use crate::calls::{filled, filled_at, put, through_partition, through_spool};
+use crate::calls::{filled_at, through_partition, through_spool};
 use crate::overwriting::written_over;
 use abt_io::*;
 use std::alloc::Alloc;
@@ -55,41 +55,6 @@ fn a_spool_file_holds_its_capacity_and_is_emptied(rt: HostRuntime) {
     assert!(rt; through_spool(&mut spool, b"xyz", &mut out) == Ok(3));
     assert!(rt; out == *b"xyzd\0\0");
     assert!(rt; has(&rt, "spool.tmp", "xyz"));
-}
-
-/// Whether a spool took bytes that are not in its file, and has them there once it is read or settled.
-#[test]
-fn a_spool_file_that_gathers_is_written_late(rt: HostRuntime) {
-    let mut out = [0u8; 3];
-    let mut spool = FileSpool::new(opened(&rt, "gathered.tmp", ""), 65_536);
-    spool.gather();
-    assert!(rt; put(&mut spool, b"abc") == Ok(()));
-    assert!(rt; has(&rt, "gathered.tmp", ""));
-    assert!(rt; filled(&mut spool, &mut out).count == 3);
-    assert!(rt; out == *b"abc");
-    assert!(rt; has(&rt, "gathered.tmp", "abc"));
-    assert!(rt; put(&mut spool, b"de") == Ok(()));
-    assert!(rt; has(&rt, "gathered.tmp", "abc"));
-    assert!(rt; spool.settle() == Ok(()));
-    assert!(rt; has(&rt, "gathered.tmp", "abcde"));
-    assert!(rt; through_spool(&mut spool, b"xyz", &mut out) == Ok(3));
-    assert!(rt; has(&rt, "gathered.tmp", "xyz"));
-}
-
-/// What can't be written is refused where it is read, and as often as the spool is settled, until it is emptied.
-#[test]
-fn a_gathered_write_that_fails_is_told_later(rt: HostRuntime) {
-    let mut out = [0u8; 2];
-    fs::write(&rt, "unwritten.tmp", "....").expect(&rt, "is written");
-    let mut spool = FileSpool::new(
-        File::open(&rt, "unwritten.tmp").expect(&rt, "opens"),
-        65_536,
-    );
-    spool.gather();
-    assert!(rt; put(&mut spool, b"ab") == Ok(()));
-    assert!(rt; filled(&mut spool, &mut out).fault == Some(DeviceFault::Failed));
-    assert!(rt; spool.settle() == Err(DeviceFault::Failed));
-    assert!(rt; spool.settle() == Err(DeviceFault::Failed));
 }
 
 #[test]

@@ -2,8 +2,9 @@
 
 use crate::piece_names::refuse_image_as_piece;
 use crate::pieces::Pieces;
+use abt_buffers::AheadSource;
 use abt_host::{Reading, Writing};
-use abt_io::{FileSource, Meter, Source, Window};
+use abt_io::{Meter, Source, Window};
 use abt_output::Report;
 use abt_refusals::{Place, Sides};
 use sparse_rules::{LeftOver, Line, PieceFiles, SparseRefusal};
@@ -35,7 +36,7 @@ pub(crate) fn cut_file<'a>(
 ) -> Result<(), SparseRefusal<'a>> {
     let mut reading = reading;
     let input = Place::new("IN", order.input);
-    let mut source = reading.source(input)?;
+    let mut source = AheadSource::new(reading.source(input)?);
     report.progress.expect(source.length(), 1);
     let sides = Sides::none().reading(input, None);
     let mut pieces = match Pieces::open(&mut source, order.raw, order.limit, w, m) {
@@ -74,7 +75,7 @@ pub(crate) fn cut_file<'a>(
 // is begun before it is known that the line of the last one is out.
 fn write_piece<'a>(
     pieces: &mut Pieces,
-    source: &mut FileSource,
+    source: &mut AheadSource,
     writing: &mut Writing,
     place: Place<'a>,
     sides: Sides<'a>,
@@ -82,7 +83,7 @@ fn write_piece<'a>(
     w: &mut Window,
     m: &mut Meter,
 ) -> Result<(), SparseRefusal<'a>> {
-    let output = writing.image(place)?;
+    let output = writing.gathered_image(place)?;
     let number = place.number.unwrap_or(1);
     if number == 1 {
         report.progress.repeat(pieces.passes(&output));

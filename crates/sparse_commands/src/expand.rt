@@ -1,11 +1,9 @@
 //! The command `expand`: the raw image that a sparse image stands for, or several together.
 
-ghost use Rattle.std.specs.Prelude.{◌≡◌, IfErr, IfOk};
-
 use crate::overlay::overlay;
-use abt_chunks::{Expanded, SparseFault, expand};
+use abt_chunks::{Expanded, expand};
 use abt_host::{Reading, Watched};
-use abt_io::{DeviceFault, Meter, Window};
+use abt_io::{Meter, Window};
 use abt_output::{Finished, Report, ended};
 use abt_refusals::{Place, Sides};
 use sparse_rules::{Line, SparseCommandFault, SparseRefusal};
@@ -48,18 +46,7 @@ fn expand_one<'a>(
     let sides = Sides::none().reading(input, from.why());
     let answer = match answer {
         Ok(expanded) => Ok(expanded),
-        Err(fault) => Err(SparseCommandFault::Sparse(first_of(to.lay_zeros(), fault))),
+        Err(fault) => Err(SparseCommandFault::Sparse(fault)),
     };
     ended(answer, to, sides)
-}
-
-// What is told of a command that failed, where zeros were laid then that it had given before: of two faults the first.
-fn first_of(laid: Result<(), DeviceFault>, fault: SparseFault) -> SparseFault
-    ensures laid { IfOk laid (λ _. result ≡ fault) }
-    ensures refused { IfErr laid (λ device. result ≡ SparseFault.Write device) }
-{
-    match laid {
-        Ok(()) => fault,
-        Err(device) => SparseFault::Write(device),
-    }
 }

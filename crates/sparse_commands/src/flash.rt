@@ -4,9 +4,10 @@ ghost use Rattle.std.specs.Prelude.{◌≡◌, ℕ, Err, IfErr, IfOk, IsErr};
 ghost use Rattle.abt_flash.specs.declared.fault.Cause.{Cause};
 
 use crate::pieces::RAW_PASSES;
+use abt_buffers::{AheadSource, GatheringSpool};
 use abt_flash::{Cause, Delivered, FlashFault, flash, resume, resume_raw};
 use abt_host::{Passing, Reading, Watched};
-use abt_io::{DeviceFault, FilePartition, FileSource, FileSpool, Meter, Source, Window};
+use abt_io::{DeviceFault, FilePartition, Meter, Source, Window};
 use abt_output::Report;
 use abt_refusals::{Place, Sides};
 use abt_words::Pieces;
@@ -75,15 +76,16 @@ pub(crate) fn flash_pieces<'a>(
     let input = image_place(input);
     let partition = Place::new("PARTITION", partition);
     let spool = Place::new("SPOOL", pieces.spool);
-    let mut source = reading.source(input)?;
+    let mut source = AheadSource::new(reading.source(input)?);
     let mut writing = reading.all_open();
     let mut onto = writing.partition(partition)?;
     if let Some(size) = raw
-        && let Err(fault) = raw_pieces(&source, size, pieces.limit)
+        && let Err(fault) = raw_pieces(&source.source, size, pieces.limit)
     {
         return Err(Sides::none().reading(input, None).refuse(fault));
     }
-    let mut through = writing.spool(spool, pieces.limit)?;
+    let through = writing.spool(spool, pieces.limit)?;
+    let mut through = GatheringSpool::new(through);
     let passes = if raw.is_some() { RAW_PASSES } else { 1 };
     report.progress.expect(source.length(), passes);
     let mut watched = Watched::new(&mut source, &mut report.progress);
@@ -102,21 +104,20 @@ pub(crate) fn flash_pieces<'a>(
     Ok(())
 }
 
-// Flashes the pieces from the one that the words name on. The spool takes its small writes together.
+// Flashes the pieces from the one that the words name on. All that the spool took is in its file then.
 fn deliver(
-    source: &mut Watched<'_, FileSource>,
+    source: &mut Watched<'_, AheadSource>,
     raw: Option<u32>,
     pieces: Pieces<'_>,
-    spool: &mut FileSpool,
+    spool: &mut GatheringSpool,
     onto: &mut FilePartition,
     w: &mut Window,
     m: &mut Meter,
 ) -> Result<Delivered, FlashFault>
-    requires { spool.old.capacity ≡ pieces.limit }
+    requires { spool.old.spool.capacity ≡ pieces.limit }
 {
     let Pieces { limit, from, .. } = pieces;
     let from = from.max(1);
-    spool.gather();
     let delivered = match raw {
         Some(size) => resume_raw(source, size, limit, from, spool, onto, w, m),
         None => resume(source, limit, from, spool, onto, w, m),

@@ -9,6 +9,7 @@
 //! | `flash_raw.rt` | `flash` of a raw image that goes straight to a partition |
 //! | `pieces.rt` | the pieces of a sparse or a raw image, each written to a file |
 //! | `piece_names.rt` | an image that has the name of a piece |
+//! | `late_writes.rt` | what is told of a command that stopped, where its file is written late |
 #![tactic(auto)]
 
 mod command;
@@ -16,6 +17,7 @@ mod cut;
 mod expand;
 mod flash;
 mod flash_raw;
+mod late_writes;
 mod list;
 mod overlay;
 mod piece_names;

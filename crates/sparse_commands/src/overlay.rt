@@ -1,5 +1,6 @@
 //! Several sparse images laid over one another, as the pieces of a cut are: the command `expand IN.. OUT`.
 
+use abt_buffers::AheadSource;
 use abt_chunks::Expanded;
 use abt_flash::flash;
 use abt_host::{Reading, Watched};
@@ -35,7 +36,7 @@ pub(crate) fn overlay<'a>(
     let mut zeros = writing.zeros(output, bytes)?;
     for (source, input) in sources.into_iter().zip(inputs) {
         m.tick();
-        let mut from = Forward::new(source);
+        let mut from = Forward::new(AheadSource::new(source));
         let mut watched = Watched::new(&mut from, &mut report.progress);
         if let Err(fault) = flash(&mut watched, &mut zeros, w, m) {
             let sides = Sides::none()
@@ -88,7 +89,7 @@ fn open_one<'a>(
     w: &mut Window,
     m: &mut Meter,
 ) -> Result<(FileSource, Shape), SparseRefusal<'a>> {
-    let mut source = reading.source(place)?;
+    let mut source = AheadSource::new(reading.source(place)?);
     report.progress.expect(source.length(), 1);
     let runs = match SparseRuns::open(&mut source, w, m) {
         Ok(runs) => runs,
@@ -101,5 +102,5 @@ fn open_one<'a>(
         blocks: runs.blocks(),
         block: runs.block_size(),
     };
-    Ok((source, shape))
+    Ok((source.source, shape))
 }

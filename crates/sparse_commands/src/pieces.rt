@@ -1,7 +1,9 @@
 //! The pieces of a sparse or a raw image, each written to a file of its own.
 
+use crate::late_writes::stopped;
+use abt_buffers::AheadSource;
 use abt_host::Watched;
-use abt_io::{FileSource, Meter, Output, Window};
+use abt_io::{Meter, Output, Window};
 use abt_output::{Finished, ImageFile, ImageOutput, Progress, ended, ended_file, ended_front};
 use abt_pieces::Piece;
 use abt_placed::next_piece_at;
@@ -23,14 +25,14 @@ pub(crate) enum Pieces {
 impl Pieces {
     /// Opens an image, all of whose chunks are checked, or a raw one in blocks of so many bytes.
     pub(crate) fn open(
-        source: &mut FileSource,
+        source: &mut AheadSource,
         raw: Option<u32>,
         limit: u32,
         w: &mut Window,
         m: &mut Meter,
     ) -> Result<Pieces, SparseCommandFault> {
         match raw {
-            Some(size) => Ok(Pieces::Raw(raw_pieces(source, size, limit)?)),
+            Some(size) => Ok(Pieces::Raw(raw_pieces(&source.source, size, limit)?)),
             None => {
                 let runs = match SparseRuns::open(source, w, m) {
                     Ok(runs) => runs,
@@ -61,7 +63,7 @@ impl Pieces {
     /// there in one pass over it.
     pub(crate) fn write_next<'a>(
         &mut self,
-        source: &mut FileSource,
+        source: &mut AheadSource,
         output: ImageOutput<'a>,
         sides: Sides<'a>,
         progress: &mut Progress,
@@ -72,8 +74,10 @@ impl Pieces {
         match self {
             Pieces::Sparse(pieces) => match output {
                 ImageOutput::File(mut front) => {
-                    let answer = next_piece(pieces, &mut watched, &mut front, w, m);
-                    ended_front(answer, front, sides, m)
+                    match next_piece(pieces, &mut watched, &mut front, w, m) {
+                        Ok(piece) => ended_front(Ok(piece), front, sides, m),
+                        Err(fault) => stopped(fault, front.output.output, sides),
+                    }
                 }
                 ImageOutput::Stream(mut stream) => {
                     let answer = next_piece(pieces, &mut watched, &mut stream.to, w, m);
@@ -83,8 +87,10 @@ impl Pieces {
             Pieces::Raw(pieces) => match output {
                 ImageOutput::File(front) => {
                     let mut file = front.output;
-                    let answer = next_raw_piece(pieces, &mut watched, &mut file, w, m);
-                    ended_file(answer, file, sides)
+                    match next_raw_piece(pieces, &mut watched, &mut file, w, m) {
+                        Ok(piece) => ended_file(Ok(piece), file, sides),
+                        Err(fault) => stopped(fault, file.output, sides),
+                    }
                 }
                 ImageOutput::Stream(mut stream) => {
                     let answer = next_piece(pieces, &mut watched, &mut stream.to, w, m);
@@ -97,7 +103,7 @@ impl Pieces {
 
 fn next_piece<B: BlockRuns + Drop, O: Output>(
     pieces: &mut PiecesOf<B>,
-    source: &mut Watched<'_, FileSource>,
+    source: &mut Watched<'_, AheadSource>,
     output: &mut O,
     w: &mut Window,
     m: &mut Meter,
@@ -110,7 +116,7 @@ fn next_piece<B: BlockRuns + Drop, O: Output>(
 
 fn next_raw_piece(
     pieces: &mut PiecesOf<RawRuns>,
-    source: &mut Watched<'_, FileSource>,
+    source: &mut Watched<'_, AheadSource>,
     file: &mut ImageFile<'_>,
     w: &mut Window,
     m: &mut Meter,

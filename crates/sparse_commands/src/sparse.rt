@@ -1,5 +1,6 @@
 //! The command `sparse`: a raw image as a sparse one.
 
+use crate::late_writes::stopped;
 use abt_host::{Reading, Watched};
 use abt_io::{FileSource, Meter, Source, Window};
 use abt_output::{Finished, ImageOutput, Report, ended, ended_file};
@@ -34,7 +35,9 @@ pub(crate) fn sparse_file<'a>(
         Err(fault) => return Err(sides.refuse(SparseCommandFault::Run(fault))),
     };
     report.progress.expect(source.length(), 1);
-    let image = reading.all_open().image(Place::new("OUT", output))?;
+    let image = reading
+        .all_open()
+        .gathered_image(Place::new("OUT", output))?;
     let (written, finished) = write_image(&mut source, blocks, image, sides, report, w, m)?;
     let line = Line::Sparse {
         blocks: written.blocks,
@@ -60,7 +63,10 @@ fn write_image<'a>(
             let mut file = front.output;
             let mut watched = Watched::new(source, &mut report.progress);
             let answer = sparsify_at(&mut watched, size, most, &mut file, w, m);
-            ended_file(answered(answer), file, sides)
+            match answered(answer) {
+                Ok(written) => ended_file(Ok(written), file, sides),
+                Err(fault) => stopped(fault, file.output, sides),
+            }
         }
         ImageOutput::Stream(mut stream) => {
             report.progress.repeat(PASSES);

@@ -8,16 +8,28 @@ ghost use Rattle.std.specs.Prelude.{◌≡◌, ◌<◌, ◌≤◌, length, IfOk}
 ghost use Rattle.std.specs.Io.{WritesAtMost};
 ghost use Rattle.abt_io.specs.Count.{count_of};
 
-use crate::sink::write_over;
-use abt_io::FRONT;
+use abt_io::{FRONT, WINDOW};
 use std::alloc::{AllocError, Global};
 use std::fs::File;
 use std::io;
 use std::io::ErrorKind;
 use std::os::unix::fs::FileExt;
 
-// How many bytes are held at most: as many as a window has.
-const ROOM: usize = 65_536;
+/// What is written at any place, as a file is.
+pub trait Under {
+    /// One write of a front of these bytes at a place.
+    fn put_at(&mut self, at: u64, bytes: &[u8]) -> io::Result<usize>
+        ensures { WritesAtMost result bytes.now };
+}
+
+impl Under for File {
+    fn put_at(&mut self, at: u64, bytes: &[u8]) -> io::Result<usize> {
+        self.write_at(bytes, at)
+    }
+}
+
+// How many bytes are held at most.
+const ROOM: usize = WINDOW;
 
 // How long a header is that is laid in memory.
 const HEADER: usize = 12;
@@ -37,39 +49,55 @@ struct Laid {
 
 impl Laid {
     // Takes it back where fewer bytes were written than it was laid behind, in the file too.
-    fn take_back(&self, file: &File, sent: u64, done: usize, held: &mut [u8]) {
+    fn take_back<U: Under>(&self, file: &mut U, sent: u64, done: usize, held: &mut [u8]) {
         let from = self.from;
         if done >= self.behind || from > held.len() || held.len() - from < HEADER {
             return;
         }
         held[from..from + HEADER].copy_from_slice(&self.before);
         let some = done.saturating_sub(from).min(HEADER);
-        let _ = file.write_all_at(&self.before[..some], sent.saturating_add(from as u64));
+        let _ = write_front(file, sent.saturating_add(from as u64), &self.before[..some]);
     }
 }
 
 /// A file that was just created or emptied. What is held goes behind the bytes that were sent.
-pub(crate) struct HeldFile {
-    file: File,
+pub struct HeldFile<U: Under + Drop> {
+    file: U,
     sent: u64,
     held: Vec<u8>,
     laid: Vec<Laid>,
 }
 
-impl HeldFile {
-    pub(crate) fn new(alloc: Global, file: File) -> Result<HeldFile, AllocError> {
-        let held = Vec::with_capacity(alloc, ROOM)?;
-        let laid = Vec::with_capacity(alloc, MOST)?;
-        Ok(HeldFile {
+/// The memory that a file holds bytes in.
+#[derive(Drop)]
+pub struct Room {
+    held: Vec<u8>,
+    laid: Vec<Laid>,
+}
+
+impl Room {
+    pub fn new(alloc: Global) -> Result<Room, AllocError> {
+        Ok(Room {
+            held: Vec::with_capacity(alloc, ROOM)?,
+            laid: Vec::with_capacity(alloc, MOST)?,
+        })
+    }
+}
+
+impl<U: Under + Drop> HeldFile<U> {
+    /// Nothing is held yet.
+    pub fn new(file: U, room: Room) -> HeldFile<U> {
+        let Room { held, laid } = room;
+        HeldFile {
             file,
             sent: 0,
             held,
             laid,
-        })
+        }
     }
 
     /// Takes some of these bytes: it holds them, or where they have no room it sends what it holds, and some of them.
-    pub(crate) fn put(&mut self, bytes: &[u8]) -> io::Result<usize>
+    pub fn put(&mut self, bytes: &[u8]) -> io::Result<usize>
         ensures { WritesAtMost result bytes.now }
     {
         let room = ROOM.saturating_sub(self.held.len());
@@ -77,14 +105,14 @@ impl HeldFile {
             return Ok(bytes.len());
         }
         self.settle()?;
-        let n = self.file.write_at(bytes, self.sent)?;
+        let n = self.file.put_at(self.sent, bytes)?;
         self.sent = self.sent.saturating_add(n as u64);
         Ok(n)
     }
 
     /// Writes a front of these bytes over what was taken. What stands at the front, as the magic does, is laid once all
     /// else is in the file. Why the call failed, by its number, where it did.
-    pub(crate) fn put_over(&mut self, at: u64, bytes: &[u8]) -> Result<usize, Option<i32>>
+    pub fn put_over(&mut self, at: u64, bytes: &[u8]) -> Result<usize, Option<i32>>
         ensures within { count_of result ≤ length bytes.now }
         ensures progress { IfOk result (λ n. 0 < length bytes.now → 0 < n) }
     {
@@ -94,7 +122,7 @@ impl HeldFile {
         if let Err(error) = self.settle() {
             return Err(error.raw_os_error());
         }
-        write_over(&self.file, at, bytes)
+        write_over(&mut self.file, at, bytes)
     }
 
     // Lays a header over bytes that are held, if all of them are.
@@ -119,11 +147,11 @@ impl HeldFile {
     }
 
     /// Sends what it holds. Where that fails it is held on, and sent to the same place by the next call.
-    pub(crate) fn settle(&mut self) -> io::Result<()> {
-        let (done, result) = write_front(&self.file, self.sent, self.held.as_slice());
+    pub fn settle(&mut self) -> io::Result<()> {
+        let (done, result) = write_front(&mut self.file, self.sent, self.held.as_slice());
         if result.is_err() {
             for laid in self.laid.iter().rev() {
-                laid.take_back(&self.file, self.sent, done, self.held.as_mut_slice());
+                laid.take_back(&mut self.file, self.sent, done, self.held.as_mut_slice());
             }
             self.laid.clear();
             return result;
@@ -134,13 +162,14 @@ impl HeldFile {
         Ok(())
     }
 
-    pub(crate) fn sync(&self) -> io::Result<()> {
-        self.file.sync_all()
+    /// The file, once all is sent.
+    pub fn file(&self) -> &U {
+        &self.file
     }
 }
 
 /// What it holds is sent, as far as that can be done.
-impl Drop for HeldFile {
+impl<U: Under + Drop> Drop for HeldFile<U> {
     fn drop(mut self) {
         let _ = self.settle();
         let HeldFile {
@@ -152,9 +181,27 @@ impl Drop for HeldFile {
     }
 }
 
-// Writes these bytes at a place, and answers how many were written, and whether all. A signal that comes in between is no
-// error.
-fn write_front(file: &File, at: u64, bytes: &[u8]) -> (usize, io::Result<()>) {
+/// Writes at a place, once more where a signal came in between. Why the call failed, by its number, where it did.
+fn write_over<U: Under>(file: &mut U, at: u64, bytes: &[u8]) -> Result<usize, Option<i32>>
+    ensures within { count_of result ≤ length bytes.now }
+    ensures progress { IfOk result (λ n. 0 < length bytes.now → 0 < n) }
+{
+    for _ in 0..u64::MAX {
+        match file.put_at(at, bytes) {
+            Ok(n) if n > 0 || bytes.is_empty() => return Ok(n),
+            Ok(_) => return Err(None),
+            Err(error) => {
+                if error.kind() != ErrorKind::Interrupted {
+                    return Err(error.raw_os_error());
+                }
+            }
+        }
+    }
+    Err(None)
+}
+
+// Writes these bytes at a place, and answers how many were written, and whether all.
+fn write_front<U: Under>(file: &mut U, at: u64, bytes: &[u8]) -> (usize, io::Result<()>) {
     let mut done = 0;
     while done < bytes.len() {
         match write_over(file, at.saturating_add(done as u64), &bytes[done..]) {

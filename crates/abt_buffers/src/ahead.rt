@@ -1,10 +1,13 @@
-//! Reading a file ahead: of small reads, as those of headers, one call of the system brings many.
+//! A source that is read ahead: of small reads, as those of headers, one call of the system brings many.
 
-ghost use Rattle.std.specs.Prelude.{◌≡◌, ◌≤◌, ◌+◌, length, IfErr};
+ghost use Rattle.std.specs.Prelude.{◌≡◌, ◌≤◌, ◌+◌, [], false, length, IfErr};
+ghost use Rattle.std.proofs.lemmas.Bool.{false≢true};
 ghost use Rattle.abt_io.specs.Count.{count_of};
 
-use crate::{DeviceFault, tries};
+use abt_io::{DeviceFault, FileSource, Source, Tally};
 use std::fs::File;
+use std::io::ErrorKind;
+use std::os::unix::fs::FileExt;
 
 /// How many bytes are read at once where reads follow one another.
 const ROOM: usize = 4096;
@@ -14,6 +17,9 @@ const FEW: usize = 256;
 
 /// A read that asks for more goes to the file, past what is held.
 const MOST: usize = 256;
+
+/// A source that is shorter is read as it is asked for: its headers take few calls.
+const SHORT: u64 = 65_536;
 
 /// Bytes of a file that were read before they were asked for, and where they stand.
 #[derive(Drop)]
@@ -70,7 +76,7 @@ impl Held {
     {
         let room = if is_next { ROOM } else { FEW };
         self.count = 0;
-        let n = tries::read_at(file, at, &mut self.bytes[..room])?;
+        let n = read_at(file, at, &mut self.bytes[..room])?;
         self.at = at;
         self.count = n;
         Ok(())
@@ -80,7 +86,7 @@ impl Held {
 /// Two parts of a file that were read ahead. Who copies the data of a chunk has read the header behind it already, so
 /// the part before the last one is kept.
 #[derive(Drop)]
-pub struct Ahead {
+pub(crate) struct Ahead {
     one: Held,
     other: Held,
     /// Which of them was read last.
@@ -116,7 +122,7 @@ impl Ahead {
     {
         let ask = out.len();
         if ask == 0 || ask > MOST {
-            return tries::read_at(file, at, out);
+            return read_at(file, at, out);
         }
         if self.one.has(at, ask) {
             return Ok(self.one.give(at, out));
@@ -145,5 +151,93 @@ impl Ahead {
         };
         held.fill(file, at, is_next)?;
         Ok(held)
+    }
+}
+
+/// One positioned read, once more where a signal came in between.
+fn read_at(file: &File, at: u64, out: &mut [u8]) -> Result<usize, DeviceFault>
+    ensures within { count_of result ≤ length out.new }
+    ensures failed { IfErr result (λ e. e ≡ DeviceFault.Failed) }
+{
+    for _ in 0..u64::MAX {
+        match file.read_at(out, at) {
+            Ok(n) => return Ok(n),
+            Err(error) => {
+                if error.kind() != ErrorKind::Interrupted {
+                    return Err(DeviceFault::Failed);
+                }
+            }
+        }
+    }
+    Err(DeviceFault::Failed)
+}
+
+/// A file or a block device that gives what a `FileSource` gives. Of one of 64 KiB or more a read of at most 256 bytes
+/// asks for up to 4 KiB, and what is held of them answers the reads behind it.
+#[derive(Drop)]
+pub struct AheadSource {
+    pub source: FileSource,
+    ahead: Ahead,
+    reads: Tally,
+    given: Tally,
+    faults: Tally,
+}
+
+impl AheadSource {
+    /// Nothing is held.
+    pub fn new(source: FileSource) -> AheadSource
+        ensures { result.source ≡ source }
+    {
+        AheadSource {
+            source,
+            ahead: Ahead::new(),
+            reads: Tally::new(),
+            given: Tally::new(),
+            faults: Tally::new(),
+        }
+    }
+}
+
+impl Source for AheadSource {
+    ghost tells = { false };
+
+    ghost content = { λ _. [] };
+
+    ghost size = { λ s. s.source.size };
+
+    ghost reads = { λ s. s.reads.number };
+
+    ghost given = { λ s. s.given.number };
+
+    ghost read_faults = { λ s. s.faults.number };
+
+    ghost sized = { λ _ t. absurd (false≢true t) };
+
+    ghost are_bytes = { λ _ t. absurd (false≢true t) };
+
+    fn length(&self) -> u64 {
+        self.source.length()
+    }
+
+    fn read_at(&mut self, at: u64, out: &mut [u8]) -> Result<usize, DeviceFault> {
+        self.reads.add(1);
+        let Some(file) = &self.source.file else {
+            return Ok(0);
+        };
+        let answer = if self.source.size < SHORT {
+            read_at(file, at, out)
+        } else {
+            self.ahead.read_at(file, at, out)
+        };
+        match answer {
+            Ok(n) => {
+                self.given.add(n as u64);
+                Ok(n)
+            }
+            Err(fault) => {
+                self.faults.add(1);
+                Err(fault)
+            }
+        }
     }
 }
