@@ -1,0 +1,25 @@
+//! Tests of what `abt_buffers` reads ahead and writes late, alone and in the file of an image: in many made orders of
+//! calls it does what the form does that moves all bytes at once.
+//!
+//! What a real file holds is beyond a proof, so here both forms are held to one another on files in the folder where the
+//! tests run.
+//!
+//! | file | what it holds together |
+//! |---|---|
+//! | `made.rt` | the bytes and the numbers that the calls are made with |
+//! | `sources.rt` | a source that is read ahead, and a `FileSource` |
+//! | `spools.rt` | a spool that gathers, and a `FileSpool` |
+//! | `images.rt` | the file of an image that is gathered, and one that is not |
+//! | `broken_off.rt` | what both leave of a file that can be no longer |
+#![tactic(auto)]
+
+#[cfg(test)]
+mod broken_off;
+#[cfg(test)]
+mod images;
+#[cfg(test)]
+mod made;
+#[cfg(test)]
+mod sources;
+#[cfg(test)]
+mod spools;

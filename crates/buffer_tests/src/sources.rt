@@ -1,0 +1,101 @@
+//! A source that is read ahead gives what a `FileSource` gives.
+
+use crate::made::{Random, bytes, part};
+use abt_buffers::AheadSource;
+use abt_io::{DeviceFault, FileSource, Source};
+use std::fs;
+use std::fs::File;
+
+// Lengths on both sides of the least one that is read ahead, and one that is long.
+const SIZES: [usize; 4] = [65_535, 65_536, 65_537, 200_001];
+
+// Asks on both sides of the most that goes through what is held, and of what is read at once.
+const ASKS: [usize; 16] = [
+    0, 1, 4, 12, 12, 12, 16, 28, 100, 255, 256, 257, 1000, 4095, 4096, 4097,
+];
+
+// How many bytes an ask has at most.
+const MOST: usize = 4097;
+
+/// What a read answered. All that was asked for is 0 before it.
+fn answered<S: Source>(
+    source: &mut S,
+    at: u64,
+    ask: usize,
+    out: &mut [u8; MOST],
+) -> Result<usize, DeviceFault> {
+    let ask = ask.min(MOST);
+    out[..ask].fill(0);
+    source.read_at(at, &mut out[..ask])
+}
+
+/// Where the next read is: behind the last one mostly, a little before or behind that, at a place read before, or
+/// anywhere, also behind the end.
+fn place(random: &mut Random, behind: u64, before: u64, size: u64) -> u64 {
+    match random.to(9) {
+        0 => random.to(size.saturating_add(300)),
+        1 => behind.saturating_sub(random.to(300)),
+        2 => behind.saturating_add(random.to(5000)),
+        3 => before,
+        4 => size.saturating_sub(random.to(5000)),
+        _ => behind,
+    }
+}
+
+#[test]
+fn a_source_that_is_read_ahead_gives_what_a_file_gives(rt: HostRuntime) {
+    for (seed, size) in SIZES.iter().enumerate() {
+        fs::write(&rt, "ahead.tmp", bytes(rt.alloc(), *size).as_slice()).expect(&rt, "is written");
+        let one = File::open(&rt, "ahead.tmp").expect(&rt, "opens");
+        let other = File::open(&rt, "ahead.tmp").expect(&rt, "opens");
+        let mut one = FileSource::new(one).expect(&rt, "has a length");
+        let other = FileSource::new(other).expect(&rt, "has a length");
+        let mut other = AheadSource::new(other);
+        assert!(rt; one.length() == *size as u64);
+        assert!(rt; other.length() == *size as u64);
+        let mut random = Random::new(seed as u64);
+        let mut behind = 0;
+        let mut before = 0;
+        let mut want = [0; MOST];
+        let mut have = [0; MOST];
+        for call in 0..1500u32 {
+            let at = place(&mut random, behind, before, *size as u64);
+            let ask = random.of(&ASKS);
+            let wanted = answered(&mut one, at, ask, &mut want);
+            assert!(rt;
+                answered(&mut other, at, ask, &mut have) == wanted,
+                "size {size}, call {call}"
+            );
+            assert!(rt;
+                part(&have, 0, ask) == part(&want, 0, ask),
+                "size {size}, call {call}"
+            );
+            before = behind;
+            behind = at.saturating_add(wanted.unwrap_or(0) as u64);
+        }
+    }
+}
+
+#[test]
+fn a_source_without_a_file_gives_nothing(rt: HostRuntime) {
+    let mut out = [0; MOST];
+    let mut source = AheadSource::new(FileSource::empty());
+    assert!(rt; source.length() == 0);
+    assert!(rt; answered(&mut source, 0, 12, &mut out) == Ok(0));
+}
+
+/// A folder opens, and can't be read.
+#[test]
+fn a_read_that_fails_is_told(rt: HostRuntime) {
+    let mut out = [0; MOST];
+    let folder = File::open(&rt, ".").expect(&rt, "opens");
+    let source = FileSource {
+        file: Some(folder),
+        size: 100_000,
+        ..FileSource::empty()
+    };
+    let mut source = AheadSource::new(source);
+    assert!(rt; answered(&mut source, 0, 12, &mut out) == Err(DeviceFault::Failed));
+    assert!(rt; answered(&mut source, 0, 12, &mut out) == Err(DeviceFault::Failed));
+    assert!(rt; answered(&mut source, 0, 300, &mut out) == Err(DeviceFault::Failed));
+}

@@ -1,0 +1,124 @@
+//! A spool that gathers takes and gives what a `FileSpool` does, and has the same in its file once it is read or settled.
+
+use crate::made::{Random, bytes, part};
+use abt_buffers::GatheringSpool;
+use abt_io::{DeviceFault, FileSpool, Input, Output, Spool, WINDOW};
+use std::alloc::Alloc;
+use std::fs;
+use std::fs::{File, OpenOptions};
+use std::process::Abort;
+use std::rt::Files;
+
+// Capacities on both sides of the least one that gathers, and one that takes several windows.
+const CAPACITIES: [usize; 4] = [65_535, 65_536, 65_537, 300_001];
+
+// How many bytes a call moves.
+const COUNTS: [usize; 16] = [
+    0, 1, 4, 12, 12, 12, 12, 28, 100, 255, 256, 257, 4084, 4096, 20_000, 65_536,
+];
+
+/// An empty file of this name, opened for reading and writing.
+fn opened<R: Files + Abort>(rt: &R, name: &str) -> R::File {
+    fs::write(rt, name, "").expect(rt, "is written");
+    let mut options = OpenOptions::new();
+    options.read(true).write(true);
+    options.open(rt, name).expect(rt, "opens")
+}
+
+/// Whether files of these names have the same bytes.
+pub(crate) fn same<R: Files + Alloc>(rt: &R, one: &str, other: &str) -> bool {
+    match (fs::read(rt, one), fs::read(rt, other)) {
+        (Ok(one), Ok(other)) => one.as_slice() == other.as_slice(),
+        _ => false,
+    }
+}
+
+/// What one call of a spool answered: 0 to 5 writes, 6 to 8 read, and 9 clears.
+fn called<S: Spool>(
+    spool: &mut S,
+    call: u64,
+    bytes: &[u8],
+    out: &mut [u8],
+) -> Result<usize, DeviceFault> {
+    if bytes.len() > WINDOW || out.len() > WINDOW {
+        return Err(DeviceFault::Full);
+    }
+    match call {
+        0..=5 => spool.write(bytes),
+        6..=8 => spool.read(out),
+        _ => match spool.clear() {
+            Ok(()) => Ok(0),
+            Err(fault) => Err(fault),
+        },
+    }
+}
+
+#[test]
+fn a_spool_that_gathers_does_what_a_file_does(rt: HostRuntime) {
+    let text = bytes(rt.alloc(), 100_000);
+    for (seed, capacity) in CAPACITIES.iter().enumerate() {
+        let mut one = FileSpool::new(opened(&rt, "one.tmp"), *capacity as u64);
+        let other = FileSpool::new(opened(&rt, "other.tmp"), *capacity as u64);
+        let mut other = GatheringSpool::new(other);
+        let mut random = Random::new(seed as u64);
+        let mut want = bytes(rt.alloc(), WINDOW);
+        let mut have = bytes(rt.alloc(), WINDOW);
+        for turn in 0..500u32 {
+            let call = random.to(30).min(9);
+            let call = if call == 9 && random.to(9) > 0 {
+                random.to(8)
+            } else {
+                call
+            };
+            let count = random.of(&COUNTS);
+            let some = part(text.as_slice(), random.to(30_000), count);
+            let count = count.min(want.len()).min(have.len());
+            let wanted = called(&mut one, call, some, &mut want.as_mut_slice()[..count]);
+            let had = called(&mut other, call, some, &mut have.as_mut_slice()[..count]);
+            assert!(rt; had == wanted, "capacity {capacity}, turn {turn}");
+            let want = part(want.as_slice(), 0, count);
+            assert!(rt;
+                part(have.as_slice(), 0, count) == want,
+                "capacity {capacity}, turn {turn}"
+            );
+            if random.to(20) == 0 {
+                assert!(rt; other.settle() == Ok(()));
+                assert!(rt;
+                    same(&rt, "one.tmp", "other.tmp"),
+                    "capacity {capacity}, turn {turn}"
+                );
+            }
+        }
+    }
+}
+
+/// Bytes that a spool took are in its file once it is read or settled, and those of a short one at once.
+#[test]
+fn a_spool_that_gathers_is_written_late(rt: HostRuntime) {
+    let mut out = [0u8; 3];
+    let mut spool = GatheringSpool::new(FileSpool::new(opened(&rt, "late.tmp"), 65_536));
+    fs::write(&rt, "abc.tmp", "abc").expect(&rt, "is written");
+    fs::write(&rt, "empty.tmp", "").expect(&rt, "is written");
+    assert!(rt; called(&mut spool, 0, b"abc", &mut []) == Ok(3));
+    assert!(rt; same(&rt, "late.tmp", "empty.tmp"));
+    assert!(rt; called(&mut spool, 6, b"", &mut out) == Ok(3));
+    assert!(rt; out == *b"abc");
+    assert!(rt; same(&rt, "late.tmp", "abc.tmp"));
+    let mut spool = GatheringSpool::new(FileSpool::new(opened(&rt, "late.tmp"), 65_535));
+    assert!(rt; called(&mut spool, 0, b"abc", &mut []) == Ok(3));
+    assert!(rt; same(&rt, "late.tmp", "abc.tmp"));
+}
+
+/// What can't be written is refused where it is read, and as often as the spool is settled, until it is emptied.
+#[test]
+fn a_gathered_write_that_fails_is_told_later(rt: HostRuntime) {
+    let mut out = [0u8; 2];
+    fs::write(&rt, "unwritten.tmp", "....").expect(&rt, "is written");
+    let file = File::open(&rt, "unwritten.tmp").expect(&rt, "opens");
+    let mut spool = GatheringSpool::new(FileSpool::new(file, 65_536));
+    assert!(rt; called(&mut spool, 0, b"ab", &mut []) == Ok(2));
+    assert!(rt; called(&mut spool, 6, b"", &mut out) == Err(DeviceFault::Failed));
+    assert!(rt; spool.settle() == Err(DeviceFault::Failed));
+    assert!(rt; spool.settle() == Err(DeviceFault::Failed));
+    assert!(rt; spool.capacity() == 65_536);
+}
