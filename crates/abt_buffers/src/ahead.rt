@@ -4,7 +4,9 @@ ghost use Rattle.std.specs.Prelude.{◌≡◌, ◌≤◌, ◌+◌, [], false, le
 ghost use Rattle.std.proofs.lemmas.Bool.{false≢true};
 ghost use Rattle.abt_io.specs.Count.{count_of};
 
-use abt_io::{DeviceFault, FileSource, Source, Tally};
+use crate::ahead_file::AheadFile;
+use abt_io::{DeviceFault, Source, Tally};
+use std::alloc::{AllocError, Global};
 use std::fs::File;
 use std::io::ErrorKind;
 use std::os::unix::fs::FileExt;
@@ -18,51 +20,44 @@ const FEW: usize = 256;
 /// A read that asks for more goes to the file, past what is held.
 const MOST: usize = 256;
 
-/// A source that is shorter is read as it is asked for: its headers take few calls.
-const SHORT: u64 = 65_536;
-
 /// Bytes of a file that were read before they were asked for, and where they stand.
 #[derive(Drop)]
 struct Held {
-    bytes: [u8; ROOM],
+    bytes: Vec<u8>,
     at: u64,
     count: usize,
 }
 
 impl Held {
-    fn none() -> Held {
-        Held {
-            bytes: [0; ROOM],
+    fn new(alloc: Global) -> Result<Held, AllocError> {
+        let mut bytes = Vec::with_capacity(alloc, ROOM)?;
+        bytes.resize(ROOM, 0)?;
+        Ok(Held {
+            bytes,
             at: 0,
             count: 0,
-        }
+        })
     }
 
-    /// Where in what is held the bytes at a place stand, and how many there are from there on.
-    fn found(&self, at: u64) -> (usize, usize)
-        ensures { result.0 + result.1 ≤ 4096 }
-    {
-        let held = self.count.min(ROOM);
+    /// The bytes that are held from a place on.
+    fn found(&self, at: u64) -> &[u8] {
+        let held = self.count.min(self.bytes.len());
         if at < self.at || at - self.at >= held as u64 {
-            return (0, 0);
+            return &[];
         }
         let from = (at - self.at) as usize;
-        (from, held - from)
+        &self.bytes[from..held]
     }
 
-    /// Gives what is held of the bytes at a place.
-    fn give(&self, at: u64, out: &mut [u8]) -> usize
-        ensures { result ≤ length out.new }
-    {
-        let (from, count) = self.found(at);
-        let n = count.min(out.len());
-        out[..n].copy_from_slice(&self.bytes[from..from + n]);
-        n
-    }
-
-    /// Whether so many bytes at a place are held.
-    fn has(&self, at: u64, ask: usize) -> bool {
-        self.found(at).1 >= ask
+    /// Gives the bytes at a place, where all that are asked for are held.
+    fn give(&self, at: u64, out: &mut [u8]) -> bool {
+        let found = self.found(at);
+        let ask = out.len();
+        if found.len() < ask {
+            return false;
+        }
+        out.copy_from_slice(&found[..ask]);
+        true
     }
 
     /// Whether a place is the one behind the bytes that are held, or among them.
@@ -70,16 +65,15 @@ impl Held {
         self.count > 0 && at >= self.at && at - self.at <= self.count as u64
     }
 
-    /// Reads the bytes at a place, a few or as many as have room.
-    fn fill(&mut self, file: &File, at: u64, is_next: bool) -> Result<(), DeviceFault>
-        ensures failed { IfErr result (λ e. e ≡ DeviceFault.Failed) }
-    {
+    /// Reads the bytes at a place, a few or as many as have room. Nothing is held where that fails.
+    fn fill(&mut self, file: &File, at: u64, is_next: bool) {
         let room = if is_next { ROOM } else { FEW };
+        let room = room.min(self.bytes.len());
         self.count = 0;
-        let n = read_at(file, at, &mut self.bytes[..room])?;
-        self.at = at;
-        self.count = n;
-        Ok(())
+        if let Ok(n) = read_at(file, at, &mut self.bytes[..room]) {
+            self.at = at;
+            self.count = n;
+        }
     }
 }
 
@@ -94,68 +88,59 @@ pub(crate) struct Ahead {
 }
 
 impl Ahead {
-    /// Nothing is held.
-    pub(crate) fn new() -> Ahead {
-        Ahead {
-            one: Held::none(),
-            other: Held::none(),
-            is_other_last: false,
+    /// Nothing is held. Nothing is there to hold it where there is no memory: then each read is made as it is asked for.
+    pub(crate) fn new(alloc: Global) -> Option<Ahead> {
+        match (Held::new(alloc), Held::new(alloc)) {
+            (Ok(one), Ok(other)) => Some(Ahead {
+                one,
+                other,
+                is_other_last: false,
+            }),
+            _ => None,
         }
     }
 
-    /// Holds nothing any more, since the file is written or cut off.
+    /// Holds nothing any more, since the file was written, or may have been.
     pub(crate) fn forget(&mut self) {
         self.one.count = 0;
         self.other.count = 0;
     }
 
-    /// One read at a place of a file, of which these bytes are. A read ahead that fails is not tried again: the system
-    /// gives what stands before bytes that can't be read, so the fault is one of the bytes that are wanted.
-    pub(crate) fn read_at(
-        &mut self,
-        file: &File,
-        at: u64,
-        out: &mut [u8],
-    ) -> Result<usize, DeviceFault>
-        ensures within { count_of result ≤ length out.new }
-        ensures failed { IfErr result (λ e. e ≡ DeviceFault.Failed) }
-    {
-        let ask = out.len();
-        if ask == 0 || ask > MOST {
-            return read_at(file, at, out);
+    /// Gives the bytes at a place, where all that are asked for are held or can be read ahead. Where not, a read of just
+    /// these bytes is to be made: it alone tells a fault, and where the file ends.
+    pub(crate) fn give(&mut self, file: &File, at: u64, out: &mut [u8]) -> bool {
+        if out.is_empty() || out.len() > MOST {
+            return false;
         }
-        if self.one.has(at, ask) {
-            return Ok(self.one.give(at, out));
+        if self.one.give(at, out) || self.other.give(at, out) {
+            return true;
         }
-        if self.other.has(at, ask) {
-            return Ok(self.other.give(at, out));
+        self.fill(file, at);
+        if self.is_other_last {
+            self.other.give(at, out)
+        } else {
+            self.one.give(at, out)
         }
-        let held = self.fill(file, at)?;
-        Ok(held.give(at, out))
     }
 
     /// Reads the bytes at a place ahead, over the part that was read first.
-    fn fill(&mut self, file: &File, at: u64) -> Result<&Held, DeviceFault>
-        ensures failed { IfErr result (λ e. e ≡ DeviceFault.Failed) }
-    {
+    fn fill(&mut self, file: &File, at: u64) {
         let is_next = if self.is_other_last {
             self.other.leads_to(at)
         } else {
             self.one.leads_to(at)
         };
         self.is_other_last = !self.is_other_last;
-        let held = if self.is_other_last {
-            &mut self.other
+        if self.is_other_last {
+            self.other.fill(file, at, is_next);
         } else {
-            &mut self.one
-        };
-        held.fill(file, at, is_next)?;
-        Ok(held)
+            self.one.fill(file, at, is_next);
+        }
     }
 }
 
 /// One positioned read, once more where a signal came in between.
-fn read_at(file: &File, at: u64, out: &mut [u8]) -> Result<usize, DeviceFault>
+pub(crate) fn read_at(file: &File, at: u64, out: &mut [u8]) -> Result<usize, DeviceFault>
     ensures within { count_of result ≤ length out.new }
     ensures failed { IfErr result (λ e. e ≡ DeviceFault.Failed) }
 {
@@ -172,25 +157,25 @@ fn read_at(file: &File, at: u64, out: &mut [u8]) -> Result<usize, DeviceFault>
     Err(DeviceFault::Failed)
 }
 
-/// A file or a block device that gives what a `FileSource` gives. Of one of 64 KiB or more a read of at most 256 bytes
-/// asks for up to 4 KiB, and what is held of them answers the reads behind it.
+/// A file or a block device that gives what a `FileSource` gives. A read of at most 256 bytes asks for up to 4 KiB, and
+/// what is held of them answers the reads behind it.
 #[derive(Drop)]
-pub struct AheadSource {
-    pub source: FileSource,
-    ahead: Ahead,
+pub struct AheadSource<'a> {
+    from: &'a AheadFile,
+    ahead: Option<Ahead>,
     reads: Tally,
     given: Tally,
     faults: Tally,
 }
 
-impl AheadSource {
-    /// Nothing is held.
-    pub fn new(source: FileSource) -> AheadSource
-        ensures { result.source ≡ source }
+impl<'a> AheadSource<'a> {
+    /// Nothing is held. Where there is no memory to hold anything, each read is made as it is asked for.
+    pub fn new(alloc: Global, from: &'a AheadFile) -> AheadSource<'a>
+        ensures { result.from.now ≡ from.now }
     {
         AheadSource {
-            source,
-            ahead: Ahead::new(),
+            from,
+            ahead: Ahead::new(alloc),
             reads: Tally::new(),
             given: Tally::new(),
             faults: Tally::new(),
@@ -198,12 +183,12 @@ impl AheadSource {
     }
 }
 
-impl Source for AheadSource {
+impl Source for AheadSource<'_> {
     ghost tells = { false };
 
     ghost content = { λ _. [] };
 
-    ghost size = { λ s. s.source.size };
+    ghost size = { λ s. s.from.now.source.size };
 
     ghost reads = { λ s. s.reads.number };
 
@@ -216,20 +201,21 @@ impl Source for AheadSource {
     ghost are_bytes = { λ _ t. absurd (false≢true t) };
 
     fn length(&self) -> u64 {
-        self.source.length()
+        self.from.source.length()
     }
 
     fn read_at(&mut self, at: u64, out: &mut [u8]) -> Result<usize, DeviceFault> {
         self.reads.add(1);
-        let Some(file) = &self.source.file else {
+        let from = self.from;
+        let Some(file) = &from.source.file else {
             return Ok(0);
         };
-        let answer = if self.source.size < SHORT {
-            read_at(file, at, out)
-        } else {
-            self.ahead.read_at(file, at, out)
-        };
-        match answer {
+        if given_of(&mut self.ahead, from, file, at, out) {
+            let n = out.len();
+            self.given.add(n as u64);
+            return Ok(n);
+        }
+        match read_at(file, at, out) {
             Ok(n) => {
                 self.given.add(n as u64);
                 Ok(n)
@@ -240,4 +226,25 @@ impl Source for AheadSource {
             }
         }
     }
+}
+
+// Gives the bytes at a place from what is held of a file, where all of them are.
+fn given_of(
+    ahead: &mut Option<Ahead>,
+    from: &AheadFile,
+    file: &File,
+    at: u64,
+    out: &mut [u8],
+) -> bool {
+    let Some(ahead) = ahead else {
+        return false;
+    };
+    if from.is_old() {
+        ahead.forget();
+    }
+    if !ahead.give(file, at, out) {
+        return false;
+    }
+    from.gave(at.saturating_add(out.len() as u64));
+    true
 }

@@ -1,142 +1,100 @@
 //! A spool that takes small writes together, and is read ahead.
 
-ghost use Rattle.std.specs.Prelude.{◌≡◌, ◌≤◌, ◌+◌, [], false, not, nat_lt, length, IfErr, refl};
+ghost use Rattle.std.specs.Prelude.{◌≡◌, ◌≤◌, ◌+◌, ◌++◌, [], false, not, nat_lt, length, IsTrue, IsErr, OnOk, OnErr};
+ghost use Rattle.std.specs.Prelude.{IfErr, refl};
 ghost use Rattle.std.proofs.lemmas.Bool.{false≢true};
-ghost use Rattle.abt_io.specs.Frame.{last_cut};
+ghost use Rattle.abt_io.specs.Count.{count_of};
+ghost use Rattle.abt_io.specs.Frame.{last_cut, nothing_logged};
 ghost use Rattle.abt_io.specs.Held.{filled_count};
+ghost use Rattle.abt_buffers.specs.Since.{since_cut, Kept};
 
-use crate::ahead::Ahead;
-use abt_io::{DeviceFault, FileSpool, Input, Output, Spool, WINDOW};
+use crate::ahead::{Ahead, read_at};
+use crate::ahead_file::AheadFile;
+use crate::behind::Behind;
+use abt_io::{DeviceFault, FileSpool, Input, Output, Spool};
+use std::alloc::Global;
 use std::fs::File;
-use std::os::unix::fs::FileExt;
-
-/// Bytes that a file is written with later, and where. None is held where it is off.
-#[derive(Drop)]
-struct Behind {
-    bytes: [u8; WINDOW],
-    at: u64,
-    count: usize,
-    is_on: bool,
-    is_lost: bool,
-    ghost room: { count ≤ 65536 },
-}
-
-impl Behind {
-    /// Nothing is held yet.
-    fn new(is_on: bool) -> Behind {
-        Behind {
-            bytes: [0; WINDOW],
-            at: 0,
-            count: 0,
-            is_on,
-            is_lost: false,
-        }
-    }
-
-    /// Holds nothing any more, since the file is cut off.
-    fn forget(&mut self) {
-        self.count = 0;
-        self.is_lost = false;
-    }
-
-    /// Takes all of these bytes, at the place behind all that is held. What has no room goes to the file, behind what is
-    /// held.
-    #[inline(always)]
-    fn write_at(&mut self, file: &File, at: u64, bytes: &[u8]) -> Result<(), DeviceFault>
-        ensures failed { IfErr result (λ e. e ≡ DeviceFault.Failed) }
-    {
-        let from = self.count;
-        if self.is_on && bytes.len() <= WINDOW - from {
-            if from == 0 {
-                self.at = at;
-            }
-            self.bytes[from..from + bytes.len()].copy_from_slice(bytes);
-            self.count = from + bytes.len();
-            return Ok(());
-        }
-        self.settle(file)?;
-        write_all_at(file, at, bytes)
-    }
-
-    /// Writes all that is held. Refused where some of it could not be written, now or before.
-    #[inline(always)]
-    fn settle(&mut self, file: &File) -> Result<(), DeviceFault>
-        ensures failed { IfErr result (λ e. e ≡ DeviceFault.Failed) }
-    {
-        if self.count == 0 {
-            return Ok(());
-        }
-        self.write_held(file)
-    }
-
-    fn write_held(&mut self, file: &File) -> Result<(), DeviceFault>
-        ensures failed { IfErr result (λ e. e ≡ DeviceFault.Failed) }
-    {
-        if self.is_lost {
-            return Err(DeviceFault::Failed);
-        }
-        let written = write_all_at(file, self.at, &self.bytes[..self.count]);
-        match written {
-            Ok(()) => self.count = 0,
-            Err(_) => self.is_lost = true,
-        }
-        written
-    }
-}
-
-/// Writes all of these bytes at a place.
-fn write_all_at(file: &File, at: u64, bytes: &[u8]) -> Result<(), DeviceFault>
-    ensures failed { IfErr result (λ e. e ≡ DeviceFault.Failed) }
-{
-    match file.write_all_at(bytes, at) {
-        Ok(()) => Ok(()),
-        Err(_) => Err(DeviceFault::Failed),
-    }
-}
 
 /// A spool that takes and gives what a `FileSpool` does, and holds up to 64 KiB of what it took: they are written where
 /// no more have room, where it is read, and by `settle`. Where that fails, it is the read that fails, or the write that
-/// found no room. A spool of a smaller capacity writes all at once. A read of at most 256 bytes asks for up to 4 KiB.
+/// found no room; and then every call fails until it was cleared, of which the first try fails too. A read of at most 256
+/// bytes asks for up to 4 KiB.
+///
+/// What it is given comes from a file that is read ahead. It gives nothing of it back where that file is shorter then.
 #[derive(Drop)]
-pub struct GatheringSpool {
+pub struct GatheringSpool<'a> {
     pub spool: FileSpool,
-    ahead: Ahead,
+    from: &'a AheadFile,
+    is_from_short: bool,
+    ahead: Option<Ahead>,
     behind: Behind,
+    ghost place: { length behind.sent.state.bytes + length behind.held.items ≡ spool.used },
+    ghost whole: { behind.sent.state.bytes ++ behind.held.items ≡ since_cut spool.log.state },
 }
 
-impl GatheringSpool {
-    /// Nothing is held yet.
-    pub fn new(spool: FileSpool) -> GatheringSpool
-        ensures { result.spool ≡ spool }
+impl<'a> GatheringSpool<'a> {
+    /// A spool of at most `capacity` bytes, over a file that is empty. Nothing is held yet. Where there is no memory to
+    /// hold anything, each call is one of the file.
+    pub fn new(
+        alloc: Global,
+        file: File,
+        capacity: u64,
+        from: &'a AheadFile,
+    ) -> GatheringSpool<'a>
+        ensures capacity { result.spool.capacity ≡ capacity }
+        ensures log { result.spool.log.state ≡ nothing_logged }
+        ensures lost { result.behind.is_lost ≡ false }
     {
-        let is_on = spool.capacity >= WINDOW as u64;
         GatheringSpool {
-            spool,
-            ahead: Ahead::new(),
-            behind: Behind::new(is_on),
+            spool: FileSpool::new(file, capacity),
+            from,
+            is_from_short: false,
+            ahead: Ahead::new(alloc),
+            behind: Behind::new(alloc),
         }
+    }
+
+    /// Whether a read was refused since the file is shorter from which all comes.
+    pub fn is_from_short(&self) -> bool {
+        self.is_from_short
     }
 
     /// Writes what is held. Refused where a byte that was taken since the last clear could not be written, now or by
     /// an earlier call, so that a read which failed for that reason is told from one which did not.
     pub fn settle(&mut self) -> Result<(), DeviceFault>
-        ensures log { self.new.spool.log.state ≡ self.old.spool.log.state }
-        ensures place { (self.new.spool.capacity ≡ self.old.spool.capacity) × (self.new.spool.used ≡
-            self.old.spool.used) × (self.new.spool.seen ≡ self.old.spool.seen) }
-        ensures reads { (self.new.spool.reads.number ≡ self.old.spool.reads.number) × (self.new.spool.given.number ≡
-            self.old.spool.given.number) × (self.new.spool.read_faults.number ≡ self.old.spool.read_faults.number) }
-        ensures writes { (self.new.spool.writes.number ≡ self.old.spool.writes.number) ×
-            (self.new.spool.write_faults.number ≡ self.old.spool.write_faults.number) ×
-            (self.new.spool.full_faults.number ≡ self.old.spool.full_faults.number) }
-        ensures clears { (self.new.spool.clears.number ≡ self.old.spool.clears.number) ×
-            (self.new.spool.clear_faults.number ≡ self.old.spool.clear_faults.number) }
+        ensures all { OnOk result (self.new.behind.sent.state.bytes ≡ since_cut self.new.spool.log.state) }
+        ensures none { OnOk result (self.new.behind.held.items ≡ []) }
+        ensures lost { OnErr result (IsTrue self.new.behind.is_lost) }
+        ensures still { IsTrue self.old.behind.is_lost → IsErr result }
+        ensures kept { Kept self.old.spool self.new.spool }
         ensures failed { IfErr result (λ e. e ≡ DeviceFault.Failed) }
     {
-        self.behind.settle(&self.spool.file)
+        self.behind.settle(&self.spool.file, self.spool.used)
+    }
+
+    /// One read of the file, once all that was taken is in it.
+    fn read_behind(&mut self, out: &mut [u8]) -> Result<usize, DeviceFault>
+        ensures within { count_of result ≤ length out.new }
+        ensures all { OnOk result (self.new.behind.sent.state.bytes ≡ since_cut self.new.spool.log.state) }
+        ensures lost { IsTrue self.old.behind.is_lost → IsErr result }
+        ensures kept { Kept self.old.spool self.new.spool }
+        ensures failed { IfErr result (λ e. e ≡ DeviceFault.Failed) }
+    {
+        self.behind.settle(&self.spool.file, self.spool.used)?;
+        if self.spool.seen == 0 && self.from.shorter().is_some() {
+            self.is_from_short = true;
+            return Err(DeviceFault::Failed);
+        }
+        if let Some(ahead) = &mut self.ahead
+            && ahead.give(&self.spool.file, self.spool.seen, out)
+        {
+            return Ok(out.len());
+        }
+        read_at(&self.spool.file, self.spool.seen, out)
     }
 }
 
-impl Input for GatheringSpool {
+impl Input for GatheringSpool<'_> {
     ghost tells = { false };
 
     ghost remaining = { λ _. [] };
@@ -162,14 +120,11 @@ impl Input for GatheringSpool {
 
     /// Gives nothing that was not written since the last clear.
     fn read(&mut self, out: &mut [u8]) -> Result<usize, DeviceFault> {
+        let left = self.spool.used.saturating_sub(self.spool.seen);
+        let ask = left.min(out.len() as u64) as usize;
+        let answer = self.read_behind(&mut out[..ask]);
         let spool = &mut self.spool;
         spool.reads.add(1);
-        let left = spool.used.saturating_sub(spool.seen);
-        let ask = left.min(out.len() as u64) as usize;
-        let answer = match self.behind.settle(&spool.file) {
-            Ok(()) => self.ahead.read_at(&spool.file, spool.seen, &mut out[..ask]),
-            Err(fault) => Err(fault),
-        };
         match answer {
             Ok(n) => {
                 spool.given.add(n as u64);
@@ -184,7 +139,7 @@ impl Input for GatheringSpool {
     }
 }
 
-impl Output for GatheringSpool {
+impl Output for GatheringSpool<'_> {
     ghost written = { λ s. s.spool.log.state.bytes };
 
     ghost is_full = { λ s. not (nat_lt s.spool.used s.spool.capacity) };
@@ -218,10 +173,9 @@ impl Output for GatheringSpool {
             spool.full_faults.add(1);
             return Err(DeviceFault::Full);
         }
-        let n = (spool.capacity - used).min(bytes.len() as u64) as usize;
-        self.ahead.forget();
-        match self.behind.write_at(&spool.file, used, &bytes[..n]) {
-            Ok(()) => {
+        let most = (spool.capacity - used).min(bytes.len() as u64) as usize;
+        match self.behind.take(&spool.file, used, &bytes[..most]) {
+            Ok(n) => {
                 spool.log.append(&bytes[..n]);
                 spool.used = used + n as u64;
                 Ok(n)
@@ -234,7 +188,7 @@ impl Output for GatheringSpool {
     }
 }
 
-impl Spool for GatheringSpool {
+impl Spool for GatheringSpool<'_> {
     ghost size = { λ s. s.spool.capacity };
 
     ghost gone = { λ s. last_cut s.spool.log.state.cuts + s.spool.seen };
@@ -258,10 +212,19 @@ impl Spool for GatheringSpool {
         self.spool.capacity
     }
 
-    /// Cuts the file off at its front; it stays open.
+    /// Cuts the file off at its front; it stays open. What comes next begins a piece.
     fn clear(&mut self) -> Result<(), DeviceFault> {
-        self.ahead.forget();
-        self.spool.clear()?;
+        let spool = &mut self.spool;
+        if !self.behind.may_clear() {
+            spool.clears.add(1);
+            spool.clear_faults.add(1);
+            return Err(DeviceFault::Failed);
+        }
+        if let Some(ahead) = &mut self.ahead {
+            ahead.forget();
+        }
+        self.from.forget();
+        spool.clear()?;
         self.behind.forget();
         Ok(())
     }

@@ -2,44 +2,37 @@
 //! of a chunk, which is laid once the chunk's length is known, mostly takes no call of its own.
 //!
 //! Where a write fails, the file is as if each header had been laid by a call of its own, behind all that was given
-//! before it: a header is taken back where not all of that was written.
+//! before it: a header is taken back where not all of that was written. Such a file comes to no end.
 
-ghost use Rattle.std.specs.Prelude.{◌≡◌, ◌<◌, ◌≤◌, length, IfOk};
+ghost use Rattle.std.specs.Prelude.{◌≡◌, ◌<◌, ◌≤◌, ◌+◌, ◌^◌, [], false, IsTrue, length, take, IfOk, OnOk, OnErr};
 ghost use Rattle.std.specs.Io.{WritesAtMost};
 ghost use Rattle.abt_io.specs.Count.{count_of};
+ghost use Rattle.abt_io.specs.Frame.{nothing_logged, and_bytes};
+ghost use Rattle.abt_io.specs.Over.{and_put};
+ghost use Rattle.abt_io.specs.Moment.{put_at};
+ghost use Rattle.abt_buffers.specs.Since.{whole};
 
-use abt_io::{FRONT, WINDOW};
-use std::alloc::{AllocError, Global};
-use std::fs::File;
+use crate::room::Room;
+use crate::under::{Under, write_front, write_over};
+use abt_io::{FRONT, Log, WINDOW};
 use std::io;
 use std::io::ErrorKind;
-use std::os::unix::fs::FileExt;
-
-/// What is written at any place, as a file is.
-pub trait Under {
-    /// One write of a front of these bytes at a place.
-    fn put_at(&mut self, at: u64, bytes: &[u8]) -> io::Result<usize>
-        ensures { WritesAtMost result bytes.now };
-}
-
-impl Under for File {
-    fn put_at(&mut self, at: u64, bytes: &[u8]) -> io::Result<usize> {
-        self.write_at(bytes, at)
-    }
-}
 
 // How many bytes are held at most.
-const ROOM: usize = WINDOW;
+pub(crate) const ROOM: usize = WINDOW;
+
+// A write of so many bytes or more is not held: what copying them costs is what a call does.
+const LARGE: usize = 16_384;
 
 // How long a header is that is laid in memory.
 const HEADER: usize = 12;
 
 // How many are laid before all is sent.
-const MOST: usize = 256;
+pub(crate) const MOST: usize = 256;
 
 /// A header that was laid over bytes that are held.
 #[derive(Clone, Copy, Drop)]
-struct Laid {
+pub(crate) struct Laid {
     from: usize,
     /// How many bytes were held then.
     behind: usize,
@@ -49,65 +42,99 @@ struct Laid {
 
 impl Laid {
     // Takes it back where fewer bytes were written than it was laid behind, in the file too.
-    fn take_back<U: Under>(&self, file: &mut U, sent: u64, done: usize, held: &mut [u8]) {
+    fn take_back<U: Under>(&self, file: &mut U, sent: u64, done: usize, held: &mut Vec<u8>)
+        requires stands { sent + done ≤ length (U.stands file.old) }
+        requires fits { sent + length held.old.items < 2 ^ 64 }
+        ensures file { length (U.stands file.new) ≡ length (U.stands file.old) }
+        ensures held { length held.new.items ≡ length held.old.items }
+    {
         let from = self.from;
         if done >= self.behind || from > held.len() || held.len() - from < HEADER {
             return;
         }
-        held[from..from + HEADER].copy_from_slice(&self.before);
-        let some = done.saturating_sub(from).min(HEADER);
-        let _ = write_front(file, sent.saturating_add(from as u64), &self.before[..some]);
+        put_held(held, from, &self.before);
+        if from < done {
+            let some = (done - from).min(HEADER);
+            let _ = write_front(file, sent + from as u64, &self.before[..some]);
+        }
     }
 }
 
-/// A file that was just created or emptied. What is held goes behind the bytes that were sent.
+/// A file that was just created or emptied. What is held goes behind the bytes that were sent: by `settle` and `end`, and
+/// not where it is dropped.
+#[derive(Drop)]
 pub struct HeldFile<U: Under + Drop> {
     file: U,
     sent: u64,
     held: Vec<u8>,
     laid: Vec<Laid>,
-}
-
-/// The memory that a file holds bytes in.
-#[derive(Drop)]
-pub struct Room {
-    held: Vec<u8>,
-    laid: Vec<Laid>,
-}
-
-impl Room {
-    pub fn new(alloc: Global) -> Result<Room, AllocError> {
-        Ok(Room {
-            held: Vec::with_capacity(alloc, ROOM)?,
-            laid: Vec::with_capacity(alloc, MOST)?,
-        })
-    }
+    /// A write failed of what is held: a header may have been taken back.
+    is_failed: bool,
+    /// All that it was given.
+    pub given: Log,
+    ghost sends: { sent ≤ length (U.stands file) },
+    ghost stand: { length (U.stands file) ≤ sent + length held.items },
+    ghost fits: { sent + length held.items < 2 ^ 64 },
+    ghost faithful: { is_failed ≡ false → whole (U.stands file) sent held.items ≡ given.state.bytes },
 }
 
 impl<U: Under + Drop> HeldFile<U> {
-    /// Nothing is held yet.
-    pub fn new(file: U, room: Room) -> HeldFile<U> {
+    /// Nothing is held yet, and nothing stands in the file.
+    pub fn new(file: U, room: Room) -> HeldFile<U>
+        requires { U.stands file ≡ [] }
+        ensures { result.given.state ≡ nothing_logged }
+    {
         let Room { held, laid } = room;
         HeldFile {
             file,
             sent: 0,
             held,
             laid,
+            is_failed: false,
+            given: Log::new(),
         }
     }
 
-    /// Takes some of these bytes: it holds them, or where they have no room it sends what it holds, and some of them.
+    /// Takes some of these bytes: it holds them, or where they have no room, or are many, it sends what it holds, and some
+    /// of them.
     pub fn put(&mut self, bytes: &[u8]) -> io::Result<usize>
-        ensures { WritesAtMost result bytes.now }
+        ensures bound { WritesAtMost result bytes.now }
+        ensures taken { IfOk result (λ n. self.new.given.state ≡ and_bytes self.old.given.state (take n bytes.now)) }
+        ensures kept { OnErr result (self.new.given.state ≡ self.old.given.state) }
     {
-        let room = ROOM.saturating_sub(self.held.len());
-        if bytes.len() <= room && self.held.extend_from_slice(bytes).is_ok() {
+        let held = self.held.len() as u64;
+        if bytes.len() as u64 > u64::MAX - self.sent - held {
+            return Err(io::Error::from(ErrorKind::InvalidInput));
+        }
+        if self.holds(bytes) {
             return Ok(bytes.len());
         }
         self.settle()?;
         let n = self.file.put_at(self.sent, bytes)?;
-        self.sent = self.sent.saturating_add(n as u64);
+        self.sent += n as u64;
+        self.given.append(&bytes[..n]);
         Ok(n)
+    }
+
+    // Holds these bytes behind those that are held, if they are few and have room.
+    fn holds(&mut self, bytes: &[u8]) -> bool
+        requires { self.old.sent + length self.old.held.items + length bytes.now < 2 ^ 64 }
+        ensures taken { IsTrue result → self.new.given.state ≡ and_bytes self.old.given.state bytes.now }
+        ensures kept { result ≡ false → self.new.given.state ≡ self.old.given.state }
+        ensures sent { self.new.sent ≡ self.old.sent }
+        ensures held { result ≡ false → length self.new.held.items ≡ length self.old.held.items }
+    {
+        let room = ROOM.saturating_sub(self.held.len());
+        if bytes.len() >= LARGE || bytes.len() > room {
+            return false;
+        }
+        match self.held.extend_from_slice(bytes) {
+            Ok(()) => {
+                self.given.append(bytes);
+                true
+            }
+            Err(_) => false,
+        }
     }
 
     /// Writes a front of these bytes over what was taken. What stands at the front, as the magic does, is laid once all
@@ -115,19 +142,36 @@ impl<U: Under + Drop> HeldFile<U> {
     pub fn put_over(&mut self, at: u64, bytes: &[u8]) -> Result<usize, Option<i32>>
         ensures within { count_of result ≤ length bytes.now }
         ensures progress { IfOk result (λ n. 0 < length bytes.now → 0 < n) }
+        ensures taken { IfOk result (λ n. self.new.given.state ≡ and_put self.old.given.state at (take n bytes.now)) }
+        ensures kept { OnErr result (self.new.given.state ≡ self.old.given.state) }
     {
-        if at >= FRONT as u64 && at >= self.sent && self.lays(at - self.sent, bytes) {
+        let end = self.sent + self.held.len() as u64;
+        if at > end || bytes.len() as u64 > end - at {
+            return Err(None);
+        }
+        if self.lays(at, bytes) {
             return Ok(bytes.len());
         }
         if let Err(error) = self.settle() {
             return Err(error.raw_os_error());
         }
-        write_over(&mut self.file, at, bytes)
+        let n = write_over(&mut self.file, at, bytes)?;
+        self.given.put(&bytes[..n], at);
+        Ok(n)
     }
 
-    // Lays a header over bytes that are held, if all of them are.
-    fn lays(&mut self, from: u64, bytes: &[u8]) -> bool {
+    // Lays a header over bytes that are held, if all of them are, and it is not at the front.
+    fn lays(&mut self, at: u64, bytes: &[u8]) -> bool
+        ensures laid { IsTrue result → self.new.given.state ≡ and_put self.old.given.state at bytes.now }
+        ensures kept { result ≡ false → self.new.given.state ≡ self.old.given.state }
+        ensures held { length self.new.held.items ≡ length self.old.held.items }
+        ensures sent { self.new.sent ≡ self.old.sent }
+    {
+        if at < FRONT as u64 || at < self.sent {
+            return false;
+        }
         let behind = self.held.len();
+        let from = at - self.sent;
         if bytes.len() != HEADER || behind < HEADER || from > (behind - HEADER) as u64 {
             return false;
         }
@@ -142,80 +186,87 @@ impl<U: Under + Drop> HeldFile<U> {
         if self.laid.len() >= MOST || self.laid.push(laid).is_err() {
             return false;
         }
-        self.held[from..from + HEADER].copy_from_slice(bytes);
+        put_held(&mut self.held, from, bytes);
+        self.given.put(bytes, at);
         true
     }
 
     /// Sends what it holds. Where that fails it is held on, and sent to the same place by the next call.
-    pub fn settle(&mut self) -> io::Result<()> {
+    pub fn settle(&mut self) -> io::Result<()>
+        ensures none { OnOk result (self.new.held.items ≡ []) }
+        ensures reach { OnOk result (self.new.sent ≡ self.old.sent + length self.old.held.items) }
+        ensures all { OnOk result (self.new.is_failed ≡ false → U.stands self.new.file ≡ self.new.given.state.bytes) }
+        ensures held { OnErr result (length self.new.held.items ≡ length self.old.held.items) }
+        ensures sent { OnErr result (self.new.sent ≡ self.old.sent) }
+        ensures still { OnOk result (self.new.is_failed ≡ self.old.is_failed) }
+        ensures given { self.new.given.state ≡ self.old.given.state }
+    {
         let (done, result) = write_front(&mut self.file, self.sent, self.held.as_slice());
         if result.is_err() {
-            for laid in self.laid.iter().rev() {
-                laid.take_back(&mut self.file, self.sent, done, self.held.as_mut_slice());
-            }
-            self.laid.clear();
+            self.take_back(done);
             return result;
         }
-        self.sent = self.sent.saturating_add(self.held.len() as u64);
+        self.sent += self.held.len() as u64;
         self.held.clear();
         self.laid.clear();
         Ok(())
     }
 
-    /// The file, once all is sent.
-    pub fn file(&self) -> &U {
-        &self.file
+    // Takes the headers back that were laid behind more than was written.
+    fn take_back(&mut self, done: usize)
+        requires { self.old.sent + done ≤ length (U.stands self.old.file) }
+        ensures held { length self.new.held.items ≡ length self.old.held.items }
+        ensures sent { self.new.sent ≡ self.old.sent }
+        ensures given { self.new.given.state ≡ self.old.given.state }
+    {
+        if self.laid.is_empty() {
+            return;
+        }
+        self.is_failed = true;
+        take_all_back(self.laid.as_slice(), &mut self.file, self.sent, done, &mut self.held);
+        self.laid.clear();
+    }
+
+    /// The file, where it took all that was given. Where it did not, what it holds is sent once more, as far as that goes.
+    pub fn end(self) -> io::Result<U>
+        ensures { IfOk result (λ file. U.stands file ≡ self.given.state.bytes) }
+    {
+        let mut held = self;
+        if let Err(error) = held.settle() {
+            let _ = held.settle();
+            return Err(error);
+        }
+        if held.is_failed {
+            return Err(io::Error::from(ErrorKind::WriteZero));
+        }
+        Ok(held.file)
     }
 }
 
-/// What it holds is sent, as far as that can be done.
-impl<U: Under + Drop> Drop for HeldFile<U> {
-    fn drop(mut self) {
-        let _ = self.settle();
-        let HeldFile {
-            file: _,
-            sent: _,
-            held: _,
-            laid: _,
-        } = self;
-    }
-}
-
-/// Writes at a place, once more where a signal came in between. Why the call failed, by its number, where it did.
-fn write_over<U: Under>(file: &mut U, at: u64, bytes: &[u8]) -> Result<usize, Option<i32>>
-    ensures within { count_of result ≤ length bytes.now }
-    ensures progress { IfOk result (λ n. 0 < length bytes.now → 0 < n) }
+// Takes headers back, the last one first.
+fn take_all_back<U: Under>(laid: &[Laid], file: &mut U, sent: u64, done: usize, held: &mut Vec<u8>)
+    requires stands { sent + done ≤ length (U.stands file.old) }
+    requires fits { sent + length held.old.items < 2 ^ 64 }
+    ensures file { length (U.stands file.new) ≡ length (U.stands file.old) }
+    ensures held { length held.new.items ≡ length held.old.items }
 {
-    for _ in 0..u64::MAX {
-        match file.put_at(at, bytes) {
-            Ok(n) if n > 0 || bytes.is_empty() => return Ok(n),
-            Ok(_) => return Err(None),
-            Err(error) => {
-                if error.kind() != ErrorKind::Interrupted {
-                    return Err(error.raw_os_error());
-                }
-            }
-        }
+    for one in laid.iter().rev() {
+        one.take_back(file, sent, done, held);
     }
-    Err(None)
 }
 
-// Writes these bytes at a place, and answers how many were written, and whether all.
-fn write_front<U: Under>(file: &mut U, at: u64, bytes: &[u8]) -> (usize, io::Result<()>) {
-    let mut done = 0;
-    while done < bytes.len() {
-        match write_over(file, at.saturating_add(done as u64), &bytes[done..]) {
-            Ok(n) => done += n,
-            Err(why) => return (done, Err(failed(why))),
-        }
-    }
-    (done, Ok(()))
+// Writes bytes over those that are held from a place on.
+fn put_held(held: &mut Vec<u8>, from: usize, bytes: &[u8])
+    requires { from + length bytes.now ≤ length held.old.items }
+    ensures { held.new.items ≡ put_at held.old.items from bytes.now }
+{
+    put_part(held.as_mut_slice(), from, bytes);
 }
 
-// A call that failed with this number, or wrote nothing.
-fn failed(why: Option<i32>) -> io::Error {
-    match why {
-        Some(number) => io::Error::from_raw_os_error(number),
-        None => io::Error::from(ErrorKind::WriteZero),
-    }
+// Writes bytes at a place.
+fn put_part(into: &mut [u8], from: usize, bytes: &[u8])
+    requires { from + length bytes.now ≤ length into.old }
+    ensures { into.new ≡ put_at into.old from bytes.now }
+{
+    into[from..from + bytes.len()].copy_from_slice(bytes);
 }

@@ -1,0 +1,170 @@
+//! What a spool holds back of what it took, and what of it went to its file.
+
+ghost use Rattle.std.specs.Prelude.{◌≡◌, ◌≤◌, ◌+◌, ◌<◌, ◌++◌, [], false, IsTrue, IsErr, IfOk, IfErr, OnOk, OnErr};
+ghost use Rattle.std.specs.Prelude.{length, take};
+ghost use Rattle.abt_io.specs.Count.{count_of};
+
+use abt_io::{DeviceFault, Log, WINDOW};
+use std::alloc::Global;
+use std::fs::File;
+use std::io::ErrorKind;
+use std::os::unix::fs::FileExt;
+
+/// A write of so many bytes or more is not held: what copying them costs is what a call does.
+const LARGE: usize = 16_384;
+
+/// Bytes that a spool took and that its file is given later, behind those that it was given. None is held where there was
+/// no memory for it.
+#[derive(Drop)]
+pub(crate) struct Behind {
+    held: Vec<u8>,
+    /// What the file took since it was emptied.
+    sent: Log,
+    /// Some of what is held could not be written.
+    is_lost: bool,
+    /// A clear was refused for that.
+    is_told: bool,
+}
+
+impl Behind {
+    /// Nothing is held yet, and the file is empty.
+    pub(crate) fn new(alloc: Global) -> Behind
+        ensures held { result.held.items ≡ [] }
+        ensures sent { result.sent.state.bytes ≡ [] }
+        ensures lost { result.is_lost ≡ false }
+    {
+        let held = match Vec::with_capacity(alloc, WINDOW) {
+            Ok(held) => held,
+            Err(_) => Vec::new(alloc),
+        };
+        Behind {
+            held,
+            sent: Log::new(),
+            is_lost: false,
+            is_told: false,
+        }
+    }
+
+    /// Takes a front of these bytes, and answers how many: all where they are held, and else what one write took of them,
+    /// behind what was held. `used` bytes were taken before.
+    pub(crate) fn take(&mut self, file: &File, used: u64, bytes: &[u8]) -> Result<usize, DeviceFault>
+        requires { length self.old.sent.state.bytes + length self.old.held.items ≡ used }
+        ensures within { count_of result ≤ length bytes.now }
+        ensures progress { IfOk result (λ n. 0 < length bytes.now → 0 < n) }
+        ensures taken { self.new.sent.state.bytes ++ self.new.held.items
+            ≡ (self.old.sent.state.bytes ++ self.old.held.items) ++ take (count_of result) bytes.now }
+        ensures lost { IsTrue self.old.is_lost → IsErr result }
+        ensures found { OnOk result (self.new.is_lost ≡ false) }
+        ensures place { length self.new.sent.state.bytes + length self.new.held.items ≡ used + count_of result }
+        ensures failed { IfErr result (λ e. e ≡ DeviceFault.Failed) }
+    {
+        if self.is_lost {
+            return Err(DeviceFault::Failed);
+        }
+        let n = bytes.len();
+        let room = self.held.capacity().min(WINDOW).saturating_sub(self.held.len());
+        if n < LARGE && n <= room && self.held.extend_from_slice(bytes).is_ok() {
+            return Ok(n);
+        }
+        self.settle(file, used)?;
+        self.send(file, used, bytes)
+    }
+
+    /// Writes all that is held. Refused where some of it could not be written, now or before.
+    pub(crate) fn settle(&mut self, file: &File, used: u64) -> Result<(), DeviceFault>
+        requires { length self.old.sent.state.bytes + length self.old.held.items ≡ used }
+        ensures held { OnOk result (self.new.held.items ≡ []) }
+        ensures sent { OnOk result (self.new.sent.state.bytes ≡ self.old.sent.state.bytes ++ self.old.held.items) }
+        ensures kept { OnErr result ((self.new.held.items ≡ self.old.held.items) × (self.new.sent.state ≡ self.old.sent.state)) }
+        ensures lost { OnErr result (IsTrue self.new.is_lost) }
+        ensures found { OnOk result (self.new.is_lost ≡ false) }
+        ensures still { IsTrue self.old.is_lost → IsErr result }
+        ensures failed { IfErr result (λ e. e ≡ DeviceFault.Failed) }
+    {
+        if self.is_lost {
+            return Err(DeviceFault::Failed);
+        }
+        let count = self.held.len();
+        if count == 0 {
+            return Ok(());
+        }
+        match file.write_all_at(self.held.as_slice(), used - count as u64) {
+            Ok(()) => {
+                self.sent.put(self.held.as_slice(), used - count as u64);
+                self.held.clear();
+                Ok(())
+            }
+            Err(_) => {
+                self.is_lost = true;
+                Err(DeviceFault::Failed)
+            }
+        }
+    }
+
+    /// One write to the file, behind all that it was given.
+    fn send(&mut self, file: &File, used: u64, bytes: &[u8]) -> Result<usize, DeviceFault>
+        requires { length self.old.sent.state.bytes ≡ used }
+        ensures within { count_of result ≤ length bytes.now }
+        ensures progress { IfOk result (λ n. 0 < length bytes.now → 0 < n) }
+        ensures sent { self.new.sent.state.bytes ≡ self.old.sent.state.bytes ++ take (count_of result) bytes.now }
+        ensures held { self.new.held.items ≡ self.old.held.items }
+        ensures lost { self.new.is_lost ≡ self.old.is_lost }
+        ensures failed { IfErr result (λ e. e ≡ DeviceFault.Failed) }
+    {
+        match write_at(file, used, bytes) {
+            Ok(n) => {
+                self.sent.put(&bytes[..n], used);
+                Ok(n)
+            }
+            Err(fault) => Err(fault),
+        }
+    }
+
+    /// Whether the file may be emptied: not where something was lost for which no clear was refused yet.
+    pub(crate) fn may_clear(&mut self) -> bool
+        ensures lost { IsTrue result → IsTrue self.new.is_lost → IsTrue self.new.is_told }
+        ensures found { self.old.is_lost ≡ false → IsTrue result }
+        ensures held { self.new.held.items ≡ self.old.held.items }
+        ensures sent { self.new.sent.state ≡ self.old.sent.state }
+        ensures kept { self.new.is_lost ≡ self.old.is_lost }
+    {
+        if self.is_lost && !self.is_told {
+            self.is_told = true;
+            return false;
+        }
+        true
+    }
+
+    /// Nothing is held or lost any more, since the file was emptied. Who lost something was told of it.
+    pub(crate) fn forget(&mut self)
+        requires told { IsTrue self.old.is_lost → IsTrue self.old.is_told }
+        ensures held { self.new.held.items ≡ [] }
+        ensures sent { self.new.sent.state.bytes ≡ [] }
+        ensures lost { self.new.is_lost ≡ false }
+    {
+        self.held.clear();
+        self.sent = Log::new();
+        self.is_lost = false;
+        self.is_told = false;
+    }
+}
+
+// One write at a place, once more where a signal came in between.
+fn write_at(file: &File, at: u64, bytes: &[u8]) -> Result<usize, DeviceFault>
+    ensures within { count_of result ≤ length bytes.now }
+    ensures progress { IfOk result (λ n. 0 < length bytes.now → 0 < n) }
+    ensures failed { IfErr result (λ e. e ≡ DeviceFault.Failed) }
+{
+    for _ in 0..u64::MAX {
+        match file.write_at(bytes, at) {
+            Ok(n) if n > 0 || bytes.is_empty() => return Ok(n),
+            Ok(_) => return Err(DeviceFault::Failed),
+            Err(error) => {
+                if error.kind() != ErrorKind::Interrupted {
+                    return Err(DeviceFault::Failed);
+                }
+            }
+        }
+    }
+    Err(DeviceFault::Failed)
+}
