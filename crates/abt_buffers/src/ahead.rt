@@ -181,6 +181,16 @@ impl<'a> AheadSource<'a> {
             faults: Tally::new(),
         }
     }
+
+    /// A piece begins: what is held of the file is read again before it is given.
+    pub fn forget(&self) {
+        self.from.forget();
+    }
+
+    /// How long the file is now, if that is less than what was given of it from memory.
+    pub fn shorter(&self) -> Option<u64> {
+        self.from.shorter()
+    }
 }
 
 impl Source for AheadSource<'_> {

@@ -65,17 +65,25 @@ impl Gathered {
 
     /// Sends what it holds, where the work before failed.
     pub(crate) fn give_up(self) {
-        let mut output = self;
-        let _ = output.writer.flush();
+        let mut writer = self.writer;
+        let _ = writer.flush();
+        let _ = writer.get_mut().settle();
     }
 
-    /// Sends what it holds, and has it synced, where that is wanted. Answers what the system took: all that it was given. Why that could not be done, by the number of the system's error.
+    /// Sends what it holds, and has it synced, where that is wanted. Answers what the system took: all that it was given.
+    /// Why that could not be done, by the number of the system's error; then it is sent as far as that goes.
     pub(crate) fn finish(self, is_synced: bool) -> Result<Log, Option<i32>>
         ensures { IfOk result (λ sent. sent.state.bytes ≡ given self.writer) }
     {
         match self.writer.into_inner() {
             Ok(sink) => sink.end(is_synced),
-            Err(error) => Err(error.into_inner().get_ref().why),
+            Err(error) => {
+                let mut writer = error.into_inner();
+                let why = writer.get_ref().why;
+                let _ = writer.flush();
+                let _ = writer.get_mut().settle();
+                Err(why)
+            }
         }
     }
 }

@@ -4,7 +4,8 @@
 //!
 //! | file | has |
 //! |---|---|
-//! | `sink.rt`, `gathered.rt` | where bytes go, with holes for zeros; small writes that go out together |
+//! | `target.rt`, `sink.rt` | where bytes go, with holes for zeros, or held back; all that was given there |
+//! | `gathered.rt` | small writes that go out together |
 //! | `output_file.rt`, `image_file.rt` | an output, and one that has a magic, brought to their end |
 //! | `ending.rt` | what a call answered, once its output is at its end |
 //! | `progress.rt`, `report.rt` | how far a command is, and what it prints |
@@ -17,6 +18,7 @@ mod output_file;
 mod progress;
 mod report;
 mod sink;
+mod target;
 
 pub use ending::{ended, ended_file, ended_front};
 pub use gathered::Gathered;

@@ -2,7 +2,7 @@
 
 use crate::piece_names::refuse_image_as_piece;
 use crate::pieces::Pieces;
-use abt_buffers::AheadSource;
+use abt_buffers::{AheadFile, AheadSource};
 use abt_host::{Reading, Writing};
 use abt_io::{Meter, Source, Window};
 use abt_output::Report;
@@ -36,10 +36,11 @@ pub(crate) fn cut_file<'a>(
 ) -> Result<(), SparseRefusal<'a>> {
     let mut reading = reading;
     let input = Place::new("IN", order.input);
-    let mut source = AheadSource::new(reading.source(input)?);
+    let file = AheadFile::new(reading.source(input)?);
+    let mut source = AheadSource::new(reading.alloc, &file);
     report.progress.expect(source.length(), 1);
     let sides = Sides::none().reading(input, None);
-    let mut pieces = match Pieces::open(&mut source, order.raw, order.limit, w, m) {
+    let mut pieces = match Pieces::open(&file, &mut source, order.raw, order.limit, w, m) {
         Ok(pieces) => pieces,
         Err(fault) => return Err(sides.refuse(fault)),
     };
@@ -75,7 +76,7 @@ pub(crate) fn cut_file<'a>(
 // is begun before it is known that the line of the last one is out.
 fn write_piece<'a>(
     pieces: &mut Pieces,
-    source: &mut AheadSource,
+    source: &mut AheadSource<'_>,
     writing: &mut Writing,
     place: Place<'a>,
     sides: Sides<'a>,

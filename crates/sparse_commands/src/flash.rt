@@ -1,10 +1,10 @@
 //! The command `flash`: a sparse image straight to a partition, or an image in pieces that go through a spool.
 
-ghost use Rattle.std.specs.Prelude.{◌≡◌, ℕ, Err, IfErr, IfOk, IsErr};
+ghost use Rattle.std.specs.Prelude.{◌≡◌, ℕ, Err, IfErr, IfOk, IfSome, IsErr, IsTrue, Some, None, false};
 ghost use Rattle.abt_flash.specs.declared.fault.Cause.{Cause};
 
 use crate::pieces::RAW_PASSES;
-use abt_buffers::{AheadSource, GatheringSpool};
+use abt_buffers::{AheadFile, AheadSource, GatheringSpool};
 use abt_flash::{Cause, Delivered, FlashFault, flash, resume, resume_raw};
 use abt_host::{Passing, Reading, Watched};
 use abt_io::{DeviceFault, FilePartition, Meter, Source, Window};
@@ -76,16 +76,17 @@ pub(crate) fn flash_pieces<'a>(
     let input = image_place(input);
     let partition = Place::new("PARTITION", partition);
     let spool = Place::new("SPOOL", pieces.spool);
-    let mut source = AheadSource::new(reading.source(input)?);
+    let file = AheadFile::new(reading.source(input)?);
+    let mut source = AheadSource::new(reading.alloc, &file);
     let mut writing = reading.all_open();
     let mut onto = writing.partition(partition)?;
     if let Some(size) = raw
-        && let Err(fault) = raw_pieces(&source.source, size, pieces.limit)
+        && let Err(fault) = raw_pieces(&file.source, size, pieces.limit)
     {
         return Err(Sides::none().reading(input, None).refuse(fault));
     }
     let through = writing.spool(spool, pieces.limit)?;
-    let mut through = GatheringSpool::new(through);
+    let mut through = GatheringSpool::new(writing.alloc, through.file, through.capacity, &file);
     let passes = if raw.is_some() { RAW_PASSES } else { 1 };
     report.progress.expect(source.length(), passes);
     let mut watched = Watched::new(&mut source, &mut report.progress);
@@ -106,10 +107,10 @@ pub(crate) fn flash_pieces<'a>(
 
 // Flashes the pieces from the one that the words name on. All that the spool took is in its file then.
 fn deliver(
-    source: &mut Watched<'_, AheadSource>,
+    source: &mut Watched<'_, AheadSource<'_>>,
     raw: Option<u32>,
     pieces: Pieces<'_>,
-    spool: &mut GatheringSpool,
+    spool: &mut GatheringSpool<'_>,
     onto: &mut FilePartition,
     w: &mut Window,
     m: &mut Meter,
@@ -122,25 +123,37 @@ fn deliver(
         Some(size) => resume_raw(source, size, limit, from, spool, onto, w, m),
         None => resume(source, limit, from, spool, onto, w, m),
     };
-    told_of(delivered, from, spool.settle())
+    told_of(delivered, from, late(spool.settle(), spool.is_from_short()))
 }
 
-// What is told of pieces from this one on, where the spool was settled behind them. A piece whose bytes could not all be
-// written to the spool stopped for that, since whatever else stopped it came later.
+// Why what was delivered is not so: the spool was settled behind it, and refused to be read where IN was shorter.
+fn late(settled: Result<(), DeviceFault>, is_from_short: bool) -> Option<Cause>
+    ensures settled { IfErr settled (λ fault. result ≡ Some (Cause.SpoolWrite fault)) }
+    ensures shorter { IfOk settled (λ _. IsTrue is_from_short → result ≡ Some Cause.SourceChanged) }
+    ensures none { IfOk settled (λ _. is_from_short ≡ false → result ≡ None) }
+{
+    match settled {
+        Err(fault) => Some(Cause::SpoolWrite(fault)),
+        Ok(()) if is_from_short => Some(Cause::SourceChanged),
+        Ok(()) => None,
+    }
+}
+
+// What is told of pieces from this one on, where there is a cause that came before what stopped them. A piece whose bytes
+// could not all be written to the spool stopped for that, since whatever else stopped it came later.
 fn told_of(
     delivered: Result<Delivered, FlashFault>,
     from: u32,
-    settled: Result<(), DeviceFault>,
+    late: Option<Cause>,
 ) -> Result<Delivered, FlashFault>
-    ensures settled { IfOk settled (λ _. result ≡ delivered) }
-    ensures stopped { IfErr settled (λ fault. (piece : ℕ) (cause : Cause) → delivered ≡ Err
-        (FlashFault.Stopped piece cause) → result ≡ Err (FlashFault.Stopped piece (Cause.SpoolWrite fault))) }
-    ensures told { IfErr settled (λ _. IsErr result) }
+    ensures settled { late ≡ None → result ≡ delivered }
+    ensures stopped { IfSome late (λ first. (piece : ℕ) (cause : Cause) → delivered ≡ Err
+        (FlashFault.Stopped piece cause) → result ≡ Err (FlashFault.Stopped piece first)) }
+    ensures told { IfSome late (λ _. IsErr result) }
 {
-    let Err(fault) = settled else {
+    let Some(cause) = late else {
         return delivered;
     };
-    let cause = Cause::SpoolWrite(fault);
     match delivered {
         Err(FlashFault::Stopped { piece, .. }) => Err(FlashFault::Stopped { piece, cause }),
         Err(fault) => Err(fault),

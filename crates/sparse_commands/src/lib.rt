@@ -10,6 +10,7 @@
 //! | `pieces.rt` | the pieces of a sparse or a raw image, each written to a file |
 //! | `piece_names.rt` | an image that has the name of a piece |
 //! | `late_writes.rt` | what is told of a command that stopped, where its file is written late |
+//! | `lasting.rt` | what is told of one whose IN is shorter than what was given of it from memory |
 #![tactic(auto)]
 
 mod command;
@@ -17,6 +18,7 @@ mod cut;
 mod expand;
 mod flash;
 mod flash_raw;
+mod lasting;
 mod late_writes;
 mod list;
 mod overlay;

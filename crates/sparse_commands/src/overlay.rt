@@ -1,13 +1,16 @@
 //! Several sparse images laid over one another, as the pieces of a cut are: the command `expand IN.. OUT`.
 
-use abt_buffers::AheadSource;
+ghost use Rattle.std.specs.Prelude.{IfSome, IsErr};
+
+use crate::lasting::{ends_at, open_lasting};
+use abt_buffers::{AheadFile, AheadSource};
 use abt_chunks::Expanded;
-use abt_flash::flash;
+use abt_flash::{FlashFault, flash};
 use abt_host::{Reading, Watched};
 use abt_io::{FileSource, Forward, Meter, Source, Window};
 use abt_output::{Finished, Report};
 use abt_refusals::{HostFault, Place, Sides};
-use abt_runs::{BlockRuns, SparseRuns};
+use abt_runs::BlockRuns;
 use sparse_rules::{SparseCommandFault, SparseRefusal, image_place};
 
 /// How many blocks an image has, and how many bytes each.
@@ -36,9 +39,14 @@ pub(crate) fn overlay<'a>(
     let mut zeros = writing.zeros(output, bytes)?;
     for (source, input) in sources.into_iter().zip(inputs) {
         m.tick();
-        let mut from = Forward::new(AheadSource::new(source));
+        let file = AheadFile::new(source);
+        let mut from = Forward::new(AheadSource::new(writing.alloc, &file));
         let mut watched = Watched::new(&mut from, &mut report.progress);
-        if let Err(fault) = flash(&mut watched, &mut zeros, w, m) {
+        let answer = match flash(&mut watched, &mut zeros, w, m) {
+            Ok(_) => whole(file.shorter()),
+            Err(fault) => Err(fault),
+        };
+        if let Err(fault) = answer {
             let sides = Sides::none()
                 .reading(image_place(input), None)
                 .begun(output, None);
@@ -47,6 +55,16 @@ pub(crate) fn overlay<'a>(
     }
     let finished = writing.written_in_place(zeros);
     Ok((Expanded { blocks, bytes }, finished))
+}
+
+// Refuses an image that was laid, where its file has so many bytes now and that is less than was given of it.
+fn whole(now: Option<u64>) -> Result<(), FlashFault>
+    ensures { IfSome now (λ _. IsErr result) }
+{
+    match now {
+        Some(at) => Err(FlashFault::Sparse(ends_at(at))),
+        None => Ok(()),
+    }
 }
 
 // The images, which are all of one shape.
@@ -89,18 +107,19 @@ fn open_one<'a>(
     w: &mut Window,
     m: &mut Meter,
 ) -> Result<(FileSource, Shape), SparseRefusal<'a>> {
-    let mut source = AheadSource::new(reading.source(place)?);
-    report.progress.expect(source.length(), 1);
-    let runs = match SparseRuns::open(&mut source, w, m) {
+    let file = AheadFile::new(reading.source(place)?);
+    report.progress.expect(file.source.length(), 1);
+    let mut source = AheadSource::new(reading.alloc, &file);
+    let runs = match open_lasting(&mut source, w, m) {
         Ok(runs) => runs,
         Err(fault) => {
             let sides = Sides::none().reading(place, None);
-            return Err(sides.refuse(SparseCommandFault::Run(fault)));
+            return Err(sides.refuse(fault));
         }
     };
     let shape = Shape {
         blocks: runs.blocks(),
         block: runs.block_size(),
     };
-    Ok((source.source, shape))
+    Ok((file.source, shape))
 }

@@ -1,7 +1,8 @@
 //! The pieces of a sparse or a raw image, each written to a file of its own.
 
 use crate::late_writes::stopped;
-use abt_buffers::AheadSource;
+use crate::lasting::{lasting, open_lasting};
+use abt_buffers::{AheadFile, AheadSource};
 use abt_host::Watched;
 use abt_io::{Meter, Output, Window};
 use abt_output::{Finished, ImageFile, ImageOutput, Progress, ended, ended_file, ended_front};
@@ -25,19 +26,17 @@ pub(crate) enum Pieces {
 impl Pieces {
     /// Opens an image, all of whose chunks are checked, or a raw one in blocks of so many bytes.
     pub(crate) fn open(
-        source: &mut AheadSource,
+        file: &AheadFile,
+        source: &mut AheadSource<'_>,
         raw: Option<u32>,
         limit: u32,
         w: &mut Window,
         m: &mut Meter,
     ) -> Result<Pieces, SparseCommandFault> {
         match raw {
-            Some(size) => Ok(Pieces::Raw(raw_pieces(&source.source, size, limit)?)),
+            Some(size) => Ok(Pieces::Raw(raw_pieces(&file.source, size, limit)?)),
             None => {
-                let runs = match SparseRuns::open(source, w, m) {
-                    Ok(runs) => runs,
-                    Err(fault) => return Err(SparseCommandFault::Run(fault)),
-                };
+                let runs = open_lasting(source, w, m)?;
                 Ok(Pieces::Sparse(PiecesOf::open(runs, limit)?))
             }
         }
@@ -63,66 +62,63 @@ impl Pieces {
     /// there in one pass over it.
     pub(crate) fn write_next<'a>(
         &mut self,
-        source: &mut AheadSource,
+        source: &mut AheadSource<'_>,
         output: ImageOutput<'a>,
         sides: Sides<'a>,
         progress: &mut Progress,
         w: &mut Window,
         m: &mut Meter,
     ) -> Result<(Option<Piece>, Finished), SparseRefusal<'a>> {
-        let mut watched = Watched::new(source, progress);
-        match self {
-            Pieces::Sparse(pieces) => match output {
-                ImageOutput::File(mut front) => {
-                    match next_piece(pieces, &mut watched, &mut front, w, m) {
-                        Ok(piece) => ended_front(Ok(piece), front, sides, m),
-                        Err(fault) => stopped(fault, front.output.output, sides),
-                    }
+        source.forget();
+        match (self, output) {
+            (Pieces::Sparse(pieces), ImageOutput::File(mut front)) => {
+                match next_piece(pieces, source, progress, &mut front, w, m) {
+                    Ok(piece) => ended_front(Ok(piece), front, sides, m),
+                    Err(fault) => stopped(fault, front.output.output, sides),
                 }
-                ImageOutput::Stream(mut stream) => {
-                    let answer = next_piece(pieces, &mut watched, &mut stream.to, w, m);
-                    ended(answer, stream, sides)
+            }
+            (Pieces::Raw(pieces), ImageOutput::File(front)) => {
+                let mut file = front.output;
+                match next_raw_piece(pieces, source, progress, &mut file, w, m) {
+                    Ok(piece) => ended_file(Ok(piece), file, sides),
+                    Err(fault) => stopped(fault, file.output, sides),
                 }
-            },
-            Pieces::Raw(pieces) => match output {
-                ImageOutput::File(front) => {
-                    let mut file = front.output;
-                    match next_raw_piece(pieces, &mut watched, &mut file, w, m) {
-                        Ok(piece) => ended_file(Ok(piece), file, sides),
-                        Err(fault) => stopped(fault, file.output, sides),
-                    }
-                }
-                ImageOutput::Stream(mut stream) => {
-                    let answer = next_piece(pieces, &mut watched, &mut stream.to, w, m);
-                    ended(answer, stream, sides)
-                }
-            },
+            }
+            (Pieces::Sparse(pieces), ImageOutput::Stream(mut stream)) => {
+                let answer = next_piece(pieces, source, progress, &mut stream.to, w, m);
+                ended(answer, stream, sides)
+            }
+            (Pieces::Raw(pieces), ImageOutput::Stream(mut stream)) => {
+                let answer = next_piece(pieces, source, progress, &mut stream.to, w, m);
+                ended(answer, stream, sides)
+            }
         }
     }
 }
 
+// Writes the next piece. It is none where IN is shorter then than what was given of it.
 fn next_piece<B: BlockRuns + Drop, O: Output>(
     pieces: &mut PiecesOf<B>,
-    source: &mut Watched<'_, AheadSource>,
+    source: &mut AheadSource<'_>,
+    progress: &mut Progress,
     output: &mut O,
     w: &mut Window,
     m: &mut Meter,
 ) -> Result<Option<Piece>, SparseCommandFault> {
-    match pieces.cutter.next_piece(source, output, w, m) {
-        Ok(piece) => Ok(piece),
-        Err(fault) => Err(SparseCommandFault::Piece(fault)),
-    }
+    let mut watched = Watched::new(source, progress);
+    let answer = pieces.cutter.next_piece(&mut watched, output, w, m);
+    lasting(answer, source.shorter())
 }
 
 fn next_raw_piece(
     pieces: &mut PiecesOf<RawRuns>,
-    source: &mut Watched<'_, AheadSource>,
+    source: &mut AheadSource<'_>,
+    progress: &mut Progress,
     file: &mut ImageFile<'_>,
     w: &mut Window,
     m: &mut Meter,
 ) -> Result<Option<Piece>, SparseCommandFault> {
-    match next_piece_at(&mut pieces.cutter, source, file, w, m) {
-        Ok(piece) => Ok(piece),
-        Err(fault) => Err(SparseCommandFault::Piece(fault)),
-    }
+    let mut watched = Watched::new(source, progress);
+    let answer = next_piece_at(&mut pieces.cutter, &mut watched, file, w, m);
+    lasting(answer, source.shorter())
 }

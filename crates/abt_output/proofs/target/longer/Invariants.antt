@@ -1,5 +1,5 @@
 use Rattle.std.proofs.Common.{◌≤◌}
-use Rattle.abt_output.proofs.sink.longer.Given as goal
+use Rattle.abt_output.proofs.target.longer.Given as goal
 
 abbrev pub invariant-loop-some : goal.invariant-loop-some
 invariant-loop-some l = record { within : l.some ≤ l.n }
