@@ -1,5 +1,5 @@
 -- Bytes that are written at the end of what stands, or from there on.
-use Rattle.std.proofs.Common.{◌≡◌, ℕ, ◌+◌, ◌-◌, ◌≤◌, List, [], ◌++◌, length, take, drop, refl, sym, ◌∙◌, ap, arith, append_assoc, append-nil, length-append, length-drop}
+use Rattle.std.proofs.Common.{◌≡◌, ℕ, ◌+◌, ◌-◌, ◌≤◌, List, [], ◌++◌, length, take, drop, sym, ◌∙◌, ap, arith, append_assoc, append-nil, length-append, length-drop}
 use Rattle.std.proofs.lemmas.List.{length-take-le, take_all, take_at, take-append-le, take-append-drop, drop-drop, drop-append-le}
 use Rattle.std.proofs.Math.Seq.{drop-append-add, take-append-add}
 use Rattle.std.proofs.Math.ListN.{drop_of_length-le}
@@ -42,9 +42,9 @@ put_then c x y at le =
     let long : length a ≡ at + length x = omega (arith, length-append (take at c) x, length-take-le at c le) in
     let front : take (at + length x) (a ++ r) ≡ a = take_at a r (at + length x) long in
     let back : drop (at + length x + length y) (a ++ r) ≡ drop (at + length (x ++ y)) c =
-      ap (λ (k : ℕ). drop (k + length y) (a ++ r)) (sym long) ∙ drop-append-add a r (length y)
-      ∙ drop-drop (length y) (at + length x) c
-      ∙ ap (λ (k : ℕ). drop k c) (omega (arith, length-append x y)) in
+    ap (λ (k : ℕ). drop (k + length y) (a ++ r)) (sym long) ∙ drop-append-add a r (length y)
+    ∙ drop-drop (length y) (at + length x) c
+    ∙ ap (λ (k : ℕ). drop k c) (omega (arith, length-append x y)) in
     ap (λ (l : List ℕ). l ++ y ++ drop (at + length x + length y) (a ++ r)) front
     ∙ ap (λ (l : List ℕ). a ++ y ++ l) back
     ∙ ap (λ (l : List ℕ). l ++ drop (at + length (x ++ y)) c) (append_assoc (take at c) x y)
@@ -57,7 +57,7 @@ put_on c now new bytes at d n le there before e =
     let long = length-take-le d bytes le in
     let rest = take n (drop d bytes) in
     let whole : take (length bytes - d) (drop d bytes) ≡ drop d bytes =
-      take_all (length bytes - d) (drop d bytes) (omega (arith, length-drop d bytes)) in
+    take_all (length bytes - d) (drop d bytes) (omega (arith, length-drop d bytes)) in
     e ∙ ap (λ (l : List ℕ). put_at now (at + d) (take n l)) whole
     ∙ ap (λ (l : List ℕ). put_at l (at + d) rest) before
     ∙ ap (λ (k : ℕ). put_at (put_at c at (take d bytes)) (at + k) rest) (sym long)
@@ -77,14 +77,14 @@ laid_held c held x sent from there fits =
     let f = take sent c in
     let t : length f ≡ sent = length-take-le sent c there in
     let front : take (sent + from) (f ++ held) ≡ f ++ take from held =
-      ap (λ (k : ℕ). take (k + from) (f ++ held)) (sym t) ∙ take-append-add f held from in
+    ap (λ (k : ℕ). take (k + from) (f ++ held)) (sym t) ∙ take-append-add f held from in
     let back : drop (sent + from + length x) (f ++ held) ≡ drop (from + length x) held =
-      ap (λ (k : ℕ). drop k (f ++ held)) (let e : sent + from + length x ≡ length f + (from + length x) = omega (arith, t) in e)
-      ∙ drop-append-add f held (from + length x) in
+    ap (λ (k : ℕ). drop k (f ++ held)) (let e : sent + from + length x ≡ length f + (from + length x) = omega (arith, t) in e)
+    ∙ drop-append-add f held (from + length x) in
     sym (ap (λ (l : List ℕ). l ++ x ++ drop (sent + from + length x) (f ++ held)) front
-      ∙ ap (λ (l : List ℕ). (f ++ take from held) ++ x ++ l) back
-      ∙ ap (λ (l : List ℕ). l ++ drop (from + length x) held) (append_assoc f (take from held) x)
-      ∙ append_assoc f (take from held ++ x) (drop (from + length x) held))
+    ∙ ap (λ (l : List ℕ). (f ++ take from held) ++ x ++ l) back
+    ∙ ap (λ (l : List ℕ). l ++ drop (from + length x) held) (append_assoc f (take from held) x)
+    ∙ append_assoc f (take from held ++ x) (drop (from + length x) held))
 
 -- what a spool took goes behind all that it took since its last clear
 pub took : (sent held sent' held' x : List ℕ) (g g' : Logged) (used : ℕ) → sent ++ held ≡ since_cut g

@@ -187,7 +187,7 @@ impl<'a> AheadSource<'a> {
         self.from.forget();
     }
 
-    /// How long the file is now, if that is less than what was given of it from memory.
+    /// How long the file is now, if that is less than what was given of it from memory since the piece began.
     pub fn shorter(&self) -> Option<u64> {
         self.from.shorter()
     }

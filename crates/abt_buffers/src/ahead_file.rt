@@ -31,9 +31,10 @@ impl AheadFile {
     /// A piece begins: what is held of the file is read again before it is given.
     pub fn forget(&self) {
         self.is_old.set(true);
+        self.reached.set(0);
     }
 
-    /// How long the file is now, if that is less than what was given of it from memory.
+    /// How long the file is now, if that is less than what was given of it from memory since the piece began.
     pub fn shorter(&self) -> Option<u64> {
         let reached = self.reached.get();
         let Some(file) = &self.source.file else {

@@ -47,7 +47,12 @@ impl Behind {
 
     /// Takes a front of these bytes, and answers how many: all where they are held, and else what one write took of them,
     /// behind what was held. `used` bytes were taken before.
-    pub(crate) fn take(&mut self, file: &File, used: u64, bytes: &[u8]) -> Result<usize, DeviceFault>
+    pub(crate) fn take(
+        &mut self,
+        file: &File,
+        used: u64,
+        bytes: &[u8],
+    ) -> Result<usize, DeviceFault>
         requires { length self.old.sent.state.bytes + length self.old.held.items ≡ used }
         ensures within { count_of result ≤ length bytes.now }
         ensures progress { IfOk result (λ n. 0 < length bytes.now → 0 < n) }
@@ -62,7 +67,11 @@ impl Behind {
             return Err(DeviceFault::Failed);
         }
         let n = bytes.len();
-        let room = self.held.capacity().min(WINDOW).saturating_sub(self.held.len());
+        let room = self
+            .held
+            .capacity()
+            .min(WINDOW)
+            .saturating_sub(self.held.len());
         if n < LARGE && n <= room && self.held.extend_from_slice(bytes).is_ok() {
             return Ok(n);
         }

@@ -35,12 +35,7 @@ pub struct GatheringSpool<'a> {
 impl<'a> GatheringSpool<'a> {
     /// A spool of at most `capacity` bytes, over a file that is empty. Nothing is held yet. Where there is no memory to
     /// hold anything, each call is one of the file.
-    pub fn new(
-        alloc: Global,
-        file: File,
-        capacity: u64,
-        from: &'a AheadFile,
-    ) -> GatheringSpool<'a>
+    pub fn new(alloc: Global, file: File, capacity: u64, from: &'a AheadFile) -> GatheringSpool<'a>
         ensures capacity { result.spool.capacity ≡ capacity }
         ensures log { result.spool.log.state ≡ nothing_logged }
         ensures lost { result.behind.is_lost ≡ false }

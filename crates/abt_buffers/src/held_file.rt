@@ -212,6 +212,13 @@ impl<U: Under + Drop> HeldFile<U> {
         Ok(())
     }
 
+    /// The file, with what was sent to it.
+    pub fn file(&self) -> &U
+        ensures { result.now ≡ self.now.file }
+    {
+        &self.file
+    }
+
     // Takes the headers back that were laid behind more than was written.
     fn take_back(&mut self, done: usize)
         requires { self.old.sent + done ≤ length (U.stands self.old.file) }
@@ -223,7 +230,13 @@ impl<U: Under + Drop> HeldFile<U> {
             return;
         }
         self.is_failed = true;
-        take_all_back(self.laid.as_slice(), &mut self.file, self.sent, done, &mut self.held);
+        take_all_back(
+            self.laid.as_slice(),
+            &mut self.file,
+            self.sent,
+            done,
+            &mut self.held,
+        );
         self.laid.clear();
     }
 

@@ -68,7 +68,11 @@ impl Under for SentFile {
 }
 
 /// Writes at a place, once more where a signal came in between. Why the call failed, by its number, where it did.
-pub(crate) fn write_over<U: Under>(file: &mut U, at: u64, bytes: &[u8]) -> Result<usize, Option<i32>>
+pub(crate) fn write_over<U: Under>(
+    file: &mut U,
+    at: u64,
+    bytes: &[u8],
+) -> Result<usize, Option<i32>>
     ensures within { count_of result ≤ length bytes.now }
     ensures progress { IfOk result (λ n. 0 < length bytes.now → 0 < n) }
     ensures written { IfOk result (λ n. U.stands file.new ≡ put_at (U.stands file.old) at (take n bytes.now)) }

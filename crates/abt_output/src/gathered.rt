@@ -1,7 +1,7 @@
 //! An output that takes small writes together. What it was given is what the system took and what it holds still.
 
-ghost use Rattle.std.specs.Prelude.{◌≡◌, ◌<◌, ◌≤◌, ◌+◌, ◌++◌, false, length, take, replicate, IfOk, IfErr, OnErr};
-ghost use Rattle.abt_output.specs.Given.{given};
+ghost use Rattle.std.specs.Prelude.{◌≡◌, ◌<◌, ◌≤◌, ◌+◌, ◌++◌, false, length, take, replicate, IfOk, IfErr, OnOk, OnErr};
+ghost use Rattle.abt_output.specs.Given.{given, IsSettled};
 ghost use Rattle.abt_io.specs.Count.{count_of};
 ghost use Rattle.abt_io.specs.Moment.{put_at};
 
@@ -57,6 +57,7 @@ impl Gathered {
 
     /// Has all written that was sent to the sink.
     pub(crate) fn settle(&mut self) -> Result<(), DeviceFault>
+        ensures none { OnOk result (IsSettled self.new.writer) }
         ensures kept { given self.new.writer ≡ given self.old.writer }
         ensures failed { IfErr result (λ e. e ≡ DeviceFault.Failed) }
     {
@@ -65,9 +66,7 @@ impl Gathered {
 
     /// Sends what it holds, where the work before failed.
     pub(crate) fn give_up(self) {
-        let mut writer = self.writer;
-        let _ = writer.flush();
-        let _ = writer.get_mut().settle();
+        let _ = given_up(self.writer);
     }
 
     /// Sends what it holds, and has it synced, where that is wanted. Answers what the system took: all that it was given.
@@ -77,15 +76,18 @@ impl Gathered {
     {
         match self.writer.into_inner() {
             Ok(sink) => sink.end(is_synced),
-            Err(error) => {
-                let mut writer = error.into_inner();
-                let why = writer.get_ref().why;
-                let _ = writer.flush();
-                let _ = writer.get_mut().settle();
-                Err(why)
-            }
+            Err(error) => Err(given_up(error.into_inner())),
         }
     }
+}
+
+// Sends what a writer holds, as far as that goes, and answers why its last call had failed.
+fn given_up(writer: BufWriter<Sink>) -> Option<i32> {
+    let mut writer = writer;
+    let why = writer.get_ref().why;
+    let _ = writer.flush();
+    let _ = writer.get_mut().settle();
+    why
 }
 
 // Sends what a writer holds, and writes at a place.

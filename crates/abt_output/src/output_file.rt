@@ -1,7 +1,7 @@
 //! An output that is written from its front on, and how it is brought to its end.
 
-ghost use Rattle.std.specs.Prelude.{◌≡◌, [], IfErr, IfOk};
-ghost use Rattle.abt_output.specs.Given.{given};
+ghost use Rattle.std.specs.Prelude.{◌≡◌, [], IfErr, IfOk, OnOk};
+ghost use Rattle.abt_output.specs.Given.{given, IsSettled};
 ghost use Rattle.abt_io.specs.Frame.{nothing_logged};
 ghost use Rattle.abt_io.specs.Over.{with_front};
 
@@ -82,6 +82,7 @@ impl<'a> OutputFile<'a> {
     /// Has all written that a gathered file holds, but for the small writes that any output takes together. Where that
     /// cannot be done, a write is refused that came before the call at hand.
     pub fn settle(&mut self) -> Result<(), DeviceFault>
+        ensures none { OnOk result (IsSettled self.new.to.writer) }
         ensures kept { given self.new.to.writer ≡ given self.old.to.writer }
         ensures failed { IfErr result (λ e. e ≡ DeviceFault.Failed) }
     {

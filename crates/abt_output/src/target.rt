@@ -1,10 +1,10 @@
 //! What bytes are written to: a file, a raw image with holes for its zeros, what holds bytes back, or standard output.
 
-ghost use Rattle.std.specs.Prelude.{◌≡◌, ◌<◌, ◌≤◌, ◌++◌, ℕ, List, length, take, replicate, IfOk, OnErr};
+ghost use Rattle.std.specs.Prelude.{◌≡◌, ◌<◌, ◌≤◌, ◌++◌, ℕ, List, length, take, replicate, IfOk, OnOk, OnErr};
 ghost use Rattle.std.specs.Io.{WritesAtMost};
 ghost use Rattle.abt_io.specs.Count.{count_of};
 ghost use Rattle.abt_io.specs.Moment.{put_at};
-ghost use Rattle.abt_output.specs.Follows.{Follows};
+ghost use Rattle.abt_output.specs.Follows.{Follows, HoldsNothing};
 
 use abt_buffers::{HeldFile, SentFile};
 use abt_io::Log;
@@ -110,6 +110,7 @@ impl Target {
 
     /// Has all written that it holds.
     pub(crate) fn settle(&mut self) -> io::Result<()>
+        ensures none { OnOk result (HoldsNothing self.new) }
         ensures kept { (given : List ℕ) → Follows self.old given → Follows self.new given }
     {
         match self {

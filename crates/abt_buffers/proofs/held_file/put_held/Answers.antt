@@ -1,4 +1,4 @@
-use Rattle.std.proofs.Common.{◌≡◌, sym, ap, ◌∙◌, length}
+use Rattle.std.proofs.Common.{sym, ap, ◌∙◌, length}
 use Rattle.abt_io.proofs.Overs.{length_put}
 use Rattle.abt_buffers.proofs.Sent.{written_back}
 use Rattle.abt_buffers.proofs.held_file.put_held.Goals as goal
@@ -9,5 +9,5 @@ returns c =
     let w = rw e.value at c.put_part.ensures in
     let long = ap length (sym e.value) ∙ e.len in
     written_back c.args.held.now.items c.put_part.new.into c.args.held.now.len
-        (ap length w ∙ length_put c.args.held.now.items c.args.from c.args.bytes.now c.requires ∙ long) long
+    (ap length w ∙ length_put c.args.held.now.items c.args.from c.args.bytes.now c.requires ∙ long) long
     ∙ w

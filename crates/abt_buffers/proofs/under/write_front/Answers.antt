@@ -1,4 +1,4 @@
-use Rattle.std.proofs.Common.{◌≡◌, refl, sym, ap, ◌∙◌, take, arith}
+use Rattle.std.proofs.Common.{sym, arith}
 use Rattle.abt_io.proofs.Overs.{put_none}
 use Rattle.abt_buffers.proofs.Sent.{put_on}
 use Rattle.abt_buffers.proofs.under.write_front.Goals as goal

@@ -1,6 +1,5 @@
-use Rattle.std.proofs.Common.{◌≡◌, ◌≤◌, ◌++◌, List, ℕ, length, take, refl, sym, ap, ◌∙◌, arith, append-nil, length-append, length-take}
+use Rattle.std.proofs.Common.{◌≤◌, ◌++◌, List, ℕ, length, take, ap, ◌∙◌, arith, append-nil, length-append, length-take}
 use Rattle.std.proofs.lemmas.List.{take-take, length-take-le}
-use Rattle.abt_io.specs.Frame.{last_cut}
 use Rattle.abt_buffers.proofs.Sent.{took}
 use Rattle.abt_buffers.proofs.gathering.GatheringSpoolOutput.write.Goals as goal
 
@@ -22,7 +21,7 @@ invariant_of-self-in-Ok-clause-whole c =
     let b = c.args.self.now.behind in
     let d = c.take.new.self in
     took b.sent.state.bytes b.held.items d.sent.state.bytes d.held.items (take n c.args.bytes.now) c.args.self.now.spool.log.state c.append.new.self.state c.args.self.now.spool.used
-        c.args.self.now.whole (c.in-Ok.ensures.taken ∙ ap (λ (l : List ℕ). (b.sent.state.bytes ++ b.held.items) ++ l) front) c.append.ensures c.args.self.now.spool.since
+    c.args.self.now.whole (c.in-Ok.ensures.taken ∙ ap (λ (l : List ℕ). (b.sent.state.bytes ++ b.held.items) ++ l) front) c.append.ensures c.args.self.now.spool.since
 
 pub invariant_of-self-in-Err-clause-whole : goal.invariant_of-self-in-Err-clause-whole
 invariant_of-self-in-Err-clause-whole c = c.in-Err.ensures.taken ∙ append-nil _ ∙ c.args.self.now.whole

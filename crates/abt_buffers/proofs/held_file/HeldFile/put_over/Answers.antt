@@ -1,7 +1,7 @@
-use Rattle.std.proofs.Common.{◌≡◌, ◌≤◌, ◌+◌, List, ℕ, length, take, ap, ◌∙◌, arith}
+use Rattle.std.proofs.Common.{◌≡◌, ◌≤◌, ◌+◌, length, take, ap, arith}
 use Rattle.std.proofs.lemmas.List.{length-take-le}
 use Rattle.abt_io.specs.Frame.{Logged}
-use Rattle.abt_buffers.proofs.Sent.{Settled, sent_over}
+use Rattle.abt_buffers.proofs.Sent.{sent_over}
 use Rattle.abt_buffers.proofs.held_file.HeldFile.put_over.Goals as goal
 
 pub invariant_of-self-2-clause-faithful : goal.invariant_of-self-2-clause-faithful
@@ -13,5 +13,5 @@ invariant_of-self-2-clause-faithful g c = λ sound.
     let long : length x ≡ c.in_ok-n.n = length-take-le c.in_ok-n.n c.args.bytes.now e.within in
     let fits : c.args.at + length x ≤ s.sent = omega (arith, long, e.within, settled.reach) in
     sent_over _ _ s.held.items s.given.state.bytes _ x s.sent c.args.at
-        record { sends = s.sends; stand = s.stand; none = settled.none }
-        (settled.all sound) e.written fits (ap (λ (l : Logged). l.bytes) c.put.ensures)
+    record { sends = s.sends; stand = s.stand; none = settled.none }
+    (settled.all sound) e.written fits (ap (λ (l : Logged). l.bytes) c.put.ensures)
