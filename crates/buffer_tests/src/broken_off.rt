@@ -1,18 +1,24 @@
 //! A file that breaks off has the same bytes where what it is given last is held, as where it is given each at once.
 
+ghost use Rattle.std.specs.Prelude.{◌≡◌};
+ghost use Rattle.std.specs.Io.{WritesAtMost};
+ghost use Rattle.abt_io.specs.Frame.{nothing_logged};
+
 use crate::made::{Random, bytes, part};
 use abt_buffers::{HeldFile, Room, Under};
+use abt_io::Log;
 use std::alloc::Global;
 use std::io;
 
 // What the system refuses a write with that goes beyond the longest file.
 const TOO_LONG: i32 = 27;
 
-// How many bytes a call writes: of a fragmented image, of one with headers alone, and of one in long runs.
+// How many bytes a call writes: of a fragmented image, of one with headers alone, and of one in long runs. What has 16 KiB
+// or more is not held.
 const MIXES: [[usize; 8]; 3] = [
     [12, 12, 12, 12, 100, 4096, 8192, 12_288],
     [1, 4, 4, 12, 12, 12, 16, 28],
-    [12, 4095, 4096, 4097, 32_768, 65_524, 65_535, 65_536],
+    [12, 4096, 16_383, 16_384, 16_385, 32_768, 65_524, 65_536],
 ];
 
 // How many calls are made at most.
@@ -23,19 +29,24 @@ const TURNS: u32 = 1500;
 struct Broken {
     bytes: Vec<u8>,
     room: usize,
+    sent: Log,
 }
 
 impl Broken {
-    fn new(alloc: Global, room: usize) -> Broken {
+    fn new(alloc: Global, room: usize) -> Broken
+        ensures { result.sent.state ≡ nothing_logged }
+    {
         Broken {
             bytes: Vec::new(alloc),
             room,
+            sent: Log::new(),
         }
     }
-}
 
-impl Under for Broken {
-    fn put_at(&mut self, at: u64, bytes: &[u8]) -> io::Result<usize> {
+    fn write(&mut self, at: u64, bytes: &[u8]) -> io::Result<usize>
+        ensures bound { WritesAtMost result bytes.now }
+        ensures sent { self.new.sent.state ≡ self.old.sent.state }
+    {
         let at = at.min(self.room as u64) as usize;
         let n = bytes.len().min(self.room - at);
         let there = self.bytes.len();
@@ -47,6 +58,20 @@ impl Under for Broken {
         match self.bytes.extend_from_slice(&bytes[over..n]) {
             Ok(()) => Ok(n),
             Err(_) => Err(io::Error::from_raw_os_error(TOO_LONG)),
+        }
+    }
+}
+
+impl Under for Broken {
+    ghost stands = { λ b. b.sent.state.bytes };
+
+    fn put_at(&mut self, at: u64, bytes: &[u8]) -> io::Result<usize> {
+        match self.write(at, bytes) {
+            Ok(n) => {
+                self.sent.put(&bytes[..n], at);
+                Ok(n)
+            }
+            Err(error) => Err(error),
         }
     }
 }
@@ -124,23 +149,24 @@ fn all<F: Form>(form: &mut F, at: Option<u64>, bytes: &[u8]) -> bool {
     false
 }
 
-/// The calls of an image, up to the first that fails.
-fn given<F: Form>(form: &mut F, text: &[u8], image: u64) {
+/// The calls of an image, up to the first that fails: whether none did.
+fn given<F: Form>(form: &mut F, text: &[u8], image: u64) -> bool {
     let mut random = Random::new(image);
     let mut length = 0u64;
     for _ in 0..TURNS {
         let (at, count) = next(&mut random, length, image);
         let some = part(text, random.to(30_000), count);
         if !all(form, at, some) {
-            return;
+            return false;
         }
         if at.is_none() {
             length = length.saturating_add(some.len() as u64);
         }
     }
+    true
 }
 
-/// Most images break off: then what is held can't be written, as often as it is tried.
+/// Most images break off: then a write is refused, or what is held can't be written.
 #[test]
 fn a_file_that_breaks_off_is_the_same_where_bytes_are_held(rt: HostRuntime) {
     let text = bytes(rt.alloc(), 100_000);
@@ -153,15 +179,27 @@ fn a_file_that_breaks_off_is_the_same_where_bytes_are_held(rt: HostRuntime) {
         };
         let held = Room::new(rt.alloc()).ok().expect(&rt, "there is memory");
         let mut other = HeldFile::new(Broken::new(rt.alloc(), room), held);
-        given(&mut one, text.as_slice(), image);
-        given(&mut other, text.as_slice(), image);
-        assert!(rt;
-            other.settle().is_ok() == (one.file.bytes.len() < room),
-            "image {image}"
-        );
+        let one_took = given(&mut one, text.as_slice(), image);
+        let took = given(&mut other, text.as_slice(), image);
+        let settled = other.settle().is_ok();
+        assert!(rt; one_took == (took && settled), "image {image}");
         let want = one.file.bytes.as_slice();
         assert!(rt; other.file().bytes.as_slice() == want, "image {image}");
     }
+}
+
+/// A file comes to its end with all that it was given, or to none.
+#[test]
+fn a_file_ends_with_all_that_it_was_given(rt: HostRuntime) {
+    let held = Room::new(rt.alloc()).ok().expect(&rt, "there is memory");
+    let mut file = HeldFile::new(Broken::new(rt.alloc(), 30), held);
+    assert!(rt; Form::put(&mut file, b"abcdefghijklmnopqrstuvwxyz") == Some(26));
+    let ended = file.end().ok().expect(&rt, "ends");
+    assert!(rt; ended.bytes.as_slice() == b"abcdefghijklmnopqrstuvwxyz".as_slice());
+    let held = Room::new(rt.alloc()).ok().expect(&rt, "there is memory");
+    let mut file = HeldFile::new(Broken::new(rt.alloc(), 20), held);
+    assert!(rt; Form::put(&mut file, b"abcdefghijklmnopqrstuvwxyz") == Some(26));
+    assert!(rt; file.end().is_err());
 }
 
 /// A header behind the front is laid over what is held, and one at the front in the file, behind all else.

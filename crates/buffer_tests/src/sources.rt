@@ -1,13 +1,13 @@
 //! A source that is read ahead gives what a `FileSource` gives.
 
 use crate::made::{Random, bytes, part};
-use abt_buffers::AheadSource;
+use abt_buffers::{AheadFile, AheadSource};
 use abt_io::{DeviceFault, FileSource, Source};
 use std::fs;
-use std::fs::File;
+use std::fs::{File, OpenOptions};
 
-// Lengths on both sides of the least one that is read ahead, and one that is long.
-const SIZES: [usize; 4] = [65_535, 65_536, 65_537, 200_001];
+// Lengths on both sides of what is read at once, and one that is long.
+const SIZES: [usize; 8] = [0, 1, 255, 257, 4095, 4097, 65_536, 200_001];
 
 // Asks on both sides of the most that goes through what is held, and of what is read at once.
 const ASKS: [usize; 16] = [
@@ -50,7 +50,8 @@ fn a_source_that_is_read_ahead_gives_what_a_file_gives(rt: HostRuntime) {
         let other = File::open(&rt, "ahead.tmp").expect(&rt, "opens");
         let mut one = FileSource::new(one).expect(&rt, "has a length");
         let other = FileSource::new(other).expect(&rt, "has a length");
-        let mut other = AheadSource::new(other);
+        let other = AheadFile::new(other);
+        let mut other = AheadSource::new(rt.alloc(), &other);
         assert!(rt; one.length() == *size as u64);
         assert!(rt; other.length() == *size as u64);
         let mut random = Random::new(seed as u64);
@@ -58,7 +59,7 @@ fn a_source_that_is_read_ahead_gives_what_a_file_gives(rt: HostRuntime) {
         let mut before = 0;
         let mut want = [0; MOST];
         let mut have = [0; MOST];
-        for call in 0..1500u32 {
+        for call in 0..800u32 {
             let at = place(&mut random, behind, before, *size as u64);
             let ask = random.of(&ASKS);
             let wanted = answered(&mut one, at, ask, &mut want);
@@ -79,7 +80,8 @@ fn a_source_that_is_read_ahead_gives_what_a_file_gives(rt: HostRuntime) {
 #[test]
 fn a_source_without_a_file_gives_nothing(rt: HostRuntime) {
     let mut out = [0; MOST];
-    let mut source = AheadSource::new(FileSource::empty());
+    let file = AheadFile::new(FileSource::empty());
+    let mut source = AheadSource::new(rt.alloc(), &file);
     assert!(rt; source.length() == 0);
     assert!(rt; answered(&mut source, 0, 12, &mut out) == Ok(0));
 }
@@ -94,8 +96,36 @@ fn a_read_that_fails_is_told(rt: HostRuntime) {
         size: 100_000,
         ..FileSource::empty()
     };
-    let mut source = AheadSource::new(source);
+    let file = AheadFile::new(source);
+    let mut source = AheadSource::new(rt.alloc(), &file);
     assert!(rt; answered(&mut source, 0, 12, &mut out) == Err(DeviceFault::Failed));
     assert!(rt; answered(&mut source, 0, 12, &mut out) == Err(DeviceFault::Failed));
     assert!(rt; answered(&mut source, 0, 300, &mut out) == Err(DeviceFault::Failed));
+}
+
+/// A file that got shorter is told where what is missing was given from memory since the piece began, and not else.
+#[test]
+fn a_file_that_got_shorter_is_told(rt: HostRuntime) {
+    let mut out = [0; MOST];
+    fs::write(&rt, "short.tmp", bytes(rt.alloc(), 9000).as_slice()).expect(&rt, "is written");
+    let mut options = OpenOptions::new();
+    let file = options
+        .write(true)
+        .open(&rt, "short.tmp")
+        .expect(&rt, "opens");
+    let read = File::open(&rt, "short.tmp").expect(&rt, "opens");
+    let from = AheadFile::new(FileSource::new(read).expect(&rt, "has a length"));
+    let mut source = AheadSource::new(rt.alloc(), &from);
+    assert!(rt; source.shorter() == None);
+    assert!(rt; answered(&mut source, 100, 12, &mut out) == Ok(12));
+    assert!(rt; answered(&mut source, 112, 12, &mut out) == Ok(12));
+    assert!(rt; file.set_len(124).is_ok());
+    assert!(rt; source.shorter() == None);
+    assert!(rt; file.set_len(123).is_ok());
+    assert!(rt; source.shorter() == Some(123));
+    assert!(rt; answered(&mut source, 112, 12, &mut out) == Ok(12));
+    source.forget();
+    assert!(rt; source.shorter() == None);
+    assert!(rt; answered(&mut source, 112, 12, &mut out) == Ok(11));
+    assert!(rt; source.shorter() == None);
 }

@@ -1,25 +1,30 @@
 //! A spool that gathers takes and gives what a `FileSpool` does, and has the same in its file once it is read or settled.
 
 use crate::made::{Random, bytes, part};
-use abt_buffers::GatheringSpool;
-use abt_io::{DeviceFault, FileSpool, Input, Output, Spool, WINDOW};
+use abt_buffers::{AheadFile, AheadSource, GatheringSpool};
+use abt_io::{DeviceFault, FileSource, FileSpool, Input, Output, Source, Spool, WINDOW};
 use std::alloc::Alloc;
 use std::fs;
 use std::fs::{File, OpenOptions};
 use std::process::Abort;
 use std::rt::Files;
 
-// Capacities on both sides of the least one that gathers, and one that takes several windows.
-const CAPACITIES: [usize; 4] = [65_535, 65_536, 65_537, 300_001];
+// Capacities on both sides of what is held at most, one that takes several windows, and small ones.
+const CAPACITIES: [usize; 6] = [1, 100, 5000, 65_535, 65_537, 300_001];
 
 // How many bytes a call moves.
 const COUNTS: [usize; 16] = [
-    0, 1, 4, 12, 12, 12, 12, 28, 100, 255, 256, 257, 4084, 4096, 20_000, 65_536,
+    0, 1, 4, 12, 12, 12, 28, 100, 256, 257, 4084, 4096, 16_383, 16_384, 20_000, 65_536,
 ];
 
 /// An empty file of this name, opened for reading and writing.
 fn opened<R: Files + Abort>(rt: &R, name: &str) -> R::File {
     fs::write(rt, name, "").expect(rt, "is written");
+    opened_as_it_is(rt, name)
+}
+
+/// A file of this name, opened for reading and writing.
+fn opened_as_it_is<R: Files + Abort>(rt: &R, name: &str) -> R::File {
     let mut options = OpenOptions::new();
     options.read(true).write(true);
     options.open(rt, name).expect(rt, "opens")
@@ -58,12 +63,13 @@ fn a_spool_that_gathers_does_what_a_file_does(rt: HostRuntime) {
     let text = bytes(rt.alloc(), 100_000);
     for (seed, capacity) in CAPACITIES.iter().enumerate() {
         let mut one = FileSpool::new(opened(&rt, "one.tmp"), *capacity as u64);
-        let other = FileSpool::new(opened(&rt, "other.tmp"), *capacity as u64);
-        let mut other = GatheringSpool::new(other);
+        let from = AheadFile::new(FileSource::empty());
+        let file = opened(&rt, "other.tmp");
+        let mut other = GatheringSpool::new(rt.alloc(), file, *capacity as u64, &from);
         let mut random = Random::new(seed as u64);
         let mut want = bytes(rt.alloc(), WINDOW);
         let mut have = bytes(rt.alloc(), WINDOW);
-        for turn in 0..500u32 {
+        for turn in 0..400u32 {
             let call = random.to(30).min(9);
             let call = if call == 9 && random.to(9) > 0 {
                 random.to(8)
@@ -92,11 +98,12 @@ fn a_spool_that_gathers_does_what_a_file_does(rt: HostRuntime) {
     }
 }
 
-/// Bytes that a spool took are in its file once it is read or settled, and those of a short one at once.
+/// Bytes that a spool took are in its file once it is read or settled, and many of them at once.
 #[test]
 fn a_spool_that_gathers_is_written_late(rt: HostRuntime) {
     let mut out = [0u8; 3];
-    let mut spool = GatheringSpool::new(FileSpool::new(opened(&rt, "late.tmp"), 65_536));
+    let from = AheadFile::new(FileSource::empty());
+    let mut spool = GatheringSpool::new(rt.alloc(), opened(&rt, "late.tmp"), 65_536, &from);
     fs::write(&rt, "abc.tmp", "abc").expect(&rt, "is written");
     fs::write(&rt, "empty.tmp", "").expect(&rt, "is written");
     assert!(rt; called(&mut spool, 0, b"abc", &mut []) == Ok(3));
@@ -104,21 +111,48 @@ fn a_spool_that_gathers_is_written_late(rt: HostRuntime) {
     assert!(rt; called(&mut spool, 6, b"", &mut out) == Ok(3));
     assert!(rt; out == *b"abc");
     assert!(rt; same(&rt, "late.tmp", "abc.tmp"));
-    let mut spool = GatheringSpool::new(FileSpool::new(opened(&rt, "late.tmp"), 65_535));
-    assert!(rt; called(&mut spool, 0, b"abc", &mut []) == Ok(3));
-    assert!(rt; same(&rt, "late.tmp", "abc.tmp"));
+    let many = bytes(rt.alloc(), 16_384);
+    fs::write(&rt, "many.tmp", many.as_slice()).expect(&rt, "is written");
+    let mut spool = GatheringSpool::new(rt.alloc(), opened(&rt, "late.tmp"), 65_536, &from);
+    assert!(rt; called(&mut spool, 0, many.as_slice(), &mut []) == Ok(16_384));
+    assert!(rt; same(&rt, "late.tmp", "many.tmp"));
 }
 
-/// What can't be written is refused where it is read, and as often as the spool is settled, until it is emptied.
+/// What can't be written is refused where it is read, and by every call until the spool was cleared, of which the first try
+/// is refused too.
 #[test]
 fn a_gathered_write_that_fails_is_told_later(rt: HostRuntime) {
     let mut out = [0u8; 2];
+    let from = AheadFile::new(FileSource::empty());
     fs::write(&rt, "unwritten.tmp", "....").expect(&rt, "is written");
     let file = File::open(&rt, "unwritten.tmp").expect(&rt, "opens");
-    let mut spool = GatheringSpool::new(FileSpool::new(file, 65_536));
+    let mut spool = GatheringSpool::new(rt.alloc(), file, 65_536, &from);
     assert!(rt; called(&mut spool, 0, b"ab", &mut []) == Ok(2));
     assert!(rt; called(&mut spool, 6, b"", &mut out) == Err(DeviceFault::Failed));
     assert!(rt; spool.settle() == Err(DeviceFault::Failed));
+    assert!(rt; called(&mut spool, 0, b"ab", &mut []) == Err(DeviceFault::Failed));
+    assert!(rt; called(&mut spool, 9, b"", &mut []) == Err(DeviceFault::Failed));
     assert!(rt; spool.settle() == Err(DeviceFault::Failed));
+    assert!(rt; !spool.is_from_short());
     assert!(rt; spool.capacity() == 65_536);
+}
+
+/// A spool gives nothing back where the file is shorter that its bytes came from.
+#[test]
+fn a_spool_is_not_read_where_its_source_got_shorter(rt: HostRuntime) {
+    let mut out = [0u8; 12];
+    fs::write(&rt, "from.tmp", bytes(rt.alloc(), 9000).as_slice()).expect(&rt, "is written");
+    let file = opened_as_it_is(&rt, "from.tmp");
+    let read = File::open(&rt, "from.tmp").expect(&rt, "opens");
+    let from = AheadFile::new(FileSource::new(read).expect(&rt, "has a length"));
+    let mut source = AheadSource::new(rt.alloc(), &from);
+    let mut spool = GatheringSpool::new(rt.alloc(), opened(&rt, "through.tmp"), 65_536, &from);
+    assert!(rt; called(&mut spool, 9, b"", &mut []) == Ok(0));
+    assert!(rt; source.read_at(100, &mut out) == Ok(12));
+    assert!(rt; called(&mut spool, 0, &out, &mut []) == Ok(12));
+    assert!(rt; file.set_len(50).is_ok());
+    assert!(rt; called(&mut spool, 6, b"", &mut out) == Err(DeviceFault::Failed));
+    assert!(rt; spool.is_from_short());
+    assert!(rt; called(&mut spool, 9, b"", &mut []) == Ok(0));
+    assert!(rt; source.read_at(100, &mut out) == Ok(0));
 }
