@@ -44,7 +44,6 @@ pub(crate) fn open_lasting(
 }
 
 /// The fault of an image that ends at this place.
-pub(crate) fn ends_at(at: u64) -> SparseFault
-{
+pub(crate) fn ends_at(at: u64) -> SparseFault {
     SparseFault::Truncated { at }
 }

@@ -1,6 +1,6 @@
 //! Several sparse images laid over one another, as the pieces of a cut are: the command `expand IN.. OUT`.
 
-ghost use Rattle.std.specs.Prelude.{IfSome, IsErr};
+ghost use Rattle.std.specs.Prelude.{◌≡◌, None, IfSome, IsSome};
 
 use crate::lasting::{ends_at, open_lasting};
 use abt_buffers::{AheadFile, AheadSource};
@@ -11,6 +11,7 @@ use abt_io::{FileSource, Forward, Meter, Source, Window};
 use abt_output::{Finished, Report};
 use abt_refusals::{HostFault, Place, Sides};
 use abt_runs::BlockRuns;
+use abt_sparse::SparseFault;
 use sparse_rules::{SparseCommandFault, SparseRefusal, image_place};
 
 /// How many blocks an image has, and how many bytes each.
@@ -42,11 +43,9 @@ pub(crate) fn overlay<'a>(
         let file = AheadFile::new(source);
         let mut from = Forward::new(AheadSource::new(writing.alloc, &file));
         let mut watched = Watched::new(&mut from, &mut report.progress);
-        let answer = match flash(&mut watched, &mut zeros, w, m) {
-            Ok(_) => whole(file.shorter()),
-            Err(fault) => Err(fault),
-        };
-        if let Err(fault) = answer {
+        let answer = flash(&mut watched, &mut zeros, w, m);
+        let answer = lasting(answer.err(), file.shorter());
+        if let Some(fault) = answer {
             let sides = Sides::none()
                 .reading(image_place(input), None)
                 .begun(output, None);
@@ -57,13 +56,22 @@ pub(crate) fn overlay<'a>(
     Ok((Expanded { blocks, bytes }, finished))
 }
 
-// Refuses an image that was laid, where its file has so many bytes now and that is less than was given of it.
-fn whole(now: Option<u64>) -> Result<(), FlashFault>
-    ensures { IfSome now (λ _. IsErr result) }
+// Why an image was not laid whole, where its file has so many bytes now if that is less than was given of it: then it ends
+// there.
+fn lasting(fault: Option<FlashFault>, now: Option<u64>) -> Option<FlashFault>
+    ensures whole { now ≡ None → result ≡ fault }
+    ensures shorter { IfSome now (λ _. IsSome result) }
+    ensures told { IsSome fault → IsSome result }
 {
-    match now {
-        Some(at) => Err(FlashFault::Sparse(ends_at(at))),
-        None => Ok(()),
+    let Some(at) = now else {
+        return fault;
+    };
+    match fault {
+        None => Some(FlashFault::Sparse(ends_at(at))),
+        Some(FlashFault::Sparse(SparseFault::Truncated { .. })) => {
+            Some(FlashFault::Sparse(ends_at(at)))
+        }
+        Some(fault) => Some(fault),
     }
 }
 

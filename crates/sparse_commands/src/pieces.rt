@@ -1,7 +1,7 @@
 //! The pieces of a sparse or a raw image, each written to a file of its own.
 
-use crate::late_writes::stopped;
 use crate::lasting::{lasting, open_lasting};
+use crate::late_writes::stopped;
 use abt_buffers::{AheadFile, AheadSource};
 use abt_host::Watched;
 use abt_io::{Meter, Output, Window};
