@@ -2,10 +2,16 @@
 """Writes a sparse image of any size directly, without its raw form.
 
   make_sparse.py OUT [--mib 1024] [--block 4096] [--run 256] [--chunks N] [--shares 40,30,10,20]
+  make_sparse.py OUT --like runs|mixed|single
 
 The shares are per cent of raw data, zero fill, other fill and don't care. They come in turn, in runs of `--run` blocks, so
 that every kind stands all over the image. With --chunks N the image has N chunks of one block each in the same turn.
 The bytes are the same at every run: nothing is random.
+
+The images of docs/PERF.md have names:
+  runs    512 MiB in runs of 1 MiB
+  mixed   512 MiB in runs of 1 to 3 blocks of 4,096 bytes: raw, fill, raw and don't care in turn, so that no two join
+  single  1,000,000 chunks of one block of 4 bytes
 """
 import argparse
 import struct
@@ -20,6 +26,12 @@ def chunk(kind, blocks, data_len):
 
 
 RAW, FILL, SKIP = 0xCAC1, 0xCAC2, 0xCAC3
+# The words of an image that has a name. In an order of its own runs are 1 to `run` blocks long.
+LIKE = {
+    "runs": {"mib": 512},
+    "mixed": {"mib": 512, "run": 3, "order": ("raw", "zero", "raw", "skip", "raw", "other", "raw", "skip")},
+    "single": {"block": 4, "chunks": 1000000},
+}
 
 
 def turns(shares):
@@ -35,6 +47,16 @@ def turns(shares):
     return order
 
 
+def lengths(blocks, run, is_varied):
+    """How many blocks each run has, which are `blocks` in all."""
+    found, state = [], 1
+    while blocks:
+        state = (state * 6364136223846793005 + 1442695040888963407) % 2**64
+        found.append(min(blocks, 1 + (state >> 33) % run if is_varied else run))
+        blocks -= found[-1]
+    return found
+
+
 def main():
     parser = argparse.ArgumentParser(description=__doc__, formatter_class=argparse.RawDescriptionHelpFormatter)
     parser.add_argument("out")
@@ -43,22 +65,19 @@ def main():
     parser.add_argument("--run", type=int, default=256)
     parser.add_argument("--chunks", type=int)
     parser.add_argument("--shares", default="40,30,10,20")
+    parser.add_argument("--like", choices=LIKE)
+    parser.set_defaults(order=())
     words = parser.parse_args()
-    order = turns([int(share) for share in words.shares.split(",")])
-    if words.chunks:
-        run, count = 1, words.chunks
-        blocks = count
-    else:
-        run = words.run
-        blocks = words.mib * 1024 * 1024 // words.block
-        count = -(-blocks // run)
+    vars(words).update(LIKE.get(words.like, {}))
+    order = words.order or turns([int(share) for share in words.shares.split(",")])
+    run = 1 if words.chunks else words.run
+    blocks = words.chunks or words.mib * 1024 * 1024 // words.block
+    runs = lengths(blocks, run, bool(words.order))
     page = bytes((i * 7 + i // 251) & 255 for i in range(words.block))
     raw = b"".join(struct.pack("<I", i) + page[4:] for i in range(run))
     with open(words.out, "wb", buffering=1 << 20) as out:
-        out.write(header(words.block, blocks, count))
-        done = 0
-        for index in range(count):
-            size = min(run, blocks - done)
+        out.write(header(words.block, blocks, len(runs)))
+        for index, size in enumerate(runs):
             kind = order[index % len(order)]
             if kind == "raw":
                 out.write(chunk(RAW, size, size * words.block))
@@ -68,7 +87,6 @@ def main():
             else:
                 out.write(chunk(FILL, size, 4))
                 out.write(b"\0\0\0\0" if kind == "zero" else struct.pack("<I", 0x5A000000 + index))
-            done += size
 
 
 if __name__ == "__main__":
