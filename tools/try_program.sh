@@ -1,7 +1,7 @@
 #!/usr/bin/env bash
 # Tries the built program where a proof can't, and a case of tests/cases/ neither: killed in the middle, on a terminal, by the
-# clock; how often a file is read, and how much memory that takes. Prints each thing that it tries, and ends with a line
-# 'N passed, M failed'; the status is 1 where one failed. It needs bash and coreutils.
+# clock; how often a file is read, and how much memory and stack that takes. Prints each thing that it tries, and ends with a
+# line 'N passed, M failed'; the status is 1 where one failed. It needs bash and coreutils.
 #
 #   tools/try_program.sh            the program is $ABOOTIMG, or build/abootimg
 #
@@ -160,6 +160,48 @@ if command -v python3 >/dev/null; then
 else
     echo "LEFT OUT  what a terminal shows: there is no python3"
 fi
+
+echo "== stack"
+# fits KIB WORDS..: the program ends well with so many KiB of stack. Where in them it begins differs by up to 8 KiB from one
+# start to the next, so it has five turns.
+fits() {
+    local size=$1
+    shift
+    for _ in 1 2 3 4 5; do
+        (ulimit -c 0 -s "$size" && exec env -i "$program" "$@" >out 2>err </dev/null) && return 0
+    done 2>/dev/null
+    return 1
+}
+truncate -s 4M place
+cp long.raw stands
+truncate -s 3002368 stands
+: >spool
+mkdir stack.parts
+while read -r size words; do
+    try "$words: with $size KiB" fits "$size" $words
+done <<'END'
+64 expand long.simg long.again
+64 list long.simg
+64 sparse long.raw again.simg
+64 cut long.simg 1M cut
+64 cut long.raw 1M raw --raw 4096
+64 expand cut.1 cut.2 cut.3 long.again
+64 flash long.simg place
+64 flash long.simg place 1M spool
+64 flash long.raw place --raw 4096
+64 flash long.raw place 1M spool --raw 4096
+64 verify long.simg stands
+64 verify long.raw stands --raw 4096
+64 completions bash
+64 --help
+112 pack --version 2 --kernel kernel --ramdisk ramdisk stack.img
+112 pack --version 4 --kernel kernel --ramdisk ramdisk stack.img
+112 pack --vendor --version 4 --dtb kernel vendor.img platform:a:ramdisk
+112 repack stack.img stack.again --ramdisk kernel
+112 unpack stack.img stack.parts
+112 info stack.img
+112 info --check stack.img
+END
 
 echo "== resident memory"
 # below LIMIT WORDS..: at no moment more KiB of the program are resident than the limit.
