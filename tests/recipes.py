@@ -100,6 +100,8 @@ class Recipe:
                 chunks.append((CRC32, 0, struct.pack("<I", int(self.next(), 16))))
             elif kind == "words":
                 chunks += [(FILL, 1, struct.pack("<I", it)) for it in range(self.number())]
+            elif kind == "gaps":
+                chunks += self.number() * [(SKIP, 1, b"")]
             else:
                 raise ValueError(f"{kind}: no kind of chunk")
         blocks = sum(count for _, count, _ in chunks)

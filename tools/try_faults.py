@@ -9,6 +9,7 @@ touched. The last line is 'N passed, M failed'. Where strace is not there, or ma
 """
 import argparse
 import concurrent.futures
+import fnmatch
 import os
 import re
 import subprocess
@@ -87,11 +88,16 @@ def calls_of(case, environment):
     return in_room(case, environment, lambda room: list(traced(room)))
 
 
+def is_written(run, path):
+    """Whether a case says that this file is written."""
+    return path in run.files or any(fnmatch.fnmatch(path, it) for it in run.free)
+
+
 def trials_of(case, environment):
     """Each call of the program, failing."""
     run = case.runs[0]
     for call, number, path in calls_of(case, environment):
-        is_output = path in run.files or (path or "").startswith("pipe:")
+        is_output = is_written(run, path or "") or (path or "").startswith("pipe:")
         for error in ("EIO",) + ERRORS.get(call, ()):
             yield Trial(case, call, number, error, call in TOLD and is_output)
 
@@ -108,7 +114,7 @@ def wrong_of(trial, environment):
             printed = "".join(it + "\n" for it in run.lines["out"]).encode()
             wrong += ["it is not printed what should be"] if done.stdout != printed else []
             return wrong + (["the status is 0"] if trial.must_refuse else [])
-        touched = [it for it in room.before if it not in run.files and after.get(it) != room.before[it]]
+        touched = [it for it in room.before if not is_written(run, it) and after.get(it) != room.before[it]]
         wrong = [f"{it} was touched" for it in touched]
         is_told = done.returncode == 1 and done.stderr.startswith(b"abootimg: ")
         are_fewer_words = done.returncode == 2 and "@" in run.line and not trial.error
