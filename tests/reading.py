@@ -91,10 +91,15 @@ def recipes_of(text):
     return dict(recipe_of(line) for _, line in joined(text))
 
 
-def rows_of(lines):
-    """The rows of a case's table, each a dictionary; one without entries where there is no table."""
-    table = [[it.strip() for it in CELLS.split(line[1:])] for line in lines if line.startswith("|")]
+def table_of(lines, mark):
+    """The rows of the table whose lines begin with this mark, each a dictionary; one without entries where there is none."""
+    table = [[it.strip() for it in CELLS.split(line[len(mark) :])] for line in lines if line.split(" ")[0] == mark]
     return [dict(zip(table[0], row)) for row in table[1:]] or [{}]
+
+
+def rows_of(lines):
+    """The rows that a case is run for: each of its table, with each of its second one."""
+    return [{**row, **other} for row in table_of(lines, "|") for other in table_of(lines, "||")]
 
 
 def filled(line, row):
