@@ -1,9 +1,10 @@
 #!/usr/bin/env bash
 # Refuses each allocation of each command in turn: the Nth call of malloc, calloc or realloc, for N from 1 until a run ends
 # clean. Each run must print `abootimg: memory` and end with status 1, or give what it gives with memory. Pieces that `cut` had
-# written before stand, as its lines say. Nothing in the gate runs this.
+# written before stand, as its lines say. Then each allocation of a buffer in turn: all but the window and the 4 KiB of a file
+# that is written are for speed alone, so the command goes on without them. Nothing in the gate runs this.
 #
-#   tools/refuse_memory.sh           the program is $ABOOTIMG, or crates/abootimg/out/abootimg; needs gcc
+#   tools/refuse_memory.sh [buffers]     the program is $ABOOTIMG, or crates/abootimg/out/abootimg; needs gcc. `buffers`: these alone
 set -uo pipefail
 here=$(cd "$(dirname "$0")/.." && pwd)
 program=$(realpath "${ABOOTIMG:-$here/crates/abootimg/out/abootimg}")
@@ -16,7 +17,11 @@ cd "$work"
 { printf 'ANDROID!\001' && head -c 27 /dev/zero && printf '\000\010' && head -c 2010 /dev/zero && printf 'K'; } > boot.img
 { cat boot.img && head -c 4000 /dev/zero; } > longer.img
 mkdir parts
-truncate -s 8192 part
+head -c 70000 /dev/urandom > big.raw
+head -c 30000 /dev/zero >> big.raw
+head -c 150000 /dev/urandom >> big.raw
+truncate -s 253952 big.raw
+"$program" sparse big.raw big.simg > told || exit 1
 printf '%s\n' --version 4 --kernel image.simg > words
 "$program" cut image.simg 1200 one > told || exit 1
 
@@ -28,12 +33,14 @@ cat > refuse.c <<'C'
 
 static long calls, refused;
 
-/* Whether this call is the one to refuse. That it was is told through descriptor 9. */
-static int refuse(void) {
+/* Whether this call is the one to refuse, of all or of those of buffers, whose sizes are powers of two from 4,096 on. No word
+   of the command line takes so many. That it was is told through descriptor 9. */
+static int refuse(size_t size) {
     if (!refused) {
         const char *n = getenv("REFUSE");
         refused = n ? atol(n) : -1;
     }
+    if (getenv("BUFFERS") && (size < 4096 || (size & (size - 1)))) return 0;
     if (++calls != refused) return 0;
     (void)!write(9, "refused", 7);
     return 1;
@@ -41,22 +48,22 @@ static int refuse(void) {
 void *malloc(size_t size) {
     static void *(*next)(size_t);
     if (!next) next = (void *(*)(size_t))dlsym(RTLD_NEXT, "malloc");
-    return refuse() ? NULL : next(size);
+    return refuse(size) ? NULL : next(size);
 }
 void *realloc(void *block, size_t size) {
     static void *(*next)(void *, size_t);
     if (!next) next = (void *(*)(void *, size_t))dlsym(RTLD_NEXT, "realloc");
-    return refuse() ? NULL : next(block, size);
+    return refuse(size) ? NULL : next(block, size);
 }
 void *aligned_alloc(size_t align, size_t size) {
     static void *(*next)(size_t, size_t);
     if (!next) next = (void *(*)(size_t, size_t))dlsym(RTLD_NEXT, "aligned_alloc");
-    return refuse() ? NULL : next(align, size);
+    return refuse(size) ? NULL : next(align, size);
 }
 int posix_memalign(void **block, size_t align, size_t size) {
     static int (*next)(void **, size_t, size_t);
     if (!next) next = (int (*)(void **, size_t, size_t))dlsym(RTLD_NEXT, "posix_memalign");
-    return refuse() ? 12 : next(block, align, size);
+    return refuse(size) ? 12 : next(block, align, size);
 }
 C
 gcc -shared -fPIC -O1 -o refuse.so refuse.c -ldl
@@ -64,7 +71,8 @@ gcc -shared -fPIC -O1 -o refuse.so refuse.c -ldl
 run() { # N words
     local n=$1
     shift
-    rm -f raw.img piece.* parts/*
+    rm -f raw.img piece.* parts/* part
+    truncate -s 260K part
     REFUSE=$n LD_PRELOAD=$work/refuse.so "$program" "$@" > out 2> err 9> told < image.simg
     status=$?
 }
@@ -81,7 +89,54 @@ pieces_stand() {
     cmp -s -n "$(stat -c %s out)" out want_out
 }
 
+# Refuses each allocation in turn, as $BUFFERS says, and leaves in $wants how often that ended the command.
+each_refused() { # words
+    # shellcheck disable=SC2086
+    run 0 $words
+    want_status=$status
+    cp out want_out && cp err want_err && cp part want_part
+    rm -f want_raw && [ -f raw.img ] && cp raw.img want_raw
+    rm -rf want_parts && cp -r parts want_parts
+    rm -rf want_pieces && mkdir want_pieces && cp piece.* want_pieces 2> /dev/null
+    wants=0
+    for n in $(seq 100000); do
+        # shellcheck disable=SC2086
+        run "$n" $words
+        if [ $status = 1 ] && [ "$(cat err)" = 'abootimg: memory' ]; then
+            wants=$((wants + 1))
+        elif [ $status != $want_status ] || ! cmp -s out want_out || ! cmp -s err want_err || ! cmp -s part want_part ||
+            { [ -f want_raw ] && ! cmp -s raw.img want_raw; } || ! diff -r parts want_parts > /dev/null; then
+            echo "abootimg $words: allocation $n refused: status $status, $(head -c 100 err)"
+            failed=1
+        fi
+        if ! pieces_stand; then
+            echo "abootimg $words: allocation $n refused: a piece before it does not stand"
+            failed=1
+        fi
+        [ -s told ] || break
+    done
+    echo "abootimg $words: $((n - 1)) allocations refused in turn, $wants times 'abootimg: memory' with status 1"
+}
+
 failed=0
+export BUFFERS=1
+while read -r most words; do
+    each_refused
+    if [ "$wants" -gt "$most" ]; then
+        echo "abootimg $words: only $most of these allocations may end it"
+        failed=1
+    fi
+done <<'END'
+3 cut big.simg 150K piece
+3 cut big.raw 150K piece --raw 4096
+2 sparse big.raw raw.img
+1 flash big.simg part 100K spool
+1 flash big.raw part 100K spool --raw 4096
+1 expand big.simg big.simg raw.img
+END
+[ "${1-}" = buffers ] && exit $failed
+
+unset BUFFERS
 for words in "" "list image.simg" "expand image.simg raw.img" "list no-such-file" "nothing" "--help" \
     "pack --version 2 --kernel image.simg --dtb image.simg --name board --os 13.0.0-2023-05 raw.img" \
     "pack --vendor --version 4 --dtb image.simg raw.img platform:a:image.simg none:b:image.simg" \
@@ -99,30 +154,6 @@ for words in "" "list image.simg" "expand image.simg raw.img" "list no-such-file
     "expand one.1 one.2 raw.img" "repack boot.img raw.img --ramdisk image.simg" \
     "repack longer.img raw.img --keep-trailing" "unpack --words boot.img parts" \
     "pack @words raw.img"; do
-    # shellcheck disable=SC2086
-    run 0 $words
-    want_status=$status
-    cp out want_out && cp err want_err
-    rm -f want_raw && [ -f raw.img ] && cp raw.img want_raw
-    rm -rf want_parts && cp -r parts want_parts
-    rm -rf want_pieces && mkdir want_pieces && cp piece.* want_pieces 2> /dev/null
-    wants=0
-    for n in $(seq 100000); do
-        # shellcheck disable=SC2086
-        run "$n" $words
-        if [ $status = 1 ] && [ "$(cat err)" = 'abootimg: memory' ]; then
-            wants=$((wants + 1))
-        elif [ $status != $want_status ] || ! cmp -s out want_out || ! cmp -s err want_err ||
-            { [ -f want_raw ] && ! cmp -s raw.img want_raw; } || ! diff -r parts want_parts > /dev/null; then
-            echo "abootimg $words: allocation $n refused: status $status, $(head -c 100 err)"
-            failed=1
-        fi
-        if ! pieces_stand; then
-            echo "abootimg $words: allocation $n refused: a piece before it does not stand"
-            failed=1
-        fi
-        [ -s told ] || break
-    done
-    echo "abootimg $words: $((n - 1)) allocations refused in turn, $wants times 'abootimg: memory' with status 1"
+    each_refused
 done
 exit $failed
