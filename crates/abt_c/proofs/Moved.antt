@@ -17,8 +17,8 @@ use Rattle.abt_chunks.specs.declared.walk.Phase.TheVariants as phases
 use Rattle.abt_chunks.specs.declared.walk.Walk.{Walk}
 use Rattle.abt_c.specs.declared.state.AbtPart.{AbtPart}
 use Rattle.abt_c.specs.declared.state.AbtSparse.{AbtSparse}
-use Rattle.abt_c.specs.Moving.{Moves, chunk_ended, left_to_do}
-use Rattle.abt_c.specs.Standing.{Stands, header_of, kind_of, kind_or, phase_number}
+use Rattle.abt_c.specs.Moving.{Moves, Nears, chunk_ended, left_to_do}
+use Rattle.abt_c.specs.Standing.{Stands, header_of, kept_detail, kept_fault, kind_of, kind_or, phase_number}
 use Rattle.abt_c.specs.Telling.{PartIs}
 use Rattle.abt_c.proofs.Carried.{due_back}
 
@@ -60,63 +60,93 @@ falls_in s s' p p' e f h = let a = todo_is s p e in let b = todo_is s' p' f in o
 
 -- ---- a pull
 
-pub moved : (q : Pull) (o : AbtPart) (s s' : AbtSparse) (p p' : Puller) (used n : ℕ) → o.used ≡ used → PartIs q o → Stands s p → Stands s' p'
-    → PullMoves q p.walk p'.walk used n → PullFalls q p.walk p'.walk → Moves o s s' n
-moved pulls.Need o s s' p p' used n u is e f m l = record {
-  raw = λ k. absurd (omega (arith, is.0, k));
-  fill = λ k. absurd (omega (arith, is.0, k));
-  skip = λ k. absurd (omega (arith, is.0, k));
-  nothing = λ k. absurd (omega (arith, is.0, k));
-  end = λ k. absurd (omega (arith, is.0, k));
-  falls = λ k j. absurd (omega (arith, is.0, k));
+going : (o : AbtPart) (s s' : AbtSparse) (k : ℕ) → o.kind ≡ k → k ≤ 4 → left_to_do s' < left_to_do s → Nears o s s'
+going o s s' k is le h = record {
+  falls = λ i j. h;
+  end = λ j. absurd (omega (arith, is, le, j));
+  fault = λ j. absurd (omega (arith, is, le, j));
 }
-moved (pulls.Gives (parts.Raw k)) o s s' p p' used n u is e f m l = record {
+
+-- what a pull leaves, where s' keeps the fault of its machine
+pub nears : (q : Pull) (o : AbtPart) (s s' : AbtSparse) (p p' : Puller) → PartIs q o → Stands s p → Stands s' p' → s'.fault ≡ kept_fault p'.walk.phase → s'.detail ≡ kept_detail p'.walk.phase
+    → PullFalls q p.walk p'.walk → PullLeaves q p' → Nears o s s'
+nears pulls.Need o s s' p p' is e f n d l x = record {
+  falls = λ i j. absurd (omega (arith, is.0, i));
+  end = λ j. absurd (omega (arith, is.0, j));
+  fault = λ j. absurd (omega (arith, is.0, j));
+}
+nears (pulls.Gives (parts.Raw k)) o s s' p p' is e f n d l x = going o s s' 1 is.0 (omega arith) (falls_in s s' p p' e f (l refl))
+nears (pulls.Gives (parts.Words word k)) o s s' p p' is e f n d l x = going o s s' 2 is.0 (omega arith) (falls_in s s' p p' e f (l refl))
+nears (pulls.Gives (parts.Skip k)) o s s' p p' is e f n d l x = going o s s' 3 is.0 (omega arith) (falls_in s s' p p' e f (l refl))
+nears (pulls.Gives parts.Nothing) o s s' p p' is e f n d l x = going o s s' 4 is.0 (omega arith) (falls_in s s' p p' e f (l refl))
+nears (pulls.Gives parts.End) o s s' p p' is e f n d l x = record {
+  falls = λ i j. absurd (omega (arith, is.0, j));
+  end = λ j. f.phase ∙ ap phase_number x;
+  fault = λ j. absurd (omega (arith, is.0, j));
+}
+nears (pulls.Gives (parts.Fault y)) o s s' p p' is e f n d l x = record {
+  falls = λ i j. absurd (omega (arith, is.0, j));
+  end = λ j. absurd (omega (arith, is.0, j));
+  fault = λ j. (f.phase ∙ ap phase_number x, n ∙ ap kept_fault x ∙ sym is.1, d ∙ ap kept_detail x ∙ sym is.2);
+}
+
+pub moved : (q : Pull) (o : AbtPart) (s s' : AbtSparse) (p p' : Puller) (used n : ℕ) → o.used ≡ used → PartIs q o → Stands s p → Stands s' p'
+    → PullMoves q p.walk p'.walk used n → Nears o s s' → Moves o s s' n
+moved pulls.Need o s s' p p' used n u is e f m near = record {
+  raw = λ j. absurd (omega (arith, is.0, j));
+  fill = λ j. absurd (omega (arith, is.0, j));
+  skip = λ j. absurd (omega (arith, is.0, j));
+  nothing = λ j. absurd (omega (arith, is.0, j));
+  end = λ j. absurd (omega (arith, is.0, j));
+  nears = near;
+}
+moved (pulls.Gives (parts.Raw k)) o s s' p p' used n u is e f m near = record {
   raw = λ j. (omega (arith, u, m.0), u ∙ m.1 ∙ ap (λ (v : ℕ). min v n) (sym e.raw));
   fill = λ j. absurd (omega (arith, is.0, j));
   skip = λ j. absurd (omega (arith, is.0, j));
   nothing = λ j. absurd (omega (arith, is.0, j));
   end = λ j. absurd (omega (arith, is.0, j));
-  falls = λ i j. falls_in s s' p p' e f (l refl);
+  nears = near;
 }
-moved (pulls.Gives (parts.Words word k)) o s s' p p' used n u is e f m l = record {
+moved (pulls.Gives (parts.Words word k)) o s s' p p' used n u is e f m near = record {
   raw = λ j. absurd (omega (arith, is.0, j));
   fill = λ j. (u ∙ m.0, ended_is s' p' f ∙ m.1);
   skip = λ j. absurd (omega (arith, is.0, j));
   nothing = λ j. absurd (omega (arith, is.0, j));
   end = λ j. absurd (omega (arith, is.0, j));
-  falls = λ i j. falls_in s s' p p' e f (l refl);
+  nears = near;
 }
-moved (pulls.Gives (parts.Skip k)) o s s' p p' used n u is e f m l = record {
+moved (pulls.Gives (parts.Skip k)) o s s' p p' used n u is e f m near = record {
   raw = λ j. absurd (omega (arith, is.0, j));
   fill = λ j. absurd (omega (arith, is.0, j));
   skip = λ j. (u ∙ m.0, ended_is s' p' f ∙ m.1);
   nothing = λ j. absurd (omega (arith, is.0, j));
   end = λ j. absurd (omega (arith, is.0, j));
-  falls = λ i j. falls_in s s' p p' e f (l refl);
+  nears = near;
 }
-moved (pulls.Gives parts.Nothing) o s s' p p' used n u is e f m l = record {
+moved (pulls.Gives parts.Nothing) o s s' p p' used n u is e f m near = record {
   raw = λ j. absurd (omega (arith, is.0, j));
   fill = λ j. absurd (omega (arith, is.0, j));
   skip = λ j. absurd (omega (arith, is.0, j));
   nothing = λ j. omega (arith, u, m);
   end = λ j. absurd (omega (arith, is.0, j));
-  falls = λ i j. falls_in s s' p p' e f (l refl);
+  nears = near;
 }
-moved (pulls.Gives parts.End) o s s' p p' used n u is e f m l = record {
+moved (pulls.Gives parts.End) o s s' p p' used n u is e f m near = record {
   raw = λ j. absurd (omega (arith, is.0, j));
   fill = λ j. absurd (omega (arith, is.0, j));
   skip = λ j. absurd (omega (arith, is.0, j));
   nothing = λ j. absurd (omega (arith, is.0, j));
   end = λ j. u ∙ m;
-  falls = λ i j. absurd (omega (arith, is.0, j));
+  nears = near;
 }
-moved (pulls.Gives (parts.Fault y)) o s s' p p' used n u is e f m l = record {
+moved (pulls.Gives (parts.Fault y)) o s s' p p' used n u is e f m near = record {
   raw = λ j. absurd (omega (arith, is.0, j));
   fill = λ j. absurd (omega (arith, is.0, j));
   skip = λ j. absurd (omega (arith, is.0, j));
   nothing = λ j. absurd (omega (arith, is.0, j));
   end = λ j. absurd (omega (arith, is.0, j));
-  falls = λ i j. absurd (omega (arith, is.0, j));
+  nears = near;
 }
 
 -- ---- an image that has ended

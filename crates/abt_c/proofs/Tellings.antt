@@ -10,7 +10,8 @@ use Rattle.abt_chunks.specs.declared.feed.Pull.{Pull}
 use Rattle.abt_chunks.specs.declared.feed.Pull.TheVariants as pulls
 use Rattle.abt_c.specs.declared.state.AbtPart.{AbtPart}
 use Rattle.abt_c.specs.declared.state.AbtSparse.{AbtSparse}
-use Rattle.abt_c.specs.Standing.{IsLeft, kept_fault, phase_number}
+use Rattle.abt_chunks.specs.declared.feed.Puller.{Puller}
+use Rattle.abt_c.specs.Standing.{CanKeep, Keeps, kept_detail, kept_fault, phase_number}
 use Rattle.abt_c.specs.Telling.{PartIs}
 
 pub number_low : (f : SparseFault) → number_of f ≤ 12
@@ -53,12 +54,37 @@ not_spoiled (pulls.Gives (parts.Fault f)) o is e = absurd (omega (arith, is.1, e
 
 -- ---- states that were left
 
-kept_in : (q : Phase) (n : ℕ) → 3 ≤ phase_number q → n ≡ kept_fault q → (0 < n) × (n ≤ 12)
+pub phase_most : (q : Phase) → phase_number q ≤ 3
+phase_most phases.Header = omega arith
+phase_most phases.Body = omega arith
+phase_most phases.Done = omega arith
+phase_most (phases.Failed f) = omega arith
+
+live_in : (q : Phase) (n d : ℕ) → phase_number q < 3 → n ≡ kept_fault q → d ≡ kept_detail q → (n ≡ 0) × (d ≡ 0)
+live_in phases.Header n d lt e g = (e, g)
+live_in phases.Body n d lt e g = (e, g)
+live_in phases.Done n d lt e g = (e, g)
+live_in (phases.Failed f) n d lt e g = absurd (omega (arith, lt))
+
+kept_in : (q : Phase) (n : ℕ) → 3 ≤ phase_number q → n ≡ kept_fault q → 0 < n
 kept_in phases.Header n lt e = absurd (omega (arith, lt))
 kept_in phases.Body n lt e = absurd (omega (arith, lt))
 kept_in phases.Done n lt e = absurd (omega (arith, lt))
-kept_in (phases.Failed f) n lt e = (omega (arith, e, number_some f), omega (arith, e, number_low f))
+kept_in (phases.Failed f) n lt e = omega (arith, e, number_some f)
 
 -- one that has failed keeps the fault of an image
-pub kept : (s : AbtSparse) → IsLeft s → 3 ≤ s.phase → (0 < s.fault) × (s.fault ≤ 12)
-kept s l lt = kept_in l.puller.walk.phase s.fault (let e = l.stands.phase in omega (arith, e, lt)) l.fault
+pub kept : (s : AbtSparse) (p : Puller) → Keeps s p → 3 ≤ s.phase → 0 < s.fault
+kept s p k lt = kept_in p.walk.phase s.fault (let e = k.stands.phase in omega (arith, e, lt)) k.fault
+
+-- one that has not keeps none
+pub live : (s : AbtSparse) (p : Puller) → Keeps s p → s.phase < 3 → (s.fault ≡ 0) × (s.detail ≡ 0)
+live s p k lt = live_in p.walk.phase s.fault s.detail (let e = k.stands.phase in omega (arith, e, lt)) k.fault k.detail
+
+pub can_keep : (s : AbtSparse) (p : Puller) → Keeps s p → CanKeep s.phase s.fault s.detail
+can_keep s p k = record {
+  most = let e = k.stands.phase in omega (arith, e, phase_most p.walk.phase);
+  live = live s p k;
+  failed = λ e. kept s p k (omega (arith, e));
+  own = k.own;
+  bits = k.bits;
+}

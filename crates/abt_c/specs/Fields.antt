@@ -1,5 +1,5 @@
 -- What C is told of a boot header beside its sections.
-use Rattle.std.specs.Prelude.{◌≡◌, ℕ, List, [], ◌∷◌, take, Option, Some, None, Result, Ok, Err}
+use Rattle.std.specs.Prelude.{◌≡◌, ℕ, List, [], ◌∷◌, take, drop, replicate, Option, Some, None, Result, Ok, Err}
 use Rattle.abt_headers.specs.declared.boot.BootFront.{BootFront}
 use Rattle.abt_headers.specs.declared.boot.ShortFront.{ShortFront}
 use Rattle.abt_headers.specs.declared.boot.BootHeader.{BootHeader}
@@ -30,6 +30,16 @@ pub record HasNoAddress (o : AbtFields) : Type 0 where
   pub tags : o.tags_addr ≡ 0
   pub dtb : o.dtb_addr ≡ 0
 
+abbrev pub zeros : ℕ → List ℕ
+zeros n = replicate n 0
+
+-- no text is told, and no id
+pub record HasNoText (o : AbtFields) : Type 0 where
+  pub id : o.id ≡ zeros 32
+  pub name : o.name ≡ zeros 16
+  pub cmdline : o.cmdline ≡ zeros 2048
+  pub extra : o.extra ≡ zeros 1024
+
 abbrev pub no_os : List ℕ
 no_os = 0 ∷ 0 ∷ 0 ∷ 0 ∷ 0 ∷ []
 
@@ -47,10 +57,11 @@ pub record TellsFront (f : BootFront) (sum : ℕ) (o : AbtFields) : Type 0 where
   pub id : o.id ≡ f.id
   pub name : o.name ≡ f.name
   pub cmdline : take 512 o.cmdline ≡ f.cmdline
+  pub behind : drop 512 o.cmdline ≡ zeros 1536
   pub extra : o.extra ≡ f.extra_cmdline
   pub fragments : o.fragments ≡ 0
 
--- what boot 3 and 4 have; they have no address
+-- what boot 3 and 4 have; they have no address, no id, no name and no second text
 pub record TellsShort (f : ShortFront) (o : AbtFields) : Type 0 where
   pub fault : o.fault ≡ 0
   pub detail : o.detail ≡ 0
@@ -58,8 +69,12 @@ pub record TellsShort (f : ShortFront) (o : AbtFields) : Type 0 where
   pub has : o.has ≡ 160
   pub os : o.os ≡ os_told f.os_version.number
   pub cmdline : take 1536 o.cmdline ≡ f.cmdline
+  pub behind : drop 1536 o.cmdline ≡ zeros 512
   pub fragments : o.fragments ≡ 0
   pub addresses : HasNoAddress o
+  pub id : o.id ≡ zeros 32
+  pub name : o.name ≡ zeros 16
+  pub extra : o.extra ≡ zeros 1024
 
 abbrev pub FieldsOfBoot : BootHeader → AbtFields → Type 0
 FieldsOfBoot (V0 f) o = TellsFront f 1007 o × (o.dtb_addr ≡ 0)
@@ -81,6 +96,8 @@ pub record TellsVendorFront (f : VendorFront) (o : AbtFields) : Type 0 where
   pub dtb_addr : o.dtb_addr ≡ f.dtb_addr
   pub name : o.name ≡ f.name
   pub cmdline : o.cmdline ≡ f.cmdline
+  pub id : o.id ≡ zeros 32
+  pub extra : o.extra ≡ zeros 1024
 
 -- only version 4 has fragments
 abbrev pub fragments_of : Option Tail → ℕ
@@ -90,7 +107,7 @@ fragments_of (Some t) = t.entry_num
 abbrev pub FieldsOfVendor : Vendor → AbtFields → Type 0
 FieldsOfVendor v o = TellsVendorFront v.front o × (o.fragments ≡ fragments_of v.tail)
 
--- a fault, and no number beside it
+-- a fault, and 0 in all else
 pub record Lacks (f : HeaderFault) (o : AbtFields) : Type 0 where
   pub fault : o.fault ≡ fault_number f
   pub detail : o.detail ≡ header_detail f
@@ -99,6 +116,7 @@ pub record Lacks (f : HeaderFault) (o : AbtFields) : Type 0 where
   pub fragments : o.fragments ≡ 0
   pub addresses : HasNoAddress o
   pub os : o.os ≡ no_os
+  pub texts : HasNoText o
 
 -- a boot image; where the magic is not its own, a vendor boot image
 abbrev pub FieldsAre : Result BootHeader HeaderFault → Result Vendor HeaderFault → AbtFields → Type 0

@@ -17,13 +17,19 @@ left_to_do s =
     + (s.total_chunks - s.index) * 2 ^ 68
     else 0
 
+-- What an answer leaves. Behind each part but the end and a fault less is left to do, so one of these comes; and both are
+-- kept, to be answered again.
+pub record Nears (o : AbtPart) (s s' : AbtSparse) : Type 0 where
+  pub falls : 1 ≤ o.kind → o.kind ≤ 4 → left_to_do s' < left_to_do s
+  pub end : o.kind ≡ 5 → s'.phase ≡ 2
+  pub fault : o.kind ≡ 6 → (s'.phase ≡ 3) × (s'.fault ≡ o.fault) × (s'.detail ≡ o.detail)
+
 -- What a call that was lent n bytes made of them. Raw bytes are all that came of those that are left; a header or a word
--- used one at least; a fill and a gap come whole. These use none, nor does the end. Behind each part but the end and a
--- fault less is left to do.
+-- used one at least; a fill and a gap come whole. These use none, nor does the end.
 pub record Moves (o : AbtPart) (s s' : AbtSparse) (n : ℕ) : Type 0 where
   pub raw : o.kind ≡ 1 → (0 < o.used) × (o.used ≡ min s.raw n)
   pub fill : o.kind ≡ 2 → (o.used ≡ 0) × (chunk_ended s' ≡ true)
   pub skip : o.kind ≡ 3 → (o.used ≡ 0) × (chunk_ended s' ≡ true)
   pub nothing : o.kind ≡ 4 → 0 < o.used
   pub end : o.kind ≡ 5 → o.used ≡ 0
-  pub falls : 1 ≤ o.kind → o.kind ≤ 4 → left_to_do s' < left_to_do s
+  pub nears : Nears o s s'

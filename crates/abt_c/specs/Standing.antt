@@ -1,6 +1,6 @@
 -- The numbers of a reader, as C keeps them, and the machine whose numbers they are.
-use Rattle.std.specs.Prelude.{◌≡◌, ℕ, ◌+◌, ◌-◌, ◌*◌, ◌++◌, List, [], take, length, Option, Some, None, Bool}
-use Rattle.std.specs.Prelude.{Ok, if◌then◌else◌, ◌==◌}
+use Rattle.std.specs.Prelude.{◌≡◌, ℕ, ◌+◌, ◌-◌, ◌*◌, ◌^◌, ◌<◌, ◌≤◌, ◌++◌, List, [], take, length, Option, Some, None}
+use Rattle.std.specs.Prelude.{Ok, Bool, if◌then◌else◌, ◌==◌, nat_lt}
 use Rattle.abt_sparse.specs.declared.kind.ChunkKind.{ChunkKind}
 use Rattle.abt_sparse.specs.declared.kind.ChunkKind.TheVariants as kinds
 use Rattle.abt_sparse.specs.Chunk.{Header}
@@ -35,6 +35,16 @@ abbrev pub kept_detail : Phase → ℕ
 kept_detail (phases.Failed f) = detail_of f
 kept_detail p = 0
 
+-- how many details a fault of this number can have; no fault, 0, has none but 0
+abbrev pub details : ℕ → ℕ
+details n =
+    if nat_lt n 2 then 1
+    else if nat_lt n 5 then 2 ^ 16
+    else if n == 6 then 2 ^ 48
+    else if nat_lt n 10 then 2 ^ 32
+    else if n == 10 then 2 ^ 64
+    else 1
+
 abbrev pub header_of : AbtSparse → Header
 header_of s = record {
   minor = s.minor;
@@ -63,12 +73,26 @@ pub record Stands (s : AbtSparse) (p : Puller) : Type 0 where
   pub held : s.held ≡ p.held
   pub count : s.count ≡ p.count
 
+-- the same with the fault that is kept: one of an image, whose numbers are from 1 to 10, or 0 where it has not failed
+pub record Keeps (s : AbtSparse) (p : Puller) : Type 0 where
+  pub stands : Stands s p
+  pub fault : s.fault ≡ kept_fault p.walk.phase
+  pub detail : s.detail ≡ kept_detail p.walk.phase
+  pub own : s.fault ≤ 10
+  pub bits : s.detail < details s.fault
+
 -- A state that one of the calls left, and none has spoiled: a machine has its numbers, and the fault that it keeps.
 pub record IsLeft (s : AbtSparse) : Type 0 where
   pub puller : Puller
-  pub stands : Stands s puller
-  pub fault : s.fault ≡ kept_fault puller.walk.phase
-  pub detail : s.detail ≡ kept_detail puller.walk.phase
+  pub keeps : Keeps s puller
+
+-- the same of a phase, a fault and a detail
+pub record CanKeep (phase fault detail : ℕ) : Type 0 where
+  pub most : phase ≤ 3
+  pub live : phase < 3 → (fault ≡ 0) × (detail ≡ 0)
+  pub failed : phase ≡ 3 → 0 < fault
+  pub own : fault ≤ 10
+  pub bits : detail < details fault
 
 -- no size is known
 abbrev pub no_size : AbtSize

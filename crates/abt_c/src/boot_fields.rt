@@ -1,11 +1,11 @@
 //! What a boot header says beside where its sections stand: the calls on its fields and on the fragments of a ramdisk.
 
-ghost use Rattle.std.specs.Prelude.{◌≡◌, ◌≤◌, ◌<◌, length, take};
+ghost use Rattle.std.specs.Prelude.{◌≡◌, ◌≤◌, ◌<◌, ◌-◌, drop, length, take};
 ghost use Rattle.abt_headers.specs.Boot.{boot_at};
 ghost use Rattle.abt_headers.specs.Entry.{entry_at};
 ghost use Rattle.abt_headers.specs.Vendor.{vendor_at, view};
-ghost use Rattle.abt_c.specs.Fields.{FieldsAre, FieldsOfBoot, FieldsOfVendor, HasNoAddress, Lacks, TellsFront};
-ghost use Rattle.abt_c.specs.Fields.{TellsShort, TellsVendorFront, fragment_told, no_os, os_told};
+ghost use Rattle.abt_c.specs.Fields.{FieldsAre, FieldsOfBoot, FieldsOfVendor, HasNoAddress, HasNoText, Lacks};
+ghost use Rattle.abt_c.specs.Fields.{TellsFront, TellsShort, TellsVendorFront, fragment_told, no_os, os_told, zeros};
 
 use crate::boot::detail;
 use abt_headers::{
@@ -60,6 +60,7 @@ fn none(fault: u32, detail: u32) -> AbtFields
     ensures reserved { result.reserved ≡ 0 }
     ensures addresses { HasNoAddress result }
     ensures os { result.os ≡ no_os }
+    ensures texts { HasNoText result }
 {
     AbtFields {
         fault,
@@ -83,7 +84,8 @@ fn none(fault: u32, detail: u32) -> AbtFields
 /// A command line with zeros behind it.
 fn padded<const N: usize>(text: &[u8; N]) -> [u8; 2048]
     requires { N ≤ 2048 }
-    ensures { take N result ≡ text.now }
+    ensures text { take N result ≡ text.now }
+    ensures behind { drop N result ≡ zeros (2048 - N) }
 {
     let mut all = [0; 2048];
     all[..N].copy_from_slice(text);

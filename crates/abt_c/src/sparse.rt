@@ -2,7 +2,7 @@
 
 ghost use Rattle.std.specs.Prelude.{◌≡◌, ◌≤◌, ◌<◌, ◌+◌, ◌*◌, ◌↔◌, take, length};
 ghost use Rattle.abt_c.specs.Standing.{Ended, IsLeft, Told, no_size, place_of};
-ghost use Rattle.abt_c.specs.Moving.{Moves};
+ghost use Rattle.abt_c.specs.Moving.{Moves, Nears};
 ghost use Rattle.abt_c.specs.Telling.{IsBare};
 
 use crate::state::{AbtPart, AbtSize, AbtSparse};
@@ -10,34 +10,31 @@ use crate::stored::{puller_in, state_of};
 use crate::told::{STATE, part_of, refused};
 use abt_chunks::{Pull, Puller};
 
-/// What is answered in a state that has failed: its fault once more, where it is one of an image.
+/// What is answered in a state that has failed: its fault once more, where these calls left it so.
 fn again(state: &AbtSparse) -> AbtPart
     ensures bare { IsBare result }
     ensures kind { result.kind ≡ 6 }
     ensures used { result.used ≡ 0 }
-    ensures some { 0 < result.fault }
+    ensures some { 3 ≤ state.now.phase → 0 < result.fault }
     ensures spoiled { result.fault ≡ 90 → result.detail ≡ 0 }
-    ensures same { 0 < state.now.fault → state.now.fault ≤ 12 → (result.fault ≡ state.now.fault) ×
-        (result.detail ≡ state.now.detail) }
+    ensures left { IsLeft state.now ↔ (result.fault ≡ 90 → ⊥) }
+    ensures same { IsLeft state.now → (result.fault ≡ state.now.fault) × (result.detail ≡ state.now.detail) }
 {
-    if state.fault == 0 || state.fault > 12 {
-        return refused(STATE, 0);
+    match puller_in(state) {
+        None => refused(STATE, 0),
+        Some(_) => refused(state.fault, state.detail),
     }
-    refused(state.fault, state.detail)
 }
 
 /// The fault that a state keeps, or that of a state that no call left. 0 where it is good to go on.
 pub fn fault_of(state: &AbtSparse) -> u32
     ensures kept { IsLeft state.now → result ≡ state.now.fault }
-    ensures left { IsLeft state.now → (result ≡ 90 → ⊥) }
+    ensures left { IsLeft state.now ↔ (result ≡ 90 → ⊥) }
 {
-    if state.phase >= 3 {
-        return again(state).fault;
+    match puller_in(state) {
+        None => STATE,
+        Some(_) => state.fault,
     }
-    if puller_in(state).is_none() {
-        return STATE;
-    }
-    0
 }
 
 /// Sets a state to the one before the first byte.
@@ -62,14 +59,14 @@ pub extern "C" fn abt_sparse_next(state: &mut AbtSparse, input: &[u8], out: &mut
     // What lay ahead of the state is this part, and then what lies ahead of it now, whatever bytes follow.
     ensures told { state.old.phase < 3 → (out.new.fault ≡ 90 → ⊥) →
         Told out.new state.old state.new (take out.new.used input.now) }
-    // What it made of the input, and that less is left to do behind it.
+    // What it made of the input, and that the end comes nearer, or is kept.
     ensures moves { state.old.phase < 3 → (out.new.fault ≡ 90 → ⊥) →
         Moves out.new state.old state.new (length input.now) }
     ensures lent { out.new.kind ≡ 1 → out.new.offset + out.new.length ≤ out.new.used }
     ensures offset { (out.new.kind ≡ 1 → ⊥) → out.new.offset ≡ 0 }
     ensures place { state.old.phase < 3 → (out.new.fault ≡ 90 → ⊥) → out.new.position ≡ place_of state.old }
-    // A state that these calls left is taken and left so; another one is left as it is.
-    ensures left { IsLeft state.old → IsLeft state.new × (out.new.fault ≡ 90 → ⊥) }
+    // A state that these calls left is taken and left so; each other one is answered with 90, and left as it is.
+    ensures left { (IsLeft state.old ↔ (out.new.fault ≡ 90 → ⊥)) × (IsLeft state.old → IsLeft state.new) }
     ensures spoiled { out.new.fault ≡ 90 → state.new ≡ state.old }
     ensures bare { out.new.fault ≡ 90 → IsBare out.new × (out.new.detail ≡ 0) }
     // After the end it answers that again, and after a fault that.
@@ -107,7 +104,10 @@ pub extern "C" fn abt_sparse_last(state: &mut AbtSparse, out: &mut AbtPart) -> u
     ensures used { out.new.used ≡ 0 }
     ensures told { state.old.phase < 3 → (out.new.fault ≡ 90 → ⊥) → Ended out.new state.old state.new }
     ensures place { state.old.phase < 3 → (out.new.fault ≡ 90 → ⊥) → out.new.position ≡ place_of state.old }
-    ensures left { IsLeft state.old → IsLeft state.new × (out.new.fault ≡ 90 → ⊥) }
+    // Behind each answer but the end and a fault less is left to do; these two are kept, and answered again.
+    ensures nears { state.old.phase < 3 → (out.new.fault ≡ 90 → ⊥) → Nears out.new state.old state.new }
+    ensures ended { state.old.phase ≡ 2 → (out.new.fault ≡ 90 → ⊥) → out.new.kind ≡ 5 }
+    ensures left { (IsLeft state.old ↔ (out.new.fault ≡ 90 → ⊥)) × (IsLeft state.old → IsLeft state.new) }
     ensures offset { out.new.offset ≡ 0 }
     ensures spoiled { out.new.fault ≡ 90 → state.new ≡ state.old }
     ensures bare { out.new.fault ≡ 90 → IsBare out.new × (out.new.detail ≡ 0) }
@@ -145,7 +145,7 @@ pub extern "C" fn abt_sparse_size(state: &AbtSparse, out: &mut AbtSize) -> u32
     ensures blocks { 0 < state.now.phase → result ≡ 0 → out.new.blocks ≡ state.now.total_blks }
     ensures chunks { 0 < state.now.phase → result ≡ 0 → out.new.chunks ≡ state.now.total_chunks }
     ensures bytes { 0 < state.now.phase → result ≡ 0 → out.new.bytes ≡ state.now.total_blks * state.now.blk_sz }
-    ensures left { IsLeft state.now → (result ≡ 90 → ⊥) }
+    ensures left { IsLeft state.now ↔ (result ≡ 90 → ⊥) }
 {
     *out = AbtSize {
         bytes: 0,

@@ -1,15 +1,18 @@
 //! From the numbers that C keeps to the reading machine, with all of its conditions checked, and back.
 
-ghost use Rattle.std.specs.Prelude.{◌≡◌, ◌≤◌, ◌<◌, ◌+◌, ◌*◌, IfSome, IsNone, if◌then◌else◌, true, false};
+ghost use Rattle.std.specs.Prelude.{◌≡◌, ◌≤◌, ◌<◌, ◌+◌, ◌*◌, ◌^◌, IfSome, IsNone, if◌then◌else◌, true, false};
+ghost use Rattle.abt_sparse.specs.Number.{number_of};
 ghost use Rattle.abt_sparse.specs.View.{view};
 ghost use Rattle.abt_chunks.specs.Ahead.{left_of};
 ghost use Rattle.abt_chunks.specs.declared.feed.Puller.{Puller as FedWalk};
 ghost use Rattle.abt_sparse.specs.declared.header.SparseHeader.{SparseHeader as ReadHeader};
-ghost use Rattle.abt_c.specs.Standing.{Stands, header_of, kept_detail, kept_fault, phase_number};
+ghost use Rattle.abt_c.specs.Standing.{CanKeep, Keeps, Stands, details, header_of, kept_detail, kept_fault};
+ghost use Rattle.abt_c.specs.Standing.{phase_number};
+ghost use Rattle.abt_c.specs.Telling.{detail_of};
 
 use crate::state::AbtSparse;
 use crate::told::detail;
-use abt_chunks::{ChunkKind, Phase, Puller, SparseHeader, Walk};
+use abt_chunks::{ChunkKind, Phase, Puller, SparseFault, SparseHeader, Walk};
 
 /// The header in a state, where its numbers are those of a header.
 fn header_in(s: &AbtSparse) -> Option<SparseHeader>
@@ -30,11 +33,80 @@ fn header_in(s: &AbtSparse) -> Option<SparseHeader>
     })
 }
 
-/// The phase of this number, where the walk has not failed.
-fn phase_in(phase: u32) -> Option<Phase>
-    ensures some { IfSome result (λ p. phase ≡ phase_number p) }
-    ensures none { IsNone result → 3 ≤ phase }
+/// A number of 16 bits.
+fn short_in(n: u64) -> Option<u16>
+    ensures some { IfSome result (λ m. m ≡ n) }
+    ensures none { IsNone result → 2 ^ 16 ≤ n }
 {
+    if n > 65535 {
+        return None;
+    }
+    Some(n as u16)
+}
+
+/// A number of 32 bits.
+fn long_in(n: u64) -> Option<u32>
+    ensures some { IfSome result (λ m. m ≡ n) }
+    ensures none { IsNone result → 2 ^ 32 ≤ n }
+{
+    if n > 4294967295 {
+        return None;
+    }
+    Some(n as u32)
+}
+
+/// The fault of an image that has this number and tells this.
+fn fault_in(number: u32, detail: u64) -> Option<SparseFault>
+    ensures number { IfSome result (λ f. number ≡ number_of f) }
+    ensures detail { IfSome result (λ f. detail ≡ detail_of f) }
+    ensures own { IfSome result (λ f. number ≤ 10) }
+    ensures bits { IfSome result (λ f. detail < details number) }
+    ensures none { IsNone result → 0 < number → number ≤ 10 → detail < details number → ⊥ }
+{
+    match number {
+        1 => {
+            if detail > 0 {
+                return None;
+            }
+            Some(SparseFault::Magic)
+        }
+        2 => Some(SparseFault::Major(short_in(detail)?)),
+        3 => Some(SparseFault::FileHeaderSize(short_in(detail)?)),
+        4 => Some(SparseFault::ChunkHeaderSize(short_in(detail)?)),
+        5 => Some(SparseFault::BlockSize(long_in(detail)?)),
+        6 => Some(SparseFault::ChunkType {
+            chunk: (detail % 0x1_0000_0000) as u32,
+            kind: short_in(detail / 0x1_0000_0000)?,
+        }),
+        7 => Some(SparseFault::ChunkLength {
+            chunk: long_in(detail)?,
+        }),
+        8 => Some(SparseFault::TooManyBlocks {
+            chunk: long_in(detail)?,
+        }),
+        9 => Some(SparseFault::TooFewBlocks {
+            have: long_in(detail)?,
+        }),
+        10 => Some(SparseFault::Truncated { at: detail }),
+        _ => None,
+    }
+}
+
+/// The phase of this number that keeps this fault, or none of number 0 where the walk has not failed.
+fn phase_in(phase: u32, fault: u32, detail: u64) -> Option<Phase>
+    ensures phase { IfSome result (λ p. phase ≡ phase_number p) }
+    ensures fault { IfSome result (λ p. fault ≡ kept_fault p) }
+    ensures detail { IfSome result (λ p. detail ≡ kept_detail p) }
+    ensures own { IfSome result (λ p. fault ≤ 10) }
+    ensures bits { IfSome result (λ p. detail < details fault) }
+    ensures none { IsNone result → CanKeep phase fault detail → ⊥ }
+{
+    if phase == 3 {
+        return Some(Phase::Failed(fault_in(fault, detail)?));
+    }
+    if fault > 0 || detail > 0 {
+        return None;
+    }
     match phase {
         0 => Some(Phase::Header),
         1 => Some(Phase::Body),
@@ -80,12 +152,12 @@ fn is_placed(position: u64, extra: u32, raw: u64, due: bool, index: u32) -> bool
     lacking <= most - position - raw
 }
 
-/// The machine in a state that has not failed, where its numbers are those of one.
+/// The machine in a state, where its numbers are those of one.
 pub fn puller_in(s: &AbtSparse) -> Option<Puller>
-    ensures some { IfSome result (λ p. Stands s.now p) }
-    ensures none { IsNone result → (p : FedWalk) → Stands s.now p → 3 ≤ s.now.phase }
+    ensures some { IfSome result (λ p. Keeps s.now p) }
+    ensures none { IsNone result → (p : FedWalk) → Keeps s.now p → ⊥ }
 {
-    let phase = match phase_in(s.phase) {
+    let phase = match phase_in(s.phase, s.fault, s.detail) {
         Some(phase) => phase,
         None => return None,
     };
@@ -140,6 +212,7 @@ pub fn state_of(p: &Puller) -> AbtSparse
     ensures stands { Stands result p.now }
     ensures fault { result.fault ≡ kept_fault p.now.walk.phase }
     ensures detail { result.detail ≡ kept_detail p.now.walk.phase }
+    ensures bits { result.detail < details result.fault }
 {
     let w = p.walk;
     let (phase, fault, detail) = match w.phase {

@@ -1,7 +1,9 @@
 //! A part of an image as numbers.
 
 ghost use Rattle.std.specs.Prelude.{◌≡◌, ◌<◌, ◌≤◌, ◌+◌, ◌*◌, ◌^◌};
+ghost use Rattle.abt_sparse.specs.Number.{number_of};
 ghost use Rattle.abt_chunks.specs.Pulling.{pulled_by};
+ghost use Rattle.abt_c.specs.Standing.{details};
 ghost use Rattle.abt_c.specs.Telling.{IsBare, PartIs, detail_of};
 
 use crate::state::AbtPart;
@@ -26,7 +28,8 @@ pub const STATE: u32 = 90;
 
 /// What a fault tells beside its number: of a chunk of unknown type its index, and the type above the low 32 bits.
 pub fn detail(fault: SparseFault) -> u64
-    ensures { result ≡ detail_of fault }
+    ensures value { result ≡ detail_of fault }
+    ensures bits { result < details (number_of fault) }
 {
     match fault {
         SparseFault::Magic => 0,
