@@ -1,9 +1,9 @@
 /*
  * Tries the C library on an image: try IMAGE EXPANDED [STATES]
  * In every cut of the input from 1 to 100 bytes and in one piece, joined parts are the expanded image; each truncation is
- * refused as one at its place; the last part comes in a few calls. A state with spoiled bytes is answered without a read
- * or a write outside what was lent, and with ABT_STATE exactly where its numbers are no reader's. What is told of chunks
- * and of fields agrees with the parts and the sections, and what a version does not have is 0.
+ * refused as one at its place; the last part comes in a few calls. A state with spoiled bytes is answered without a
+ * read or a write outside what was lent, and with ABT_STATE exactly where its numbers are no reader's. What is told of
+ * chunks and of fields agrees with the parts and the sections, and what a version does not have is 0.
  * Prints one line for each kind of trial: 'ok NAME' or 'failed NAME'.
  */
 #define _DEFAULT_SOURCE
@@ -244,7 +244,7 @@ static int is_reader(const abt_sparse *s) {
     return count == 0 || count < whole(s);
 }
 
-/* Each call answers ABT_STATE exactly where the numbers are no reader's; what asks alone answers the fault that is kept. */
+/* Each call answers ABT_STATE exactly where the numbers are no reader's; what only asks answers the fault that is kept. */
 static int is_told(const abt_sparse *state) {
     uint32_t want = is_reader(state) ? state->m[1] : ABT_STATE;
     abt_sparse next = *state, last = *state;
@@ -307,7 +307,8 @@ static void try_states(long states) {
 
 /* A fault that no call left: of another phase, of a number that no image has, or with a detail that it can't have. */
 static void try_faults(void) {
-    static const uint64_t details[] = {0, 1, 65535, 65536, 0xFFFFFFFF, 0x100000000, 0xFFFFFFFFFFFF, 0x1000000000000, UINT64_MAX};
+    static const uint64_t details[] = {0,           1,           65535,          65536,           0xFFFFFFFF,
+                                       0x100000000, 0xFFFFFFFFFFFF, 0x1000000000000, UINT64_MAX};
     int all = 1, readers = 0;
     abt_sparse state;
     abt_part part;

@@ -17,7 +17,8 @@ use Rattle.abt_chunks.specs.declared.feed.Puller.{Puller}
 use Rattle.abt_chunks.specs.declared.feed.Pull.{Pull}
 use Rattle.abt_chunks.specs.declared.feed.Pull.TheVariants as pulls
 use Rattle.abt_c.specs.declared.state.AbtSparse.{AbtSparse}
-use Rattle.abt_c.specs.Standing.{Stands, StateSays, coming, coming_of, phase_number, front_of, kind_of, kind_or, header_of, place_in, place_of}
+use Rattle.abt_c.specs.Standing.{Stands, StateSays, coming, coming_of, phase_number, front_of, kind_of, kind_or}
+use Rattle.abt_c.specs.Standing.{header_of, place_in, place_of}
 use Rattle.abt_sparse.specs.Chunk.{Header}
 use Rattle.abt_sparse.specs.declared.kind.ChunkKind.{ChunkKind}
 
@@ -59,16 +60,26 @@ joined s p c t e live = coming_is s p e live (c ++ t) ∙ ap (λ (l : List ℕ).
 pub after : (s : AbtSparse) (p : Puller) (t : List ℕ) → Stands s p → p.walk.phase ≡ phases.Body → p.count ≡ 0 → coming s t ≡ ahead p.walk t
 after s p t e b z = coming_is s p e (goes_on p.walk.phase b) t ∙ ap (λ (n : ℕ). ahead p.walk (take n p.held ++ t)) z
 
-pub part_carried : (q : Part) (s s' : AbtSparse) (p p' : Puller) (c t : List ℕ) → Stands s p → Stands s' p' → (phase_number p.walk.phase ≡ 3 → ⊥) → Says q p.walk p'.walk (pulling.front_of p ++ c) t → p'.count ≡ 0
+pub part_carried : (q : Part) (s s' : AbtSparse) (p p' : Puller) (c t : List ℕ) → Stands s p → Stands s' p'
+    → (phase_number p.walk.phase ≡ 3 → ⊥) → Says q p.walk p'.walk (pulling.front_of p ++ c) t → p'.count ≡ 0
     → Leaves q p'.walk.phase → StateSays (pulls.Gives q) s s' c t
 part_carried (parts.Raw n) s s' p p' c t e f live x k l =
     let fs : front_of s ≡ pulling.front_of p = fronts s p e in
-    subst (λ (v : List ℕ). (length (v ++ c) ≡ n) × (coming s (c ++ t) ≡ before (somes (v ++ c)) (coming s' t))) (sym fs)
-    (x.0, joined s p c t e live ∙ x.1 ∙ ap (λ a. before (somes (pulling.front_of p ++ c)) a) (sym (after s' p' t f l k)))
-part_carried (parts.Words word n) s s' p p' c t e f live x k l = joined s p c t e live ∙ x ∙ ap (λ a. before (fills n word) a) (sym (after s' p' t f l k))
-part_carried (parts.Skip n) s s' p p' c t e f live x k l = joined s p c t e live ∙ x ∙ ap (λ a. before (gaps n) a) (sym (after s' p' t f l k))
+    subst (λ (v : List ℕ). (length (v ++ c) ≡ n) × (coming s (c ++ t) ≡ before (somes (v ++ c)) (coming s' t))) (sym fs) (
+      x.0,
+      joined s p c t e live ∙ x.1 ∙ ap (λ a. before (somes (pulling.front_of p ++ c)) a) (sym (after s' p' t f l
+          k)),
+    )
+part_carried (parts.Words word n) s s' p p' c t e f live x k l = joined s p c t e live ∙ x
+    ∙ ap (λ a. before (fills n word) a) (sym (after s' p' t f l k))
+part_carried (parts.Skip n) s s' p p' c t e f live x k l = joined s p c t e live ∙ x
+    ∙ ap (λ a. before (gaps n) a) (sym (after s' p' t f l k))
 part_carried parts.Nothing s s' p p' c t e f live x k l = joined s p c t e live ∙ x ∙ sym (after s' p' t f l k)
-part_carried parts.End s s' p p' c t e f live x k l = subst (λ h. coming s (c ++ t) ≡ record { cells = []; ending = Ok (h, t) }) (sym f.header) (joined s p c t e live ∙ x)
+part_carried parts.End s s' p p' c t e f live x k l = subst (λ h. coming s (c ++ t) ≡ record {
+  cells = [];
+  ending = Ok
+      (h, t);
+}) (sym f.header) (joined s p c t e live ∙ x)
 part_carried (parts.Fault y) s s' p p' c t e f live x k l = joined s p c t e live ∙ x
 
 pub carried : (q : Pull) (s s' : AbtSparse) (p p' : Puller) (c t : List ℕ) → Stands s p → Stands s' p' → (phase_number p.walk.phase ≡ 3 → ⊥) → PullSays q p p' c t → IsKept q p p' → PullLeaves q p' → StateSays q s s' c t
@@ -80,13 +91,17 @@ carried pulls.Need s s' p p' c t e f live x k l =
 carried (pulls.Gives q) s s' p p' c t e f live x k l = part_carried q s s' p p' c t e f live x k.0 l
 
 -- where nothing follows
-pub last_carried : (q : Part) (s s' : AbtSparse) (p p' : Puller) → Stands s p → Stands s' p' → (phase_number p.walk.phase ≡ 3 → ⊥) → Says q p.walk p'.walk (pulling.front_of p) [] → p'.count ≡ 0 → Leaves q p'.walk.phase
+pub last_carried : (q : Part) (s s' : AbtSparse) (p p' : Puller) → Stands s p → Stands s' p'
+    → (phase_number p.walk.phase ≡ 3 → ⊥) → Says q p.walk p'.walk (pulling.front_of p) [] → p'.count ≡ 0
+    → Leaves q p'.walk.phase
     → StateSays (pulls.Gives q) s s' [] []
-last_carried q s s' p p' e f live x k l = part_carried q s s' p p' [] [] e f live (subst (λ (v : List ℕ). Says q p.walk p'.walk v []) (sym (append-nil (pulling.front_of p))) x) k l
+last_carried q s s' p p' e f live x k l = part_carried q s s' p p' [] [] e f live (subst (λ (v : List ℕ). Says q p.walk
+    p'.walk v []) (sym (append-nil (pulling.front_of p))) x) k l
 
 -- ---- where a state stands in the expanded image
 
-place_in_phase : (q : Phase) (w : Walk) → place_in (phase_number q) w.kind w.have w.header.blk_sz w.raw w.words ≡ places.place_in q w
+place_in_phase : (q : Phase) (w : Walk) → place_in (phase_number q) w.kind w.have w.header.blk_sz w.raw w.words ≡
+    places.place_in q w
 place_in_phase phases.Header w = refl
 place_in_phase phases.Body w = refl
 place_in_phase phases.Done w = refl
@@ -99,5 +114,6 @@ place_is s p e =
     ∙ ap (λ (v : ℕ). place_in (phase_number p.walk.phase) p.walk.kind v s.blk_sz s.raw s.words) e.have
     ∙ ap (λ (v : Header). place_in (phase_number p.walk.phase) p.walk.kind p.walk.have v.blk_sz s.raw s.words) e.header
     ∙ ap (λ (v : ℕ). place_in (phase_number p.walk.phase) p.walk.kind p.walk.have p.walk.header.blk_sz v s.words) e.raw
-    ∙ ap (λ (v : ℕ). place_in (phase_number p.walk.phase) p.walk.kind p.walk.have p.walk.header.blk_sz p.walk.raw v) e.words
+    ∙ ap (λ (v : ℕ). place_in (phase_number p.walk.phase) p.walk.kind p.walk.have p.walk.header.blk_sz p.walk.raw v)
+    e.words
     ∙ place_in_phase p.walk.phase p.walk

@@ -1,12 +1,10 @@
 -- What a pull made of its bytes, in the numbers of the states.
-use Rattle.std.proofs.Common.{◌≡◌, ℕ, ◌<◌, ◌≤◌, ◌+◌, ◌-◌, ◌*◌, ◌^◌, Bool, true, if◌then◌else◌, ◌==◌, ◌&&◌, refl, arith, ap, sym, ◌∙◌, subst}
+use Rattle.std.proofs.Common.{◌≡◌, ℕ, ◌<◌, ◌≤◌, ◌+◌, ◌-◌, ◌*◌, ◌^◌, Bool, if◌then◌else◌, ◌==◌, ◌&&◌, refl, arith, ap, sym, ◌∙◌}
 use Rattle.std.specs.Prelude.{min}
 use Rattle.abt_sparse.specs.declared.kind.ChunkKind.{ChunkKind}
 use Rattle.abt_sparse.specs.Chunk.{Header}
-use Rattle.abt_sparse.specs.View.{view}
 use Rattle.abt_chunks.specs.ListingAhead.{at_end, is_spent}
-use Rattle.abt_chunks.specs.Parts.{Leaves, goes_on}
-use Rattle.abt_chunks.specs.Pulling.{IsAgain, PullFalls, PullLeaves, PullMoves}
+use Rattle.abt_chunks.specs.Pulling.{PullFalls, PullLeaves, PullMoves}
 use Rattle.abt_chunks.specs.Turns.{IsOver, todo}
 use Rattle.abt_chunks.specs.declared.feed.Pull.{Pull}
 use Rattle.abt_chunks.specs.declared.feed.Pull.TheVariants as pulls
@@ -18,7 +16,7 @@ use Rattle.abt_chunks.specs.declared.walk.Walk.{Walk}
 use Rattle.abt_c.specs.declared.state.AbtPart.{AbtPart}
 use Rattle.abt_c.specs.declared.state.AbtSparse.{AbtSparse}
 use Rattle.abt_c.specs.Moving.{Moves, Nears, chunk_ended, left_to_do}
-use Rattle.abt_c.specs.Standing.{Stands, header_of, kept_detail, kept_fault, kind_of, kind_or, phase_number}
+use Rattle.abt_c.specs.Standing.{Stands, kept_detail, kept_fault, kind_of, kind_or, phase_number}
 use Rattle.abt_c.specs.Telling.{PartIs}
 use Rattle.abt_c.proofs.Carried.{due_back}
 
@@ -68,17 +66,22 @@ going o s s' k is le h = record {
 }
 
 -- what a pull leaves, where s' keeps the fault of its machine
-pub nears : (q : Pull) (o : AbtPart) (s s' : AbtSparse) (p p' : Puller) → PartIs q o → Stands s p → Stands s' p' → s'.fault ≡ kept_fault p'.walk.phase → s'.detail ≡ kept_detail p'.walk.phase
+pub nears : (q : Pull) (o : AbtPart) (s s' : AbtSparse) (p p' : Puller) → PartIs q o → Stands s p → Stands s' p'
+    → s'.fault ≡ kept_fault p'.walk.phase → s'.detail ≡ kept_detail p'.walk.phase
     → PullFalls q p.walk p'.walk → PullLeaves q p' → Nears o s s'
 nears pulls.Need o s s' p p' is e f n d l x = record {
   falls = λ i j. absurd (omega (arith, is.0, i));
   end = λ j. absurd (omega (arith, is.0, j));
   fault = λ j. absurd (omega (arith, is.0, j));
 }
-nears (pulls.Gives (parts.Raw k)) o s s' p p' is e f n d l x = going o s s' 1 is.0 (omega arith) (falls_in s s' p p' e f (l refl))
-nears (pulls.Gives (parts.Words word k)) o s s' p p' is e f n d l x = going o s s' 2 is.0 (omega arith) (falls_in s s' p p' e f (l refl))
-nears (pulls.Gives (parts.Skip k)) o s s' p p' is e f n d l x = going o s s' 3 is.0 (omega arith) (falls_in s s' p p' e f (l refl))
-nears (pulls.Gives parts.Nothing) o s s' p p' is e f n d l x = going o s s' 4 is.0 (omega arith) (falls_in s s' p p' e f (l refl))
+nears (pulls.Gives (parts.Raw k)) o s s' p p' is e f n d l x = going o s s' 1 is.0 (omega arith) (falls_in s s' p p' e f
+    (l refl))
+nears (pulls.Gives (parts.Words word k)) o s s' p p' is e f n d l x = going o s s' 2 is.0 (omega arith) (falls_in s s' p
+    p' e f (l refl))
+nears (pulls.Gives (parts.Skip k)) o s s' p p' is e f n d l x = going o s s' 3 is.0 (omega arith) (falls_in s s' p p' e
+    f (l refl))
+nears (pulls.Gives parts.Nothing) o s s' p p' is e f n d l x = going o s s' 4 is.0 (omega arith) (falls_in s s' p p' e f
+    (l refl))
 nears (pulls.Gives parts.End) o s s' p p' is e f n d l x = record {
   falls = λ i j. absurd (omega (arith, is.0, j));
   end = λ j. f.phase ∙ ap phase_number x;

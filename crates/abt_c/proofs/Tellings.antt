@@ -11,7 +11,7 @@ use Rattle.abt_chunks.specs.declared.feed.Pull.TheVariants as pulls
 use Rattle.abt_c.specs.declared.state.AbtPart.{AbtPart}
 use Rattle.abt_c.specs.declared.state.AbtSparse.{AbtSparse}
 use Rattle.abt_chunks.specs.declared.feed.Puller.{Puller}
-use Rattle.abt_c.specs.Standing.{CanKeep, Keeps, kept_detail, kept_fault, phase_number}
+use Rattle.abt_c.specs.Standing.{CanKeep, StandsWhole, kept_detail, kept_fault, phase_number}
 use Rattle.abt_c.specs.Telling.{PartIs}
 
 pub number_low : (f : SparseFault) → number_of f ≤ 12
@@ -73,14 +73,14 @@ kept_in phases.Done n lt e = absurd (omega (arith, lt))
 kept_in (phases.Failed f) n lt e = omega (arith, e, number_some f)
 
 -- one that has failed keeps the fault of an image
-pub kept : (s : AbtSparse) (p : Puller) → Keeps s p → 3 ≤ s.phase → 0 < s.fault
+pub kept : (s : AbtSparse) (p : Puller) → StandsWhole s p → 3 ≤ s.phase → 0 < s.fault
 kept s p k lt = kept_in p.walk.phase s.fault (let e = k.stands.phase in omega (arith, e, lt)) k.fault
 
 -- one that has not keeps none
-pub live : (s : AbtSparse) (p : Puller) → Keeps s p → s.phase < 3 → (s.fault ≡ 0) × (s.detail ≡ 0)
+pub live : (s : AbtSparse) (p : Puller) → StandsWhole s p → s.phase < 3 → (s.fault ≡ 0) × (s.detail ≡ 0)
 live s p k lt = live_in p.walk.phase s.fault s.detail (let e = k.stands.phase in omega (arith, e, lt)) k.fault k.detail
 
-pub can_keep : (s : AbtSparse) (p : Puller) → Keeps s p → CanKeep s.phase s.fault s.detail
+pub can_keep : (s : AbtSparse) (p : Puller) → StandsWhole s p → CanKeep s.phase s.fault s.detail
 can_keep s p k = record {
   most = let e = k.stands.phase in omega (arith, e, phase_most p.walk.phase);
   live = live s p k;

@@ -1,5 +1,5 @@
 -- Bytes with zeros behind them.
-use Rattle.std.proofs.Common.{◌≡◌, ℕ, ◌-◌, ◌++◌, List, drop, length, replicate, sym, ◌∙◌, ap, arith, drop-drop}
+use Rattle.std.proofs.Common.{◌≡◌, ℕ, ◌-◌, ◌++◌, List, drop, length, replicate, ◌∙◌}
 use Rattle.std.proofs.lemmas.List.{drop-replicate, drop_at}
 
 pub zeros_behind : (c : List ℕ) (n m : ℕ) → length c ≡ n → drop n (c ++ drop n (replicate m 0)) ≡ replicate (m - n) 0

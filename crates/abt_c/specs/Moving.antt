@@ -17,7 +17,8 @@ left_to_do s =
     + (s.total_chunks - s.index) * 2 ^ 68
     else 0
 
--- What an answer leaves. Behind each part but the end and a fault less is left to do, so one of these comes; and both are
+-- What an answer leaves. Behind each part but the end and a fault less is left to do, so one of these comes; and
+-- both are
 -- kept, to be answered again.
 pub record Nears (o : AbtPart) (s s' : AbtSparse) : Type 0 where
   pub falls : 1 ≤ o.kind → o.kind ≤ 4 → left_to_do s' < left_to_do s

@@ -74,7 +74,7 @@ pub record Stands (s : AbtSparse) (p : Puller) : Type 0 where
   pub count : s.count ≡ p.count
 
 -- the same with the fault that is kept: one of an image, whose numbers are from 1 to 10, or 0 where it has not failed
-pub record Keeps (s : AbtSparse) (p : Puller) : Type 0 where
+pub record StandsWhole (s : AbtSparse) (p : Puller) : Type 0 where
   pub stands : Stands s p
   pub fault : s.fault ≡ kept_fault p.walk.phase
   pub detail : s.detail ≡ kept_detail p.walk.phase
@@ -84,7 +84,7 @@ pub record Keeps (s : AbtSparse) (p : Puller) : Type 0 where
 -- A state that one of the calls left, and none has spoiled: a machine has its numbers, and the fault that it keeps.
 pub record IsLeft (s : AbtSparse) : Type 0 where
   pub puller : Puller
-  pub keeps : Keeps s puller
+  pub keeps : StandsWhole s puller
 
 -- the same of a phase, a fault and a detail
 pub record CanKeep (phase fault detail : ℕ) : Type 0 where

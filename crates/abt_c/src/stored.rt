@@ -6,7 +6,7 @@ ghost use Rattle.abt_sparse.specs.View.{view};
 ghost use Rattle.abt_chunks.specs.Ahead.{left_of};
 ghost use Rattle.abt_chunks.specs.declared.feed.Puller.{Puller as FedWalk};
 ghost use Rattle.abt_sparse.specs.declared.header.SparseHeader.{SparseHeader as ReadHeader};
-ghost use Rattle.abt_c.specs.Standing.{CanKeep, Keeps, Stands, details, header_of, kept_detail, kept_fault};
+ghost use Rattle.abt_c.specs.Standing.{CanKeep, StandsWhole, Stands, details, header_of, kept_detail, kept_fault};
 ghost use Rattle.abt_c.specs.Standing.{phase_number};
 ghost use Rattle.abt_c.specs.Telling.{detail_of};
 
@@ -154,8 +154,8 @@ fn is_placed(position: u64, extra: u32, raw: u64, due: bool, index: u32) -> bool
 
 /// The machine in a state, where its numbers are those of one.
 pub fn puller_in(s: &AbtSparse) -> Option<Puller>
-    ensures some { IfSome result (λ p. Keeps s.now p) }
-    ensures none { IsNone result → (p : FedWalk) → Keeps s.now p → ⊥ }
+    ensures some { IfSome result (λ p. StandsWhole s.now p) }
+    ensures none { IsNone result → (p : FedWalk) → StandsWhole s.now p → ⊥ }
 {
     let phase = match phase_in(s.phase, s.fault, s.detail) {
         Some(phase) => phase,

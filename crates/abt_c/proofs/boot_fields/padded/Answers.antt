@@ -1,4 +1,4 @@
-use Rattle.std.proofs.Common.{◌≡◌, ap, ◌∙◌, length}
+use Rattle.std.proofs.Common.{ap, ◌∙◌, length}
 use Rattle.abt_c.proofs.Texts.{zeros_behind}
 use Rattle.abt_c.proofs.boot_fields.padded.Goals as goal
 

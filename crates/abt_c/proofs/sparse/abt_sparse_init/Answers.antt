@@ -8,5 +8,11 @@ returns-clause-left c =
     let none : c.state_of.result.fault ≡ 0 = o.fault ∙ ap kept_fault c.new.ensures.phase in
     record {
       puller = c.new.result;
-      keeps = record { stands = o.stands; fault = o.fault; detail = o.detail; own = omega (arith, none); bits = o.bits };
+      keeps = record {
+        stands = o.stands;
+        fault = o.fault;
+        detail = o.detail;
+        own = omega (arith, none);
+        bits = o.bits;
+      };
     }

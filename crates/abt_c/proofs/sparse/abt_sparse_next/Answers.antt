@@ -22,7 +22,8 @@ pub returns-in-Some-clause-left : goal.returns-in-Some-clause-left
 returns-in-Some-clause-left c =
     let h = c.pull-pulled in
     let o = c.state_of.ensures in
-    let live : phase_number c.in-Some.puller.walk.phase ≡ 3 → ⊥ = (λ z. let e = c.in-Some.ensures.some.stands.phase in let lt = c.if-state-ge3.false in absurd (omega (arith, lt, e, z))) in (
+    let live : phase_number c.in-Some.puller.walk.phase ≡ 3 → ⊥ = (λ z. let e = c.in-Some.ensures.some.stands.phase in
+    let lt = c.if-state-ge3.false in absurd (omega (arith, lt, e, z))) in (
       (
         λ l. not_spoiled h.result.pull c.part_of.result c.part_of.ensures.is,
         λ x. record { puller = c.in-Some.puller; keeps = c.in-Some.ensures.some },
@@ -33,7 +34,12 @@ returns-in-Some-clause-left c =
           stands = o.stands;
           fault = o.fault;
           detail = o.detail;
-          own = let e = o.fault in omega (arith, e, pull_own h.result.pull c.in-Some.puller h.new.self (take h.result.used c.args.input.now) live (h.ensures.says []) h.ensures.leaves);
+          own = let e = o.fault in omega (
+            arith,
+            e,
+            pull_own h.result.pull c.in-Some.puller h.new.self (take
+                h.result.used c.args.input.now) live (h.ensures.says []) h.ensures.leaves,
+          );
           bits = o.bits;
         };
       },
@@ -44,8 +50,10 @@ returns-in-Some-clause-moves c live x =
     let h = c.pull-pulled in
     let e = c.in-Some.ensures.some.stands in
     let o = c.state_of.ensures in
-    moved h.result.pull c.part_of.result c.args.state.now c.state_of.result c.in-Some.puller h.new.self h.result.used _ c.part_of.ensures.used c.part_of.ensures.is e o.stands h.ensures.moves
-    (nears h.result.pull c.part_of.result c.args.state.now c.state_of.result c.in-Some.puller h.new.self c.part_of.ensures.is e o.stands o.fault o.detail h.ensures.falls h.ensures.leaves)
+    moved h.result.pull c.part_of.result c.args.state.now c.state_of.result c.in-Some.puller h.new.self h.result.used _
+    c.part_of.ensures.used c.part_of.ensures.is e o.stands h.ensures.moves
+    (nears h.result.pull c.part_of.result c.args.state.now c.state_of.result c.in-Some.puller h.new.self
+    c.part_of.ensures.is e o.stands o.fault o.detail h.ensures.falls h.ensures.leaves)
 
 pub returns-in-Some-clause-ended : goal.returns-in-Some-clause-ended
 returns-in-Some-clause-ended c done x =
@@ -57,4 +65,5 @@ returns-in-Some-clause-ended c done x =
     (ends_again h.result.pull c.part_of.result h.new.self is again.given h.ensures.leaves c.part_of.ensures.is, c.part_of.ensures.used ∙ again.unused, c.state_of.ensures.stands.phase ∙ is)
 
 pub returns-in-Some-clause-place : goal.returns-in-Some-clause-place
-returns-in-Some-clause-place c live x = c.part_of.ensures.place ∙ c.place-place.ensures ∙ sym (place_is c.args.state.now c.in-Some.puller c.in-Some.ensures.some.stands)
+returns-in-Some-clause-place c live x = c.part_of.ensures.place ∙ c.place-place.ensures
+    ∙ sym (place_is c.args.state.now c.in-Some.puller c.in-Some.ensures.some.stands)

@@ -1,4 +1,4 @@
-use Rattle.std.proofs.Common.{◌≡◌, arith}
+use Rattle.std.proofs.Common.{arith}
 use Rattle.abt_c.proofs.sparse.fault_of.Goals as goal
 
 pub returns-in-Some-clause-left : goal.returns-in-Some-clause-left
