@@ -10,8 +10,8 @@ Of the tables of docs/CLAIMS.md:
     clause of each name, the definitions are there, and so is each must-fail edit, in the function's crate or one below it;
     where a function names no edit, words say why;
   - each public function of a crate that has a claim is named by one, or in the list of those that no claim names.
-Of the code: no call of the engine counts in a meter of its own, beside the one that it is lent; each lemma of proofs/ is named
-by another one, by an answer or by a contract.
+Of the code: no call of the engine counts in a meter of its own, beside the one that it is lent; each loop of the engine ticks
+once in each pass; each lemma of proofs/ is named by another one, by an answer or by a contract.
 Of all documents: no line is longer than 120 columns, each file that a link or a path in backquotes names is there, and each
 crate of crates.txt is told of in docs/ARCHITECTURE.md. The last line is 'N passed, M failed'.
 """
@@ -35,6 +35,18 @@ OF_THE_PROGRAM = (
 
 # The program begins to count, as the benchmark does, and what it prints and shows is counted by nobody.
 MAKE_METERS = ("abootimg", "abt_output", "abt_text", "speed")
+
+# The engine: turns are counted where its code ticks, so each of its loops does.
+ENGINE = (
+    "abt_io", "abt_sparse", "abt_chunks", "abt_runs", "abt_pieces", "abt_sparsify", "abt_placed", "abt_flash", "abt_verify",
+    "abt_headers", "abt_sections",
+)
+# How many loops of a file tick nowhere, and why.
+WITHOUT_A_TICK = {
+    "crates/abt_io/src/testing/pick.rt": 1,  # what a crash leaves, in a device of tests that has no meter
+    "crates/abt_io/src/tries.rt": 4,  # a call that a signal interrupted is tried again: no turn, and no call of a device
+    "crates/abt_runs/src/words.rt": 2,  # the words of one block, for which `tick_words` ticks
+}
 
 
 class Checks:
@@ -262,6 +274,40 @@ def check_meters(checks, under):
         checks.that(not made, f"{crate} makes no meter{': ' + ', '.join(made) if made else ''}")
 
 
+def loops_of(path):
+    """Of each loop of a file the line number, and the statements of its body that stand at the body's own depth.
+
+    The code is laid out by `rt fmt`: the line that ends a body stands as deep as the one that begins the loop.
+    """
+    text = [it.split("//")[0].rstrip() for it in lines_of(path)]
+    for at, line in enumerate(text):
+        begins_one = re.search(r"(?:^|[\s=>(])(?:loop \{|while\b|for\b(?!<).*\bin\b)", line)
+        if not begins_one or re.match(r"\s*(?:ensures|requires|ghost)\b", line):
+            continue
+        depth = len(line) - len(line.lstrip())
+        begins = next(it for it in range(at, len(text)) if text[it].endswith("{"))
+        ends = next(it for it in range(begins + 1, len(text)) if re.match(rf" {{{depth}}}\}}", text[it]))
+        body = [it for it in text[begins + 1 : ends] if it.strip()]
+        yield at + 1, [it.strip() for it in body if len(it) - len(it.lstrip()) == depth + 4], body
+
+
+def check_ticks(checks):
+    """A loop's tick is its first statement; or its last, where no pass that goes on leaves it out."""
+    for crate in ENGINE:
+        for path in sorted(glob.glob(os.path.join(HERE, "crates", crate, "src", "**", "*.rt"), recursive=True)):
+            path = os.path.relpath(path, HERE)
+            without, loops = [], list(loops_of(path))
+            for number, own, body in loops:
+                goes_on = any(re.search(r"\bcontinue\b", it) for it in body)
+                if own[:1] != ["m.tick();"] and (own[-1:] != ["m.tick();"] or goes_on):
+                    without.append(number)
+            allowed = WITHOUT_A_TICK.get(path, 0)
+            told = f" but {allowed}" if allowed else ""
+            lines = f": not in lines {without}" if without else ""
+            if loops or allowed:
+                checks.that(len(without) == allowed, f"{path}: each loop ticks{told}{lines}")
+
+
 def check_lemmas(checks, under):
     """A lemma is named where its name stands outside its own clauses, which begin with it."""
     texts = {}
@@ -301,6 +347,7 @@ def main():
     check_public(checks, claims, under)
     check_rules(checks, [(cells, number) for head, cells, number in tables("docs/ARCHITECTURE.md") if head[0] == "rule"])
     check_meters(checks, under)
+    check_ticks(checks)
     check_lemmas(checks, under)
     check_documents(checks, under)
     print(f"{checks.passed} passed, {checks.failed} failed")
