@@ -51,7 +51,8 @@ enum {
     ABT_TOO_FEW_BLOCKS = 9,      /* all chunks have fewer blocks than total_blks: how many they have */
     ABT_TRUNCATED = 10,          /* the input ends within the image: how many bytes it has */
     ABT_STATE = 90               /* the state's numbers are no reader's: it was not set, or was overwritten (with the
-                                    numbers of another reader, it is read on as that one) */
+                                    numbers of another reader, it is read on as that one). Each call answers this of
+                                    such a state, and of no other, and leaves it as it is */
 };
 
 /* A reader between two calls. It may be copied and kept anywhere; its numbers are the library's own. */
@@ -119,7 +120,9 @@ uint32_t abt_sparse_next(abt_sparse *state, const uint8_t *in, size_t in_len, ab
 
 /*
  * The input has ended, and abt_sparse_next has answered ABT_NEED: an image that is cut short is refused with
- * ABT_TRUNCATED. Where the image has ended it answers ABT_END, where it was refused its fault.
+ * ABT_TRUNCATED. Where the image has ended it answers ABT_END, where it was refused its fault. Called sooner, it answers
+ * what still comes without another byte: behind each answer less is left to do, so ABT_END or ABT_FAULT comes, and then
+ * comes again.
  */
 uint32_t abt_sparse_last(abt_sparse *state, abt_part *out);
 
@@ -221,7 +224,7 @@ typedef struct abt_fields {
     uint32_t reserved;
     uint8_t id[32];
     uint8_t name[16];
-    uint8_t cmdline[2048]; /* 512 bytes of boot 0 to 2, 1536 of boot 3 and 4, 2048 of vendor boot */
+    uint8_t cmdline[2048]; /* 512 bytes of boot 0 to 2, 1536 of boot 3 and 4, 2048 of vendor boot; zeros behind */
     uint8_t extra[1024];   /* what follows the 512 bytes of cmdline */
 } abt_fields;
 

@@ -244,7 +244,7 @@ static int is_reader(const abt_sparse *s) {
     return count == 0 || count < whole(s);
 }
 
-/* Each call answers ABT_STATE exactly where the numbers are no reader's; what only asks answers the fault that is kept. */
+/* Each call answers ABT_STATE exactly where the numbers are no reader's; what only asks answers the kept fault. */
 static int is_told(const abt_sparse *state) {
     uint32_t want = is_reader(state) ? state->m[1] : ABT_STATE;
     abt_sparse next = *state, last = *state;
