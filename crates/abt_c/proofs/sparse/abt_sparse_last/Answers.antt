@@ -15,7 +15,7 @@ returns-in-Some-clause-left c =
     let live : phase_number c.in-Some.puller.walk.phase ≡ 3 → ⊥ = (λ z. let e = c.in-Some.ensures.some.stands.phase in
     let lt = c.if-state-ge3.false in absurd (omega (arith, lt, e, z))) in (
       (
-        λ l. not_spoiled (pulls.Gives h.result) c.part_of.result c.part_of.ensures.is,
+        λ l. not_spoiled (pulls.Gives h.result) _ c.part_of.ensures.is,
         λ x. record { puller = c.in-Some.puller; keeps = c.in-Some.ensures.some },
       ),
       λ l. record {
@@ -39,7 +39,7 @@ pub returns-in-Some-clause-nears : goal.returns-in-Some-clause-nears
 returns-in-Some-clause-nears c live x =
     let h = c.last-part in
     let o = c.state_of.ensures in
-    nears (pulls.Gives h.result) c.part_of.result c.args.state.now c.state_of.result c.in-Some.puller h.new.self
+    nears (pulls.Gives h.result) _ c.args.state.now c.state_of.result c.in-Some.puller h.new.self
     c.part_of.ensures.is c.in-Some.ensures.some.stands o.stands o.fault o.detail h.ensures.falls h.ensures.leaves
 
 pub returns-in-Some-clause-ended : goal.returns-in-Some-clause-ended
@@ -48,7 +48,7 @@ returns-in-Some-clause-ended c done x =
     let was : phase_number c.in-Some.puller.walk.phase ≡ 2 = sym c.in-Some.ensures.some.stands.phase ∙ done in
     let is : phase_number h.new.self.walk.phase ≡ 2 = ap (λ w. phase_number w.phase) (h.ensures.again (done_is_over
     c.in-Some.puller.walk.phase was)) ∙ was in
-    ends_again (pulls.Gives h.result) c.part_of.result h.new.self is (λ e. absurd cc) h.ensures.leaves
+    ends_again (pulls.Gives h.result) _ h.new.self is (λ e. absurd cc) h.ensures.leaves
     c.part_of.ensures.is
 
 pub returns-in-Some-clause-told : goal.returns-in-Some-clause-told
