@@ -130,6 +130,10 @@ pub fn finish_front<'a>(
     let mut image = image;
     match image.finish(m) {
         Ok(()) => image.output.finish(),
-        Err(_) => Err(image.output.refused()),
+        Err(_) => {
+            let refused = image.output.refused();
+            image.output.give_up();
+            Err(refused)
+        }
     }
 }
