@@ -45,7 +45,7 @@ def checked(rt, name, root):
     if "staticlib" in lines[name].partition(":")[0].split():
         asked += ["--crate-type", "staticlib"]
     asked += ["--antt-project", f"{kit}/rattle/logic/antt-project.json", "--logic-built", f"{kit}/logic_built"]
-    asked += ["--incremental", os.path.join(root, "work"), "--jobs", "1"]
+    asked += ["--incremental", os.path.join(root, "work"), "--jobs", "1", "--progress"]
     before = resource.getrusage(resource.RUSAGE_CHILDREN)
     ran = subprocess.Popen(
         [f"{kit}/bin/rattle", "check", *asked], cwd=crate_at(root, name), stdout=subprocess.PIPE, stderr=subprocess.STDOUT,
