@@ -21,11 +21,14 @@ HERE = os.path.dirname(os.path.dirname(os.path.abspath(__file__)))
 sys.path.insert(0, os.path.join(HERE, "tests"))
 from run import Room, all_cases, seen
 
-CALLS = ("read", "pread64", "lseek", "openat", "statx", "newfstatat", "fstat", "write", "pwrite64", "ftruncate", "fsync", "close")
+CALLS = "%desc,%file"  # as strace calls those on a descriptor or a path
+LEFT_OUT = ("execve", "mmap")  # what begins the program, and what asks for memory
+READS = ("read", "readv", "pread64", "preadv", "preadv2")
+WRITES = ("write", "writev", "pwrite64", "pwritev", "pwritev2")
 # How a call ends, too: without room, or without an error at the end of its file.
-ERRORS = {it: ("ENOSPC", "EDQUOT") for it in ("write", "pwrite64", "ftruncate", "close")}
-ERRORS.update({it: (None,) for it in ("read", "pread64")})
-TOLD = ("write", "pwrite64", "fsync")  # where one of these fails, an output is not what it should be
+ERRORS = {it: ("ENOSPC", "EDQUOT") for it in WRITES + ("ftruncate", "close")}
+ERRORS.update({it: (None,) for it in READS})
+TOLD = WRITES + ("fsync", "fdatasync")  # where one of these fails, an output is not what it should be
 CALL = re.compile(r"\d* *(\w+)\((\d+)?(?:<([^>]*)>)?(.*)")
 LOADED = re.compile(r"\.so[.\d]*[>\"]|ld\.so\.cache|/proc/\d+/maps")  # what is read before the program begins
 SECONDS = 60
@@ -76,13 +79,13 @@ def calls_of(case, environment):
     def traced(room):
         run = case.runs[0]
         with tempfile.NamedTemporaryFile("r", errors="replace") as log:
-            ran(run, room, f"-y -e trace={','.join(CALLS)} -o {log.name}")
+            ran(run, room, f"-y -e trace={CALLS} -o {log.name}")
             lines = [it for it in map(CALL.match, log.read().split("\n")) if it]
         begin = max((i + 1 for i, it in enumerate(lines) if LOADED.search(it[0])), default=0)
         counts = {}
         for i, it in enumerate(lines):
             counts[it[1]] = counts.get(it[1], 0) + 1
-            if i >= begin:
+            if i >= begin and it[1] not in LEFT_OUT:
                 yield it[1], counts[it[1]], os.path.relpath(it[3], room.folder) if it[3] and it[3][0] == "/" else it[3]
 
     return in_room(case, environment, lambda room: list(traced(room)))
