@@ -232,7 +232,8 @@ def main():
         return 1
     with tempfile.TemporaryDirectory() as there:
         os.symlink(program, os.path.join(there, "abootimg"))
-        os.symlink(os.path.join(HERE, "at_call"), os.path.join(there, "at_call"))
+        for tool in "at_call", "unreadable":
+            os.symlink(os.path.join(HERE, tool), os.path.join(there, tool))
         path = there + os.pathsep + os.environ.get("PATH", "")
         passed, failed = run_cases(cases, words.only, words.show, {**os.environ, "PATH": path, "LC_ALL": "C.UTF-8"})
     print(f"{passed} passed, {failed} failed")
