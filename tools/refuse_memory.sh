@@ -1,10 +1,12 @@
 #!/usr/bin/env bash
 # Refuses each allocation of each command in turn: the Nth call of malloc, calloc or realloc, for N from 1 until a run ends
 # clean. Each run must print `abootimg: memory` and end with status 1, or give what it gives with memory. Pieces that `cut` had
-# written before stand, as its lines say. Then each allocation of a buffer in turn: all but the window and the 4 KiB of a file
-# that is written are for speed alone, so the command goes on without them. Nothing in the gate runs this.
+# written before stand, as its lines say. Before that it refuses each buffer in turn: all but the window and the 4 KiB of a
+# file that is written are for speed alone, and without them the command goes on. Nothing in the gate runs this.
 #
-#   tools/refuse_memory.sh [buffers]     the program is $ABOOTIMG, or crates/abootimg/out/abootimg; needs gcc. `buffers`: these alone
+#   tools/refuse_memory.sh [buffers]     the buffers alone, by that word; needs gcc
+#
+# The program is $ABOOTIMG, or crates/abootimg/out/abootimg. It must be one that is linked to the C library as it starts.
 set -uo pipefail
 here=$(cd "$(dirname "$0")/.." && pwd)
 program=$(realpath "${ABOOTIMG:-$here/crates/abootimg/out/abootimg}")
@@ -33,8 +35,8 @@ cat > refuse.c <<'C'
 
 static long calls, refused;
 
-/* Whether this call is the one to refuse, of all or of those of buffers, whose sizes are powers of two from 4,096 on. No word
-   of the command line takes so many. That it was is told through descriptor 9. */
+/* Whether this call is the one to refuse, of all or of those of buffers, whose sizes are powers of two from 4,096 on: what
+   reads the words of the command line asks for none of these. That it was is told through descriptor 9. */
 static int refuse(size_t size) {
     if (!refused) {
         const char *n = getenv("REFUSE");
