@@ -163,11 +163,11 @@ fi
 
 echo "== stack"
 # fits KIB WORDS..: the program ends well with so many KiB of stack. Where in them it begins differs by up to 8 KiB from one
-# start to the next, so it has five turns.
+# start to the next, so it has twenty turns.
 fits() {
     local size=$1
     shift
-    for _ in 1 2 3 4 5; do
+    for _ in {1..20}; do
         (ulimit -c 0 -s "$size" && exec env -i "$program" "$@" >out 2>err </dev/null) && return 0
     done 2>/dev/null
     return 1
