@@ -27,6 +27,7 @@ pub(crate) struct Cutting<'a> {
 /// A piece's file is opened when its turn comes, and its line is printed when all of it is in the file. Pieces and
 /// lines before a fault stand. Where the image is one of the files that are there for pieces, nothing is written. The
 /// next piece of an older cut is named, since it is no piece of this one.
+#[inline(never)]
 pub(crate) fn cut_file<'a>(
     reading: Reading,
     report: &mut Report,

@@ -29,6 +29,7 @@ pub(crate) fn expand_files<'a>(
     Ok(())
 }
 
+#[inline(never)]
 fn expand_one<'a>(
     reading: Reading,
     report: &mut Report,

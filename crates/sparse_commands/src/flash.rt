@@ -15,6 +15,7 @@ use sparse_rules::{Line, SparseCommandFault, SparseRefusal, image_place, raw_pie
 
 /// Flashes an image to a partition, which must be there, and prints how many blocks it was. The image is read forward,
 /// so that it may be a pipe.
+#[inline(never)]
 pub(crate) fn flash_file<'a>(
     reading: Reading,
     report: &mut Report,
@@ -62,6 +63,7 @@ fn flashed(
 /// will do only where it is a file.
 ///
 /// Of a raw image the size of its blocks and the limit are judged before SPOOL is created or emptied.
+#[inline(never)]
 pub(crate) fn flash_pieces<'a>(
     reading: Reading,
     report: &mut Report,

@@ -8,6 +8,7 @@ use sparse_rules::{Line, SparseRefusal, flash_blocks, image_place};
 
 /// Flashes a raw image in blocks of so many bytes to a partition, which must be there, and prints how many they were. It
 /// is read once, at any place, so that standard input will do only where it is a file.
+#[inline(never)]
 pub(crate) fn flash_raw_file<'a>(
     reading: Reading,
     report: &mut Report,

@@ -8,6 +8,7 @@ use sparse_rules::{SparseCommandFault, SparseRefusal};
 use sparse_texts::report_list;
 
 /// Prints the header and each chunk of a sparse image. `-` is standard input.
+#[inline(never)]
 pub(crate) fn list_file<'a>(
     reading: Reading,
     report: &mut Report,

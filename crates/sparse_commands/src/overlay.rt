@@ -13,6 +13,7 @@ use abt_refusals::{HostFault, Place, Sides};
 use abt_runs::BlockRuns;
 use abt_sparse::SparseFault;
 use sparse_rules::{SparseCommandFault, SparseRefusal, image_place};
+use std::alloc::Global;
 
 /// How many blocks an image has, and how many bytes each.
 #[derive(Clone, Copy, PartialEq, Eq)]
@@ -24,6 +25,7 @@ struct Shape {
 /// Lays images over one another in their order: a file of zeros, to which each is flashed in turn.
 ///
 /// All are read, and their shapes compared, before OUT is created or emptied.
+#[inline(never)]
 pub(crate) fn overlay<'a>(
     reading: Reading,
     report: &mut Report,
@@ -117,17 +119,25 @@ fn open_one<'a>(
 ) -> Result<(FileSource, Shape), SparseRefusal<'a>> {
     let file = AheadFile::new(reading.source(place)?);
     report.progress.expect(file.source.length(), 1);
-    let mut source = AheadSource::new(reading.alloc, &file);
-    let runs = match open_lasting(&mut source, w, m) {
-        Ok(runs) => runs,
+    match shape_of(&file, reading.alloc, w, m) {
+        Ok(shape) => Ok((file.source, shape)),
         Err(fault) => {
             let sides = Sides::none().reading(place, None);
-            return Err(sides.refuse(fault));
+            Err(sides.refuse(fault))
         }
-    };
-    let shape = Shape {
+    }
+}
+
+fn shape_of(
+    file: &AheadFile,
+    alloc: Global,
+    w: &mut Window,
+    m: &mut Meter,
+) -> Result<Shape, SparseCommandFault> {
+    let mut source = AheadSource::new(alloc, file);
+    let runs = open_lasting(&mut source, w, m)?;
+    Ok(Shape {
         blocks: runs.blocks(),
         block: runs.block_size(),
-    };
-    Ok((file.source, shape))
+    })
 }

@@ -17,6 +17,7 @@ const PASSES: u64 = 3;
 /// Writes the sparse image of a raw one, and prints what it has. `-` is standard output.
 ///
 /// The block size is judged before OUT is created or emptied.
+#[inline(never)]
 pub(crate) fn sparse_file<'a>(
     reading: Reading,
     report: &mut Report,

@@ -9,6 +9,7 @@ use sparse_rules::{Line, SparseCommandFault, SparseRefusal, image_place};
 
 /// Compares a sparse image with what stands on a partition, and prints how many blocks of it were compared. The image is
 /// read forward, so that it may be a pipe.
+#[inline(never)]
 pub(crate) fn verify_file<'a>(
     reading: Reading,
     report: &mut Report,
@@ -39,6 +40,7 @@ pub(crate) fn verify_file<'a>(
 
 /// The same of a raw image in blocks of so many bytes. It is read at any place, so that standard input will do only
 /// where it is a file.
+#[inline(never)]
 pub(crate) fn verify_raw_file<'a>(
     reading: Reading,
     report: &mut Report,
