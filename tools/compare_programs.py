@@ -8,11 +8,11 @@ Images are on both sides of what the program asks for or holds at once: 256 byte
 changed. Modes, of which --mode names one (each has --runs runs, and `faults` as many as --faults says):
 
   plain    every command, from and to files and pipes
-  room     the same with `ulimit -f` at a random limit, where the signal is ignored
+  room     the same, with `ulimit -f` at a random limit, where the signal is ignored
   full     /dev/full as OUT, as PARTITION, as SPOOL or as standard output
   fifos    outputs are FIFOs
   changes  an IN gets shorter or longer at a moment that both programs have: once so much was read of a FIFO that is written, or
-           while a sync is delayed (by strace)
+           while a sync or write is delayed (by strace)
   faults   a call of the system fails by strace, each kind of call of each file in turn. The programs make other calls, so what NEW
            answers must be one of OLD's answers where any call of that kind of that file fails so. It ends with status 0 only where
            all is written, and else with status 1 and a line; no input is touched, and no broken-off image has its magic
@@ -68,10 +68,12 @@ class Task:
 class Maker:
     """Makes images and lines, by chance alone."""
 
-    def __init__(self, seed, are_whole=False):
+    def __init__(self, seed, run, mode):
         self.chance = random.Random(seed)
-        self.are_whole = are_whole  # images are good ones, in several pieces, and as long as the highest threshold
-        self.block = self.one(4, 4, 8, 64, 1024, 4096, 4096, 4096, 4096, 8192, 65_536)
+        self.run = run  # answers a line by OLD
+        self.are_good = mode in ("changes", "faults")  # images are
+        self.are_long = mode == "changes"  # they are above all thresholds
+        self.block = self.one(4, 4, 8, 64, 1024, 4096, 4096, 4096, 4096, *(() if self.are_good else (8192, 65_536)))
 
     def one(self, *of):
         return self.chance.choice(of)
@@ -109,31 +111,37 @@ class Maker:
         """Chunks until the image is as long as an edge; of as many blocks as `like` where there is one."""
         kinds = self.one((FILL,), (FILL, SKIP), (RAW, FILL, SKIP), (RAW, FILL, SKIP, CRC32), (RAW,), (RAW, FILL))
         target, most = self.near(self.one(*EDGES), 40), self.one(5, 40, 400, 4000)
-        if self.are_whole:
-            target, most = self.near(self.one(65_536, 70_000, 131_072, 300_000), 40), 20_000
         made, size, blocks = [], 28, 0
+        if self.are_long and like is None:
+            target, blocks = self.one(0, 0, self.near(70_000, 4000), self.near(131_072)), -(-65_536 // self.block)
+            made, size = [(RAW, blocks, self.chance.randbytes(blocks * self.block))], size + 12 + blocks * self.block
         while size < target and len(made) < most and blocks * self.block < 3_000_000:
             made.append(self.chunk(kinds))
+            if like is not None and blocks + made[-1][1] > like:
+                made[-1] = SKIP, like - blocks, b""
             size += 12 + len(made[-1][2])
             blocks += made[-1][1]
             if like is not None and blocks >= like:
                 break
         if like is not None and blocks < like:
             made.append((SKIP, like - blocks, b""))
+        elif self.are_long:
+            made += [(FILL, 1, self.chance.randbytes(4)) for _ in range(self.chance.randint(9, 260))]
         return made
 
     def sparse(self, like=None):
         chunks = self.chunks(like)
         head, more = self.one(28, 28, 28, 32), self.one(0, 0, 0, 4, 300)
         blocks = sum(it[1] for it in chunks)
-        made = [struct.pack("<IHHHHIIII", 0xED26FF3A, 1, 0, head, 12 + more, self.block, blocks, len(chunks), 0), bytes(head - 28)]
+        sizes = head, 12 + more, self.block, blocks, len(chunks), 0
+        made = [struct.pack("<IHHHHIIII", 0xED26FF3A, 1, 0, *sizes), bytes(head - 28)]
         for kind, count, data in chunks:
             made += [struct.pack("<HHII", kind, 0, count, 12 + more + len(data)), bytes(more), data]
         return b"".join(made), blocks
 
     def marred(self, image):
         """The image, mostly as it is; else cut off, longer, or with a byte that another stands for."""
-        how = "" if self.are_whole else self.one("", "", "", "", "cut", "longer", "byte", "head")
+        how = "" if self.are_good else self.one("", "", "", "", "cut", "longer", "byte", "head")
         if how == "cut":
             return image[: min(len(image), self.one(self.chance.randrange(len(image) + 1), self.near(self.one(*EDGES))))]
         if how == "longer":
@@ -143,16 +151,19 @@ class Maker:
             return image[:at] + bytes([self.one(0, 1, 255, image[at] ^ 1, image[at] ^ 128)]) + image[at + 1 :]
         return image
 
-    def limit(self, size):
-        """A LIMIT for an image of so many bytes, so that there are not too many pieces."""
-        least = 64 + self.block
-        if self.are_whole:
-            return max(self.near(self.one(size // 2, size // 2, size // 3, size - size // 8), 80), least)
-        near = self.near(self.one(least, 65_536, size, size // 2, size // 3, 65_536 + self.block, least + 12), 80)
+    def limit(self, files, words):
+        """A LIMIT for what stands in files, so that there are not too many pieces; `words` cut it into one."""
+        one = re.search(rb"bytes (\d+)", self.run(words, files).out)
+        size, least = int(one[1]) if one else len(files[words.split()[2]]), 64 + self.block
+        behind = size - self.chance.randint(1, 4200)  # a last piece of headers alone, perhaps
+        if self.are_good:
+            return max(self.near(self.one(size // 2, size // 3, size - size // 8, behind, behind), 80), least)
+        near = self.one(least, 65_536, size, size // 2, size // 3, behind, 65_536 + self.block, least + 12)
+        near = self.near(near, self.one(12, 80))
         return max(near, least - self.one(0, 0, 0, 1), size // 40)
 
     def partition(self, size):
-        return self.chance.randbytes(max(0, size + self.one(0, 0, 0, 5000, -1, -self.block)))
+        return self.chance.randbytes(max(0, size + self.one(0, 0, 0, 5000, -1, -self.block) * (not self.are_good)))
 
     def lines_of_sparse(self):
         """The files and the lines for a sparse image."""
@@ -160,7 +171,7 @@ class Maker:
         size, files = blocks * self.block, {"x": self.marred(image)}
         files["y"] = self.marred(self.sparse(blocks)[0])
         files["part"] = self.partition(size)
-        limit, number = self.limit(len(image)), self.one(1, 1, 2, 3, 9)
+        limit, number = self.limit(files, f"abootimg cut x {2**32 - 1} q"), self.one(1, 1, 2, 2 if self.are_good else 9)
         return files, [
             "abootimg list x", "cat x | abootimg list -", "abootimg expand x out", "cat x | abootimg expand - out",
             "abootimg expand x - > out", "abootimg expand - - < x | cat > out", "abootimg expand x y out",
@@ -172,9 +183,10 @@ class Maker:
 
     def lines_of_raw(self):
         """The files and the lines for a raw image."""
-        size = self.near(self.one(*EDGES, 3 * 65_536, 500_000), 9)
+        size = self.near(self.one(*(() if self.are_long else EDGES), 65_536, 3 * 65_536, 500_000), 9)
         files = {"r": self.data(size), "part": self.partition(-(-size // self.block) * self.block)}
-        block, limit, number = self.block, self.limit(size), self.one(1, 1, 2, 3)
+        block, number = self.block, self.one(1, 1, 2, 3)
+        limit = self.limit(files, f"abootimg cut r {2**32 - 1} q --raw {block}")
         return files, [
             f"abootimg sparse r out --block {block}", f"abootimg sparse r - --block {block} | cat > out",
             f"abootimg sparse r out --sync --block {block}", f"abootimg cut r {limit} p --raw {block}",
@@ -183,26 +195,24 @@ class Maker:
             f"abootimg flash r part {limit} spool --raw {block} --from {number}", f"abootimg verify r part --raw {block}",
             f"abootimg flash r part --raw {block}; abootimg verify r part --raw {block}"]
 
-    def lines_of_boot(self, run):
-        """The files and the lines for a boot image or a vendor boot image that `run` packs."""
+    def lines_of_boot(self):
+        """The files and the lines for a boot image or a vendor boot image, which OLD packs."""
         files = {it: self.data(self.near(self.one(0, 100, 4096, 65_536))) for it in ("k", "rd", "dtb")}
         version = self.one(0, 1, 2, 3, 4, 5)
         words = f"--version {version} --kernel k --ramdisk rd" + (" --dtb dtb" if version == 2 else "")
         if version == 5:
             words = "--vendor --version 4 --dtb dtb --cmdline a=b --fragment platform:base:rd --fragment none::k"
-        left = run(f"abootimg pack {words} b", files).left
-        files["b"] = self.marred(left["b"][1])
+        files["b"] = self.marred(self.run(f"abootimg pack {words} b", files).left["b"][1])
         part = self.one("--ramdisk k", "--cmdline 'a b'", "", "--keep-trailing") if version < 5 else "--keep-trailing"
         return files, [
             f"abootimg pack {words} out", f"abootimg pack {words} - > out", f"abootimg pack {words} - | cat > out",
             "abootimg info b --check", "abootimg info b --hex", "mkdir d; abootimg unpack b d --words",
             f"abootimg repack b out {part}", f"abootimg repack b - {part} | cat > out"]
 
-    def files_and_line(self, run, only=""):
-        """Files, and one line that has this word."""
+    def files_and_line(self, only=""):
+        """Files, and one line that matches this pattern."""
         while True:
-            of_boot = lambda: self.lines_of_boot(run)
-            files, lines = self.one(self.lines_of_sparse, self.lines_of_sparse, self.lines_of_raw, of_boot)()
+            files, lines = self.one(self.lines_of_sparse, self.lines_of_sparse, self.lines_of_raw, self.lines_of_boot)()
             lines = [it for it in lines if re.search(only, it)]
             if lines:
                 return files, self.one(*lines)
@@ -230,9 +240,9 @@ def changed_line(maker, line, files, traces):
     """The line, while which an IN gets another length."""
     name = line.split()[2]
     size = len(files[name])
-    less = maker.one(100, maker.chance.randrange(size + 1), size - 1, size - maker.chance.randrange(1, 3000), maker.near(65_536))
-    less = max(0, min(less, size))
-    act = maker.one(f"truncate -s {less} {name}", f"truncate -s {less} {name}", f"head -c 5000 /dev/zero >> {name}")
+    some = maker.chance.randrange(size + 1)
+    less = max(0, min(size, maker.one(100, some, some, size - 1, size - some % 3000, maker.near(65_536))))
+    act = maker.one(*[f"truncate -s {less} {name}"] * 3, f"head -c 5000 /dev/zero >> {name}")
     if " cut " in line:
         pieces = [f"p.{it}" for it in range(1, 45)]
         some = maker.one(1, 1000, 60_000)
@@ -240,20 +250,22 @@ def changed_line(maker, line, files, traces):
         return with_fifos(line, pieces, maker.one(begun, f"cat p.1 > got.p.1; sleep .1; {act}"))
     if not traces:
         return line
-    turn = maker.one(1, 1, 2) if " spool" in line else 1
-    how = f"strace -f -qqq -o $LOG -e trace=fsync -e inject=fsync:delay_enter=400000:when={turn}"
-    waits = f"until [ $(grep -c fsync $LOG 2> /dev/null || true)0 -ge {turn}0 ] || ! kill -0 $!; do sleep .01; done 2> /dev/null"
+    calls, path = ("fsync", "part") if " spool" in line else ("write,pwrite64,writev,pwritev", "out")
+    turn = maker.one(1, 1, 2)
+    how = f"strace -f -qqq -o $LOG -P $PWD/{path} -e trace={calls} -e inject={calls}:delay_enter=400000:when={turn}"
+    waits = f"until [ $(grep -c '(' $LOG) -ge {turn} ] || ! kill -0 $!; do sleep .01; done 2> /dev/null"
     return f"{how} {line} & {waits}; {act}; wait $!"
 
 
-WANTED = {"full": r"^[^|]*(out|spool|part|list|info)[^|]*$", "fifos": r"^[^|;]*((expand|sparse|pack|repack) .*out|cut )[^|;]*$",
-          "changes": r"^abootimg (cut [^;]*|flash x part \d+ [^;]*|flash r part \d+ [^;]*)$", "faults": r"^abootimg [^;|]*$"}
+WANTED = {"full": r"^[^|]*(out|spool|part|list|info)[^|]*$",
+          "room": r"^[^|]*$", "fifos": r"^[^|;]*((expand|sparse|pack|repack) .*out|cut )[^|;]*$",
+          "changes": r"^abootimg (cut [^;]*|flash . part \d+ .*|expand x y .*)$", "faults": r"^abootimg [^;|]*$"}
 
 
 def task_of(mode, number, seed, run, traces):
     """Run `number` of a mode."""
-    maker = Maker(f"{seed} {mode} {number}", mode == "changes")
-    files, line = maker.files_and_line(run, WANTED.get(mode, ""))
+    maker = Maker(f"{seed} {mode} {number}", run, mode)
+    files, line = maker.files_and_line(WANTED.get(mode, ""))
     if mode == "room":
         line = f"trap '' XFSZ; ulimit -f {maker.one(0, 1, 4, 8, 64, maker.chance.randrange(300))}; {line}"
     elif mode == "full":
@@ -353,11 +365,11 @@ class Faults:
             self.known[line] = it.status, it.out, it.err
         return self.known[line]
 
-    def wrong_of(self, line, new, lines_of_old):
+    def wrong_of(self, line, new, lines_of_old, is_stream):
         """What is not so of an answer of NEW: what it is, and lines."""
-        if new.status == 0:
+        if new.status == 0 and not is_stream:
             yield from ((f"status 0 and {what}", lines) for what, lines in differences(self.plain, new))
-        elif new.status != 1 or not new.err.startswith(b"abootimg: "):
+        elif new.status not in (0, 1) or not new.err.startswith(b"abootimg: ") and not is_stream:
             yield "no refusal", [f"the status is {new.status}: {new.err[:200]}"]
         for path, was in self.task.files.items():
             if path not in ("part",) and new.left.get(path) != ("file", was):
@@ -382,7 +394,7 @@ class Faults:
                 for at, call in enumerate(some):
                     line = injected(self.task.line, *call, error)
                     near = sorted(lines_of_old, key=lambda it: abs(lines_of_old.index(it) - at))
-                    yield line, list(self.wrong_of(line, self.new.answer(line, self.task.files), near))
+                    yield line, list(self.wrong_of(line, self.new.answer(line, self.task.files), near, path == "pipe"))
 
 
 def is_explained(mode, line, what):
@@ -391,8 +403,8 @@ def is_explained(mode, line, what):
 
 def judged(words, mode, number, folder, traces):
     """Makes and runs one task: lines of its differences, by what was tried, and how many were explained."""
-    programs = [Program(path, os.path.join(folder, f"{mode}{number}", name)) for path, name in ((words.old, "old"), (words.new, "new"))]
-    old, new = programs
+    room = os.path.join(folder, f"{mode}{number}")
+    old, new = programs = Program(words.old, os.path.join(room, "old")), Program(words.new, os.path.join(room, "new"))
     task = task_of(mode, number, words.seed, old.answer, traces)
     if mode == "faults":
         tried = Faults(task, old, new, f"{words.seed} {number}").tried()
@@ -410,7 +422,8 @@ def judged(words, mode, number, folder, traces):
             told += [f"DIFFERS  {task.name}: {line}"]
             told += [f"         {text}" for what, lines in open_ones for text in (what + ":", *(f"  {it}" for it in lines))]
     if told:
-        told.append(f"         again: tools/compare_programs.py {words.old} {words.new} --seed {words.seed} --run {task.name} --keep DIR")
+        again = f"{words.old} {words.new} --seed {words.seed} --run {task.name} --keep DIR"
+        told.append(f"         again: tools/compare_programs.py {again}")
     return told, counts
 
 
