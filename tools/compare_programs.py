@@ -17,9 +17,9 @@ changed. Modes, of which --mode names one (each has --runs runs, and `faults` as
            answers must be one of OLD's answers where any call of that kind of that file fails so. It ends with status 0 only where
            all is written, and else with status 1 and a line; no input is touched, and no broken-off image has its magic
 
-Each difference is printed with its shell line, and with the words that repeat it; --keep leaves both folders of it in DIR. What
-docs/DECISIONS.md explains stands in EXPLAINED, is counted and not printed. The last line is 'N passed, M failed'. What needs
-strace is left out, and this is said, where there is none that may trace.
+Each difference is printed with its shell line, and with the words that repeat it; --keep leaves what stood there before in
+DIR, and but for faults what both left. What docs/DECISIONS.md explains stands in EXPLAINED, is counted and not printed. The last
+line is 'N passed, M failed'. What needs strace is left out, and this is said, where there is none that may trace.
 """
 import argparse
 import collections
@@ -41,8 +41,8 @@ from recipes import CRC32, FILL, RAW, SKIP
 from run import difference, seen
 from try_faults import CALL, may_trace
 
-# What may differ, and why: words that the mode and the line have (a pattern), what differs (a pattern), and the reason, which
-# docs/DECISIONS.md tells. A difference that is no broken-off output never belongs here.
+# What may differ, and why: a pattern of the mode and the line, one of what differs, as it is printed, and the reason, which
+# docs/DECISIONS.md tells. ("^faults ", "^answer: read of (x|y|spool) gives status 0$", "why") is one, say.
 EXPLAINED = ()
 SECONDS = 60
 MODES = ("plain", "room", "full", "fifos", "changes", "faults")
@@ -280,6 +280,13 @@ def task_of(mode, number, seed, run, traces):
     return Task(mode, number, line, files)
 
 
+def write_files(folder, files):
+    os.makedirs(folder, exist_ok=True)
+    for name, data in files.items():
+        with open(os.path.join(folder, name), "wb") as file:
+            file.write(data)
+
+
 class Program:
     """A program, and how it answers a line."""
 
@@ -293,10 +300,7 @@ class Program:
         """How it answers the line in a folder that has just these files; `keep` is where that folder stays."""
         with tempfile.TemporaryDirectory(prefix="compare-") as base:
             room = os.path.join(base, "room")
-            os.mkdir(room)
-            for name, data in files.items():
-                with open(os.path.join(room, name), "wb") as file:
-                    file.write(data)
+            write_files(room, files)
             log = os.path.join(base, "log")
             child = subprocess.Popen(
                 ["bash", "-c", line], cwd=room, env={**self.environment, "LOG": log}, stdin=subprocess.DEVNULL,
@@ -365,24 +369,26 @@ class Faults:
             self.known[line] = it.status, it.out, it.err
         return self.known[line]
 
-    def wrong_of(self, line, new, lines_of_old, is_stream):
-        """What is not so of an answer of NEW: what it is, and lines."""
+    def wrong_of(self, line, new, lines_of_old, family, path):
+        """What is not so of an answer of NEW where a call of this family and file failed: what it is, and lines."""
+        is_stream = path == "pipe"  # of what is printed, or of what tells a refusal
         if new.status == 0 and not is_stream:
             yield from ((f"status 0 and {what}", lines) for what, lines in differences(self.plain, new))
         elif new.status not in (0, 1) or not new.err.startswith(b"abootimg: ") and not is_stream:
             yield "no refusal", [f"the status is {new.status}: {new.err[:200]}"]
-        for path, was in self.task.files.items():
-            if path not in ("part",) and new.left.get(path) != ("file", was):
-                yield f"input {path}", [f"{path} was touched"]
-        for path, now in new.left.items():
-            is_image = path.startswith("p.") or path == "out" and "sparse" in line
-            if is_image and now != self.plain.left.get(path) and now[1][:4] == MAGIC:
-                yield f"magic {path}", [f"{path} is broken off and has a magic"]
+        for name, was in self.task.files.items():
+            if name != "part" and new.left.get(name) != ("file", was):
+                yield f"input {name}", [f"{name} was touched"]
+        for name, now in new.left.items():
+            is_image = name.startswith("p.") or name == "out" and "sparse" in line
+            if is_image and now != self.plain.left.get(name) and now[1][:4] == MAGIC:
+                yield f"magic {name}", [f"{name} is broken off and has a magic"]
         told = new.status, new.out, new.err
         if lines_of_old and not any(told == self.answer_of_old(it) for it in lines_of_old):
             status, out, err = self.answer_of_old(lines_of_old[0])
-            yield "answer", [f"no call of OLD that fails so gives status {new.status}, {new.out[-80:]}, {new.err[:120]}",
-                             f"one gives {status}, {out[-80:]}, {err[:120]}"]
+            yield f"answer: {family} of {path} gives status {new.status}", [
+                f"no call of OLD that fails so gives status {new.status}, {new.out[-80:]}, {new.err[:120]}",
+                f"one gives {status}, {out[-80:]}, {err[:120]}"]
 
     def tried(self):
         """The lines that were tried, and what is not so of each."""
@@ -394,7 +400,7 @@ class Faults:
                 for at, call in enumerate(some):
                     line = injected(self.task.line, *call, error)
                     near = sorted(lines_of_old, key=lambda it: abs(lines_of_old.index(it) - at))
-                    yield line, list(self.wrong_of(line, self.new.answer(line, self.task.files), near, path == "pipe"))
+                    yield line, list(self.wrong_of(line, self.new.answer(line, self.task.files), near, family, path))
 
 
 def is_explained(mode, line, what):
@@ -406,10 +412,13 @@ def judged(words, mode, number, folder, traces):
     room = os.path.join(folder, f"{mode}{number}")
     old, new = programs = Program(words.old, os.path.join(room, "old")), Program(words.new, os.path.join(room, "new"))
     task = task_of(mode, number, words.seed, old.answer, traces)
+    keep = words.keep and os.path.join(words.keep, task.name.replace(":", "-"))
+    if keep:
+        write_files(os.path.join(keep, "before"), task.files)
     if mode == "faults":
         tried = Faults(task, old, new, f"{words.seed} {number}").tried()
     else:
-        keeps = [words.keep and os.path.join(words.keep, task.name.replace(":", "-"), it) for it in ("old", "new")]
+        keeps = [keep and os.path.join(keep, it) for it in ("old", "new")]
         both = [it.answer(task.line, task.files, keep) for it, keep in zip(programs, keeps)]
         tried = [(task.line, list(differences(*both)))]
     counts = collections.Counter()
