@@ -1,25 +1,27 @@
 #!/usr/bin/env python3
-"""Runs two built programs over the same random images, and compares their status, what they print and every file they leave.
+"""Runs two built programs over the same random images, and compares status, what is printed and every file that is left.
 
   tools/compare_programs.py OLD NEW [--seed N] [--runs N] [--faults N] [--jobs N] [--mode MODE] [--run NAME] [--keep DIR]
 
-OLD and NEW are paths of programs. Run I of a mode has the same images and the same shell line at every turn with this seed.
-Images are on both sides of what the program asks for or holds at once: 256 bytes, 4 KiB, 8 KiB and 64 KiB. Many are cut off or
-changed. Modes, of which --mode names one (each has --runs runs, and `faults` as many as --faults says):
+OLD and NEW are paths of programs. Run I of a mode has the same images and the same shell line at every turn with this
+seed. Images are on both sides of what the program asks for or holds at once: 256 bytes, 4 KiB, 8 KiB and 64 KiB. Many
+are cut off or changed. Modes, of which --mode names one (each has --runs runs, and `faults` as many as --faults says):
 
   plain    every command, from and to files and pipes
   room     the same, with `ulimit -f` at a random limit, where the signal is ignored
   full     /dev/full as OUT, as PARTITION, as SPOOL or as standard output
   fifos    outputs are FIFOs
-  changes  an IN gets shorter or longer at a moment that both programs have: once so much was read of a FIFO that is written, or
-           while a sync or write is delayed (by strace)
-  faults   a call of the system fails by strace, each kind of call of each file in turn. The programs make other calls, so what NEW
-           answers must be one of OLD's answers where any call of that kind of that file fails so. It ends with status 0 only where
-           all is written, and else with status 1 and a line; no input is touched, and no broken-off image has its magic
+  changes  an IN gets shorter or longer at a moment that both programs have: once so much was read of a FIFO that is
+           written, or while a sync or write is delayed (by strace)
+  faults   a call of the system fails by strace, each kind of call of each file in turn. The programs make other calls,
+           so what NEW answers must be one of OLD's answers where any call of that kind of that file fails so. It ends
+           with status 0 only where all is written, and else with status 1 and a line; no input is touched, and no
+           broken-off image has its magic
 
-Each difference is printed with its shell line, and with the words that repeat it; --keep leaves what stood there before in
-DIR, and but for faults what both left. What docs/DECISIONS.md explains stands in EXPLAINED, is counted and not printed. The last
-line is 'N passed, M failed'. What needs strace is left out, and this is said, where there is none that may trace.
+Each difference is printed with its shell line, and with the words that repeat it; --keep leaves what stood there before
+in DIR, and but for faults what both left. What docs/DECISIONS.md explains stands in EXPLAINED, is counted and not
+printed. The last line is 'N passed, M failed'. What needs strace is left out, and this is said, where there is none
+that may trace.
 """
 import argparse
 import collections
