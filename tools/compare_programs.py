@@ -45,7 +45,11 @@ from try_faults import CALL, may_trace
 
 # What may differ, and why: a pattern of the mode and the line, one of what differs, as it is printed, and the reason, which
 # docs/DECISIONS.md tells. ("^faults ", "^answer: read of (x|y|spool) gives status 0$", "why") is one, say.
-EXPLAINED = ()
+EXPLAINED = (
+    (r"^faults", r"^answer: read of .* gives status 0$", "a read ahead that fails is made again for what was asked"),
+    (r"^faults", r"^answer: fstat of .* gives status 0$", "an IN whose length is not told counts as it was"),
+    (r"^changes .*\bexpand\b", r"^(stderr|file \w+)$", "IN ends where it ends now, and more of it may be laid"),
+)
 SECONDS = 60
 MODES = ("plain", "room", "full", "fifos", "changes", "faults")
 EDGES = (256, 4096, 8192, 65_536, 131_072)
@@ -254,7 +258,7 @@ def changed_line(maker, line, files, traces):
         return line
     calls, path = ("fsync", "part") if " spool" in line else ("write,pwrite64,writev,pwritev", "out")
     turn = maker.one(1, 1, 2)
-    how = f"strace -f -qqq -o $LOG -P $PWD/{path} -e trace={calls} -e inject={calls}:delay_enter=400000:when={turn}"
+    how = f"strace -f -qqq -o $LOG -P $PWD/{path} -e trace={calls} -e inject={calls}:delay_enter=1000000:when={turn}"
     waits = f"until [ $(grep -c '(' $LOG) -ge {turn} ] || ! kill -0 $!; do sleep .01; done 2> /dev/null"
     return f"{how} {line} & {waits}; {act}; wait $!"
 
