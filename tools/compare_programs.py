@@ -26,6 +26,7 @@ that may trace.
 import argparse
 import collections
 import concurrent.futures
+import hashlib
 import os
 import random
 import re
@@ -323,7 +324,18 @@ class Program:
                 shutil.copytree(room, keep, ignore=lambda at, names: [it for it in names if re.match(r"p\.|out$", it)
                                 and not os.path.isfile(os.path.join(at, it))], dirs_exist_ok=True)
             self.traced = open(log, errors="replace").read().split("\n") if os.path.exists(log) else []
-            return Answer(status, out, err, seen(room))
+            return Answer(status, out, err, {name: summed(room, name, it) for name, it in seen(room).items()})
+
+
+def summed(room, name, it):
+    """What stands at a path, with a sum of its bytes where it is a large file, in place of its time."""
+    if it[0] != "a large file":
+        return it
+    sum_of = hashlib.blake2b(digest_size=8)
+    with open(os.path.join(room, name), "rb") as file:
+        for part in iter(lambda: file.read(1 << 20), b""):
+            sum_of.update(part)
+    return it[0], it[1], sum_of.hexdigest()
 
 
 def differences(old, new):
