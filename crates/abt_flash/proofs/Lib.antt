@@ -16,3 +16,4 @@ pub mod Summing
 pub mod Refusing
 pub mod Records
 pub mod Still
+pub mod Ways

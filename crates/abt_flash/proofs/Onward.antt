@@ -75,23 +75,23 @@ one_more_times m k = omega arith
 pub charged_more : (g0 g g' c0 c c' made made' one : ℕ) → made' ≡ made + 1 → g' + c ≤ g + c' + 48 + one → g + c0 ≤ g0 + c + made * (48 + one) → g' + c0 ≤ g0 + c' + made' * (48 + one)
 charged_more g0 g g' c0 c c' made made' one e h k = let z : made' * (48 + one) ≡ made * (48 + one) + (48 + one) = ap (λ (m : ℕ). m * (48 + one)) e ∙ one_more_times made (48 + one) in omega (arith, z, h, k)
 
-pub spent_more : (g0 g g' p0 p p' made0 made made' one : ℕ) → made' ≡ made + 1 → g' + p ≤ g + p' + 80 + one → g + p0 + made0 * (80 + one) ≤ g0 + p + made * (80 + one) → g' + p0 + made0 * (80 + one) ≤ g0 + p' + made' * (80 + one)
-spent_more g0 g g' p0 p p' made0 made made' one e h k = let z : made' * (80 + one) ≡ made * (80 + one) + (80 + one) = ap (λ (m : ℕ). m * (80 + one)) e ∙ one_more_times made (80 + one) in omega (arith, z, h, k)
+pub spent_more : (g0 g g' p0 p p' made0 made made' each : ℕ) → made' ≡ made + 1 → g' + p ≤ g + p' + each → g + p0 + made0 * each ≤ g0 + p + made * each → g' + p0 + made0 * each ≤ g0 + p' + made' * each
+spent_more g0 g g' p0 p p' made0 made made' each e h k = let z : made' * each ≡ made * each + each = ap (λ (m : ℕ). m * each) e ∙ one_more_times made each in omega (arith, z, h, k)
 
-pub spent_last : (g0 g g' p0 p p' made0 made made' one : ℕ) → made' ≡ made + 1 → g' + p ≤ g + p' + 48 → g + p0 + made0 * (80 + one) ≤ g0 + p + made * (80 + one) → g' + p0 + made0 * (80 + one) + (80 + one) ≤ g0 + p' + made' * (80 + one) + 48
-spent_last g0 g g' p0 p p' made0 made made' one e h k = let z : made' * (80 + one) ≡ made * (80 + one) + (80 + one) = ap (λ (m : ℕ). m * (80 + one)) e ∙ one_more_times made (80 + one) in omega (arith, z, h, k)
+pub spent_last : (g0 g g' p0 p p' made0 made made' each last : ℕ) → made' ≡ made + 1 → g' + p ≤ g + p' + last → g + p0 + made0 * each ≤ g0 + p + made * each → g' + p0 + made0 * each + each ≤ g0 + p' + made' * each + last
+spent_last g0 g g' p0 p p' made0 made made' each last e h k = let z : made' * each ≡ made * each + each = ap (λ (m : ℕ). m * each) e ∙ one_more_times made each in omega (arith, z, h, k)
 
-pub spent_whole : (g0 g p0 p3 p made0 made d one pass image : ℕ) → made ≡ made0 + d → p ≤ 3 * pass + image → g + p0 + made0 * (80 + one) + (80 + one) ≤ g0 + p + made * (80 + one) + 48 → g + p0 + (80 + one) ≤ g0 + 3 * pass + image + 48 + d * (80 + one)
-spent_whole g0 g p0 p3 p made0 made d one pass image e h k =
-    let z : made * (80 + one) ≡ (made0 + d) * (80 + one) = ap (λ (m : ℕ). m * (80 + one)) e in
-    let y : (made0 + d) * (80 + one) ≡ made0 * (80 + one) + d * (80 + one) = omega arith in
+pub spent_whole : (g0 g p0 p made0 made d each all last : ℕ) → made ≡ made0 + d → p ≤ all → g + p0 + made0 * each + each ≤ g0 + p + made * each + last → g + p0 + each ≤ g0 + all + last + d * each
+spent_whole g0 g p0 p made0 made d each all last e h k =
+    let z : made * each ≡ (made0 + d) * each = ap (λ (m : ℕ). m * each) e in
+    let y : (made0 + d) * each ≡ made0 * each + d * each = omega arith in
     omega (arith, z, y, h, k)
 
 -- what one piece more costs
-pub calls_on : (x0 x x' y0 y y' k0 k k' : ℕ) → x' + 8 * y ≤ x + 8 * y' + 257 → x + 8 * y0 + 258 * k0 ≤ x0 + 8 * y + 258 * k → k' ≡ k + 1 → x' + 8 * y0 + 258 * k0 ≤ x0 + 8 * y' + 258 * k'
+pub calls_on : (x0 x x' y0 y y' k0 k k' : ℕ) → x' + 8 * y ≤ x + 8 * y' + 373 → x + 8 * y0 + 374 * k0 ≤ x0 + 8 * y + 374 * k → k' ≡ k + 1 → x' + 8 * y0 + 374 * k0 ≤ x0 + 8 * y' + 374 * k'
 calls_on x0 x x' y0 y y' k0 k k' h i e = omega (arith, h, i, e)
 
-pub turns_on : (t0 t t1 t' y0 y y' k0 k k' w w' p : ℕ) → t1 ≡ t + 1 → t' + 8 * y ≤ t1 + 8 * y' + 256 + p → w + p ≤ w' → t + 8 * y0 + 258 * k0 ≤ t0 + 8 * y + w + 258 * k → k' ≡ k + 1 → t' + 8 * y0 + 258 * k0 ≤ t0 + 8 * y' + w' + 258 * k'
+pub turns_on : (t0 t t1 t' y0 y y' k0 k k' w w' p : ℕ) → t1 ≡ t + 1 → t' + 8 * y ≤ t1 + 8 * y' + 364 + p → w + p ≤ w' → t + 8 * y0 + 374 * k0 ≤ t0 + 8 * y + w + 374 * k → k' ≡ k + 1 → t' + 8 * y0 + 374 * k0 ≤ t0 + 8 * y' + w' + 374 * k'
 turns_on t0 t t1 t' y0 y y' k0 k k' w w' p tick h words i e = omega (arith, tick, h, words, i, e)
 
 -- ---- and what else one piece more moves

@@ -1,7 +1,8 @@
 -- What delivering an image piece by piece promises: of the spool, of the partition, and of every moment on the way.
 use Rattle.std.specs.Prelude.{◌≡◌, ℕ, ◌+◌, ◌-◌, ◌*◌, ◌≤◌, ◌<◌, List, [], ◌∷◌, ◌++◌, length, take, drop, replicate, max}
-use Rattle.std.specs.Prelude.{Bool, false, IsTrue, Result, Ok, Err, OnOk}
+use Rattle.std.specs.Prelude.{Bool, false, IsTrue, Result, Ok, Err, OnOk, ◌⊎◌}
 use Rattle.std.specs.List.{concat}
+use Rattle.abt_io.specs.Frame.{last_cut}
 use Rattle.abt_io.specs.declared.device.DeviceFault.TheVariants.{Failed}
 use Rattle.abt_io.specs.declared.meter.Meter.{Meter}
 use Rattle.abt_io.specs.Moment.{Moment, Past, MayLeave, EachSince, moment_of}
@@ -10,6 +11,8 @@ use Rattle.abt_sparse.specs.Runs.{segments, joined, Division}
 use Rattle.abt_sparse.specs.Pieces.{pieces}
 use Rattle.abt_sparse.specs.Mending.{Mendable}
 use Rattle.abt_pieces.specs.Contents.{written_in}
+use Rattle.abt_pieces.specs.Image.{IsImage}
+use Rattle.abt_placed.specs.Unfinished.{IsNoImage}
 use Rattle.abt_flash.specs.Devices.{Counts, PartitionState, SpoolState, all_bytes, all_calls}
 use Rattle.abt_flash.specs.Fault.{refused_syncs}
 use Rattle.abt_flash.specs.declared.fault.Cause.{Cause}
@@ -44,6 +47,25 @@ pieces_behind limit b l made = drop made (pieces limit b l)
 pub record Begins (front whole : List ℕ) : Type 0 where
   pub more : List ℕ
   pub joined : front ++ more ≡ whole
+
+-- so many of these pieces, whole, were written behind what stood there
+pub record GaveWhole (old new : List ℕ) (pieces : List (List ℕ)) : Type 0 where
+  pub count : ℕ
+  pub gave : new ≡ old ++ concat (take count pieces)
+
+-- That is all; or it is so up to the last clear, and behind that stands what is no image, whatever follows it.
+abbrev pub GaveNoPart : List ℕ → List ℕ → List ℕ → List (List ℕ) → Type 0
+GaveNoPart old new cuts pieces = GaveWhole old new pieces
+    ⊎ (GaveWhole old (take (last_cut cuts) new) pieces × IsNoImage (drop (last_cut cuts) new))
+
+-- nothing, an image of blocks of b bytes with nothing behind it, or what is no image, whatever follows it
+abbrev pub IsWholeOrNone : ℕ → List ℕ → Type 0
+IsWholeOrNone b x = (x ≡ []) ⊎ (((n : ℕ) × IsImage b n x) ⊎ IsNoImage x)
+
+-- Nothing was written, nor cleared; or that stands behind the last clear.
+abbrev pub EndsWhole : ℕ → List ℕ → List ℕ → List ℕ → List ℕ → Type 0
+EndsWhole b old new old_cuts new_cuts =
+    ((new ≡ old) × (new_cuts ≡ old_cuts)) ⊎ IsWholeOrNone b (drop (last_cut new_cuts) new)
 
 -- where a spool was cleared, the newest first, once each piece was written behind a clear of its own, the first behind
 -- `at` bytes
@@ -192,16 +214,24 @@ abbrev pub IsLeast : ℕ → ℕ → ImageBlocks → Type 0
 IsLeast limit k i = (parts : List (List Block)) → Division limit i.size i.blocks parts → k ≤ length parts
 
 -- What a spool was given by a call that delivers an image behind its first pieces.
-pub record GivesPieces (source spool : Bool) (i : ImageBlocks) (limit made : ℕ) (r : Result Delivered FlashFault)
-    (old new : SpoolState) : Type 0 where
+-- Forward, each from its front on; or each with its headers last.
+pub record GivesPieces (forward source spool : Bool) (i : ImageBlocks) (limit made : ℕ)
+    (r : Result Delivered FlashFault) (old new : SpoolState) : Type 0 where
   -- its room stays, and behind each clear at most the limit was written, also of a piece that was only begun
   pub room : new.size ≡ old.size
   pub fits : PiecesFit limit old.cuts new.cuts (length old.written) (length new.written)
-  -- exactly the pieces that are left, each behind a clear of its own, and where it was refused a beginning of them
+  -- exactly the pieces that are left, each behind a clear of its own
   pub written : IsTrue source → OnOk r (new.written ≡ old.written ++ concat (pieces_behind limit i.size i.blocks made))
   pub cuts : IsTrue source
       → OnOk r (new.cuts ≡ with_cuts old.cuts (length old.written) (pieces_behind limit i.size i.blocks made))
-  pub begins : IsTrue source → Begins new.written (old.written ++ concat (pieces_behind limit i.size i.blocks made))
+  -- where it was refused, forward a beginning of them
+  pub begins : IsTrue forward → IsTrue source
+      → Begins new.written (old.written ++ concat (pieces_behind limit i.size i.blocks made))
+  -- headers last, some of them, and no part of an image behind the last clear; whatever the source gives, there is
+  -- nothing, an image, or none
+  pub no_part : forward ≡ false → IsTrue source
+      → GaveNoPart old.written new.written new.cuts (pieces_behind limit i.size i.blocks made)
+  pub ends : forward ≡ false → EndsWhole i.size old.written new.written old.cuts new.cuts
   -- each byte of them was read back
   pub back : IsTrue source → IsTrue spool → OnOk r (new.given + length old.written ≡ old.given + length new.written)
 

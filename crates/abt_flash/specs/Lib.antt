@@ -8,3 +8,4 @@ pub mod Going
 pub mod Causes
 pub mod Sparse
 pub mod Raw
+pub mod Way

@@ -1,17 +1,17 @@
 //! Planning the pieces that are passed over, and delivering all others.
 
 ghost use Rattle.std.specs.Prelude.{◌≡◌, ◌<◌, ◌≤◌, ◌+◌, ◌-◌, ◌*◌, ◌^◌, ◌++◌, [], IsTrue, MatchBool, IfOk, IfErr, OnOk};
-ghost use Rattle.std.specs.Prelude.{length, drop, max, Ok, Err};
+ghost use Rattle.std.specs.Prelude.{false, length, drop, max, Ok, Err};
 ghost use Rattle.std.specs.List.{concat};
 ghost use Rattle.abt_sparse.specs.Block.{cells, over};
 ghost use Rattle.abt_sparse.specs.Runs.{segments};
 ghost use Rattle.abt_pieces.specs.Contents.{written_in};
 ghost use Rattle.abt_pieces.specs.Cutter.{ToldCutter};
-ghost use Rattle.abt_pieces.specs.SpentStage.{all_passes};
 ghost use Rattle.abt_pieces.specs.declared.stage.Stage.{Stage};
 ghost use Rattle.abt_flash.specs.Devices.{NoFaultFalls, Work, counts};
 ghost use Rattle.abt_flash.specs.Fault.{refused_syncs};
-ghost use Rattle.abt_flash.specs.Delivering.{Begins, CountsTo, NoneFailed, OnUnsyncedPiece, PiecesFit, StaysMendable};
+ghost use Rattle.abt_flash.specs.Delivering.{Begins, CountsTo, EndsWhole, GaveNoPart, NoneFailed, OnUnsyncedPiece};
+ghost use Rattle.abt_flash.specs.Delivering.{PiecesFit, StaysMendable};
 ghost use Rattle.abt_flash.specs.Delivering.{begun, blocks_behind, blocks_in_first, blocks_up_to, finished};
 ghost use Rattle.abt_flash.specs.Delivering.{pieces_behind, with_cuts};
 ghost use Rattle.abt_flash.specs.Going.{PlanCosts, PlanRefused, StopsIn, bytes_in, calls_in};
@@ -20,6 +20,7 @@ ghost use Rattle.abt_flash.specs.Causes.{planning_fault};
 use crate::answer::Delivered;
 use crate::fault::FlashFault;
 use crate::piece::deliver_piece;
+use crate::way::Way;
 use abt_io::{Meter, Partition, Source, Spool, Window};
 use abt_pieces::{Cutter, PieceFault};
 use abt_runs::BlockRuns;
@@ -136,7 +137,8 @@ pub(crate) fn plan_pieces<R: BlockRuns + Drop, S: Source>(
 }
 
 /// Delivers all pieces that are left.
-pub(crate) fn deliver_rest<R: BlockRuns + Drop, S: Source, L: Spool, P: Partition>(
+pub(crate) fn deliver_rest<W: Way<R, L>, R: BlockRuns + Drop, S: Source, L: Spool, P: Partition>(
+    way: &W,
     cutter: &mut Cutter<R>,
     source: &mut S,
     spool: &mut L,
@@ -179,10 +181,15 @@ pub(crate) fn deliver_rest<R: BlockRuns + Drop, S: Source, L: Spool, P: Partitio
         OnOk result (L.cuts spool.new ≡ with_cuts (L.cuts spool.old) (length (L.written spool.old))
         (pieces_behind cutter.old.limit (R.size cutter.old.runs) (R.list cutter.old.runs (S.content source.old))
         cutter.old.made)) }
-    ensures begins { IsTrue S.tells →
+    ensures begins { IsTrue W.is_forward → IsTrue S.tells →
         Begins (L.written spool.new) (L.written spool.old ++ concat
         (pieces_behind cutter.old.limit (R.size cutter.old.runs) (R.list cutter.old.runs (S.content source.old))
         cutter.old.made)) }
+    ensures no_part { W.is_forward ≡ false → IsTrue S.tells → GaveNoPart (L.written spool.old) (L.written spool.new)
+        (L.cuts spool.new) (pieces_behind cutter.old.limit (R.size cutter.old.runs)
+        (R.list cutter.old.runs (S.content source.old)) cutter.old.made) }
+    ensures ends { W.is_forward ≡ false → EndsWhole (R.size cutter.old.runs) (L.written spool.old)
+        (L.written spool.new) (L.cuts spool.old) (L.cuts spool.new) }
     // The partition.
     ensures size { P.size partition.new ≡ P.size partition.old }
     ensures unread { (P.reads partition.new ≡ P.reads partition.old) × (P.given partition.new ≡ P.given partition.old) }
@@ -213,20 +220,20 @@ pub(crate) fn deliver_rest<R: BlockRuns + Drop, S: Source, L: Spool, P: Partitio
     ensures back { IsTrue S.tells → IsTrue L.tells → OnOk result (L.given spool.new + length (L.written spool.old)
         ≡ L.given spool.old + length (L.written spool.new)) }
     ensures spent { IsTrue S.tells →
-        IfOk result (λ d. S.given source.new + all_passes (R.charge cutter.old.runs) (R.copied cutter.old.runs)
-        cutter.old.start + (80 + R.one cutter.old.runs) ≤ S.given source.old + 3 * R.pass cutter.old.runs + R.image
-        cutter.old.runs + 48 + d.pieces * (80 + R.one cutter.old.runs)) }
+        IfOk result (λ d. S.given source.new + W.before cutter.old.runs cutter.old.start + W.each cutter.old.runs
+        ≤ S.given source.old + W.all cutter.old.runs + W.last cutter.old.runs
+        + d.pieces * W.each cutter.old.runs) }
     // Work.
     ensures calls { calls_in (S.reads source.new) (L.reads spool.new) (L.writes spool.new) (L.clears spool.new)
         (P.puts partition.new) (P.syncs partition.new) + 8 * bytes_in (S.given source.old) (L.given spool.old)
-        (length (L.written spool.old)) (P.taken partition.old) + 258 * cutter.old.made
+        (length (L.written spool.old)) (P.taken partition.old) + 374 * cutter.old.made
         ≤ calls_in (S.reads source.old) (L.reads spool.old) (L.writes spool.old) (L.clears spool.old)
         (P.puts partition.old) (P.syncs partition.old) + 8 * bytes_in (S.given source.new) (L.given spool.new)
-        (length (L.written spool.new)) (P.taken partition.new) + 258 * begun cutter.old.made result }
+        (length (L.written spool.new)) (P.taken partition.new) + 374 * begun cutter.old.made result }
     ensures turns { m.new.turns.number + 8 * bytes_in (S.given source.old) (L.given spool.old)
-        (length (L.written spool.old)) (P.taken partition.old) + 258 * cutter.old.made
+        (length (L.written spool.old)) (P.taken partition.old) + 374 * cutter.old.made
         ≤ m.old.turns.number + 8 * bytes_in (S.given source.new) (L.given spool.new) (length (L.written spool.new))
-        (P.taken partition.new) + 258 * begun cutter.old.made result + 4 * R.one cutter.old.runs + 1 }
+        (P.taken partition.new) + 374 * begun cutter.old.made result + 4 * R.one cutter.old.runs + 1 }
     ensures work { Work
         (counts S.Source L.Input L.Output L.Spool.own P.Partition.own source.old spool.old partition.old)
         (counts S.Source L.Input L.Output L.Spool.own P.Partition.own source.new spool.new partition.new) m.old m.new }
@@ -247,7 +254,7 @@ pub(crate) fn deliver_rest<R: BlockRuns + Drop, S: Source, L: Spool, P: Partitio
             return delivered(before, cutter.made);
         }
         let piece = next_number(cutter.made);
-        match deliver_piece(cutter, source, spool, partition, w, m) {
+        match deliver_piece(way, cutter, source, spool, partition, w, m) {
             Ok(()) => {}
             Err(cause) => return Err(FlashFault::Stopped { piece, cause }),
         }

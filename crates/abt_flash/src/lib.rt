@@ -15,10 +15,12 @@
 //! | `flasher.rt` | `Flasher`, flashing in steps |
 //! | `flashing.rt` | `flash` |
 //! | `answer.rt` | `Delivered` |
+//! | `way.rt` | how a piece is written to the spool: forward, or its headers last |
 //! | `piece.rt` | one piece: cleared, written to the spool, flashed from there |
 //! | `delivering.rt` | the pieces that are only planned, and all others |
 //! | `opened.rt` | `deliver_runs`: an opened image |
 //! | `sparse.rt`, `raw.rt` | `deliver`, `resume`, `deliver_raw`, `resume_raw`: sparse images, and raw ones |
+//! | `raw_at.rt` | `deliver_raw_at`, `resume_raw_at`: raw images in one pass, by a spool that can be written over |
 //!
 //! `specs/Flashing.antt` says what a flash answers, `specs/Laying.antt` what a call may touch, and
 //! `specs/Stepping.antt` what a step does. `specs/Delivering.antt` has a record for each promise of a delivery:
@@ -36,8 +38,10 @@ mod laying;
 mod opened;
 mod piece;
 mod raw;
+mod raw_at;
 mod sparse;
 mod stage;
+mod way;
 
 pub use answer::Delivered;
 pub use fault::{Cause, FlashFault};
@@ -45,5 +49,6 @@ pub use flasher::Flasher;
 pub use flashing::flash;
 pub use opened::deliver_runs;
 pub use raw::{deliver_raw, resume_raw};
+pub use raw_at::{deliver_raw_at, resume_raw_at};
 pub use sparse::{deliver, resume};
 pub use stage::{Flashed, Stage};

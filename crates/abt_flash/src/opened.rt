@@ -1,15 +1,18 @@
 //! Delivering an opened image, whole or from one of its pieces on.
 
 ghost use Rattle.std.specs.Prelude.{◌≡◌, ◌<◌, ◌≤◌, ◌+◌, ◌-◌, ◌*◌, ◌^◌, [], IsTrue, IfOk, IfErr, MatchBool, OnOk};
-ghost use Rattle.std.specs.Prelude.{length};
+ghost use Rattle.std.specs.Prelude.{length, max, true};
 ghost use Rattle.abt_flash.specs.Devices.{counts, partition_state, spool_state};
 ghost use Rattle.abt_flash.specs.Delivering.{AlwaysMendable, Costs, CountsTo, GivesPieces, IsLeast, LaysBlocks};
-ghost use Rattle.abt_flash.specs.Delivering.{MendsBlocks, NoneFailed, OnEarly, Refused, Room, pieces_in};
+ghost use Rattle.abt_flash.specs.Delivering.{MendsBlocks, NoneFailed, OnEarly, Refused, Room, begun, blocks_in_first};
+ghost use Rattle.abt_flash.specs.Delivering.{pieces_in};
+ghost use Rattle.abt_flash.specs.Way.{ReadFor};
 ghost use Rattle.abt_flash.specs.Causes.{opening_fault};
 
 use crate::answer::Delivered;
 use crate::delivering::{deliver_rest, plan_pieces};
 use crate::fault::FlashFault;
+use crate::way::{Forward, Way};
 use abt_io::{Meter, Partition, Source, Spool, Window};
 use abt_pieces::{Cutter, PieceFault};
 use abt_runs::BlockRuns;
@@ -36,7 +39,8 @@ fn is_too_small(size: u64, need: u64) -> bool
 }
 
 /// Delivers all pieces of an opened image but so many of the first, which are only planned.
-pub(crate) fn deliver_behind<R: BlockRuns + Drop, S: Source, L: Spool, P: Partition>(
+pub(crate) fn deliver_behind<W: Way<R, L>, R: BlockRuns + Drop, S: Source, L: Spool, P: Partition>(
+    way: &W,
     runs: R,
     source: &mut S,
     limit: u32,
@@ -65,7 +69,7 @@ pub(crate) fn deliver_behind<R: BlockRuns + Drop, S: Source, L: Spool, P: Partit
         (counts S.Source L.Input L.Output L.Spool.own P.Partition.own source.old spool.old partition.old)
         (counts S.Source L.Input L.Output L.Spool.own P.Partition.own source.new spool.new partition.new)) }
     // What it wrote.
-    ensures spool { GivesPieces S.tells L.tells
+    ensures spool { GivesPieces W.is_forward S.tells L.tells
         (record { size = R.size runs; blocks = R.list runs (S.content source.old) }) limit before result
         (spool_state L.Input L.Output L.Spool.own spool.old) (spool_state L.Input L.Output L.Spool.own spool.new) }
     ensures partition { LaysBlocks S.tells L.tells P.tells
@@ -86,8 +90,10 @@ pub(crate) fn deliver_behind<R: BlockRuns + Drop, S: Source, L: Spool, P: Partit
     ensures frame { S.read_frame source.new ≡ S.read_frame source.old }
     // What it cost.
     ensures reads { IsTrue S.tells →
-        IfOk result (λ d. S.given source.new + R.opening runs
-        ≤ S.given source.old + 8 * R.image runs + 128 * (before + d.pieces + 1)) }
+        IfOk result (λ d. ReadFor (R.within runs) (R.charge runs) (W.before runs) (R.one runs) (W.each runs) (W.last runs)
+        (W.all runs) (blocks_in_first limit (R.size runs) (R.list runs (S.content source.old)) before) before d.pieces
+        (S.given source.old) (S.given source.new)) }
+    ensures few { begun before result ≤ max 1 (R.count runs) }
     ensures long { IfOk result (λ d. length (L.written spool.new) ≤ length (L.written spool.old) + R.most_taken runs
         + 80 * d.pieces) }
     ensures costs { Costs S.tells
@@ -113,7 +119,7 @@ pub(crate) fn deliver_behind<R: BlockRuns + Drop, S: Source, L: Spool, P: Partit
         Ok(()) => {}
         Err(fault) => return Err(fault),
     }
-    deliver_rest(&mut cutter, source, spool, partition, w, m)
+    deliver_rest(way, &mut cutter, source, spool, partition, w, m)
 }
 
 /// Cuts an opened image into pieces within a download limit, and flashes one after the other to a partition: each is
@@ -146,7 +152,7 @@ pub fn deliver_runs<R: BlockRuns + Drop, S: Source, L: Spool, P: Partition>(
         (counts S.Source L.Input L.Output L.Spool.own P.Partition.own source.old spool.old partition.old)
         (counts S.Source L.Input L.Output L.Spool.own P.Partition.own source.new spool.new partition.new)) }
     // What it wrote.
-    ensures spool { GivesPieces S.tells L.tells
+    ensures spool { GivesPieces true S.tells L.tells
         (record { size = R.size runs; blocks = R.list runs (S.content source.old) }) limit 0 result
         (spool_state L.Input L.Output L.Spool.own spool.old) (spool_state L.Input L.Output L.Spool.own spool.new) }
     ensures partition { LaysBlocks S.tells L.tells P.tells
@@ -176,5 +182,5 @@ pub fn deliver_runs<R: BlockRuns + Drop, S: Source, L: Spool, P: Partition>(
         (counts S.Source L.Input L.Output L.Spool.own P.Partition.own source.old spool.old partition.old)
         (counts S.Source L.Input L.Output L.Spool.own P.Partition.own source.new spool.new partition.new) m.old m.new }
 {
-    deliver_behind(runs, source, limit, 0, spool, partition, w, m)
+    deliver_behind(&Forward {}, runs, source, limit, 0, spool, partition, w, m)
 }

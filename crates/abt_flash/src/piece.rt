@@ -1,7 +1,7 @@
 //! One piece, from the source through the spool to the partition.
 
 ghost use Rattle.std.specs.Prelude.{◌≡◌, ◌<◌, ◌≤◌, ◌+◌, ◌-◌, ◌*◌, ◌++◌, [], ◌∷◌, IsTrue, Err, IfErr, OnErr, OnOk};
-ghost use Rattle.std.specs.Prelude.{is_ok};
+ghost use Rattle.std.specs.Prelude.{false, is_ok};
 ghost use Rattle.std.specs.Prelude.{length, if◌then◌else◌};
 ghost use Rattle.abt_sparse.specs.Block.{cells, over};
 ghost use Rattle.abt_pieces.specs.Contents.{written_in};
@@ -9,16 +9,17 @@ ghost use Rattle.abt_pieces.specs.Cutter.{ToldCutter, piece_words};
 ghost use Rattle.abt_pieces.specs.Gather.{frame};
 ghost use Rattle.abt_pieces.specs.Outline.{piece_at};
 ghost use Rattle.abt_pieces.specs.Plan.{FirstPiece};
-ghost use Rattle.abt_pieces.specs.SpentStage.{all_passes};
 ghost use Rattle.abt_pieces.specs.declared.stage.Stage.{Stage};
 ghost use Rattle.abt_flash.specs.Devices.{NoFaultFalls, Work, counts};
 ghost use Rattle.abt_flash.specs.Flashing.{TouchesOnly};
-ghost use Rattle.abt_flash.specs.Delivering.{Begins, NoneFailed, OnFlashed, PiecesFit, StopsFor, unsynced_by};
+ghost use Rattle.abt_flash.specs.Delivering.{Begins, EndsWhole, GaveNoPart, NoneFailed, OnFlashed, PiecesFit};
+ghost use Rattle.abt_flash.specs.Delivering.{StopsFor, unsynced_by};
 ghost use Rattle.abt_flash.specs.Going.{GoesBehind, blocks_at, bytes_in, calls_in};
 ghost use Rattle.abt_flash.specs.Causes.{cutting_cause, flashing_cause};
 
 use crate::fault::{Cause, FlashFault};
 use crate::flashing::flash;
+use crate::way::Way;
 use abt_io::{DeviceFault, Meter, Partition, Source, Spool, Window};
 use abt_pieces::{Cutter, PieceFault};
 use abt_runs::BlockRuns;
@@ -82,7 +83,8 @@ fn not_flashed(fault: FlashFault) -> Result<(), Cause>
 }
 
 /// Clears the spool, writes the next piece to it, flashes that from there to the partition, and syncs the partition.
-pub(crate) fn deliver_piece<R: BlockRuns + Drop, S: Source, L: Spool, P: Partition>(
+pub(crate) fn deliver_piece<W: Way<R, L>, R: BlockRuns + Drop, S: Source, L: Spool, P: Partition>(
+    way: &W,
     cutter: &mut Cutter<R>,
     source: &mut S,
     spool: &mut L,
@@ -112,7 +114,7 @@ pub(crate) fn deliver_piece<R: BlockRuns + Drop, S: Source, L: Spool, P: Partiti
     // The source.
     ensures content { IsTrue S.tells → S.content source.new ≡ S.content source.old }
     ensures frame { S.read_frame source.new ≡ S.read_frame source.old }
-    // The spool is given that piece behind a clear, or a beginning of it.
+    // The spool is given that piece behind a clear, or a beginning of it, or what is no image.
     ensures capacity { L.size spool.new ≡ L.size spool.old }
     ensures fits { PiecesFit cutter.old.limit (L.cuts spool.old) (L.cuts spool.new) (length (L.written spool.old))
         (length (L.written spool.new)) }
@@ -120,9 +122,14 @@ pub(crate) fn deliver_piece<R: BlockRuns + Drop, S: Source, L: Spool, P: Partiti
     ensures written { IsTrue S.tells →
         OnOk result (L.written spool.new ≡ L.written spool.old ++ piece_at (R.size cutter.old.runs) cutter.old.limit
         (R.list cutter.old.runs (S.content source.old)) cutter.old.start.block) }
-    ensures begins { IsTrue S.tells →
+    ensures begins { IsTrue W.is_forward → IsTrue S.tells →
         Begins (L.written spool.new) (L.written spool.old ++ piece_at (R.size cutter.old.runs) cutter.old.limit
         (R.list cutter.old.runs (S.content source.old)) cutter.old.start.block) }
+    ensures no_part { W.is_forward ≡ false → IsTrue S.tells → GaveNoPart (L.written spool.old) (L.written spool.new)
+        (L.cuts spool.new) (piece_at (R.size cutter.old.runs) cutter.old.limit
+        (R.list cutter.old.runs (S.content source.old)) cutter.old.start.block ∷ []) }
+    ensures ends { W.is_forward ≡ false → EndsWhole (R.size cutter.old.runs) (L.written spool.old)
+        (L.written spool.new) (L.cuts spool.old) (L.cuts spool.new) }
     // The partition gets its blocks, and nothing else is touched.
     ensures size { P.size partition.new ≡ P.size partition.old }
     ensures unread { (P.reads partition.new ≡ P.reads partition.old) × (P.given partition.new ≡ P.given partition.old) }
@@ -148,26 +155,25 @@ pub(crate) fn deliver_piece<R: BlockRuns + Drop, S: Source, L: Spool, P: Partiti
     ensures back { IsTrue S.tells → IsTrue L.tells → OnOk result (L.given spool.new + length (L.written spool.old)
         ≡ L.given spool.old + length (L.written spool.new)) }
     ensures spent { IsTrue S.tells →
-        OnOk result (S.given source.new + all_passes (R.charge cutter.old.runs) (R.copied cutter.old.runs)
-        cutter.old.start ≤ S.given source.old + all_passes (R.charge cutter.old.runs) (R.copied cutter.old.runs)
-        cutter.new.start + 80 + R.one cutter.old.runs) }
+        OnOk result (S.given source.new + W.before cutter.old.runs cutter.old.start
+        ≤ S.given source.old + W.before cutter.old.runs cutter.new.start + W.each cutter.old.runs) }
     ensures spent_end { IsTrue S.tells →
         OnOk result (R.count cutter.old.runs ≤ cutter.new.start.block →
-        S.given source.new + all_passes (R.charge cutter.old.runs) (R.copied cutter.old.runs) cutter.old.start
-        ≤ S.given source.old + all_passes (R.charge cutter.old.runs) (R.copied cutter.old.runs) cutter.new.start + 48) }
+        S.given source.new + W.before cutter.old.runs cutter.old.start
+        ≤ S.given source.old + W.before cutter.old.runs cutter.new.start + W.last cutter.old.runs) }
     // Work.
     ensures calls { calls_in (S.reads source.new) (L.reads spool.new) (L.writes spool.new) (L.clears spool.new)
         (P.puts partition.new) (P.syncs partition.new) + 8 * bytes_in (S.given source.old) (L.given spool.old)
         (length (L.written spool.old)) (P.taken partition.old)
         ≤ calls_in (S.reads source.old) (L.reads spool.old) (L.writes spool.old) (L.clears spool.old)
         (P.puts partition.old) (P.syncs partition.old) + 8 * bytes_in (S.given source.new) (L.given spool.new)
-        (length (L.written spool.new)) (P.taken partition.new) + 257 }
+        (length (L.written spool.new)) (P.taken partition.new) + 373 }
     ensures turns { m.new.turns.number + 8 * bytes_in (S.given source.old) (L.given spool.old)
         (length (L.written spool.old)) (P.taken partition.old) ≤ m.old.turns.number + 8 * bytes_in (S.given source.new)
-        (L.given spool.new) (length (L.written spool.new)) (P.taken partition.new) + 256 + 3 * R.one cutter.old.runs }
+        (L.given spool.new) (length (L.written spool.new)) (P.taken partition.new) + 364 + 3 * R.one cutter.old.runs }
     ensures words { OnOk result (m.new.turns.number + 8 * bytes_in (S.given source.old) (L.given spool.old)
         (length (L.written spool.old)) (P.taken partition.old) ≤ m.old.turns.number + 8 * bytes_in (S.given source.new)
-        (L.given spool.new) (length (L.written spool.new)) (P.taken partition.new) + 256 + piece_words
+        (L.given spool.new) (length (L.written spool.new)) (P.taken partition.new) + 364 + piece_words
         (R.one cutter.old.runs) (R.count cutter.old.runs) cutter.new.start.block) }
     ensures work { Work
         (counts S.Source L.Input L.Output L.Spool.own P.Partition.own source.old spool.old partition.old)
@@ -189,9 +195,8 @@ pub(crate) fn deliver_piece<R: BlockRuns + Drop, S: Source, L: Spool, P: Partiti
         Ok(()) => {}
         Err(cause) => return Err(cause),
     }
-    match cutter.next_piece(source, spool, w, m) {
-        Ok(Some(_)) => {}
-        Ok(None) => unreachable!(),
+    match way.write_piece(cutter, source, spool, w, m) {
+        Ok(_) => {}
         Err(fault) => return Err(not_written(fault)),
     }
     match flash(spool, partition, w, m) {

@@ -1,10 +1,11 @@
 //! Delivering a raw image, whole or from one of its pieces on.
 
-ghost use Rattle.std.specs.Prelude.{◌≡◌, ◌<◌, ◌≤◌, ◌+◌, ◌-◌, ◌*◌, ◌^◌, [], IsTrue, IfOk, IfErr, OnOk, length};
+ghost use Rattle.std.specs.Prelude.{◌≡◌, ◌<◌, ◌≤◌, ◌+◌, ◌-◌, ◌*◌, ◌^◌, [], IsTrue, IfOk, IfErr, OnOk, length, max, true};
 ghost use Rattle.abt_sparse.specs.Block.{classify};
 ghost use Rattle.abt_flash.specs.Devices.{counts, partition_state, spool_state};
 ghost use Rattle.abt_flash.specs.Delivering.{AlwaysMendable, Costs, CountsTo, GivesPieces, IsLeast, LaysBlocks};
-ghost use Rattle.abt_flash.specs.Delivering.{MendsBlocks, NoneFailed, OnEarly, Room, pieces_in};
+ghost use Rattle.abt_flash.specs.Delivering.{MendsBlocks, NoneFailed, OnEarly, Room, begun, blocks_in_first, pieces_in};
+ghost use Rattle.abt_flash.specs.Way.{ReadForRaw};
 ghost use Rattle.abt_flash.specs.Raw.{IsAllowed, RawRefused, raw_image};
 
 use crate::answer::Delivered;
@@ -12,11 +13,13 @@ use crate::delivering::pieces_before;
 use crate::fault::FlashFault;
 use crate::opened::deliver_behind;
 use crate::sparse::not_read;
+use crate::way::{Forward, Way};
 use abt_io::{Meter, Partition, Source, Spool, Window};
 use abt_runs::RawRuns;
 
 /// Delivers all pieces of a raw image in blocks of this size but so many of the first, which are only planned.
-pub(crate) fn raw_behind<S: Source, L: Spool, P: Partition>(
+pub(crate) fn raw_behind<W: Way<RawRuns, L>, S: Source, L: Spool, P: Partition>(
+    way: &W,
     source: &mut S,
     b: u32,
     limit: u32,
@@ -46,7 +49,7 @@ pub(crate) fn raw_behind<S: Source, L: Spool, P: Partition>(
         (counts S.Source L.Input L.Output L.Spool.own P.Partition.own source.old spool.old partition.old)
         (counts S.Source L.Input L.Output L.Spool.own P.Partition.own source.new spool.new partition.new)) }
     // What it wrote.
-    ensures spool { GivesPieces S.tells L.tells (raw_image b (S.content source.old)) limit before result
+    ensures spool { GivesPieces W.is_forward S.tells L.tells (raw_image b (S.content source.old)) limit before result
         (spool_state L.Input L.Output L.Spool.own spool.old) (spool_state L.Input L.Output L.Spool.own spool.new) }
     ensures partition { LaysBlocks S.tells L.tells P.tells (raw_image b (S.content source.old)) limit before result
         (partition_state P.Source P.Partition.own partition.old)
@@ -65,8 +68,10 @@ pub(crate) fn raw_behind<S: Source, L: Spool, P: Partition>(
     ensures frame { S.read_frame source.new ≡ S.read_frame source.old }
     // What it cost.
     ensures reads { IsTrue S.tells →
-        IfOk result (λ d. S.given source.new ≤ S.given source.old + 8 * length (S.content source.old)
-        + 128 * (before + d.pieces + 1)) }
+        IfOk result (λ d. ReadForRaw W.before W.each W.last W.all b (length (S.content source.old))
+        (blocks_in_first limit b (classify b (S.content source.old)) before) before d.pieces (S.given source.old)
+        (S.given source.new)) }
+    ensures few { IsTrue S.tells → begun before result ≤ max 1 (length (classify b (S.content source.old))) }
     ensures long { IsTrue S.tells → IfOk result (λ d. length (L.written spool.new)
         ≤ length (L.written spool.old) + length (classify b (S.content source.old)) * (b + 16) + 80 * d.pieces) }
     ensures costs { Costs S.tells (raw_image b (S.content source.old)) limit b 512 before result
@@ -74,7 +79,7 @@ pub(crate) fn raw_behind<S: Source, L: Spool, P: Partition>(
         (counts S.Source L.Input L.Output L.Spool.own P.Partition.own source.new spool.new partition.new) m.old m.new }
 {
     match RawRuns::open(source, b) {
-        Ok(runs) => deliver_behind(runs, source, limit, before, spool, partition, w, m),
+        Ok(runs) => deliver_behind(way, runs, source, limit, before, spool, partition, w, m),
         Err(fault) => Err(not_read(fault)),
     }
 }
@@ -109,7 +114,7 @@ pub fn deliver_raw<S: Source, L: Spool, P: Partition>(
         (counts S.Source L.Input L.Output L.Spool.own P.Partition.own source.old spool.old partition.old)
         (counts S.Source L.Input L.Output L.Spool.own P.Partition.own source.new spool.new partition.new)) }
     // What it wrote.
-    ensures spool { GivesPieces S.tells L.tells (raw_image b (S.content source.old)) limit 0 result
+    ensures spool { GivesPieces true S.tells L.tells (raw_image b (S.content source.old)) limit 0 result
         (spool_state L.Input L.Output L.Spool.own spool.old) (spool_state L.Input L.Output L.Spool.own spool.new) }
     ensures partition { LaysBlocks S.tells L.tells P.tells (raw_image b (S.content source.old)) limit 0 result
         (partition_state P.Source P.Partition.own partition.old)
@@ -136,7 +141,7 @@ pub fn deliver_raw<S: Source, L: Spool, P: Partition>(
         (counts S.Source L.Input L.Output L.Spool.own P.Partition.own source.old spool.old partition.old)
         (counts S.Source L.Input L.Output L.Spool.own P.Partition.own source.new spool.new partition.new) m.old m.new }
 {
-    raw_behind(source, b, limit, 0, spool, partition, w, m)
+    raw_behind(&Forward {}, source, b, limit, 0, spool, partition, w, m)
 }
 
 /// Delivers a raw image from a piece on, counted from 1, as `resume` does: those before it are planned and passed over.
@@ -172,7 +177,7 @@ pub fn resume_raw<S: Source, L: Spool, P: Partition>(
         (counts S.Source L.Input L.Output L.Spool.own P.Partition.own source.old spool.old partition.old)
         (counts S.Source L.Input L.Output L.Spool.own P.Partition.own source.new spool.new partition.new)) }
     // What it wrote.
-    ensures spool { GivesPieces S.tells L.tells (raw_image b (S.content source.old)) limit (from_piece - 1) result
+    ensures spool { GivesPieces true S.tells L.tells (raw_image b (S.content source.old)) limit (from_piece - 1) result
         (spool_state L.Input L.Output L.Spool.own spool.old) (spool_state L.Input L.Output L.Spool.own spool.new) }
     ensures partition { LaysBlocks S.tells L.tells P.tells
         (raw_image b (S.content source.old)) limit (from_piece - 1) result
@@ -196,6 +201,7 @@ pub fn resume_raw<S: Source, L: Spool, P: Partition>(
         (counts S.Source L.Input L.Output L.Spool.own P.Partition.own source.new spool.new partition.new) m.old m.new }
 {
     raw_behind(
+        &Forward {},
         source,
         b,
         limit,

@@ -11,6 +11,7 @@ use crate::answer::Delivered;
 use crate::delivering::pieces_before;
 use crate::fault::FlashFault;
 use crate::opened::deliver_behind;
+use crate::way::Forward;
 use abt_io::{Meter, Partition, Source, Spool, Window};
 use abt_runs::{RunFault, SparseRuns};
 
@@ -54,7 +55,7 @@ pub(crate) fn sparse_behind<S: Source, L: Spool, P: Partition>(
         (counts S.Source L.Input L.Output L.Spool.own P.Partition.own source.old spool.old partition.old)
         (counts S.Source L.Input L.Output L.Spool.own P.Partition.own source.new spool.new partition.new)) }
     // What it wrote.
-    ensures spool { GivesPieces S.tells L.tells (sparse_image (S.content source.old)) limit before result
+    ensures spool { GivesPieces true S.tells L.tells (sparse_image (S.content source.old)) limit before result
         (spool_state L.Input L.Output L.Spool.own spool.old) (spool_state L.Input L.Output L.Spool.own spool.new) }
     ensures partition { LaysBlocks S.tells L.tells P.tells (sparse_image (S.content source.old)) limit before result
         (partition_state P.Source P.Partition.own partition.old)
@@ -83,7 +84,7 @@ pub(crate) fn sparse_behind<S: Source, L: Spool, P: Partition>(
         (counts S.Source L.Input L.Output L.Spool.own P.Partition.own source.new spool.new partition.new) m.old m.new }
 {
     match SparseRuns::open(source, w, m) {
-        Ok(runs) => deliver_behind(runs, source, limit, before, spool, partition, w, m),
+        Ok(runs) => deliver_behind(&Forward {}, runs, source, limit, before, spool, partition, w, m),
         Err(fault) => Err(not_read(fault)),
     }
 }
@@ -114,7 +115,7 @@ pub fn deliver<S: Source, L: Spool, P: Partition>(
         (counts S.Source L.Input L.Output L.Spool.own P.Partition.own source.old spool.old partition.old)
         (counts S.Source L.Input L.Output L.Spool.own P.Partition.own source.new spool.new partition.new)) }
     // What it wrote.
-    ensures spool { GivesPieces S.tells L.tells (sparse_image (S.content source.old)) limit 0 result
+    ensures spool { GivesPieces true S.tells L.tells (sparse_image (S.content source.old)) limit 0 result
         (spool_state L.Input L.Output L.Spool.own spool.old) (spool_state L.Input L.Output L.Spool.own spool.new) }
     ensures partition { LaysBlocks S.tells L.tells P.tells (sparse_image (S.content source.old)) limit 0 result
         (partition_state P.Source P.Partition.own partition.old)
@@ -176,7 +177,7 @@ pub fn resume<S: Source, L: Spool, P: Partition>(
         (counts S.Source L.Input L.Output L.Spool.own P.Partition.own source.old spool.old partition.old)
         (counts S.Source L.Input L.Output L.Spool.own P.Partition.own source.new spool.new partition.new)) }
     // What it wrote.
-    ensures spool { GivesPieces S.tells L.tells (sparse_image (S.content source.old)) limit (from_piece - 1) result
+    ensures spool { GivesPieces true S.tells L.tells (sparse_image (S.content source.old)) limit (from_piece - 1) result
         (spool_state L.Input L.Output L.Spool.own spool.old) (spool_state L.Input L.Output L.Spool.own spool.new) }
     ensures partition { LaysBlocks S.tells L.tells P.tells
         (sparse_image (S.content source.old)) limit (from_piece - 1) result

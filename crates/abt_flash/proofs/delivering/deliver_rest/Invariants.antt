@@ -1,4 +1,4 @@
-use Rattle.std.proofs.Common.{◌≡◌, ℕ, List, [], ◌≤◌, ◌<◌, ◌+◌, ◌-◌, ◌*◌, ◌++◌, length, drop, max}
+use Rattle.std.proofs.Common.{◌≡◌, ℕ, List, [], ◌≤◌, ◌<◌, ◌+◌, ◌-◌, ◌*◌, ◌++◌, length, drop, max, false}
 use Rattle.std.specs.Prelude.{IsTrue}
 use Rattle.std.specs.List.{concat}
 use Rattle.abt_io.specs.Moment.{moment_of}
@@ -6,9 +6,8 @@ use Rattle.abt_sparse.specs.Block.{over, cells as laid_cells}
 use Rattle.abt_sparse.specs.Laws.{flashed_all}
 use Rattle.abt_pieces.specs.Contents.{written_in}
 use Rattle.abt_pieces.specs.Cutter.{ToldCutter}
-use Rattle.abt_pieces.specs.SpentStage.{all_passes}
 use Rattle.abt_pieces.specs.declared.stage.Stage.TheVariants.{Between, Done}
-use Rattle.abt_flash.specs.Delivering.{LeavesMendable, PiecesFit, blocks_up_to, with_cuts}
+use Rattle.abt_flash.specs.Delivering.{EndsWhole, LeavesMendable, PiecesFit, blocks_up_to, with_cuts}
 use Rattle.abt_flash.specs.Going.{Staying, Unbroken, bytes_in, calls_in, frames_left, pieces_left, words_so_far}
 use Rattle.abt_flash.proofs.delivering.deliver_rest.Given as goal
 
@@ -26,7 +25,9 @@ invariant-pieces g l =
     let one = g.R.BlockRuns.one l.fn.cutter.runs in
     let all = g.R.BlockRuns.list l.fn.cutter.runs (g.S.Source.content l.fn.source) in
     let most = l.fn.cutter.limit in
-    let passes = all_passes (g.R.BlockRuns.charge l.fn.cutter.runs) (g.R.BlockRuns.copied l.fn.cutter.runs) in
+    let passes = g.W.Way.before l.fn.cutter.runs in
+    let each = g.W.Way.each l.fn.cutter.runs in
+    let last = g.W.Way.last l.fn.cutter.runs in
     record {
       runs : l.cutter.runs ≡ l.fn.cutter.runs;
       limit : l.cutter.limit ≡ l.fn.cutter.limit;
@@ -44,6 +45,7 @@ invariant-pieces g l =
       fits : PiecesFit most (clears l.fn.spool) (clears l.spool) (length (bytes l.fn.spool)) (length (bytes l.spool));
       written : IsTrue g.S.Source.tells → bytes l.spool ++ concat (pieces_left most b all l.cutter.start.block l.cutter.stage) ≡ bytes l.fn.spool ++ concat (pieces_left most b all l.fn.cutter.start.block Between);
       cuts : IsTrue g.S.Source.tells → with_cuts (clears l.spool) (length (bytes l.spool)) (pieces_left most b all l.cutter.start.block l.cutter.stage) ≡ with_cuts (clears l.fn.spool) (length (bytes l.fn.spool)) (pieces_left most b all l.fn.cutter.start.block Between);
+      ends : g.W.Way.is_forward ≡ false → EndsWhole b (bytes l.fn.spool) (bytes l.spool) (clears l.fn.spool) (clears l.spool);
       laid : IsTrue g.S.Source.tells → IsTrue g.L.Input.tells → IsTrue g.P.Source.tells → flashed_all b (cells l.partition) (frames_left most b all l.cutter.start.block l.cutter.stage) ≡ flashed_all b (cells l.fn.partition) (frames_left most b all l.fn.cutter.start.block Between);
       so_far : IsTrue g.S.Source.tells → IsTrue g.L.Input.tells → IsTrue g.P.Source.tells → (l.fn.cutter.start.block ≤ l.cutter.start.block) × (cells l.partition ≡ over (cells l.fn.partition) (laid_cells b (blocks_up_to l.fn.cutter.start.block l.cutter.start.block all)));
       stays : IsTrue g.S.Source.tells → IsTrue g.L.Input.tells → IsTrue g.P.Source.tells → (p : List ℕ) (done : ℕ) → l.fn.cutter.made ≤ done → LeavesMendable most b all p done (moment_of (past l.fn.partition) (cells l.fn.partition)) → Staying most b all p l.fn.cutter.made (past l.fn.partition).synced l.cutter.start.block (past l.fn.partition).moments (past l.partition) (cells l.partition);
@@ -56,10 +58,10 @@ invariant-pieces g l =
       taken : g.P.Partition.taken l.fn.partition ≤ g.P.Partition.taken l.partition;
       long : length (bytes l.spool) + g.R.BlockRuns.taken image l.fn.cutter.start + 80 * l.fn.cutter.made ≤ length (bytes l.fn.spool) + g.R.BlockRuns.taken image l.cutter.start + 80 * l.cutter.made;
       back : IsTrue g.S.Source.tells → IsTrue g.L.Input.tells → gave l.spool + length (bytes l.fn.spool) ≡ gave l.fn.spool + length (bytes l.spool);
-      spent : IsTrue g.S.Source.tells → l.cutter.stage ≡ Between → g.S.Source.given l.source + passes l.fn.cutter.start + l.fn.cutter.made * (80 + one) ≤ g.S.Source.given l.fn.source + passes l.cutter.start + l.cutter.made * (80 + one);
-      spent_end : IsTrue g.S.Source.tells → l.cutter.stage ≡ Done → g.S.Source.given l.source + passes l.fn.cutter.start + l.fn.cutter.made * (80 + one) + (80 + one) ≤ g.S.Source.given l.fn.source + passes l.cutter.start + l.cutter.made * (80 + one) + 48;
-      calls : calls_in (g.S.Source.reads l.source) (g.L.Input.reads l.spool) (g.L.Output.writes l.spool) (g.L.Spool.clears l.spool) (g.P.Partition.puts l.partition) (g.P.Partition.syncs l.partition) + 8 * bytes_in (g.S.Source.given l.fn.source) (gave l.fn.spool) (length (bytes l.fn.spool)) (g.P.Partition.taken l.fn.partition) + 258 * l.fn.cutter.made ≤ calls_in (g.S.Source.reads l.fn.source) (g.L.Input.reads l.fn.spool) (g.L.Output.writes l.fn.spool) (g.L.Spool.clears l.fn.spool) (g.P.Partition.puts l.fn.partition) (g.P.Partition.syncs l.fn.partition) + 8 * bytes_in (g.S.Source.given l.source) (gave l.spool) (length (bytes l.spool)) (g.P.Partition.taken l.partition) + 258 * l.cutter.made;
-      turns : l.m.turns.number + 8 * bytes_in (g.S.Source.given l.fn.source) (gave l.fn.spool) (length (bytes l.fn.spool)) (g.P.Partition.taken l.fn.partition) + 258 * l.fn.cutter.made ≤ l.fn.m.turns.number + 8 * bytes_in (g.S.Source.given l.source) (gave l.spool) (length (bytes l.spool)) (g.P.Partition.taken l.partition) + words_so_far one n l.cutter.start.block l.cutter.stage + 258 * l.cutter.made;
+      spent : IsTrue g.S.Source.tells → l.cutter.stage ≡ Between → g.S.Source.given l.source + passes l.fn.cutter.start + l.fn.cutter.made * each ≤ g.S.Source.given l.fn.source + passes l.cutter.start + l.cutter.made * each;
+      spent_end : IsTrue g.S.Source.tells → l.cutter.stage ≡ Done → g.S.Source.given l.source + passes l.fn.cutter.start + l.fn.cutter.made * each + each ≤ g.S.Source.given l.fn.source + passes l.cutter.start + l.cutter.made * each + last;
+      calls : calls_in (g.S.Source.reads l.source) (g.L.Input.reads l.spool) (g.L.Output.writes l.spool) (g.L.Spool.clears l.spool) (g.P.Partition.puts l.partition) (g.P.Partition.syncs l.partition) + 8 * bytes_in (g.S.Source.given l.fn.source) (gave l.fn.spool) (length (bytes l.fn.spool)) (g.P.Partition.taken l.fn.partition) + 374 * l.fn.cutter.made ≤ calls_in (g.S.Source.reads l.fn.source) (g.L.Input.reads l.fn.spool) (g.L.Output.writes l.fn.spool) (g.L.Spool.clears l.fn.spool) (g.P.Partition.puts l.fn.partition) (g.P.Partition.syncs l.fn.partition) + 8 * bytes_in (g.S.Source.given l.source) (gave l.spool) (length (bytes l.spool)) (g.P.Partition.taken l.partition) + 374 * l.cutter.made;
+      turns : l.m.turns.number + 8 * bytes_in (g.S.Source.given l.fn.source) (gave l.fn.spool) (length (bytes l.fn.spool)) (g.P.Partition.taken l.fn.partition) + 374 * l.fn.cutter.made ≤ l.fn.m.turns.number + 8 * bytes_in (g.S.Source.given l.source) (gave l.spool) (length (bytes l.spool)) (g.P.Partition.taken l.partition) + words_so_far one n l.cutter.start.block l.cutter.stage + 374 * l.cutter.made;
       steps : g.S.Source.given l.source + gave l.spool + 65580 * l.fn.m.steps.number ≤ g.S.Source.given l.fn.source + gave l.fn.spool + 65580 * l.m.steps.number;
       greatest : l.m.greatest.number ≤ max l.fn.m.greatest.number 65580;
       read_faults : g.S.Source.read_faults l.source ≡ g.S.Source.read_faults l.fn.source;

@@ -14,36 +14,37 @@ use Rattle.abt_pieces.specs.Fault.{HasCause as CutCause}
 use Rattle.abt_pieces.specs.Image.{Appended, IsImage}
 use Rattle.abt_flash.proofs.PieceFlash.{Reads, cut_stops, image_reads, piece_reads, given_reads, all_flashed, only_devices, flash_stops, laid_stops, unsynced_stops, laid_cut, unsynced_cut, on_flashed, behind_clear, all_read, touched_reads}
 use Rattle.abt_flash.proofs.Spooled.{fits_one, begins_front}
+use Rattle.abt_flash.proofs.Ways.{ends_late, ends_none, ends_one, no_part_late, no_part_none, no_part_one}
 use Rattle.abt_flash.proofs.Still.{begins_same, fits_same, goes_behind, touches_none}
 use Rattle.abt_flash.proofs.piece.deliver_piece.Goals as goal
-use Rattle.abt_flash.proofs.piece.deliver_piece.Goals.{After-flash, In-Err-next_piece, In-Ok-Some}
+use Rattle.abt_flash.proofs.piece.deliver_piece.Goals.{After-flash, After-write_piece, In-Err-write_piece, In-Ok-write_piece}
 use Rattle.abt_flash.proofs.piece.deliver_piece.Given.{Over}
 
 -- ---- the piece that was written
 
 -- its segment
-segment : (g : Over) (c : In-Ok-Some g) → IsTrue g.S.Source.tells → FirstPiece (g.R.BlockRuns.size c.args.cutter.now.runs) (g.R.BlockRuns.list c.args.cutter.now.runs (g.S.Source.content c.args.source.now)) c.args.cutter.now.limit c.args.cutter.now.start.block c.next_piece.new.self.start.block
+segment : (g : Over) (c : In-Ok-write_piece g) → IsTrue g.S.Source.tells → FirstPiece (g.R.BlockRuns.size c.args.cutter.now.runs) (g.R.BlockRuns.list c.args.cutter.now.runs (g.S.Source.content c.args.source.now)) c.args.cutter.now.limit c.args.cutter.now.start.block c.write_piece.new.cutter.start.block
 segment g c tells =
-    let o = c.in-Ok-Some.ensures in
-    let p = rw c.in-Ok-Some.field-0-is at o.piece in
-    let h = rw c.in-Ok-Some.field-0-is at (o.laid tells) in
+    let o = c.in-Ok-write_piece.ensures in
+    let p = o.piece in
+    let h = o.laid tells in
     rw (p.begins, p.ends) at h.greatest
 
 -- its bytes
-bytes : (g : Over) (c : In-Ok-Some g) → IsTrue g.S.Source.tells → g.L.Output.written c.next_piece.new.output ≡ g.L.Output.written c.args.spool.now ++ piece (g.R.BlockRuns.size c.args.cutter.now.runs) (frame (g.R.BlockRuns.list c.args.cutter.now.runs (g.S.Source.content c.args.source.now)) c.args.cutter.now.start.block c.next_piece.new.self.start.block)
+bytes : (g : Over) (c : In-Ok-write_piece g) → IsTrue g.S.Source.tells → g.L.Output.written c.write_piece.new.spool ≡ g.L.Output.written c.args.spool.now ++ piece (g.R.BlockRuns.size c.args.cutter.now.runs) (frame (g.R.BlockRuns.list c.args.cutter.now.runs (g.S.Source.content c.args.source.now)) c.args.cutter.now.start.block c.write_piece.new.cutter.start.block)
 bytes g c tells =
     let b = g.R.BlockRuns.size c.args.cutter.now.runs in
     let l = g.R.BlockRuns.list c.args.cutter.now.runs (g.S.Source.content c.args.source.now) in
-    let o = c.in-Ok-Some.ensures in
-    let p = rw c.in-Ok-Some.field-0-is at o.piece in
-    let h = rw c.in-Ok-Some.field-0-is at (o.laid tells) in
+    let o = c.in-Ok-write_piece.ensures in
+    let p = o.piece in
+    let h = o.laid tells in
     h.written
-    ∙ ap (λ (x : List ℕ). x ++ piece b (frame l c.in-Ok-Some.field-0-0.first c.in-Ok-Some.field-0-0.past)) c.clear.ensures.written
-    ∙ ap (λ (s : ℕ). g.L.Output.written c.args.spool.now ++ piece b (frame l s c.in-Ok-Some.field-0-0.past)) p.begins
+    ∙ ap (λ (x : List ℕ). x ++ piece b (frame l c.in-Ok-write_piece.field-0.first c.in-Ok-write_piece.field-0.past)) c.clear.ensures.written
+    ∙ ap (λ (s : ℕ). g.L.Output.written c.args.spool.now ++ piece b (frame l s c.in-Ok-write_piece.field-0.past)) p.begins
     ∙ ap (λ (e : ℕ). g.L.Output.written c.args.spool.now ++ piece b (frame l c.args.cutter.now.start.block e)) p.ends
 
 -- what it reads as
-reads : (g : Over) (c : In-Ok-Some g) → IsTrue g.S.Source.tells → Reads (g.R.BlockRuns.size c.args.cutter.now.runs) (g.R.BlockRuns.count c.args.cutter.now.runs) (frame (g.R.BlockRuns.list c.args.cutter.now.runs (g.S.Source.content c.args.source.now)) c.args.cutter.now.start.block c.next_piece.new.self.start.block) (piece (g.R.BlockRuns.size c.args.cutter.now.runs) (frame (g.R.BlockRuns.list c.args.cutter.now.runs (g.S.Source.content c.args.source.now)) c.args.cutter.now.start.block c.next_piece.new.self.start.block))
+reads : (g : Over) (c : In-Ok-write_piece g) → IsTrue g.S.Source.tells → Reads (g.R.BlockRuns.size c.args.cutter.now.runs) (g.R.BlockRuns.count c.args.cutter.now.runs) (frame (g.R.BlockRuns.list c.args.cutter.now.runs (g.S.Source.content c.args.source.now)) c.args.cutter.now.start.block c.write_piece.new.cutter.start.block) (piece (g.R.BlockRuns.size c.args.cutter.now.runs) (frame (g.R.BlockRuns.list c.args.cutter.now.runs (g.S.Source.content c.args.source.now)) c.args.cutter.now.start.block c.write_piece.new.cutter.start.block))
 reads g c tells =
     let b = g.R.BlockRuns.size c.args.cutter.now.runs in
     let l = g.R.BlockRuns.list c.args.cutter.now.runs (g.S.Source.content c.args.source.now) in
@@ -55,47 +56,44 @@ reads g c tells =
     let few : length l < 2 ^ 32 = let z : g.R.BlockRuns.count c.args.cutter.now.runs < 2 ^ 32 = omega arith in omega (arith, long, z) in
     let some : 0 < b = omega (arith, sized.0) in
     let size : IsBlockSize b = (some, sized.1, omega (arith, granted, small)) in
-    subst (λ (n : ℕ). Reads b n (frame l c.args.cutter.now.start.block c.next_piece.new.self.start.block) (piece b (frame l c.args.cutter.now.start.block c.next_piece.new.self.start.block))) long
-    (piece_reads c.args.cutter.now.limit b l c.args.cutter.now.start.block c.next_piece.new.self.start.block size good few small (segment g c tells))
+    subst (λ (n : ℕ). Reads b n (frame l c.args.cutter.now.start.block c.write_piece.new.cutter.start.block) (piece b (frame l c.args.cutter.now.start.block c.write_piece.new.cutter.start.block))) long
+    (piece_reads c.args.cutter.now.limit b l c.args.cutter.now.start.block c.write_piece.new.cutter.start.block size good few small (segment g c tells))
 
 -- what the spool gives
-comes : (g : Over) (c : In-Ok-Some g) → IsTrue g.S.Source.tells → IsTrue g.L.Input.tells → g.L.Input.remaining c.next_piece.new.output ≡ piece (g.R.BlockRuns.size c.args.cutter.now.runs) (frame (g.R.BlockRuns.list c.args.cutter.now.runs (g.S.Source.content c.args.source.now)) c.args.cutter.now.start.block c.next_piece.new.self.start.block)
+comes : (g : Over) (c : In-Ok-write_piece g) → IsTrue g.S.Source.tells → IsTrue g.L.Input.tells → g.L.Input.remaining c.write_piece.new.spool ≡ piece (g.R.BlockRuns.size c.args.cutter.now.runs) (frame (g.R.BlockRuns.list c.args.cutter.now.runs (g.S.Source.content c.args.source.now)) c.args.cutter.now.start.block c.write_piece.new.cutter.start.block)
 comes g c tells spool =
-    let same = sym (g.met.L.Spool.writing c.next_piece.new.output) ∙ c.next_piece.ensures.write_frame ∙ g.met.L.Spool.writing c.clear.new.spool in
-    let gone : g.L.Spool.gone c.next_piece.new.output ≡ length (g.L.Output.written c.args.spool.now) = ap (λ (f : WriteFrame). f.gone) same ∙ c.in-Ok.ensures.gone in
-    g.met.L.Spool.held c.next_piece.new.output spool ∙ behind_clear _ _ _ _ (bytes g c tells) gone
+    let same = sym (g.met.L.Spool.writing c.write_piece.new.spool) ∙ c.write_piece.ensures.write_frame ∙ g.met.L.Spool.writing c.clear.new.spool in
+    let gone : g.L.Spool.gone c.write_piece.new.spool ≡ length (g.L.Output.written c.args.spool.now) = ap (λ (f : WriteFrame). f.gone) same ∙ c.in-Ok.ensures.gone in
+    g.met.L.Spool.held c.write_piece.new.spool spool ∙ behind_clear _ _ _ _ (bytes g c tells) gone
 
 -- what it touches
-touches : (g : Over) (c : In-Ok-Some g) → IsTrue g.S.Source.tells → IsTrue g.L.Input.tells → given (outcome (g.L.Input.remaining c.next_piece.new.output)) ≡ cells (g.R.BlockRuns.size c.args.cutter.now.runs) (blocks_at c.args.cutter.now.limit (g.R.BlockRuns.size c.args.cutter.now.runs) (g.R.BlockRuns.list c.args.cutter.now.runs (g.S.Source.content c.args.source.now)) c.args.cutter.now.start.block)
+touches : (g : Over) (c : In-Ok-write_piece g) → IsTrue g.S.Source.tells → IsTrue g.L.Input.tells → given (outcome (g.L.Input.remaining c.write_piece.new.spool)) ≡ cells (g.R.BlockRuns.size c.args.cutter.now.runs) (blocks_at c.args.cutter.now.limit (g.R.BlockRuns.size c.args.cutter.now.runs) (g.R.BlockRuns.list c.args.cutter.now.runs (g.S.Source.content c.args.source.now)) c.args.cutter.now.start.block)
 touches g c tells spool = touched_reads _ _ _ _ _ _ _ _ (comes g c tells spool) (reads g c tells) (segment g c tells)
 
 -- ---- the spool behind a flash
 
-after_written : (g : Over) (c : After-flash g) → g.L.Output.written c.flash.new.input ≡ g.L.Output.written c.next_piece.new.output
-after_written g c = ap (λ (f : ReadFrame). f.written) (sym (g.met.L.Spool.reading c.flash.new.input) ∙ c.flash.ensures.frame ∙ g.met.L.Spool.reading c.next_piece.new.output)
+after_written : (g : Over) (c : After-flash g) → g.L.Output.written c.flash.new.input ≡ g.L.Output.written c.write_piece.new.spool
+after_written g c = ap (λ (f : ReadFrame). f.written) (sym (g.met.L.Spool.reading c.flash.new.input) ∙ c.flash.ensures.frame ∙ g.met.L.Spool.reading c.write_piece.new.spool)
 
 after_cuts : (g : Over) (c : After-flash g) → g.L.Spool.cuts c.flash.new.input ≡ length (g.L.Output.written c.args.spool.now) ∷ g.L.Spool.cuts c.args.spool.now
 after_cuts g c =
-    ap (λ (f : ReadFrame). f.cuts) (sym (g.met.L.Spool.reading c.flash.new.input) ∙ c.flash.ensures.frame ∙ g.met.L.Spool.reading c.next_piece.new.output)
-    ∙ ap (λ (f : WriteFrame). f.cuts) (sym (g.met.L.Spool.writing c.next_piece.new.output) ∙ c.next_piece.ensures.write_frame ∙ g.met.L.Spool.writing c.clear.new.spool)
+    ap (λ (f : ReadFrame). f.cuts) (sym (g.met.L.Spool.reading c.flash.new.input) ∙ c.flash.ensures.frame ∙ g.met.L.Spool.reading c.write_piece.new.spool)
+    ∙ ap (λ (f : WriteFrame). f.cuts) (sym (g.met.L.Spool.writing c.write_piece.new.spool) ∙ c.write_piece.ensures.write_frame ∙ g.met.L.Spool.writing c.clear.new.spool)
     ∙ c.in-Ok.ensures.cut
 
 -- ---- the same of every source
 
-image : (g : Over) (c : In-Ok-Some g) → Appended (IsImage (g.R.BlockRuns.size c.args.cutter.now.runs) (g.R.BlockRuns.count c.args.cutter.now.runs)) (g.L.Output.written c.clear.new.spool) (g.L.Output.written c.next_piece.new.output)
-image g c = rw c.in-Ok-Some.field-0-is at c.in-Ok-Some.ensures.image
+image : (g : Over) (c : In-Ok-write_piece g) → Appended (IsImage (g.R.BlockRuns.size c.args.cutter.now.runs) (g.R.BlockRuns.count c.args.cutter.now.runs)) (g.L.Output.written c.clear.new.spool) (g.L.Output.written c.write_piece.new.spool)
+image g c = c.in-Ok-write_piece.ensures.image
 
-gives : (g : Over) (c : In-Ok-Some g) → IsTrue g.L.Input.tells → g.L.Input.remaining c.next_piece.new.output ≡ (image g c).wrote
+gives : (g : Over) (c : In-Ok-write_piece g) → IsTrue g.L.Input.tells → g.L.Input.remaining c.write_piece.new.spool ≡ (image g c).wrote
 gives g c spool =
-    let same = sym (g.met.L.Spool.writing c.next_piece.new.output) ∙ c.next_piece.ensures.write_frame ∙ g.met.L.Spool.writing c.clear.new.spool in
-    let gone : g.L.Spool.gone c.next_piece.new.output ≡ length (g.L.Output.written c.clear.new.spool) = ap (λ (f : WriteFrame). f.gone) same ∙ c.in-Ok.ensures.gone ∙ ap length (sym c.clear.ensures.written) in
-    g.met.L.Spool.held c.next_piece.new.output spool ∙ behind_clear _ _ _ _ (image g c).behind gone
+    let same = sym (g.met.L.Spool.writing c.write_piece.new.spool) ∙ c.write_piece.ensures.write_frame ∙ g.met.L.Spool.writing c.clear.new.spool in
+    let gone : g.L.Spool.gone c.write_piece.new.spool ≡ length (g.L.Output.written c.clear.new.spool) = ap (λ (f : WriteFrame). f.gone) same ∙ c.in-Ok.ensures.gone ∙ ap length (sym c.clear.ensures.written) in
+    g.met.L.Spool.held c.write_piece.new.spool spool ∙ behind_clear _ _ _ _ (image g c).behind gone
 
-cut_cause : (g : Over) (c : In-Err-next_piece g) → CutCause c.in-Err-next_piece.fault g.S.Source.tells (g.S.Source.read_faults c.args.source.now) (g.S.Source.read_faults c.next_piece.new.source) (g.L.Output.write_faults c.clear.new.spool) (g.L.Output.write_faults c.next_piece.new.output)
-cut_cause g c = elim c.in-Err-next_piece.ensures.cause [
-  | inl is ↦ absurd (let z = sym c.requires.between ∙ is in cc)
-  | inr h ↦ h
-]
+cut_cause : (g : Over) (c : In-Err-write_piece g) → CutCause c.in-Err-write_piece.fault g.S.Source.tells (g.S.Source.read_faults c.args.source.now) (g.S.Source.read_faults c.write_piece.new.source) (g.L.Output.write_faults c.clear.new.spool) (g.L.Output.write_faults c.write_piece.new.spool)
+cut_cause g c = c.in-Err-write_piece.ensures.cause
 
 -- ---- where the spool was not cleared
 
@@ -116,25 +114,25 @@ returns-in-Err-clause-cause g c =
 
 -- ---- where the piece was not written
 
-pub returns-in-Err-next_piece-clause-fits : goal.returns-in-Err-next_piece-clause-fits
-returns-in-Err-next_piece-clause-fits g c =
-    let cuts = ap (λ (f : WriteFrame). f.cuts) (sym (g.met.L.Spool.writing c.next_piece.new.output) ∙ c.next_piece.ensures.write_frame ∙ g.met.L.Spool.writing c.clear.new.spool) ∙ c.in-Ok.ensures.cut in
+pub returns-in-Err-write_piece-clause-fits : goal.returns-in-Err-write_piece-clause-fits
+returns-in-Err-write_piece-clause-fits g c =
+    let cuts = ap (λ (f : WriteFrame). f.cuts) (sym (g.met.L.Spool.writing c.write_piece.new.spool) ∙ c.write_piece.ensures.write_frame ∙ g.met.L.Spool.writing c.clear.new.spool) ∙ c.in-Ok.ensures.cut in
     let same = ap length c.clear.ensures.written in
-    fits_one _ _ _ _ _ cuts (omega (arith, same, c.next_piece.ensures.grown)) (omega (arith, same, c.next_piece.ensures.within))
+    fits_one _ _ _ _ _ cuts (omega (arith, same, c.write_piece.ensures.grown)) (omega (arith, same, c.write_piece.ensures.within))
 
-pub returns-in-Err-next_piece-clause-begins : goal.returns-in-Err-next_piece-clause-begins
-returns-in-Err-next_piece-clause-begins g c tells = rw (c.requires.between, c.clear.ensures.written) at (begins_front _ _ _ _ (c.next_piece.ensures.front tells))
+pub returns-in-Err-write_piece-clause-begins : goal.returns-in-Err-write_piece-clause-begins
+returns-in-Err-write_piece-clause-begins g c forward tells = rw c.clear.ensures.written at (c.write_piece.ensures.begins forward tells)
 
-pub returns-in-Err-next_piece-clause-unsynced : goal.returns-in-Err-next_piece-clause-unsynced
-returns-in-Err-next_piece-clause-unsynced g c =
-    let none = unsynced_cut c.in-Err-next_piece.fault in
+pub returns-in-Err-write_piece-clause-unsynced : goal.returns-in-Err-write_piece-clause-unsynced
+returns-in-Err-write_piece-clause-unsynced g c =
+    let none = unsynced_cut c.in-Err-write_piece.fault in
     rw (c.not_written.ensures) (omega (arith, none))
 
-pub returns-in-Err-next_piece-clause-laid : goal.returns-in-Err-next_piece-clause-laid
-returns-in-Err-next_piece-clause-laid g c tells spool partition = rw (c.not_written.ensures) (laid_cut c.in-Err-next_piece.fault _)
+pub returns-in-Err-write_piece-clause-laid : goal.returns-in-Err-write_piece-clause-laid
+returns-in-Err-write_piece-clause-laid g c tells spool partition = rw (c.not_written.ensures) (laid_cut c.in-Err-write_piece.fault _)
 
-pub returns-in-Err-next_piece-clause-greatest_end : goal.returns-in-Err-next_piece-clause-greatest_end
-returns-in-Err-next_piece-clause-greatest_end g c tells = rw (c.not_written.ensures) (laid_cut c.in-Err-next_piece.fault _)
+pub returns-in-Err-write_piece-clause-greatest_end : goal.returns-in-Err-write_piece-clause-greatest_end
+returns-in-Err-write_piece-clause-greatest_end g c tells = rw (c.not_written.ensures) (laid_cut c.in-Err-write_piece.fault _)
 
 -- ---- where it was flashed
 
@@ -143,45 +141,45 @@ returns-in-Ok-flash-clause-fits g c =
     let k = (goal.at.returns-in-Ok-flash-clause-fits g c).After-flash in
     let same = ap length c.clear.ensures.written in
     let long = ap length (after_written g k) in
-    fits_one _ _ _ _ _ (after_cuts g k) (omega (arith, same, long, c.next_piece.ensures.grown)) (omega (arith, same, long, c.next_piece.ensures.within))
+    fits_one _ _ _ _ _ (after_cuts g k) (omega (arith, same, long, c.write_piece.ensures.grown)) (omega (arith, same, long, c.write_piece.ensures.within))
 
 pub returns-in-Ok-flash-clause-written : goal.returns-in-Ok-flash-clause-written
 returns-in-Ok-flash-clause-written g c tells =
     let k = (goal.at.returns-in-Ok-flash-clause-written g c).After-flash in
-    let s = (goal.at.returns-in-Ok-flash-clause-written g c).In-Ok-Some in
+    let s = (goal.at.returns-in-Ok-flash-clause-written g c).In-Ok-write_piece in
     after_written g k ∙ bytes g s tells ∙ ap (λ (x : List ℕ). g.L.Output.written c.args.spool.now ++ x) (piece_is _ _ _ _ _ (segment g s tells))
 
 pub returns-in-Ok-flash-clause-begins : goal.returns-in-Ok-flash-clause-begins
-returns-in-Ok-flash-clause-begins g c tells =
+returns-in-Ok-flash-clause-begins g c forward tells =
     let k = (goal.at.returns-in-Ok-flash-clause-begins g c).After-flash in
-    rw (← after_written g k) at (rw (c.requires.between, c.clear.ensures.written) at (begins_front _ _ _ _ (c.next_piece.ensures.front tells)))
+    rw (← after_written g k) at (rw c.clear.ensures.written at (c.write_piece.ensures.begins forward tells))
 
 pub returns-in-Ok-flash-clause-laid : goal.returns-in-Ok-flash-clause-laid
 returns-in-Ok-flash-clause-laid g c tells spool partition =
-    let s = (goal.at.returns-in-Ok-flash-clause-laid g c).In-Ok-Some in
+    let s = (goal.at.returns-in-Ok-flash-clause-laid g c).In-Ok-write_piece in
     c.in-Ok-flash.ensures.holds spool partition
     ∙ ap (λ (x : List ℕ). over (g.P.Source.content c.args.partition.now) (given (outcome x))) (comes g s tells spool)
     ∙ ap (over (g.P.Source.content c.args.partition.now)) (given_reads _ _ _ _ (reads g s tells))
 
 pub returns-in-Ok-flash-clause-touches : goal.returns-in-Ok-flash-clause-touches
-returns-in-Ok-flash-clause-touches g c tells spool partition = rw (touches g ((goal.at.returns-in-Ok-flash-clause-touches g c).In-Ok-Some) tells spool) at (c.flash.ensures.touches spool partition)
+returns-in-Ok-flash-clause-touches g c tells spool partition = rw (touches g ((goal.at.returns-in-Ok-flash-clause-touches g c).In-Ok-write_piece) tells spool) at (c.flash.ensures.touches spool partition)
 
 pub returns-in-Ok-flash-clause-blocks : goal.returns-in-Ok-flash-clause-blocks
 returns-in-Ok-flash-clause-blocks g c tells spool =
-    let s = (goal.at.returns-in-Ok-flash-clause-blocks g c).In-Ok-Some in
+    let s = (goal.at.returns-in-Ok-flash-clause-blocks g c).In-Ok-write_piece in
     (all_flashed _ _ _ _ _ _ _ _ _ (reads g s tells) (rw (comes g s tells spool) at (c.in-Ok-flash.ensures.flashes spool))).taken
 
 pub returns-in-Ok-flash-clause-back : goal.returns-in-Ok-flash-clause-back
 returns-in-Ok-flash-clause-back g c tells spool =
     let k = (goal.at.returns-in-Ok-flash-clause-back g c).After-flash in
-    let s = (goal.at.returns-in-Ok-flash-clause-back g c).In-Ok-Some in
+    let s = (goal.at.returns-in-Ok-flash-clause-back g c).In-Ok-write_piece in
     let none = (all_flashed _ _ _ _ _ _ _ _ _ (reads g s tells) (rw (comes g s tells spool) at (c.in-Ok-flash.ensures.flashes spool))).none in
     let read = all_read _ _ _ (c.flash.ensures.read.present spool) (c.flash.ensures.read.rest spool) none in
     let long = ap length (comes g s tells spool) in
     let wrote = ap length (bytes g s tells) in
-    let sum = length-append (g.L.Output.written c.args.spool.now) (piece (g.R.BlockRuns.size c.args.cutter.now.runs) (frame (g.R.BlockRuns.list c.args.cutter.now.runs (g.S.Source.content c.args.source.now)) c.args.cutter.now.start.block c.next_piece.new.self.start.block)) in
+    let sum = length-append (g.L.Output.written c.args.spool.now) (piece (g.R.BlockRuns.size c.args.cutter.now.runs) (frame (g.R.BlockRuns.list c.args.cutter.now.runs (g.S.Source.content c.args.source.now)) c.args.cutter.now.start.block c.write_piece.new.cutter.start.block)) in
     let same = ap length (after_written g k) in
-    let gives : g.L.Input.given c.next_piece.new.output ≡ g.L.Input.given c.clear.new.spool = ap (λ (f : WriteFrame). f.given) (sym (g.met.L.Spool.writing c.next_piece.new.output) ∙ c.next_piece.ensures.write_frame ∙ g.met.L.Spool.writing c.clear.new.spool) in
+    let gives : g.L.Input.given c.write_piece.new.spool ≡ g.L.Input.given c.clear.new.spool = ap (λ (f : WriteFrame). f.given) (sym (g.met.L.Spool.writing c.write_piece.new.spool) ∙ c.write_piece.ensures.write_frame ∙ g.met.L.Spool.writing c.clear.new.spool) in
     omega (arith, read, long, wrote, sum, same, gives, c.clear.ensures.given, c.flash.ensures.grows.given)
 
 -- ---- where flashing it failed
@@ -191,15 +189,15 @@ returns-in-Err-flash-clause-fits g c =
     let k = (goal.at.returns-in-Err-flash-clause-fits g c).After-flash in
     let same = ap length c.clear.ensures.written in
     let long = ap length (after_written g k) in
-    fits_one _ _ _ _ _ (after_cuts g k) (omega (arith, same, long, c.next_piece.ensures.grown)) (omega (arith, same, long, c.next_piece.ensures.within))
+    fits_one _ _ _ _ _ (after_cuts g k) (omega (arith, same, long, c.write_piece.ensures.grown)) (omega (arith, same, long, c.write_piece.ensures.within))
 
 pub returns-in-Err-flash-clause-begins : goal.returns-in-Err-flash-clause-begins
-returns-in-Err-flash-clause-begins g c tells =
+returns-in-Err-flash-clause-begins g c forward tells =
     let k = (goal.at.returns-in-Err-flash-clause-begins g c).After-flash in
-    rw (← after_written g k) at (rw (c.requires.between, c.clear.ensures.written) at (begins_front _ _ _ _ (c.next_piece.ensures.front tells)))
+    rw (← after_written g k) at (rw c.clear.ensures.written at (c.write_piece.ensures.begins forward tells))
 
 pub returns-in-Err-flash-clause-touches : goal.returns-in-Err-flash-clause-touches
-returns-in-Err-flash-clause-touches g c tells spool partition = rw (touches g ((goal.at.returns-in-Err-flash-clause-touches g c).In-Ok-Some) tells spool) at (c.flash.ensures.touches spool partition)
+returns-in-Err-flash-clause-touches g c tells spool partition = rw (touches g ((goal.at.returns-in-Err-flash-clause-touches g c).In-Ok-write_piece) tells spool) at (c.flash.ensures.touches spool partition)
 
 pub returns-in-Err-flash-clause-unsynced : goal.returns-in-Err-flash-clause-unsynced
 returns-in-Err-flash-clause-unsynced g c =
@@ -208,17 +206,17 @@ returns-in-Err-flash-clause-unsynced g c =
     rw (c.not_flashed.ensures) (omega (arith, same, sum))
 
 pub returns-in-Err-flash-clause-greatest_end : goal.returns-in-Err-flash-clause-greatest_end
-returns-in-Err-flash-clause-greatest_end g c tells = rw (c.not_flashed.ensures) (on_flashed _ _ (segment g ((goal.at.returns-in-Err-flash-clause-greatest_end g c).In-Ok-Some) tells))
+returns-in-Err-flash-clause-greatest_end g c tells = rw (c.not_flashed.ensures) (on_flashed _ _ (segment g ((goal.at.returns-in-Err-flash-clause-greatest_end g c).In-Ok-write_piece) tells))
 
 pub returns-in-Err-flash-clause-laid : goal.returns-in-Err-flash-clause-laid
 returns-in-Err-flash-clause-laid g c tells spool partition =
-    let s = (goal.at.returns-in-Err-flash-clause-laid g c).In-Ok-Some in
+    let s = (goal.at.returns-in-Err-flash-clause-laid g c).In-Ok-write_piece in
     rw (c.not_flashed.ensures) (laid_stops c.in-Err-flash.fault _ _ _ _ (c.in-Err-flash.ensures.holds spool partition) (ap (λ (x : List ℕ). given (outcome x)) (comes g s tells spool) ∙ given_reads _ _ _ _ (reads g s tells)))
 
 pub returns-in-Err-flash-clause-cause : goal.returns-in-Err-flash-clause-cause
 returns-in-Err-flash-clause-cause g c =
-    let s = (goal.at.returns-in-Err-flash-clause-cause g c).In-Ok-Some in
-    let same : g.L.Input.read_faults c.next_piece.new.output ≡ g.L.Input.read_faults c.clear.new.spool = ap (λ (f : WriteFrame). f.read_faults) (sym (g.met.L.Spool.writing c.next_piece.new.output) ∙ c.next_piece.ensures.write_frame ∙ g.met.L.Spool.writing c.clear.new.spool) in
+    let s = (goal.at.returns-in-Err-flash-clause-cause g c).In-Ok-write_piece in
+    let same : g.L.Input.read_faults c.write_piece.new.spool ≡ g.L.Input.read_faults c.clear.new.spool = ap (λ (f : WriteFrame). f.read_faults) (sym (g.met.L.Spool.writing c.write_piece.new.spool) ∙ c.write_piece.ensures.write_frame ∙ g.met.L.Spool.writing c.clear.new.spool) in
     rw (c.not_flashed.ensures) (flash_stops _ _ _ _ _ _ (omega (arith, same, c.clear.ensures.read_faults)) c.in-Err-flash.ensures.cause
     (λ spool. only_devices _ _ _ _ _ _ _ _ _ (image_reads _ _ _ (image g s).is) c.requires.room (rw (gives g s spool) at (c.in-Err-flash.ensures.flashes spool))))
 
@@ -226,10 +224,10 @@ returns-in-Err-flash-clause-cause g c =
 
 pub returns-in-Ok-flash-clause-clean : goal.returns-in-Ok-flash-clause-clean
 returns-in-Ok-flash-clause-clean g c =
-    let o = c.in-Ok-Some.ensures.failing.clean in
+    let o = c.in-Ok-write_piece.ensures.failing.clean in
     let f = c.in-Ok-flash.ensures.cause in
-    let writing = sym (g.met.L.Spool.writing c.next_piece.new.output) ∙ c.next_piece.ensures.write_frame ∙ g.met.L.Spool.writing c.clear.new.spool in
-    let reading = sym (g.met.L.Spool.reading c.flash.new.input) ∙ c.flash.ensures.frame ∙ g.met.L.Spool.reading c.next_piece.new.output in
+    let writing = sym (g.met.L.Spool.writing c.write_piece.new.spool) ∙ c.write_piece.ensures.write_frame ∙ g.met.L.Spool.writing c.clear.new.spool in
+    let reading = sym (g.met.L.Spool.reading c.flash.new.input) ∙ c.flash.ensures.frame ∙ g.met.L.Spool.reading c.write_piece.new.spool in
     let wrote = ap (λ (q : ReadFrame). q.write_faults) reading ∙ o.1 ∙ c.clear.ensures.write_faults in
     let cleared = ap (λ (q : ReadFrame). q.clear_faults) reading ∙ ap (λ (q : WriteFrame). q.clear_faults) writing ∙ c.in-Ok.ensures.clean in
     record {
@@ -239,119 +237,118 @@ returns-in-Ok-flash-clause-clean g c =
       put = f.1;
     }
 
-pub returns-in-Err-next_piece-clause-cause : goal.returns-in-Err-next_piece-clause-cause
-returns-in-Err-next_piece-clause-cause g c =
-    let writing = sym (g.met.L.Spool.writing c.next_piece.new.output) ∙ c.next_piece.ensures.write_frame ∙ g.met.L.Spool.writing c.clear.new.spool in
+pub returns-in-Err-write_piece-clause-cause : goal.returns-in-Err-write_piece-clause-cause
+returns-in-Err-write_piece-clause-cause g c =
+    let writing = sym (g.met.L.Spool.writing c.write_piece.new.spool) ∙ c.write_piece.ensures.write_frame ∙ g.met.L.Spool.writing c.clear.new.spool in
     let cleared = ap (λ (q : WriteFrame). q.clear_faults) writing in
     let cuts = ap (λ (q : WriteFrame). q.cuts) writing ∙ c.in-Ok.ensures.cut in
     let room = ap (λ (q : WriteFrame). q.capacity) writing ∙ c.clear.ensures.size in
     let long = ap length c.clear.ensures.written in
-    rw (c.not_written.ensures) (cut_stops c.in-Err-next_piece.fault _ _ _ _ _ _ (cut_cause g ((goal.at.returns-in-Err-next_piece-clause-cause g c).In-Err-next_piece)) (λ more. omega (arith, more, cleared, c.clear.ensures.write_faults, c.clear.ensures.clear_faults))
+    rw (c.not_written.ensures) (cut_stops c.in-Err-write_piece.fault _ _ _ _ _ _ (cut_cause g ((goal.at.returns-in-Err-write_piece-clause-cause g c).In-Err-write_piece)) (λ more. omega (arith, more, cleared, c.clear.ensures.write_faults, c.clear.ensures.clear_faults))
     (λ is.
-    let begun : has_failed c.args.cutter.now.stage ≡ false = rw c.requires.between refl in
-    let h = c.in-Err-next_piece.ensures.full begun (rw is refl) in
-    let filled = g.met.L.Spool.filled c.next_piece.new.output h.0 in
-    let last : last_cut (g.L.Spool.cuts c.next_piece.new.output) ≡ length (g.L.Output.written c.args.spool.now) = ap last_cut cuts in
+    let h = c.in-Err-write_piece.ensures.full (rw is refl) in
+    let filled = g.met.L.Spool.filled c.write_piece.new.spool h.0 in
+    let last : last_cut (g.L.Spool.cuts c.write_piece.new.spool) ≡ length (g.L.Output.written c.args.spool.now) = ap last_cut cuts in
     omega (arith, filled, last, h.1, room, long, c.requires.capacity)))
 
 -- ---- the spool's numbers, by what a write and what a read leave
 
-pub returns-in-Err-next_piece-clause-capacity : goal.returns-in-Err-next_piece-clause-capacity
-returns-in-Err-next_piece-clause-capacity g c =
-    let writing = sym (g.met.L.Spool.writing c.next_piece.new.output) ∙ c.next_piece.ensures.write_frame ∙ g.met.L.Spool.writing c.clear.new.spool in
+pub returns-in-Err-write_piece-clause-capacity : goal.returns-in-Err-write_piece-clause-capacity
+returns-in-Err-write_piece-clause-capacity g c =
+    let writing = sym (g.met.L.Spool.writing c.write_piece.new.spool) ∙ c.write_piece.ensures.write_frame ∙ g.met.L.Spool.writing c.clear.new.spool in
     ap (λ (f : WriteFrame). f.capacity) writing ∙ c.clear.ensures.size
 
-pub returns-in-Err-next_piece-clause-work : goal.returns-in-Err-next_piece-clause-work
-returns-in-Err-next_piece-clause-work g c =
+pub returns-in-Err-write_piece-clause-work : goal.returns-in-Err-write_piece-clause-work
+returns-in-Err-write_piece-clause-work g c =
     record {
-      given = c.next_piece.ensures.costs.given;
+      given = c.write_piece.ensures.costs.given;
       spool_given =
-          let writing = sym (g.met.L.Spool.writing c.next_piece.new.output) ∙ c.next_piece.ensures.write_frame ∙ g.met.L.Spool.writing c.clear.new.spool in
+          let writing = sym (g.met.L.Spool.writing c.write_piece.new.spool) ∙ c.write_piece.ensures.write_frame ∙ g.met.L.Spool.writing c.clear.new.spool in
           let gives = ap (λ (f : WriteFrame). f.given) writing in
           omega (arith, gives, c.clear.ensures.given);
       grown =
           let long = ap length c.clear.ensures.written in
-          omega (arith, long, c.next_piece.ensures.grown);
+          omega (arith, long, c.write_piece.ensures.grown);
       taken = omega arith;
       steps =
-          let writing = sym (g.met.L.Spool.writing c.next_piece.new.output) ∙ c.next_piece.ensures.write_frame ∙ g.met.L.Spool.writing c.clear.new.spool in
+          let writing = sym (g.met.L.Spool.writing c.write_piece.new.spool) ∙ c.write_piece.ensures.write_frame ∙ g.met.L.Spool.writing c.clear.new.spool in
           let gives = ap (λ (f : WriteFrame). f.given) writing in
-          omega (arith, gives, c.next_piece.ensures.costs.steps, c.next_piece.ensures.costs.given, c.clear.ensures.given);
-      greatest = omega (arith, c.next_piece.ensures.costs.greatest);
+          omega (arith, gives, c.write_piece.ensures.costs.steps, c.write_piece.ensures.costs.given, c.clear.ensures.given);
+      greatest = omega (arith, c.write_piece.ensures.costs.greatest);
     }
 
-pub returns-in-Err-next_piece-clause-faults : goal.returns-in-Err-next_piece-clause-faults
-returns-in-Err-next_piece-clause-faults g c =
+pub returns-in-Err-write_piece-clause-faults : goal.returns-in-Err-write_piece-clause-faults
+returns-in-Err-write_piece-clause-faults g c =
     record {
-      read = c.next_piece.ensures.failing.read;
+      read = c.write_piece.ensures.failing.read;
       write =
-          let writing = sym (g.met.L.Spool.writing c.next_piece.new.output) ∙ c.next_piece.ensures.write_frame ∙ g.met.L.Spool.writing c.clear.new.spool in
+          let writing = sym (g.met.L.Spool.writing c.write_piece.new.spool) ∙ c.write_piece.ensures.write_frame ∙ g.met.L.Spool.writing c.clear.new.spool in
           let cleared = ap (λ (f : WriteFrame). f.clear_faults) writing in
-          omega (arith, cleared, c.next_piece.ensures.failing.write, c.clear.ensures.write_faults, c.clear.ensures.clear_faults);
+          omega (arith, cleared, c.write_piece.ensures.failing.write, c.clear.ensures.write_faults, c.clear.ensures.clear_faults);
       spool =
-          let writing = sym (g.met.L.Spool.writing c.next_piece.new.output) ∙ c.next_piece.ensures.write_frame ∙ g.met.L.Spool.writing c.clear.new.spool in
+          let writing = sym (g.met.L.Spool.writing c.write_piece.new.spool) ∙ c.write_piece.ensures.write_frame ∙ g.met.L.Spool.writing c.clear.new.spool in
           let failed = ap (λ (f : WriteFrame). f.read_faults) writing in
           omega (arith, failed, c.clear.ensures.read_faults);
       put = omega arith;
     }
 
-pub returns-in-Err-next_piece-clause-calls : goal.returns-in-Err-next_piece-clause-calls
-returns-in-Err-next_piece-clause-calls g c =
-    let writing = sym (g.met.L.Spool.writing c.next_piece.new.output) ∙ c.next_piece.ensures.write_frame ∙ g.met.L.Spool.writing c.clear.new.spool in
+pub returns-in-Err-write_piece-clause-calls : goal.returns-in-Err-write_piece-clause-calls
+returns-in-Err-write_piece-clause-calls g c =
+    let writing = sym (g.met.L.Spool.writing c.write_piece.new.spool) ∙ c.write_piece.ensures.write_frame ∙ g.met.L.Spool.writing c.clear.new.spool in
     let gives = ap (λ (f : WriteFrame). f.given) writing in
     let reads = ap (λ (f : WriteFrame). f.reads) writing in
     let clears = ap (λ (f : WriteFrame). f.clears) writing in
     let long = ap length c.clear.ensures.written in
-    omega (arith, gives, reads, clears, long, c.next_piece.ensures.costs.calls, c.next_piece.ensures.costs.given, c.next_piece.ensures.grown, c.clear.ensures.given, c.clear.ensures.reads, c.clear.ensures.writes, c.clear.ensures.calls)
+    omega (arith, gives, reads, clears, long, c.write_piece.ensures.costs.calls, c.write_piece.ensures.costs.given, c.write_piece.ensures.grown, c.clear.ensures.given, c.clear.ensures.reads, c.clear.ensures.writes, c.clear.ensures.calls)
 
-pub returns-in-Err-next_piece-clause-turns : goal.returns-in-Err-next_piece-clause-turns
-returns-in-Err-next_piece-clause-turns g c =
-    let writing = sym (g.met.L.Spool.writing c.next_piece.new.output) ∙ c.next_piece.ensures.write_frame ∙ g.met.L.Spool.writing c.clear.new.spool in
+pub returns-in-Err-write_piece-clause-turns : goal.returns-in-Err-write_piece-clause-turns
+returns-in-Err-write_piece-clause-turns g c =
+    let writing = sym (g.met.L.Spool.writing c.write_piece.new.spool) ∙ c.write_piece.ensures.write_frame ∙ g.met.L.Spool.writing c.clear.new.spool in
     let gives = ap (λ (f : WriteFrame). f.given) writing in
     let long = ap length c.clear.ensures.written in
-    omega (arith, gives, long, c.next_piece.ensures.costs.turns, c.next_piece.ensures.costs.given, c.next_piece.ensures.grown, c.clear.ensures.given)
+    omega (arith, gives, long, c.write_piece.ensures.costs.turns, c.write_piece.ensures.costs.given, c.write_piece.ensures.grown, c.clear.ensures.given)
 
 pub returns-in-Ok-flash-clause-capacity : goal.returns-in-Ok-flash-clause-capacity
 returns-in-Ok-flash-clause-capacity g c =
-    let writing = sym (g.met.L.Spool.writing c.next_piece.new.output) ∙ c.next_piece.ensures.write_frame ∙ g.met.L.Spool.writing c.clear.new.spool in
-    let reading = sym (g.met.L.Spool.reading c.flash.new.input) ∙ c.flash.ensures.frame ∙ g.met.L.Spool.reading c.next_piece.new.output in
+    let writing = sym (g.met.L.Spool.writing c.write_piece.new.spool) ∙ c.write_piece.ensures.write_frame ∙ g.met.L.Spool.writing c.clear.new.spool in
+    let reading = sym (g.met.L.Spool.reading c.flash.new.input) ∙ c.flash.ensures.frame ∙ g.met.L.Spool.reading c.write_piece.new.spool in
     ap (λ (f : ReadFrame). f.capacity) reading ∙ ap (λ (f : WriteFrame). f.capacity) writing ∙ c.clear.ensures.size
 
 pub returns-in-Ok-flash-clause-work : goal.returns-in-Ok-flash-clause-work
 returns-in-Ok-flash-clause-work g c =
     record {
-      given = c.next_piece.ensures.costs.given;
+      given = c.write_piece.ensures.costs.given;
       spool_given =
-          let writing = sym (g.met.L.Spool.writing c.next_piece.new.output) ∙ c.next_piece.ensures.write_frame ∙ g.met.L.Spool.writing c.clear.new.spool in
+          let writing = sym (g.met.L.Spool.writing c.write_piece.new.spool) ∙ c.write_piece.ensures.write_frame ∙ g.met.L.Spool.writing c.clear.new.spool in
           let gives = ap (λ (f : WriteFrame). f.given) writing in
           omega (arith, gives, c.clear.ensures.given, c.flash.ensures.grows.given);
       grown =
-          let writing = sym (g.met.L.Spool.writing c.next_piece.new.output) ∙ c.next_piece.ensures.write_frame ∙ g.met.L.Spool.writing c.clear.new.spool in
-          let reading = sym (g.met.L.Spool.reading c.flash.new.input) ∙ c.flash.ensures.frame ∙ g.met.L.Spool.reading c.next_piece.new.output in
+          let writing = sym (g.met.L.Spool.writing c.write_piece.new.spool) ∙ c.write_piece.ensures.write_frame ∙ g.met.L.Spool.writing c.clear.new.spool in
+          let reading = sym (g.met.L.Spool.reading c.flash.new.input) ∙ c.flash.ensures.frame ∙ g.met.L.Spool.reading c.write_piece.new.spool in
           let same = ap (λ (f : ReadFrame). length f.written) reading in
           let long = ap length c.clear.ensures.written in
-          omega (arith, same, long, c.next_piece.ensures.grown);
+          omega (arith, same, long, c.write_piece.ensures.grown);
       taken = c.flash.ensures.grows.taken;
       steps =
-          let writing = sym (g.met.L.Spool.writing c.next_piece.new.output) ∙ c.next_piece.ensures.write_frame ∙ g.met.L.Spool.writing c.clear.new.spool in
+          let writing = sym (g.met.L.Spool.writing c.write_piece.new.spool) ∙ c.write_piece.ensures.write_frame ∙ g.met.L.Spool.writing c.clear.new.spool in
           let gives = ap (λ (f : WriteFrame). f.given) writing in
-          omega (arith, gives, c.next_piece.ensures.costs.steps, c.next_piece.ensures.costs.given, c.clear.ensures.given, c.flash.ensures.costs.steps, c.flash.ensures.grows.given);
-      greatest = omega (arith, c.next_piece.ensures.costs.greatest, c.flash.ensures.costs.greatest);
+          omega (arith, gives, c.write_piece.ensures.costs.steps, c.write_piece.ensures.costs.given, c.clear.ensures.given, c.flash.ensures.costs.steps, c.flash.ensures.grows.given);
+      greatest = omega (arith, c.write_piece.ensures.costs.greatest, c.flash.ensures.costs.greatest);
     }
 
 pub returns-in-Ok-flash-clause-faults : goal.returns-in-Ok-flash-clause-faults
 returns-in-Ok-flash-clause-faults g c =
     record {
-      read = c.next_piece.ensures.failing.read;
+      read = c.write_piece.ensures.failing.read;
       write =
-          let writing = sym (g.met.L.Spool.writing c.next_piece.new.output) ∙ c.next_piece.ensures.write_frame ∙ g.met.L.Spool.writing c.clear.new.spool in
-          let reading = sym (g.met.L.Spool.reading c.flash.new.input) ∙ c.flash.ensures.frame ∙ g.met.L.Spool.reading c.next_piece.new.output in
+          let writing = sym (g.met.L.Spool.writing c.write_piece.new.spool) ∙ c.write_piece.ensures.write_frame ∙ g.met.L.Spool.writing c.clear.new.spool in
+          let reading = sym (g.met.L.Spool.reading c.flash.new.input) ∙ c.flash.ensures.frame ∙ g.met.L.Spool.reading c.write_piece.new.spool in
           let cleared = ap (λ (f : WriteFrame). f.clear_faults) writing in
           let wrote = ap (λ (f : ReadFrame). f.write_faults) reading in
           let clears = ap (λ (f : ReadFrame). f.clear_faults) reading in
-          omega (arith, cleared, wrote, clears, c.next_piece.ensures.failing.write, c.clear.ensures.write_faults, c.clear.ensures.clear_faults);
+          omega (arith, cleared, wrote, clears, c.write_piece.ensures.failing.write, c.clear.ensures.write_faults, c.clear.ensures.clear_faults);
       spool =
-          let writing = sym (g.met.L.Spool.writing c.next_piece.new.output) ∙ c.next_piece.ensures.write_frame ∙ g.met.L.Spool.writing c.clear.new.spool in
+          let writing = sym (g.met.L.Spool.writing c.write_piece.new.spool) ∙ c.write_piece.ensures.write_frame ∙ g.met.L.Spool.writing c.clear.new.spool in
           let failed = ap (λ (f : WriteFrame). f.read_faults) writing in
           omega (arith, failed, c.clear.ensures.read_faults, c.flash.ensures.grows.read_faults);
       put = c.flash.ensures.grows.put_faults;
@@ -359,8 +356,8 @@ returns-in-Ok-flash-clause-faults g c =
 
 pub returns-in-Ok-flash-clause-calls : goal.returns-in-Ok-flash-clause-calls
 returns-in-Ok-flash-clause-calls g c =
-    let writing = sym (g.met.L.Spool.writing c.next_piece.new.output) ∙ c.next_piece.ensures.write_frame ∙ g.met.L.Spool.writing c.clear.new.spool in
-    let reading = sym (g.met.L.Spool.reading c.flash.new.input) ∙ c.flash.ensures.frame ∙ g.met.L.Spool.reading c.next_piece.new.output in
+    let writing = sym (g.met.L.Spool.writing c.write_piece.new.spool) ∙ c.write_piece.ensures.write_frame ∙ g.met.L.Spool.writing c.clear.new.spool in
+    let reading = sym (g.met.L.Spool.reading c.flash.new.input) ∙ c.flash.ensures.frame ∙ g.met.L.Spool.reading c.write_piece.new.spool in
     let gives = ap (λ (f : WriteFrame). f.given) writing in
     let reads = ap (λ (f : WriteFrame). f.reads) writing in
     let clears = ap (λ (f : WriteFrame). f.clears) writing in
@@ -368,58 +365,58 @@ returns-in-Ok-flash-clause-calls g c =
     let cleared = ap (λ (f : ReadFrame). f.clears) reading in
     let same = ap (λ (f : ReadFrame). length f.written) reading in
     let long = ap length c.clear.ensures.written in
-    omega (arith, gives, reads, clears, wrote, cleared, same, long, c.next_piece.ensures.costs.calls, c.next_piece.ensures.costs.given, c.next_piece.ensures.grown, c.clear.ensures.given, c.clear.ensures.reads, c.clear.ensures.writes, c.clear.ensures.calls, c.flash.ensures.costs.calls, c.flash.ensures.grows.given, c.flash.ensures.grows.taken)
+    omega (arith, gives, reads, clears, wrote, cleared, same, long, c.write_piece.ensures.costs.calls, c.write_piece.ensures.costs.given, c.write_piece.ensures.grown, c.clear.ensures.given, c.clear.ensures.reads, c.clear.ensures.writes, c.clear.ensures.calls, c.flash.ensures.costs.calls, c.flash.ensures.grows.given, c.flash.ensures.grows.taken)
 
 pub returns-in-Ok-flash-clause-turns : goal.returns-in-Ok-flash-clause-turns
 returns-in-Ok-flash-clause-turns g c =
-    let writing = sym (g.met.L.Spool.writing c.next_piece.new.output) ∙ c.next_piece.ensures.write_frame ∙ g.met.L.Spool.writing c.clear.new.spool in
-    let reading = sym (g.met.L.Spool.reading c.flash.new.input) ∙ c.flash.ensures.frame ∙ g.met.L.Spool.reading c.next_piece.new.output in
+    let writing = sym (g.met.L.Spool.writing c.write_piece.new.spool) ∙ c.write_piece.ensures.write_frame ∙ g.met.L.Spool.writing c.clear.new.spool in
+    let reading = sym (g.met.L.Spool.reading c.flash.new.input) ∙ c.flash.ensures.frame ∙ g.met.L.Spool.reading c.write_piece.new.spool in
     let gives = ap (λ (f : WriteFrame). f.given) writing in
     let same = ap (λ (f : ReadFrame). length f.written) reading in
     let long = ap length c.clear.ensures.written in
-    omega (arith, gives, same, long, c.next_piece.ensures.costs.turns, c.next_piece.ensures.costs.given, c.next_piece.ensures.grown, c.clear.ensures.given, c.flash.ensures.costs.turns, c.flash.ensures.grows.given, c.flash.ensures.grows.taken)
+    omega (arith, gives, same, long, c.write_piece.ensures.costs.turns, c.write_piece.ensures.costs.given, c.write_piece.ensures.grown, c.clear.ensures.given, c.flash.ensures.costs.turns, c.flash.ensures.grows.given, c.flash.ensures.grows.taken)
 
 pub returns-in-Err-flash-clause-capacity : goal.returns-in-Err-flash-clause-capacity
 returns-in-Err-flash-clause-capacity g c =
-    let writing = sym (g.met.L.Spool.writing c.next_piece.new.output) ∙ c.next_piece.ensures.write_frame ∙ g.met.L.Spool.writing c.clear.new.spool in
-    let reading = sym (g.met.L.Spool.reading c.flash.new.input) ∙ c.flash.ensures.frame ∙ g.met.L.Spool.reading c.next_piece.new.output in
+    let writing = sym (g.met.L.Spool.writing c.write_piece.new.spool) ∙ c.write_piece.ensures.write_frame ∙ g.met.L.Spool.writing c.clear.new.spool in
+    let reading = sym (g.met.L.Spool.reading c.flash.new.input) ∙ c.flash.ensures.frame ∙ g.met.L.Spool.reading c.write_piece.new.spool in
     ap (λ (f : ReadFrame). f.capacity) reading ∙ ap (λ (f : WriteFrame). f.capacity) writing ∙ c.clear.ensures.size
 
 pub returns-in-Err-flash-clause-work : goal.returns-in-Err-flash-clause-work
 returns-in-Err-flash-clause-work g c =
     record {
-      given = c.next_piece.ensures.costs.given;
+      given = c.write_piece.ensures.costs.given;
       spool_given =
-          let writing = sym (g.met.L.Spool.writing c.next_piece.new.output) ∙ c.next_piece.ensures.write_frame ∙ g.met.L.Spool.writing c.clear.new.spool in
+          let writing = sym (g.met.L.Spool.writing c.write_piece.new.spool) ∙ c.write_piece.ensures.write_frame ∙ g.met.L.Spool.writing c.clear.new.spool in
           let gives = ap (λ (f : WriteFrame). f.given) writing in
           omega (arith, gives, c.clear.ensures.given, c.flash.ensures.grows.given);
       grown =
-          let writing = sym (g.met.L.Spool.writing c.next_piece.new.output) ∙ c.next_piece.ensures.write_frame ∙ g.met.L.Spool.writing c.clear.new.spool in
-          let reading = sym (g.met.L.Spool.reading c.flash.new.input) ∙ c.flash.ensures.frame ∙ g.met.L.Spool.reading c.next_piece.new.output in
+          let writing = sym (g.met.L.Spool.writing c.write_piece.new.spool) ∙ c.write_piece.ensures.write_frame ∙ g.met.L.Spool.writing c.clear.new.spool in
+          let reading = sym (g.met.L.Spool.reading c.flash.new.input) ∙ c.flash.ensures.frame ∙ g.met.L.Spool.reading c.write_piece.new.spool in
           let same = ap (λ (f : ReadFrame). length f.written) reading in
           let long = ap length c.clear.ensures.written in
-          omega (arith, same, long, c.next_piece.ensures.grown);
+          omega (arith, same, long, c.write_piece.ensures.grown);
       taken = c.flash.ensures.grows.taken;
       steps =
-          let writing = sym (g.met.L.Spool.writing c.next_piece.new.output) ∙ c.next_piece.ensures.write_frame ∙ g.met.L.Spool.writing c.clear.new.spool in
+          let writing = sym (g.met.L.Spool.writing c.write_piece.new.spool) ∙ c.write_piece.ensures.write_frame ∙ g.met.L.Spool.writing c.clear.new.spool in
           let gives = ap (λ (f : WriteFrame). f.given) writing in
-          omega (arith, gives, c.next_piece.ensures.costs.steps, c.next_piece.ensures.costs.given, c.clear.ensures.given, c.flash.ensures.costs.steps, c.flash.ensures.grows.given);
-      greatest = omega (arith, c.next_piece.ensures.costs.greatest, c.flash.ensures.costs.greatest);
+          omega (arith, gives, c.write_piece.ensures.costs.steps, c.write_piece.ensures.costs.given, c.clear.ensures.given, c.flash.ensures.costs.steps, c.flash.ensures.grows.given);
+      greatest = omega (arith, c.write_piece.ensures.costs.greatest, c.flash.ensures.costs.greatest);
     }
 
 pub returns-in-Err-flash-clause-faults : goal.returns-in-Err-flash-clause-faults
 returns-in-Err-flash-clause-faults g c =
     record {
-      read = c.next_piece.ensures.failing.read;
+      read = c.write_piece.ensures.failing.read;
       write =
-          let writing = sym (g.met.L.Spool.writing c.next_piece.new.output) ∙ c.next_piece.ensures.write_frame ∙ g.met.L.Spool.writing c.clear.new.spool in
-          let reading = sym (g.met.L.Spool.reading c.flash.new.input) ∙ c.flash.ensures.frame ∙ g.met.L.Spool.reading c.next_piece.new.output in
+          let writing = sym (g.met.L.Spool.writing c.write_piece.new.spool) ∙ c.write_piece.ensures.write_frame ∙ g.met.L.Spool.writing c.clear.new.spool in
+          let reading = sym (g.met.L.Spool.reading c.flash.new.input) ∙ c.flash.ensures.frame ∙ g.met.L.Spool.reading c.write_piece.new.spool in
           let cleared = ap (λ (f : WriteFrame). f.clear_faults) writing in
           let wrote = ap (λ (f : ReadFrame). f.write_faults) reading in
           let clears = ap (λ (f : ReadFrame). f.clear_faults) reading in
-          omega (arith, cleared, wrote, clears, c.next_piece.ensures.failing.write, c.clear.ensures.write_faults, c.clear.ensures.clear_faults);
+          omega (arith, cleared, wrote, clears, c.write_piece.ensures.failing.write, c.clear.ensures.write_faults, c.clear.ensures.clear_faults);
       spool =
-          let writing = sym (g.met.L.Spool.writing c.next_piece.new.output) ∙ c.next_piece.ensures.write_frame ∙ g.met.L.Spool.writing c.clear.new.spool in
+          let writing = sym (g.met.L.Spool.writing c.write_piece.new.spool) ∙ c.write_piece.ensures.write_frame ∙ g.met.L.Spool.writing c.clear.new.spool in
           let failed = ap (λ (f : WriteFrame). f.read_faults) writing in
           omega (arith, failed, c.clear.ensures.read_faults, c.flash.ensures.grows.read_faults);
       put = c.flash.ensures.grows.put_faults;
@@ -427,8 +424,8 @@ returns-in-Err-flash-clause-faults g c =
 
 pub returns-in-Err-flash-clause-calls : goal.returns-in-Err-flash-clause-calls
 returns-in-Err-flash-clause-calls g c =
-    let writing = sym (g.met.L.Spool.writing c.next_piece.new.output) ∙ c.next_piece.ensures.write_frame ∙ g.met.L.Spool.writing c.clear.new.spool in
-    let reading = sym (g.met.L.Spool.reading c.flash.new.input) ∙ c.flash.ensures.frame ∙ g.met.L.Spool.reading c.next_piece.new.output in
+    let writing = sym (g.met.L.Spool.writing c.write_piece.new.spool) ∙ c.write_piece.ensures.write_frame ∙ g.met.L.Spool.writing c.clear.new.spool in
+    let reading = sym (g.met.L.Spool.reading c.flash.new.input) ∙ c.flash.ensures.frame ∙ g.met.L.Spool.reading c.write_piece.new.spool in
     let gives = ap (λ (f : WriteFrame). f.given) writing in
     let reads = ap (λ (f : WriteFrame). f.reads) writing in
     let clears = ap (λ (f : WriteFrame). f.clears) writing in
@@ -436,16 +433,16 @@ returns-in-Err-flash-clause-calls g c =
     let cleared = ap (λ (f : ReadFrame). f.clears) reading in
     let same = ap (λ (f : ReadFrame). length f.written) reading in
     let long = ap length c.clear.ensures.written in
-    omega (arith, gives, reads, clears, wrote, cleared, same, long, c.next_piece.ensures.costs.calls, c.next_piece.ensures.costs.given, c.next_piece.ensures.grown, c.clear.ensures.given, c.clear.ensures.reads, c.clear.ensures.writes, c.clear.ensures.calls, c.flash.ensures.costs.calls, c.flash.ensures.grows.given, c.flash.ensures.grows.taken)
+    omega (arith, gives, reads, clears, wrote, cleared, same, long, c.write_piece.ensures.costs.calls, c.write_piece.ensures.costs.given, c.write_piece.ensures.grown, c.clear.ensures.given, c.clear.ensures.reads, c.clear.ensures.writes, c.clear.ensures.calls, c.flash.ensures.costs.calls, c.flash.ensures.grows.given, c.flash.ensures.grows.taken)
 
 pub returns-in-Err-flash-clause-turns : goal.returns-in-Err-flash-clause-turns
 returns-in-Err-flash-clause-turns g c =
-    let writing = sym (g.met.L.Spool.writing c.next_piece.new.output) ∙ c.next_piece.ensures.write_frame ∙ g.met.L.Spool.writing c.clear.new.spool in
-    let reading = sym (g.met.L.Spool.reading c.flash.new.input) ∙ c.flash.ensures.frame ∙ g.met.L.Spool.reading c.next_piece.new.output in
+    let writing = sym (g.met.L.Spool.writing c.write_piece.new.spool) ∙ c.write_piece.ensures.write_frame ∙ g.met.L.Spool.writing c.clear.new.spool in
+    let reading = sym (g.met.L.Spool.reading c.flash.new.input) ∙ c.flash.ensures.frame ∙ g.met.L.Spool.reading c.write_piece.new.spool in
     let gives = ap (λ (f : WriteFrame). f.given) writing in
     let same = ap (λ (f : ReadFrame). length f.written) reading in
     let long = ap length c.clear.ensures.written in
-    omega (arith, gives, same, long, c.next_piece.ensures.costs.turns, c.next_piece.ensures.costs.given, c.next_piece.ensures.grown, c.clear.ensures.given, c.flash.ensures.costs.turns, c.flash.ensures.grows.given, c.flash.ensures.grows.taken)
+    omega (arith, gives, same, long, c.write_piece.ensures.costs.turns, c.write_piece.ensures.costs.given, c.write_piece.ensures.grown, c.clear.ensures.given, c.flash.ensures.costs.turns, c.flash.ensures.grows.given, c.flash.ensures.grows.taken)
 
 pub returns-in-Ok-flash-clause-cut : goal.returns-in-Ok-flash-clause-cut
 returns-in-Ok-flash-clause-cut g c =
@@ -453,36 +450,21 @@ returns-in-Ok-flash-clause-cut g c =
 
 pub returns-in-Ok-flash-clause-words : goal.returns-in-Ok-flash-clause-words
 returns-in-Ok-flash-clause-words g c =
-    let writing = sym (g.met.L.Spool.writing c.next_piece.new.output) ∙ c.next_piece.ensures.write_frame ∙ g.met.L.Spool.writing c.clear.new.spool in
-    let reading = sym (g.met.L.Spool.reading c.flash.new.input) ∙ c.flash.ensures.frame ∙ g.met.L.Spool.reading c.next_piece.new.output in
+    let writing = sym (g.met.L.Spool.writing c.write_piece.new.spool) ∙ c.write_piece.ensures.write_frame ∙ g.met.L.Spool.writing c.clear.new.spool in
+    let reading = sym (g.met.L.Spool.reading c.flash.new.input) ∙ c.flash.ensures.frame ∙ g.met.L.Spool.reading c.write_piece.new.spool in
     let gives = ap (λ (f : WriteFrame). f.given) writing in
     let same = ap (λ (f : ReadFrame). length f.written) reading in
     let long = ap length c.clear.ensures.written in
-    let words = rw c.in-Ok-Some.field-0-is at c.in-Ok-Some.ensures.words in
-    let ends = (rw c.in-Ok-Some.field-0-is at c.in-Ok-Some.ensures.piece).ends in
+    let words = c.in-Ok-write_piece.ensures.words in
+    let ends = c.in-Ok-write_piece.ensures.piece.ends in
     let few = rw ends at words in
-    omega (arith, gives, same, long, few, c.next_piece.ensures.costs.given, c.next_piece.ensures.grown, c.clear.ensures.given, c.flash.ensures.costs.turns, c.flash.ensures.grows.given, c.flash.ensures.grows.taken)
+    omega (arith, gives, same, long, few, c.write_piece.ensures.costs.given, c.write_piece.ensures.grown, c.clear.ensures.given, c.flash.ensures.costs.turns, c.flash.ensures.grows.given, c.flash.ensures.grows.taken)
 
 pub returns-in-Ok-flash-clause-spent : goal.returns-in-Ok-flash-clause-spent
-returns-in-Ok-flash-clause-spent g c tells =
-    let z = rw c.in-Ok-Some.field-0-is at (c.in-Ok-Some.ensures.spent tells) in
-    omega (arith, z.most, c.next_piece.ensures.costs.given)
+returns-in-Ok-flash-clause-spent g c tells = c.in-Ok-write_piece.ensures.spent tells
 
 pub returns-in-Ok-flash-clause-spent_end : goal.returns-in-Ok-flash-clause-spent_end
-returns-in-Ok-flash-clause-spent_end g c tells over =
-    let z = rw c.in-Ok-Some.field-0-is at (c.in-Ok-Some.ensures.spent tells) in
-    let ends = (rw c.in-Ok-Some.field-0-is at c.in-Ok-Some.ensures.piece).ends in
-    let end = rw ends at z.end in
-    let most = end over in
-    omega (arith, most, c.next_piece.ensures.costs.given)
-
--- ---- what cannot be: a cutter between pieces has one more
-
-pub unreachable-requires : goal.unreachable-requires
-unreachable-requires g c =
-    let none = rw c.in-Ok-None.field-0-is at c.in-Ok-None.ensures.none in
-    let z = sym c.requires.between ∙ none.0 in
-    cc
+returns-in-Ok-flash-clause-spent_end g c tells over = c.in-Ok-write_piece.ensures.spent_end tells over
 
 -- ---- the rest where the spool was not cleared: nothing else was called
 
@@ -493,7 +475,7 @@ pub returns-in-Err-clause-fits : goal.returns-in-Err-clause-fits
 returns-in-Err-clause-fits g c = fits_same _ _ _ _ _ c.in-Err.ensures.kept c.clear.ensures.written
 
 pub returns-in-Err-clause-begins : goal.returns-in-Err-clause-begins
-returns-in-Err-clause-begins g c tells = begins_same _ _ _ c.clear.ensures.written
+returns-in-Err-clause-begins g c forward tells = begins_same _ _ _ c.clear.ensures.written
 
 pub returns-in-Err-clause-touches : goal.returns-in-Err-clause-touches
 returns-in-Err-clause-touches g c tells spool partition = touches_none _ _ _
@@ -535,39 +517,39 @@ returns-in-Err-clause-faults g c =
 
 -- ---- the rest where the piece was not written: the partition was not called
 
-pub returns-in-Err-next_piece-clause-touches : goal.returns-in-Err-next_piece-clause-touches
-returns-in-Err-next_piece-clause-touches g c tells spool partition = touches_none _ _ _
+pub returns-in-Err-write_piece-clause-touches : goal.returns-in-Err-write_piece-clause-touches
+returns-in-Err-write_piece-clause-touches g c tells spool partition = touches_none _ _ _
 
-pub returns-in-Err-next_piece-clause-told : goal.returns-in-Err-next_piece-clause-told
-returns-in-Err-next_piece-clause-told g c = c.next_piece.ensures.told
+pub returns-in-Err-write_piece-clause-told : goal.returns-in-Err-write_piece-clause-told
+returns-in-Err-write_piece-clause-told g c = c.write_piece.ensures.told
 
-pub returns-in-Err-next_piece-clause-same : goal.returns-in-Err-next_piece-clause-same
-returns-in-Err-next_piece-clause-same g c = (c.next_piece.ensures.cutter.same_image, c.next_piece.ensures.cutter.same_limit)
+pub returns-in-Err-write_piece-clause-same : goal.returns-in-Err-write_piece-clause-same
+returns-in-Err-write_piece-clause-same g c = (c.write_piece.ensures.cutter.same_image, c.write_piece.ensures.cutter.same_limit)
 
-pub returns-in-Err-next_piece-clause-synced : goal.returns-in-Err-next_piece-clause-synced
-returns-in-Err-next_piece-clause-synced g c = omega arith
+pub returns-in-Err-write_piece-clause-synced : goal.returns-in-Err-write_piece-clause-synced
+returns-in-Err-write_piece-clause-synced g c = omega arith
 
 -- ---- the rest where it was flashed, and where that was refused
 
 pub returns-in-Ok-flash-clause-told : goal.returns-in-Ok-flash-clause-told
-returns-in-Ok-flash-clause-told g c = c.next_piece.ensures.told
+returns-in-Ok-flash-clause-told g c = c.write_piece.ensures.told
 
 pub returns-in-Err-flash-clause-told : goal.returns-in-Err-flash-clause-told
-returns-in-Err-flash-clause-told g c = c.next_piece.ensures.told
+returns-in-Err-flash-clause-told g c = c.write_piece.ensures.told
 
 pub returns-in-Ok-flash-clause-same : goal.returns-in-Ok-flash-clause-same
-returns-in-Ok-flash-clause-same g c = (c.next_piece.ensures.cutter.same_image, c.next_piece.ensures.cutter.same_limit)
+returns-in-Ok-flash-clause-same g c = (c.write_piece.ensures.cutter.same_image, c.write_piece.ensures.cutter.same_limit)
 
 pub returns-in-Err-flash-clause-same : goal.returns-in-Err-flash-clause-same
-returns-in-Err-flash-clause-same g c = (c.next_piece.ensures.cutter.same_image, c.next_piece.ensures.cutter.same_limit)
+returns-in-Err-flash-clause-same g c = (c.write_piece.ensures.cutter.same_image, c.write_piece.ensures.cutter.same_limit)
 
 pub returns-in-Ok-flash-clause-behind : goal.returns-in-Ok-flash-clause-behind
 returns-in-Ok-flash-clause-behind g c =
-    let p = rw c.in-Ok-Some.field-0-is at c.in-Ok-Some.ensures.piece in
+    let p = c.in-Ok-write_piece.ensures.piece in
     goes_behind _ _ _ _ _ _ _ _ p.one_more p.begins p.ends p.passed
 
 pub returns-in-Ok-flash-clause-greatest_end : goal.returns-in-Ok-flash-clause-greatest_end
-returns-in-Ok-flash-clause-greatest_end g c tells = segment g ((goal.at.returns-in-Ok-flash-clause-greatest_end g c).In-Ok-Some) tells
+returns-in-Ok-flash-clause-greatest_end g c tells = segment g ((goal.at.returns-in-Ok-flash-clause-greatest_end g c).In-Ok-write_piece) tells
 
 pub returns-in-Ok-flash-clause-settled : goal.returns-in-Ok-flash-clause-settled
 returns-in-Ok-flash-clause-settled g c = c.in-Ok-flash.ensures.syncs.settled
@@ -586,9 +568,8 @@ returns-in-Ok-flash-clause-takes g c =
     let k = (goal.at.returns-in-Ok-flash-clause-takes g c).After-flash in
     let same = ap length (after_written g k) in
     let long = ap length c.clear.ensures.written in
-    let wrote = rw c.in-Ok-Some.field-0-is at c.in-Ok-Some.ensures.long in
-    let takes = rw c.in-Ok-Some.field-0-is at c.in-Ok-Some.ensures.takes in
-    omega (arith, same, long, wrote, takes)
+    let takes = c.in-Ok-write_piece.ensures.takes in
+    omega (arith, same, long, takes)
 
 -- ---- what is only said of a piece that was delivered, where it was not flashed
 
@@ -627,35 +608,32 @@ returns-in-Err-flash-clause-clean g c = rw c.not_flashed.ensures tt
 
 -- ---- what a callee says as it stands
 
-pub next_piece-requires-clause-unbegun : goal.next_piece-requires-clause-unbegun
-next_piece-requires-clause-unbegun g c = rw c.requires.between refl
+pub write_piece-requires-clause-opened : goal.write_piece-requires-clause-opened
+write_piece-requires-clause-opened g c = c.requires.opened
 
-pub next_piece-requires-clause-opened : goal.next_piece-requires-clause-opened
-next_piece-requires-clause-opened g c = c.requires.opened
-
-pub next_piece-requires-clause-told : goal.next_piece-requires-clause-told
-next_piece-requires-clause-told g c = c.requires.told
+pub write_piece-requires-clause-told : goal.write_piece-requires-clause-told
+write_piece-requires-clause-told g c = c.requires.told
 
 pub returns-in-Err-clause-capacity : goal.returns-in-Err-clause-capacity
 returns-in-Err-clause-capacity g c = c.clear.ensures.size
 
-pub returns-in-Err-next_piece-clause-content : goal.returns-in-Err-next_piece-clause-content
-returns-in-Err-next_piece-clause-content g c = c.next_piece.ensures.content
+pub returns-in-Err-write_piece-clause-content : goal.returns-in-Err-write_piece-clause-content
+returns-in-Err-write_piece-clause-content g c = c.write_piece.ensures.content
 
-pub returns-in-Err-next_piece-clause-frame : goal.returns-in-Err-next_piece-clause-frame
-returns-in-Err-next_piece-clause-frame g c = c.next_piece.ensures.frame
+pub returns-in-Err-write_piece-clause-frame : goal.returns-in-Err-write_piece-clause-frame
+returns-in-Err-write_piece-clause-frame g c = c.write_piece.ensures.frame
 
 pub returns-in-Ok-flash-clause-content : goal.returns-in-Ok-flash-clause-content
-returns-in-Ok-flash-clause-content g c = c.next_piece.ensures.content
+returns-in-Ok-flash-clause-content g c = c.write_piece.ensures.content
 
 pub returns-in-Ok-flash-clause-frame : goal.returns-in-Ok-flash-clause-frame
-returns-in-Ok-flash-clause-frame g c = c.next_piece.ensures.frame
+returns-in-Ok-flash-clause-frame g c = c.write_piece.ensures.frame
 
 pub returns-in-Err-flash-clause-content : goal.returns-in-Err-flash-clause-content
-returns-in-Err-flash-clause-content g c = c.next_piece.ensures.content
+returns-in-Err-flash-clause-content g c = c.write_piece.ensures.content
 
 pub returns-in-Err-flash-clause-frame : goal.returns-in-Err-flash-clause-frame
-returns-in-Err-flash-clause-frame g c = c.next_piece.ensures.frame
+returns-in-Err-flash-clause-frame g c = c.write_piece.ensures.frame
 
 pub returns-in-Ok-flash-clause-size : goal.returns-in-Ok-flash-clause-size
 returns-in-Ok-flash-clause-size g c = c.flash.ensures.size
@@ -668,3 +646,53 @@ returns-in-Err-flash-clause-size g c = c.flash.ensures.size
 
 pub returns-in-Err-flash-clause-unread : goal.returns-in-Err-flash-clause-unread
 returns-in-Err-flash-clause-unread g c = (c.flash.ensures.unread.0, c.flash.ensures.unread.1)
+
+-- ---- headers last: what stands behind the clear
+
+-- the spool's clears, once it was cleared and written to
+wrote_cuts : (g : Over) (c : After-write_piece g) → g.L.Spool.cuts c.write_piece.new.spool ≡ length (g.L.Output.written c.args.spool.now) ∷ g.L.Spool.cuts c.args.spool.now
+wrote_cuts g c = ap (λ (f : WriteFrame). f.cuts) (sym (g.met.L.Spool.writing c.write_piece.new.spool) ∙ c.write_piece.ensures.write_frame ∙ g.met.L.Spool.writing c.clear.new.spool) ∙ c.in-Ok.ensures.cut
+
+pub returns-in-Err-clause-no_part : goal.returns-in-Err-clause-no_part
+returns-in-Err-clause-no_part g c late tells = no_part_none (g.L.Output.written c.args.spool.now) (g.L.Output.written c.clear.new.spool) (g.L.Spool.cuts c.clear.new.spool) _ c.clear.ensures.written
+
+pub returns-in-Err-clause-ends : goal.returns-in-Err-clause-ends
+returns-in-Err-clause-ends g c late = ends_none _ _ _ _ _ c.clear.ensures.written c.in-Err.ensures.kept
+
+pub returns-in-Err-write_piece-clause-no_part : goal.returns-in-Err-write_piece-clause-no_part
+returns-in-Err-write_piece-clause-no_part g c late tells =
+    let k = (goal.at.returns-in-Err-write_piece-clause-no_part g c).After-write_piece in
+    let h = rw c.clear.ensures.written at (c.in-Err-write_piece.ensures.late late) in
+    no_part_late _ _ _ _ _ (wrote_cuts g k) h.before h.unfinished
+
+pub returns-in-Err-write_piece-clause-ends : goal.returns-in-Err-write_piece-clause-ends
+returns-in-Err-write_piece-clause-ends g c late =
+    let k = (goal.at.returns-in-Err-write_piece-clause-ends g c).After-write_piece in
+    let h = rw c.clear.ensures.written at (c.in-Err-write_piece.ensures.late late) in
+    ends_late _ _ _ _ _ _ (wrote_cuts g k) h.unfinished
+
+pub returns-in-Ok-flash-clause-no_part : goal.returns-in-Ok-flash-clause-no_part
+returns-in-Ok-flash-clause-no_part g c late tells =
+    let k = (goal.at.returns-in-Ok-flash-clause-no_part g c).After-flash in
+    let s = (goal.at.returns-in-Ok-flash-clause-no_part g c).In-Ok-write_piece in
+    no_part_one _ _ (g.L.Spool.cuts c.flash.new.input) _ (after_written g k ∙ bytes g s tells ∙ ap (λ (x : List ℕ). g.L.Output.written c.args.spool.now ++ x) (piece_is _ _ _ _ _ (segment g s tells)))
+
+pub returns-in-Ok-flash-clause-ends : goal.returns-in-Ok-flash-clause-ends
+returns-in-Ok-flash-clause-ends g c late =
+    let k = (goal.at.returns-in-Ok-flash-clause-ends g c).After-flash in
+    let s = (goal.at.returns-in-Ok-flash-clause-ends g c).In-Ok-write_piece in
+    let h : Appended (IsImage (g.R.BlockRuns.size c.args.cutter.now.runs) (g.R.BlockRuns.count c.args.cutter.now.runs)) (g.L.Output.written c.args.spool.now) (g.L.Output.written c.flash.new.input) = rw (after_written g k) (rw c.clear.ensures.written at (image g s)) in
+    ends_one _ _ _ _ _ _ _ (after_cuts g k) h
+
+pub returns-in-Err-flash-clause-no_part : goal.returns-in-Err-flash-clause-no_part
+returns-in-Err-flash-clause-no_part g c late tells =
+    let k = (goal.at.returns-in-Err-flash-clause-no_part g c).After-flash in
+    let s = (goal.at.returns-in-Err-flash-clause-no_part g c).In-Ok-write_piece in
+    no_part_one _ _ (g.L.Spool.cuts c.flash.new.input) _ (after_written g k ∙ bytes g s tells ∙ ap (λ (x : List ℕ). g.L.Output.written c.args.spool.now ++ x) (piece_is _ _ _ _ _ (segment g s tells)))
+
+pub returns-in-Err-flash-clause-ends : goal.returns-in-Err-flash-clause-ends
+returns-in-Err-flash-clause-ends g c late =
+    let k = (goal.at.returns-in-Err-flash-clause-ends g c).After-flash in
+    let s = (goal.at.returns-in-Err-flash-clause-ends g c).In-Ok-write_piece in
+    let h : Appended (IsImage (g.R.BlockRuns.size c.args.cutter.now.runs) (g.R.BlockRuns.count c.args.cutter.now.runs)) (g.L.Output.written c.args.spool.now) (g.L.Output.written c.flash.new.input) = rw (after_written g k) (rw c.clear.ensures.written at (image g s)) in
+    ends_one _ _ _ _ _ _ _ (after_cuts g k) h

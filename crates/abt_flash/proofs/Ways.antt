@@ -1,0 +1,52 @@
+-- How a piece is written to the spool: what stands there, headers last.
+use Rattle.std.proofs.Common.{◌≡◌, ℕ, ◌⊎◌, List, [], ◌∷◌, ◌++◌, length, take, drop, refl, sym, ap, subst, ◌∙◌, inl, inr, append-nil, append_assoc, arith}
+use Rattle.std.specs.List.{concat}
+use Rattle.std.proofs.lemmas.List.{drop_all}
+use Rattle.std.proofs.Math.Seq.{drop-append_seam}
+use Rattle.abt_io.specs.Frame.{last_cut}
+use Rattle.abt_pieces.specs.Image.{Appended, IsImage}
+use Rattle.abt_placed.specs.Unfinished.{IsNoImage}
+use Rattle.abt_flash.specs.Delivering.{EndsWhole, GaveNoPart, GaveWhole, IsWholeOrNone}
+
+-- ---- some of the pieces, whole
+
+pub gave_none : (old new : List ℕ) (xs : List (List ℕ)) → new ≡ old → GaveWhole old new xs
+gave_none old new xs e = record { count = 0; gave = e ∙ sym (append-nil old) }
+
+pub gave_one : (old new x : List ℕ) → new ≡ old ++ x → GaveWhole old new (x ∷ [])
+gave_one old new x e = record { count = 1; gave = e ∙ ap (λ (y : List ℕ). old ++ y) (sym (append-nil x)) }
+
+-- ---- behind one call
+
+-- nothing was written
+pub no_part_none : (old new cuts : List ℕ) (xs : List (List ℕ)) → new ≡ old → GaveNoPart old new cuts xs
+no_part_none old new cuts xs e = inl (gave_none old new xs e)
+
+pub ends_none : (b : ℕ) (old new old_cuts new_cuts : List ℕ) → new ≡ old → new_cuts ≡ old_cuts → EndsWhole b old new old_cuts new_cuts
+ends_none b old new old_cuts new_cuts e k = inl (e, k)
+
+-- a piece was, whole
+pub no_part_one : (old new cuts x : List ℕ) → new ≡ old ++ x → GaveNoPart old new cuts (x ∷ [])
+no_part_one old new cuts x e = inl (gave_one old new x e)
+
+pub ends_one : (b n : ℕ) (old new old_cuts new_cuts cuts : List ℕ) → new_cuts ≡ length old ∷ cuts → Appended (IsImage b n) old new → EndsWhole b old new old_cuts new_cuts
+ends_one b n old new old_cuts new_cuts cuts k h =
+    let at : drop (last_cut new_cuts) new ≡ h.wrote = ap (λ (c : List ℕ). drop (last_cut c) new) k ∙ ap (drop (length old)) h.behind ∙ drop-append_seam old h.wrote in
+    inr (inr (inl (n, subst (IsImage b n) (sym at) h.is)))
+
+-- a piece was not finished
+pub no_part_late : (old new new_cuts cuts : List ℕ) (xs : List (List ℕ)) → new_cuts ≡ length old ∷ cuts → take (length old) new ≡ old → (new ≡ old) ⊎ IsNoImage (drop (length old) new) → GaveNoPart old new new_cuts xs
+no_part_late old new new_cuts cuts xs k before (inl e) = inl (gave_none old new xs e)
+no_part_late old new new_cuts cuts xs k before (inr none) =
+    inr (gave_none old (take (last_cut new_cuts) new) xs (ap (λ (c : List ℕ). take (last_cut c) new) k ∙ before), subst (λ (c : List ℕ). IsNoImage (drop (last_cut c) new)) (sym k) none)
+
+pub ends_late : (b : ℕ) (old new old_cuts new_cuts cuts : List ℕ) → new_cuts ≡ length old ∷ cuts → (new ≡ old) ⊎ IsNoImage (drop (length old) new) → EndsWhole b old new old_cuts new_cuts
+ends_late b old new old_cuts new_cuts cuts k (inl e) = inr (inl (ap (λ (c : List ℕ). drop (last_cut c) new) k ∙ ap (drop (length old)) e ∙ drop_all (length old) old (omega arith)))
+ends_late b old new old_cuts new_cuts cuts k (inr none) = inr (inr (inr (subst (λ (c : List ℕ). IsNoImage (drop (last_cut c) new)) (sym k) none)))
+
+-- ---- one call after another
+
+pub ends_then : (b : ℕ) (w0 w1 w2 c0 c1 c2 : List ℕ) → EndsWhole b w0 w1 c0 c1 → EndsWhole b w1 w2 c1 c2 → EndsWhole b w0 w2 c0 c2
+ends_then b w0 w1 w2 c0 c1 c2 h (inr k) = inr k
+ends_then b w0 w1 w2 c0 c1 c2 (inl e) (inl k) = inl (k.0 ∙ e.0, k.1 ∙ e.1)
+ends_then b w0 w1 w2 c0 c1 c2 (inr h) (inl k) = inr (subst (IsWholeOrNone b) (ap (λ (w : List ℕ). drop (last_cut c1) w) (sym k.0) ∙ ap (λ (c : List ℕ). drop (last_cut c) w2) (sym k.1)) h)

@@ -1,0 +1,164 @@
+//! How a piece is written to the spool: forward, in repeated passes, or in one pass, its headers last.
+
+ghost use Rattle.std.specs.Prelude.{◌≡◌, ℕ, ◌<◌, ◌≤◌, ◌+◌, ◌-◌, ◌*◌, ◌++◌, Bool, IsTrue, IfOk, IfErr, OnErr, length, take};
+ghost use Rattle.std.specs.Prelude.{drop, true, false, ◌⊎◌};
+ghost use Rattle.abt_runs.specs.declared.part.Cursor.{Cursor};
+ghost use Rattle.abt_pieces.specs.Calls.{Failing, devices};
+ghost use Rattle.abt_pieces.specs.Cutter.{ToldCutter, piece_words};
+ghost use Rattle.abt_pieces.specs.Fault.{HasCause, full_cut};
+ghost use Rattle.abt_pieces.specs.Image.{Appended, IsImage};
+ghost use Rattle.abt_pieces.specs.NextPiece.{IsNext, LaidNext, SameCutter};
+ghost use Rattle.abt_pieces.specs.Outline.{piece_at};
+ghost use Rattle.abt_pieces.specs.SpentStage.{all_passes};
+ghost use Rattle.abt_pieces.specs.declared.stage.Stage.{Stage};
+ghost use Rattle.abt_placed.specs.Whole.{read_of};
+ghost use Rattle.abt_flash.specs.Delivering.{Begins};
+ghost use Rattle.abt_flash.specs.Way.{GrowsLate, WayCosts, forward_bounded, late_bounded};
+
+use abt_io::{Meter, Overwrite, Source, Spool, Window};
+use abt_pieces::{Cutter, Piece, PieceFault};
+use abt_placed::next_piece_at;
+use abt_runs::{BlockRuns, Cursor, RawRuns};
+
+/// How the next piece of an image is written to a spool.
+pub(crate) trait Way<R: BlockRuns + Drop, L: Spool> {
+    /// Whether it is written from its front on, so that what stands of one that was not finished is a beginning of it.
+    /// Otherwise that is nothing, or no image.
+    ghost is_forward: { Bool };
+
+    /// How many bytes are read of the source for all pieces before a place, at most.
+    ghost before: { R → Cursor → ℕ };
+
+    /// How many more for each piece, and for the last.
+    ghost each: { R → ℕ };
+    ghost last: { R → ℕ };
+
+    /// How many for all of the image, but for those.
+    ghost all: { R → ℕ };
+
+    /// Writes it behind what stands there, of a cutter that stands between two pieces.
+    fn write_piece<S: Source>(
+        &self,
+        cutter: &mut Cutter<R>,
+        source: &mut S,
+        spool: &mut L,
+        w: &mut Window,
+        m: &mut Meter,
+    ) -> Result<Piece, PieceFault>
+        requires between { cutter.old.stage ≡ Stage.Between }
+        requires opened { IsTrue S.tells → R.opened cutter.old.runs (S.content source.old) }
+        requires told { IsTrue S.tells → ToldCutter (R.place cutter.old.runs (S.content source.old))
+            (R.together cutter.old.runs (S.content source.old)) (R.size cutter.old.runs)
+            (R.list cutter.old.runs (S.content source.old)) cutter.old.limit cutter.old.made cutter.old.start
+            cutter.old.stage }
+        ensures cutter { SameCutter cutter.old.runs cutter.new.runs cutter.old.limit cutter.new.limit
+            cutter.new.stage }
+        ensures told { IsTrue S.tells → ToldCutter (R.place cutter.old.runs (S.content source.old))
+            (R.together cutter.old.runs (S.content source.old)) (R.size cutter.old.runs)
+            (R.list cutter.old.runs (S.content source.old)) cutter.new.limit cutter.new.made cutter.new.start
+            cutter.new.stage }
+        ensures content { IsTrue S.tells → S.content source.new ≡ S.content source.old }
+        ensures frame { S.read_frame source.new ≡ S.read_frame source.old }
+        ensures write_frame { L.write_frame spool.new ≡ L.write_frame spool.old }
+        // What stands in the spool, and the piece that it is told to be.
+        ensures grown { length (L.written spool.old) ≤ length (L.written spool.new) }
+        ensures within { length (L.written spool.new) ≤ length (L.written spool.old) + cutter.old.limit }
+        ensures begins { IsTrue is_forward → IsTrue S.tells → Begins (L.written spool.new)
+            (L.written spool.old ++ piece_at (R.size cutter.old.runs) cutter.old.limit
+            (R.list cutter.old.runs (S.content source.old)) cutter.old.start.block) }
+        ensures late { is_forward ≡ false → GrowsLate result (L.written spool.old) (L.written spool.new) }
+        ensures image { IfOk result (λ p. Appended (IsImage (R.size cutter.old.runs) (R.count cutter.old.runs))
+            (L.written spool.old) (L.written spool.new)) }
+        ensures piece { IfOk result (λ p. IsNext (R.count cutter.old.runs) cutter.old.limit cutter.old.start.block
+            cutter.new.start.block cutter.old.made cutter.new.made cutter.new.stage p) }
+        ensures laid { IsTrue S.tells → IfOk result (λ p. LaidNext (R.size cutter.old.runs) cutter.old.limit
+            (R.list cutter.old.runs (S.content source.old)) cutter.old.start.block p (L.written spool.old)
+            (L.written spool.new)) }
+        // What it costs, and what has failed.
+        ensures costs { WayCosts (R.one cutter.old.runs) (devices S.Source L.Output source.old spool.old)
+            (devices S.Source L.Output source.new spool.new) m.old m.new }
+        ensures words { IfOk result (λ p. m.new.turns.number
+            ≤ m.old.turns.number + 8 * ((S.given source.new - S.given source.old) + (length (L.written spool.new)
+            - length (L.written spool.old))) + 140 + piece_words (R.one cutter.old.runs) (R.count cutter.old.runs)
+            p.past) }
+        ensures takes { IfOk result (λ p. length (L.written spool.new) + R.taken cutter.old.runs cutter.old.start
+            ≤ length (L.written spool.old) + R.taken cutter.old.runs cutter.new.start + 80) }
+        ensures spent { IsTrue S.tells → IfOk result (λ p. S.given source.new + before cutter.old.runs cutter.old.start
+            ≤ S.given source.old + before cutter.old.runs cutter.new.start + each cutter.old.runs) }
+        ensures spent_end { IsTrue S.tells → IfOk result (λ p. R.count cutter.old.runs ≤ cutter.new.start.block →
+            S.given source.new + before cutter.old.runs cutter.old.start
+            ≤ S.given source.old + before cutter.old.runs cutter.new.start + last cutter.old.runs) }
+        ensures failing { Failing result (devices S.Source L.Output source.old spool.old)
+            (devices S.Source L.Output source.new spool.new) }
+        ensures full { full_cut result ≡ 1 → IsTrue (L.is_full spool.new) ×
+            (length (L.written spool.new) < length (L.written spool.old) + cutter.old.limit) }
+        ensures cause { IfErr result (λ e. HasCause e S.tells (S.read_faults source.old) (S.read_faults source.new)
+            (L.write_faults spool.old) (L.write_faults spool.new)) };
+
+    /// What is read for a part of the image is no more than for all of it.
+    ghost bounded: { (r : R) (c : Cursor) → R.within r c → before r c ≤ all r };
+}
+
+/// Forward: its bytes in order, in as many passes over what it is of as that takes.
+pub(crate) struct Forward {}
+
+impl<R: BlockRuns + Drop, L: Spool> Way<R, L> for Forward {
+    ghost is_forward = { true };
+
+    ghost before = { λ r c. all_passes (R.charge r) (R.copied r) c };
+
+    ghost each = { λ r. 80 + R.one r };
+
+    ghost last = { λ r. 48 };
+
+    ghost all = { λ r. 3 * R.pass r + R.image r };
+
+    ghost bounded = { λ r c h. forward_bounded _ _ _ _ _ _ (R.passed r c h) (R.copied_fits r c h) };
+
+    fn write_piece<S: Source>(
+        &self,
+        cutter: &mut Cutter<R>,
+        source: &mut S,
+        spool: &mut L,
+        w: &mut Window,
+        m: &mut Meter,
+    ) -> Result<Piece, PieceFault> {
+        match cutter.next_piece(source, spool, w, m) {
+            Ok(Some(piece)) => Ok(piece),
+            Ok(None) => unreachable!(),
+            Err(fault) => Err(fault),
+        }
+    }
+}
+
+/// In one pass over a raw image, the headers laid behind what they tell of.
+pub(crate) struct Late {}
+
+impl<L: Spool + Overwrite> Way<RawRuns, L> for Late {
+    ghost is_forward = { false };
+
+    ghost before = { λ r c. read_of r.length r.size c.block };
+
+    ghost each = { λ r. 65536 };
+
+    ghost last = { λ r. 65536 };
+
+    ghost all = { λ r. r.length };
+
+    ghost bounded = { λ r c h. late_bounded _ _ _ };
+
+    fn write_piece<S: Source>(
+        &self,
+        cutter: &mut Cutter<RawRuns>,
+        source: &mut S,
+        spool: &mut L,
+        w: &mut Window,
+        m: &mut Meter,
+    ) -> Result<Piece, PieceFault> {
+        match next_piece_at(cutter, source, spool, w, m) {
+            Ok(Some(piece)) => Ok(piece),
+            Ok(None) => unreachable!(),
+            Err(fault) => Err(fault),
+        }
+    }
+}
