@@ -17,3 +17,4 @@ pub mod Refusing
 pub mod Records
 pub mod Still
 pub mod Ways
+pub mod GivenBytes

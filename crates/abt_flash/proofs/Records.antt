@@ -14,7 +14,8 @@ use Rattle.abt_flash.specs.Causes.{opening_fault, planning_fault, run_fault_of}
 use Rattle.abt_flash.specs.Fault.{refused_syncs}
 use Rattle.abt_flash.specs.Devices.{Counts, PartitionState, SpoolState}
 use Rattle.abt_io.specs.declared.meter.Meter.{Meter}
-use Rattle.abt_flash.specs.Delivering.{AlwaysMendable, Begins, Costs, CountsTo, GivesPieces, HasBegun, ImageBlocks, IsLeast, LaysBlocks, LeavesMendable, MendsBlocks, OnEarly, OnStop, OnUnsyncedPiece, Refused, Room, StaysMendable, begun, blocks_behind, blocks_in_first, blocks_up_to, finished, pieces_behind, pieces_in, with_cuts}
+use Rattle.abt_flash.proofs.Ways.{ends_none, no_part_none}
+use Rattle.abt_flash.specs.Delivering.{AlwaysMendable, Begins, Costs, CountsTo, EndsWhole, GaveNoPart, GivesPieces, HasBegun, ImageBlocks, IsLeast, LaysBlocks, LeavesMendable, MendsBlocks, OnEarly, OnStop, OnUnsyncedPiece, Refused, Room, StaysMendable, begun, blocks_behind, blocks_in_first, blocks_up_to, finished, pieces_behind, pieces_in, with_cuts}
 use Rattle.abt_flash.specs.Going.{PlanRefused, StopsIn}
 use Rattle.abt_flash.specs.declared.answer.Delivered.{Delivered}
 use Rattle.abt_flash.specs.declared.fault.Cause.{Cause}
@@ -123,13 +124,15 @@ plan_begins cuts.TooLarge source k made n le few = le
 plan_begins (cuts.BadBlock m) source k made n le few = le
 plan_begins (cuts.LimitTooSmall m) source k made n le few = le
 
-pub gives_none : (source spool : Bool) (i : ImageBlocks) (limit made : ℕ) (e : FlashFault) (s : SpoolState) → GivesPieces source spool i limit made (Err e) s s
-gives_none source spool i limit made e s = record {
+pub gives_none : (forward source spool : Bool) (i : ImageBlocks) (limit made : ℕ) (e : FlashFault) (s : SpoolState) → GivesPieces forward source spool i limit made (Err e) s s
+gives_none forward source spool i limit made e s = record {
   room = refl;
   fits = fits_none limit s.cuts (length s.written);
   written = λ t. tt;
   cuts = λ t. tt;
-  begins = λ t. record { more = concat (pieces_behind limit i.size i.blocks made); joined = refl };
+  begins = λ f t. record { more = concat (pieces_behind limit i.size i.blocks made); joined = refl };
+  no_part = λ f t. no_part_none s.written s.written s.cuts _ refl;
+  ends = λ f. ends_none _ _ _ _ _ refl refl;
   back = λ t u. tt;
 }
 
@@ -306,13 +309,15 @@ begins_same source k l made n (Err (LimitTooSmall m)) e h = h
 begins_same source k l made n (Err (PartitionTooSmall m)) e h = h
 begins_same source k l made n (Err (Sync d)) e h = h
 
-pub gives_same : (source spool : Bool) (i j : ImageBlocks) (limit made : ℕ) (r : Result Delivered FlashFault) (s z : SpoolState) → (IsTrue source → i ≡ j) → GivesPieces source spool i limit made r s z → GivesPieces source spool j limit made r s z
-gives_same source spool i j limit made r s z e h = record {
+pub gives_same : (forward source spool : Bool) (i j : ImageBlocks) (limit made : ℕ) (r : Result Delivered FlashFault) (s z : SpoolState) → (IsTrue source → i ≡ j) → i.size ≡ j.size → GivesPieces forward source spool i limit made r s z → GivesPieces forward source spool j limit made r s z
+gives_same forward source spool i j limit made r s z e size h = record {
   room = h.room;
   fits = h.fits;
   written = λ t. let P : ImageBlocks → Type 0 = λ n. OnOk r (z.written ≡ s.written ++ concat (pieces_behind limit n.size n.blocks made)) in subst P (e t) (h.written t);
   cuts = λ t. let P : ImageBlocks → Type 0 = λ n. OnOk r (z.cuts ≡ with_cuts s.cuts (length s.written) (pieces_behind limit n.size n.blocks made)) in subst P (e t) (h.cuts t);
-  begins = λ t. let P : ImageBlocks → Type 0 = λ n. Begins z.written (s.written ++ concat (pieces_behind limit n.size n.blocks made)) in subst P (e t) (h.begins t);
+  begins = λ f t. let P : ImageBlocks → Type 0 = λ n. Begins z.written (s.written ++ concat (pieces_behind limit n.size n.blocks made)) in subst P (e t) (h.begins f t);
+  no_part = λ f t. let P : ImageBlocks → Type 0 = λ n. GaveNoPart s.written z.written z.cuts (pieces_behind limit n.size n.blocks made) in subst P (e t) (h.no_part f t);
+  ends = λ f. subst (λ (b : ℕ). EndsWhole b s.written z.written s.cuts z.cuts) size (h.ends f);
   back = h.back;
 }
 

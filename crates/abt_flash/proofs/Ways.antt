@@ -1,8 +1,9 @@
 -- How a piece is written to the spool: what stands there, headers last.
-use Rattle.std.proofs.Common.{◌≡◌, ℕ, ◌⊎◌, List, [], ◌∷◌, ◌++◌, length, take, drop, refl, sym, ap, subst, ◌∙◌, inl, inr, append-nil, append_assoc, arith}
+use Rattle.std.proofs.Common.{zero, suc, ◌+◌, ◌≡◌, ℕ, ◌⊎◌, List, [], ◌∷◌, ◌++◌, length, take, drop, refl, sym, ap, subst, ◌∙◌, inl, inr, append-nil, append_assoc, arith}
 use Rattle.std.specs.List.{concat}
-use Rattle.std.proofs.lemmas.List.{drop_all}
-use Rattle.std.proofs.Math.Seq.{drop-append_seam}
+use Rattle.std.proofs.lemmas.List.{append_cancel_right, drop_all, take_all, take-append-drop}
+use Rattle.std.proofs.lemmas.List.Folds.{concat-append}
+use Rattle.std.proofs.Math.Seq.{drop-append_seam, take-add}
 use Rattle.abt_io.specs.Frame.{last_cut}
 use Rattle.abt_pieces.specs.Image.{Appended, IsImage}
 use Rattle.abt_placed.specs.Unfinished.{IsNoImage}
@@ -50,3 +51,28 @@ pub ends_then : (b : ℕ) (w0 w1 w2 c0 c1 c2 : List ℕ) → EndsWhole b w0 w1 c
 ends_then b w0 w1 w2 c0 c1 c2 h (inr k) = inr k
 ends_then b w0 w1 w2 c0 c1 c2 (inl e) (inl k) = inl (k.0 ∙ e.0, k.1 ∙ e.1)
 ends_then b w0 w1 w2 c0 c1 c2 (inr h) (inl k) = inr (subst (IsWholeOrNone b) (ap (λ (w : List ℕ). drop (last_cut c1) w) (sym k.0) ∙ ap (λ (c : List ℕ). drop (last_cut c) w2) (sym k.1)) h)
+
+-- what was written so far, where so many of the pieces are still to come
+pub so_far : (w0 w : List ℕ) (xs : List (List ℕ)) (k : ℕ) → w ++ concat (drop k xs) ≡ w0 ++ concat xs → w ≡ w0 ++ concat (take k xs)
+so_far w0 w xs k e = append_cancel_right w (w0 ++ concat (take k xs)) (concat (drop k xs)) (e ∙ ap (λ (y : List ℕ). w0 ++ y) (ap concat (sym (take-append-drop k xs)) ∙ concat-append (take k xs) (drop k xs)) ∙ sym (append_assoc w0 (concat (take k xs)) (concat (drop k xs))))
+
+-- one piece more, or none
+gave_more : (w0 w w' : List ℕ) (xs : List (List ℕ)) (k : ℕ) (x : List ℕ) (rest : List (List ℕ)) → w ≡ w0 ++ concat (take k xs) → drop k xs ≡ x ∷ rest → GaveWhole w w' (x ∷ []) → GaveWhole w0 w' xs
+gave_more w0 w w' xs k x rest before next h = go h.count h.gave where
+  go : (j : ℕ) → w' ≡ w ++ concat (take j (x ∷ [])) → GaveWhole w0 w' xs
+  go zero e = record { count = k; gave = e ∙ append-nil w ∙ before }
+  go (suc j) e = record {
+    count = k + 1;
+    gave =
+        let one : take (suc j) (x ∷ []) ≡ x ∷ [] = take_all (suc j) (x ∷ []) (omega arith) in
+        let more : take (k + 1) xs ≡ take k xs ++ (x ∷ []) = take-add k 1 xs ∙ ap (λ (ys : List (List ℕ)). take k xs ++ take 1 ys) next in
+        e ∙ ap (λ (ys : List (List ℕ)). w ++ concat ys) one ∙ ap (λ (v : List ℕ). v ++ concat (x ∷ [])) before ∙ append_assoc w0 (concat (take k xs)) (concat (x ∷ [])) ∙ ap (λ (y : List ℕ). w0 ++ y) (sym (concat-append (take k xs) (x ∷ []))) ∙ ap (λ (ys : List (List ℕ)). w0 ++ concat ys) (sym more);
+  }
+
+pub no_part_then : (w0 w w' cuts : List ℕ) (xs : List (List ℕ)) (k : ℕ) (x : List ℕ) (rest : List (List ℕ)) → w ≡ w0 ++ concat (take k xs) → drop k xs ≡ x ∷ rest → GaveNoPart w w' cuts (x ∷ []) → GaveNoPart w0 w' cuts xs
+no_part_then w0 w w' cuts xs k x rest before next (inl h) = inl (gave_more w0 w w' xs k x rest before next h)
+no_part_then w0 w w' cuts xs k x rest before next (inr h) = inr (gave_more w0 w (take (last_cut cuts) w') xs k x rest before next h.0, h.1)
+
+-- all of them
+pub no_part_all : (w0 w cuts : List ℕ) (xs : List (List ℕ)) → w ≡ w0 ++ concat xs → GaveNoPart w0 w cuts xs
+no_part_all w0 w cuts xs e = inl (record { count = length xs; gave = e ∙ ap (λ (ys : List (List ℕ)). w0 ++ concat ys) (sym (take_all (length xs) xs (omega arith))) })

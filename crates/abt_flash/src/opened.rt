@@ -4,8 +4,7 @@ ghost use Rattle.std.specs.Prelude.{◌≡◌, ◌<◌, ◌≤◌, ◌+◌, ◌-
 ghost use Rattle.std.specs.Prelude.{length, max, true};
 ghost use Rattle.abt_flash.specs.Devices.{counts, partition_state, spool_state};
 ghost use Rattle.abt_flash.specs.Delivering.{AlwaysMendable, Costs, CountsTo, GivesPieces, IsLeast, LaysBlocks};
-ghost use Rattle.abt_flash.specs.Delivering.{MendsBlocks, NoneFailed, OnEarly, Refused, Room, begun, blocks_in_first};
-ghost use Rattle.abt_flash.specs.Delivering.{pieces_in};
+ghost use Rattle.abt_flash.specs.Delivering.{MendsBlocks, NoneFailed, OnEarly, Refused, Room, blocks_in_first, pieces_in};
 ghost use Rattle.abt_flash.specs.Way.{ReadFor};
 ghost use Rattle.abt_flash.specs.Causes.{opening_fault};
 
@@ -93,7 +92,7 @@ pub(crate) fn deliver_behind<W: Way<R, L>, R: BlockRuns + Drop, S: Source, L: Sp
         IfOk result (λ d. ReadFor (R.within runs) (R.charge runs) (W.before runs) (R.one runs) (W.each runs) (W.last runs)
         (W.all runs) (blocks_in_first limit (R.size runs) (R.list runs (S.content source.old)) before) before d.pieces
         (S.given source.old) (S.given source.new)) }
-    ensures few { begun before result ≤ max 1 (R.count runs) }
+    ensures few { IfOk result (λ d. before + d.pieces ≤ max 1 (R.count runs)) }
     ensures long { IfOk result (λ d. length (L.written spool.new) ≤ length (L.written spool.old) + R.most_taken runs
         + 80 * d.pieces) }
     ensures costs { Costs S.tells

@@ -4,7 +4,7 @@ ghost use Rattle.std.specs.Prelude.{◌≡◌, ◌<◌, ◌≤◌, ◌+◌, ◌-
 ghost use Rattle.abt_sparse.specs.Block.{classify};
 ghost use Rattle.abt_flash.specs.Devices.{counts, partition_state, spool_state};
 ghost use Rattle.abt_flash.specs.Delivering.{AlwaysMendable, Costs, CountsTo, GivesPieces, IsLeast, LaysBlocks};
-ghost use Rattle.abt_flash.specs.Delivering.{MendsBlocks, NoneFailed, OnEarly, Room, begun, blocks_in_first, pieces_in};
+ghost use Rattle.abt_flash.specs.Delivering.{MendsBlocks, NoneFailed, OnEarly, Room, blocks_in_first, pieces_in};
 ghost use Rattle.abt_flash.specs.Way.{ReadForRaw};
 ghost use Rattle.abt_flash.specs.Raw.{IsAllowed, RawRefused, raw_image};
 
@@ -71,7 +71,8 @@ pub(crate) fn raw_behind<W: Way<RawRuns, L>, S: Source, L: Spool, P: Partition>(
         IfOk result (λ d. ReadForRaw W.before W.each W.last W.all b (length (S.content source.old))
         (blocks_in_first limit b (classify b (S.content source.old)) before) before d.pieces (S.given source.old)
         (S.given source.new)) }
-    ensures few { IsTrue S.tells → begun before result ≤ max 1 (length (classify b (S.content source.old))) }
+    ensures few { IsTrue S.tells →
+        IfOk result (λ d. before + d.pieces ≤ max 1 (length (classify b (S.content source.old)))) }
     ensures long { IsTrue S.tells → IfOk result (λ d. length (L.written spool.new)
         ≤ length (L.written spool.old) + length (classify b (S.content source.old)) * (b + 16) + 80 * d.pieces) }
     ensures costs { Costs S.tells (raw_image b (S.content source.old)) limit b 512 before result

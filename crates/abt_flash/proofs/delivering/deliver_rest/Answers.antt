@@ -1,6 +1,8 @@
-use Rattle.std.proofs.Common.{◌≡◌, ℕ, ◌+◌, ◌-◌, ◌*◌, ◌≤◌, ◌<◌, ◌^◌, ◌++◌, List, length, Err, refl, sym, ap, ◌∙◌, arith, inl, inr, length-append, append-nil}
+use Rattle.std.specs.Prelude.{IsTrue}
+use Rattle.abt_sparse.specs.Pieces.{pieces}
+use Rattle.std.proofs.Common.{drop, ◌≡◌, ℕ, ◌+◌, ◌-◌, ◌*◌, ◌≤◌, ◌<◌, ◌^◌, ◌++◌, List, length, Err, refl, sym, ap, ◌∙◌, arith, inl, inr, length-append, append-nil}
 use Rattle.std.specs.List.{concat}
-use Rattle.std.proofs.lemmas.List.{drop_all}
+use Rattle.std.proofs.lemmas.List.{drop_all, drop-drop}
 use Rattle.abt_sparse.specs.Block.{Block, IsBlockSize, cells, over}
 use Rattle.abt_pieces.specs.Contents.{written_in}
 use Rattle.abt_sparse.specs.Laws.{flashed_all}
@@ -8,13 +10,13 @@ use Rattle.abt_pieces.specs.Gather.{frame}
 use Rattle.abt_pieces.specs.Outline.{piece_at}
 use Rattle.abt_pieces.specs.Plan.{FirstPiece}
 use Rattle.abt_pieces.specs.Cutter.{has_more}
-use Rattle.abt_pieces.specs.SpentStage.{all_passes}
 use Rattle.abt_pieces.specs.declared.stage.Stage.{Stage}
 use Rattle.abt_pieces.specs.declared.stage.Stage.TheVariants.{Between, Done}
-use Rattle.abt_flash.specs.Delivering.{blocks_in_first, blocks_up_to, with_cuts}
+use Rattle.abt_flash.specs.Delivering.{blocks_in_first, blocks_up_to, pieces_behind, with_cuts}
 use Rattle.abt_flash.specs.Going.{StandsAt, Unbroken, frames_left, pieces_left, words_so_far}
 use Rattle.abt_flash.proofs.Left.{behind, first_more, laid_first, laid_next, frames_more, pieces_more, written_more, pieces_behind_are, laid_left, stands_left, none_left, one_left, pieces_front}
 use Rattle.abt_flash.proofs.Onward.{back_on, blocks_on, greatest_on, long_on, order_on, some_on, steps_on, synced_on, unsynced_on, up_on, unbroken_first, unbroken_more, still_between, now_done, few_more, fewer_then, words_more, words_most, words_one, calls_on, turns_on, spent_more, spent_last, spent_whole}
+use Rattle.abt_flash.proofs.Ways.{ends_none, ends_then, no_part_all, no_part_then, so_far}
 use Rattle.abt_flash.proofs.Spooled.{fits_none, fits_then, written_then, begins_then, cuts_then}
 use Rattle.abt_flash.specs.Delivering.{unsynced_by}
 use Rattle.abt_flash.specs.Fault.{refused_syncs}
@@ -26,6 +28,8 @@ use Rattle.abt_flash.proofs.Refusing.{stops_since}
 use Rattle.abt_flash.proofs.Summing.{both_flashed, stopped_unsynced}
 use Rattle.abt_flash.proofs.Staying.{staying_first, staying_more, staying_stop, staying_now, staying_last}
 use Rattle.abt_flash.proofs.delivering.deliver_rest.Goals as goal
+use Rattle.abt_flash.proofs.delivering.deliver_rest.Goals.{Then-not-more}
+use Rattle.abt_flash.proofs.delivering.deliver_rest.Given.{Over}
 
 pub pieces-init : goal.pieces-init
 pieces-init g c =
@@ -51,6 +55,7 @@ pieces-init g c =
       fits = fits_none _ _ _;
       written = λ tells. ap (λ (st : Stage). g.L.Output.written c.args.spool.now ++ concat (pieces_left most b all s st)) is;
       cuts = λ tells. ap (λ (st : Stage). with_cuts (g.L.Spool.cuts c.args.spool.now) (length (g.L.Output.written c.args.spool.now)) (pieces_left most b all s st)) is;
+      ends = λ late. ends_none _ _ _ _ _ refl refl;
       laid = λ tells spool partition. ap (λ (st : Stage). flashed_all b (g.P.Source.content c.args.partition.now) (frames_left most b all s st)) is;
       so_far = λ tells spool partition. (omega arith, laid_first b (g.P.Source.content c.args.partition.now) all s);
       stays = λ tells spool partition p done le h.
@@ -91,7 +96,9 @@ pieces-preserved g c =
     let all = g.R.BlockRuns.list c.args.cutter.now.runs (g.S.Source.content c.args.source.now) in
     let most = c.args.cutter.now.limit in
     let given = g.S.Source.given in
-    let passes = all_passes (g.R.BlockRuns.charge c.args.cutter.now.runs) (g.R.BlockRuns.copied c.args.cutter.now.runs) in
+    let passes = g.W.Way.before c.args.cutter.now.runs in
+    let each = g.W.Way.each c.args.cutter.now.runs in
+    let last = g.W.Way.last c.args.cutter.now.runs in
     let s = c.pieces.cutter.start.block in
     let next = c.deliver_piece.new.cutter.start.block in
     let st = c.deliver_piece.new.cutter.stage in
@@ -129,6 +136,7 @@ pieces-preserved g c =
           let wrote : g.L.Output.written c.deliver_piece.new.spool ≡ g.L.Output.written c.pieces.spool ++ piece_at b most all s = rw (i.runs, i.kept tells, i.limit) at (o.written tells) in
           cuts_then (g.L.Spool.cuts c.pieces.spool) (g.L.Spool.cuts c.deliver_piece.new.spool) _ (length (g.L.Output.written c.pieces.spool)) (length (g.L.Output.written c.deliver_piece.new.spool)) (piece_at b most all s) (pieces_left most b all next st)
           (ap (λ (xs : List (List ℕ)). with_cuts (g.L.Spool.cuts c.pieces.spool) (length (g.L.Output.written c.pieces.spool)) xs) (sym more) ∙ i.cuts tells) o.cut (ap length wrote ∙ length-append (g.L.Output.written c.pieces.spool) (piece_at b most all s));
+      ends = λ late. ends_then _ _ _ _ _ _ _ (i.ends late) (rw i.runs at (e.ends late));
       laid = λ tells spool partition.
           let h : FirstPiece b all most s next = rw (i.runs, i.kept tells, i.limit) at (o.greatest_end tells) in
           let long = g.met.R.BlockRuns.long c.args.cutter.now.runs _ (c.requires.opened tells) in
@@ -170,8 +178,8 @@ pieces-preserved g c =
       taken = up_on _ _ _ i.taken e.work.taken;
       long = long_on _ _ _ _ _ _ _ _ _ (rw i.runs at o.takes) i.long o.behind.made;
       back = λ tells spool. back_on _ _ _ _ _ _ (o.back tells spool) (i.back tells spool);
-      spent = λ tells d. spent_more (given c.args.source.now) (given c.pieces.source) (given c.deliver_piece.new.source) (passes c.args.cutter.now.start) (passes c.pieces.cutter.start) (passes c.deliver_piece.new.cutter.start) c.args.cutter.now.made c.pieces.cutter.made c.deliver_piece.new.cutter.made one o.behind.made (rw i.runs at (o.spent tells)) (i.spent tells is);
-      spent_end = λ tells d. spent_last (given c.args.source.now) (given c.pieces.source) (given c.deliver_piece.new.source) (passes c.args.cutter.now.start) (passes c.pieces.cutter.start) (passes c.deliver_piece.new.cutter.start) c.args.cutter.now.made c.pieces.cutter.made c.deliver_piece.new.cutter.made one o.behind.made ((rw i.runs at (o.spent_end tells)) (unbroken.done d).1) (i.spent tells is);
+      spent = λ tells d. spent_more (given c.args.source.now) (given c.pieces.source) (given c.deliver_piece.new.source) (passes c.args.cutter.now.start) (passes c.pieces.cutter.start) (passes c.deliver_piece.new.cutter.start) c.args.cutter.now.made c.pieces.cutter.made c.deliver_piece.new.cutter.made each o.behind.made (rw i.runs at (o.spent tells)) (i.spent tells is);
+      spent_end = λ tells d. spent_last (given c.args.source.now) (given c.pieces.source) (given c.deliver_piece.new.source) (passes c.args.cutter.now.start) (passes c.pieces.cutter.start) (passes c.deliver_piece.new.cutter.start) c.args.cutter.now.made c.pieces.cutter.made c.deliver_piece.new.cutter.made each last o.behind.made ((rw i.runs at (o.spent_end tells)) (unbroken.done d).1) (i.spent tells is);
       calls = calls_on _ _ _ _ _ _ _ _ _ e.calls i.calls o.behind.made;
       turns = turns_on _ _ _ _ _ _ _ _ _ _ _ _ _ c.tick.ensures.turns (rw i.runs at o.words) words (rw is at i.turns) o.behind.made;
       steps = steps_on _ _ _ _ _ _ _ e.work.steps i.steps c.tick.ensures.steps;
@@ -192,8 +200,9 @@ pieces-smaller g c =
 
 -- ---- behind the last piece
 
-pub returns-then-not-more-clause-written : goal.returns-then-not-more-clause-written
-returns-then-not-more-clause-written g c tells =
+-- all that was written
+all_written : (g : Over) (c : Then-not-more g) → IsTrue g.S.Source.tells → g.L.Output.written c.pieces.spool ≡ g.L.Output.written c.args.spool.now ++ concat (pieces_behind c.args.cutter.now.limit (g.R.BlockRuns.size c.args.cutter.now.runs) (g.R.BlockRuns.list c.args.cutter.now.runs (g.S.Source.content c.args.source.now)) c.args.cutter.now.made)
+all_written g c tells =
     let i = c.pieces.invariant in
     let b = g.R.BlockRuns.size c.args.cutter.now.runs in
     let all = g.R.BlockRuns.list c.args.cutter.now.runs (g.S.Source.content c.args.source.now) in
@@ -203,11 +212,13 @@ returns-then-not-more-clause-written g c tells =
     let within = g.met.R.BlockRuns.bounded c.args.cutter.now.runs _ c.args.cutter.now.sound.within in
     let here = behind most b all c.args.cutter.now.made c.args.cutter.now.start.block Between (rw c.requires.between at (c.requires.told tells).cuts) (inl refl) (omega (arith, long, within)) in
     let all_of = pieces_behind_are most b all c.args.cutter.now.made c.args.cutter.now.start.block Between here in
-    rw c.delivered.ensures (
     sym (append-nil (g.L.Output.written c.pieces.spool))
     ∙ sym (ap (λ (st : Stage). g.L.Output.written c.pieces.spool ++ concat (pieces_left most b all c.pieces.cutter.start.block st)) is)
     ∙ i.written tells
-    ∙ ap (λ (xs : List (List ℕ)). g.L.Output.written c.args.spool.now ++ concat xs) (sym all_of))
+    ∙ ap (λ (xs : List (List ℕ)). g.L.Output.written c.args.spool.now ++ concat xs) (sym all_of)
+
+pub returns-then-not-more-clause-written : goal.returns-then-not-more-clause-written
+returns-then-not-more-clause-written g c tells = rw c.delivered.ensures (all_written g ((goal.at.returns-then-not-more-clause-written g c).Then-not-more) tells)
 
 pub returns-then-not-more-clause-cuts : goal.returns-then-not-more-clause-cuts
 returns-then-not-more-clause-cuts g c tells =
@@ -226,7 +237,7 @@ returns-then-not-more-clause-cuts g c tells =
     ∙ ap (λ (xs : List (List ℕ)). with_cuts (g.L.Spool.cuts c.args.spool.now) (length (g.L.Output.written c.args.spool.now)) xs) (sym all_of))
 
 pub returns-then-not-more-clause-begins : goal.returns-then-not-more-clause-begins
-returns-then-not-more-clause-begins g c tells =
+returns-then-not-more-clause-begins g c forward tells =
     let i = c.pieces.invariant in
     let b = g.R.BlockRuns.size c.args.cutter.now.runs in
     let all = g.R.BlockRuns.list c.args.cutter.now.runs (g.S.Source.content c.args.source.now) in
@@ -273,15 +284,49 @@ returns-then-not-more-clause-stays g c tells spool partition =
 pub returns-then-not-more-clause-spent : goal.returns-then-not-more-clause-spent
 returns-then-not-more-clause-spent g c tells =
     let i = c.pieces.invariant in
-    let one = g.R.BlockRuns.one c.args.cutter.now.runs in
-    let passes = all_passes (g.R.BlockRuns.charge c.args.cutter.now.runs) (g.R.BlockRuns.copied c.args.cutter.now.runs) in
+    let runs = c.args.cutter.now.runs in
     let is : c.pieces.cutter.stage ≡ Done = now_done _ _ _ _ i.unbroken (sym c.more.ensures ∙ c.if-not-more.true) in
-    let inside : g.R.BlockRuns.within c.args.cutter.now.runs c.pieces.cutter.start = rw i.runs at c.pieces.cutter.sound.within in
-    let most = (g.met.R.BlockRuns.passed c.args.cutter.now.runs c.pieces.cutter.start inside).0 in
-    let copies = g.met.R.BlockRuns.copied_fits c.args.cutter.now.runs c.pieces.cutter.start inside in
+    let inside : g.R.BlockRuns.within runs c.pieces.cutter.start = rw i.runs at c.pieces.cutter.sound.within in
+    let most = g.met.W.Way.bounded runs c.pieces.cutter.start inside in
     let same = i.same_made in
     let order = i.order in
-    rw c.delivered.ensures (spent_whole (g.S.Source.given c.args.source.now) (g.S.Source.given c.pieces.source) (passes c.args.cutter.now.start) 0 (passes c.pieces.cutter.start) c.args.cutter.now.made c.pieces.cutter.made _ one (g.R.BlockRuns.pass c.args.cutter.now.runs) (g.R.BlockRuns.image c.args.cutter.now.runs) (omega (arith, order, same)) (omega (arith, most, copies)) (i.spent_end tells is))
+    rw c.delivered.ensures (spent_whole (g.S.Source.given c.args.source.now) (g.S.Source.given c.pieces.source) (g.W.Way.before runs c.args.cutter.now.start) (g.W.Way.before runs c.pieces.cutter.start) c.args.cutter.now.made c.pieces.cutter.made _ (g.W.Way.each runs) (g.W.Way.all runs) (g.W.Way.last runs) (omega (arith, order, same)) most (i.spent_end tells is))
+
+-- ---- what stands in the spool, headers last
+
+pub returns-then-not-more-clause-no_part : goal.returns-then-not-more-clause-no_part
+returns-then-not-more-clause-no_part g c late tells = no_part_all _ _ (g.L.Spool.cuts c.pieces.spool) _ (all_written g ((goal.at.returns-then-not-more-clause-no_part g c).Then-not-more) tells)
+
+pub returns-then-not-more-clause-ends : goal.returns-then-not-more-clause-ends
+returns-then-not-more-clause-ends g c late = c.pieces.invariant.ends late
+
+pub returns-in-Err-clause-ends : goal.returns-in-Err-clause-ends
+returns-in-Err-clause-ends g c late = let i = c.pieces.invariant in ends_then _ _ _ _ _ _ _ (i.ends late) (rw i.runs at (c.deliver_piece.ensures.ends late))
+
+pub returns-in-Err-clause-no_part : goal.returns-in-Err-clause-no_part
+returns-in-Err-clause-no_part g c late tells =
+    let i = c.pieces.invariant in
+    let b = g.R.BlockRuns.size c.args.cutter.now.runs in
+    let all = g.R.BlockRuns.list c.args.cutter.now.runs (g.S.Source.content c.args.source.now) in
+    let most = c.args.cutter.now.limit in
+    let s = c.pieces.cutter.start.block in
+    let first = c.args.cutter.now.made in
+    let made = c.pieces.cutter.made in
+    let is : c.pieces.cutter.stage ≡ Between = still_between _ _ _ _ i.unbroken (sym c.more.ensures ∙ c.if-not-more.false) in
+    let long = g.met.R.BlockRuns.long c.args.cutter.now.runs _ (c.requires.opened tells) in
+    let bounded = g.met.R.BlockRuns.bounded c.args.cutter.now.runs _ c.args.cutter.now.sound.within in
+    let within : s ≤ g.R.BlockRuns.count c.args.cutter.now.runs = rw i.runs at (g.met.R.BlockRuns.bounded c.pieces.cutter.runs _ c.pieces.cutter.sound.within) in
+    let here = behind most b all first c.args.cutter.now.start.block Between (rw c.requires.between at (c.requires.told tells).cuts) (inl refl) (omega (arith, long, bounded)) in
+    let there = behind most b all made s Between (rw (i.limit, is) at (i.told tells).cuts) (inl refl) (omega (arith, long, within)) in
+    let all_of = pieces_behind_are most b all first c.args.cutter.now.start.block Between here in
+    let left = pieces_behind_are most b all made s Between there in
+    let front = pieces_front most b all s (omega (arith, long, within)) in
+    let order = i.order in
+    let then : drop (made - first) (pieces_behind most b all first) ≡ pieces_left most b all s Between =
+        drop-drop (made - first) first (pieces most b all) ∙ ap (λ (n : ℕ). drop n (pieces most b all)) (let z : first + (made - first) ≡ made = omega (arith, order) in z) ∙ left in
+    let wrote = so_far (g.L.Output.written c.args.spool.now) (g.L.Output.written c.pieces.spool) (pieces_behind most b all first) (made - first)
+        (ap (λ (xs : List (List ℕ)). g.L.Output.written c.pieces.spool ++ concat xs) (then ∙ ap (λ (t : Stage). pieces_left most b all s t) (sym is)) ∙ i.written tells ∙ ap (λ (xs : List (List ℕ)). g.L.Output.written c.args.spool.now ++ concat xs) (sym all_of)) in
+    no_part_then _ _ _ (g.L.Spool.cuts c.deliver_piece.new.spool) _ (made - first) (piece_at b most all s) front.0 wrote (then ∙ front.1) (rw (i.runs, i.kept tells, i.limit) at (c.deliver_piece.ensures.no_part late tells))
 
 -- ---- where a piece was stopped
 
@@ -346,7 +391,7 @@ pub returns-in-Err-clause-fits : goal.returns-in-Err-clause-fits
 returns-in-Err-clause-fits g c = fits_then _ _ _ _ _ _ _ c.pieces.invariant.fits (rw c.pieces.invariant.limit at c.deliver_piece.ensures.fits)
 
 pub returns-in-Err-clause-begins : goal.returns-in-Err-clause-begins
-returns-in-Err-clause-begins g c tells =
+returns-in-Err-clause-begins g c forward tells =
     let i = c.pieces.invariant in
     let b = g.R.BlockRuns.size c.args.cutter.now.runs in
     let all = g.R.BlockRuns.list c.args.cutter.now.runs (g.S.Source.content c.args.source.now) in
@@ -362,7 +407,7 @@ returns-in-Err-clause-begins g c tells =
     let more = ap (λ (t : Stage). pieces_left most b all s t) is ∙ front.1 in
     begins_then (g.L.Output.written c.pieces.spool) (g.L.Output.written c.deliver_piece.new.spool) _ (piece_at b most all s) front.0
     (ap (λ (xs : List (List ℕ)). g.L.Output.written c.pieces.spool ++ concat xs) (sym more) ∙ i.written tells ∙ ap (λ (xs : List (List ℕ)). g.L.Output.written c.args.spool.now ++ concat xs) (sym all_of))
-    (rw (i.runs, i.kept tells, i.limit) at (c.deliver_piece.ensures.begins tells))
+    (rw (i.runs, i.kept tells, i.limit) at (c.deliver_piece.ensures.begins forward tells))
 
 pub returns-in-Err-clause-stays : goal.returns-in-Err-clause-stays
 returns-in-Err-clause-stays g c tells spool partition =

@@ -7,7 +7,6 @@ use Rattle.abt_sparse.proofs.MendLaws.{mended}
 use Rattle.abt_sparse.specs.Runs.{segments}
 use Rattle.abt_sparse.proofs.Totals.{length-pieces}
 use Rattle.abt_pieces.specs.Contents.{written_in}
-use Rattle.abt_pieces.specs.SpentStage.{all_passes}
 use Rattle.abt_pieces.specs.declared.stage.Stage.TheVariants.{Between}
 use Rattle.abt_flash.specs.Delivering.{Room, begun, blocks_behind, blocks_in_first, blocks_up_to, pieces_in}
 use Rattle.abt_flash.proofs.Left.{Behind, behind}
@@ -16,7 +15,8 @@ use Rattle.abt_flash.proofs.Onward.{up_on}
 use Rattle.abt_flash.proofs.Records.{begins_same, early_holds, gives_none, lays_none, mendable_none, mends_none, opening_begins, opening_counts, opening_early, opening_refuses, plan_early, plan_refuses, rest_begins, rest_early, rest_more, stop_mends}
 use Rattle.abt_flash.proofs.Refusing.{rest_refuses}
 use Rattle.abt_flash.proofs.Staying.{blocks_grow, from_first}
-use Rattle.abt_flash.proofs.Summing.{on_any, on_ok, on_unsynced, least_of, behind_written, reads_of}
+use Rattle.abt_flash.proofs.Summing.{on_any, on_ok, on_unsynced, least_of, behind_written}
+use Rattle.abt_flash.proofs.GivenBytes.{few_of, read_for}
 use Rattle.abt_flash.proofs.opened.deliver_behind.Goals as goal
 
 -- ---- where no cutter was opened
@@ -31,7 +31,7 @@ pub returns-in-Err-clause-counted : goal.returns-in-Err-clause-counted
 returns-in-Err-clause-counted g c tells = rw c.not_opened.ensures (opening_counts c.in-Err.fault _ _)
 
 pub returns-in-Err-clause-spool : goal.returns-in-Err-clause-spool
-returns-in-Err-clause-spool g c = gives_none _ _ _ _ _ _ _
+returns-in-Err-clause-spool g c = gives_none _ _ _ _ _ _ _ _
 
 pub returns-in-Err-clause-partition : goal.returns-in-Err-clause-partition
 returns-in-Err-clause-partition g c = lays_none _ _ _ _ _ _ _ _ (rw c.not_opened.ensures (opening_early c.in-Err.fault))
@@ -62,7 +62,7 @@ returns-then-is_too_small-clause-refused g c =
     (o.granted, rw (count, size) refl, rw c.length.ensures.size at c.if-is_too_small.ensures)
 
 pub returns-then-is_too_small-clause-spool : goal.returns-then-is_too_small-clause-spool
-returns-then-is_too_small-clause-spool g c = gives_none _ _ _ _ _ _ _
+returns-then-is_too_small-clause-spool g c = gives_none _ _ _ _ _ _ _ _
 
 pub returns-then-is_too_small-clause-partition : goal.returns-then-is_too_small-clause-partition
 returns-then-is_too_small-clause-partition g c = lays_none _ _ _ _ _ _ _ _ tt
@@ -90,7 +90,7 @@ pub returns-in-Err-plan_pieces-clause-early : goal.returns-in-Err-plan_pieces-cl
 returns-in-Err-plan_pieces-clause-early g c = early_holds c.in-Err-plan_pieces.fault _ (refl, refl)
 
 pub returns-in-Err-plan_pieces-clause-spool : goal.returns-in-Err-plan_pieces-clause-spool
-returns-in-Err-plan_pieces-clause-spool g c = gives_none _ _ _ _ _ _ _
+returns-in-Err-plan_pieces-clause-spool g c = gives_none _ _ _ _ _ _ _ _
 
 pub returns-in-Err-plan_pieces-clause-partition : goal.returns-in-Err-plan_pieces-clause-partition
 returns-in-Err-plan_pieces-clause-partition g c = lays_none _ _ _ _ _ _ _ _ (plan_early _ _ _ _ _ c.in-Err-plan_pieces.ensures.refused)
@@ -177,7 +177,9 @@ returns-clause-spool g c =
       fits = rw (p.limit, o.limit) at r.fits;
       written = λ tells. rw (p.runs, o.runs, p.content tells, p.limit, o.limit, p.planned.1) at (r.written tells);
       cuts = λ tells. rw (p.runs, o.runs, p.content tells, p.limit, o.limit, p.planned.1) at (r.cuts tells);
-      begins = λ tells. rw (p.runs, o.runs, p.content tells, p.limit, o.limit, p.planned.1) at (r.begins tells);
+      begins = λ forward tells. rw (p.runs, o.runs, p.content tells, p.limit, o.limit, p.planned.1) at (r.begins forward tells);
+      no_part = λ late tells. rw (p.runs, o.runs, p.content tells, p.limit, o.limit, p.planned.1) at (r.no_part late tells);
+      ends = λ late. rw (p.runs, o.runs) at (r.ends late);
       back = λ tells spool. r.back tells spool;
     }
 
@@ -245,12 +247,24 @@ returns-clause-reads g c tells =
     let o = c.in-Ok.ensures in
     let p = c.in-Ok-plan_pieces.ensures in
     let r = c.deliver_rest.ensures in
-    let charge = g.R.BlockRuns.charge c.args.runs in
+    let runs = c.args.runs in
+    let b = g.R.BlockRuns.size runs in
+    let all = g.R.BlockRuns.list runs (g.S.Source.content c.args.source.now) in
+    let long = g.met.R.BlockRuns.long runs _ (c.requires.opened tells) in
+    let inside : g.R.BlockRuns.within runs c.plan_pieces.new.cutter.start = rw (p.runs, o.runs) at c.plan_pieces.new.cutter.sound.within in
+    let within = g.met.R.BlockRuns.bounded runs _ inside in
+    let made = rw (o.runs, p.limit, o.limit, p.planned.0, p.planned.1) at (p.told tells).cuts in
+    let here = behind c.args.limit b all c.args.before c.plan_pieces.new.cutter.start.block Between made (inl refl) (omega (arith, long, within)) in
+    let charged = rw o.runs at p.charged in
     let spent = rw (p.runs, o.runs) at (r.spent tells) in
-    let few = rw (p.runs, o.runs, p.planned.1) at r.few in
-    reads_of c.deliver_rest.result (g.S.Source.given c.args.source.now) (g.S.Source.given c.plan_pieces.new.source) (g.S.Source.given c.deliver_rest.new.source) (charge c.in-Ok.cutter.start) (charge c.plan_pieces.new.cutter.start)
-    (all_passes charge (g.R.BlockRuns.copied c.args.runs) c.plan_pieces.new.cutter.start) (g.R.BlockRuns.pass c.args.runs) (g.R.BlockRuns.image c.args.runs) (g.R.BlockRuns.count c.args.runs) (g.R.BlockRuns.one c.args.runs) (g.R.BlockRuns.opening c.args.runs) c.args.before
-    r.some few (g.met.R.BlockRuns.spared c.args.runs) (g.met.R.BlockRuns.economy c.args.runs) (rw o.runs at p.charged) (omega arith) spent
+    read_for c.deliver_rest.result (g.R.BlockRuns.within runs) (g.R.BlockRuns.charge runs) (g.W.Way.before runs) (g.R.BlockRuns.one runs) (g.W.Way.each runs) (g.W.Way.last runs) (g.W.Way.all runs) _ c.args.before (g.S.Source.given c.args.source.now) (g.S.Source.given c.deliver_rest.new.source)
+    c.plan_pieces.new.cutter.start (g.S.Source.given c.plan_pieces.new.source) (sym here.blocks) inside (omega (arith, charged)) spent
+
+pub returns-clause-few : goal.returns-clause-few
+returns-clause-few g c =
+    let o = c.in-Ok.ensures in
+    let p = c.in-Ok-plan_pieces.ensures in
+    few_of c.deliver_rest.result _ _ (rw (p.runs, o.runs, p.planned.1) at c.deliver_rest.ensures.few)
 
 pub returns-clause-costs : goal.returns-clause-costs
 returns-clause-costs g c =
