@@ -1,5 +1,5 @@
 -- What a call promises where it is refused before its first piece, and over the same image in other words.
-use Rattle.std.proofs.Common.{◌≡◌, ℕ, ◌+◌, ◌-◌, ◌*◌, ◌≤◌, ◌<◌, ◌++◌, Bool, List, [], length, Result, Ok, Err, refl, sym, ap, subst, ◌∙◌, arith}
+use Rattle.std.proofs.Common.{false, ◌≡◌, ℕ, ◌+◌, ◌-◌, ◌*◌, ◌≤◌, ◌<◌, ◌++◌, Bool, List, [], length, Result, Ok, Err, refl, sym, ap, subst, ◌∙◌, arith}
 use Rattle.std.specs.Prelude.{IsTrue, IfErr, IfOk, OnOk}
 use Rattle.std.specs.List.{concat}
 use Rattle.abt_io.specs.Moment.{MayLeave, Past, moment_of}
@@ -309,7 +309,7 @@ begins_same source k l made n (Err (LimitTooSmall m)) e h = h
 begins_same source k l made n (Err (PartitionTooSmall m)) e h = h
 begins_same source k l made n (Err (Sync d)) e h = h
 
-pub gives_same : (forward source spool : Bool) (i j : ImageBlocks) (limit made : ℕ) (r : Result Delivered FlashFault) (s z : SpoolState) → (IsTrue source → i ≡ j) → i.size ≡ j.size → GivesPieces forward source spool i limit made r s z → GivesPieces forward source spool j limit made r s z
+pub gives_same : (forward source spool : Bool) (i j : ImageBlocks) (limit made : ℕ) (r : Result Delivered FlashFault) (s z : SpoolState) → (IsTrue source → i ≡ j) → (forward ≡ false → i.size ≡ j.size) → GivesPieces forward source spool i limit made r s z → GivesPieces forward source spool j limit made r s z
 gives_same forward source spool i j limit made r s z e size h = record {
   room = h.room;
   fits = h.fits;
@@ -317,7 +317,7 @@ gives_same forward source spool i j limit made r s z e size h = record {
   cuts = λ t. let P : ImageBlocks → Type 0 = λ n. OnOk r (z.cuts ≡ with_cuts s.cuts (length s.written) (pieces_behind limit n.size n.blocks made)) in subst P (e t) (h.cuts t);
   begins = λ f t. let P : ImageBlocks → Type 0 = λ n. Begins z.written (s.written ++ concat (pieces_behind limit n.size n.blocks made)) in subst P (e t) (h.begins f t);
   no_part = λ f t. let P : ImageBlocks → Type 0 = λ n. GaveNoPart s.written z.written z.cuts (pieces_behind limit n.size n.blocks made) in subst P (e t) (h.no_part f t);
-  ends = λ f. subst (λ (b : ℕ). EndsWhole b s.written z.written s.cuts z.cuts) size (h.ends f);
+  ends = λ f. subst (λ (b : ℕ). EndsWhole b s.written z.written s.cuts z.cuts) (size f) (h.ends f);
   back = h.back;
 }
 

@@ -1,5 +1,6 @@
 //! Delivering a sparse image, whole or from one of its pieces on.
 
+ghost use Rattle.std.specs.Prelude.{true};
 ghost use Rattle.std.specs.Prelude.{◌≡◌, ◌<◌, ◌≤◌, ◌+◌, ◌-◌, ◌*◌, ◌^◌, [], IsTrue, IfOk, IfErr, OnOk, length};
 ghost use Rattle.abt_flash.specs.Devices.{counts, partition_state, spool_state};
 ghost use Rattle.abt_flash.specs.Delivering.{AlwaysMendable, Costs, CountsTo, GivesPieces, IsLeast, LaysBlocks};

@@ -1,12 +1,6 @@
-use Rattle.std.proofs.Common.{◌≡◌, ℕ, ◌+◌, ◌*◌, ◌≤◌, IfOk, Result, Ok, Err, refl, subst, arith}
-use Rattle.abt_flash.specs.declared.answer.Delivered.{Delivered}
-use Rattle.abt_flash.specs.declared.fault.FlashFault.{FlashFault}
+use Rattle.std.proofs.Common.{ℕ, ◌+◌, ◌*◌, ◌≤◌, refl}
+use Rattle.abt_flash.proofs.GivenBytes.{forward_raw, of_all}
 use Rattle.abt_flash.proofs.raw.deliver_raw.Goals as goal
-
--- from the first piece on none is passed over
-of_all : (P : ℕ → Type 0) (r : Result Delivered FlashFault) → IfOk r (λ d. P (0 + d.pieces)) → IfOk r (λ d. P d.pieces)
-of_all P (Ok d) h = subst P (let z : 0 + d.pieces ≡ d.pieces = omega arith in z) h
-of_all P (Err f) h = tt
 
 pub returns : goal.returns
 returns g c =
@@ -26,7 +20,7 @@ returns g c =
       mendable = λ tells spool partition settled. e.mendable tells spool partition refl settled;
       content = e.content;
       frame = e.frame;
-      reads = λ tells. of_all (λ n. g.S.Source.given c.raw_behind.new.source ≤ _ + 128 * (n + 1)) c.raw_behind.result (e.reads tells);
+      reads = λ tells. of_all (λ n. g.S.Source.given c.raw_behind.new.source ≤ _ + 128 * (n + 1)) c.raw_behind.result (forward_raw c.raw_behind.result _ c.args.b _ 0 _ _ e.some (e.few tells) (e.reads tells));
       long = e.long;
       costs = e.costs;
     }

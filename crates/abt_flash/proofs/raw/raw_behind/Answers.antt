@@ -1,10 +1,11 @@
-use Rattle.std.proofs.Common.{◌≡◌, length, ap, arith}
+use Rattle.std.proofs.Common.{ℕ, ◌≡◌, length, ap, arith}
 use Rattle.std.specs.Prelude.{IsTrue}
 use Rattle.abt_sparse.specs.Block.{classify}
 use Rattle.abt_runs.specs.RawLaws.{raw_long}
-use Rattle.abt_flash.specs.Delivering.{ImageBlocks, pieces_in}
+use Rattle.abt_flash.specs.Delivering.{ImageBlocks, blocks_in_first, pieces_in}
 use Rattle.abt_flash.specs.Raw.{raw_image}
 use Rattle.abt_flash.proofs.Records.{costs_more, counts_same, gives_none, gives_same, lays_none, lays_same, least_same, mendable_none, mendable_same, mends_none, mends_same, run_begins, run_early}
+use Rattle.abt_flash.proofs.GivenBytes.{read_raw}
 use Rattle.abt_flash.proofs.Refusing.{OpensRaw, opens_runs, raw_allowed, raw_refused}
 use Rattle.abt_flash.proofs.raw.raw_behind.Goals as goal
 use Rattle.abt_flash.proofs.raw.raw_behind.Goals.{In-Ok}
@@ -47,7 +48,7 @@ pub returns-in-Ok-clause-least : goal.returns-in-Ok-clause-least
 returns-in-Ok-clause-least g c tells = least_same c.deliver_behind.result _ _ _ _ (same g ((goal.at.returns-in-Ok-clause-least g c).In-Ok)) (c.deliver_behind.ensures.least tells)
 
 pub returns-in-Ok-clause-spool : goal.returns-in-Ok-clause-spool
-returns-in-Ok-clause-spool g c = gives_same _ _ _ _ _ _ c.deliver_behind.result _ _ (λ tells. same g ((goal.at.returns-in-Ok-clause-spool g c).In-Ok)) c.deliver_behind.ensures.spool
+returns-in-Ok-clause-spool g c = gives_same _ _ _ _ _ _ _ c.deliver_behind.result _ _ (λ tells. same g ((goal.at.returns-in-Ok-clause-spool g c).In-Ok)) (λ late. c.in-Ok.ensures.size.0) c.deliver_behind.ensures.spool
 
 pub returns-in-Ok-clause-partition : goal.returns-in-Ok-clause-partition
 returns-in-Ok-clause-partition g c = lays_same _ _ _ _ _ _ _ c.deliver_behind.result _ _ (λ tells. same g ((goal.at.returns-in-Ok-clause-partition g c).In-Ok)) c.deliver_behind.ensures.partition
@@ -71,7 +72,7 @@ pub returns-in-Err-clause-mendable : goal.returns-in-Err-clause-mendable
 returns-in-Err-clause-mendable g c tells spool partition first none = mendable_none _ _ _ none
 
 pub returns-in-Err-clause-spool : goal.returns-in-Err-clause-spool
-returns-in-Err-clause-spool g c = gives_none _ _ _ _ _ _ _
+returns-in-Err-clause-spool g c = gives_none _ _ _ _ _ _ _ _
 
 pub returns-in-Err-clause-partition : goal.returns-in-Err-clause-partition
 returns-in-Err-clause-partition g c = lays_none _ _ _ _ _ _ _ _ (rw c.not_read.ensures (run_early c.in-Err.fault))
@@ -88,3 +89,15 @@ returns-in-Err-clause-costs g c = record {
   steps = omega arith;
   greatest = omega arith;
 }
+
+-- ---- what is read
+
+pub returns-in-Ok-clause-few : goal.returns-in-Ok-clause-few
+returns-in-Ok-clause-few g c tells = rw (counts g ((goal.at.returns-in-Ok-clause-few g c).In-Ok) tells) c.deliver_behind.ensures.few
+
+pub returns-in-Ok-clause-reads : goal.returns-in-Ok-clause-reads
+returns-in-Ok-clause-reads g c tells =
+    let runs = c.in-Ok.runs in
+    let x = g.S.Source.content c.args.source.now in
+    let start = ap (λ (n : ℕ). blocks_in_first c.args.limit n (classify n x) c.args.before) c.in-Ok.ensures.size.0 in
+    read_raw c.deliver_behind.result runs g.W.Way.before g.W.Way.each g.W.Way.last g.W.Way.all _ _ _ _ c.args.before _ _ c.in-Ok.ensures.size.0 (c.in-Ok.ensures.opened tells) start (c.deliver_behind.ensures.reads tells)

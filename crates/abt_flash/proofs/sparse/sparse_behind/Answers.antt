@@ -1,12 +1,15 @@
-use Rattle.std.proofs.Common.{◌≡◌, ap, sym, ◌∙◌, arith}
+use Rattle.std.proofs.Common.{true, false, ℕ, ◌*◌, ◌+◌, ◌≡◌, ap, sym, ◌∙◌, arith}
 use Rattle.std.specs.Prelude.{IsTrue}
 use Rattle.abt_sparse.specs.Reading.{outcome}
 use Rattle.abt_sparse.specs.View.{view}
 use Rattle.abt_runs.specs.Sparse.{blocks_in}
 use Rattle.abt_runs.specs.SparseLaws.{sparse_long}
 use Rattle.abt_flash.specs.Delivering.{ImageBlocks, pieces_in}
-use Rattle.abt_flash.specs.Sparse.{size_in, sparse_image}
+use Rattle.abt_flash.specs.Sparse.{image_length, size_in, sparse_image}
 use Rattle.abt_flash.proofs.Records.{begins_same, counts_same, gives_none, gives_same, image_same, lays_none, lays_same, least_same, mendable_none, mendable_same, mends_none, mends_same, run_begins, run_early}
+use Rattle.abt_runs.specs.Sparse.{sparse_charge}
+use Rattle.abt_runs.specs.SparseLaws.{sparse_economy, sparse_spared}
+use Rattle.abt_flash.proofs.GivenBytes.{behind_opening, forward_read, image_is}
 use Rattle.abt_flash.proofs.Summing.{on_ok}
 use Rattle.abt_flash.proofs.Refusing.{Opens, sparse_refused, fits_sparse}
 use Rattle.abt_flash.proofs.sparse.sparse_behind.Goals as goal
@@ -37,7 +40,7 @@ pub returns-in-Ok-clause-least : goal.returns-in-Ok-clause-least
 returns-in-Ok-clause-least g c tells = least_same c.deliver_behind.result _ _ _ _ (same g ((goal.at.returns-in-Ok-clause-least g c).In-Ok) tells) (c.deliver_behind.ensures.least tells)
 
 pub returns-in-Ok-clause-spool : goal.returns-in-Ok-clause-spool
-returns-in-Ok-clause-spool g c = gives_same _ _ _ _ _ _ c.deliver_behind.result _ _ (λ tells. same g ((goal.at.returns-in-Ok-clause-spool g c).In-Ok) tells) c.deliver_behind.ensures.spool
+returns-in-Ok-clause-spool g c = gives_same _ _ _ _ _ _ _ c.deliver_behind.result _ _ (λ tells. same g ((goal.at.returns-in-Ok-clause-spool g c).In-Ok) tells) (λ late. absurd (let z : true ≡ false = late in cc)) c.deliver_behind.ensures.spool
 
 pub returns-in-Ok-clause-partition : goal.returns-in-Ok-clause-partition
 returns-in-Ok-clause-partition g c = lays_same _ _ _ _ _ _ _ c.deliver_behind.result _ _ (λ tells. same g ((goal.at.returns-in-Ok-clause-partition g c).In-Ok) tells) c.deliver_behind.ensures.partition
@@ -71,7 +74,7 @@ pub returns-in-Err-clause-mendable : goal.returns-in-Err-clause-mendable
 returns-in-Err-clause-mendable g c tells spool partition first none = mendable_none _ _ _ none
 
 pub returns-in-Err-clause-spool : goal.returns-in-Err-clause-spool
-returns-in-Err-clause-spool g c = gives_none _ _ _ _ _ _ _
+returns-in-Err-clause-spool g c = gives_none _ _ _ _ _ _ _ _
 
 pub returns-in-Err-clause-partition : goal.returns-in-Err-clause-partition
 returns-in-Err-clause-partition g c = lays_none _ _ _ _ _ _ _ _ (rw c.not_read.ensures (run_early c.in-Err.fault))
@@ -95,3 +98,12 @@ pub returns-in-Ok-clause-clean : goal.returns-in-Ok-clause-clean
 returns-in-Ok-clause-clean g c =
     let before = c.in-Ok.ensures.clean in
     on_ok c.deliver_behind.result (λ e. record { read = e.read ∙ before; write = e.write; spool = e.spool; put = e.put }) c.deliver_behind.ensures.clean
+
+pub returns-in-Ok-clause-reads : goal.returns-in-Ok-clause-reads
+returns-in-Ok-clause-reads g c tells =
+    let s = c.in-Ok.runs in
+    let e = c.deliver_behind.ensures in
+    let charge = sparse_charge (view s.header) in
+    let image : s.image ≡ image_length (g.S.Source.content c.args.source.now) = image_is (view s.header) s.length s.image _ (c.in-Ok.ensures.opened tells) in
+    let read = forward_read c.deliver_behind.result _ charge charge 0 s.image s.image s.header.total_blks s.image _ c.args.before _ _ e.some e.few (sparse_spared s.header.total_blks s.image) (sparse_economy s.image) (e.reads tells) in
+    rw (← image) (behind_opening c.deliver_behind.result _ _ _ _ (8 * s.image) (λ (n : ℕ). 128 * (c.args.before + n + 1)) c.in-Ok.ensures.charged read)
