@@ -1,5 +1,5 @@
 -- The numbers of a part that is taken, or of which a write fails.
-use Rattle.std.proofs.Common.{◌≡◌, ℕ, ◌+◌, ◌*◌, ◌<◌, ◌≤◌, true, false, List, length, refl, arith, mul-le-mul_right}
+use Rattle.std.proofs.Common.{◌≡◌, ℕ, ◌+◌, ◌*◌, ◌<◌, ◌≤◌, true, false, List, length, refl, ap, arith, mul-le-mul_right}
 use Rattle.std.proofs.Common.{Bool, Result, Ok, Err, OnErr, ◌^◌, if◌then◌else◌}
 use Rattle.std.specs.Prelude.{IfErr, IsErrOf}
 use Rattle.abt_io.specs.Count.{full_in, full_of}
@@ -33,6 +33,12 @@ begun_within b q long long' long'' x s k h e some wide more =
     let o = one_part k q b x e some in
     let d : (s.blocks + s.count + q) * (b + 16) ≡ s.blocks * (b + 16) + s.count * (b + 16) + q * (b + 16) = omega arith in
     omega (arith, o, d, h.few, wide, more)
+
+-- with a chunk begun for blocks that have none
+pub skipped_within : (b q long long' : ℕ) (s : Placer) → SoundPlacer b long s → long' + open_len s.kind s.count b ≤ long + s.count * (b + 16) + 0 → long' ≤ s.front + 28 + (s.blocks + s.count + q) * (b + 16)
+skipped_within b q long long' s h wide =
+    let d : (s.blocks + s.count + q) * (b + 16) ≡ s.blocks * (b + 16) + s.count * (b + 16) + q * (b + 16) = omega arith in
+    omega (arith, d, h.few, wide)
 
 passed_as : (t : Bool) (s : Placer) (k : RunKind) (q : ℕ) → s.chunks ≤ s.blocks → (is_end s.kind ≡ true → s.count ≡ 0) → (is_end s.kind ≡ false → 0 < s.count)
     → let s' = if t then longer s q else begun (closed s) k q in (s'.blocks + s'.count ≡ s.blocks + s.count + q) × ((s'.most ≡ s.most) × (s'.front ≡ s.front))
@@ -77,6 +83,9 @@ full_within res x m y le short more = omega (arith, full_short res x m le short,
 pub full_once : (f : DeviceFault) → full_in f ≤ 1
 full_once Failed = omega arith
 full_once Full = omega arith
+
+pub full_as : {X : Type 0} (res : Result X DeviceFault) (f : DeviceFault) → res ≡ Err f → full_of res ≡ full_in f
+full_as res f is = ap full_of is
 
 -- the last chunk made whole
 pub closed_within : (b p q front part long long' : ℕ) → long' + part ≤ long + q * (b + 16) → long ≤ front + 28 + p * (b + 16) + part → long' ≤ front + 28 + (p + q) * (b + 16)

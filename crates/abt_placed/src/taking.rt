@@ -1,4 +1,4 @@
-//! Blocks that are taken, class by class, as they stand in the window.
+//! Blocks that are taken, class by class, as they stand in the window, and the end behind the last one.
 ghost use Rattle.std.specs.Prelude.{◌≡◌, ◌<◌, ◌≤◌, ◌+◌, ◌-◌, ◌*◌, ◌%◌, ◌^◌, ◌++◌, IsTrue, OnOk, OnErr, IsErrOf, List};
 ghost use Rattle.std.specs.Prelude.{length, take, drop, replicate, false};
 ghost use Rattle.abt_io.specs.Count.{full_of};
@@ -9,13 +9,13 @@ ghost use Rattle.abt_runs.specs.Part.{AllOf, is_end};
 ghost use Rattle.abt_placed.specs.Placer.{SoundPlacer, open_len, closed, closing, beginning, taking, kept_for};
 ghost use Rattle.abt_placed.specs.Placer.{data_for, with_part, room_of, closing_len, beginning_len, taking_len};
 ghost use Rattle.abt_placed.specs.Placed.{Placed, classes, skips};
-ghost use Rattle.abt_placed.specs.Unfinished.{KeepsFront};
+ghost use Rattle.abt_placed.specs.Unfinished.{IsUnfinished, KeepsFront};
 
-use crate::headers::lay_front;
+use crate::headers::{lay_front, lay_header};
 use crate::placer::Placer;
-use abt_io::{DeviceFault, Meter, Overwrite, Window, write_out};
+use abt_io::{DeviceFault, Meter, Overwrite, write_out};
 use abt_pieces::write_front;
-use abt_runs::{RunKind, leading};
+use abt_runs::RunKind;
 
 impl Placer {
     /// Lays what the open chunk still wants to be whole: a raw chunk's header where its place was
@@ -183,6 +183,8 @@ impl Placer {
         ensures passed { OnOk result (self.new.blocks + self.new.count ≡ self.old.blocks + self.old.count + blocks) }
         ensures same { (self.new.most ≡ self.old.most) × (self.new.front ≡ self.old.front) }
         ensures grown { length (O.written output.old) ≤ length (O.written output.new) }
+        ensures within { length (O.written output.new)
+            ≤ self.old.front + 28 + (self.old.blocks + self.old.count + blocks) * (size + 16) }
         ensures adds { length (O.written output.new) + full_of result
             ≤ length (O.written output.old) + beginning_len self.old RunKind.Skip }
         ensures closes { OnOk result (length (O.written output.new) + closing_len self.new.kind
@@ -211,29 +213,29 @@ impl Placer {
         Ok(())
     }
 
-    /// Takes the first blocks of the window.
-    pub(crate) fn take_all<O: Overwrite>(
+    /// Makes the last chunk whole, and then the image.
+    pub(crate) fn finish<O: Overwrite>(
         &mut self,
-        blocks: u32,
         size: u32,
         output: &mut O,
-        w: &Window,
         m: &mut Meter,
     ) -> Result<(), DeviceFault>
         requires some { 4 ≤ size }
         requires words { size % 4 ≡ 0 }
-        requires window { blocks * size ≤ 65536 }
-        requires within { self.old.blocks + self.old.count + blocks < 2 ^ 32 }
+        requires within { self.old.blocks + self.old.count < 2 ^ 32 }
         requires sound { SoundPlacer size (length (O.written output.old)) self.old }
-        ensures kept { KeepsFront (self.old.front + 28) (O.written output.old) (O.written output.new) }
-        ensures sound { OnOk result (SoundPlacer size (length (O.written output.new)) self.new) }
-        ensures laid { (g : List Block) → Placed size g (O.written output.old) self.old →
-            OnOk result (Placed size (g ++ classes size blocks w.now.bytes) (O.written output.new) self.new) }
-        ensures passed { OnOk result (self.new.blocks + self.new.count ≡ self.old.blocks + self.old.count + blocks) }
+        requires zeros { take 28 (drop self.old.front (O.written output.old)) ≡ replicate 28 0 }
+        ensures ok { OnOk result (self.new ≡ closed self.old) }
         ensures same { (self.new.most ≡ self.old.most) × (self.new.front ≡ self.old.front) }
+        ensures before { take self.old.front (O.written output.new) ≡ take self.old.front (O.written output.old) }
+        ensures laid { OnOk result (O.written output.new ≡ put_at (closing self.old size (O.written output.old))
+            self.old.front (header_record (plain_header size (closed self.old).blocks (closed self.old).chunks))) }
+        ensures unfinished { OnErr result (IsUnfinished (drop self.old.front (O.written output.new))) }
         ensures grown { length (O.written output.old) ≤ length (O.written output.new) }
         ensures within { length (O.written output.new)
-            ≤ self.old.front + 28 + (self.old.blocks + self.old.count + blocks) * (size + 16) }
+            ≤ self.old.front + 28 + (self.old.blocks + self.old.count) * (size + 16) }
+        ensures adds { length (O.written output.new) + full_of result
+            ≤ length (O.written output.old) + closing_len self.old.kind }
         ensures frame { O.write_frame output.new ≡ O.write_frame output.old }
         ensures faults { O.write_faults output.old ≤ O.write_faults output.new }
         ensures clean { OnOk result (O.write_faults output.new ≡ O.write_faults output.old) }
@@ -241,27 +243,23 @@ impl Placer {
         ensures full { IsErrOf result DeviceFault.Full → IsTrue (O.is_full output.new) }
         ensures cause { OnErr result (O.write_faults output.old < O.write_faults output.new) }
         ensures calls { O.writes output.new + length (O.written output.old) ≤ O.writes output.old + length
-            (O.written output.new) + 4 * (blocks * size) }
+            (O.written output.new) + 40 }
         ensures turns { m.new.turns.number + length (O.written output.old) ≤ m.old.turns.number + length
-            (O.written output.new) + 5 * (blocks * size) }
+            (O.written output.new) + 40 }
         ensures steps { m.new.steps.number ≡ m.old.steps.number }
         ensures greatest { m.new.greatest.number ≡ m.old.greatest.number }
     {
-        let mut done = 0u32;
-        while done < blocks {
-            m.tick();
-            let cap = self.room().min(blocks - done);
-            let from = done as usize * size as usize;
-            let to = from + cap as usize * size as usize;
-            let (kind, n) = leading(w.part(from, to), size as usize, cap, m);
-            let past = from + n as usize * size as usize;
-            match self.take(kind, n, w.part(from, past), size, output, m) {
-                Ok(()) => {}
-                Err(fault) => return Err(fault),
-            }
-            done += n;
+        match self.close(size, output, m) {
+            Ok(()) => {}
+            Err(fault) => return Err(fault),
         }
-        Ok(())
+        let front = self.front;
+        *self = self.and_closed();
+        let _end = output.position();
+        match lay_header(output, front, size, self.blocks, self.chunks, m) {
+            Ok(()) => Ok(()),
+            Err(fault) => Err(fault),
+        }
     }
 }
 

@@ -1,13 +1,12 @@
-use Rattle.std.proofs.Common.{drop, ◌≡◌, ◌*◌, ◌+◌, ◌-◌, ◌++◌, ◌∙◌, arith, refl, subst, sym, append-nil, List, true, false, ℕ}
+use Rattle.std.proofs.Common.{length, drop, ◌≡◌, ◌*◌, ◌+◌, ◌-◌, ◌++◌, ◌∙◌, arith, refl, subst, sym, append-nil, List, true, false, ℕ}
 use Rattle.std.proofs.Math.Nat.{le_refl, le_trans}
 use Rattle.abt_sparse.specs.Block.{Block}
-use Rattle.abt_pieces.proofs.Fronts.{no_more}
 use Rattle.abt_placed.specs.Placed.{classes}
 use Rattle.abt_placed.specs.Segment.{LaidSegment, IsOver}
 use Rattle.abt_placed.specs.Unfinished.{KeepsFront}
 use Rattle.abt_placed.specs.Whole.{taken}
 use Rattle.abt_placed.proofs.Numbers.{blocks_fit}
-use Rattle.abt_placed.proofs.Costs.{look_costs, take_costs, more_blocks}
+use Rattle.abt_placed.proofs.Costs.{look_costs, more_blocks, sound_within, wider, no_further}
 use Rattle.abt_placed.proofs.Laying.{part_classes}
 use Rattle.abt_placed.proofs.Refusing.{keeps_same, keeps_then}
 use Rattle.abt_placed.proofs.Segments.{window_over, more_laid}
@@ -36,9 +35,8 @@ loop-done-preserved g c =
     let n = c.leading-kind.result.1 in
     let d = c.loop-done.done in
     let b = c.args.size in
-    let k = look_costs n b c.tick.new.self.turns.number c.leading-kind.new.m.turns.number c.leading-kind.ensures.some c.requires.some c.leading-kind.ensures.looked in
-    let y = take_costs n b c.leading-kind.ensures.some c.requires.some in
-    let z : (d + n) * b ≡ d * b + n * b = omega arith in
+    let k = look_costs n b c.tick.new.self.turns.number c.leading-kind.new.m.turns.number c.leading-kind.ensures.some c.leading-kind.ensures.looked in
+    let z : (d + n) * (b + 34) ≡ d * (b + 34) + n * (b + 34) = omega arith in
     record {
       within = omega arith;
       sound = e.sound;
@@ -50,7 +48,7 @@ loop-done-preserved g c =
       frame = t.frame ∙ i.frame;
       faults = e.clean ∙ i.faults;
       full_faults = omega (arith, t.full_faults, e.full_faults, i.full_faults);
-      calls = omega (arith, i.calls, t.calls, y, z);
+      calls = omega (arith, i.calls, t.calls, c.leading-kind.ensures.some);
       turns = omega (arith, i.turns, t.turns, k, z, c.tick.ensures.turns);
       steps = omega arith;
       greatest = omega arith;
@@ -68,8 +66,8 @@ loop-done-init g c = record {
   frame = refl;
   faults = refl;
   full_faults = refl;
-  calls = no_more _ _;
-  turns = no_more _ _;
+  calls = omega arith;
+  turns = omega arith;
   steps = refl;
   greatest = refl;
 }
@@ -105,21 +103,21 @@ returns-then-ended g c =
           let o = window_over b d n a (d * b) (d * b + n * b) f w c.part-in-loop-done.result.now now s _ c.leading-kind.result.0 c.requires.some c.leading-kind.ensures.some (omega arith) refl (omega arith) c.part-in-loop-done.ensures.value i.sound (i.laid f p) all (omega (arith, c.leading-kind.ensures.within, c.min-cap.ensures, c.cap.ensures.cap)) (e.over on) in
           let o' = subst (λ (m : ℕ). IsOver m b (f ++ classes b d w) (drop d (classes b a w))) i.same.3 o in
           rw st.0 (subst (λ (m : ℕ). IsOver c.args.self.now.limit b (f ++ classes b m w) (drop m (classes b a w))) z o');
+      reached = λ is. no_further _ c.args.self.now.limit (taken s.placer) (taken c.args.self.now.placer) d n a b i.same.3 i.passed (omega arith) (e.reached on);
       same = (t.same.0 ∙ i.same.0, t.same.1 ∙ i.same.1, t.same.2 ∙ i.same.2, t.same.3 ∙ i.same.3);
       grown = le_trans i.grown t.grown;
-      long = omega (arith, e.long, i.same.1, i.same.3);
+      within = wider c.args.self.now.placer.front s.placer.front (taken c.args.self.now.placer) (taken s.placer) d n a (length new) b i.same.1 i.passed (omega arith) t.within;
+      long = λ uncut. let long = e.long (rw (i.same.3, i.same.0) uncut) in omega (arith, long, i.same.1, i.same.3);
       frame = t.frame ∙ i.frame;
       faults = omega (arith, i.faults, t.faults);
       clean = e.clean ∙ i.faults;
       full_faults = omega (arith, e.full_faults, i.full_faults);
       full = λ h. absurd cc;
       cause = tt;
-      calls =
-          let m = more_blocks d n a b (omega arith) in
-          rw st.1 (omega (arith, i.calls, m));
+      calls = rw st.1 (omega (arith, i.calls));
       turns =
-          let k = look_costs n b c.tick.new.self.turns.number c.leading-kind.new.m.turns.number c.leading-kind.ensures.some c.requires.some c.leading-kind.ensures.looked in
-          let m = more_blocks d n a b (omega arith) in
+          let k = look_costs n b c.tick.new.self.turns.number c.leading-kind.new.m.turns.number c.leading-kind.ensures.some c.leading-kind.ensures.looked in
+          let m = more_blocks d n a (b + 34) (omega arith) in
           omega (arith, i.turns, k, m, t.turns, c.tick.ensures.turns);
       steps = t.steps ∙ c.leading-kind.ensures.steps ∙ c.tick.ensures.steps ∙ i.steps;
       greatest = t.greatest ∙ c.leading-kind.ensures.greatest ∙ c.tick.ensures.greatest ∙ i.greatest;
@@ -136,7 +134,7 @@ returns-in-Err g c =
     let old = g.O.Output.written c.args.output.now in
     let now = g.O.Output.written c.loop-done.output in
     let new = g.O.Output.written c.take_part.new.output in
-    let m = more_blocks c.loop-done.done n c.args.blocks b (omega arith) in
+    let s = c.loop-done.self in
     record {
       kept = keeps_then (c.args.self.now.placer.front + 28) old now new i.kept (subst (λ (j : ℕ). KeepsFront (j + 28) now new) i.same.1 t.kept);
       sound = tt;
@@ -146,20 +144,21 @@ returns-in-Err g c =
       short = tt;
       some = tt;
       over = λ f p. tt;
+      reached = tt;
       same = (t.same.0 ∙ i.same.0, t.same.1 ∙ i.same.1, t.same.2 ∙ i.same.2, t.same.3 ∙ i.same.3);
       grown = le_trans i.grown t.grown;
-      long = rw (← i.same.1, ← i.same.3) e.long;
+      within = wider c.args.self.now.placer.front s.placer.front (taken c.args.self.now.placer) (taken s.placer) c.loop-done.done n c.args.blocks (length new) b i.same.1 i.passed (omega arith) t.within;
+      long = λ uncut. let long = e.long (rw (i.same.3, i.same.0) uncut) in omega (arith, long, i.same.1, i.same.3);
       frame = t.frame ∙ i.frame;
       faults = omega (arith, i.faults, t.faults);
       clean = tt;
       full_faults = rw i.full_faults at e.full_faults;
       full = e.full;
       cause = rw i.faults at e.cause;
-      calls =
-          let y = take_costs n b c.leading-kind.ensures.some c.requires.some in
-          omega (arith, i.calls, m, y, t.calls);
+      calls = omega (arith, i.calls, t.calls);
       turns =
-          let k = look_costs n b c.tick.new.self.turns.number c.leading-kind.new.m.turns.number c.leading-kind.ensures.some c.requires.some c.leading-kind.ensures.looked in
+          let k = look_costs n b c.tick.new.self.turns.number c.leading-kind.new.m.turns.number c.leading-kind.ensures.some c.leading-kind.ensures.looked in
+          let m = more_blocks c.loop-done.done n c.args.blocks (b + 34) (omega arith) in
           omega (arith, i.turns, k, m, t.turns, c.tick.ensures.turns);
       steps = t.steps ∙ c.leading-kind.ensures.steps ∙ c.tick.ensures.steps ∙ i.steps;
       greatest = t.greatest ∙ c.leading-kind.ensures.greatest ∙ c.tick.ensures.greatest ∙ i.greatest;
@@ -170,6 +169,7 @@ pub returns : goal.returns
 returns g c =
     let i = c.loop-done.invariant in
     let w = c.args.w.now.bytes in
+    let s = c.loop-done.self in
     let b = c.args.size in
     let y : c.loop-done.done ≡ c.args.blocks = omega arith in
     let z : c.loop-done.done ≡ taken c.loop-done.self.placer - taken c.args.self.now.placer = omega (arith, i.passed) in
@@ -182,9 +182,11 @@ returns g c =
       short = λ is. absurd (let x : false ≡ true = is in cc);
       some = λ is. absurd (let x : false ≡ true = is in cc);
       over = λ f p is. absurd (let x : false ≡ true = is in cc);
+      reached = λ is. absurd (let x : false ≡ true = is in cc);
       same = i.same;
       grown = i.grown;
-      long = omega (arith, i.sound.fits, i.sound.room, i.same.1, i.same.3);
+      within = wider c.args.self.now.placer.front s.placer.front (taken c.args.self.now.placer) (taken s.placer) c.loop-done.done 0 c.args.blocks _ b i.same.1 i.passed (omega arith) (let w = sound_within b _ s.placer i.sound.placer in omega (arith, w));
+      long = λ uncut. let fits = i.sound.fits (rw (i.same.3, i.same.0) uncut) in omega (arith, fits, i.sound.room, i.same.1, i.same.3);
       frame = i.frame;
       faults = omega (arith, i.faults);
       clean = i.faults;

@@ -18,8 +18,8 @@ invariant-loop-done g l = record {
   frame : g.O.Output.write_frame l.output ≡ g.O.Output.write_frame l.fn.output;
   faults : g.O.Output.write_faults l.output ≡ g.O.Output.write_faults l.fn.output;
   full_faults : g.O.Output.full_faults l.output ≡ g.O.Output.full_faults l.fn.output;
-  calls : g.O.Output.writes l.output + length (g.O.Output.written l.fn.output) ≤ g.O.Output.writes l.fn.output + length (g.O.Output.written l.output) + 4 * (l.done * l.size);
-  turns : l.m.turns.number + length (g.O.Output.written l.fn.output) ≤ l.fn.m.turns.number + length (g.O.Output.written l.output) + 5 * (l.done * l.size);
+  calls : g.O.Output.writes l.output + length (g.O.Output.written l.fn.output) ≤ g.O.Output.writes l.fn.output + length (g.O.Output.written l.output) + 14 * l.done;
+  turns : 2 * (l.m.turns.number + length (g.O.Output.written l.fn.output)) ≤ 2 * (l.fn.m.turns.number + length (g.O.Output.written l.output)) + l.done * (l.size + 34);
   steps : l.m.steps.number ≡ l.fn.m.steps.number;
   greatest : l.m.greatest.number ≡ l.fn.m.greatest.number;
 }
