@@ -1,5 +1,5 @@
 -- What taking costs, and how much it lays at most.
-use Rattle.std.proofs.Common.{inl, inr, ◌≡◌, ℕ, zero, suc, ◌+◌, ◌-◌, ◌*◌, ◌^◌, ◌<◌, ◌≤◌, nat_lt, min, false, arith, refl, mul-le-mul_left, mul-le-mul_right}
+use Rattle.std.proofs.Common.{inl, inr, ◌≡◌, ℕ, zero, suc, ◌+◌, ◌-◌, ◌*◌, ◌^◌, ◌<◌, ◌≤◌, nat_lt, min, false, arith, refl, mul-le-mul_left, mul-le-mul_right, ◌/◌, ◌%◌, ap, ◌∙◌}
 use Rattle.std.proofs.lemmas.Bool.{cases_Bool, ltb-true, ltb-false}
 use Rattle.abt_runs.specs.Part.{is_end}
 use Rattle.abt_runs.specs.declared.part.RunKind.{RunKind}
@@ -9,12 +9,19 @@ use Rattle.abt_placed.specs.Whole.{spare}
 use Rattle.abt_placed.specs.declared.placer.Placer.{Placer}
 
 -- a look at n blocks, and what it is to take them, in words of those blocks
-pub look_costs : (n size t t' : ℕ) → 0 < n → 4 * t' ≤ 4 * t + (n + 1) * (size + 4) → 2 * (t' + 15) ≤ 2 * t + n * (size + 34)
-look_costs n size t t' some le =
+pub look_costs : (n size t1 t t0 : ℕ) → 0 < n → size % 4 ≡ 0 → 4 * t ≤ 4 * t1 + (n + 1) * (size + 4) → t1 ≡ t0 + 1 → t ≤ t0 + (n * (size / 2 + 17) - 14)
+look_costs n size t1 t t0 some words le tick =
     let a : 1 * (size + 4) ≤ n * (size + 4) = mul-le-mul_right (size + 4) (let z : 1 ≤ n = omega (arith, some) in z) in
     let c : (n + 1) * (size + 4) ≡ n * (size + 4) + (size + 4) = omega arith in
-    let d : n * (size + 34) ≡ n * (size + 4) + 30 * n = omega arith in
-    omega (arith, a, c, d, le, some)
+    let two : size ≡ 2 * (size / 2) = omega (arith, words) in
+    let d : n * (size + 4) ≡ 2 * (n * (size / 2)) + 4 * n = ap (λ (s : ℕ). n * (s + 4)) two ∙ (let z : n * (2 * (size / 2) + 4) ≡ 2 * (n * (size / 2)) + 4 * n = omega arith in z) in
+    let e : n * (size / 2 + 17) ≡ n * (size / 2) + 17 * n = omega arith in
+    omega (arith, a, c, d, e, le, some, tick)
+
+pub look_some : (n size : ℕ) → 0 < n → 14 ≤ n * (size / 2 + 17)
+look_some n size some =
+    let e : n * (size / 2 + 17) ≡ n * (size / 2) + 17 * n = omega arith in
+    omega (arith, e, some)
 
 pub more_blocks : (d n m b : ℕ) → d + n ≤ m → d * b + n * b ≤ m * b
 more_blocks d n m b le =
@@ -96,6 +103,12 @@ part_turns (suc a) b want some four le =
     let d : suc a * b ≡ a * b + b = omega arith in
     let e : suc a * (b + 34) ≡ a * b + 34 * a + b + 34 = omega arith in
     omega (arith, m, d, e, le)
+
+pub half : (a b : ℕ) → 2 * (a * (b / 2 + 17)) ≤ a * (b + 34)
+half a b =
+    let m : a * (2 * (b / 2) + 34) ≤ a * (b + 34) = mul-le-mul_left a (let z : 2 * (b / 2) + 34 ≤ b + 34 = omega arith in z) in
+    let d : a * (2 * (b / 2) + 34) ≡ 2 * (a * (b / 2 + 17)) = omega arith in
+    omega (arith, m, d)
 
 pub window : (i a b len n want : ℕ) → i * b < len → 0 < a → 4 ≤ b → i + a ≤ n → n * b < len + b → want ≡ min (len - i * b) (a * b) → Window i a b len want
 window i a b len n want below some four inside last is =

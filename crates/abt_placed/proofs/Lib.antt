@@ -10,4 +10,5 @@ pub mod Uncut
 pub mod Pieces
 pub mod Rooms
 pub mod Within
+pub mod Onward
 pub mod Parts

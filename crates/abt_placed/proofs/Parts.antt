@@ -1,7 +1,7 @@
 -- The numbers of a part that is taken, or of which a write fails.
 use Rattle.std.proofs.Common.{◌≡◌, ℕ, ◌+◌, ◌*◌, ◌<◌, ◌≤◌, true, false, List, length, refl, ap, arith, mul-le-mul_right}
 use Rattle.std.proofs.Common.{Bool, Result, Ok, Err, OnErr, ◌^◌, if◌then◌else◌}
-use Rattle.std.specs.Prelude.{IfErr, IsErrOf}
+use Rattle.std.specs.Prelude.{IfErr}
 use Rattle.abt_io.specs.Count.{full_in, full_of}
 use Rattle.abt_io.specs.declared.device.DeviceFault.{DeviceFault}
 use Rattle.abt_io.specs.declared.device.DeviceFault.TheVariants.{Failed, Full}
@@ -90,8 +90,3 @@ full_as res f is = ap full_of is
 -- the last chunk made whole
 pub closed_within : (b p q front part long long' : ℕ) → long' + part ≤ long + q * (b + 16) → long ≤ front + 28 + p * (b + 16) + part → long' ≤ front + 28 + (p + q) * (b + 16)
 closed_within b p q front part long long' wide few = let d : (p + q) * (b + 16) ≡ p * (b + 16) + q * (b + 16) = omega arith in omega (arith, d, wide, few)
-
--- the same fault in another answer
-pub same_fault : {X Y : Type 0} (f : DeviceFault) → IsErrOf {T = X} {E = DeviceFault} (Err f) Full → IsErrOf {T = Y} {E = DeviceFault} (Err f) Full
-same_fault Failed h = absurd cc
-same_fault Full h = refl

@@ -173,9 +173,9 @@ cap_less t r room b some le =
     elim (cases_Bool (nat_lt x b)) [
       | inl e ↦ elim (cases_Bool (nat_lt y b)) [ inl f ↦ rw (e, f) (omega arith) | inr f ↦ rw (e, f) (div_some y b some (ltb-false y b f)) ]
       | inr e ↦ elim (cases_Bool (nat_lt y b)) [
-          | inl f ↦ let z = ltb-false x b e in let w = ltb-true y b f in absurd (omega (arith, z, w, le))
-          | inr f ↦ rw (e, f) (le-div (x / b) y b some (let z = div_fits x b in omega (arith, z, le)))
-        ]
+        | inl f ↦ let z = ltb-false x b e in let w = ltb-true y b f in absurd (omega (arith, z, w, le))
+        | inr f ↦ rw (e, f) (le-div (x / b) y b some (let z = div_fits x b in omega (arith, z, le)))
+      ]
     ]
 
 -- a segment without blocks has room for one

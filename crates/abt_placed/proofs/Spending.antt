@@ -1,7 +1,7 @@
 -- What a window of a source costs, in plain numbers.
-use Rattle.std.proofs.Common.{◌≡◌, ℕ, ◌+◌, ◌-◌, ◌*◌, ◌<◌, ◌≤◌, min, max, arith, mul-le-mul_right}
+use Rattle.std.proofs.Common.{◌≡◌, ℕ, ◌+◌, ◌-◌, ◌*◌, ◌<◌, ◌≤◌, min, max, arith, mul-le-mul_right, ◌/◌}
 use Rattle.abt_placed.specs.Whole.{read_of, spare}
-use Rattle.abt_placed.proofs.Costs.{window, spare_none, spare_most}
+use Rattle.abt_placed.proofs.Costs.{window, half, spare_none, spare_most}
 
 -- what is spent from block i on
 pub record Spent (i b len given given' reads reads' writes writes' long long' t t' : ℕ) : Type 0 where
@@ -30,7 +30,7 @@ pub record Read (i a b len n want got given given' reads reads' t t' : ℕ) : Ty
   pub turns : t' ≤ t + got + 1
 
 pub read_costs : (i a b len n want got given given' reads reads' writes writes' long long' t t1 t2 t' : ℕ) → Read i a b len n want got given given' reads reads' t t1 → t2 ≡ t1
-    → writes' + long ≤ writes + long' + 14 * a → 2 * (t' + long) ≤ 2 * (t2 + long') + a * (b + 34) → Spent i b len given given' reads reads' writes writes' long long' t t'
+    → writes' + long ≤ writes + long' + 14 * a → t' + long ≤ t2 + long' + a * (b / 2 + 17) → Spent i b len given given' reads reads' writes writes' long long' t t'
 read_costs i a b len n want got given given' reads reads' writes writes' long long' t t1 t2 t' h same calls turns =
     let x = window i a b len n want h.below h.some h.four h.within h.last h.is in
     let all = h.all in
@@ -41,11 +41,11 @@ read_costs i a b len n want got given given' reads reads' writes writes' long lo
       more = omega (arith, e);
       economy = omega (arith, e, all, x.within);
       calls = omega (arith, e, all, z, x.calls, spare_most 14 len b (i + a), h.calls, calls);
-      turns = omega (arith, e, all, y, x.turns, spare_most (b + 14) len b (i + a), h.turns, same, turns);
+      turns = omega (arith, e, all, y, x.turns, spare_most (b + 14) len b (i + a), h.turns, same, turns, half a b);
     }
 
 pub going_costs : (i j a b len n want got given given' reads reads' writes writes' long long' t t1 t2 t' : ℕ) → j ≡ i + a → Read i a b len n want got given given' reads reads' t t1 → t2 ≡ t1
-    → writes' + long ≤ writes + long' + 14 * a → 2 * (t' + long) ≤ 2 * (t2 + long') + a * (b + 34) → Going i j b len given given' reads reads' writes writes' long long' t t'
+    → writes' + long ≤ writes + long' + 14 * a → t' + long ≤ t2 + long' + a * (b / 2 + 17) → Going i j b len given given' reads reads' writes writes' long long' t t'
 going_costs i j a b len n want got given given' reads reads' writes writes' long long' t t1 t2 t' passed h same calls turns =
     let x = window i a b len n want h.below h.some h.four h.within h.last h.is in
     let all = h.all in
@@ -55,7 +55,7 @@ going_costs i j a b len n want got given given' reads reads' writes writes' long
     rw passed (record {
       once = omega (arith, e, all, x.read);
       calls = omega (arith, e, all, z, x.calls, h.calls, calls);
-      turns = omega (arith, e, all, y, x.turns, h.turns, same, turns);
+      turns = omega (arith, e, all, y, x.turns, h.turns, same, turns, half a b);
     })
 
 -- what was taken of it was read

@@ -1,6 +1,5 @@
 -- What a part adds to a segment is within its limit.
-use Rattle.std.proofs.Common.{◌≡◌, ◌∙◌, ℕ, ◌+◌, ◌-◌, ◌<◌, ◌≤◌, Bool, true, false, if◌then◌else◌, Result, Ok, Err, OnOk, OnErr, arith}
-use Rattle.abt_io.specs.declared.device.DeviceFault.{DeviceFault}
+use Rattle.std.proofs.Common.{◌≡◌, ℕ, ◌+◌, ◌-◌, ◌<◌, ◌≤◌, Bool, true, false, if◌then◌else◌, arith}
 use Rattle.abt_runs.specs.declared.part.RunKind.{RunKind}
 use Rattle.abt_runs.specs.declared.part.RunKind.TheVariants as kinds
 use Rattle.abt_pieces.specs.Plan.{gain_of}
@@ -31,12 +30,3 @@ skipping_as false kinds.End = omega arith
 
 pub skipping_fits : (s : Placer) → beginning_len s kinds.Skip + 12 ≤ to_come s.kind
 skipping_fits s = skipping_as (goes_on s kinds.Skip) s.kind
-
--- what has failed, where nothing had before
-pub clean_since : {X : Type 0} (res : Result X DeviceFault) (n m k : ℕ) → m ≡ n → OnOk res (k ≡ m) → OnOk res (k ≡ n)
-clean_since (Ok x) n m k e h = h ∙ e
-clean_since (Err f) n m k e h = tt
-
-pub cause_since : {X : Type 0} (res : Result X DeviceFault) (n m k : ℕ) → m ≡ n → OnErr res (m < k) → OnErr res (n < k)
-cause_since (Ok x) n m k e h = tt
-cause_since (Err f) n m k e h = omega (arith, e, h)

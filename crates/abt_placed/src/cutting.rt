@@ -204,7 +204,16 @@ pub fn next_piece_at<S: Source, O: Overwrite>(
     }
     let first = cutter.start.block;
     let most = most_raw(cutter.limit, cutter.runs.size);
-    match lay_piece(&cutter.runs, source, first, most, cutter.limit as u64, output, w, m) {
+    match lay_piece(
+        &cutter.runs,
+        source,
+        first,
+        most,
+        cutter.limit as u64,
+        output,
+        w,
+        m,
+    ) {
         Ok(outline) => Ok(Some(cutter.pass(outline))),
         Err(fault) => Err(cutter.fail(fault)),
     }

@@ -7,6 +7,7 @@ ghost use Rattle.abt_sparse.specs.Chunk.{header_record, plain_header};
 ghost use Rattle.abt_pieces.specs.Write.{front_bytes};
 ghost use Rattle.abt_runs.specs.Part.{is_end};
 ghost use Rattle.abt_placed.specs.Placer.{SoundPlacer, open_len, closed, closing, closing_len};
+ghost use Rattle.abt_placed.specs.Calls.{Writes, stand};
 ghost use Rattle.abt_placed.specs.Unfinished.{IsUnfinished, KeepsFront};
 
 use crate::placer::Placer;
@@ -28,16 +29,8 @@ pub fn lay_front<O: Overwrite>(
         (front_bytes RunKind.Raw blocks total)) }
     ensures before { take at (O.written output.new) ≡ take at (O.written output.old) }
     ensures long { length (O.written output.new) ≡ length (O.written output.old) }
-    ensures frame { O.write_frame output.new ≡ O.write_frame output.old }
-    ensures faults { O.write_faults output.old ≤ O.write_faults output.new }
-    ensures clean { OnOk result (O.write_faults output.new ≡ O.write_faults output.old) }
-    ensures full_faults { O.full_faults output.new ≡ O.full_faults output.old }
     ensures failed { IfErr result (λ e. e ≡ DeviceFault.Failed) }
-    ensures cause { OnErr result (O.write_faults output.old < O.write_faults output.new) }
-    ensures calls { O.writes output.new ≤ O.writes output.old + 12 }
-    ensures turns { m.new.turns.number ≤ m.old.turns.number + 12 }
-    ensures steps { m.new.steps.number ≡ m.old.steps.number }
-    ensures greatest { m.new.greatest.number ≡ m.old.greatest.number }
+    ensures writes { Writes result 12 12 (stand O.Output output.old m.old) (stand O.Output output.new m.new) }
 {
     let bytes = chunk_front(RunKind::Raw, blocks, total);
     write_over_all(output, at, &bytes[..12], m)
@@ -63,16 +56,8 @@ pub fn lay_header<O: Overwrite>(
     ensures before { take at (O.written output.new) ≡ take at (O.written output.old) }
     ensures unfinished { OnErr result (IsUnfinished (drop at (O.written output.new))) }
     ensures long { length (O.written output.new) ≡ length (O.written output.old) }
-    ensures frame { O.write_frame output.new ≡ O.write_frame output.old }
-    ensures faults { O.write_faults output.old ≤ O.write_faults output.new }
-    ensures clean { OnOk result (O.write_faults output.new ≡ O.write_faults output.old) }
-    ensures full_faults { O.full_faults output.new ≡ O.full_faults output.old }
     ensures failed { IfErr result (λ e. e ≡ DeviceFault.Failed) }
-    ensures cause { OnErr result (O.write_faults output.old < O.write_faults output.new) }
-    ensures calls { O.writes output.new ≤ O.writes output.old + 28 }
-    ensures turns { m.new.turns.number ≤ m.old.turns.number + 28 }
-    ensures steps { m.new.steps.number ≡ m.old.steps.number }
-    ensures greatest { m.new.greatest.number ≡ m.old.greatest.number }
+    ensures writes { Writes result 28 28 (stand O.Output output.old m.old) (stand O.Output output.new m.new) }
 {
     let bytes = image_header(size, count, chunks);
     match write_over_all(output, at + 4, &bytes[4..], m) {
@@ -101,23 +86,11 @@ impl Placer {
         requires small { 12 + self.now.most * size < 2 ^ 32 }
         ensures kept { KeepsFront (self.now.front + 28) (O.written output.old) (O.written output.new) }
         ensures written { OnOk result (O.written output.new ≡ closing self.now size (O.written output.old)) }
-        ensures grown { length (O.written output.old) ≤ length (O.written output.new) }
+        ensures writes { Writes result 12 12 (stand O.Output output.old m.old) (stand O.Output output.new m.new) }
         ensures within { length (O.written output.new) + open_len self.now.kind self.now.count size
             ≤ length (O.written output.old) + self.now.count * (size + 16) }
         ensures adds { length (O.written output.new) + full_of result
             ≤ length (O.written output.old) + closing_len self.now.kind }
-        ensures frame { O.write_frame output.new ≡ O.write_frame output.old }
-        ensures faults { O.write_faults output.old ≤ O.write_faults output.new }
-        ensures clean { OnOk result (O.write_faults output.new ≡ O.write_faults output.old) }
-        ensures full_faults { O.full_faults output.new ≡ O.full_faults output.old + full_of result }
-        ensures full { IsErrOf result DeviceFault.Full → IsTrue (O.is_full output.new) }
-        ensures cause { OnErr result (O.write_faults output.old < O.write_faults output.new) }
-        ensures calls { O.writes output.new + length (O.written output.old) ≤ O.writes output.old + length
-            (O.written output.new) + 12 }
-        ensures turns { m.new.turns.number + length (O.written output.old) ≤ m.old.turns.number + length
-            (O.written output.new) + 12 }
-        ensures steps { m.new.steps.number ≡ m.old.steps.number }
-        ensures greatest { m.new.greatest.number ≡ m.old.greatest.number }
     {
         match self.kind {
             RunKind::End => Ok(()),
@@ -149,23 +122,11 @@ impl Placer {
         ensures laid { OnOk result (O.written output.new ≡ put_at (closing self.old size (O.written output.old))
             self.old.front (header_record (plain_header size (closed self.old).blocks (closed self.old).chunks))) }
         ensures unfinished { OnErr result (IsUnfinished (drop self.old.front (O.written output.new))) }
-        ensures grown { length (O.written output.old) ≤ length (O.written output.new) }
+        ensures writes { Writes result 40 40 (stand O.Output output.old m.old) (stand O.Output output.new m.new) }
         ensures within { length (O.written output.new)
             ≤ self.old.front + 28 + (self.old.blocks + self.old.count) * (size + 16) }
         ensures adds { length (O.written output.new) + full_of result
             ≤ length (O.written output.old) + closing_len self.old.kind }
-        ensures frame { O.write_frame output.new ≡ O.write_frame output.old }
-        ensures faults { O.write_faults output.old ≤ O.write_faults output.new }
-        ensures clean { OnOk result (O.write_faults output.new ≡ O.write_faults output.old) }
-        ensures full_faults { O.full_faults output.new ≡ O.full_faults output.old + full_of result }
-        ensures full { IsErrOf result DeviceFault.Full → IsTrue (O.is_full output.new) }
-        ensures cause { OnErr result (O.write_faults output.old < O.write_faults output.new) }
-        ensures calls { O.writes output.new + length (O.written output.old) ≤ O.writes output.old + length
-            (O.written output.new) + 40 }
-        ensures turns { m.new.turns.number + length (O.written output.old) ≤ m.old.turns.number + length
-            (O.written output.new) + 40 }
-        ensures steps { m.new.steps.number ≡ m.old.steps.number }
-        ensures greatest { m.new.greatest.number ≡ m.old.greatest.number }
     {
         match self.close(size, output, m) {
             Ok(()) => {}

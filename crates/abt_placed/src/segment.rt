@@ -1,5 +1,6 @@
 //! The segment of a piece that is laid in one pass: it takes blocks as long as they fit within the limit.
-ghost use Rattle.std.specs.Prelude.{◌≡◌, ℕ, ◌<◌, ◌≤◌, ◌+◌, ◌-◌, ◌*◌, ◌%◌, ◌^◌, ◌++◌, IsTrue, IfOk, IfErr, OnOk, OnErr};
+ghost use Rattle.std.specs.Prelude.{◌≡◌, ℕ, ◌<◌, ◌≤◌, ◌+◌, ◌-◌, ◌*◌, ◌/◌, ◌%◌, ◌^◌, ◌++◌, IsTrue, IfOk, IfErr, OnOk};
+ghost use Rattle.std.specs.Prelude.{OnErr};
 ghost use Rattle.std.specs.Prelude.{IsErrOf, List, [], length, take, drop, replicate, max, true, false};
 ghost use Rattle.abt_io.specs.Count.{full_of};
 ghost use Rattle.abt_sparse.specs.Block.{Block};
@@ -13,6 +14,7 @@ ghost use Rattle.abt_placed.specs.Whole.{taken, read_of, spare};
 ghost use Rattle.abt_placed.specs.Segment.{SoundSegment, LaidSegment, ToldSegment, EndedSegment, IsOver, IsUncut};
 ghost use Rattle.abt_placed.specs.Segment.{tail_of_open};
 ghost use Rattle.abt_placed.specs.Piece.{LaidPiece};
+ghost use Rattle.abt_placed.specs.Calls.{Writes, stand};
 ghost use Rattle.abt_placed.specs.Unfinished.{IsUnfinished, KeepsFront};
 
 use crate::placer::Placer;
@@ -150,23 +152,11 @@ impl Segment {
             < 52 + (taken self.old.placer + blocks) * (size + 16)) }
         ensures same { (self.new.placer.most ≡ self.old.placer.most) × (self.new.placer.front ≡ self.old.placer.front) ×
             (self.new.first ≡ self.old.first) × (self.new.limit ≡ self.old.limit) }
-        ensures grown { length (O.written output.old) ≤ length (O.written output.new) }
+        ensures writes { Writes result 14 14 (stand O.Output output.old m.old) (stand O.Output output.new m.new) }
         ensures within { length (O.written output.new)
             ≤ self.old.placer.front + 28 + (taken self.old.placer + blocks) * (size + 16) }
         ensures long { IsUncut size self.old.limit self.old.placer.most → length (O.written output.new) + full_of result
             ≤ self.old.placer.front + self.old.limit }
-        ensures frame { O.write_frame output.new ≡ O.write_frame output.old }
-        ensures faults { O.write_faults output.old ≤ O.write_faults output.new }
-        ensures clean { OnOk result (O.write_faults output.new ≡ O.write_faults output.old) }
-        ensures full_faults { O.full_faults output.new ≡ O.full_faults output.old + full_of result }
-        ensures full { IsErrOf result DeviceFault.Full → IsTrue (O.is_full output.new) }
-        ensures cause { OnErr result (O.write_faults output.old < O.write_faults output.new) }
-        ensures calls { O.writes output.new + length (O.written output.old) ≤ O.writes output.old + length
-            (O.written output.new) + 14 }
-        ensures turns { m.new.turns.number + length (O.written output.old) ≤ m.old.turns.number + length
-            (O.written output.new) + 14 }
-        ensures steps { m.new.steps.number ≡ m.old.steps.number }
-        ensures greatest { m.new.greatest.number ≡ m.old.greatest.number }
     {
         let gain = self.gain(kind, blocks, size);
         if gain > self.limit - self.weight {
@@ -213,24 +203,13 @@ impl Segment {
             (self.new.first ≡ self.old.first) × (self.new.limit ≡ self.old.limit) }
         ensures reached { IfOk result (λ d. d ≡ true → self.old.limit
             < 52 + (taken self.old.placer + blocks) * (size + 16)) }
-        ensures grown { length (O.written output.old) ≤ length (O.written output.new) }
+        // So much for each block that is looked at, also for one that is filled up with zeros.
+        ensures writes { Writes result (14 * blocks) (blocks * (size / 2 + 17)) (stand O.Output output.old m.old)
+            (stand O.Output output.new m.new) }
         ensures within { length (O.written output.new)
             ≤ self.old.placer.front + 28 + (taken self.old.placer + blocks) * (size + 16) }
         ensures long { IsUncut size self.old.limit self.old.placer.most → length (O.written output.new) + full_of result
             ≤ self.old.placer.front + self.old.limit }
-        ensures frame { O.write_frame output.new ≡ O.write_frame output.old }
-        ensures faults { O.write_faults output.old ≤ O.write_faults output.new }
-        ensures clean { OnOk result (O.write_faults output.new ≡ O.write_faults output.old) }
-        ensures full_faults { O.full_faults output.new ≡ O.full_faults output.old + full_of result }
-        ensures full { IsErrOf result DeviceFault.Full → IsTrue (O.is_full output.new) }
-        ensures cause { OnErr result (O.write_faults output.old < O.write_faults output.new) }
-        // So much for each block that is looked at, also for one that is filled up with zeros.
-        ensures calls { O.writes output.new + length (O.written output.old) ≤ O.writes output.old + length
-            (O.written output.new) + 14 * blocks }
-        ensures turns { 2 * (m.new.turns.number + length (O.written output.old)) ≤ 2 * (m.old.turns.number + length
-            (O.written output.new)) + blocks * (size + 34) }
-        ensures steps { m.new.steps.number ≡ m.old.steps.number }
-        ensures greatest { m.new.greatest.number ≡ m.old.greatest.number }
     {
         let mut done = 0u32;
         while done < blocks {
@@ -436,22 +415,10 @@ impl Segment {
         ensures before { take self.old.placer.front (O.written output.new)
             ≡ take self.old.placer.front (O.written output.old) }
         ensures unfinished { OnErr result (IsUnfinished (drop self.old.placer.front (O.written output.new))) }
-        ensures grown { length (O.written output.old) ≤ length (O.written output.new) }
+        ensures writes { Writes result 53 53 (stand O.Output output.old m.old) (stand O.Output output.new m.new) }
         ensures within { length (O.written output.new) ≤ self.old.placer.front + 28 + blocks * (size + 16) }
         ensures long { IsUncut size self.old.limit self.old.placer.most → length (O.written output.new) + full_of result
             ≤ self.old.placer.front + self.old.weight }
-        ensures frame { O.write_frame output.new ≡ O.write_frame output.old }
-        ensures faults { O.write_faults output.old ≤ O.write_faults output.new }
-        ensures clean { OnOk result (O.write_faults output.new ≡ O.write_faults output.old) }
-        ensures full_faults { O.full_faults output.new ≡ O.full_faults output.old + full_of result }
-        ensures full { IsErrOf result DeviceFault.Full → IsTrue (O.is_full output.new) }
-        ensures cause { OnErr result (O.write_faults output.old < O.write_faults output.new) }
-        ensures calls { O.writes output.new + length (O.written output.old) ≤ O.writes output.old + length
-            (O.written output.new) + 53 }
-        ensures turns { m.new.turns.number + length (O.written output.old) ≤ m.old.turns.number + length
-            (O.written output.new) + 53 }
-        ensures steps { m.new.steps.number ≡ m.old.steps.number }
-        ensures greatest { m.new.greatest.number ≡ m.old.greatest.number }
     {
         let behind = blocks - (self.placer.blocks + self.placer.count);
         match self.placer.skip(behind, size, output, m) {

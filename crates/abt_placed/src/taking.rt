@@ -7,6 +7,7 @@ ghost use Rattle.abt_runs.specs.Part.{AllOf, is_end};
 ghost use Rattle.abt_placed.specs.Placer.{SoundPlacer, open_len, closed, closing, beginning, taking, kept_for};
 ghost use Rattle.abt_placed.specs.Placer.{data_for, with_part, room_of, closing_len, beginning_len, taking_len};
 ghost use Rattle.abt_placed.specs.Placed.{Placed, classes, skips};
+ghost use Rattle.abt_placed.specs.Calls.{Writes, stand};
 ghost use Rattle.abt_placed.specs.Unfinished.{KeepsFront};
 
 use crate::placer::Placer;
@@ -30,23 +31,11 @@ impl Placer {
         requires small { 12 + self.now.most * size < 2 ^ 32 }
         ensures kept { KeepsFront (self.now.front + 28) (O.written output.old) (O.written output.new) }
         ensures written { OnOk result (O.written output.new ≡ beginning self.now kind size (O.written output.old)) }
-        ensures grown { length (O.written output.old) ≤ length (O.written output.new) }
+        ensures writes { Writes result 13 13 (stand O.Output output.old m.old) (stand O.Output output.new m.new) }
         ensures within { length (O.written output.new) + open_len self.now.kind self.now.count size
             ≤ length (O.written output.old) + self.now.count * (size + 16) + length (kept_for kind) }
         ensures adds { length (O.written output.new) + full_of result
             ≤ length (O.written output.old) + beginning_len self.now kind }
-        ensures frame { O.write_frame output.new ≡ O.write_frame output.old }
-        ensures faults { O.write_faults output.old ≤ O.write_faults output.new }
-        ensures clean { OnOk result (O.write_faults output.new ≡ O.write_faults output.old) }
-        ensures full_faults { O.full_faults output.new ≡ O.full_faults output.old + full_of result }
-        ensures full { IsErrOf result DeviceFault.Full → IsTrue (O.is_full output.new) }
-        ensures cause { OnErr result (O.write_faults output.old < O.write_faults output.new) }
-        ensures calls { O.writes output.new + length (O.written output.old) ≤ O.writes output.old + length
-            (O.written output.new) + 13 }
-        ensures turns { m.new.turns.number + length (O.written output.old) ≤ m.old.turns.number + length
-            (O.written output.new) + 13 }
-        ensures steps { m.new.steps.number ≡ m.old.steps.number }
-        ensures greatest { m.new.greatest.number ≡ m.old.greatest.number }
     {
         if self.goes_on(kind) {
             return Ok(());
@@ -87,23 +76,11 @@ impl Placer {
             OnOk result (Placed size (g ++ classes size blocks bytes.now) (O.written output.new) self.new) }
         ensures passed { OnOk result (self.new.blocks + self.new.count ≡ self.old.blocks + self.old.count + blocks) }
         ensures same { (self.new.most ≡ self.old.most) × (self.new.front ≡ self.old.front) }
-        ensures grown { length (O.written output.old) ≤ length (O.written output.new) }
+        ensures writes { Writes result 14 14 (stand O.Output output.old m.old) (stand O.Output output.new m.new) }
         ensures within { length (O.written output.new)
             ≤ self.old.front + 28 + (self.old.blocks + self.old.count + blocks) * (size + 16) }
         ensures adds { length (O.written output.new) + full_of result
             ≤ length (O.written output.old) + taking_len self.old kind blocks size }
-        ensures frame { O.write_frame output.new ≡ O.write_frame output.old }
-        ensures faults { O.write_faults output.old ≤ O.write_faults output.new }
-        ensures clean { OnOk result (O.write_faults output.new ≡ O.write_faults output.old) }
-        ensures full_faults { O.full_faults output.new ≡ O.full_faults output.old + full_of result }
-        ensures full { IsErrOf result DeviceFault.Full → IsTrue (O.is_full output.new) }
-        ensures cause { OnErr result (O.write_faults output.old < O.write_faults output.new) }
-        ensures calls { O.writes output.new + length (O.written output.old) ≤ O.writes output.old + length
-            (O.written output.new) + 14 }
-        ensures turns { m.new.turns.number + length (O.written output.old) ≤ m.old.turns.number + length
-            (O.written output.new) + 14 }
-        ensures steps { m.new.steps.number ≡ m.old.steps.number }
-        ensures greatest { m.new.greatest.number ≡ m.old.greatest.number }
     {
         match self.begin_chunk(kind, size, output, m) {
             Ok(()) => {}
@@ -133,25 +110,13 @@ impl Placer {
             OnOk result (Placed size (g ++ skips blocks) (O.written output.new) self.new) }
         ensures passed { OnOk result (self.new.blocks + self.new.count ≡ self.old.blocks + self.old.count + blocks) }
         ensures same { (self.new.most ≡ self.old.most) × (self.new.front ≡ self.old.front) }
-        ensures grown { length (O.written output.old) ≤ length (O.written output.new) }
+        ensures writes { Writes result 13 13 (stand O.Output output.old m.old) (stand O.Output output.new m.new) }
         ensures within { length (O.written output.new)
             ≤ self.old.front + 28 + (self.old.blocks + self.old.count + blocks) * (size + 16) }
         ensures adds { length (O.written output.new) + full_of result
             ≤ length (O.written output.old) + beginning_len self.old RunKind.Skip }
         ensures closes { OnOk result (length (O.written output.new) + closing_len self.new.kind
             ≤ length (O.written output.old) + beginning_len self.old RunKind.Skip + 12) }
-        ensures frame { O.write_frame output.new ≡ O.write_frame output.old }
-        ensures faults { O.write_faults output.old ≤ O.write_faults output.new }
-        ensures clean { OnOk result (O.write_faults output.new ≡ O.write_faults output.old) }
-        ensures full_faults { O.full_faults output.new ≡ O.full_faults output.old + full_of result }
-        ensures full { IsErrOf result DeviceFault.Full → IsTrue (O.is_full output.new) }
-        ensures cause { OnErr result (O.write_faults output.old < O.write_faults output.new) }
-        ensures calls { O.writes output.new + length (O.written output.old) ≤ O.writes output.old + length
-            (O.written output.new) + 13 }
-        ensures turns { m.new.turns.number + length (O.written output.old) ≤ m.old.turns.number + length
-            (O.written output.new) + 13 }
-        ensures steps { m.new.steps.number ≡ m.old.steps.number }
-        ensures greatest { m.new.greatest.number ≡ m.old.greatest.number }
     {
         if blocks == 0 {
             return Ok(());
@@ -175,22 +140,10 @@ fn put_data<O: Overwrite>(
     requires { length bytes.now ≤ 65536 }
     ensures kept { KeepsFront (length (O.written output.old)) (O.written output.old) (O.written output.new) }
     ensures written { OnOk result (O.written output.new ≡ O.written output.old ++ data_for kind bytes.now) }
-    ensures grown { length (O.written output.old) ≤ length (O.written output.new) }
+    ensures writes { Writes result 1 1 (stand O.Output output.old m.old) (stand O.Output output.new m.new) }
     ensures within { length (O.written output.new) ≤ length (O.written output.old) + length (data_for kind bytes.now) }
     ensures adds { length (O.written output.new) + full_of result
         ≤ length (O.written output.old) + length (data_for kind bytes.now) }
-    ensures frame { O.write_frame output.new ≡ O.write_frame output.old }
-    ensures faults { O.write_faults output.old ≤ O.write_faults output.new }
-    ensures clean { OnOk result (O.write_faults output.new ≡ O.write_faults output.old) }
-    ensures full_faults { O.full_faults output.new ≡ O.full_faults output.old + full_of result }
-    ensures full { IsErrOf result DeviceFault.Full → IsTrue (O.is_full output.new) }
-    ensures cause { OnErr result (O.write_faults output.old < O.write_faults output.new) }
-    ensures calls { O.writes output.new + length (O.written output.old) ≤ O.writes output.old + length
-        (O.written output.new) + 1 }
-    ensures turns { m.new.turns.number + length (O.written output.old) ≤ m.old.turns.number + length
-        (O.written output.new) + 1 }
-    ensures steps { m.new.steps.number ≡ m.old.steps.number }
-    ensures greatest { m.new.greatest.number ≡ m.old.greatest.number }
 {
     match kind {
         RunKind::Raw => write_out(output, bytes, m),

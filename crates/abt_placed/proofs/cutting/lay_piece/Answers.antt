@@ -137,7 +137,7 @@ returns-in-Err-end g c =
     record {
       content = t.content;
       frame = t.read_frame;
-      write_frame = n.frame ∙ t.write_frame ∙ w.frame;
+      write_frame = n.writes.frame ∙ t.write_frame ∙ w.frame;
       sound = λ uncut. tt;
       reached = λ far. tt;
       next = tt;
@@ -149,22 +149,22 @@ returns-in-Err-end g c =
       within = omega (arith, n.within, place);
       long = λ uncut. let long = n.long (rw (t.same.3, b.limit, t.same.0, b.most) uncut) in omega (arith, long, full_as c.end.result c.in-Err-end.fault c.in-Err-end.is, all.sound.room, t.same.3, b.limit, place);
       takes = λ uncut. tt;
-      grown = le_trans w.grown (le_trans t.grown n.grown);
+      grown = le_trans w.grown (le_trans t.grown n.writes.grown);
       given = t.given;
-      received = omega (arith, t.received, w.steps, n.steps);
+      received = omega (arith, t.received, w.steps, n.writes.steps);
       economy = rw b.taken at t.economy;
       least = tt;
       last = tt;
-      calls = omega (arith, t.calls, w.calls, n.calls);
-      turns = omega (arith, t.turns, w.turns, n.turns);
+      calls = omega (arith, t.calls, w.calls, n.writes.calls);
+      turns = omega (arith, t.turns, w.turns, n.writes.turns);
       going_turns = tt;
-      greatest = omega (arith, t.greatest, w.greatest, n.greatest);
+      greatest = omega (arith, t.greatest, w.greatest, n.writes.greatest);
       faults = t.faults;
-      write_faults = le_trans w.faults (le_trans t.write_faults n.faults);
+      write_faults = le_trans w.faults (le_trans t.write_faults n.writes.faults);
       clean = tt;
-      full_faults = omega (arith, e.full_faults, all.full_faults, kept.full_faults);
-      full = λ h. n.full (rw c.in-Err-end.is (says_full _ h));
-      cause = omega (arith, e.cause, all.clean.1, kept.clean);
+      full_faults = omega (arith, e.writes.full_faults, all.full_faults, kept.full_faults);
+      full = λ h. n.writes.full (rw c.in-Err-end.is (says_full _ h));
+      cause = omega (arith, e.writes.cause, all.clean.1, kept.clean);
     }
 
 -- the piece is whole
@@ -192,7 +192,7 @@ returns g c =
     record {
       content = t.content;
       frame = t.read_frame;
-      write_frame = n.frame ∙ t.write_frame ∙ w.frame;
+      write_frame = n.writes.frame ∙ t.write_frame ∙ w.frame;
       sound = λ uncut. record {
         first = refl;
         past = refl;
@@ -200,36 +200,36 @@ returns g c =
         moves = λ less. omega (arith, all.ended.moves less, t.same.2, b.first);
         end = all.inside;
         within = next;
-        least = omega (arith, kept.all, t.grown, n.grown);
+        least = omega (arith, kept.all, t.grown, n.writes.grown);
         long = let long = short uncut in omega (arith, long, all.sound.room, t.same.3, b.limit);
       };
       reached = λ far. all_taken (taken s.placer) r.blocks s.limit all.inside all.ended.reached (omega (arith, far, t.same.3, b.limit));
       next = next;
       written = refl;
-      bytes = omega (arith, w.grown, t.grown, n.grown);
+      bytes = omega (arith, w.grown, t.grown, n.writes.grown);
       whole = whole_piece g.S.Source.tells (g.S.Source.content c.args.source.now) r.size r.length r.blocks c.args.limit c.args.most c.args.first (taken s.placer) c.end.new.self.placer.chunks old now (take f now) new s r.some r.covers r.last c.requires.opened all.sound all.told all.ended (t.same.2 ∙ b.first) refl (t.same.3 ∙ b.limit) all.inside
           (front_kept f c.begin-segment.result.placer.front old mid now place (sym t.same.1) kept.ok t.kept) (let l = e.laid all.told.blocks all.told.laid in rw (t.same.0, b.most) at l);
       before = all_kept f c.begin-segment.result.placer.front old mid now new place (sym t.same.1) kept.ok t.kept n.before;
       unfinished = tt;
       within = omega (arith, n.within, place);
-      long = λ uncut. let long = short uncut in omega (arith, long, w.grown, t.grown, n.grown, all.sound.room, t.same.3, b.limit);
+      long = λ uncut. let long = short uncut in omega (arith, long, w.grown, t.grown, n.writes.grown, all.sound.room, t.same.3, b.limit);
       takes = λ uncut. let long = short uncut in omega (arith, long, light);
-      grown = le_trans w.grown (le_trans t.grown n.grown);
+      grown = le_trans w.grown (le_trans t.grown n.writes.grown);
       given = t.given;
-      received = omega (arith, t.received, w.steps, n.steps);
+      received = omega (arith, t.received, w.steps, n.writes.steps);
       economy = rw b.taken at t.economy;
       least = least;
       last = rw b.taken at all.last;
-      calls = omega (arith, t.calls, w.calls, n.calls);
-      turns = omega (arith, t.turns, w.turns, n.turns);
+      calls = omega (arith, t.calls, w.calls, n.writes.calls);
+      turns = omega (arith, t.turns, w.turns, n.writes.turns);
       going_turns = λ less.
           let one = block_read c.args.first (taken s.placer) r.blocks r.size r.length _ _ (let z = all.ended.moves less in omega (arith, z, t.same.2, b.first)) less r.last least in
-          omega (arith, t.turns, w.turns, n.turns, one);
-      greatest = omega (arith, t.greatest, w.greatest, n.greatest);
+          omega (arith, t.turns, w.turns, n.writes.turns, one);
+      greatest = omega (arith, t.greatest, w.greatest, n.writes.greatest);
       faults = t.faults;
-      write_faults = le_trans w.faults (le_trans t.write_faults n.faults);
-      clean = (all.clean.0, e.clean ∙ all.clean.1 ∙ kept.clean);
-      full_faults = omega (arith, e.full_faults, all.full_faults, kept.full_faults);
+      write_faults = le_trans w.faults (le_trans t.write_faults n.writes.faults);
+      clean = (all.clean.0, e.writes.clean ∙ all.clean.1 ∙ kept.clean);
+      full_faults = omega (arith, e.writes.full_faults, all.full_faults, kept.full_faults);
       full = λ h. absurd cc;
       cause = tt;
     }

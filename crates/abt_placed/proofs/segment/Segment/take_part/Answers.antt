@@ -1,15 +1,13 @@
 use Rattle.std.proofs.Common.{◌≡◌, ◌+◌, inl, inr, true, false, arith, ◌++◌, refl}
-use Rattle.std.proofs.Math.Nat.{le_refl}
 use Rattle.std.proofs.lemmas.Bool.{cases_Bool}
-use Rattle.abt_pieces.proofs.Fronts.{no_more}
 use Rattle.abt_placed.specs.Segment.{is_fresh}
 use Rattle.abt_placed.specs.Placed.{skips}
 use Rattle.abt_placed.specs.Whole.{taken}
 use Rattle.abt_placed.proofs.Costs.{no_wider, sound_within}
 use Rattle.abt_placed.proofs.Segments.{first_fits, kind_held, sound_on, laid_on, reached_by}
 use Rattle.abt_placed.proofs.Within.{taken_within}
-use Rattle.abt_placed.proofs.Parts.{same_fault}
 use Rattle.abt_placed.proofs.Refusing.{keeps_same}
+use Rattle.abt_placed.proofs.Onward.{still, fails, succeeds}
 use Rattle.abt_placed.proofs.segment.Segment.take_part.Goals as goal
 
 -- they don't fit
@@ -32,19 +30,9 @@ returns-then-gain-self g c =
       over = λ d. rw c.gain-gain.ensures at over;
       reached = λ d. reached_by c.args.size c.args.blocks _ c.args.self.now c.args.kind s c.requires.some (rw c.gain-gain.ensures at over);
       same = (refl, refl, refl, refl);
-      grown = le_refl _;
+      writes = still;
       within = no_wider (taken c.args.self.now.placer) (taken c.args.self.now.placer + c.args.blocks) c.args.size (c.args.self.now.placer.front + 28) _ (omega arith) (sound_within c.args.size _ c.args.self.now.placer s.placer);
       long = λ uncut. let fits = s.fits uncut in omega (arith, fits, s.room);
-      frame = refl;
-      faults = le_refl _;
-      clean = refl;
-      full_faults = omega arith;
-      full = λ says. absurd cc;
-      cause = tt;
-      calls = no_more _ _;
-      turns = no_more _ _;
-      steps = refl;
-      greatest = refl;
     }
 
 -- they are not laid
@@ -63,19 +51,9 @@ returns-in-Err g c =
       over = tt;
       reached = tt;
       same = (t.same.0, t.same.1, refl, refl);
-      grown = t.grown;
+      writes = fails e.writes (omega arith) (omega arith);
       within = t.within;
       long = λ uncut. taken_within c.args.size c.args.blocks c.gain-gain.result _ _ _ c.args.self.now c.args.kind c.requires.sound uncut c.requires.some (kind_held c.args.size c.args.blocks c.args.bytes.now c.args.kind c.requires.some c.requires.all) c.gain-gain.ensures (omega (arith, fits)) e.adds;
-      frame = t.frame;
-      faults = t.faults;
-      clean = tt;
-      full_faults = e.full_faults;
-      full = λ says. e.full (same_fault c.in-Err.fault says);
-      cause = e.cause;
-      calls = t.calls;
-      turns = t.turns;
-      steps = t.steps;
-      greatest = t.greatest;
     }
 
 -- they are taken
@@ -95,17 +73,7 @@ returns g c =
       over = λ d. absurd (let z : false ≡ true = d in cc);
       reached = λ d. absurd (let z : false ≡ true = d in cc);
       same = (t.same.0, t.same.1, refl, refl);
-      grown = t.grown;
+      writes = succeeds e.writes;
       within = t.within;
       long = λ uncut. taken_within c.args.size c.args.blocks c.gain-gain.result _ _ 0 c.args.self.now c.args.kind c.requires.sound uncut c.requires.some held c.gain-gain.ensures (omega (arith, fits)) e.adds;
-      frame = t.frame;
-      faults = t.faults;
-      clean = e.clean;
-      full_faults = e.full_faults;
-      full = λ says. absurd cc;
-      cause = tt;
-      calls = t.calls;
-      turns = t.turns;
-      steps = t.steps;
-      greatest = t.greatest;
     }
