@@ -20,25 +20,19 @@ data_long (kinds.Fill w) q b x e = refl
 data_long kinds.Skip q b x e = refl
 data_long kinds.End q b x e = refl
 
-one_part : (k : RunKind) (q b : ℕ) (x : List ℕ) → length x ≡ q * b → 0 < q → length (kept_for k) + length (data_for k x) ≤ q * (b + 16)
-one_part kinds.Raw q b x e some = let d : q * (b + 16) ≡ q * b + 16 * q = omega arith in let z : length (kept_for kinds.Raw) ≡ 12 = refl in omega (arith, d, e, some, z)
+one_part : (k : RunKind) (q b : ℕ) (x : List ℕ) → (k ≡ kinds.Raw → length x ≡ q * b) → 0 < q → length (kept_for k) + length (data_for k x) ≤ q * (b + 16)
+one_part kinds.Raw q b x e some = let d : q * (b + 16) ≡ q * b + 16 * q = omega arith in let z : length (kept_for kinds.Raw) ≡ 12 = refl in let l = e refl in omega (arith, d, l, some, z)
 one_part (kinds.Fill w) q b x e some = omega arith
 one_part kinds.Skip q b x e some = omega arith
 one_part kinds.End q b x e some = omega arith
 
 -- with a chunk begun, and with its bytes
-pub begun_within : (b q long long' long'' : ℕ) (x : List ℕ) (s : Placer) (k : RunKind) → SoundPlacer b long s → length x ≡ q * b → 0 < q → long' + open_len s.kind s.count b ≤ long + s.count * (b + 16) + length (kept_for k)
+pub begun_within : (b q long long' long'' : ℕ) (x : List ℕ) (s : Placer) (k : RunKind) → SoundPlacer b long s → (k ≡ kinds.Raw → length x ≡ q * b) → 0 < q → long' + open_len s.kind s.count b ≤ long + s.count * (b + 16) + length (kept_for k)
     → long'' ≤ long' + length (data_for k x) → long'' ≤ s.front + 28 + (s.blocks + s.count + q) * (b + 16)
 begun_within b q long long' long'' x s k h e some wide more =
     let o = one_part k q b x e some in
     let d : (s.blocks + s.count + q) * (b + 16) ≡ s.blocks * (b + 16) + s.count * (b + 16) + q * (b + 16) = omega arith in
     omega (arith, o, d, h.few, wide, more)
-
--- with a chunk begun for blocks that have none
-pub skipped_within : (b q long long' : ℕ) (s : Placer) → SoundPlacer b long s → long' + open_len s.kind s.count b ≤ long + s.count * (b + 16) + 0 → long' ≤ s.front + 28 + (s.blocks + s.count + q) * (b + 16)
-skipped_within b q long long' s h wide =
-    let d : (s.blocks + s.count + q) * (b + 16) ≡ s.blocks * (b + 16) + s.count * (b + 16) + q * (b + 16) = omega arith in
-    omega (arith, d, h.few, wide)
 
 passed_as : (t : Bool) (s : Placer) (k : RunKind) (q : ℕ) → s.chunks ≤ s.blocks → (is_end s.kind ≡ true → s.count ≡ 0) → (is_end s.kind ≡ false → 0 < s.count)
     → let s' = if t then longer s q else begun (closed s) k q in (s'.blocks + s'.count ≡ s.blocks + s.count + q) × ((s'.most ≡ s.most) × (s'.front ≡ s.front))

@@ -21,7 +21,7 @@ returns-in-Err g c =
       passed = tt;
       same = (refl, refl);
       writes = fails e.writes (omega arith) (omega arith);
-      within = begun_within c.args.size c.args.blocks _ _ _ c.args.bytes.now s c.args.kind c.requires.sound c.requires.bytes c.requires.some k.within (omega arith);
+      within = begun_within c.args.size c.args.blocks _ _ _ c.args.bytes.now s c.args.kind c.requires.sound (λ _. c.requires.bytes) c.requires.some k.within (omega arith);
       adds = omega (arith, e.adds);
     }
 
@@ -43,7 +43,7 @@ returns-in-Err-put_data g c =
       passed = tt;
       same = (refl, refl);
       writes = onward all.writes e.writes;
-      within = begun_within c.args.size c.args.blocks _ _ _ c.args.bytes.now s c.args.kind c.requires.sound c.requires.bytes c.requires.some k.within d.within;
+      within = begun_within c.args.size c.args.blocks _ _ _ c.args.bytes.now s c.args.kind c.requires.sound (λ _. c.requires.bytes) c.requires.some k.within d.within;
       adds = omega (arith, long, all.adds, e.adds);
     }
 
@@ -72,6 +72,6 @@ returns g c =
       passed = passed.0;
       same = passed.1;
       writes = onward all.writes e.writes;
-      within = begun_within b c.args.blocks _ _ _ x s c.args.kind c.requires.sound c.requires.bytes c.requires.some k.within d.within;
+      within = begun_within b c.args.blocks _ _ _ x s c.args.kind c.requires.sound (λ _. c.requires.bytes) c.requires.some k.within d.within;
       adds = omega (arith, long, all.adds, e.adds);
     }
