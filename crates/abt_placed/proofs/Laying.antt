@@ -1,17 +1,17 @@
 -- What a placer has laid, as it goes on.
-use Rattle.std.proofs.Common.{inl, inr, ◌⊎◌, Bool, nat_lt, if◌then◌else◌, ◌≡◌, ℕ, zero, suc, ◌+◌, ◌-◌, ◌*◌, ◌<◌, ◌≤◌, true, false, IsTrue, List, [], ◌∷◌, ◌++◌, length, take, drop, map, replicate, min, refl, sym, ap, subst, ◌∙◌, arith, append_assoc, append-nil, length-append, length-drop}
+use Rattle.std.proofs.Common.{inl, inr, ◌⊎◌, Bool, nat_lt, if◌then◌else◌, ◌≡◌, ℕ, zero, suc, ◌+◌, ◌-◌, ◌*◌, ◌<◌, ◌≤◌, true, false, List, [], ◌∷◌, ◌++◌, length, take, drop, map, replicate, refl, sym, ap, subst, ◌∙◌, arith, append_assoc, append-nil, length-append, length-drop}
 use Rattle.std.specs.Prelude.{slice_range}
 use Rattle.std.proofs.lemmas.List.{take_all, drop-drop, drop-append-le, length-map, length-replicate}
-use Rattle.std.proofs.Math.Seq.{drop-append-add, take-append_seam, drop-append_seam, take-add}
+use Rattle.std.proofs.Math.Seq.{drop-append-add, take-append_seam, drop-append_seam}
 use Rattle.std.proofs.lemmas.Bool.{cases_Bool, ltb-false}
 use Rattle.abt_io.specs.Moment.{put_at}
 use Rattle.abt_io.proofs.Overs.{put'_is}
 use Rattle.abt_sparse.specs.Block.{Block, Skip, AreBlocks, classify, block_count, split, class_of, filled_to}
 use Rattle.abt_sparse.specs.Chunk.{chunks_of, spelling, header_record, plain_header}
 use Rattle.abt_runs.specs.Part.{AllOf, raw_of, is_end}
-use Rattle.abt_runs.specs.RawLaws.{length-split, raw_count, raw_long, raw_are_blocks}
+use Rattle.abt_runs.specs.RawLaws.{length-split, raw_count, raw_are_blocks}
 use Rattle.abt_runs.proofs.Alike.{Ended, all_append, alike_same}
-use Rattle.abt_runs.proofs.Classes.{split-front, raw_part}
+use Rattle.abt_runs.proofs.Classes.{split-front}
 use Rattle.abt_runs.proofs.Copied.{raw_classes}
 use Rattle.abt_runs.specs.Whole.{alike_kinds}
 use Rattle.abt_runs.specs.declared.part.RunKind.{RunKind}
@@ -24,8 +24,7 @@ use Rattle.abt_pieces.proofs.Writing.{blocks_skips, blocks_append, blocks_drop, 
 use Rattle.abt_sparsify.specs.Sparsify.{bytes_of}
 use Rattle.abt_sparsify.proofs.SparseSteps.{header_first}
 use Rattle.abt_placed.specs.Placer.{SoundPlacer, kept_for, data_for, closed, closed_as, closing, closing_as, goes_on, goes_on_as, longer, begun, with_part, beginning, taking}
-use Rattle.abt_placed.specs.Placed.{Placed, Laid, classes, skips, open_bytes}
-use Rattle.abt_placed.specs.Whole.{Whole}
+use Rattle.abt_placed.specs.Placed.{Placed, classes, skips, open_bytes}
 use Rattle.abt_placed.specs.declared.placer.Placer.{Placer}
 use Rattle.abt_placed.proofs.Numbers.{goes}
 use Rattle.abt_placed.proofs.Chunking.{chunk_first}
@@ -255,84 +254,9 @@ pub part_classes : (k : RunKind) (b n from to past : ℕ) (w x y : List ℕ) →
 part_classes k b n from to past w x y le le' e f all =
     subst (λ (l : List Block). AllOf k l) (ap (classes b n) e ∙ classes_part b n from to w le ∙ sym (classes_part b n from past w le') ∙ sym (ap (classes b n) f)) all
 
--- the first blocks of the window, and those behind them
-pub more_taken : (b d n from past : ℕ) (g : List Block) (w x now : List ℕ) (s : Placer) → from ≡ d * b → from + n * b ≤ past → x ≡ slice_range w from past → Placed b ((g ++ classes b d w) ++ classes b n x) now s → Placed b (g ++ classes b (d + n) w) now s
-more_taken b d n from past g w x now s at le e p =
-    let z : (g ++ classes b d w) ++ classes b n x ≡ g ++ classes b (d + n) w =
-    append_assoc g (classes b d w) (classes b n x) ∙ ap (λ (l : List Block). g ++ l) (ap (λ (l : List Block). classes b d w ++ l) (ap (classes b n) e ∙ classes_part b n from past w le ∙ ap (λ (m : ℕ). classes b n (drop m w)) at) ∙ classes_joined b d n w) in
-    subst (λ (l : List Block). Placed b l now s) z p
-
 -- ---- the first and the last
 
-pub first_laid : (tells : Bool) (x : List ℕ) (b at r : ℕ) (old now : List ℕ) (s : Placer) → at ≡ length old → now ≡ old ++ replicate 28 0 → s ≡ record { front = at; most = r; chunks = 0; blocks = 0; kind = kinds.End; count = 0 } → Laid tells x b now s
-first_laid tells x b at r old now s place e f = rw f (record {
-  blocks = [];
-  placed = record {
-    before = old;
-    done = [];
-    front = sym place;
-    stands = e ∙ sym (append-nil (old ++ (replicate 28 0 ++ [])));
-    bytes = λ t good. refl;
-    chunks = λ t good. (let z : length (chunks_of r t) ≡ 0 + length (chunks_of r t) = omega arith in z);
-    all = refl;
-    count = refl;
-    good = tt;
-  };
-  told = λ t. refl;
-})
-
--- the image's header is still zeros
-pub zeros_stand : (tells : Bool) (x : List ℕ) (b : ℕ) (now : List ℕ) (s : Placer) → Laid tells x b now s → take 28 (drop s.front now) ≡ replicate 28 0
-zeros_stand tells x b now s l =
-    let p = l.placed in
-    let e : now ≡ p.before ++ (replicate 28 0 ++ (p.done ++ open_bytes s.kind (drop s.blocks l.blocks))) =
-    p.stands ∙ append_assoc p.before (replicate 28 0 ++ p.done) (open_bytes s.kind (drop s.blocks l.blocks)) ∙ ap (λ (y : List ℕ). p.before ++ y) (append_assoc (replicate 28 0) p.done (open_bytes s.kind (drop s.blocks l.blocks))) in
-    ap (take 28) (ap (λ (n : ℕ). drop n now) (sym p.front) ∙ ap (drop (length p.before)) e ∙ drop-append_seam p.before (replicate 28 0 ++ (p.done ++ open_bytes s.kind (drop s.blocks l.blocks))))
-
--- the next blocks of the source
-pub on_laid : (tells : Bool) (x : List ℕ) (b len blocks want room n : ℕ) (now now' w : List ℕ) (s s' : Placer) → 4 ≤ b → len ≤ blocks * b → blocks * b < len + b → s.blocks + s.count + n ≤ blocks → s'.blocks + s'.count ≡ s.blocks + s.count + n
-    → (l : Laid tells x b now s) → Placed b (l.blocks ++ classes b n w) now' s' → room ≡ n * b
-    → (IsTrue tells → (len ≡ length x) × ((s.blocks + s.count) * b ≤ len) × (want ≡ min (len - (s.blocks + s.count) * b) room) × (slice_range w 0 room ≡ take want (drop ((s.blocks + s.count) * b) x) ++ replicate (room - want) 0)) → Laid tells x b now' s'
-on_laid tells x b len blocks want room n now now' w s s' some covers last within passed l p wide read = record {
-  blocks = l.blocks ++ classes b n w;
-  placed = p;
-  told = λ t.
-      let h = read t in
-      let i = s.blocks + s.count in
-      let c = raw_count len blocks b x some covers last h.0 in
-      let part : take n (drop i (classify b x)) ≡ classes b n (take want (drop (i * b) x) ++ replicate (n * b - want) 0) =
-      raw_part b i n n blocks want x c within (omega arith) (omega (arith, h.0, h.1)) (omega (arith, h.0, covers)) (omega (arith, h.0, h.2, wide)) in
-      let mine : classes b n w ≡ take n (drop i (classify b x)) =
-      sym (classes_part b n 0 room w (omega (arith, wide))) ∙ ap (classes b n) (h.3 ∙ ap (λ (m : ℕ). take want (drop (i * b) x) ++ replicate (m - want) 0) wide) ∙ sym part in
-      ap (λ (y : List Block). y ++ classes b n w) (l.told t) ∙ ap (λ (y : List Block). take i (classify b x) ++ y) mine ∙ sym (take-add i n (classify b x)) ∙ ap (λ (m : ℕ). take m (classify b x)) (sym passed);
-}
-
 -- behind the last block, with the header laid, the whole image stands
-pub whole_laid : (tells : Bool) (x : List ℕ) (b len n : ℕ) (now now' : List ℕ) (s s' : Placer) → 4 ≤ b → len ≤ n * b → n * b < len + b → (IsTrue tells → len ≡ length x) → SoundPlacer b (length now) s → Laid tells x b now s → s.blocks + s.count ≡ n → s' ≡ closed s
-    → now' ≡ put_at (closing s b now) s.front (header_record (plain_header b (closed s).blocks (closed s).chunks)) → Whole tells x b n s.most s'.chunks (take s.front now) now'
-whole_laid tells x b len n now now' s s' some covers last known sound l all e f =
-    let p = l.placed in
-    let g = l.blocks in
-    let c = shut_all b g now s sound p in
-    let t = closed s in
-    let r = s.most in
-    let count : length g ≡ n = p.count ∙ all in
-    let bytes : bytes_of r g ≡ c.done = ap (bytes_of r) (sym (append-nil g)) ∙ c.bytes [] tt (λ on. inl tt) ∙ append-nil c.done in
-    let chunks : length (chunks_of r g) ≡ t.chunks = ap (λ (y : List Block). length (chunks_of r y)) (sym (append-nil g)) ∙ c.chunks [] tt (λ on. inl tt) ∙ (let z : t.chunks + 0 ≡ t.chunks = omega arith in z) in
-    let head = header_record (plain_header b t.blocks t.chunks) in
-    let laid : now' ≡ p.before ++ (head ++ c.done) = f ∙ ap (λ (m : ℕ). put_at (closing s b now) m head) (sym p.front) ∙ ap (λ (y : List ℕ). put_at y (length p.before) head) c.stands ∙ put_seam p.before (replicate 28 0) head c.done (header_long b t.blocks t.chunks) in
-    let rest = (replicate 28 0 ++ p.done) ++ open_bytes s.kind (drop s.blocks g) in
-    let same : p.before ≡ take s.front now = sym (ap (λ (m : ℕ). take m now) (sym p.front) ∙ ap (take (length p.before)) (p.stands ∙ append_assoc p.before (replicate 28 0 ++ p.done) (open_bytes s.kind (drop s.blocks g))) ∙ take-append_seam p.before rest) in
-    record {
-      blocks = g;
-      good = p.good;
-      count = count;
-      chunks_are = ap (λ (y : Placer). y.chunks) e ∙ sym chunks;
-      stands = laid ∙ ap (λ (y : List ℕ). p.before ++ (head ++ y)) (sym bytes) ∙ ap (λ (y : List ℕ). p.before ++ y) (sym (header_first b r g b t.blocks t.chunks refl c.blocks (sym chunks))) ∙ ap (λ (y : List ℕ). y ++ spelling b r g) same;
-      told = λ y. l.told y ∙ take_all (s.blocks + s.count) (classify b x) (let z = raw_long len n b x some covers last (known y) in omega (arith, z, all));
-    }
-
--- the same of any blocks that were taken
 pub placed_whole : (b : ℕ) (g : List Block) (now now' : List ℕ) (s s' : Placer) → SoundPlacer b (length now) s → Placed b g now s → s' ≡ closed s → now' ≡ put_at (closing s b now) s.front (header_record (plain_header b (closed s).blocks (closed s).chunks))
     → (now' ≡ take s.front now ++ spelling b s.most g) × (s'.chunks ≡ length (chunks_of s.most g))
 placed_whole b g now now' s s' sound p e f =

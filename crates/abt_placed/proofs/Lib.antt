@@ -3,7 +3,6 @@ pub mod Numbers
 pub mod Laying
 pub mod Refusing
 pub mod Costs
-pub mod Images
 pub mod Segments
 pub mod Sourced
 pub mod Spending
@@ -11,4 +10,5 @@ pub mod Uncut
 pub mod Pieces
 pub mod Rooms
 pub mod Within
+pub mod Onward
 pub mod Parts

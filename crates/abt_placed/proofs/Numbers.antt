@@ -1,5 +1,5 @@
 -- The numbers of a placer that takes blocks.
-use Rattle.std.proofs.Common.{inl, inr, mul-le-mul_left, ◌≡◌, ℕ, ◌+◌, ◌-◌, ◌*◌, ◌<◌, ◌≤◌, nat_lt, Bool, true, false, List, [], ◌++◌, length, refl, sym, ap, ◌∙◌, arith, length-append, ◌&&◌, if◌then◌else◌}
+use Rattle.std.proofs.Common.{inl, inr, mul-le-mul_left, ◌≡◌, ℕ, ◌+◌, ◌-◌, ◌*◌, ◌<◌, ◌≤◌, nat_lt, Bool, true, false, List, [], ◌++◌, length, refl, sym, ap, ◌∙◌, arith, append-nil, subst, length-append, ◌&&◌, if◌then◌else◌}
 use Rattle.std.proofs.lemmas.Bool.{cases_Bool, ltb-true, ltb-false}
 use Rattle.std.proofs.Common.{Result, Ok, Err, OnOk, replicate}
 use Rattle.abt_io.specs.declared.device.DeviceFault.{DeviceFault}
@@ -39,14 +39,14 @@ closing_long kinds.Raw s b w le =
 closing_long (kinds.Fill v) s b w le = omega (arith, length-append w (front_bytes (kinds.Fill v) s.count 16))
 closing_long kinds.Skip s b w le = omega (arith, length-append w (front_bytes kinds.Skip s.count 12))
 
-open_room : (k : RunKind) (q b : ℕ) (x : List ℕ) → length x ≡ q * b → open_len k q b ≡ length (kept_for k) + length (data_for k x)
-open_room kinds.Raw q b x e = omega (arith, e)
+open_room : (k : RunKind) (q b : ℕ) (x : List ℕ) → (k ≡ kinds.Raw → length x ≡ q * b) → open_len k q b ≡ length (kept_for k) + length (data_for k x)
+open_room kinds.Raw q b x e = let z = e refl in omega (arith, z)
 open_room (kinds.Fill v) q b x e = refl
 open_room kinds.Skip q b x e = refl
 open_room kinds.End q b x e = refl
 
-open_more : (k : RunKind) (p q b : ℕ) (x : List ℕ) → length x ≡ q * b → open_len k (p + q) b ≡ open_len k p b + length (data_for k x)
-open_more kinds.Raw p q b x e = let d : (p + q) * b ≡ p * b + q * b = omega arith in omega (arith, e, d)
+open_more : (k : RunKind) (p q b : ℕ) (x : List ℕ) → (k ≡ kinds.Raw → length x ≡ q * b) → open_len k (p + q) b ≡ open_len k p b + length (data_for k x)
+open_more kinds.Raw p q b x e = let z = e refl in let d : (p + q) * b ≡ p * b + q * b = omega arith in omega (arith, z, d)
 open_more (kinds.Fill v) p q b x e = refl
 open_more kinds.Skip p q b x e = refl
 open_more kinds.End p q b x e = refl
@@ -81,7 +81,7 @@ room_most s q le = elim (cases_Bool (nat_lt s.count s.most)) [
 sums : (x y z b : ℕ) → x + y ≡ z → z * (b + 16) ≡ x * (b + 16) + y * (b + 16)
 sums x y z b e = ap (λ (n : ℕ). n * (b + 16)) (sym e) ∙ (let d : (x + y) * (b + 16) ≡ x * (b + 16) + y * (b + 16) = omega arith in d)
 
-sound_as : (t : Bool) (b q : ℕ) (w x : List ℕ) (s : Placer) (k : RunKind) → goes_on s k ≡ t → 0 < q → is_end k ≡ false → q ≤ room_of s → length x ≡ q * b
+sound_as : (t : Bool) (b q : ℕ) (w x : List ℕ) (s : Placer) (k : RunKind) → goes_on s k ≡ t → 0 < q → is_end k ≡ false → (k ≡ kinds.Raw → q ≤ room_of s) → (k ≡ kinds.Raw → length x ≡ q * b)
     → length (if t then w else closing s b w ++ kept_for k) + open_len s.kind s.count b ≤ length w + s.count * (b + 16) + length (kept_for k) → SoundPlacer b (length w) s
     → let s' = if t then longer s q else begun (closed s) k q in SoundPlacer b (length ((if t then w else closing s b w ++ kept_for k) ++ data_for k x)) s'
 sound_as true b q w x s k e some on cap long wide h =
@@ -92,7 +92,7 @@ sound_as true b q w x s k e some on cap long wide h =
       chunks = h.chunks;
       none = λ z. absurd (let z' : is_end k ≡ true = rw (sym g.same) z in cc);
       some = λ z. omega (arith, some);
-      raw = λ z. room_left s q (g.room (sym g.same ∙ z)) cap;
+      raw = λ z. room_left s q (g.room (sym g.same ∙ z)) (cap (sym g.same ∙ z));
       room = omega (arith, m, l, h.room);
       few = omega (arith, m, l, h.few);
       most = h.most;
@@ -110,7 +110,7 @@ sound_as false b q w x s k e some on cap long wide h =
       chunks = c.chunks;
       none = λ z. absurd cc;
       some = λ z. some;
-      raw = λ z. rw c.most (room_most s q cap);
+      raw = λ z. rw c.most (room_most s q (cap z));
       room = rw c.front (omega (arith, a, o, l, h.room));
       few = rw c.front (omega (arith, o, l, l1, d, wide, h.few));
       most = rw c.most h.most;
@@ -119,7 +119,7 @@ sound_as false b q w x s k e some on cap long wide h =
 
 pub sound_taken : (b q : ℕ) (w w1 w' x : List ℕ) (s s' : Placer) (k : RunKind) → 0 < q → is_end k ≡ false → q ≤ room_of s → length x ≡ q * b → length w1 + open_len s.kind s.count b ≤ length w + s.count * (b + 16) + length (kept_for k) → SoundPlacer b (length w) s
     → s' ≡ with_part s k q → w1 ≡ beginning s k b w → w' ≡ w1 ++ data_for k x → SoundPlacer b (length w') s'
-sound_taken b q w w1 w' x s s' k some on cap long wide h e f g = rw (e, g, f) (sound_as (goes_on s k) b q w x s k refl some on cap long (rw f at wide) h)
+sound_taken b q w w1 w' x s s' k some on cap long wide h e f g = rw (e, g, f) (sound_as (goes_on s k) b q w x s k refl some on (λ _. cap) (λ _. long) (rw f at wide) h)
 
 -- so many blocks of those in the window
 pub blocks_fit : (d c n b : ℕ) → d + c ≤ n → n * b ≤ 65536 → d * b + c * b ≤ 65536
@@ -144,38 +144,6 @@ begins_raw (Ok y) s k b w mid new is other e h =
     h ∙ ap (λ (l : List ℕ). l ++ replicate 12 0) e ∙ ap (λ (j : RunKind). closing s b w ++ kept_for j) (sym is) ∙ sym z
 begins_raw (Err f) s k b w mid new is other e h = tt
 
--- with skipped blocks more, raw or not
-skip_sound_as : (t : Bool) (b q : ℕ) (w : List ℕ) (s : Placer) → goes_on s kinds.Skip ≡ t → 0 < q → length (if t then w else closing s b w ++ []) + open_len s.kind s.count b ≤ length w + s.count * (b + 16) + 0 → SoundPlacer b (length w) s
-    → SoundPlacer b (length (if t then w else closing s b w ++ [])) (if t then longer s q else begun (closed s) kinds.Skip q)
-skip_sound_as true b q w s e some wide h =
-    let g = goes s kinds.Skip e in
-    let o : open_len s.kind s.count b ≡ 0 = ap (λ (k : RunKind). open_len k s.count b) g.same in
-    let p : open_len s.kind (s.count + q) b ≡ 0 = ap (λ (k : RunKind). open_len k (s.count + q) b) g.same in
-    record {
-      chunks = h.chunks;
-      none = λ z. absurd (let z' : true ≡ is_end kinds.Skip = sym z ∙ ap is_end g.same in cc);
-      some = λ z. omega (arith, some);
-      raw = λ z. absurd (let z' : kinds.Skip ≡ kinds.Raw = sym g.same ∙ z in cc);
-      room = omega (arith, h.room, o, p);
-      few = omega (arith, h.few, o, p);
-      most = h.most;
-      small = h.small;
-    }
-skip_sound_as false b q w s e some wide h =
-    let c = closed_numbers s.kind s h.chunks h.none h.some in
-    let a : length w ≤ length (closing s b w) = closing_long s.kind s b w (omega (arith, h.room)) in
-    let l = length-append (closing s b w) [] in
-    let d = sums s.blocks s.count (closed s).blocks b (sym c.blocks) in
-    record {
-      chunks = c.chunks;
-      none = λ z. absurd cc;
-      some = λ z. some;
-      raw = λ z. absurd cc;
-      room = rw c.front (omega (arith, a, l, h.room));
-      few = rw c.front (omega (arith, l, d, wide, h.few));
-      most = rw c.most h.most;
-      small = rw c.most h.small;
-    }
-
+-- with skipped blocks more
 pub sound_skipped : (b q : ℕ) (w w' : List ℕ) (s s' : Placer) → 0 < q → length w' + open_len s.kind s.count b ≤ length w + s.count * (b + 16) + 0 → SoundPlacer b (length w) s → s' ≡ with_part s kinds.Skip q → w' ≡ beginning s kinds.Skip b w → SoundPlacer b (length w') s'
-sound_skipped b q w w' s s' some wide h e f = rw (e, f) (skip_sound_as (goes_on s kinds.Skip) b q w s refl some (rw f at wide) h)
+sound_skipped b q w w' s s' some wide h e f = rw (e, f) (subst (λ (l : List ℕ). SoundPlacer b (length l) (with_part s kinds.Skip q)) (append-nil (beginning s kinds.Skip b w)) (sound_as (goes_on s kinds.Skip) b q w [] s kinds.Skip refl some refl (λ raw. absurd cc) (λ raw. absurd cc) (rw f at wide) h))

@@ -1,7 +1,7 @@
 -- The numbers of a part that is taken, or of which a write fails.
-use Rattle.std.proofs.Common.{◌≡◌, ℕ, ◌+◌, ◌*◌, ◌<◌, ◌≤◌, true, false, List, length, refl, arith, mul-le-mul_right}
+use Rattle.std.proofs.Common.{◌≡◌, ℕ, ◌+◌, ◌*◌, ◌<◌, ◌≤◌, true, false, List, length, refl, ap, arith, mul-le-mul_right}
 use Rattle.std.proofs.Common.{Bool, Result, Ok, Err, OnErr, ◌^◌, if◌then◌else◌}
-use Rattle.std.specs.Prelude.{IfErr, IsErrOf}
+use Rattle.std.specs.Prelude.{IfErr}
 use Rattle.abt_io.specs.Count.{full_in, full_of}
 use Rattle.abt_io.specs.declared.device.DeviceFault.{DeviceFault}
 use Rattle.abt_io.specs.declared.device.DeviceFault.TheVariants.{Failed, Full}
@@ -20,14 +20,14 @@ data_long (kinds.Fill w) q b x e = refl
 data_long kinds.Skip q b x e = refl
 data_long kinds.End q b x e = refl
 
-one_part : (k : RunKind) (q b : ℕ) (x : List ℕ) → length x ≡ q * b → 0 < q → length (kept_for k) + length (data_for k x) ≤ q * (b + 16)
-one_part kinds.Raw q b x e some = let d : q * (b + 16) ≡ q * b + 16 * q = omega arith in let z : length (kept_for kinds.Raw) ≡ 12 = refl in omega (arith, d, e, some, z)
+one_part : (k : RunKind) (q b : ℕ) (x : List ℕ) → (k ≡ kinds.Raw → length x ≡ q * b) → 0 < q → length (kept_for k) + length (data_for k x) ≤ q * (b + 16)
+one_part kinds.Raw q b x e some = let d : q * (b + 16) ≡ q * b + 16 * q = omega arith in let z : length (kept_for kinds.Raw) ≡ 12 = refl in let l = e refl in omega (arith, d, l, some, z)
 one_part (kinds.Fill w) q b x e some = omega arith
 one_part kinds.Skip q b x e some = omega arith
 one_part kinds.End q b x e some = omega arith
 
 -- with a chunk begun, and with its bytes
-pub begun_within : (b q long long' long'' : ℕ) (x : List ℕ) (s : Placer) (k : RunKind) → SoundPlacer b long s → length x ≡ q * b → 0 < q → long' + open_len s.kind s.count b ≤ long + s.count * (b + 16) + length (kept_for k)
+pub begun_within : (b q long long' long'' : ℕ) (x : List ℕ) (s : Placer) (k : RunKind) → SoundPlacer b long s → (k ≡ kinds.Raw → length x ≡ q * b) → 0 < q → long' + open_len s.kind s.count b ≤ long + s.count * (b + 16) + length (kept_for k)
     → long'' ≤ long' + length (data_for k x) → long'' ≤ s.front + 28 + (s.blocks + s.count + q) * (b + 16)
 begun_within b q long long' long'' x s k h e some wide more =
     let o = one_part k q b x e some in
@@ -78,11 +78,9 @@ pub full_once : (f : DeviceFault) → full_in f ≤ 1
 full_once Failed = omega arith
 full_once Full = omega arith
 
+pub full_as : {X : Type 0} (res : Result X DeviceFault) (f : DeviceFault) → res ≡ Err f → full_of res ≡ full_in f
+full_as res f is = ap full_of is
+
 -- the last chunk made whole
 pub closed_within : (b p q front part long long' : ℕ) → long' + part ≤ long + q * (b + 16) → long ≤ front + 28 + p * (b + 16) + part → long' ≤ front + 28 + (p + q) * (b + 16)
 closed_within b p q front part long long' wide few = let d : (p + q) * (b + 16) ≡ p * (b + 16) + q * (b + 16) = omega arith in omega (arith, d, wide, few)
-
--- the same fault in another answer
-pub same_fault : {X Y : Type 0} (f : DeviceFault) → IsErrOf {T = X} {E = DeviceFault} (Err f) Full → IsErrOf {T = Y} {E = DeviceFault} (Err f) Full
-same_fault Failed h = absurd cc
-same_fault Full h = refl

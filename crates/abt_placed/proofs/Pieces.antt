@@ -1,6 +1,7 @@
 -- A piece that is laid in one pass, whole.
-use Rattle.std.proofs.Common.{inl, inr, ◌⊎◌, ◌≡◌, ℕ, zero, suc, ◌+◌, ◌-◌, ◌*◌, ◌%◌, ◌^◌, ◌<◌, ◌≤◌, Bool, IsTrue, List, [], ◌∷◌, ◌++◌, length, take, drop, map, replicate, refl, sym, ap, subst, ◌∙◌, arith, append-nil, length-append, Result, Ok, Err, OnOk}
-use Rattle.std.proofs.lemmas.List.{length-map, length-take-le, length-drop}
+use Rattle.std.proofs.Common.{inl, inr, ◌⊎◌, ◌≡◌, ℕ, zero, suc, ◌+◌, ◌-◌, ◌*◌, ◌%◌, ◌^◌, ◌<◌, ◌≤◌, nat_lt, Bool, IsTrue, List, [], ◌∷◌, ◌++◌, length, take, drop, map, replicate, refl, sym, ap, subst, ◌∙◌, arith, append-nil, length-append, Result, Ok, Err, OnOk}
+use Rattle.std.proofs.lemmas.List.{length-take-le, length-drop, take_all}
+use Rattle.std.proofs.lemmas.Bool.{cases_Bool, ltb-true, ltb-false}
 use Rattle.std.proofs.Math.Seq.{take-append_seam, drop-append_seam}
 use Rattle.std.specs.List.{flat_map, AllByRecursion}
 use Rattle.abt_io.specs.Moment.{put_at}
@@ -9,7 +10,7 @@ use Rattle.abt_sparse.specs.Chunk.{header_record, plain_header, plain, chunk_of_
 use Rattle.abt_sparse.specs.Fails.{Spells}
 use Rattle.abt_sparse.specs.Runs.{framed, runs, weight}
 use Rattle.abt_sparse.proofs.Lengths.{piece_le}
-use Rattle.abt_sparse.proofs.Spelling.{piece_spells}
+use Rattle.abt_sparse.proofs.Spelling.{reads_back}
 use Rattle.abt_runs.specs.RawLaws.{raw_long}
 use Rattle.abt_pieces.specs.Contents.{written_in}
 use Rattle.abt_pieces.specs.Gather.{frame}
@@ -22,14 +23,14 @@ use Rattle.abt_pieces.proofs.Planning.{first_piece}
 use Rattle.abt_placed.specs.Placer.{SoundPlacer, closed, closing}
 use Rattle.abt_placed.specs.Placed.{Placed, skips}
 use Rattle.abt_placed.specs.Whole.{taken}
-use Rattle.abt_placed.specs.Segment.{SoundSegment, LaidSegment, ToldSegment, EndedSegment, IsHeld}
+use Rattle.abt_placed.specs.Segment.{SoundSegment, IsUncut, LaidSegment, ToldSegment, EndedSegment, IsHeld}
 use Rattle.abt_placed.specs.Piece.{LaidPiece, WholePiece}
 use Rattle.abt_placed.specs.declared.placer.Placer.{Placer}
 use Rattle.abt_placed.specs.declared.segment.Segment.{Segment}
 use Rattle.abt_placed.specs.Unfinished.{IsUnfinished, IsNoImage, KeepsFront}
 use Rattle.abt_placed.proofs.Refusing.{refused, keeps_less, zeros_kept}
 use Rattle.abt_placed.proofs.Laying.{placed_whole}
-use Rattle.abt_placed.proofs.Uncut.{uncut, uncut_spelling, uncut_count}
+use Rattle.abt_placed.proofs.Uncut.{uncut}
 
 -- ---- the end of a piece
 
@@ -50,29 +51,24 @@ blocks_of_segment b first g h good = middle (skips first) (front (skips first ++
     middle [] y = y
     middle (x ∷ xs) y = middle xs y.1
 
-pub end_laid : (b n k : ℕ) (g : List Block) (now mid new : List ℕ) (s : Segment) (p t : Placer) → SoundSegment b (length now) s → LaidSegment b g now s → taken s.placer + k ≡ n → SoundPlacer b (length mid) p → Placed b ((skips s.first ++ g) ++ skips k) mid p → p.blocks + p.count ≡ taken s.placer + k → p.most ≡ s.placer.most → p.front ≡ s.placer.front
-    → take s.placer.front mid ≡ take s.placer.front now → t ≡ closed p → new ≡ put_at (closing p b mid) p.front (header_record (plain_header b (closed p).blocks (closed p).chunks)) → LaidPiece b n t.chunks (framed s.first g (n - taken s.placer)) (take s.placer.front now) new
-end_laid b n k g now mid new s p t h l whole sound placed passed most front before is laid =
+pub end_laid : (b n k : ℕ) (g : List Block) (now mid new : List ℕ) (s : Segment) (p t : Placer) → taken s.placer + k ≡ n → SoundPlacer b (length mid) p → Placed b ((skips s.first ++ g) ++ skips k) mid p → p.blocks + p.count ≡ taken s.placer + k → p.most ≡ s.placer.most → p.front ≡ s.placer.front
+    → take s.placer.front mid ≡ take s.placer.front now → t ≡ closed p → new ≡ put_at (closing p b mid) p.front (header_record (plain_header b (closed p).blocks (closed p).chunks)) → LaidPiece b n s.placer.most t.chunks (framed s.first g (n - taken s.placer)) (take s.placer.front now) new
+end_laid b n k g now mid new s p t whole sound placed passed most front before is laid =
     let f = (skips s.first ++ g) ++ skips k in
-    let r = s.placer.most in
     let y = placed_whole b f mid new p t sound placed is laid in
-    let fits = piece_le b g s.first k (blocks_of_segment b s.first g (skips k) placed.good) in
-    let bytes = flat_map plain (map chunk_of_run (runs f)) in
-    let long : length (piece b f) ≡ 28 + length bytes = length-append (header_record (plain_header b (length f) (length (map chunk_of_run (runs f))))) bytes in
-    let u = uncut b r f placed.good (omega (arith, fits, long, l.heavy, h.room, h.uncut)) in
     let e : k ≡ n - taken s.placer = omega (arith, whole) in
-    subst (λ (m : ℕ). LaidPiece b n t.chunks (framed s.first g m) (take s.placer.front now) new) e (record {
+    subst (λ (m : ℕ). LaidPiece b n s.placer.most t.chunks (framed s.first g m) (take s.placer.front now) new) e (record {
       good = placed.good;
       count = placed.count ∙ passed ∙ whole;
-      chunks_are = y.1 ∙ ap (λ (m : ℕ). length (chunks_of m f)) most ∙ uncut_count r f u;
-      stands = y.0 ∙ ap (λ (m : ℕ). take m mid ++ spelling b p.most f) front ∙ ap (λ (x : List ℕ). x ++ spelling b p.most f) before ∙ ap (λ (m : ℕ). take s.placer.front now ++ spelling b m f) most ∙ ap (λ (x : List ℕ). take s.placer.front now ++ x) (uncut_spelling b r f u);
+      chunks_are = y.1 ∙ ap (λ (m : ℕ). length (chunks_of m f)) most;
+      stands = y.0 ∙ ap (λ (m : ℕ). take m mid ++ spelling b p.most f) front ∙ ap (λ (x : List ℕ). x ++ spelling b p.most f) before ∙ ap (λ (m : ℕ). take s.placer.front now ++ spelling b m f) most;
     })
 
 -- ---- a whole piece
 
-pub whole_piece : (tells : Bool) (x : List ℕ) (b len n limit first past chunks : ℕ) (old now old' new : List ℕ) (s : Segment) → 4 ≤ b → len ≤ n * b → n * b < len + b → (IsTrue tells → len ≡ length x) → SoundSegment b (length now) s → (t : ToldSegment tells x b now s) → EndedSegment tells x b n s → s.first ≡ first → taken s.placer ≡ past → s.limit ≡ limit → past ≤ n
-    → old' ≡ old → LaidPiece b n chunks (framed s.first t.blocks (n - taken s.placer)) old' new → WholePiece tells x b n limit first past chunks old new
-whole_piece tells x b len n limit first past chunks old now old' new s four covers last known h t e at to most within same l = rw (← at, ← to, ← most) (record {
+pub whole_piece : (tells : Bool) (x : List ℕ) (b len n limit r first past chunks : ℕ) (old now old' new : List ℕ) (s : Segment) → 4 ≤ b → len ≤ n * b → n * b < len + b → (IsTrue tells → len ≡ length x) → SoundSegment b (length now) s → (t : ToldSegment tells x b now s) → EndedSegment tells x b n s → s.first ≡ first → taken s.placer ≡ past → s.limit ≡ limit → past ≤ n
+    → old' ≡ old → LaidPiece b n r chunks (framed s.first t.blocks (n - taken s.placer)) old' new → WholePiece tells x b n limit r first past chunks old new
+whole_piece tells x b len n limit r first past chunks old now old' new s four covers last known h t e at to most within same l = rw (← at, ← to, ← most) (record {
   blocks = t.blocks;
   laid = rw same at l;
   held = t.laid.held;
@@ -85,23 +81,34 @@ whole_piece tells x b len n limit first past chunks old now old' new s four cove
 })
 
 -- it reads as an image, whatever the source gave
-pub piece_image : (tells : Bool) (x : List ℕ) (b n limit first past chunks : ℕ) (old new : List ℕ) → (0 < b) × (b % 4 ≡ 0) × (b < 2 ^ 32) → n < 2 ^ 32 → limit < 2 ^ 32 → WholePiece tells x b n limit first past chunks old new → Appended (IsImage b n) old new
-piece_image tells x b n limit first past chunks old new good few small w =
+pub piece_image : (tells : Bool) (x : List ℕ) (b n limit r first past chunks : ℕ) (old new : List ℕ) → (0 < b) × (b % 4 ≡ 0) × (b < 2 ^ 32) → 1 ≤ r → 12 + r * b < 2 ^ 32 → n < 2 ^ 32 → WholePiece tells x b n limit r first past chunks old new → Appended (IsImage b n) old new
+piece_image tells x b n limit r first past chunks old new good some small few w =
     let f = framed first w.blocks (n - past) in
     let l = w.laid in
-    let le = piece_le b w.blocks first (n - past) (blocks_of_segment b first w.blocks (skips (n - past)) l.good) in
-    let p = piece_spells b f [] good l.good (omega (arith, l.count, few)) (omega (arith, le, w.fits, small)) in
-    let cs = map chunk_of_run (runs f) in
-    let q : Spells (piece b f) (plain_header b (length f) (length (runs f))) cs [] = subst (λ (y : List ℕ). Spells y (plain_header b (length f) (length (runs f))) cs []) (append-nil (piece b f)) p in
-    let r : Spells (piece b f) (plain_header b n (length (runs f))) cs [] = subst (λ (m : ℕ). Spells (piece b f) (plain_header b m (length (runs f))) cs []) l.count q in
-    let t : Spells (piece b f) (plain_header b n (length cs)) cs [] = subst (λ (m : ℕ). Spells (piece b f) (plain_header b n m) cs []) (sym (length-map (runs f) chunk_of_run)) r in
-    record { wrote = piece b f; behind = l.stands; is = record { chunks = cs; spelled = t } }
+    let cs = chunks_of r f in
+    let s = (reads_back b r f [] good some small l.good (omega (arith, l.count, few))).0 in
+    let q : Spells (spelling b r f) (plain_header b (length f) (length cs)) cs [] = subst (λ (y : List ℕ). Spells y (plain_header b (length f) (length cs)) cs []) (append-nil (spelling b r f)) s in
+    let t : Spells (spelling b r f) (plain_header b n (length cs)) cs [] = subst (λ (m : ℕ). Spells (spelling b r f) (plain_header b m (length cs)) cs []) l.count q in
+    record { wrote = spelling b r f; behind = l.stands; is = record { chunks = cs; spelled = t } }
 
 -- ---- what it is where the source tells its bytes
 
-pub piece_told : (tells : Bool) (x : List ℕ) (b n limit first past chunks : ℕ) (old new : List ℕ) → IsTrue tells → n ≡ length (classify b x) → WholePiece tells x b n limit first past chunks old new → new ≡ old ++ piece b (frame (classify b x) first past)
-piece_told tells x b n limit first past chunks old new t long w =
-    w.laid.stands ∙ ap (λ (g : List Block). old ++ piece b (framed first g (n - past))) (w.told t).0 ∙ ap (λ (m : ℕ). old ++ piece b (framed first (between (classify b x) first past) (m - past))) long
+-- a whole image
+pub image_blocks : (tells : Bool) (x : List ℕ) (b len n limit r past chunks : ℕ) (old new : List ℕ) → 4 ≤ b → len ≤ n * b → n * b < len + b → (IsTrue tells → len ≡ length x) → IsTrue tells → past ≡ n → (w : WholePiece tells x b n limit r 0 past chunks old new) → framed 0 w.blocks (n - past) ≡ classify b x
+image_blocks tells x b len n limit r past chunks old new some covers last known t all w =
+    let l = classify b x in
+    let none : n - past ≡ 0 = omega (arith, all) in
+    ap (λ (k : ℕ). framed 0 w.blocks k) none ∙ append-nil w.blocks ∙ (w.told t).0 ∙ take_all (past - 0) l (let z = raw_long len n b x some covers last (known t) in omega (arith, z, all))
+
+-- no raw run of a piece is cut
+pub piece_told : (tells : Bool) (x : List ℕ) (b n limit r first past chunks : ℕ) (old new : List ℕ) → IsUncut b limit r → IsTrue tells → n ≡ length (classify b x) → WholePiece tells x b n limit r first past chunks old new → new ≡ old ++ piece b (frame (classify b x) first past)
+piece_told tells x b n limit r first past chunks old new few t long w =
+    let f = framed first w.blocks (n - past) in
+    let le = piece_le b w.blocks first (n - past) (blocks_of_segment b first w.blocks (skips (n - past)) w.laid.good) in
+    let bytes = flat_map plain (map chunk_of_run (runs f)) in
+    let all : length (piece b f) ≡ 28 + length bytes = length-append (header_record (plain_header b (length f) (length (map chunk_of_run (runs f))))) bytes in
+    w.laid.stands ∙ ap (λ (y : List ℕ). old ++ y) (uncut b r f w.laid.good (omega (arith, le, all, w.fits, few)))
+    ∙ ap (λ (g : List Block). old ++ piece b (framed first g (n - past))) (w.told t).0 ∙ ap (λ (m : ℕ). old ++ piece b (framed first (between (classify b x) first past) (m - past))) long
 
 all_held : (g : List Block) → AllByRecursion IsHeld g → written_in g ≡ length g
 all_held [] h = refl
@@ -113,8 +120,8 @@ none_held : (n : ℕ) → written_in (skips n) ≡ 0
 none_held zero = refl
 none_held (suc n) = let z = none_held n in omega (arith, z)
 
-pub piece_held : (tells : Bool) (x : List ℕ) (b n limit first past chunks : ℕ) (old new : List ℕ) → IsTrue tells → n ≡ length (classify b x) → first ≤ past → past ≤ n → WholePiece tells x b n limit first past chunks old new → past - first ≡ written_in (frame (classify b x) first past)
-piece_held tells x b n limit first past chunks old new t long order within w =
+pub piece_held : (tells : Bool) (x : List ℕ) (b n limit r first past chunks : ℕ) (old new : List ℕ) → IsTrue tells → n ≡ length (classify b x) → first ≤ past → past ≤ n → WholePiece tells x b n limit r first past chunks old new → past - first ≡ written_in (frame (classify b x) first past)
+piece_held tells x b n limit r first past chunks old new t long order within w =
     let l = classify b x in
     let g = between l first past in
     let held : AllByRecursion IsHeld g = subst (λ (y : List Block). AllByRecursion IsHeld y) (w.told t).0 w.held in
@@ -124,6 +131,13 @@ piece_held tells x b n limit first past chunks old new t long order within w =
   where
     length-between : (l : List Block) → l ≡ classify b x → length (between l first past) ≡ past - first
     length-between l e = length-take-le (past - first) (drop first l) (omega (arith, length-drop first l, ap length e, long, within, order))
+
+-- a limit that no image reaches cuts none
+pub all_taken : (past n limit : ℕ) → past ≤ n → (past < n → limit < 2 ^ 49) → 2 ^ 49 ≤ limit → past ≡ n
+all_taken past n limit within reached far = elim (cases_Bool (nat_lt past n)) [
+  | inl e ↦ let z = reached (ltb-true past n e) in absurd (omega (arith, z, far))
+  | inr e ↦ let z = ltb-false past n e in omega (arith, z, within)
+]
 
 -- ---- the beginning of a piece
 
@@ -150,15 +164,15 @@ unfinished_at f old new at h = subst (λ (n : ℕ). IsUnfinished (drop n new)) a
 
 -- ---- what is answered
 
-pub piece_exact : (tells : Bool) (x : List ℕ) (b n limit first chunks : ℕ) (old new : List ℕ) (p : Piece) → IsTrue tells → n ≡ length (classify b x) → p.first ≡ first → p.first ≤ p.past → p.past ≤ n → p.written ≡ p.past - p.first → length new ≡ length old + p.bytes → WholePiece tells x b n limit first p.past chunks old new → IsPiece b (classify b x) p
-piece_exact tells x b n limit first chunks old new p t long at order within held bytes w =
+pub piece_exact : (tells : Bool) (x : List ℕ) (b n limit r first chunks : ℕ) (old new : List ℕ) (p : Piece) → IsUncut b limit r → IsTrue tells → n ≡ length (classify b x) → p.first ≡ first → p.first ≤ p.past → p.past ≤ n → p.written ≡ p.past - p.first → length new ≡ length old + p.bytes → WholePiece tells x b n limit r first p.past chunks old new → IsPiece b (classify b x) p
+piece_exact tells x b n limit r first chunks old new p few t long at order within held bytes w =
     let l = classify b x in
-    let q : WholePiece tells x b n limit p.first p.past chunks old new = rw at w in
-    let e = piece_told tells x b n limit p.first p.past chunks old new t long q in
+    let q : WholePiece tells x b n limit r p.first p.past chunks old new = rw at w in
+    let e = piece_told tells x b n limit r p.first p.past chunks old new few t long q in
     record {
       order = order;
       within = omega (arith, within, long);
-      held = held ∙ piece_held tells x b n limit p.first p.past chunks old new t long order within q;
+      held = held ∙ piece_held tells x b n limit r p.first p.past chunks old new t long order within q;
       long = omega (arith, bytes, ap length e, length-append old (piece b (frame l p.first p.past)));
     }
 

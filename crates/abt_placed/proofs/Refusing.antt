@@ -137,9 +137,3 @@ header_laid c mid new h r at is long le e f =
 -- how many bytes each part has
 pub header_parts : (h : List ℕ) → length h ≡ 28 → (length (take 24 (drop 4 h)) ≡ 24) × (length (take 4 h) ≡ 4)
 header_parts h long = (length-take-le 24 (drop 4 h) (omega (arith, long, length-drop 4 h)), length-take-le 4 h (omega (arith, long)))
-
-pub most_of : (w w' n : ℕ) → w' ≤ w + n → n ≡ 24 → w' ≤ w + 28
-most_of w w' n le e = omega (arith, le, e)
-
-pub both_of : (w w' w'' n m : ℕ) → w' ≤ w + n → n ≡ 24 → w'' ≤ w' + m → m ≡ 4 → w'' ≤ w + 28
-both_of w w' w'' n m le e less f = omega (arith, le, e, less, f)

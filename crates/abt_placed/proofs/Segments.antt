@@ -3,6 +3,7 @@ use Rattle.std.proofs.Common.{inl, inr, ◌⊎◌, ◌≡◌, ℕ, ◌+◌, ◌-
 use Rattle.std.proofs.lemmas.Bool.{cases_Bool, ltb-true, ltb-false}
 use Rattle.std.proofs.lemmas.List.{length-map}
 use Rattle.std.proofs.Math.Seq.{take-append_seam, drop-append_seam}
+use Rattle.std.proofs.lemmas.Nat.{le-div}
 use Rattle.std.specs.List.{AllByRecursion, list_all}
 use Rattle.abt_sparse.specs.Block.{Block, Skip, split, class_of}
 use Rattle.abt_sparse.specs.Runs.{weight}
@@ -19,10 +20,12 @@ use Rattle.abt_pieces.specs.declared.segment_tail.Tail.{Tail}
 use Rattle.abt_pieces.specs.declared.segment_tail.Tail.TheVariants as tails
 use Rattle.abt_placed.specs.Placer.{SoundPlacer, goes_on, with_part, longer, begun, closed, closing_len, taking_len}
 use Rattle.abt_placed.specs.Placed.{Placed, classes, skips}
-use Rattle.abt_placed.specs.Segment.{tail_of_open, is_fresh, to_come, SoundSegment, IsHeld, LaidSegment, IsOver}
+use Rattle.abt_placed.specs.Segment.{tail_of_open, is_fresh, to_come, SoundSegment, IsUncut, IsHeld, LaidSegment, IsOver}
+use Rattle.abt_placed.specs.Whole.{taken}
 use Rattle.abt_placed.specs.declared.placer.Placer.{Placer}
 use Rattle.abt_placed.specs.declared.segment.Segment.{Segment}
 use Rattle.abt_placed.proofs.Numbers.{goes}
+use Rattle.abt_placed.proofs.Rooms.{div_some, div_fits}
 use Rattle.abt_placed.proofs.Laying.{classes_more, classes_next}
 use Rattle.std.specs.Prelude.{slice_range}
 
@@ -55,8 +58,8 @@ taking_fits s kinds.End q b e room = absurd cc
 -- ---- the numbers
 
 -- a raw chunk that blocks go on with has room for them
-pub raw_room : (b gain q : ℕ) (s : Segment) (long : ℕ) → SoundSegment b long s → 0 < q → gain ≡ gain_of (tail_of_open s.placer.kind) kinds.Raw q b → gain ≤ s.limit - s.weight → s.placer.kind ≡ kinds.Raw → s.placer.count < s.placer.most
-raw_room b gain q s long h some e fits raw = elim (cases_Bool (nat_lt s.placer.count s.placer.most)) [
+pub raw_room : (b gain q : ℕ) (s : Segment) (long : ℕ) → SoundSegment b long s → IsUncut b s.limit s.placer.most → 0 < q → gain ≡ gain_of (tail_of_open s.placer.kind) kinds.Raw q b → gain ≤ s.limit - s.weight → s.placer.kind ≡ kinds.Raw → s.placer.count < s.placer.most
+raw_room b gain q s long h uncut some e fits raw = elim (cases_Bool (nat_lt s.placer.count s.placer.most)) [
   | inl y ↦ ltb-true s.placer.count s.placer.most y
   | inr y ↦
       let ge = ltb-false s.placer.count s.placer.most y in
@@ -64,8 +67,8 @@ raw_room b gain q s long h some e fits raw = elim (cases_Bool (nat_lt s.placer.c
       let one : 1 * b ≤ q * b = mul-le-mul_right b (let z : 1 ≤ q = omega (arith, some) in z) in
       let m : (s.placer.most + 1) * b ≤ (s.placer.count + 1) * b = mul-le-mul_right b (let z : s.placer.most + 1 ≤ s.placer.count + 1 = omega (arith, ge) in z) in
       let d : (s.placer.count + 1) * b ≡ s.placer.count * b + b = omega arith in
-      let r = h.raw raw in
-      absurd (omega (arith, g, one, m, d, r, fits, h.uncut, h.room))
+      let r = h.raw uncut raw in
+      absurd (omega (arith, g, one, m, d, r, fits, uncut, h.room))
 ]
 
 -- the open chunk of a placer that has taken blocks
@@ -92,37 +95,88 @@ head_some (kinds.Fill w) n = omega arith
 head_some kinds.Skip n = omega arith
 head_some kinds.End n = omega arith
 
+-- no block adds more than its bytes and sixteen
+pub gain_light : (j k : RunKind) (q b : ℕ) → 0 < q → gain_of (tail_of_open j) k q b ≤ q * (b + 16)
+gain_light j k q b some = by_kind k (let d : q * (b + 16) ≡ q * b + 16 * q = omega arith in d)
+  where
+    head_light : (j : RunKind) → head_of (tail_of_open j) ≤ 12
+    head_light kinds.Raw = omega arith
+    head_light (kinds.Fill w) = omega arith
+    head_light kinds.Skip = omega arith
+    head_light kinds.End = omega arith
+
+    fill_light : (j : RunKind) (w : List ℕ) → fill_gain_of (tail_of_open j) w ≤ 16
+    fill_light kinds.Raw w = omega arith
+    fill_light (kinds.Fill v) w = elim (cases_Bool (bytes_eq v w)) [ inl e ↦ rw e (omega arith) | inr e ↦ rw e (omega arith) ]
+    fill_light kinds.Skip w = omega arith
+    fill_light kinds.End w = omega arith
+
+    by_kind : (k : RunKind) → q * (b + 16) ≡ q * b + 16 * q → gain_of (tail_of_open j) k q b ≤ q * (b + 16)
+    by_kind kinds.Raw d = omega (arith, d, head_light j, some)
+    by_kind (kinds.Fill w) d = omega (arith, d, fill_light j w, some)
+    by_kind kinds.Skip d = omega arith
+    by_kind kinds.End d = omega arith
+
+light_on : (b i j first q weight gain : ℕ) → first ≤ i → j ≡ i + q → weight ≤ 52 + (i - first) * (b + 16) → gain ≤ q * (b + 16) → weight + gain ≤ 52 + (j - first) * (b + 16)
+light_on b i j first q weight gain order passed le more =
+    let d : (j - first) * (b + 16) ≡ (i - first) * (b + 16) + q * (b + 16) = ap (λ (n : ℕ). n * (b + 16)) (let z : j - first ≡ (i - first) + q = omega (arith, order, passed) in z) ∙ (let z : ((i - first) + q) * (b + 16) ≡ (i - first) * (b + 16) + q * (b + 16) = omega arith in z) in
+    omega (arith, d, le, more)
+
+-- where blocks have no room, so many weigh more than the limit
+pub reached_by : (b q long : ℕ) (s : Segment) (k : RunKind) → SoundSegment b long s → 0 < q → s.limit - s.weight < gain_of (tail_of_open s.placer.kind) k q b → s.limit < 52 + (taken s.placer + q) * (b + 16)
+reached_by b q long s k h some above =
+    let g = gain_light s.placer.kind k q b some in
+    let d : (taken s.placer + q) * (b + 16) ≡ taken s.placer * (b + 16) + q * (b + 16) = omega arith in
+    let m : (taken s.placer - s.first) * (b + 16) ≤ taken s.placer * (b + 16) = mul-le-mul_right (b + 16) (omega arith) in
+    omega (arith, g, d, m, h.light, above)
+
 pub sound_on : (b q gain : ℕ) (long long' : ℕ) (s : Segment) (t : Placer) (k : RunKind) → SoundSegment b long s → SoundPlacer b long' t → 0 < q → is_fresh k ≡ false → t ≡ with_part s.placer k q → t.blocks + t.count ≡ s.placer.blocks + s.placer.count + q → t.most ≡ s.placer.most → t.front ≡ s.placer.front
     → long' ≤ long + taking_len s.placer k q b → gain ≡ gain_of (tail_of_open s.placer.kind) k q b → gain ≤ s.limit - s.weight → SoundSegment b long' (record { placer = t; first = s.first; weight = s.weight + gain; limit = s.limit })
 sound_on b q gain long long' s t k h p some held is passed most front adds grows fits =
     let n = part_numbers s.placer t k q is in
-    let room : k ≡ kinds.Raw → s.placer.kind ≡ kinds.Raw → s.placer.count < s.placer.most = λ e raw. raw_room b gain q s long h some (rw e at grows) fits raw in
-    let y = taking_fits s.placer k q b held room in
+    let room = λ (u : IsUncut b s.limit s.placer.most) (e : k ≡ kinds.Raw) (raw : s.placer.kind ≡ kinds.Raw). raw_room b gain q s long h u some (rw e at grows) fits raw in
     record {
       placer = p;
       order = omega (arith, h.order, passed);
-      fits = let z : to_come t.kind ≡ to_come k = ap to_come n.kind in omega (arith, z, y, h.fits, adds, grows, front);
+      fits = λ uncut.
+          let y = taking_fits s.placer k q b held (room (rw most at uncut)) in
+          let z : to_come t.kind ≡ to_come k = ap to_come n.kind in
+          let w = h.fits (rw most at uncut) in
+          omega (arith, z, y, w, adds, grows, front);
       least = omega (arith, h.least);
+      light = light_on b (taken s.placer) (t.blocks + t.count) s.first q s.weight gain h.order passed h.light (rw grows (gain_light s.placer.kind k q b some));
       room = omega (arith, h.room, fits);
       granted = h.granted;
-      raw = λ raw.
+      raw = λ uncut raw.
           let e : k ≡ kinds.Raw = sym n.kind ∙ raw in
           let g : gain ≡ head_of (tail_of_open s.placer.kind) + q * b = rw e at grows in
           elim n.count [
             | inl c ↦
-                let r = h.raw (c.0 ∙ e) in
+                let r = h.raw (rw most at uncut) (c.0 ∙ e) in
                 let d : t.count * b ≡ s.placer.count * b + q * b = ap (λ (m : ℕ). m * b) c.1 ∙ (let z : (s.placer.count + q) * b ≡ s.placer.count * b + q * b = omega arith in z) in
                 omega (arith, r, d, g)
             | inr c ↦
                 let d : t.count * b ≡ q * b = ap (λ (m : ℕ). m * b) c.1 in
-                let other : s.placer.kind ≡ kinds.Raw → ⊥ = λ y. absurd (let z : true ≡ false = sym (raw_goes s.placer y (room e y)) ∙ (rw e at c.0) in cc) in
+                let other : s.placer.kind ≡ kinds.Raw → ⊥ = λ y. absurd (let z : true ≡ false = sym (raw_goes s.placer y (room (rw most at uncut) e y)) ∙ (rw e at c.0) in cc) in
                 let hd = head_some s.placer.kind other in
                 omega (arith, d, g, hd, h.least)
           ];
       fresh = λ f. absurd (let z : true ≡ false = sym f ∙ ap is_fresh n.kind ∙ held in cc);
       some = λ f. omega (arith, h.order, passed, some);
-      uncut = rw most h.uncut;
     }
+
+-- where there is less room, no more blocks may be taken
+pub cap_less : (t : Tail) (r room b : ℕ) → 0 < b → r ≤ room → cap_of t r b ≤ cap_of t room b
+cap_less t r room b some le =
+    let x = r - head_of t in
+    let y = room - head_of t in
+    elim (cases_Bool (nat_lt x b)) [
+      | inl e ↦ elim (cases_Bool (nat_lt y b)) [ inl f ↦ rw (e, f) (omega arith) | inr f ↦ rw (e, f) (div_some y b some (ltb-false y b f)) ]
+      | inr e ↦ elim (cases_Bool (nat_lt y b)) [
+        | inl f ↦ let z = ltb-false x b e in let w = ltb-true y b f in absurd (omega (arith, z, w, le))
+        | inr f ↦ rw (e, f) (le-div (x / b) y b some (let z = div_fits x b in omega (arith, z, le)))
+      ]
+    ]
 
 -- a segment without blocks has room for one
 pub first_fits : (b q : ℕ) (s : Segment) (long : ℕ) (k : RunKind) → 4 ≤ b → SoundSegment b long s → is_fresh s.placer.kind ≡ true → 0 < q → q ≤ cap_of (tail_of_open s.placer.kind) (s.limit - s.weight) b → gain_of (tail_of_open s.placer.kind) k q b ≤ s.limit - s.weight

@@ -1,5 +1,5 @@
 -- The blocks of a segment, as the source tells them.
-use Rattle.std.proofs.Common.{◌≡◌, ℕ, zero, suc, ◌+◌, ◌-◌, ◌*◌, ◌<◌, ◌≤◌, Bool, true, false, IsTrue, length-drop, List, ◌∷◌, ◌++◌, length, take, drop, replicate, min, refl, sym, ap, subst, ◌∙◌, arith, mul-le-mul_right}
+use Rattle.std.proofs.Common.{◌≡◌, ℕ, zero, suc, ◌+◌, ◌-◌, ◌*◌, ◌^◌, ◌<◌, ◌≤◌, Bool, true, false, IsTrue, length-drop, List, ◌∷◌, ◌++◌, length, take, drop, replicate, min, refl, sym, ap, subst, ◌∙◌, arith, mul-le-mul_right}
 use Rattle.std.specs.Prelude.{slice_range}
 use Rattle.std.proofs.lemmas.List.{drop-drop, drop-take}
 use Rattle.abt_sparse.specs.Block.{Block, classify}
@@ -65,10 +65,11 @@ no_more_than true x y a all short = let z = short refl in omega (arith, z)
 no_more_than false x y a all short = let z = all refl in omega (arith, z)
 
 -- the segment ends before a block that has no room
-pub ended_on : (tells : Bool) (x : List ℕ) (b len n a j want room : ℕ) (now now' w : List ℕ) (s s' : Segment) → 4 ≤ b → len ≤ n * b → n * b < len + b → taken s.placer + a ≤ n → j < a → taken s'.placer ≡ taken s.placer + j → s'.first ≡ s.first → s'.limit ≡ s.limit → s.first ≤ taken s.placer → s.first < taken s'.placer → room ≡ a * b
+pub ended_on : (tells : Bool) (x : List ℕ) (b len n a j want room : ℕ) (now now' w : List ℕ) (s s' : Segment) → 4 ≤ b → len ≤ n * b → n * b < len + b → taken s.placer + a ≤ n → j < a → taken s'.placer ≡ taken s.placer + j → s'.first ≡ s.first → s'.limit ≡ s.limit → s.first ≤ taken s.placer → s.first < taken s'.placer → s.limit < 2 ^ 49 → room ≡ a * b
     → (t : ToldSegment tells x b now s) → LaidSegment b (t.blocks ++ classes b j w) now' s' → (IsTrue tells → Loaded b len (taken s.placer) want room x w) → IsOver s.limit b (t.blocks ++ classes b j w) (drop j (classes b a w)) → EndedSegment tells x b n s'
-ended_on tells x b len n a j want room now now' w s s' some covers last within few passed same cap order more wide t laid read o = record {
+ended_on tells x b len n a j want room now now' w s s' some covers last within few passed same cap order more reached wide t laid read o = record {
   moves = λ _. rw same more;
+  reached = λ _. rw cap reached;
   over = λ y.
       let g = t.blocks ++ classes b j w in
       let l = classify b x in
@@ -83,6 +84,7 @@ ended_on tells x b len n a j want room now now' w s s' some covers last within f
 pub none_over : (tells : Bool) (x : List ℕ) (b len n : ℕ) (s : Segment) → 4 ≤ b → len ≤ n * b → n * b < len + b → (IsTrue tells → len ≡ length x) → taken s.placer ≡ n → EndedSegment tells x b n s
 none_over tells x b len n s some covers last known all = record {
   moves = λ less. absurd (omega (arith, less, all));
+  reached = λ less. absurd (omega (arith, less, all));
   over = λ t y more e. absurd (let l = raw_long len n b x some covers last (known t) in let z : length (drop (taken s.placer) (classify b x)) ≡ suc (length more) = ap length e in omega (arith, z, l, all, length-drop (taken s.placer) (classify b x)));
 }
 
@@ -97,5 +99,6 @@ same_told tells x x' b now s e h = record {
 pub same_ended : (tells : Bool) (x x' : List ℕ) (b n : ℕ) (s : Segment) → (IsTrue tells → x ≡ x') → EndedSegment tells x b n s → EndedSegment tells x' b n s
 same_ended tells x x' b n s e h = record {
   moves = h.moves;
+  reached = h.reached;
   over = λ t. subst (λ (y : List ℕ). IsOver s.limit b (between (classify b y) s.first (taken s.placer)) (drop (taken s.placer) (classify b y))) (e t) (h.over t);
 }

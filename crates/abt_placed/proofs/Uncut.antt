@@ -1,11 +1,11 @@
 -- A piece has no raw run that is cut.
 use Rattle.std.proofs.Common.{inl, inr, ◌≡◌, ℕ, ◌+◌, ◌*◌, ◌<◌, ◌≤◌, nat_lt, List, [], ◌∷◌, ◌++◌, length, take, drop, map, refl, ap, ◌∙◌, arith, length-append, mul-le-mul_right}
 use Rattle.std.proofs.lemmas.Bool.{cases_Bool, ltb-true, ltb-false}
-use Rattle.std.proofs.lemmas.List.{take_all, drop_all, length-map}
+use Rattle.std.proofs.lemmas.List.{take_all, drop_all}
 use Rattle.std.specs.List.{flat_map, AllByRecursion}
 use Rattle.abt_sparse.specs.Block.{Block, Raw, Fill, Skip, AreBlocks}
 use Rattle.abt_sparse.specs.Runs.{runs, joined, IsRun}
-use Rattle.abt_sparse.specs.Chunk.{Chunk, Raws, Fills, Skips, Crc, IsChunk, count, data_of, plain, kind, chunk_of_run, in_rs, cut_run, chunks_of, image_of, spelling, piece}
+use Rattle.abt_sparse.specs.Chunk.{Chunk, Raws, Fills, Skips, Crc, IsChunk, count, data_of, plain, kind, chunk_of_run, in_rs, cut_run, image_of, spelling, piece}
 use Rattle.abt_sparse.specs.declared.kind.ChunkKind.TheVariants as codes
 use Rattle.abt_sparse.proofs.AreAll.{AreBlocks-parts}
 use Rattle.abt_sparse.proofs.ChunkLaws.{length-concat}
@@ -57,11 +57,5 @@ uncut_runs b r (g ∷ gs) h good few =
     ap (λ (l : List Chunk). l ++ flat_map (λ k. cut_run r (chunk_of_run k)) gs) one ∙ ap (λ (l : List Chunk). c ∷ l) rest
 
 -- an image that is short enough is its piece
-pub uncut : (b r : ℕ) (f : List Block) → AreBlocks b f → length (flat_map plain (map chunk_of_run (runs f))) < 12 + (r + 1) * b → chunks_of r f ≡ map chunk_of_run (runs f)
-uncut b r f good few = uncut_runs b r (runs f) (each-runs f) (rw (joined-runs f) good) few
-
-pub uncut_spelling : (b r : ℕ) (f : List Block) → chunks_of r f ≡ map chunk_of_run (runs f) → spelling b r f ≡ piece b f
-uncut_spelling b r f e = ap (image_of b (length f)) e
-
-pub uncut_count : (r : ℕ) (f : List Block) → chunks_of r f ≡ map chunk_of_run (runs f) → length (chunks_of r f) ≡ length (runs f)
-uncut_count r f e = ap length e ∙ length-map (runs f) chunk_of_run
+pub uncut : (b r : ℕ) (f : List Block) → AreBlocks b f → length (flat_map plain (map chunk_of_run (runs f))) < 12 + (r + 1) * b → spelling b r f ≡ piece b f
+uncut b r f good few = ap (image_of b (length f)) (uncut_runs b r (runs f) (each-runs f) (rw (joined-runs f) good) few)

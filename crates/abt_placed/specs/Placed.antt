@@ -1,6 +1,6 @@
 -- What a placer has laid of the blocks that it has taken.
-use Rattle.std.specs.Prelude.{◌≡◌, ℕ, ◌+◌, Bool, IsTrue, List, ◌++◌, length, take, drop, map, replicate}
-use Rattle.abt_sparse.specs.Block.{Block, Skip, AreBlocks, class_of, split, classify}
+use Rattle.std.specs.Prelude.{◌≡◌, ℕ, ◌+◌, List, ◌++◌, length, drop, map, replicate}
+use Rattle.abt_sparse.specs.Block.{Block, Skip, AreBlocks, class_of, split}
 use Rattle.abt_sparse.specs.Chunk.{chunks_of}
 use Rattle.abt_runs.specs.Part.{AllOf, raw_of}
 use Rattle.abt_runs.specs.declared.part.RunKind.{RunKind}
@@ -35,9 +35,3 @@ pub record Placed (b : ℕ) (g : List Block) (now : List ℕ) (s : Placer) : Typ
   pub all : AllOf s.kind (drop s.blocks g)
   pub count : length g ≡ s.blocks + s.count
   pub good : AreBlocks b g
-
--- some blocks are laid so, and where the source tells its bytes x they are the first of x
-pub record Laid (tells : Bool) (x : List ℕ) (b : ℕ) (now : List ℕ) (s : Placer) : Type 0 where
-  pub blocks : List Block
-  pub placed : Placed b blocks now s
-  pub told : IsTrue tells → blocks ≡ take (s.blocks + s.count) (classify b x)

@@ -1,5 +1,6 @@
 -- The segment of a piece that is laid in one pass: its numbers, and what stands of it.
-use Rattle.std.specs.Prelude.{◌≡◌, ℕ, ◌+◌, ◌*◌, ◌≤◌, ◌<◌, Bool, true, false, IsTrue, List, [], ◌∷◌, ◌++◌, drop, ⊤}
+use Rattle.std.specs.Prelude.{◌≡◌, ℕ, ◌+◌, ◌-◌, ◌*◌, ◌^◌, ◌≤◌, ◌<◌, Bool, true, false, IsTrue, List, [], ◌∷◌, ◌++◌, drop}
+use Rattle.std.specs.Prelude.{⊤}
 use Rattle.std.specs.List.{AllByRecursion}
 use Rattle.abt_sparse.specs.Block.{Block, Raw, Fill, Skip, classify}
 use Rattle.abt_sparse.specs.Runs.{weight}
@@ -36,18 +37,23 @@ to_come (kinds.Fill w) = 28
 to_come kinds.Skip = 24
 to_come kinds.End = 24
 
--- the numbers of a segment of blocks of b bytes, where `long` bytes are written, whatever the source gave
+-- no raw run within the limit has more blocks than a raw chunk may have
+abbrev pub IsUncut : ℕ → ℕ → ℕ → Type 0
+IsUncut b limit most = limit < 12 + (most + 1) * b
+
+-- The numbers of a segment of blocks of b bytes, where `long` bytes are written, whatever the source gave. Where no raw
+-- run is cut, no more is written than it weighs.
 pub record SoundSegment (b long : ℕ) (s : Segment) : Type 0 where
   pub placer : SoundPlacer b long s.placer
   pub order : s.first ≤ taken s.placer
-  pub fits : long + to_come s.placer.kind ≤ s.placer.front + s.weight
+  pub fits : IsUncut b s.limit s.placer.most → long + to_come s.placer.kind ≤ s.placer.front + s.weight
   pub least : 52 ≤ s.weight
+  pub light : s.weight ≤ 52 + (taken s.placer - s.first) * (b + 16)
   pub room : s.weight ≤ s.limit
   pub granted : 64 + b ≤ s.limit
-  pub raw : s.placer.kind ≡ kinds.Raw → 64 + s.placer.count * b ≤ s.weight
+  pub raw : IsUncut b s.limit s.placer.most → s.placer.kind ≡ kinds.Raw → 64 + s.placer.count * b ≤ s.weight
   pub fresh : is_fresh s.placer.kind ≡ true → s.weight ≡ 52
   pub some : is_fresh s.placer.kind ≡ false → s.first < taken s.placer
-  pub uncut : s.limit < 12 + (s.placer.most + 1) * b
 
 -- a block that counts
 abbrev pub IsHeld : Block → Type 0
@@ -72,8 +78,10 @@ pub record ToldSegment (tells : Bool) (x : List ℕ) (b : ℕ) (now : List ℕ) 
 abbrev pub IsOver : ℕ → ℕ → List Block → List Block → Type 0
 IsOver limit b g rest = (x : Block) (more : List Block) → rest ≡ x ∷ more → limit < weight b (g ++ x ∷ [])
 
--- The segment goes no further: of n blocks all are taken, or one more would be beyond the limit.
+-- The segment goes no further: of n blocks all are taken, or one more would be beyond the limit, which then is one that
+-- an image can reach.
 pub record EndedSegment (tells : Bool) (x : List ℕ) (b n : ℕ) (s : Segment) : Type 0 where
   pub moves : taken s.placer < n → s.first < taken s.placer
+  pub reached : taken s.placer < n → s.limit < 2 ^ 49
   pub over : IsTrue tells
       → IsOver s.limit b (between (classify b x) s.first (taken s.placer)) (drop (taken s.placer) (classify b x))

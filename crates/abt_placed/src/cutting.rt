@@ -1,5 +1,5 @@
 //! Cutting a raw image into pieces, each in one pass over its segment.
-ghost use Rattle.std.specs.Prelude.{◌≡◌, ◌<◌, ◌≤◌, ◌+◌, ◌-◌, ◌*◌, IsTrue, IfOk, IfErr, IfSome, IfNone};
+ghost use Rattle.std.specs.Prelude.{◌≡◌, ◌<◌, ◌≤◌, ◌+◌, ◌-◌, ◌*◌, ◌^◌, IsTrue, IfOk, IfErr, IfSome, IfNone};
 ghost use Rattle.std.specs.Prelude.{OnOk, OnErr, Err, length, take, drop, max, false, ◌⊎◌};
 ghost use Rattle.abt_sparse.specs.Block.{classify};
 ghost use Rattle.abt_runs.specs.Raw.{RawPlace};
@@ -11,56 +11,71 @@ ghost use Rattle.abt_placed.specs.Piece.{WholePiece};
 ghost use Rattle.abt_pieces.specs.Calls.{Costs, Failing, devices};
 ghost use Rattle.abt_placed.specs.Calls.{Grows};
 ghost use Rattle.abt_pieces.specs.NextPiece.{IsNext, LaidNext, SameCutter};
+ghost use Rattle.abt_placed.specs.Segment.{IsUncut};
 ghost use Rattle.abt_placed.specs.Unfinished.{IsUnfinished};
 ghost use Rattle.abt_placed.specs.Whole.{read_of};
 
-use crate::segment::Segment;
+use crate::segment::{Segment, most_raw};
 use abt_io::{Meter, Overwrite, Source, Window, write_out};
 use abt_pieces::{Cutter, Outline, Piece, PieceFault, Stage};
 use abt_runs::{Cursor, RawRuns};
 
-/// Lays the piece of what begins at a block, behind what stands in the output.
-fn lay_piece<S: Source, O: Overwrite>(
+/// Lays the piece of what begins at a block, behind what stands in the output: no raw chunk has more than
+/// `most` blocks. A limit of `u64::MAX` is none, and the piece goes up to the last block.
+pub(crate) fn lay_piece<S: Source, O: Overwrite>(
     runs: &RawRuns,
     source: &mut S,
     first: u32,
-    limit: u32,
+    most: u32,
+    limit: u64,
     output: &mut O,
     w: &mut Window,
     m: &mut Meter,
 ) -> Result<Outline, PieceFault>
     requires within { first ≤ runs.now.blocks }
+    requires some { 0 < most }
+    requires small { 12 + most * runs.now.size < 2 ^ 32 }
     requires limit { 64 + runs.now.size ≤ limit }
     requires opened { IsTrue S.tells → runs.now.length ≡ length (S.content source.old) }
     ensures content { IsTrue S.tells → S.content source.new ≡ S.content source.old }
     ensures frame { S.read_frame source.new ≡ S.read_frame source.old }
     ensures write_frame { O.write_frame output.new ≡ O.write_frame output.old }
-    ensures sound { IfOk result (λ o. SoundOutline (λ c. RawPlace runs.now.blocks runs.now.size c) runs.now.blocks limit
-        first o) }
+    ensures sound { IsUncut runs.now.size limit most → IfOk result (λ o. SoundOutline
+        (λ c. RawPlace runs.now.blocks runs.now.size c) runs.now.blocks limit first o) }
+    ensures reached { 2 ^ 49 ≤ limit → IfOk result (λ o. o.piece.past ≡ runs.now.blocks) }
     ensures next { IfOk result (λ o. RawPlace runs.now.blocks runs.now.size o.next) }
     ensures written { IfOk result (λ o. o.piece.written ≡ o.piece.past - o.piece.first) }
     ensures bytes { IfOk result (λ o. length (O.written output.new)
         ≡ length (O.written output.old) + o.piece.bytes) }
     ensures whole { IfOk result (λ o. WholePiece S.tells (S.content source.old) runs.now.size runs.now.blocks limit
-        first
-        o.piece.past o.chunks (O.written output.old) (O.written output.new)) }
+        most first o.piece.past o.chunks (O.written output.old) (O.written output.new)) }
     ensures before { take (length (O.written output.old)) (O.written output.new) ≡ O.written output.old }
     ensures unfinished { OnErr result ((O.written output.new ≡ O.written output.old) ⊎
         IsUnfinished (drop (length (O.written output.old)) (O.written output.new))) }
-    ensures long { length (O.written output.new) + full_cut result ≤ length (O.written output.old) + limit }
+    ensures within { length (O.written output.new)
+        ≤ length (O.written output.old) + (28 + runs.now.blocks * (runs.now.size + 16)) }
+    ensures long { IsUncut runs.now.size limit most →
+        length (O.written output.new) + full_cut result ≤ length (O.written output.old) + limit }
+    ensures takes { IsUncut runs.now.size limit most → IfOk result (λ o. o.piece.bytes
+        ≤ (o.piece.past - o.piece.first) * (runs.now.size + 16) + 80) }
     ensures grown { length (O.written output.old) ≤ length (O.written output.new) }
     ensures given { S.given source.old ≤ S.given source.new }
     ensures received { S.given source.new + 65536 * m.old.steps.number
         ≤ S.given source.old + 65536 * m.new.steps.number }
     ensures economy { S.given source.new + read_of runs.now.length runs.now.size first
         ≤ S.given source.old + runs.now.length }
+    ensures least { IfOk result (λ o. S.given source.old + read_of runs.now.length runs.now.size o.piece.past
+        ≤ S.given source.new + read_of runs.now.length runs.now.size first) }
     ensures last { IfOk result (λ o. S.given source.new + read_of runs.now.length runs.now.size first
         ≤ S.given source.old + read_of runs.now.length runs.now.size o.piece.past + 65536) }
     ensures calls { S.reads source.new + O.writes output.new + length (O.written output.old)
         ≤ S.reads source.old + O.writes output.old + length (O.written output.new) + 6 * (S.given source.new - S.given
-        source.old) + 4 * runs.now.size + 70 }
+        source.old) + 100 }
     ensures turns { m.new.turns.number + length (O.written output.old) ≤ m.old.turns.number + length
-        (O.written output.new) + 8 * (S.given source.new - S.given source.old) + 5 * runs.now.size + 70 }
+        (O.written output.new) + 8 * (S.given source.new - S.given source.old) + runs.now.size + 100 }
+    ensures going_turns { IfOk result (λ o. o.piece.past < runs.now.blocks → m.new.turns.number + length
+        (O.written output.old) ≤ m.old.turns.number + length (O.written output.new) + 8 * (S.given source.new - S.given
+        source.old) + 100) }
     ensures greatest { m.new.greatest.number ≤ max m.old.greatest.number 65536 }
     ensures faults { S.read_faults source.old ≤ S.read_faults source.new }
     ensures write_faults { O.write_faults output.old ≤ O.write_faults output.new }
@@ -76,7 +91,7 @@ fn lay_piece<S: Source, O: Overwrite>(
         Ok(()) => {}
         Err(fault) => return Err(PieceFault::Write(fault)),
     }
-    let mut segment = Segment::begin(front, first, limit, runs.size);
+    let mut segment = Segment::begin(front, first, most, limit);
     match segment.take_source(runs, source, output, w, m) {
         Ok(()) => {}
         Err(fault) => return Err(fault),
@@ -157,6 +172,16 @@ pub fn next_piece_at<S: Source, O: Overwrite>(
     // What it costs, and what has failed.
     ensures costs { Costs cutter.old.runs.size (devices S.Source O.Output source.old output.old)
         (devices S.Source O.Output source.new output.new) m.old m.new }
+    ensures takes { IfOk result (λ o. IfSome o (λ p. p.bytes
+        ≤ (p.past - p.first) * (cutter.old.runs.size + 16) + 80)) }
+    ensures calls { S.reads source.new + O.writes output.new + length (O.written output.old)
+        ≤ S.reads source.old + O.writes output.old + length (O.written output.new) + 6 * (S.given source.new - S.given
+        source.old) + 100 }
+    ensures turns { m.new.turns.number + length (O.written output.old) ≤ m.old.turns.number + length
+        (O.written output.new) + 8 * (S.given source.new - S.given source.old) + cutter.old.runs.size + 100 }
+    ensures going_turns { IfOk result (λ o. IfSome o (λ p. p.past < cutter.old.runs.blocks → m.new.turns.number + length
+        (O.written output.old) ≤ m.old.turns.number + length (O.written output.new) + 8 * (S.given source.new - S.given
+        source.old) + 100)) }
     ensures economy { S.given source.new + read_of cutter.old.runs.length cutter.old.runs.size cutter.old.start.block
         ≤ S.given source.old + cutter.old.runs.length }
     ensures once { IfOk result (λ o. IfSome o (λ p. S.given source.new + read_of cutter.old.runs.length
@@ -178,7 +203,17 @@ pub fn next_piece_at<S: Source, O: Overwrite>(
         Stage::Between | Stage::Plan(_) | Stage::Begin(_) | Stage::Write(_, _) => {}
     }
     let first = cutter.start.block;
-    match lay_piece(&cutter.runs, source, first, cutter.limit, output, w, m) {
+    let most = most_raw(cutter.limit, cutter.runs.size);
+    match lay_piece(
+        &cutter.runs,
+        source,
+        first,
+        most,
+        cutter.limit as u64,
+        output,
+        w,
+        m,
+    ) {
         Ok(outline) => Ok(Some(cutter.pass(outline))),
         Err(fault) => Err(cutter.fail(fault)),
     }

@@ -1,12 +1,18 @@
 //! Headers that are laid when what they tell is known.
-ghost use Rattle.std.specs.Prelude.{◌≡◌, ◌<◌, ◌≤◌, ◌+◌, ◌%◌, ◌^◌, OnOk, OnErr, IfErr, length, drop, take, replicate};
+ghost use Rattle.std.specs.Prelude.{◌≡◌, ◌<◌, ◌≤◌, ◌+◌, ◌*◌, ◌%◌, ◌^◌, IsTrue, OnOk, OnErr, IfErr, IsErrOf, length, drop};
+ghost use Rattle.std.specs.Prelude.{take, replicate, false};
+ghost use Rattle.abt_io.specs.Count.{full_of};
 ghost use Rattle.abt_io.specs.Moment.{put_at};
 ghost use Rattle.abt_sparse.specs.Chunk.{header_record, plain_header};
 ghost use Rattle.abt_pieces.specs.Write.{front_bytes};
-ghost use Rattle.abt_placed.specs.Unfinished.{IsUnfinished};
+ghost use Rattle.abt_runs.specs.Part.{is_end};
+ghost use Rattle.abt_placed.specs.Placer.{SoundPlacer, open_len, closed, closing, closing_len};
+ghost use Rattle.abt_placed.specs.Calls.{Writes, stand};
+ghost use Rattle.abt_placed.specs.Unfinished.{IsUnfinished, KeepsFront};
 
+use crate::placer::Placer;
 use abt_io::{DeviceFault, Meter, Overwrite, write_over_all};
-use abt_pieces::{chunk_front, image_header};
+use abt_pieces::{chunk_front, image_header, write_front};
 use abt_runs::RunKind;
 
 /// Lays the header of a raw chunk over the place that was kept for it.
@@ -23,16 +29,8 @@ pub fn lay_front<O: Overwrite>(
         (front_bytes RunKind.Raw blocks total)) }
     ensures before { take at (O.written output.new) ≡ take at (O.written output.old) }
     ensures long { length (O.written output.new) ≡ length (O.written output.old) }
-    ensures frame { O.write_frame output.new ≡ O.write_frame output.old }
-    ensures faults { O.write_faults output.old ≤ O.write_faults output.new }
-    ensures clean { OnOk result (O.write_faults output.new ≡ O.write_faults output.old) }
-    ensures full_faults { O.full_faults output.new ≡ O.full_faults output.old }
     ensures failed { IfErr result (λ e. e ≡ DeviceFault.Failed) }
-    ensures cause { OnErr result (O.write_faults output.old < O.write_faults output.new) }
-    ensures calls { O.writes output.new ≤ O.writes output.old + 12 }
-    ensures turns { m.new.turns.number ≤ m.old.turns.number + 12 }
-    ensures steps { m.new.steps.number ≡ m.old.steps.number }
-    ensures greatest { m.new.greatest.number ≡ m.old.greatest.number }
+    ensures writes { Writes result 12 12 (stand O.Output output.old m.old) (stand O.Output output.new m.new) }
 {
     let bytes = chunk_front(RunKind::Raw, blocks, total);
     write_over_all(output, at, &bytes[..12], m)
@@ -58,16 +56,8 @@ pub fn lay_header<O: Overwrite>(
     ensures before { take at (O.written output.new) ≡ take at (O.written output.old) }
     ensures unfinished { OnErr result (IsUnfinished (drop at (O.written output.new))) }
     ensures long { length (O.written output.new) ≡ length (O.written output.old) }
-    ensures frame { O.write_frame output.new ≡ O.write_frame output.old }
-    ensures faults { O.write_faults output.old ≤ O.write_faults output.new }
-    ensures clean { OnOk result (O.write_faults output.new ≡ O.write_faults output.old) }
-    ensures full_faults { O.full_faults output.new ≡ O.full_faults output.old }
     ensures failed { IfErr result (λ e. e ≡ DeviceFault.Failed) }
-    ensures cause { OnErr result (O.write_faults output.old < O.write_faults output.new) }
-    ensures calls { O.writes output.new ≤ O.writes output.old + 28 }
-    ensures turns { m.new.turns.number ≤ m.old.turns.number + 28 }
-    ensures steps { m.new.steps.number ≡ m.old.steps.number }
-    ensures greatest { m.new.greatest.number ≡ m.old.greatest.number }
+    ensures writes { Writes result 28 28 (stand O.Output output.old m.old) (stand O.Output output.new m.new) }
 {
     let bytes = image_header(size, count, chunks);
     match write_over_all(output, at + 4, &bytes[4..], m) {
@@ -77,5 +67,77 @@ pub fn lay_header<O: Overwrite>(
     match write_over_all(output, at, &bytes[..4], m) {
         Ok(()) => Ok(()),
         Err(fault) => Err(fault),
+    }
+}
+
+impl Placer {
+    /// Lays what the open chunk still wants to be whole: a raw chunk's header where its place was
+    /// kept, any other chunk behind what is written.
+    pub(crate) fn close<O: Overwrite>(
+        &self,
+        size: u32,
+        output: &mut O,
+        m: &mut Meter,
+    ) -> Result<(), DeviceFault>
+        requires raw { self.now.kind ≡ RunKind.Raw → self.now.count ≤ self.now.most }
+        requires some { is_end self.now.kind ≡ false → 0 < self.now.count }
+        requires room { self.now.front + 28 + open_len self.now.kind self.now.count size
+            ≤ length (O.written output.old) }
+        requires small { 12 + self.now.most * size < 2 ^ 32 }
+        ensures kept { KeepsFront (self.now.front + 28) (O.written output.old) (O.written output.new) }
+        ensures written { OnOk result (O.written output.new ≡ closing self.now size (O.written output.old)) }
+        ensures writes { Writes result 12 12 (stand O.Output output.old m.old) (stand O.Output output.new m.new) }
+        ensures within { length (O.written output.new) + open_len self.now.kind self.now.count size
+            ≤ length (O.written output.old) + self.now.count * (size + 16) }
+        ensures adds { length (O.written output.new) + full_of result
+            ≤ length (O.written output.old) + closing_len self.now.kind }
+    {
+        match self.kind {
+            RunKind::End => Ok(()),
+            RunKind::Raw => {
+                let total = 12 + self.count * size;
+                let at = output.position() - total as u64;
+                lay_front(output, at, self.count, total, m)
+            }
+            RunKind::Fill(_) => write_front(output, self.kind, self.count, 16, m),
+            RunKind::Skip => write_front(output, self.kind, self.count, 12, m),
+        }
+    }
+
+    /// Makes the last chunk whole, and then the image.
+    pub(crate) fn finish<O: Overwrite>(
+        &mut self,
+        size: u32,
+        output: &mut O,
+        m: &mut Meter,
+    ) -> Result<(), DeviceFault>
+        requires some { 4 ≤ size }
+        requires words { size % 4 ≡ 0 }
+        requires within { self.old.blocks + self.old.count < 2 ^ 32 }
+        requires sound { SoundPlacer size (length (O.written output.old)) self.old }
+        requires zeros { take 28 (drop self.old.front (O.written output.old)) ≡ replicate 28 0 }
+        ensures ok { OnOk result (self.new ≡ closed self.old) }
+        ensures same { (self.new.most ≡ self.old.most) × (self.new.front ≡ self.old.front) }
+        ensures before { take self.old.front (O.written output.new) ≡ take self.old.front (O.written output.old) }
+        ensures laid { OnOk result (O.written output.new ≡ put_at (closing self.old size (O.written output.old))
+            self.old.front (header_record (plain_header size (closed self.old).blocks (closed self.old).chunks))) }
+        ensures unfinished { OnErr result (IsUnfinished (drop self.old.front (O.written output.new))) }
+        ensures writes { Writes result 40 40 (stand O.Output output.old m.old) (stand O.Output output.new m.new) }
+        ensures within { length (O.written output.new)
+            ≤ self.old.front + 28 + (self.old.blocks + self.old.count) * (size + 16) }
+        ensures adds { length (O.written output.new) + full_of result
+            ≤ length (O.written output.old) + closing_len self.old.kind }
+    {
+        match self.close(size, output, m) {
+            Ok(()) => {}
+            Err(fault) => return Err(fault),
+        }
+        let front = self.front;
+        *self = self.and_closed();
+        let _end = output.position();
+        match lay_header(output, front, size, self.blocks, self.chunks, m) {
+            Ok(()) => Ok(()),
+            Err(fault) => Err(fault),
+        }
     }
 }

@@ -1,90 +1,19 @@
 //! Writing a raw image as a sparse one in one pass.
-ghost use Rattle.std.specs.Prelude.{◌≡◌, ℕ, ◌<◌, ◌≤◌, ◌+◌, ◌-◌, ◌*◌, ◌^◌, ◌++◌, IsTrue, IfOk, IfErr, OnOk, OnErr};
-ghost use Rattle.std.specs.Prelude.{Err, length, take, drop, max, ◌⊎◌};
+ghost use Rattle.std.specs.Prelude.{◌≡◌, ℕ, ◌<◌, ◌≤◌, ◌+◌, ◌-◌, ◌*◌, ◌^◌, ◌++◌, IsTrue, IfOk, IfErr, OnOk};
+ghost use Rattle.std.specs.Prelude.{Err, length};
 ghost use Rattle.abt_sparse.specs.Block.{classify};
 ghost use Rattle.abt_sparse.specs.Chunk.{spelling, chunks_of};
-ghost use Rattle.abt_pieces.specs.Fault.{HasCause, full_cut};
+ghost use Rattle.abt_pieces.specs.Fault.{full_cut};
 ghost use Rattle.abt_pieces.specs.Image.{Appended, IsImage};
 ghost use Rattle.abt_sparsify.specs.Sparsify.{SparsifyCause, IsRawSize};
 ghost use Rattle.abt_pieces.specs.Calls.{Costs, Failing, devices};
 ghost use Rattle.abt_placed.specs.Calls.{Grows};
-ghost use Rattle.abt_placed.specs.Unfinished.{IsUnfinished};
-ghost use Rattle.abt_placed.specs.Whole.{Whole};
 
-use crate::placer::Placer;
-use abt_io::{Meter, Overwrite, Source, Window, write_out};
+use crate::cutting::lay_piece;
+use abt_io::{Meter, Overwrite, Source, Window};
 use abt_pieces::{PieceFault, run_fault};
 use abt_runs::RawRuns;
 use abt_sparsify::Written;
-
-/// Lays an opened raw image, behind what stands in the output.
-fn lay_image<S: Source, O: Overwrite>(
-    runs: &RawRuns,
-    source: &mut S,
-    most: u32,
-    output: &mut O,
-    w: &mut Window,
-    m: &mut Meter,
-) -> Result<Written, PieceFault>
-    requires some { 0 < most }
-    requires small { 12 + most * runs.now.size < 2 ^ 32 }
-    requires opened { IsTrue S.tells → runs.now.length ≡ length (S.content source.old) }
-    ensures content { IsTrue S.tells → S.content source.new ≡ S.content source.old }
-    ensures frame { S.read_frame source.new ≡ S.read_frame source.old }
-    ensures write_frame { O.write_frame output.new ≡ O.write_frame output.old }
-    ensures blocks { IfOk result (λ a. a.blocks ≡ runs.now.blocks) }
-    ensures long { IfOk result (λ a. length (O.written output.new) ≡ length (O.written output.old) + a.bytes) }
-    ensures whole { IfOk result (λ a. Whole S.tells (S.content source.old) runs.now.size runs.now.blocks most a.chunks
-        (O.written output.old) (O.written output.new)) }
-    ensures before { take (length (O.written output.old)) (O.written output.new) ≡ O.written output.old }
-    ensures unfinished { OnErr result ((O.written output.new ≡ O.written output.old) ⊎
-        IsUnfinished (drop (length (O.written output.old)) (O.written output.new))) }
-    ensures within { length (O.written output.new)
-        ≤ length (O.written output.old) + (28 + runs.now.blocks * (runs.now.size + 16)) }
-    ensures grown { length (O.written output.old) ≤ length (O.written output.new) }
-    ensures given { S.given source.old ≤ S.given source.new }
-    ensures received { S.given source.new + 65536 * m.old.steps.number
-        ≤ S.given source.old + 65536 * m.new.steps.number }
-    ensures economy { S.given source.new ≤ S.given source.old + runs.now.length }
-    ensures once { OnOk result (S.given source.new ≡ S.given source.old + runs.now.length) }
-    ensures calls { S.reads source.new + O.writes output.new + length (O.written output.old)
-        ≤ S.reads source.old + O.writes output.old + length (O.written output.new) + 6 * (S.given source.new - S.given
-        source.old) + 4 * runs.now.size + 70 }
-    ensures turns { m.new.turns.number + length (O.written output.old) ≤ m.old.turns.number + length
-        (O.written output.new) + 8 * (S.given source.new - S.given source.old) + 5 * runs.now.size + 70 }
-    ensures greatest { m.new.greatest.number ≤ max m.old.greatest.number 65536 }
-    ensures faults { S.read_faults source.old ≤ S.read_faults source.new }
-    ensures write_faults { O.write_faults output.old ≤ O.write_faults output.new }
-    ensures clean { OnOk result ((S.read_faults source.new ≡ S.read_faults source.old) ×
-        (O.write_faults output.new ≡ O.write_faults output.old)) }
-    ensures full_faults { O.full_faults output.new ≡ O.full_faults output.old + full_cut result }
-    ensures full { full_cut result ≡ 1 → IsTrue (O.is_full output.new) }
-    ensures cause { IfErr result (λ e. HasCause e S.tells (S.read_faults source.old) (S.read_faults source.new)
-        (O.write_faults output.old) (O.write_faults output.new)) }
-{
-    let front = output.position();
-    match write_out(output, &[0; 28], m) {
-        Ok(()) => {}
-        Err(fault) => return Err(PieceFault::Write(fault)),
-    }
-    let mut placer = Placer::begin(front, most);
-    loop {
-        match placer.step(runs, source, output, w, m) {
-            Ok(whole) => {
-                if whole {
-                    break;
-                }
-            }
-            Err(fault) => return Err(fault),
-        }
-        m.tick();
-    }
-    Ok(Written {
-        blocks: runs.blocks,
-        chunks: placer.chunks,
-        bytes: output.position() - front,
-    })
-}
 
 /// Writes a raw image as a sparse image, the same bytes as `sparsify` writes, to an output whose
 /// written bytes can be written over: in one pass, that reads each byte of the source once.
@@ -142,5 +71,12 @@ pub fn sparsify_at<S: Source, O: Overwrite>(
         Ok(runs) => runs,
         Err(fault) => return Err(run_fault(fault)),
     };
-    lay_image(&runs, source, most, output, w, m)
+    match lay_piece(&runs, source, 0, most, u64::MAX, output, w, m) {
+        Ok(outline) => Ok(Written {
+            blocks: runs.blocks,
+            chunks: outline.chunks,
+            bytes: outline.piece.bytes,
+        }),
+        Err(fault) => Err(fault),
+    }
 }

@@ -8,13 +8,12 @@
 //!
 //! - `placer`: what is held between two steps, numbers alone;
 //! - `headers`: headers that are laid over the place that was kept;
-//! - `taking`: blocks that are taken, class by class, as they stand in the window;
-//! - `steps`: one step, the next window of the source or the end;
-//! - `image`: a whole image;
-//! - `segment`, `cutting`: the segment of a piece, which takes what fits, and a whole piece.
+//! - `taking`: blocks that are taken, class by class, as they stand in the window, and the end;
+//! - `segment`: the segment of a piece, which takes what fits, one window of the source after another;
+//! - `cutting`: a whole piece;
+//! - `image`: a whole image, which is a piece without a limit.
 //!
-//! `specs/Placed` and `specs/Segment` say what stands at each step, `specs/Whole` and `specs/Piece` what the whole is,
-//! `proofs/` why.
+//! `specs/Placed` and `specs/Segment` say what stands at each step, `specs/Piece` what the whole is, `proofs/` why.
 #![tactic(auto)]
 
 mod cutting;
@@ -22,7 +21,6 @@ mod headers;
 mod image;
 mod placer;
 mod segment;
-mod steps;
 mod taking;
 
 pub use cutting::next_piece_at;

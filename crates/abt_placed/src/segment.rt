@@ -1,5 +1,6 @@
 //! The segment of a piece that is laid in one pass: it takes blocks as long as they fit within the limit.
-ghost use Rattle.std.specs.Prelude.{◌≡◌, ℕ, ◌<◌, ◌≤◌, ◌+◌, ◌-◌, ◌*◌, ◌%◌, ◌^◌, ◌++◌, IsTrue, IfOk, IfErr, OnOk, OnErr};
+ghost use Rattle.std.specs.Prelude.{◌≡◌, ℕ, ◌<◌, ◌≤◌, ◌+◌, ◌-◌, ◌*◌, ◌/◌, ◌%◌, ◌^◌, ◌++◌, IsTrue, IfOk, IfErr, OnOk};
+ghost use Rattle.std.specs.Prelude.{OnErr};
 ghost use Rattle.std.specs.Prelude.{IsErrOf, List, [], length, take, drop, replicate, max, true, false};
 ghost use Rattle.abt_io.specs.Count.{full_of};
 ghost use Rattle.abt_sparse.specs.Block.{Block};
@@ -9,15 +10,15 @@ ghost use Rattle.abt_pieces.specs.Fault.{HasCause, full_cut};
 ghost use Rattle.abt_pieces.specs.Plan.{cap_of, gain_of};
 ghost use Rattle.abt_placed.specs.Placer.{room_of};
 ghost use Rattle.abt_placed.specs.Placed.{classes};
-ghost use Rattle.abt_placed.specs.Whole.{taken, read_of, padding};
-ghost use Rattle.abt_placed.specs.Segment.{SoundSegment, LaidSegment, ToldSegment, EndedSegment, IsOver};
+ghost use Rattle.abt_placed.specs.Whole.{taken, read_of, spare};
+ghost use Rattle.abt_placed.specs.Segment.{SoundSegment, LaidSegment, ToldSegment, EndedSegment, IsOver, IsUncut};
 ghost use Rattle.abt_placed.specs.Segment.{tail_of_open};
 ghost use Rattle.abt_placed.specs.Piece.{LaidPiece};
+ghost use Rattle.abt_placed.specs.Calls.{Writes, stand};
 ghost use Rattle.abt_placed.specs.Unfinished.{IsUnfinished, KeepsFront};
 
 use crate::placer::Placer;
-use crate::steps::in_window;
-use abt_io::{DeviceFault, Meter, Overwrite, Source, Window};
+use abt_io::{DeviceFault, Meter, Overwrite, Source, WINDOW, Window};
 use abt_pieces::{PieceFault, Tail, added, raw_cap, run_fault};
 use abt_runs::{RawRuns, RunKind, leading, load_filled};
 
@@ -30,8 +31,8 @@ pub struct Segment {
     pub first: u32,
     /// What all of it weighs.
     pub weight: u64,
-    /// How many bytes the piece has at most.
-    pub limit: u32,
+    /// How many bytes the piece has at most: `u64::MAX` where that is no limit, and an image is whole.
+    pub limit: u64,
 }
 
 /// How many blocks a raw chunk may have where no piece within the limit has to cut one.
@@ -40,25 +41,34 @@ pub(crate) fn most_raw(limit: u32, size: u32) -> u32
     requires limit { 64 + size ≤ limit }
     ensures some { 0 < result }
     ensures small { 12 + result * size < 2 ^ 32 }
-    ensures uncut { limit < 12 + (result + 1) * size }
+    ensures uncut { IsUncut size limit result }
 {
     (limit - 12) / size
 }
 
+/// How many blocks a window has room for.
+fn in_window(size: u32) -> u32
+    requires some { 4 ≤ size }
+    requires window { size ≤ 65536 }
+    ensures some { 0 < result }
+    ensures fits { result * size ≤ 65536 }
+{
+    WINDOW as u32 / size
+}
+
 impl Segment {
     /// Before its first block, where the place of the piece's header is kept.
-    pub(crate) fn begin(front: u64, first: u32, limit: u32, size: u32) -> Segment
-        requires some { 4 ≤ size }
-        requires limit { 64 + size ≤ limit }
+    pub(crate) fn begin(front: u64, first: u32, most: u32, limit: u64) -> Segment
         ensures first { result.first ≡ first }
+        ensures most { result.placer.most ≡ most }
         ensures limit { result.limit ≡ limit }
         ensures front { result.placer.front ≡ front }
         ensures taken { taken result.placer ≡ first }
-        ensures sound { (long : ℕ) → long ≡ front + 28 → SoundSegment size long result }
-        ensures laid { (old now : List ℕ) → front ≡ length old → now ≡ old ++ replicate 28 0 →
+        ensures sound { (size long : ℕ) → 0 < most → 12 + most * size < 2 ^ 32 → 64 + size ≤ limit →
+            long ≡ front + 28 → SoundSegment size long result }
+        ensures laid { (size : ℕ) (old now : List ℕ) → front ≡ length old → now ≡ old ++ replicate 28 0 →
             LaidSegment size [] now result }
     {
-        let most = most_raw(limit, size);
         let kind = match first {
             0 => RunKind::End,
             _ => RunKind::Skip,
@@ -103,7 +113,7 @@ impl Segment {
         ensures cap { result ≤ cap_of (tail_of_open self.now.placer.kind) (self.now.limit - self.now.weight) size }
         ensures room { result ≤ room_of self.now.placer }
     {
-        let room = self.limit as u64 - self.weight;
+        let room = (self.limit - self.weight).min(u32::MAX as u64);
         raw_cap(&self.tail(), room, size).min(self.placer.room())
     }
 
@@ -138,25 +148,18 @@ impl Segment {
         ensures some { IfOk result (λ d. d ≡ true → self.old.first < taken self.old.placer) }
         ensures over { IfOk result (λ d. d ≡ true → self.old.limit - self.old.weight
             < gain_of (tail_of_open self.old.placer.kind) kind blocks size) }
+        ensures reached { IfOk result (λ d. d ≡ true → self.old.limit
+            < 52 + (taken self.old.placer + blocks) * (size + 16)) }
         ensures same { (self.new.placer.most ≡ self.old.placer.most) × (self.new.placer.front ≡ self.old.placer.front) ×
             (self.new.first ≡ self.old.first) × (self.new.limit ≡ self.old.limit) }
-        ensures grown { length (O.written output.old) ≤ length (O.written output.new) }
-        ensures long { length (O.written output.new) + full_of result ≤ self.old.placer.front + self.old.limit }
-        ensures frame { O.write_frame output.new ≡ O.write_frame output.old }
-        ensures faults { O.write_faults output.old ≤ O.write_faults output.new }
-        ensures clean { OnOk result (O.write_faults output.new ≡ O.write_faults output.old) }
-        ensures full_faults { O.full_faults output.new ≡ O.full_faults output.old + full_of result }
-        ensures full { IsErrOf result DeviceFault.Full → IsTrue (O.is_full output.new) }
-        ensures cause { OnErr result (O.write_faults output.old < O.write_faults output.new) }
-        ensures calls { O.writes output.new + length (O.written output.old) ≤ O.writes output.old + length
-            (O.written output.new) + 14 }
-        ensures turns { m.new.turns.number + length (O.written output.old) ≤ m.old.turns.number + length
-            (O.written output.new) + 14 }
-        ensures steps { m.new.steps.number ≡ m.old.steps.number }
-        ensures greatest { m.new.greatest.number ≡ m.old.greatest.number }
+        ensures writes { Writes result 14 14 (stand O.Output output.old m.old) (stand O.Output output.new m.new) }
+        ensures within { length (O.written output.new)
+            ≤ self.old.placer.front + 28 + (taken self.old.placer + blocks) * (size + 16) }
+        ensures long { IsUncut size self.old.limit self.old.placer.most → length (O.written output.new) + full_of result
+            ≤ self.old.placer.front + self.old.limit }
     {
         let gain = self.gain(kind, blocks, size);
-        if gain > self.limit as u64 - self.weight {
+        if gain > self.limit - self.weight {
             return Ok(true);
         }
         match self.placer.take(kind, blocks, bytes, size, output, m) {
@@ -198,20 +201,15 @@ impl Segment {
             (drop (taken self.new.placer - taken self.old.placer) (classes size blocks w.now.bytes))) }
         ensures same { (self.new.placer.most ≡ self.old.placer.most) × (self.new.placer.front ≡ self.old.placer.front) ×
             (self.new.first ≡ self.old.first) × (self.new.limit ≡ self.old.limit) }
-        ensures grown { length (O.written output.old) ≤ length (O.written output.new) }
-        ensures long { length (O.written output.new) + full_of result ≤ self.old.placer.front + self.old.limit }
-        ensures frame { O.write_frame output.new ≡ O.write_frame output.old }
-        ensures faults { O.write_faults output.old ≤ O.write_faults output.new }
-        ensures clean { OnOk result (O.write_faults output.new ≡ O.write_faults output.old) }
-        ensures full_faults { O.full_faults output.new ≡ O.full_faults output.old + full_of result }
-        ensures full { IsErrOf result DeviceFault.Full → IsTrue (O.is_full output.new) }
-        ensures cause { OnErr result (O.write_faults output.old < O.write_faults output.new) }
-        ensures calls { O.writes output.new + length (O.written output.old) ≤ O.writes output.old + length
-            (O.written output.new) + 4 * (blocks * size) }
-        ensures turns { m.new.turns.number + length (O.written output.old) ≤ m.old.turns.number + length
-            (O.written output.new) + 5 * (blocks * size) }
-        ensures steps { m.new.steps.number ≡ m.old.steps.number }
-        ensures greatest { m.new.greatest.number ≡ m.old.greatest.number }
+        ensures reached { IfOk result (λ d. d ≡ true → self.old.limit
+            < 52 + (taken self.old.placer + blocks) * (size + 16)) }
+        // So much for each block that is looked at, also for one that is filled up with zeros.
+        ensures writes { Writes result (14 * blocks) (blocks * (size / 2 + 17)) (stand O.Output output.old m.old)
+            (stand O.Output output.new m.new) }
+        ensures within { length (O.written output.new)
+            ≤ self.old.placer.front + 28 + (taken self.old.placer + blocks) * (size + 16) }
+        ensures long { IsUncut size self.old.limit self.old.placer.most → length (O.written output.new) + full_of result
+            ≤ self.old.placer.front + self.old.limit }
     {
         let mut done = 0u32;
         while done < blocks {
@@ -261,7 +259,10 @@ impl Segment {
         ensures same { (self.new.placer.most ≡ self.old.placer.most) × (self.new.placer.front ≡ self.old.placer.front) ×
             (self.new.first ≡ self.old.first) × (self.new.limit ≡ self.old.limit) }
         ensures grown { length (O.written output.old) ≤ length (O.written output.new) }
-        ensures long { length (O.written output.new) + full_cut result ≤ self.old.placer.front + self.old.limit }
+        ensures within { length (O.written output.new)
+            ≤ self.old.placer.front + 28 + runs.now.blocks * (runs.now.size + 16) }
+        ensures long { IsUncut runs.now.size self.old.limit self.old.placer.most →
+            length (O.written output.new) + full_cut result ≤ self.old.placer.front + self.old.limit }
         ensures given { S.given source.old ≤ S.given source.new }
         ensures received { S.given source.new + 65536 * m.old.steps.number
             ≤ S.given source.old + 65536 * m.new.steps.number }
@@ -270,24 +271,27 @@ impl Segment {
         ensures once { IfOk result (λ d. d ≡ false → S.given source.new + read_of runs.now.length runs.now.size
             (taken self.old.placer) ≡ S.given source.old + read_of runs.now.length runs.now.size
             (taken self.new.placer)) }
+        ensures least { OnOk result (S.given source.old + read_of runs.now.length runs.now.size (taken self.new.placer)
+            ≤ S.given source.new + read_of runs.now.length runs.now.size (taken self.old.placer)) }
         ensures last { OnOk result (S.given source.new + read_of runs.now.length runs.now.size (taken self.old.placer)
             ≤ S.given source.old + read_of runs.now.length runs.now.size (taken self.new.placer) + 65536) }
         ensures going_calls { IfOk result (λ d. d ≡ false → S.reads source.new + O.writes output.new + length
-            (O.written output.old) + 4 * padding runs.now.length runs.now.size (taken self.old.placer)
-            ≤ S.reads source.old + O.writes output.old + length
-            (O.written output.new) + 6 * (S.given source.new - S.given source.old) + 4 * padding runs.now.length
-            runs.now.size (taken self.new.placer)) }
-        ensures calls { S.reads source.new + O.writes output.new + length (O.written output.old) + 4 * padding
-            runs.now.length runs.now.size (taken self.old.placer) ≤ S.reads source.old + O.writes output.old + length
-            (O.written output.new) + 6 * (S.given source.new - S.given source.old) + 4 * runs.now.size + 1 }
-        ensures going_turns { IfOk result (λ d. d ≡ false →
-            m.new.turns.number + 1 + length (O.written output.old) + 5 * padding runs.now.length runs.now.size
-            (taken self.old.placer) ≤ m.old.turns.number + length (O.written output.new) + 8
-            * (S.given source.new - S.given source.old) + 5 * padding runs.now.length runs.now.size
+            (O.written output.old) + spare 14 runs.now.length runs.now.size (taken self.old.placer)
+            ≤ S.reads source.old + O.writes output.old + length (O.written output.new) + 6
+            * (S.given source.new - S.given source.old) + spare 14 runs.now.length runs.now.size
             (taken self.new.placer)) }
-        ensures turns { m.new.turns.number + length (O.written output.old) + 5 * padding runs.now.length runs.now.size
-            (taken self.old.placer) ≤ m.old.turns.number + length (O.written output.new) + 8
-            * (S.given source.new - S.given source.old) + 5 * runs.now.size + 1 }
+        ensures calls { S.reads source.new + O.writes output.new + length (O.written output.old)
+            + spare 14 runs.now.length runs.now.size (taken self.old.placer)
+            ≤ S.reads source.old + O.writes output.old + length (O.written output.new) + 6
+            * (S.given source.new - S.given source.old) + 14 }
+        ensures going_turns { IfOk result (λ d. d ≡ false → m.new.turns.number + 1 + length (O.written output.old)
+            + spare (runs.now.size + 14) runs.now.length runs.now.size (taken self.old.placer)
+            ≤ m.old.turns.number + length (O.written output.new) + 7 * (S.given source.new - S.given source.old)
+            + spare (runs.now.size + 14) runs.now.length runs.now.size (taken self.new.placer)) }
+        ensures turns { m.new.turns.number + length (O.written output.old)
+            + spare (runs.now.size + 14) runs.now.length runs.now.size (taken self.old.placer)
+            ≤ m.old.turns.number + length (O.written output.new) + 7 * (S.given source.new - S.given source.old)
+            + runs.now.size + 14 }
         ensures greatest { m.new.greatest.number ≤ max m.old.greatest.number 65536 }
         ensures faults { S.read_faults source.old ≤ S.read_faults source.new }
         ensures write_faults { O.write_faults output.old ≤ O.write_faults output.new }
@@ -348,19 +352,25 @@ impl Segment {
         ensures same { (self.new.placer.most ≡ self.old.placer.most) × (self.new.placer.front ≡ self.old.placer.front) ×
             (self.new.first ≡ self.old.first) × (self.new.limit ≡ self.old.limit) }
         ensures grown { length (O.written output.old) ≤ length (O.written output.new) }
-        ensures long { length (O.written output.new) + full_cut result ≤ self.old.placer.front + self.old.limit }
+        ensures within { length (O.written output.new)
+            ≤ self.old.placer.front + 28 + runs.now.blocks * (runs.now.size + 16) }
+        ensures long { IsUncut runs.now.size self.old.limit self.old.placer.most →
+            length (O.written output.new) + full_cut result ≤ self.old.placer.front + self.old.limit }
         ensures given { S.given source.old ≤ S.given source.new }
         ensures received { S.given source.new + 65536 * m.old.steps.number
             ≤ S.given source.old + 65536 * m.new.steps.number }
         ensures economy { S.given source.new + read_of runs.now.length runs.now.size (taken self.old.placer)
             ≤ S.given source.old + runs.now.length }
+        ensures least { OnOk result (S.given source.old + read_of runs.now.length runs.now.size (taken self.new.placer)
+            ≤ S.given source.new + read_of runs.now.length runs.now.size (taken self.old.placer)) }
         ensures last { OnOk result (S.given source.new + read_of runs.now.length runs.now.size (taken self.old.placer)
             ≤ S.given source.old + read_of runs.now.length runs.now.size (taken self.new.placer) + 65536) }
         ensures calls { S.reads source.new + O.writes output.new + length (O.written output.old)
             ≤ S.reads source.old + O.writes output.old + length (O.written output.new) + 6
-            * (S.given source.new - S.given source.old) + 4 * runs.now.size + 1 }
-        ensures turns { m.new.turns.number + length (O.written output.old) ≤ m.old.turns.number + length
-            (O.written output.new) + 8 * (S.given source.new - S.given source.old) + 5 * runs.now.size + 1 }
+            * (S.given source.new - S.given source.old) + 14 }
+        ensures turns { m.new.turns.number + length (O.written output.old)
+            ≤ m.old.turns.number + length (O.written output.new) + 7 * (S.given source.new - S.given source.old)
+            + runs.now.size + 14 }
         ensures greatest { m.new.greatest.number ≤ max m.old.greatest.number 65536 }
         ensures faults { S.read_faults source.old ≤ S.read_faults source.new }
         ensures write_faults { O.write_faults output.old ≤ O.write_faults output.new }
@@ -399,26 +409,16 @@ impl Segment {
         requires sound { SoundSegment size (length (O.written output.old)) self.old }
         requires zeros { take 28 (drop self.old.placer.front (O.written output.old)) ≡ replicate 28 0 }
         ensures laid { (g : List Block) → LaidSegment size g (O.written output.old) self.old →
-            OnOk result (LaidPiece size blocks self.new.placer.chunks
+            OnOk result (LaidPiece size blocks self.old.placer.most self.new.placer.chunks
             (framed self.old.first g (blocks - taken self.old.placer))
             (take self.old.placer.front (O.written output.old)) (O.written output.new)) }
         ensures before { take self.old.placer.front (O.written output.new)
             ≡ take self.old.placer.front (O.written output.old) }
         ensures unfinished { OnErr result (IsUnfinished (drop self.old.placer.front (O.written output.new))) }
-        ensures grown { length (O.written output.old) ≤ length (O.written output.new) }
-        ensures long { length (O.written output.new) + full_of result ≤ self.old.placer.front + self.old.limit }
-        ensures frame { O.write_frame output.new ≡ O.write_frame output.old }
-        ensures faults { O.write_faults output.old ≤ O.write_faults output.new }
-        ensures clean { OnOk result (O.write_faults output.new ≡ O.write_faults output.old) }
-        ensures full_faults { O.full_faults output.new ≡ O.full_faults output.old + full_of result }
-        ensures full { IsErrOf result DeviceFault.Full → IsTrue (O.is_full output.new) }
-        ensures cause { OnErr result (O.write_faults output.old < O.write_faults output.new) }
-        ensures calls { O.writes output.new + length (O.written output.old) ≤ O.writes output.old + length
-            (O.written output.new) + 53 }
-        ensures turns { m.new.turns.number + length (O.written output.old) ≤ m.old.turns.number + length
-            (O.written output.new) + 53 }
-        ensures steps { m.new.steps.number ≡ m.old.steps.number }
-        ensures greatest { m.new.greatest.number ≡ m.old.greatest.number }
+        ensures writes { Writes result 53 53 (stand O.Output output.old m.old) (stand O.Output output.new m.new) }
+        ensures within { length (O.written output.new) ≤ self.old.placer.front + 28 + blocks * (size + 16) }
+        ensures long { IsUncut size self.old.limit self.old.placer.most → length (O.written output.new) + full_of result
+            ≤ self.old.placer.front + self.old.weight }
     {
         let behind = blocks - (self.placer.blocks + self.placer.count);
         match self.placer.skip(behind, size, output, m) {

@@ -3,66 +3,18 @@ ghost use Rattle.std.specs.Prelude.{◌≡◌, ◌<◌, ◌≤◌, ◌+◌, ◌-
 ghost use Rattle.std.specs.Prelude.{length, take, drop, replicate, false};
 ghost use Rattle.abt_io.specs.Count.{full_of};
 ghost use Rattle.abt_sparse.specs.Block.{Block};
-ghost use Rattle.abt_sparse.specs.Chunk.{header_record, plain_header};
-ghost use Rattle.abt_io.specs.Moment.{put_at};
 ghost use Rattle.abt_runs.specs.Part.{AllOf, is_end};
 ghost use Rattle.abt_placed.specs.Placer.{SoundPlacer, open_len, closed, closing, beginning, taking, kept_for};
 ghost use Rattle.abt_placed.specs.Placer.{data_for, with_part, room_of, closing_len, beginning_len, taking_len};
 ghost use Rattle.abt_placed.specs.Placed.{Placed, classes, skips};
+ghost use Rattle.abt_placed.specs.Calls.{Writes, stand};
 ghost use Rattle.abt_placed.specs.Unfinished.{KeepsFront};
 
-use crate::headers::lay_front;
 use crate::placer::Placer;
-use abt_io::{DeviceFault, Meter, Overwrite, Window, write_out};
-use abt_pieces::write_front;
-use abt_runs::{RunKind, leading};
+use abt_io::{DeviceFault, Meter, Overwrite, write_out};
+use abt_runs::RunKind;
 
 impl Placer {
-    /// Lays what the open chunk still wants to be whole: a raw chunk's header where its place was
-    /// kept, any other chunk behind what is written.
-    pub(crate) fn close<O: Overwrite>(
-        &self,
-        size: u32,
-        output: &mut O,
-        m: &mut Meter,
-    ) -> Result<(), DeviceFault>
-        requires raw { self.now.kind ≡ RunKind.Raw → self.now.count ≤ self.now.most }
-        requires some { is_end self.now.kind ≡ false → 0 < self.now.count }
-        requires room { self.now.front + 28 + open_len self.now.kind self.now.count size
-            ≤ length (O.written output.old) }
-        requires small { 12 + self.now.most * size < 2 ^ 32 }
-        ensures kept { KeepsFront (self.now.front + 28) (O.written output.old) (O.written output.new) }
-        ensures written { OnOk result (O.written output.new ≡ closing self.now size (O.written output.old)) }
-        ensures grown { length (O.written output.old) ≤ length (O.written output.new) }
-        ensures within { length (O.written output.new) + open_len self.now.kind self.now.count size
-            ≤ length (O.written output.old) + self.now.count * (size + 16) }
-        ensures adds { length (O.written output.new) + full_of result
-            ≤ length (O.written output.old) + closing_len self.now.kind }
-        ensures frame { O.write_frame output.new ≡ O.write_frame output.old }
-        ensures faults { O.write_faults output.old ≤ O.write_faults output.new }
-        ensures clean { OnOk result (O.write_faults output.new ≡ O.write_faults output.old) }
-        ensures full_faults { O.full_faults output.new ≡ O.full_faults output.old + full_of result }
-        ensures full { IsErrOf result DeviceFault.Full → IsTrue (O.is_full output.new) }
-        ensures cause { OnErr result (O.write_faults output.old < O.write_faults output.new) }
-        ensures calls { O.writes output.new + length (O.written output.old) ≤ O.writes output.old + length
-            (O.written output.new) + 12 }
-        ensures turns { m.new.turns.number + length (O.written output.old) ≤ m.old.turns.number + length
-            (O.written output.new) + 12 }
-        ensures steps { m.new.steps.number ≡ m.old.steps.number }
-        ensures greatest { m.new.greatest.number ≡ m.old.greatest.number }
-    {
-        match self.kind {
-            RunKind::End => Ok(()),
-            RunKind::Raw => {
-                let total = 12 + self.count * size;
-                let at = output.position() - total as u64;
-                lay_front(output, at, self.count, total, m)
-            }
-            RunKind::Fill(_) => write_front(output, self.kind, self.count, 16, m),
-            RunKind::Skip => write_front(output, self.kind, self.count, 12, m),
-        }
-    }
-
     /// Makes the open chunk whole where blocks of this class don't go on with it, and keeps the place
     /// of a raw chunk's header.
     fn begin_chunk<O: Overwrite>(
@@ -79,23 +31,11 @@ impl Placer {
         requires small { 12 + self.now.most * size < 2 ^ 32 }
         ensures kept { KeepsFront (self.now.front + 28) (O.written output.old) (O.written output.new) }
         ensures written { OnOk result (O.written output.new ≡ beginning self.now kind size (O.written output.old)) }
-        ensures grown { length (O.written output.old) ≤ length (O.written output.new) }
+        ensures writes { Writes result 13 13 (stand O.Output output.old m.old) (stand O.Output output.new m.new) }
         ensures within { length (O.written output.new) + open_len self.now.kind self.now.count size
             ≤ length (O.written output.old) + self.now.count * (size + 16) + length (kept_for kind) }
         ensures adds { length (O.written output.new) + full_of result
             ≤ length (O.written output.old) + beginning_len self.now kind }
-        ensures frame { O.write_frame output.new ≡ O.write_frame output.old }
-        ensures faults { O.write_faults output.old ≤ O.write_faults output.new }
-        ensures clean { OnOk result (O.write_faults output.new ≡ O.write_faults output.old) }
-        ensures full_faults { O.full_faults output.new ≡ O.full_faults output.old + full_of result }
-        ensures full { IsErrOf result DeviceFault.Full → IsTrue (O.is_full output.new) }
-        ensures cause { OnErr result (O.write_faults output.old < O.write_faults output.new) }
-        ensures calls { O.writes output.new + length (O.written output.old) ≤ O.writes output.old + length
-            (O.written output.new) + 13 }
-        ensures turns { m.new.turns.number + length (O.written output.old) ≤ m.old.turns.number + length
-            (O.written output.new) + 13 }
-        ensures steps { m.new.steps.number ≡ m.old.steps.number }
-        ensures greatest { m.new.greatest.number ≡ m.old.greatest.number }
     {
         if self.goes_on(kind) {
             return Ok(());
@@ -136,23 +76,11 @@ impl Placer {
             OnOk result (Placed size (g ++ classes size blocks bytes.now) (O.written output.new) self.new) }
         ensures passed { OnOk result (self.new.blocks + self.new.count ≡ self.old.blocks + self.old.count + blocks) }
         ensures same { (self.new.most ≡ self.old.most) × (self.new.front ≡ self.old.front) }
-        ensures grown { length (O.written output.old) ≤ length (O.written output.new) }
+        ensures writes { Writes result 14 14 (stand O.Output output.old m.old) (stand O.Output output.new m.new) }
         ensures within { length (O.written output.new)
             ≤ self.old.front + 28 + (self.old.blocks + self.old.count + blocks) * (size + 16) }
         ensures adds { length (O.written output.new) + full_of result
             ≤ length (O.written output.old) + taking_len self.old kind blocks size }
-        ensures frame { O.write_frame output.new ≡ O.write_frame output.old }
-        ensures faults { O.write_faults output.old ≤ O.write_faults output.new }
-        ensures clean { OnOk result (O.write_faults output.new ≡ O.write_faults output.old) }
-        ensures full_faults { O.full_faults output.new ≡ O.full_faults output.old + full_of result }
-        ensures full { IsErrOf result DeviceFault.Full → IsTrue (O.is_full output.new) }
-        ensures cause { OnErr result (O.write_faults output.old < O.write_faults output.new) }
-        ensures calls { O.writes output.new + length (O.written output.old) ≤ O.writes output.old + length
-            (O.written output.new) + 14 }
-        ensures turns { m.new.turns.number + length (O.written output.old) ≤ m.old.turns.number + length
-            (O.written output.new) + 14 }
-        ensures steps { m.new.steps.number ≡ m.old.steps.number }
-        ensures greatest { m.new.greatest.number ≡ m.old.greatest.number }
     {
         match self.begin_chunk(kind, size, output, m) {
             Ok(()) => {}
@@ -182,23 +110,13 @@ impl Placer {
             OnOk result (Placed size (g ++ skips blocks) (O.written output.new) self.new) }
         ensures passed { OnOk result (self.new.blocks + self.new.count ≡ self.old.blocks + self.old.count + blocks) }
         ensures same { (self.new.most ≡ self.old.most) × (self.new.front ≡ self.old.front) }
-        ensures grown { length (O.written output.old) ≤ length (O.written output.new) }
+        ensures writes { Writes result 13 13 (stand O.Output output.old m.old) (stand O.Output output.new m.new) }
+        ensures within { length (O.written output.new)
+            ≤ self.old.front + 28 + (self.old.blocks + self.old.count + blocks) * (size + 16) }
         ensures adds { length (O.written output.new) + full_of result
             ≤ length (O.written output.old) + beginning_len self.old RunKind.Skip }
         ensures closes { OnOk result (length (O.written output.new) + closing_len self.new.kind
             ≤ length (O.written output.old) + beginning_len self.old RunKind.Skip + 12) }
-        ensures frame { O.write_frame output.new ≡ O.write_frame output.old }
-        ensures faults { O.write_faults output.old ≤ O.write_faults output.new }
-        ensures clean { OnOk result (O.write_faults output.new ≡ O.write_faults output.old) }
-        ensures full_faults { O.full_faults output.new ≡ O.full_faults output.old + full_of result }
-        ensures full { IsErrOf result DeviceFault.Full → IsTrue (O.is_full output.new) }
-        ensures cause { OnErr result (O.write_faults output.old < O.write_faults output.new) }
-        ensures calls { O.writes output.new + length (O.written output.old) ≤ O.writes output.old + length
-            (O.written output.new) + 13 }
-        ensures turns { m.new.turns.number + length (O.written output.old) ≤ m.old.turns.number + length
-            (O.written output.new) + 13 }
-        ensures steps { m.new.steps.number ≡ m.old.steps.number }
-        ensures greatest { m.new.greatest.number ≡ m.old.greatest.number }
     {
         if blocks == 0 {
             return Ok(());
@@ -208,59 +126,6 @@ impl Placer {
             Err(fault) => return Err(fault),
         }
         *self = self.and_blocks(RunKind::Skip, blocks);
-        Ok(())
-    }
-
-    /// Takes the first blocks of the window.
-    pub(crate) fn take_all<O: Overwrite>(
-        &mut self,
-        blocks: u32,
-        size: u32,
-        output: &mut O,
-        w: &Window,
-        m: &mut Meter,
-    ) -> Result<(), DeviceFault>
-        requires some { 4 ≤ size }
-        requires words { size % 4 ≡ 0 }
-        requires window { blocks * size ≤ 65536 }
-        requires within { self.old.blocks + self.old.count + blocks < 2 ^ 32 }
-        requires sound { SoundPlacer size (length (O.written output.old)) self.old }
-        ensures kept { KeepsFront (self.old.front + 28) (O.written output.old) (O.written output.new) }
-        ensures sound { OnOk result (SoundPlacer size (length (O.written output.new)) self.new) }
-        ensures laid { (g : List Block) → Placed size g (O.written output.old) self.old →
-            OnOk result (Placed size (g ++ classes size blocks w.now.bytes) (O.written output.new) self.new) }
-        ensures passed { OnOk result (self.new.blocks + self.new.count ≡ self.old.blocks + self.old.count + blocks) }
-        ensures same { (self.new.most ≡ self.old.most) × (self.new.front ≡ self.old.front) }
-        ensures grown { length (O.written output.old) ≤ length (O.written output.new) }
-        ensures within { length (O.written output.new)
-            ≤ self.old.front + 28 + (self.old.blocks + self.old.count + blocks) * (size + 16) }
-        ensures frame { O.write_frame output.new ≡ O.write_frame output.old }
-        ensures faults { O.write_faults output.old ≤ O.write_faults output.new }
-        ensures clean { OnOk result (O.write_faults output.new ≡ O.write_faults output.old) }
-        ensures full_faults { O.full_faults output.new ≡ O.full_faults output.old + full_of result }
-        ensures full { IsErrOf result DeviceFault.Full → IsTrue (O.is_full output.new) }
-        ensures cause { OnErr result (O.write_faults output.old < O.write_faults output.new) }
-        ensures calls { O.writes output.new + length (O.written output.old) ≤ O.writes output.old + length
-            (O.written output.new) + 4 * (blocks * size) }
-        ensures turns { m.new.turns.number + length (O.written output.old) ≤ m.old.turns.number + length
-            (O.written output.new) + 5 * (blocks * size) }
-        ensures steps { m.new.steps.number ≡ m.old.steps.number }
-        ensures greatest { m.new.greatest.number ≡ m.old.greatest.number }
-    {
-        let mut done = 0u32;
-        while done < blocks {
-            m.tick();
-            let cap = self.room().min(blocks - done);
-            let from = done as usize * size as usize;
-            let to = from + cap as usize * size as usize;
-            let (kind, n) = leading(w.part(from, to), size as usize, cap, m);
-            let past = from + n as usize * size as usize;
-            match self.take(kind, n, w.part(from, past), size, output, m) {
-                Ok(()) => {}
-                Err(fault) => return Err(fault),
-            }
-            done += n;
-        }
         Ok(())
     }
 }
@@ -275,22 +140,10 @@ fn put_data<O: Overwrite>(
     requires { length bytes.now ≤ 65536 }
     ensures kept { KeepsFront (length (O.written output.old)) (O.written output.old) (O.written output.new) }
     ensures written { OnOk result (O.written output.new ≡ O.written output.old ++ data_for kind bytes.now) }
-    ensures grown { length (O.written output.old) ≤ length (O.written output.new) }
+    ensures writes { Writes result 1 1 (stand O.Output output.old m.old) (stand O.Output output.new m.new) }
     ensures within { length (O.written output.new) ≤ length (O.written output.old) + length (data_for kind bytes.now) }
     ensures adds { length (O.written output.new) + full_of result
         ≤ length (O.written output.old) + length (data_for kind bytes.now) }
-    ensures frame { O.write_frame output.new ≡ O.write_frame output.old }
-    ensures faults { O.write_faults output.old ≤ O.write_faults output.new }
-    ensures clean { OnOk result (O.write_faults output.new ≡ O.write_faults output.old) }
-    ensures full_faults { O.full_faults output.new ≡ O.full_faults output.old + full_of result }
-    ensures full { IsErrOf result DeviceFault.Full → IsTrue (O.is_full output.new) }
-    ensures cause { OnErr result (O.write_faults output.old < O.write_faults output.new) }
-    ensures calls { O.writes output.new + length (O.written output.old) ≤ O.writes output.old + length
-        (O.written output.new) + 1 }
-    ensures turns { m.new.turns.number + length (O.written output.old) ≤ m.old.turns.number + length
-        (O.written output.new) + 1 }
-    ensures steps { m.new.steps.number ≡ m.old.steps.number }
-    ensures greatest { m.new.greatest.number ≡ m.old.greatest.number }
 {
     match kind {
         RunKind::Raw => write_out(output, bytes, m),

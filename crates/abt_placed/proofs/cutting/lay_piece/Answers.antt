@@ -1,20 +1,22 @@
-use Rattle.std.proofs.Common.{◌≡◌, ◌∙◌, ◌-◌, ℕ, sym, refl, subst, inr, arith, length, take, replicate, ap}
+use Rattle.std.proofs.Common.{◌≡◌, ◌∙◌, ◌+◌, ◌-◌, ◌*◌, ◌≤◌, ℕ, sym, refl, subst, inr, arith, length, take, replicate, ap}
 use Rattle.std.proofs.Math.Nat.{le_trans}
 use Rattle.std.proofs.Math.Seq.{take-append_seam}
 use Rattle.abt_runs.specs.Raw.{RawPlace}
 use Rattle.abt_runs.specs.declared.part.Cursor.{Cursor}
 use Rattle.abt_pieces.proofs.Fronts.{says_full}
 use Rattle.abt_placed.specs.Whole.{taken}
+use Rattle.abt_placed.specs.Segment.{IsUncut}
+use Rattle.abt_placed.proofs.Costs.{block_read}
 use Rattle.abt_placed.proofs.Refusing.{broken_off, zeros_refused}
-use Rattle.abt_placed.proofs.Parts.{full_once}
-use Rattle.abt_placed.proofs.Pieces.{first_told, front_kept, all_kept, zeros_stay, unfinished_at, whole_piece}
+use Rattle.abt_placed.proofs.Parts.{full_once, full_as}
+use Rattle.abt_placed.proofs.Pieces.{first_told, front_kept, all_kept, zeros_stay, unfinished_at, whole_piece, all_taken}
 use Rattle.abt_placed.proofs.cutting.lay_piece.Goals as goal
 
 pub take_source-requires-clause-told : goal.take_source-requires-clause-told
 take_source-requires-clause-told g c =
     let s = c.begin-segment.result in
     let e = c.begin-segment.ensures in
-    first_told g.S.Source.tells (g.S.Source.content c.args.source.now) c.args.runs.now.size c.args.first (g.O.Output.written c.write_out.new.output) s e.first e.taken (e.laid (g.O.Output.written c.args.output.now) (g.O.Output.written c.write_out.new.output) c.position-front.ensures c.in-Ok.ensures.ok)
+    first_told g.S.Source.tells (g.S.Source.content c.args.source.now) c.args.runs.now.size c.args.first (g.O.Output.written c.write_out.new.output) s e.first e.taken (e.laid c.args.runs.now.size (g.O.Output.written c.args.output.now) (g.O.Output.written c.write_out.new.output) c.position-front.ensures c.in-Ok.ensures.ok)
 
 pub end-requires-clause-zeros : goal.end-requires-clause-zeros
 end-requires-clause-zeros g c =
@@ -27,7 +29,7 @@ end-requires-clause-zeros g c =
 
 pub take_source-requires-clause-sound : goal.take_source-requires-clause-sound
 take_source-requires-clause-sound g c =
-    c.begin-segment.ensures.sound (length (g.O.Output.written c.write_out.new.output)) (let z = c.in-Ok.ensures.all in omega (arith, z, c.position-front.ensures))
+    c.begin-segment.ensures.sound c.args.runs.now.size (length (g.O.Output.written c.write_out.new.output)) c.requires.some c.requires.small c.requires.limit (let z = c.in-Ok.ensures.all in omega (arith, z, c.position-front.ensures))
 
 -- not even the place of the header is kept
 pub returns-in-Err : goal.returns-in-Err
@@ -40,21 +42,26 @@ returns-in-Err g c =
       content = λ tells. refl;
       frame = refl;
       write_frame = w.frame;
-      sound = tt;
+      sound = λ uncut. tt;
+      reached = λ far. tt;
       next = tt;
       written = tt;
       bytes = tt;
       whole = tt;
       before = ap (take (length old)) w.front ∙ take-append_seam old (take (length new - length old) (replicate 28 0));
       unfinished = broken_off old new w.grown w.front;
-      long = omega (arith, w.within, c.requires.limit, full_once c.in-Err.fault);
+      within = omega (arith, w.within);
+      long = λ uncut. omega (arith, w.within, c.requires.limit, full_once c.in-Err.fault);
+      takes = λ uncut. tt;
       grown = w.grown;
       given = omega arith;
       received = omega (arith, w.steps);
       economy = omega arith;
+      least = tt;
       last = tt;
       calls = omega (arith, w.calls);
       turns = omega (arith, w.turns);
+      going_turns = tt;
       greatest = omega (arith, w.greatest);
       faults = omega arith;
       write_faults = w.faults;
@@ -82,21 +89,26 @@ returns-in-Err-take_source g c =
       content = t.content;
       frame = t.read_frame;
       write_frame = t.write_frame ∙ w.frame;
-      sound = tt;
+      sound = λ uncut. tt;
+      reached = λ far. tt;
       next = tt;
       written = tt;
       bytes = tt;
       whole = tt;
       before = subst (λ (n : ℕ). take n new ≡ old) place (front_kept f front old mid new place b.front kept.ok t.kept);
       unfinished = inr (unfinished_at f old new place (zeros_refused f new (zeros_stay f front old mid new place b.front kept.ok t.kept)));
-      long = omega (arith, e.long, b.front, b.limit, place);
+      within = omega (arith, t.within, b.front, place);
+      long = λ uncut. let long = e.long (rw (b.limit, b.most) uncut) in omega (arith, long, b.front, b.limit, place);
+      takes = λ uncut. tt;
       grown = le_trans w.grown t.grown;
       given = t.given;
       received = omega (arith, t.received, w.steps);
       economy = rw b.taken at t.economy;
+      least = tt;
       last = tt;
       calls = omega (arith, t.calls, w.calls);
       turns = omega (arith, t.turns, w.turns);
+      going_turns = tt;
       greatest = omega (arith, t.greatest, w.greatest);
       faults = t.faults;
       write_faults = le_trans w.faults t.write_faults;
@@ -125,29 +137,34 @@ returns-in-Err-end g c =
     record {
       content = t.content;
       frame = t.read_frame;
-      write_frame = n.frame ∙ t.write_frame ∙ w.frame;
-      sound = tt;
+      write_frame = n.writes.frame ∙ t.write_frame ∙ w.frame;
+      sound = λ uncut. tt;
+      reached = λ far. tt;
       next = tt;
       written = tt;
       bytes = tt;
       whole = tt;
       before = all_kept f c.begin-segment.result.placer.front old mid now new place (sym t.same.1) kept.ok t.kept n.before;
       unfinished = inr (unfinished_at f old new place e.unfinished);
-      long = omega (arith, e.long, t.same.3, b.limit, place);
-      grown = le_trans w.grown (le_trans t.grown n.grown);
+      within = omega (arith, n.within, place);
+      long = λ uncut. let long = n.long (rw (t.same.3, b.limit, t.same.0, b.most) uncut) in omega (arith, long, full_as c.end.result c.in-Err-end.fault c.in-Err-end.is, all.sound.room, t.same.3, b.limit, place);
+      takes = λ uncut. tt;
+      grown = le_trans w.grown (le_trans t.grown n.writes.grown);
       given = t.given;
-      received = omega (arith, t.received, w.steps, n.steps);
+      received = omega (arith, t.received, w.steps, n.writes.steps);
       economy = rw b.taken at t.economy;
+      least = tt;
       last = tt;
-      calls = omega (arith, t.calls, w.calls, n.calls);
-      turns = omega (arith, t.turns, w.turns, n.turns);
-      greatest = omega (arith, t.greatest, w.greatest, n.greatest);
+      calls = omega (arith, t.calls, w.calls, n.writes.calls);
+      turns = omega (arith, t.turns, w.turns, n.writes.turns);
+      going_turns = tt;
+      greatest = omega (arith, t.greatest, w.greatest, n.writes.greatest);
       faults = t.faults;
-      write_faults = le_trans w.faults (le_trans t.write_faults n.faults);
+      write_faults = le_trans w.faults (le_trans t.write_faults n.writes.faults);
       clean = tt;
-      full_faults = omega (arith, e.full_faults, all.full_faults, kept.full_faults);
-      full = λ h. n.full (rw c.in-Err-end.is (says_full _ h));
-      cause = omega (arith, e.cause, all.clean.1, kept.clean);
+      full_faults = omega (arith, e.writes.full_faults, all.full_faults, kept.full_faults);
+      full = λ h. n.writes.full (rw c.in-Err-end.is (says_full _ h));
+      cause = omega (arith, e.writes.cause, all.clean.1, kept.clean);
     }
 
 -- the piece is whole
@@ -169,40 +186,50 @@ returns g c =
     let f = s.placer.front in
     let place = t.same.1 ∙ b.front ∙ c.position-front.ensures in
     let next : RawPlace r.blocks r.size (let d : Cursor = record { block = taken s.placer; at = 0; chunk = 0; used = 0; ask = 1 } in d) = record { within = all.inside; some = omega arith; window = omega (arith, r.window); passed = omega arith; used = refl } in
+    let short = λ (uncut : IsUncut r.size c.args.limit c.args.most). let y = n.long (rw (t.same.3, b.limit, t.same.0, b.most) uncut) in let z : (length new - length old) ≤ s.weight = omega (arith, y, place) in z in
+    let light : s.weight ≤ 52 + (taken s.placer - c.args.first) * (r.size + 16) = rw (t.same.2, b.first) at all.sound.light in
+    let least = rw b.taken at all.least in
     record {
       content = t.content;
       frame = t.read_frame;
-      write_frame = n.frame ∙ t.write_frame ∙ w.frame;
-      sound = record {
+      write_frame = n.writes.frame ∙ t.write_frame ∙ w.frame;
+      sound = λ uncut. record {
         first = refl;
         past = refl;
         order = omega (arith, all.sound.order, t.same.2, b.first);
         moves = λ less. omega (arith, all.ended.moves less, t.same.2, b.first);
         end = all.inside;
         within = next;
-        least = omega (arith, kept.all, t.grown, n.grown);
-        long = omega (arith, e.long, t.same.3, b.limit, place);
+        least = omega (arith, kept.all, t.grown, n.writes.grown);
+        long = let long = short uncut in omega (arith, long, all.sound.room, t.same.3, b.limit);
       };
+      reached = λ far. all_taken (taken s.placer) r.blocks s.limit all.inside all.ended.reached (omega (arith, far, t.same.3, b.limit));
       next = next;
       written = refl;
-      bytes = omega (arith, w.grown, t.grown, n.grown);
-      whole = whole_piece g.S.Source.tells (g.S.Source.content c.args.source.now) r.size r.length r.blocks c.args.limit c.args.first (taken s.placer) c.end.new.self.placer.chunks old now (take f now) new s r.some r.covers r.last c.requires.opened all.sound all.told all.ended (t.same.2 ∙ b.first) refl (t.same.3 ∙ b.limit) all.inside
-          (front_kept f c.begin-segment.result.placer.front old mid now place (sym t.same.1) kept.ok t.kept) (e.laid all.told.blocks all.told.laid);
+      bytes = omega (arith, w.grown, t.grown, n.writes.grown);
+      whole = whole_piece g.S.Source.tells (g.S.Source.content c.args.source.now) r.size r.length r.blocks c.args.limit c.args.most c.args.first (taken s.placer) c.end.new.self.placer.chunks old now (take f now) new s r.some r.covers r.last c.requires.opened all.sound all.told all.ended (t.same.2 ∙ b.first) refl (t.same.3 ∙ b.limit) all.inside
+          (front_kept f c.begin-segment.result.placer.front old mid now place (sym t.same.1) kept.ok t.kept) (let l = e.laid all.told.blocks all.told.laid in rw (t.same.0, b.most) at l);
       before = all_kept f c.begin-segment.result.placer.front old mid now new place (sym t.same.1) kept.ok t.kept n.before;
       unfinished = tt;
-      long = omega (arith, e.long, t.same.3, b.limit, place);
-      grown = le_trans w.grown (le_trans t.grown n.grown);
+      within = omega (arith, n.within, place);
+      long = λ uncut. let long = short uncut in omega (arith, long, w.grown, t.grown, n.writes.grown, all.sound.room, t.same.3, b.limit);
+      takes = λ uncut. let long = short uncut in omega (arith, long, light);
+      grown = le_trans w.grown (le_trans t.grown n.writes.grown);
       given = t.given;
-      received = omega (arith, t.received, w.steps, n.steps);
+      received = omega (arith, t.received, w.steps, n.writes.steps);
       economy = rw b.taken at t.economy;
+      least = least;
       last = rw b.taken at all.last;
-      calls = omega (arith, t.calls, w.calls, n.calls);
-      turns = omega (arith, t.turns, w.turns, n.turns);
-      greatest = omega (arith, t.greatest, w.greatest, n.greatest);
+      calls = omega (arith, t.calls, w.calls, n.writes.calls);
+      turns = omega (arith, t.turns, w.turns, n.writes.turns);
+      going_turns = λ less.
+          let one = block_read c.args.first (taken s.placer) r.blocks r.size r.length _ _ (let z = all.ended.moves less in omega (arith, z, t.same.2, b.first)) less r.last least in
+          omega (arith, t.turns, w.turns, n.writes.turns, one);
+      greatest = omega (arith, t.greatest, w.greatest, n.writes.greatest);
       faults = t.faults;
-      write_faults = le_trans w.faults (le_trans t.write_faults n.faults);
-      clean = (all.clean.0, e.clean ∙ all.clean.1 ∙ kept.clean);
-      full_faults = omega (arith, e.full_faults, all.full_faults, kept.full_faults);
+      write_faults = le_trans w.faults (le_trans t.write_faults n.writes.faults);
+      clean = (all.clean.0, e.writes.clean ∙ all.clean.1 ∙ kept.clean);
+      full_faults = omega (arith, e.writes.full_faults, all.full_faults, kept.full_faults);
       full = λ h. absurd cc;
       cause = tt;
     }

@@ -8,6 +8,7 @@ use Rattle.abt_pieces.specs.declared.fault.PieceFault.{PieceFault}
 use Rattle.abt_pieces.specs.declared.stage.Stage.TheVariants.{Done, Failed}
 use Rattle.abt_pieces.proofs.Cutting.{piece_is, told_more, told_failed}
 use Rattle.abt_pieces.proofs.Stepping.{Behind, behind_unbegun, behind_passed}
+use Rattle.abt_placed.specs.Segment.{IsUncut}
 use Rattle.abt_placed.proofs.Pieces.{piece_image, piece_told, piece_exact, unfinished_refused}
 use Rattle.abt_placed.proofs.cutting.next_piece_at.Goals as goal
 
@@ -25,27 +26,29 @@ returns-in-Ok g c =
     let old = g.O.Output.written c.args.output.now in
     let new = g.O.Output.written c.lay_piece.new.output in
     let u = c.in-Ok.outline in
-    let behind : Behind r.blocks u.piece.past c.pass.new.self.stage = record { end = o.sound.end; done = p.done; between = p.between } in
+    let most = c.most_raw-most.result in
+    let uncut : IsUncut r.size limit most = c.most_raw-most.ensures.uncut in
+    let sound = o.sound uncut in
+    let behind : Behind r.blocks u.piece.past c.pass.new.self.stage = record { end = sound.end; done = p.done; between = p.between } in
     let more : has_more c.args.cutter.now.stage ≡ true = search rules in
     let long : IsTrue g.S.Source.tells → r.blocks ≡ length l = λ tells. sym (raw_long r.length r.blocks r.size x r.some r.covers r.last (c.requires.opened tells)) in
-    let order = o.sound.order in
     record {
       cutter = record { same_image = p.runs; same_limit = p.limit; unbegun = behind_unbegun _ _ _ behind };
       grows = record { grown = q.grown; before = q.before; unfinished = tt };
       piece = rw (p.piece, p.start) (record {
-        passed = (behind_passed _ _ _ _ o.sound.moves behind);
-        begins = o.sound.first;
-        ends = o.sound.past;
-        least = o.sound.least;
-        most = o.sound.long;
+        passed = (behind_passed _ _ _ _ sound.moves behind);
+        begins = sound.first;
+        ends = sound.past;
+        least = sound.least;
+        most = sound.long;
         one_more = p.made;
       });
       long = rw p.piece o.bytes;
       laid = λ tells. rw p.piece (record {
-        written = rw o.sound.first (piece_told g.S.Source.tells x r.size r.blocks limit start.block u.piece.past u.chunks old new tells (long tells) o.whole);
-        coming = piece_told g.S.Source.tells x r.size r.blocks limit start.block u.piece.past u.chunks old new tells (long tells) o.whole ∙ ap (λ (y : List ℕ). old ++ y) (piece_is r.size limit l start.block u.piece.past (o.whole.told tells).1);
-        exact = (piece_exact g.S.Source.tells x r.size r.blocks limit start.block u.chunks old new u.piece tells (long tells) o.sound.first order o.sound.end o.written o.bytes o.whole);
-        greatest = rw o.sound.first (o.whole.told tells).1;
+        written = rw sound.first (piece_told g.S.Source.tells x r.size r.blocks limit most start.block u.piece.past u.chunks old new uncut tells (long tells) o.whole);
+        coming = piece_told g.S.Source.tells x r.size r.blocks limit most start.block u.piece.past u.chunks old new uncut tells (long tells) o.whole ∙ ap (λ (y : List ℕ). old ++ y) (piece_is r.size limit l start.block u.piece.past (o.whole.told tells).1);
+        exact = (piece_exact g.S.Source.tells x r.size r.blocks limit most start.block u.chunks old new u.piece uncut tells (long tells) sound.first sound.order sound.end o.written o.bytes o.whole);
+        greatest = rw sound.first (o.whole.told tells).1;
       });
       costs = record {
         given = q.given;
@@ -58,15 +61,19 @@ returns-in-Ok g c =
       content = q.content;
       frame = q.frame;
       write_frame = q.write_frame;
-      told = λ tells. rw (p.limit, p.made, p.start) (told_more _ _ (λ (d : Cursor). RawPlace r.blocks r.size d) _ r.blocks _ _ _ start u _ _ more (c.requires.told tells) o.sound (long tells) (o.whole.told tells).1 o.next behind.done behind.between);
-      within = omega (arith, q.long);
-      image = piece_image g.S.Source.tells x r.size r.blocks limit start.block u.piece.past u.chunks old new (omega (arith, r.some), r.words, omega (arith, r.window)) r.fits (omega arith) o.whole;
+      told = λ tells. rw (p.limit, p.made, p.start) (told_more _ _ (λ (d : Cursor). RawPlace r.blocks r.size d) _ r.blocks _ _ _ start u _ _ more (c.requires.told tells) sound (long tells) (o.whole.told tells).1 o.next behind.done behind.between);
+      within = let long = q.long uncut in omega (arith, long);
+      image = piece_image g.S.Source.tells x r.size r.blocks limit most start.block u.piece.past u.chunks old new (omega (arith, r.some), r.words, omega (arith, r.window)) c.most_raw-most.ensures.some c.most_raw-most.ensures.small r.fits o.whole;
       none = tt;
       after_last = λ is. absurd (let z : has_more Done ≡ true = rw is at more in cc);
       again = λ f is. search rules;
       refused = tt;
+      takes = rw p.piece (o.takes uncut);
+      calls = q.calls;
+      turns = q.turns;
+      going_turns = rw p.piece o.going_turns;
       economy = q.economy;
-      once = rw (p.piece, o.sound.first) o.last;
+      once = rw (p.piece, sound.first) o.last;
       full_faults = λ h. o.full_faults;
       full = λ h e. absurd cc;
       cause = tt;
@@ -99,15 +106,19 @@ returns-in-Err g c =
       told = λ tells.
           let more : has_more c.args.cutter.now.stage ≡ true = search rules in
           rw (x.rest.1, x.rest.3, x.rest.2, x.stage) (told_failed _ _ _ _ _ _ c.args.cutter.now.start _ _ more (c.requires.told tells));
-      within = omega (arith, q.long);
+      within = let long = q.long c.most_raw-most.ensures.uncut in omega (arith, long);
       image = tt;
       none = tt;
       after_last = search rules;
       again = search rules;
       refused = x.stage ∙ ap (λ (f : PieceFault). Failed f) (sym x.fault);
+      takes = tt;
+      calls = q.calls;
+      turns = q.turns;
+      going_turns = tt;
       economy = q.economy;
       once = tt;
       full_faults = λ h. rw x.fault c.in-Err.ensures.full_faults;
-      full = λ h e. let z = rw x.fault at e in (c.in-Err.ensures.full z, omega (arith, c.in-Err.ensures.long, z));
+      full = λ h e. let z = rw x.fault at e in let long = c.in-Err.ensures.long c.most_raw-most.ensures.uncut in (c.in-Err.ensures.full z, omega (arith, long, z));
       cause = inr (rw x.fault c.in-Err.ensures.cause);
     }

@@ -1,6 +1,6 @@
 use Rattle.std.proofs.Common.{◌+◌, ◌∙◌, ap, length, take, drop, arith}
-use Rattle.std.proofs.Math.Nat.{le_trans}
-use Rattle.abt_placed.proofs.Refusing.{keeps_before, unfinished_by, four_zeros, four_kept, magic_last, header_laid, header_parts, most_of, both_of}
+use Rattle.abt_placed.proofs.Refusing.{keeps_before, unfinished_by, four_zeros, four_kept, magic_last, header_laid, header_parts}
+use Rattle.abt_placed.proofs.Onward.{onward, at_most, laid_over}
 use Rattle.abt_placed.proofs.headers.lay_header.Goals as goal
 
 -- what the magic number stands before is not laid
@@ -17,16 +17,8 @@ returns-in-Err g c =
       before = (keeps_before at (at + 4) w w' (omega arith) a.before a.long).front;
       unfinished = unfinished_by 4 (drop at w') (omega arith) (four_kept at w w' a.before (four_zeros at w c.requires.zeros));
       long = a.long;
-      frame = a.frame;
-      faults = a.faults;
-      clean = tt;
-      full_faults = a.full_faults;
       failed = e.failed;
-      cause = e.cause;
-      calls = most_of _ _ _ a.calls long.0;
-      turns = most_of _ _ _ a.turns long.0;
-      steps = a.steps;
-      greatest = a.greatest;
+      writes = at_most (laid_over g.O.Output c.args.output.now c.write_over_all.new.output c.args.m.now c.write_over_all.new.m _ 24 long.0 a.long a.frame a.faults e.clean e.cause a.full_faults e.failed a.calls a.turns a.steps a.greatest) (omega arith) (omega arith);
     }
 
 -- the header is laid
@@ -47,16 +39,8 @@ returns-in-Ok-write_over_all g c =
       before = b.before ∙ (keeps_before at (at + 4) w w' (omega arith) a.before a.long).front;
       unfinished = tt;
       long = b.long ∙ a.long;
-      frame = b.frame ∙ a.frame;
-      faults = le_trans a.faults b.faults;
-      clean = e.clean ∙ all.clean;
-      full_faults = b.full_faults ∙ a.full_faults;
       failed = tt;
-      cause = tt;
-      calls = both_of _ _ _ _ _ a.calls long.0 b.calls long.1;
-      turns = both_of _ _ _ _ _ a.turns long.0 b.turns long.1;
-      steps = b.steps ∙ a.steps;
-      greatest = b.greatest ∙ a.greatest;
+      writes = onward {X = Unit {0}} {x = tt} (laid_over g.O.Output c.args.output.now c.write_over_all.new.output c.args.m.now c.write_over_all.new.m _ 24 long.0 a.long a.frame a.faults all.clean all.cause a.full_faults all.failed a.calls a.turns a.steps a.greatest) (laid_over g.O.Output c.write_over_all.new.output c.write_over_all-2.new.output c.write_over_all.new.m c.write_over_all-2.new.m _ 4 long.1 b.long b.frame b.faults e.clean e.cause b.full_faults e.failed b.calls b.turns b.steps b.greatest);
     }
 
 -- the magic number is not laid, or not all of it
@@ -78,14 +62,6 @@ returns-in-Err-write_over_all g c =
       before = b.before ∙ (keeps_before at (at + 4) w w' (omega arith) a.before a.long).front;
       unfinished = magic_last w' w'' (take 4 h) at f.count (ap (take 4) c.image_header-bytes.ensures) f.short (omega (arith, a.long)) (four_kept at w w' a.before (four_zeros at w c.requires.zeros)) f.written;
       long = b.long ∙ a.long;
-      frame = b.frame ∙ a.frame;
-      faults = le_trans a.faults b.faults;
-      clean = tt;
-      full_faults = b.full_faults ∙ a.full_faults;
       failed = e.failed;
-      cause = rw all.clean at e.cause;
-      calls = both_of _ _ _ _ _ a.calls long.0 b.calls long.1;
-      turns = both_of _ _ _ _ _ a.turns long.0 b.turns long.1;
-      steps = b.steps ∙ a.steps;
-      greatest = b.greatest ∙ a.greatest;
+      writes = onward {X = Unit {0}} {x = tt} (laid_over g.O.Output c.args.output.now c.write_over_all.new.output c.args.m.now c.write_over_all.new.m _ 24 long.0 a.long a.frame a.faults all.clean all.cause a.full_faults all.failed a.calls a.turns a.steps a.greatest) (laid_over g.O.Output c.write_over_all.new.output c.write_over_all-2.new.output c.write_over_all.new.m c.write_over_all-2.new.m _ 4 long.1 b.long b.frame b.faults e.clean e.cause b.full_faults e.failed b.calls b.turns b.steps b.greatest);
     }

@@ -1,11 +1,13 @@
-use Rattle.std.proofs.Common.{arith, refl, ap, inl, length, Result, Err}
+use Rattle.std.proofs.Common.{◌≡◌, ◌∙◌, ◌+◌, ◌*◌, ◌++◌, ℕ, List, arith, refl, sym, ap, inl, length, IsTrue, Result, Err}
 use Rattle.std.proofs.lemmas.List.{take_all}
 use Rattle.abt_pieces.proofs.Fronts.{as_many, no_more, max_most, run_unfilled, run_unsaid}
 use Rattle.abt_pieces.specs.declared.fault.PieceFault.{PieceFault}
 use Rattle.abt_sparsify.specs.Sparsify.{IsRawSize}
 use Rattle.abt_sparsify.specs.declared.count.Written.{Written}
-use Rattle.abt_sparsify.proofs.SparseSteps.{within_blocks, blocks_cover, few_blocks, sparsify_causes, refused_bad, refused_large, refused_cause}
-use Rattle.abt_placed.proofs.Images.{whole_told, whole_counted, whole_image, all_refused}
+use Rattle.abt_sparsify.proofs.SparseSteps.{within_blocks, few_blocks, sparsify_causes, refused_bad, refused_large, refused_cause}
+use Rattle.abt_sparse.specs.Block.{Block}
+use Rattle.abt_sparse.specs.Chunk.{spelling, chunks_of}
+use Rattle.abt_placed.proofs.Pieces.{piece_image, image_blocks, unfinished_refused}
 use Rattle.abt_placed.proofs.image.sparsify_at.Goals as goal
 
 -- the source or the size is refused
@@ -38,44 +40,93 @@ returns-in-Err g c =
     }
 
 -- the opened image is laid
-pub returns : goal.returns
-returns g c =
+pub returns-in-Ok-lay_piece : goal.returns-in-Ok-lay_piece
+returns-in-Ok-lay_piece g c =
     let r = c.in-Ok.runs in
+    let w = c.lay_piece.ensures in
+    let o = c.in-Ok-lay_piece.ensures in
     let e = c.in-Ok.ensures in
-    let w = c.lay_image.ensures in
     let size = e.size.0 in
-    let result = c.lay_image.result in
+    let u = c.in-Ok-lay_piece.outline in
     let x = g.S.Source.content c.args.source.now in
     let old = g.O.Output.written c.args.output.now in
-    let new = g.O.Output.written c.lay_image.new.output in
+    let new = g.O.Output.written c.lay_piece.new.output in
+    let all : u.piece.past ≡ r.blocks = o.reached (omega arith) in
+    let blocks = λ (tells : IsTrue g.S.Source.tells). image_blocks g.S.Source.tells x r.size r.length r.blocks 18446744073709551615 c.args.most u.piece.past u.chunks old new r.some r.covers r.last (omega (arith, e.opened)) tells all o.whole in
+    let laid = o.whole.laid in
     record {
       content = w.content;
       frame = w.frame;
       write_frame = w.write_frame;
       bad_block = λ bad. absurd (let own : IsRawSize r.size = (r.some, r.window, r.words) in bad (rw size at own));
       too_large = λ good large. absurd (few_blocks r.blocks c.args.block_size _ (rw size at r.covers) r.fits (rw e.size.1 large));
-      blocks = rw size at (blocks_cover result r.blocks r.size _ w.blocks (rw e.size.1 at r.covers) (rw e.size.1 at r.last));
-      chunks = λ tells. rw size at (whole_counted result g.S.Source.tells x r.size r.blocks c.args.most old new tells w.blocks w.whole);
-      long = w.long;
+      blocks = (rw (size, e.size.1) at r.covers, rw (size, e.size.1) at r.last);
+      chunks = λ tells. (rw size at (sym laid.count ∙ ap length (blocks tells)), rw size at (laid.chunks_are ∙ ap (λ (l : List Block). length (chunks_of c.args.most l)) (blocks tells)));
+      long = o.bytes;
       within = λ n fits.
           let p = within_blocks r.blocks n r.size r.length r.last (rw (size, e.size.1) fits) in
           let q = rw size at p in
           let z = rw size at w.within in
           omega (arith, q, z);
-      grows = record { grown = w.grown; before = w.before; unfinished = all_refused result old new w.unfinished };
-      whole = λ tells. rw size at (whole_told result g.S.Source.tells x r.size r.blocks c.args.most old new tells w.whole);
-      image = rw size at (whole_image result g.S.Source.tells x r.size r.blocks c.args.most old new (omega (arith, r.some), r.words, omega (arith, r.window)) c.requires.some (rw size c.requires.small) r.fits w.blocks w.whole);
-      economy = rw e.size.1 at w.economy;
-      once = rw e.size.1 at w.once;
+      grows = record { grown = w.grown; before = w.before; unfinished = tt };
+      whole = λ tells. rw size at (laid.stands ∙ ap (λ (l : List Block). old ++ spelling r.size c.args.most l) (blocks tells));
+      image = rw size at (piece_image g.S.Source.tells x r.size r.blocks 18446744073709551615 c.args.most 0 u.piece.past u.chunks old new (omega (arith, r.some), r.words, omega (arith, r.window)) c.requires.some (rw size c.requires.small) r.fits o.whole);
+      economy = let read = rw e.size.1 at w.economy in omega (arith, read);
+      once =
+          let whole : u.piece.past * r.size ≡ r.blocks * r.size = ap (λ (n : ℕ). n * r.size) all in
+          let read : g.S.Source.given c.lay_piece.new.source ≡ g.S.Source.given c.args.source.now + r.length = omega (arith, whole, r.covers, w.economy, o.least) in
+          rw e.size.1 at read;
       costs = record {
         given = w.given;
         steps = w.received;
         greatest = w.greatest;
-        calls = let calls = rw size at w.calls in omega (arith, calls, w.given, w.grown);
+        calls = omega (arith, w.calls, w.given, w.grown);
         turns = let turns = rw size at w.turns in omega (arith, turns, w.given, w.grown);
       };
-      failing = record { read = w.faults; write = w.write_faults; clean = w.clean };
-      full_faults = w.full_faults;
-      full = w.full;
-      cause = sparsify_causes result _ _ _ _ _ _ _ w.cause;
+      failing = record { read = w.faults; write = w.write_faults; clean = o.clean };
+      full_faults = o.full_faults;
+      full = λ h. absurd cc;
+      cause = tt;
+    }
+
+-- it is not
+pub returns-in-Err-lay_piece : goal.returns-in-Err-lay_piece
+returns-in-Err-lay_piece g c =
+    let r = c.in-Ok.runs in
+    let w = c.lay_piece.ensures in
+    let x = c.in-Err-lay_piece.ensures in
+    let e = c.in-Ok.ensures in
+    let size = e.size.0 in
+    let old = g.O.Output.written c.args.output.now in
+    let new = g.O.Output.written c.lay_piece.new.output in
+    record {
+      content = w.content;
+      frame = w.frame;
+      write_frame = w.write_frame;
+      bad_block = λ bad. absurd (let own : IsRawSize r.size = (r.some, r.window, r.words) in bad (rw size at own));
+      too_large = λ good large. absurd (few_blocks r.blocks c.args.block_size _ (rw size at r.covers) r.fits (rw e.size.1 large));
+      blocks = tt;
+      chunks = λ tells. tt;
+      long = tt;
+      within = λ n fits.
+          let p = within_blocks r.blocks n r.size r.length r.last (rw (size, e.size.1) fits) in
+          let q = rw size at p in
+          let z = rw size at w.within in
+          omega (arith, q, z);
+      grows = record { grown = w.grown; before = w.before; unfinished = unfinished_refused old new x.unfinished };
+      whole = λ tells. tt;
+      image = tt;
+      economy = let read = rw e.size.1 at w.economy in omega (arith, read);
+      once = tt;
+      costs = record {
+        given = w.given;
+        steps = w.received;
+        greatest = w.greatest;
+        calls = omega (arith, w.calls, w.given, w.grown);
+        turns = let turns = rw size at w.turns in omega (arith, turns, w.given, w.grown);
+      };
+      failing = record { read = w.faults; write = w.write_faults; clean = tt };
+      full_faults = x.full_faults;
+      full = x.full;
+      cause = sparsify_causes (let r : Result Written PieceFault = Err c.in-Err-lay_piece.fault in r) _ _ _ _ _ _ _ x.cause;
     }

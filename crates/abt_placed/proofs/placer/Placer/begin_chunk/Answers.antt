@@ -31,4 +31,4 @@ pub returns-in-Raw-clause-kept : goal.returns-in-Raw-clause-kept
 returns-in-Raw-clause-kept g c =
     let n = c.args.self.now.front + 28 in
     let w = g.O.Output.written c.close.new.output in
-    keeps_then n _ w _ c.close.ensures.kept (keeps_behind n w _ _ (omega (arith, c.requires.room, c.close.ensures.grown)) c.write_out.ensures.front)
+    keeps_then n _ w _ c.close.ensures.kept (keeps_behind n w _ _ (omega (arith, c.requires.room, c.close.ensures.writes.grown)) c.write_out.ensures.front)

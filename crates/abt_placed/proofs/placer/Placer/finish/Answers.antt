@@ -3,10 +3,10 @@ use Rattle.abt_sparse.specs.Chunk.{header_record, plain_header}
 use Rattle.abt_placed.specs.Placer.{closing}
 use Rattle.abt_placed.specs.declared.placer.Placer.{Placer}
 use Rattle.std.proofs.Common.{List, ℕ, ap, ◌+◌, ◌∙◌, arith, length, refl}
-use Rattle.std.proofs.Math.Nat.{le_trans}
 use Rattle.abt_placed.proofs.Numbers.{closed_numbers}
 use Rattle.abt_placed.proofs.Parts.{closed_within}
 use Rattle.abt_placed.proofs.Refusing.{zeros_kept, zeros_refused, keeps_less}
+use Rattle.abt_placed.proofs.Onward.{onward, at_most}
 use Rattle.abt_placed.proofs.placer.Placer.finish.Goals as goal
 
 pub lay_header-requires-clause-zeros : goal.lay_header-requires-clause-zeros
@@ -30,19 +30,9 @@ returns-in-Err g c =
       before = stays.front;
       laid = tt;
       unfinished = zeros_refused s.front w' (zeros_kept s.front w w' k.kept c.requires.zeros);
-      grown = k.grown;
+      writes = at_most e.writes (omega arith) (omega arith);
       within = within;
       adds = e.adds;
-      frame = k.frame;
-      faults = k.faults;
-      clean = tt;
-      full_faults = e.full_faults;
-      full = e.full;
-      cause = e.cause;
-      calls = omega (arith, k.calls);
-      turns = omega (arith, k.turns);
-      steps = k.steps;
-      greatest = k.greatest;
     }
 
 -- the header is not laid
@@ -65,19 +55,9 @@ returns-in-Err-lay_header g c =
       before = l.before ∙ stays.front;
       laid = tt;
       unfinished = e.unfinished;
-      grown = omega (arith, k.grown, l.long);
+      writes = onward all.writes e.writes;
       within = omega (arith, within, l.long);
       adds = rw e.failed (omega (arith, l.long, all.adds));
-      frame = l.frame ∙ k.frame;
-      faults = le_trans k.faults l.faults;
-      clean = tt;
-      full_faults = rw e.failed (omega (arith, l.full_faults, all.full_faults));
-      full = λ says. absurd (let z = rw e.failed at says in cc);
-      cause = rw all.clean at e.cause;
-      calls = omega (arith, k.calls, l.calls, l.long);
-      turns = omega (arith, k.turns, l.turns, l.long);
-      steps = l.steps ∙ k.steps;
-      greatest = l.greatest ∙ k.greatest;
     }
 
 -- the image is whole
@@ -103,17 +83,7 @@ returns-in-Ok-lay_header g c =
       laid = e.ok ∙ ap (λ (l : List ℕ). put_at l s.front (header_record (plain_header b t.blocks t.chunks))) all.written
           ∙ ap (λ (p : Placer). put_at (closing s b w) s.front (header_record (plain_header b p.blocks p.chunks))) c.and_closed.ensures;
       unfinished = tt;
-      grown = omega (arith, k.grown, l.long);
+      writes = onward all.writes e.writes;
       within = omega (arith, within, l.long);
       adds = omega (arith, l.long, all.adds);
-      frame = l.frame ∙ k.frame;
-      faults = le_trans k.faults l.faults;
-      clean = e.clean ∙ all.clean;
-      full_faults = omega (arith, l.full_faults, all.full_faults);
-      full = λ says. absurd cc;
-      cause = tt;
-      calls = omega (arith, k.calls, l.calls, l.long);
-      turns = omega (arith, k.turns, l.turns, l.long);
-      steps = l.steps ∙ k.steps;
-      greatest = l.greatest ∙ k.greatest;
     }

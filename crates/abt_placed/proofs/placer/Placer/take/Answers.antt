@@ -1,10 +1,10 @@
 use Rattle.std.proofs.Common.{◌≡◌, ◌∙◌, ap, arith, refl, List, ℕ, ◌++◌}
-use Rattle.std.proofs.Math.Nat.{le_trans}
 use Rattle.abt_placed.specs.Placer.{beginning, data_for, taking}
 use Rattle.abt_placed.proofs.Numbers.{sound_taken}
 use Rattle.abt_placed.proofs.Laying.{taken_placed}
 use Rattle.abt_placed.proofs.Parts.{data_long, begun_within, part_passed}
 use Rattle.abt_placed.proofs.Refusing.{keeps_less, keeps_then}
+use Rattle.abt_placed.proofs.Onward.{onward, fails}
 use Rattle.abt_placed.proofs.placer.Placer.take.Goals as goal
 
 -- the class's chunk is not begun
@@ -20,19 +20,9 @@ returns-in-Err g c =
       laid = λ blocks placed. tt;
       passed = tt;
       same = (refl, refl);
-      grown = k.grown;
-      within = begun_within c.args.size c.args.blocks _ _ _ c.args.bytes.now s c.args.kind c.requires.sound c.requires.bytes c.requires.some k.within (omega arith);
+      writes = fails e.writes (omega arith) (omega arith);
+      within = begun_within c.args.size c.args.blocks _ _ _ c.args.bytes.now s c.args.kind c.requires.sound (λ _. c.requires.bytes) c.requires.some k.within (omega arith);
       adds = omega (arith, e.adds);
-      frame = k.frame;
-      faults = k.faults;
-      clean = tt;
-      full_faults = e.full_faults;
-      full = e.full;
-      cause = e.cause;
-      calls = omega (arith, k.calls);
-      turns = omega (arith, k.turns);
-      steps = k.steps;
-      greatest = k.greatest;
     }
 
 -- the bytes are not written
@@ -47,24 +37,14 @@ returns-in-Err-put_data g c =
     let long = data_long c.args.kind c.args.blocks c.args.size c.args.bytes.now c.requires.bytes in
     record {
       ok = tt;
-      kept = keeps_then _ _ w _ k.kept (keeps_less _ _ w _ (omega (arith, c.requires.sound.room, k.grown)) d.kept);
+      kept = keeps_then _ _ w _ k.kept (keeps_less _ _ w _ (omega (arith, c.requires.sound.room, k.writes.grown)) d.kept);
       sound = tt;
       laid = λ blocks placed. tt;
       passed = tt;
       same = (refl, refl);
-      grown = le_trans k.grown d.grown;
-      within = begun_within c.args.size c.args.blocks _ _ _ c.args.bytes.now s c.args.kind c.requires.sound c.requires.bytes c.requires.some k.within d.within;
+      writes = onward all.writes e.writes;
+      within = begun_within c.args.size c.args.blocks _ _ _ c.args.bytes.now s c.args.kind c.requires.sound (λ _. c.requires.bytes) c.requires.some k.within d.within;
       adds = omega (arith, long, all.adds, e.adds);
-      frame = d.frame ∙ k.frame;
-      faults = le_trans k.faults d.faults;
-      clean = tt;
-      full_faults = omega (arith, e.full_faults, all.full_faults);
-      full = e.full;
-      cause = rw all.clean at e.cause;
-      calls = omega (arith, k.calls, d.calls);
-      turns = omega (arith, k.turns, d.turns);
-      steps = d.steps ∙ k.steps;
-      greatest = d.greatest ∙ k.greatest;
     }
 
 -- the blocks are taken
@@ -86,22 +66,12 @@ returns g c =
     let passed = part_passed b _ c.args.blocks s t c.args.kind c.requires.sound c.and_blocks.ensures in
     record {
       ok = c.and_blocks.ensures;
-      kept = keeps_then _ _ w _ k.kept (keeps_less _ _ w _ (omega (arith, c.requires.sound.room, k.grown)) d.kept);
+      kept = keeps_then _ _ w _ k.kept (keeps_less _ _ w _ (omega (arith, c.requires.sound.room, k.writes.grown)) d.kept);
       sound = sound_taken b c.args.blocks old w new x s t c.args.kind c.requires.some c.requires.goes c.requires.cap c.requires.bytes k.within c.requires.sound c.and_blocks.ensures all.written e.written;
       laid = λ blocks placed. taken_placed b blocks old new x s t c.args.kind c.args.blocks c.requires.some c.requires.words c.requires.bytes c.requires.all c.requires.sound c.and_blocks.ensures made placed;
       passed = passed.0;
       same = passed.1;
-      grown = le_trans k.grown d.grown;
-      within = begun_within b c.args.blocks _ _ _ x s c.args.kind c.requires.sound c.requires.bytes c.requires.some k.within d.within;
+      writes = onward all.writes e.writes;
+      within = begun_within b c.args.blocks _ _ _ x s c.args.kind c.requires.sound (λ _. c.requires.bytes) c.requires.some k.within d.within;
       adds = omega (arith, long, all.adds, e.adds);
-      frame = d.frame ∙ k.frame;
-      faults = le_trans k.faults d.faults;
-      clean = e.clean ∙ all.clean;
-      full_faults = omega (arith, e.full_faults, all.full_faults);
-      full = λ says. absurd cc;
-      cause = tt;
-      calls = omega (arith, k.calls, d.calls);
-      turns = omega (arith, k.turns, d.turns);
-      steps = d.steps ∙ k.steps;
-      greatest = d.greatest ∙ k.greatest;
     }

@@ -1,5 +1,4 @@
 use Rattle.std.proofs.Common.{◌≡◌, ◌+◌, ◌-◌, ◌++◌, ◌∙◌, ℕ, arith, sym, subst, take, drop, replicate, OnErr}
-use Rattle.std.proofs.Math.Nat.{le_trans}
 use Rattle.abt_io.specs.Moment.{put_at}
 use Rattle.abt_sparse.specs.Chunk.{header_record, plain_header}
 use Rattle.abt_sparse.specs.Runs.{framed}
@@ -9,8 +8,10 @@ use Rattle.abt_placed.specs.Unfinished.{IsUnfinished}
 use Rattle.abt_placed.specs.Placed.{skips}
 use Rattle.abt_placed.specs.Whole.{taken}
 use Rattle.abt_placed.proofs.Refusing.{zeros_kept, zeros_refused, keeps_less}
-use Rattle.abt_placed.proofs.Within.{skipping_fits, clean_since, cause_since}
+use Rattle.abt_placed.proofs.Within.{skipping_fits}
+use Rattle.abt_placed.proofs.Costs.{no_wider}
 use Rattle.abt_placed.proofs.Pieces.{on_both, end_laid}
+use Rattle.abt_placed.proofs.Onward.{onward, at_most}
 use Rattle.abt_placed.proofs.segment.Segment.end.Goals as goal
 
 pub finish-requires-clause-zeros : goal.finish-requires-clause-zeros
@@ -35,18 +36,9 @@ returns-in-Err g c =
       laid = λ blocks laid. tt;
       before = (keeps_less f (f + 28) w w' (omega arith) k.kept).front;
       unfinished = zeros_refused f w' (zeros_kept f w w' k.kept c.requires.zeros);
-      grown = k.grown;
-      long = omega (arith, e.adds, room, h.fits, h.room);
-      frame = k.frame;
-      faults = k.faults;
-      clean = tt;
-      full_faults = e.full_faults;
-      full = e.full;
-      cause = e.cause;
-      calls = omega (arith, k.calls);
-      turns = omega (arith, k.turns);
-      steps = k.steps;
-      greatest = k.greatest;
+      writes = at_most e.writes (omega arith) (omega arith);
+      within = no_wider (taken s.placer + (c.args.blocks - taken s.placer)) c.args.blocks c.args.size (f + 28) _ (omega arith) k.within;
+      long = λ uncut. let fits = h.fits uncut in omega (arith, e.adds, room, fits);
     }
 
 -- the headers that are left are laid, or not
@@ -70,21 +62,12 @@ returns g c =
           let p = c.skip.new.self in
           let b = c.args.size in
           on_both c.finish.result (t ≡ closed p) (new ≡ put_at (closing p b w') p.front (header_record (plain_header b (closed p).blocks (closed p).chunks)))
-          (LaidPiece b c.args.blocks t.chunks (framed s.first blocks r) (take f w) new)
-          (λ is made. end_laid b c.args.blocks r blocks w w' new s p t h laid (omega arith) e.sound (e.laid (skips s.first ++ blocks) laid.placed) e.passed k.same.0 k.same.1 front is made)
+          (LaidPiece b c.args.blocks s.placer.most t.chunks (framed s.first blocks r) (take f w) new)
+          (λ is made. end_laid b c.args.blocks r blocks w w' new s p t (omega arith) e.sound (e.laid (skips s.first ++ blocks) laid.placed) e.passed k.same.0 k.same.1 front is made)
           n.ok n.laid;
       before = subst (λ (m : ℕ). take m new ≡ take m w') k.same.1 n.before ∙ front;
       unfinished = subst (λ (m : ℕ). OnErr c.finish.result (IsUnfinished (drop m new))) k.same.1 n.unfinished;
-      grown = le_trans k.grown n.grown;
-      long = omega (arith, n.adds, e.closes, room, h.fits, h.room);
-      frame = n.frame ∙ k.frame;
-      faults = le_trans k.faults n.faults;
-      clean = clean_since c.finish.result _ _ _ e.clean n.clean;
-      full_faults = omega (arith, n.full_faults, e.full_faults);
-      full = n.full;
-      cause = cause_since c.finish.result _ _ _ e.clean n.cause;
-      calls = omega (arith, k.calls, n.calls);
-      turns = omega (arith, k.turns, n.turns);
-      steps = n.steps ∙ k.steps;
-      greatest = n.greatest ∙ k.greatest;
+      writes = onward e.writes n.writes;
+      within = let w = no_wider (taken c.skip.new.self) c.args.blocks c.args.size (c.skip.new.self.front + 28) _ (omega (arith, e.passed)) n.within in omega (arith, k.same.1, w);
+      long = λ uncut. let fits = h.fits uncut in omega (arith, n.adds, e.closes, room, fits);
     }

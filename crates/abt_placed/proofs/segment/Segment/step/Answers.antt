@@ -5,9 +5,9 @@ use Rattle.abt_runs.proofs.Classes.{if_none}
 use Rattle.abt_pieces.proofs.Fronts.{not_told, says_full, run_causes, run_unfilled, run_unsaid}
 use Rattle.abt_placed.specs.Whole.{taken}
 use Rattle.abt_placed.proofs.Refusing.{keeps_same}
-use Rattle.abt_placed.proofs.Costs.{fits_window, read_more}
+use Rattle.abt_placed.proofs.Costs.{fits_window, read_more, no_wider, sound_within, not_so_far}
 use Rattle.abt_placed.proofs.Sourced.{Loaded, told_on, ended_on, none_over, no_more_than}
-use Rattle.abt_placed.proofs.Spending.{Read, read_costs, going_costs, broken_costs, unread_costs, few_got, received_on, greatest_on, last_on}
+use Rattle.abt_placed.proofs.Spending.{Read, read_costs, going_costs, broken_costs, unread_costs, taken_read, few_got, received_on, greatest_on, last_on}
 use Rattle.abt_placed.proofs.segment.Segment.step.Goals as goal
 
 -- where all are taken
@@ -18,10 +18,7 @@ returns-then-from-runs g c =
     let q = c.requires in
     let step = c.close_step.ensures in
     let given = g.S.Source.given c.args.source.now in
-    let writes = g.O.Output.writes c.args.output.now in
-    let long = length (g.O.Output.written c.args.output.now) in
-    let turns = c.close_step.new.self.turns.number in
-    let x = unread_costs (taken s.placer) r.blocks r.size r.length given (g.S.Source.reads c.args.source.now) writes writes long long c.args.m.now.turns.number turns turns 1 0 q.within r.last (omega arith) step.turns (omega arith) (omega arith) in
+    let x = unread_costs (taken s.placer) r.size r.length given (g.S.Source.reads c.args.source.now) (g.O.Output.writes c.args.output.now) (length (g.O.Output.written c.args.output.now)) _ _ step.turns in
     record {
       content = λ tells. refl;
       read_frame = refl;
@@ -34,11 +31,13 @@ returns-then-from-runs g c =
       inside = q.within;
       same = (refl, refl, refl, refl);
       grown = le_refl _;
-      long = omega (arith, q.sound.fits, q.sound.room);
+      within = no_wider (taken s.placer) r.blocks r.size (s.placer.front + 28) _ q.within (sound_within r.size _ s.placer q.sound.placer);
+      long = λ uncut. let fits = q.sound.fits uncut in omega (arith, fits, q.sound.room);
       given = le_refl _;
       received = received_on given given 0 _ _ _ _ (omega arith) refl step.steps refl (omega arith);
       economy = x.economy;
       once = λ on. absurd (let z : true ≡ false = on in cc);
+      least = omega arith;
       last = last_on _ _ given given 0 (le_refl _) (omega arith) (omega arith);
       going_calls = λ on. absurd (let z : true ≡ false = on in cc);
       calls = x.calls;
@@ -61,10 +60,7 @@ returns-then-length-runs g c =
     let q = c.requires in
     let step = c.close_step-then-length-runs.ensures in
     let given = g.S.Source.given c.args.source.now in
-    let writes = g.O.Output.writes c.args.output.now in
-    let long = length (g.O.Output.written c.args.output.now) in
-    let turns = c.close_step-then-length-runs.new.self.turns.number in
-    let x = unread_costs (taken s.placer) r.blocks r.size r.length given (g.S.Source.reads c.args.source.now) writes writes long long c.args.m.now.turns.number turns turns 1 0 q.within r.last (omega arith) step.turns (omega arith) (omega arith) in
+    let x = unread_costs (taken s.placer) r.size r.length given (g.S.Source.reads c.args.source.now) (g.O.Output.writes c.args.output.now) (length (g.O.Output.written c.args.output.now)) _ _ step.turns in
     record {
       content = λ tells. refl;
       read_frame = refl;
@@ -77,11 +73,13 @@ returns-then-length-runs g c =
       inside = tt;
       same = (refl, refl, refl, refl);
       grown = le_refl _;
-      long = omega (arith, q.sound.fits, q.sound.room);
+      within = no_wider (taken s.placer) r.blocks r.size (s.placer.front + 28) _ q.within (sound_within r.size _ s.placer q.sound.placer);
+      long = λ uncut. let fits = q.sound.fits uncut in omega (arith, fits, q.sound.room);
       given = le_refl _;
       received = received_on given given 0 _ _ _ _ (omega arith) refl step.steps refl (omega arith);
       economy = x.economy;
       once = tt;
+      least = tt;
       last = tt;
       going_calls = tt;
       calls = x.calls;
@@ -109,7 +107,7 @@ returns-in-Some g c =
     let fits = fits_window c.min-asked.result c.in_window.result r.size (omega arith) c.in_window.ensures.fits in
     let few = few_got got c.min-want.result _ _ l.few c.min-want.ensures fits in
     let unsaid = run_unfilled c.run_fault.result c.in-Some.fault 0 c.run_fault.ensures in
-    let x = broken_costs (taken s.placer) r.size r.length c.place_of-at.result c.min-want.result (c.min-asked.result * r.size) got _ _ _ _ (g.O.Output.writes c.args.output.now) (length w) _ _ _ 1 (omega arith) c.place_of-at.ensures.place c.place_of-at.ensures.within c.min-want.ensures l.few l.given l.calls l.turns step.turns in
+    let x = broken_costs (taken s.placer) r.size r.length c.place_of-at.result c.min-want.result (c.min-asked.result * r.size) got _ _ _ _ (g.O.Output.writes c.args.output.now) (length w) _ _ _ c.place_of-at.ensures.place c.place_of-at.ensures.within c.min-want.ensures l.few l.given l.calls l.turns step.turns in
     record {
       content = l.content;
       read_frame = l.frame;
@@ -122,11 +120,13 @@ returns-in-Some g c =
       inside = tt;
       same = (refl, refl, refl, refl);
       grown = le_refl _;
-      long = omega (arith, sound.fits, sound.room, unsaid);
+      within = no_wider (taken s.placer) r.blocks r.size (s.placer.front + 28) _ c.requires.within (sound_within r.size _ s.placer sound.placer);
+      long = λ uncut. let fits = sound.fits uncut in omega (arith, fits, sound.room, unsaid);
       given = x.more;
       received = received_on _ _ got _ _ _ _ l.given l.steps step.steps refl few;
       economy = x.economy;
       once = tt;
+      least = tt;
       last = tt;
       going_calls = tt;
       calls = x.calls;
@@ -174,7 +174,7 @@ returns-in-Ok g c =
       calls = l.calls;
       turns = l.turns;
     } in
-    let spent = read_costs (taken s.placer) a r.size r.length r.blocks want got _ _ _ _ _ _ _ _ _ _ _ _ 1 (omega arith) read step.turns t.calls t.turns in
+    let spent = read_costs (taken s.placer) a r.size r.length r.blocks want got _ _ _ _ _ _ _ _ _ _ _ _ read step.turns t.writes.calls t.writes.turns in
     let loaded : IsTrue g.S.Source.tells → Loaded r.size r.length (taken s.placer) want (a * r.size) x c.load_filled-loaded.new.w.bytes =
     λ tells. record {
       long = c.requires.opened tells;
@@ -185,32 +185,35 @@ returns-in-Ok g c =
     record {
       content = l.content;
       read_frame = l.frame;
-      write_frame = t.frame;
+      write_frame = t.writes.frame;
       told = told_on g.S.Source.tells x r.size r.length r.blocks a (taken s'.placer - taken s.placer) want (a * r.size) w w' c.load_filled-loaded.new.w.bytes s s' r.some r.covers r.last (omega arith) (omega (arith, within, e.order)) (omega (arith, e.order)) t.same.2 c.requires.sound.order refl told (e.laid told.blocks told.laid) loaded;
       ended = λ is.
           let short = e.short is in
-          ended_on g.S.Source.tells x r.size r.length r.blocks a (taken s'.placer - taken s.placer) want (a * r.size) w w' c.load_filled-loaded.new.w.bytes s s' r.some r.covers r.last (omega arith) (omega (arith, short, e.order)) (omega (arith, e.order)) t.same.2 t.same.3 c.requires.sound.order (e.some is) refl told (e.laid told.blocks told.laid) loaded (e.over told.blocks told.laid is);
+          ended_on g.S.Source.tells x r.size r.length r.blocks a (taken s'.placer - taken s.placer) want (a * r.size) w w' c.load_filled-loaded.new.w.bytes s s' r.some r.covers r.last (omega arith) (omega (arith, short, e.order)) (omega (arith, e.order)) t.same.2 t.same.3 c.requires.sound.order (e.some is)
+          (not_so_far (taken s.placer + a) r.blocks r.size s.limit (omega arith) r.fits (omega (arith, r.window)) (e.reached is)) refl told (e.laid told.blocks told.laid) loaded (e.over told.blocks told.laid is);
       kept = t.kept;
       sound = e.sound;
       on = λ on. omega (arith, e.all on);
       inside = omega (arith, within);
       same = t.same;
-      grown = t.grown;
+      grown = t.writes.grown;
+      within = no_wider (taken s.placer + a) r.blocks r.size (s.placer.front + 28) _ (omega arith) t.within;
       long = e.long;
       given = spent.more;
-      received = received_on _ _ got _ _ _ _ l.given l.steps step.steps t.steps few;
+      received = received_on _ _ got _ _ _ _ l.given l.steps step.steps t.writes.steps few;
       economy = spent.economy;
-      once = λ on. (going_costs (taken s.placer) (taken s'.placer) a r.size r.length r.blocks want got _ _ _ _ _ _ _ _ _ _ _ _ (e.all on) read step.turns t.calls t.turns).once;
+      once = λ on. (going_costs (taken s.placer) (taken s'.placer) a r.size r.length r.blocks want got _ _ _ _ _ _ _ _ _ _ _ _ (e.all on) read step.turns t.writes.calls t.writes.turns).once;
+      least = taken_read (taken s.placer) (taken s'.placer) a r.size r.length r.blocks want got _ _ _ _ _ _ within read;
       last = last_on _ _ _ _ got (read_more (taken s.placer) (taken s'.placer) r.size r.length e.order) l.given few;
-      going_calls = λ on. (going_costs (taken s.placer) (taken s'.placer) a r.size r.length r.blocks want got _ _ _ _ _ _ _ _ _ _ _ _ (e.all on) read step.turns t.calls t.turns).calls;
+      going_calls = λ on. (going_costs (taken s.placer) (taken s'.placer) a r.size r.length r.blocks want got _ _ _ _ _ _ _ _ _ _ _ _ (e.all on) read step.turns t.writes.calls t.writes.turns).calls;
       calls = spent.calls;
-      going_turns = λ on. (going_costs (taken s.placer) (taken s'.placer) a r.size r.length r.blocks want got _ _ _ _ _ _ _ _ _ _ _ _ (e.all on) read step.turns t.calls t.turns).turns;
+      going_turns = λ on. (going_costs (taken s.placer) (taken s'.placer) a r.size r.length r.blocks want got _ _ _ _ _ _ _ _ _ _ _ _ (e.all on) read step.turns t.writes.calls t.writes.turns).turns;
       turns = spent.turns;
-      greatest = greatest_on _ _ _ _ got l.greatest step.greatest t.greatest few;
+      greatest = greatest_on _ _ _ _ got l.greatest step.greatest t.writes.greatest few;
       faults = l.faults;
-      write_faults = t.faults;
-      clean = (l.clean (rw c.in_default.is refl), e.clean);
-      full_faults = e.full_faults;
+      write_faults = t.writes.faults;
+      clean = (l.clean (rw c.in_default.is refl), e.writes.clean);
+      full_faults = e.writes.full_faults;
       full = λ h. absurd cc;
       cause = tt;
     }
@@ -242,11 +245,11 @@ returns-in-Err g c =
       calls = l.calls;
       turns = l.turns;
     } in
-    let spent = read_costs (taken s.placer) a r.size r.length r.blocks want got _ _ _ _ _ _ _ _ _ _ _ _ 1 (omega arith) read step.turns t.calls t.turns in
+    let spent = read_costs (taken s.placer) a r.size r.length r.blocks want got _ _ _ _ _ _ _ _ _ _ _ _ read step.turns t.writes.calls t.writes.turns in
     record {
       content = l.content;
       read_frame = l.frame;
-      write_frame = t.frame;
+      write_frame = t.writes.frame;
       told = tt;
       ended = tt;
       kept = t.kept;
@@ -254,24 +257,26 @@ returns-in-Err g c =
       on = tt;
       inside = tt;
       same = t.same;
-      grown = t.grown;
+      grown = t.writes.grown;
+      within = no_wider (taken s.placer + a) r.blocks r.size (s.placer.front + 28) _ (omega arith) t.within;
       long = e.long;
       given = spent.more;
-      received = received_on _ _ got _ _ _ _ l.given l.steps step.steps t.steps few;
+      received = received_on _ _ got _ _ _ _ l.given l.steps step.steps t.writes.steps few;
       economy = spent.economy;
       once = tt;
+      least = tt;
       last = tt;
       going_calls = tt;
       calls = spent.calls;
       going_turns = tt;
       turns = spent.turns;
-      greatest = greatest_on _ _ _ _ got l.greatest step.greatest t.greatest few;
+      greatest = greatest_on _ _ _ _ got l.greatest step.greatest t.writes.greatest few;
       faults = l.faults;
-      write_faults = t.faults;
+      write_faults = t.writes.faults;
       clean = tt;
-      full_faults = e.full_faults;
-      full = λ h. t.full (rw c.in-Err.is (says_full _ h));
-      cause = e.cause;
+      full_faults = e.writes.full_faults;
+      full = λ h. t.writes.full (rw c.in-Err.is (says_full _ h));
+      cause = e.writes.cause;
     }
 
 -- the window has room for what is asked for

@@ -1,16 +1,15 @@
-use Rattle.std.proofs.Common.{drop, ◌≡◌, ◌*◌, ◌+◌, ◌-◌, ◌++◌, ◌∙◌, arith, refl, subst, sym, append-nil, List, true, false, ℕ}
-use Rattle.std.proofs.Math.Nat.{le_refl, le_trans}
+use Rattle.std.proofs.Common.{length, drop, ◌≡◌, ◌*◌, ◌+◌, ◌-◌, ◌++◌, ◌∙◌, arith, refl, subst, sym, append-nil, List, true, false, ℕ, ◌/◌}
 use Rattle.abt_sparse.specs.Block.{Block}
-use Rattle.abt_pieces.proofs.Fronts.{no_more}
 use Rattle.abt_placed.specs.Placed.{classes}
 use Rattle.abt_placed.specs.Segment.{LaidSegment, IsOver}
 use Rattle.abt_placed.specs.Unfinished.{KeepsFront}
 use Rattle.abt_placed.specs.Whole.{taken}
 use Rattle.abt_placed.proofs.Numbers.{blocks_fit}
-use Rattle.abt_placed.proofs.Costs.{look_costs, take_costs, more_blocks}
+use Rattle.abt_placed.proofs.Costs.{look_costs, look_some, more_blocks, sound_within, wider, no_further}
 use Rattle.abt_placed.proofs.Laying.{part_classes}
 use Rattle.abt_placed.proofs.Refusing.{keeps_same, keeps_then}
 use Rattle.abt_placed.proofs.Segments.{window_over, more_laid}
+use Rattle.abt_placed.proofs.Onward.{still, ticked, onward, succeeds, at_most}
 use Rattle.abt_placed.proofs.segment.Segment.take_fitting.Goals as goal
 
 pub part-requires-clause-bound : goal.part-requires-clause-bound
@@ -36,24 +35,17 @@ loop-done-preserved g c =
     let n = c.leading-kind.result.1 in
     let d = c.loop-done.done in
     let b = c.args.size in
-    let k = look_costs n b c.tick.new.self.turns.number c.leading-kind.new.m.turns.number c.leading-kind.ensures.some c.requires.some c.leading-kind.ensures.looked in
-    let y = take_costs n b c.leading-kind.ensures.some c.requires.some in
-    let z : (d + n) * b ≡ d * b + n * b = omega arith in
+    let look = look_costs n b c.tick.new.self.turns.number c.leading-kind.new.m.turns.number c.loop-done.m.turns.number c.leading-kind.ensures.some c.requires.words c.leading-kind.ensures.looked c.tick.ensures.turns in
+    let some = look_some n b c.leading-kind.ensures.some in
+    let all : (d + n) * (b / 2 + 17) ≡ d * (b / 2 + 17) + n * (b / 2 + 17) = omega arith in
     record {
       within = omega arith;
       sound = e.sound;
       laid = λ f p. more_laid b d n (d * b) (d * b + n * b) f c.args.w.now.bytes c.part-in-loop-done.result.now (g.O.Output.written c.take_part.new.output) c.take_part.new.self refl (omega arith) c.part-in-loop-done.ensures.value (e.laid (f ++ classes b d c.args.w.now.bytes) (i.laid f p) on);
       passed = omega (arith, e.passed on, i.passed);
       same = (t.same.0 ∙ i.same.0, t.same.1 ∙ i.same.1, t.same.2 ∙ i.same.2, t.same.3 ∙ i.same.3);
-      grown = omega (arith, t.grown, i.grown);
+      writes = succeeds (at_most (onward (onward i.writes (ticked g.O.Output c.loop-done.output c.loop-done.m c.leading-kind.new.m (n * (b / 2 + 17) - 14) look (c.leading-kind.ensures.steps ∙ c.tick.ensures.steps) (c.leading-kind.ensures.greatest ∙ c.tick.ensures.greatest))) e.writes) (omega (arith, c.leading-kind.ensures.some)) (omega (arith, all, some)));
       kept = keeps_then (c.args.self.now.placer.front + 28) (g.O.Output.written c.args.output.now) (g.O.Output.written c.loop-done.output) (g.O.Output.written c.take_part.new.output) i.kept (subst (λ (j : ℕ). KeepsFront (j + 28) (g.O.Output.written c.loop-done.output) (g.O.Output.written c.take_part.new.output)) i.same.1 t.kept);
-      frame = t.frame ∙ i.frame;
-      faults = e.clean ∙ i.faults;
-      full_faults = omega (arith, t.full_faults, e.full_faults, i.full_faults);
-      calls = omega (arith, i.calls, t.calls, y, z);
-      turns = omega (arith, i.turns, t.turns, k, z, c.tick.ensures.turns);
-      steps = omega arith;
-      greatest = omega arith;
     }
 
 pub loop-done-init : goal.loop-done-init
@@ -63,15 +55,8 @@ loop-done-init g c = record {
   laid = λ f p. subst (λ (l : List Block). LaidSegment c.args.size l (g.O.Output.written c.args.output.now) c.args.self.now) (sym (append-nil f)) p;
   passed = omega arith;
   same = (refl, refl, refl, refl);
-  grown = le_refl _;
+  writes = still;
   kept = keeps_same _ _;
-  frame = refl;
-  faults = refl;
-  full_faults = refl;
-  calls = no_more _ _;
-  turns = no_more _ _;
-  steps = refl;
-  greatest = refl;
 }
 
 -- the next blocks don't fit
@@ -92,6 +77,9 @@ returns-then-ended g c =
     let now = g.O.Output.written c.loop-done.output in
     let new = g.O.Output.written c.take_part.new.output in
     let z : d ≡ taken s.placer - taken c.args.self.now.placer = omega (arith, i.passed) in
+    let look = look_costs n b c.tick.new.self.turns.number c.leading-kind.new.m.turns.number c.loop-done.m.turns.number c.leading-kind.ensures.some c.requires.words c.leading-kind.ensures.looked c.tick.ensures.turns in
+    let some = look_some n b c.leading-kind.ensures.some in
+    let more = more_blocks c.loop-done.done n c.args.blocks (b / 2 + 17) (omega arith) in
     record {
       kept = keeps_then (c.args.self.now.placer.front + 28) old now new i.kept (subst (λ (j : ℕ). KeepsFront (j + 28) now new) i.same.1 t.kept);
       sound = e.sound;
@@ -105,24 +93,11 @@ returns-then-ended g c =
           let o = window_over b d n a (d * b) (d * b + n * b) f w c.part-in-loop-done.result.now now s _ c.leading-kind.result.0 c.requires.some c.leading-kind.ensures.some (omega arith) refl (omega arith) c.part-in-loop-done.ensures.value i.sound (i.laid f p) all (omega (arith, c.leading-kind.ensures.within, c.min-cap.ensures, c.cap.ensures.cap)) (e.over on) in
           let o' = subst (λ (m : ℕ). IsOver m b (f ++ classes b d w) (drop d (classes b a w))) i.same.3 o in
           rw st.0 (subst (λ (m : ℕ). IsOver c.args.self.now.limit b (f ++ classes b m w) (drop m (classes b a w))) z o');
+      reached = λ is. no_further _ c.args.self.now.limit (taken s.placer) (taken c.args.self.now.placer) d n a b i.same.3 i.passed (omega arith) (e.reached on);
       same = (t.same.0 ∙ i.same.0, t.same.1 ∙ i.same.1, t.same.2 ∙ i.same.2, t.same.3 ∙ i.same.3);
-      grown = le_trans i.grown t.grown;
-      long = omega (arith, e.long, i.same.1, i.same.3);
-      frame = t.frame ∙ i.frame;
-      faults = omega (arith, i.faults, t.faults);
-      clean = e.clean ∙ i.faults;
-      full_faults = omega (arith, e.full_faults, i.full_faults);
-      full = λ h. absurd cc;
-      cause = tt;
-      calls =
-          let m = more_blocks d n a b (omega arith) in
-          rw st.1 (omega (arith, i.calls, m));
-      turns =
-          let k = look_costs n b c.tick.new.self.turns.number c.leading-kind.new.m.turns.number c.leading-kind.ensures.some c.requires.some c.leading-kind.ensures.looked in
-          let m = more_blocks d n a b (omega arith) in
-          omega (arith, i.turns, k, m, t.turns, c.tick.ensures.turns);
-      steps = t.steps ∙ c.leading-kind.ensures.steps ∙ c.tick.ensures.steps ∙ i.steps;
-      greatest = t.greatest ∙ c.leading-kind.ensures.greatest ∙ c.tick.ensures.greatest ∙ i.greatest;
+      writes = succeeds (at_most (onward (onward i.writes (ticked g.O.Output c.loop-done.output c.loop-done.m c.leading-kind.new.m (n * (b / 2 + 17) - 14) look (c.leading-kind.ensures.steps ∙ c.tick.ensures.steps) (c.leading-kind.ensures.greatest ∙ c.tick.ensures.greatest))) e.writes) (omega (arith, c.leading-kind.ensures.some)) (omega (arith, more, some)));
+      within = wider c.args.self.now.placer.front s.placer.front (taken c.args.self.now.placer) (taken s.placer) d n a (length new) b i.same.1 i.passed (omega arith) t.within;
+      long = λ uncut. let long = e.long (rw (i.same.3, i.same.0) uncut) in omega (arith, long, i.same.1, i.same.3);
     }
 
 -- blocks are not laid
@@ -136,7 +111,10 @@ returns-in-Err g c =
     let old = g.O.Output.written c.args.output.now in
     let now = g.O.Output.written c.loop-done.output in
     let new = g.O.Output.written c.take_part.new.output in
-    let m = more_blocks c.loop-done.done n c.args.blocks b (omega arith) in
+    let s = c.loop-done.self in
+    let look = look_costs n b c.tick.new.self.turns.number c.leading-kind.new.m.turns.number c.loop-done.m.turns.number c.leading-kind.ensures.some c.requires.words c.leading-kind.ensures.looked c.tick.ensures.turns in
+    let some = look_some n b c.leading-kind.ensures.some in
+    let more = more_blocks c.loop-done.done n c.args.blocks (b / 2 + 17) (omega arith) in
     record {
       kept = keeps_then (c.args.self.now.placer.front + 28) old now new i.kept (subst (λ (j : ℕ). KeepsFront (j + 28) now new) i.same.1 t.kept);
       sound = tt;
@@ -146,23 +124,11 @@ returns-in-Err g c =
       short = tt;
       some = tt;
       over = λ f p. tt;
+      reached = tt;
       same = (t.same.0 ∙ i.same.0, t.same.1 ∙ i.same.1, t.same.2 ∙ i.same.2, t.same.3 ∙ i.same.3);
-      grown = le_trans i.grown t.grown;
-      long = rw (← i.same.1, ← i.same.3) e.long;
-      frame = t.frame ∙ i.frame;
-      faults = omega (arith, i.faults, t.faults);
-      clean = tt;
-      full_faults = rw i.full_faults at e.full_faults;
-      full = e.full;
-      cause = rw i.faults at e.cause;
-      calls =
-          let y = take_costs n b c.leading-kind.ensures.some c.requires.some in
-          omega (arith, i.calls, m, y, t.calls);
-      turns =
-          let k = look_costs n b c.tick.new.self.turns.number c.leading-kind.new.m.turns.number c.leading-kind.ensures.some c.requires.some c.leading-kind.ensures.looked in
-          omega (arith, i.turns, k, m, t.turns, c.tick.ensures.turns);
-      steps = t.steps ∙ c.leading-kind.ensures.steps ∙ c.tick.ensures.steps ∙ i.steps;
-      greatest = t.greatest ∙ c.leading-kind.ensures.greatest ∙ c.tick.ensures.greatest ∙ i.greatest;
+      writes = at_most (onward (onward i.writes (ticked g.O.Output c.loop-done.output c.loop-done.m c.leading-kind.new.m (n * (b / 2 + 17) - 14) look (c.leading-kind.ensures.steps ∙ c.tick.ensures.steps) (c.leading-kind.ensures.greatest ∙ c.tick.ensures.greatest))) e.writes) (omega (arith, c.leading-kind.ensures.some)) (omega (arith, more, some));
+      within = wider c.args.self.now.placer.front s.placer.front (taken c.args.self.now.placer) (taken s.placer) c.loop-done.done n c.args.blocks (length new) b i.same.1 i.passed (omega arith) t.within;
+      long = λ uncut. let long = e.long (rw (i.same.3, i.same.0) uncut) in omega (arith, long, i.same.1, i.same.3);
     }
 
 -- all fit
@@ -170,6 +136,7 @@ pub returns : goal.returns
 returns g c =
     let i = c.loop-done.invariant in
     let w = c.args.w.now.bytes in
+    let s = c.loop-done.self in
     let b = c.args.size in
     let y : c.loop-done.done ≡ c.args.blocks = omega arith in
     let z : c.loop-done.done ≡ taken c.loop-done.self.placer - taken c.args.self.now.placer = omega (arith, i.passed) in
@@ -182,19 +149,11 @@ returns g c =
       short = λ is. absurd (let x : false ≡ true = is in cc);
       some = λ is. absurd (let x : false ≡ true = is in cc);
       over = λ f p is. absurd (let x : false ≡ true = is in cc);
+      reached = λ is. absurd (let x : false ≡ true = is in cc);
       same = i.same;
-      grown = i.grown;
-      long = omega (arith, i.sound.fits, i.sound.room, i.same.1, i.same.3);
-      frame = i.frame;
-      faults = omega (arith, i.faults);
-      clean = i.faults;
-      full_faults = omega (arith, i.full_faults);
-      full = λ h. absurd cc;
-      cause = tt;
-      calls = rw y at i.calls;
-      turns = rw y at i.turns;
-      steps = i.steps;
-      greatest = i.greatest;
+      writes = rw y at i.writes;
+      within = wider c.args.self.now.placer.front s.placer.front (taken c.args.self.now.placer) (taken s.placer) c.loop-done.done 0 c.args.blocks _ b i.same.1 i.passed (omega arith) (let w = sound_within b _ s.placer i.sound.placer in omega (arith, w));
+      long = λ uncut. let fits = i.sound.fits (rw (i.same.3, i.same.0) uncut) in omega (arith, fits, i.sound.room, i.same.1, i.same.3);
     }
 
 -- places in the window

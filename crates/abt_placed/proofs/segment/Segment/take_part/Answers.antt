@@ -1,13 +1,13 @@
-use Rattle.std.proofs.Common.{◌≡◌, inl, inr, true, false, arith, ◌++◌, refl}
-use Rattle.std.proofs.Math.Nat.{le_refl}
+use Rattle.std.proofs.Common.{◌≡◌, ◌+◌, inl, inr, true, false, arith, ◌++◌, refl}
 use Rattle.std.proofs.lemmas.Bool.{cases_Bool}
-use Rattle.abt_pieces.proofs.Fronts.{no_more}
 use Rattle.abt_placed.specs.Segment.{is_fresh}
 use Rattle.abt_placed.specs.Placed.{skips}
-use Rattle.abt_placed.proofs.Segments.{first_fits, kind_held, sound_on, laid_on}
+use Rattle.abt_placed.specs.Whole.{taken}
+use Rattle.abt_placed.proofs.Costs.{no_wider, sound_within}
+use Rattle.abt_placed.proofs.Segments.{first_fits, kind_held, sound_on, laid_on, reached_by}
 use Rattle.abt_placed.proofs.Within.{taken_within}
-use Rattle.abt_placed.proofs.Parts.{same_fault}
 use Rattle.abt_placed.proofs.Refusing.{keeps_same}
+use Rattle.abt_placed.proofs.Onward.{still, fails, succeeds}
 use Rattle.abt_placed.proofs.segment.Segment.take_part.Goals as goal
 
 -- they don't fit
@@ -28,19 +28,11 @@ returns-then-gain-self g c =
         | inr e ↦ s.some e
       ];
       over = λ d. rw c.gain-gain.ensures at over;
+      reached = λ d. reached_by c.args.size c.args.blocks _ c.args.self.now c.args.kind s c.requires.some (rw c.gain-gain.ensures at over);
       same = (refl, refl, refl, refl);
-      grown = le_refl _;
-      long = omega (arith, s.fits, s.room);
-      frame = refl;
-      faults = le_refl _;
-      clean = refl;
-      full_faults = omega arith;
-      full = λ says. absurd cc;
-      cause = tt;
-      calls = no_more _ _;
-      turns = no_more _ _;
-      steps = refl;
-      greatest = refl;
+      writes = still;
+      within = no_wider (taken c.args.self.now.placer) (taken c.args.self.now.placer + c.args.blocks) c.args.size (c.args.self.now.placer.front + 28) _ (omega arith) (sound_within c.args.size _ c.args.self.now.placer s.placer);
+      long = λ uncut. let fits = s.fits uncut in omega (arith, fits, s.room);
     }
 
 -- they are not laid
@@ -57,19 +49,11 @@ returns-in-Err g c =
       still = tt;
       some = tt;
       over = tt;
+      reached = tt;
       same = (t.same.0, t.same.1, refl, refl);
-      grown = t.grown;
-      long = taken_within c.args.size c.args.blocks c.gain-gain.result _ _ _ c.args.self.now c.args.kind c.requires.sound c.requires.some (kind_held c.args.size c.args.blocks c.args.bytes.now c.args.kind c.requires.some c.requires.all) c.gain-gain.ensures (omega (arith, fits)) e.adds;
-      frame = t.frame;
-      faults = t.faults;
-      clean = tt;
-      full_faults = e.full_faults;
-      full = λ says. e.full (same_fault c.in-Err.fault says);
-      cause = e.cause;
-      calls = t.calls;
-      turns = t.turns;
-      steps = t.steps;
-      greatest = t.greatest;
+      writes = fails e.writes (omega arith) (omega arith);
+      within = t.within;
+      long = λ uncut. taken_within c.args.size c.args.blocks c.gain-gain.result _ _ _ c.args.self.now c.args.kind c.requires.sound uncut c.requires.some (kind_held c.args.size c.args.blocks c.args.bytes.now c.args.kind c.requires.some c.requires.all) c.gain-gain.ensures (omega (arith, fits)) e.adds;
     }
 
 -- they are taken
@@ -87,17 +71,9 @@ returns g c =
       still = λ d. absurd (let z : false ≡ true = d in cc);
       some = λ d. absurd (let z : false ≡ true = d in cc);
       over = λ d. absurd (let z : false ≡ true = d in cc);
+      reached = λ d. absurd (let z : false ≡ true = d in cc);
       same = (t.same.0, t.same.1, refl, refl);
-      grown = t.grown;
-      long = taken_within c.args.size c.args.blocks c.gain-gain.result _ _ 0 c.args.self.now c.args.kind c.requires.sound c.requires.some held c.gain-gain.ensures (omega (arith, fits)) e.adds;
-      frame = t.frame;
-      faults = t.faults;
-      clean = e.clean;
-      full_faults = e.full_faults;
-      full = λ says. absurd cc;
-      cause = tt;
-      calls = t.calls;
-      turns = t.turns;
-      steps = t.steps;
-      greatest = t.greatest;
+      writes = succeeds e.writes;
+      within = t.within;
+      long = λ uncut. taken_within c.args.size c.args.blocks c.gain-gain.result _ _ 0 c.args.self.now c.args.kind c.requires.sound uncut c.requires.some held c.gain-gain.ensures (omega (arith, fits)) e.adds;
     }

@@ -84,10 +84,12 @@ returns-then-ended g c =
       inside = e.inside;
       same = (t.same.0 ∙ i.same.0, t.same.1 ∙ i.same.1, t.same.2 ∙ i.same.2, t.same.3 ∙ i.same.3);
       grown = le_trans i.grown t.grown;
-      long = omega (arith, i.same.1, i.same.3, e.long);
+      within = omega (arith, t.within, i.same.1);
+      long = λ uncut. let long = e.long (rw (i.same.3, i.same.0) uncut) in omega (arith, i.same.1, i.same.3, long);
       given = le_trans i.more t.given;
       received = omega (arith, i.received, t.received);
       economy = omega (arith, i.given, t.economy);
+      least = omega (arith, i.given, e.least);
       last = omega (arith, i.given, e.last);
       calls = omega (arith, i.calls, t.calls, i.more, t.given);
       turns = omega (arith, i.turns, t.turns, i.more, t.given);
@@ -120,10 +122,12 @@ returns-in-Err g c =
       inside = tt;
       same = (t.same.0 ∙ i.same.0, t.same.1 ∙ i.same.1, t.same.2 ∙ i.same.2, t.same.3 ∙ i.same.3);
       grown = le_trans i.grown t.grown;
-      long = rw (← i.same.1, ← i.same.3) e.long;
+      within = omega (arith, t.within, i.same.1);
+      long = λ uncut. let long = e.long (rw (i.same.3, i.same.0) uncut) in omega (arith, i.same.1, i.same.3, long);
       given = le_trans i.more t.given;
       received = omega (arith, i.received, t.received);
       economy = omega (arith, i.given, t.economy);
+      least = tt;
       last = tt;
       calls = omega (arith, i.calls, t.calls, i.more, t.given);
       turns = omega (arith, i.turns, t.turns, i.more, t.given);

@@ -2,7 +2,7 @@ use Rattle.std.proofs.Common.{length, ◌-◌, ◌≡◌, ◌≤◌, ◌+◌, �
 use Rattle.std.specs.Prelude.{IsTrue}
 use Rattle.abt_placed.specs.Segment.{SoundSegment, ToldSegment}
 use Rattle.abt_placed.specs.Unfinished.{KeepsFront}
-use Rattle.abt_placed.specs.Whole.{taken, read_of, padding}
+use Rattle.abt_placed.specs.Whole.{taken, read_of, spare}
 use Rattle.abt_placed.proofs.segment.Segment.take_source.Given as goal
 
 abbrev pub invariant-loop-ended : goal.invariant-loop-ended
@@ -19,8 +19,8 @@ invariant-loop-ended g l = record {
   given : g.S.Source.given l.source + read_of l.runs.length l.runs.size (taken l.fn.self.placer) ≡ g.S.Source.given l.fn.source + read_of l.runs.length l.runs.size (taken l.self.placer);
   more : g.S.Source.given l.fn.source ≤ g.S.Source.given l.source;
   received : g.S.Source.given l.source + 65536 * l.fn.m.steps.number ≤ g.S.Source.given l.fn.source + 65536 * l.m.steps.number;
-  calls : g.S.Source.reads l.source + g.O.Output.writes l.output + length (g.O.Output.written l.fn.output) ≤ g.S.Source.reads l.fn.source + g.O.Output.writes l.fn.output + length (g.O.Output.written l.output) + 6 * (g.S.Source.given l.source - g.S.Source.given l.fn.source) + 4 * padding l.runs.length l.runs.size (taken l.self.placer);
-  turns : l.m.turns.number + length (g.O.Output.written l.fn.output) ≤ l.fn.m.turns.number + length (g.O.Output.written l.output) + 8 * (g.S.Source.given l.source - g.S.Source.given l.fn.source) + 5 * padding l.runs.length l.runs.size (taken l.self.placer);
+  calls : g.S.Source.reads l.source + g.O.Output.writes l.output + length (g.O.Output.written l.fn.output) ≤ g.S.Source.reads l.fn.source + g.O.Output.writes l.fn.output + length (g.O.Output.written l.output) + 6 * (g.S.Source.given l.source - g.S.Source.given l.fn.source) + spare 14 l.runs.length l.runs.size (taken l.self.placer);
+  turns : l.m.turns.number + length (g.O.Output.written l.fn.output) ≤ l.fn.m.turns.number + length (g.O.Output.written l.output) + 7 * (g.S.Source.given l.source - g.S.Source.given l.fn.source) + spare (l.runs.size + 14) l.runs.length l.runs.size (taken l.self.placer);
   greatest : l.m.greatest.number ≤ max l.fn.m.greatest.number 65536;
   faults : g.S.Source.read_faults l.source ≡ g.S.Source.read_faults l.fn.source;
   write_faults : g.O.Output.write_faults l.output ≡ g.O.Output.write_faults l.fn.output;
