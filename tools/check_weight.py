@@ -19,7 +19,7 @@ from repository import HERE, crate_lines
 
 # The most functions of a crate, and those that have more; docs/DECISIONS.md says why these are not taken apart.
 FUNCTIONS = 100
-MORE_FUNCTIONS = {"abt_io": 156, "abt_sections": 122}
+MORE_FUNCTIONS = {"abt_io": 160, "abt_sections": 122}
 # How many functions have contracts of more clauses than this.
 LONG_CONTRACTS = {15: 112, 20: 51}
 NAMES_DEFINED_TWICE = 106

@@ -52,3 +52,27 @@ pub before_on : (c new : List ℕ) (at place : ℕ) (x : List ℕ) → at ≤ pl
 before_on c new at place x le fits e =
     let t : length (take place c) ≡ place = length-take-le place c (omega (arith, fits)) in
     ap (take at) (e ∙ sym (put'_is c place x)) ∙ take-append-le at (take place c) (x ++ drop (place + length x) c) (omega (arith, t, le)) ∙ sym (take-append-le at (take place c) (drop place c) (omega (arith, t, le))) ∙ ap (take at) (take-append-drop place c)
+
+-- behind what is left out
+drop_put' : (c x : List ℕ) (n k j at e : ℕ) → at ≡ k + n → e ≡ j + n → n ≤ length c → drop n (take at c ++ (x ++ drop e c)) ≡ take k (drop n c) ++ (x ++ drop j (drop n c))
+drop_put' c x zero k j at e here there le =
+    ap (λ (i : ℕ). take i c ++ (x ++ drop e c)) (let z : at ≡ k = omega (arith, here) in z) ∙ ap (λ (i : ℕ). take k c ++ (x ++ drop i c)) (let z : e ≡ j = omega (arith, there) in z)
+drop_put' [] x (suc n) k j at e here there le = absurd (omega (arith, le))
+drop_put' (z ∷ c) x (suc n) k j zero e here there le = absurd (omega (arith, here))
+drop_put' (z ∷ c) x (suc n) k j (suc at) zero here there le = absurd (omega (arith, there))
+drop_put' (z ∷ c) x (suc n) k j (suc at) (suc e) here there le = drop_put' c x n k j at e (omega (arith, here)) (omega (arith, there)) (omega (arith, le))
+
+drop_put : (c x : List ℕ) (n at : ℕ) → n ≤ at → at + length x ≤ length c → drop n (put_at c at x) ≡ put_at (drop n c) (at - n) x
+drop_put c x n at le fits =
+    ap (drop n) (sym (put'_is c at x))
+    ∙ drop_put' c x n (at - n) (at - n + length x) at (at + length x) (omega (arith, le)) (omega (arith, le)) (omega (arith, le, fits))
+    ∙ put'_is (drop n c) (at - n) x
+
+-- what a room holds since the last clear, where it is laid over
+pub since_put : (room new all x : List ℕ) (used cut at : ℕ) → take used room ≡ drop cut all → new ≡ put_at room (at - cut) x → cut ≤ at → at + length x ≤ length all → take used new ≡ drop cut (put_at all at x)
+since_put room new all x used cut at now e le fits =
+    let long : at - cut + length x ≤ length (take used room) = omega (arith, le, fits, ap length now, length-drop cut all) in
+    slice_put room x new (at - cut) used e long
+    ∙ ap (λ (l : List ℕ). put_at (take used room) (at - cut) l) (take_all (length x) x (omega arith))
+    ∙ ap (λ (l : List ℕ). put_at l (at - cut) x) now
+    ∙ sym (drop_put all x cut at le fits)

@@ -1,12 +1,12 @@
 //! Files as a source, a partition and a spool. They tell nothing: what a real file holds between
 //! two calls is beyond a proof. Each call is one positioned read or write, without a buffer.
 
-ghost use Rattle.std.specs.Prelude.{◌≡◌, ◌≤◌, ◌+◌, [], false, not, nat_lt, length, IfOk, IsSome, refl};
+ghost use Rattle.std.specs.Prelude.{◌≡◌, ◌<◌, ◌≤◌, ◌+◌, ◌^◌, [], false, not, nat_lt, length, IfOk, IsSome, refl};
 ghost use Rattle.std.proofs.lemmas.Bool.{false≢true};
 ghost use Rattle.abt_io.specs.Frame.{last_cut, nothing_logged};
 ghost use Rattle.abt_io.specs.Held.{filled_count};
 
-use crate::{DeviceFault, Input, Log, Output, Partition, Source, Spool, Tally, tries};
+use crate::{DeviceFault, Input, Log, Output, Overwrite, Partition, Source, Spool, Tally, tries};
 use std::fs::{File, OpenFile};
 use std::io::{Seek, SeekFrom};
 
@@ -230,6 +230,8 @@ pub struct FileSpool {
     pub capacity: u64,
     pub used: u64,
     pub seen: u64,
+    /// How much had been written at the last clear.
+    pub cleared: u64,
     pub log: Log,
     pub reads: Tally,
     pub given: Tally,
@@ -239,8 +241,10 @@ pub struct FileSpool {
     pub full_faults: Tally,
     pub clears: Tally,
     pub clear_faults: Tally,
+    pub ghost cut: { cleared ≡ last_cut log.state.cuts },
     pub ghost since: { last_cut log.state.cuts + used ≡ length log.state.bytes },
     pub ghost room: { used ≤ capacity },
+    pub ghost fits: { cleared + used < 2 ^ 64 },
 }
 
 impl FileSpool {
@@ -257,6 +261,7 @@ impl FileSpool {
             capacity,
             used: 0,
             seen: 0,
+            cleared: 0,
             log: Log::new(),
             reads: Tally::new(),
             given: Tally::new(),
@@ -347,11 +352,41 @@ impl Output for FileSpool {
             return Err(DeviceFault::Full);
         }
         let n = (self.capacity - used).min(bytes.len() as u64) as usize;
+        if n as u64 > u64::MAX - self.cleared - used {
+            self.write_faults.add(1);
+            return Err(DeviceFault::Failed);
+        }
         match tries::write_at(&self.file, used, &bytes[..n]) {
             Ok(taken) => {
                 self.log.append(&bytes[..taken]);
                 self.used = used + taken as u64;
                 Ok(taken)
+            }
+            Err(_) => {
+                self.write_faults.add(1);
+                Err(DeviceFault::Failed)
+            }
+        }
+    }
+}
+
+impl Overwrite for FileSpool {
+    fn position(&self) -> u64 {
+        self.cleared + self.used
+    }
+
+    /// A place before the last clear is refused: nothing stands there any more.
+    fn write_over(&mut self, at: u64, bytes: &[u8]) -> Result<usize, DeviceFault> {
+        self.writes.add(1);
+        let cleared = self.cleared;
+        if at < cleared {
+            self.write_faults.add(1);
+            return Err(DeviceFault::Failed);
+        }
+        match tries::write_at(&self.file, at - cleared, bytes) {
+            Ok(n) => {
+                self.log.put(&bytes[..n], at);
+                Ok(n)
             }
             Err(_) => {
                 self.write_faults.add(1);
@@ -391,6 +426,7 @@ impl Spool for FileSpool {
         match self.file.set_len(0) {
             Ok(()) => {
                 self.log.cut();
+                self.cleared += self.used;
                 self.used = 0;
                 self.seen = 0;
                 Ok(())

@@ -1,13 +1,13 @@
 //! A lent slice as a spool.
 
-ghost use Rattle.std.specs.Prelude.{◌≡◌, ◌≤◌, ◌+◌, length, take, drop, true, not, nat_lt, refl};
+ghost use Rattle.std.specs.Prelude.{◌≡◌, ◌<◌, ◌≤◌, ◌+◌, ◌^◌, length, take, drop, true, not, nat_lt, refl};
 ghost use Rattle.abt_io.specs.BytesLaws.{bytes_of_part};
 ghost use Rattle.abt_io.specs.Frame.{nothing_logged, last_cut};
 ghost use Rattle.abt_io.specs.Held.{held_is, filled_is};
 
 use crate::bytes::read_part;
 use crate::cells::Cells;
-use crate::{DeviceFault, Input, Log, Output, Spool, Tally};
+use crate::{DeviceFault, Input, Log, Output, Overwrite, Spool, Tally};
 
 /// A lent slice that is written from its front on, and read from its front on.
 #[derive(Drop)]
@@ -15,14 +15,20 @@ pub struct SliceSpool<'a> {
     pub cells: Cells<'a>,
     pub used: usize,
     pub seen: usize,
+    /// How much had been written at the last clear.
+    pub cleared: u64,
     pub log: Log,
     pub reads: Tally,
     pub given: Tally,
     pub writes: Tally,
     pub write_faults: Tally,
+    pub full_faults: Tally,
     pub clears: Tally,
     pub ghost since: { take used cells.bytes.now ≡ drop (last_cut log.state.cuts) log.state.bytes },
-    pub ghost cut: { last_cut log.state.cuts ≤ length log.state.bytes },
+    pub ghost cut: { cleared ≡ last_cut log.state.cuts },
+    pub ghost all: { cleared + used ≡ length log.state.bytes },
+    pub ghost room: { used ≤ length cells.bytes.now },
+    pub ghost fits: { cleared + used < 2 ^ 64 },
 }
 
 impl<'a> SliceSpool<'a> {
@@ -38,11 +44,13 @@ impl<'a> SliceSpool<'a> {
             cells: Cells::new(room),
             used: 0,
             seen: 0,
+            cleared: 0,
             log: Log::new(),
             reads: Tally::new(),
             given: Tally::new(),
             writes: Tally::new(),
             write_faults: Tally::new(),
+            full_faults: Tally::new(),
             clears: Tally::new(),
         }
     }
@@ -65,7 +73,7 @@ impl<'a> Input for SliceSpool<'a> {
       capacity = length s.cells.bytes.now;
       writes = s.writes.number;
       write_faults = s.write_faults.number;
-      full_faults = s.write_faults.number;
+      full_faults = s.full_faults.number;
       clears = s.clears.number;
       clear_faults = 0;
     } };
@@ -92,7 +100,7 @@ impl<'a> Output for SliceSpool<'a> {
 
     ghost write_faults = { λ s. s.write_faults.number };
 
-    ghost full_faults = { λ s. s.write_faults.number };
+    ghost full_faults = { λ s. s.full_faults.number };
 
     ghost write_frame = { λ s. record {
       gone = last_cut s.log.state.cuts + s.seen;
@@ -114,13 +122,37 @@ impl<'a> Output for SliceSpool<'a> {
         let used = self.used;
         if used >= room {
             self.write_faults.add(1);
+            self.full_faults.add(1);
             return Err(DeviceFault::Full);
         }
         let n = bytes.len().min(room - used);
+        if n as u64 > u64::MAX - self.cleared - used as u64 {
+            self.write_faults.add(1);
+            return Err(DeviceFault::Failed);
+        }
         self.cells.put(used as u64, &bytes[..n]);
         self.log.append(&bytes[..n]);
         self.used = used + n;
         Ok(n)
+    }
+}
+
+impl<'a> Overwrite for SliceSpool<'a> {
+    fn position(&self) -> u64 {
+        self.cleared + self.used as u64
+    }
+
+    /// A place before the last clear is refused: nothing stands there any more.
+    fn write_over(&mut self, at: u64, bytes: &[u8]) -> Result<usize, DeviceFault> {
+        self.writes.add(1);
+        let cleared = self.cleared;
+        if at < cleared {
+            self.write_faults.add(1);
+            return Err(DeviceFault::Failed);
+        }
+        self.cells.put(at - cleared, bytes);
+        self.log.put(bytes, at);
+        Ok(bytes.len())
     }
 }
 
@@ -152,6 +184,7 @@ impl<'a> Spool for SliceSpool<'a> {
     fn clear(&mut self) -> Result<(), DeviceFault> {
         self.clears.add(1);
         self.log.cut();
+        self.cleared += self.used as u64;
         self.used = 0;
         self.seen = 0;
         Ok(())

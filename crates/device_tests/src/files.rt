@@ -1,7 +1,7 @@
 //! The file devices, on real files in the folder where the tests run.
 
 use crate::calls::{filled_at, through_partition, through_spool};
-use crate::overwriting::written_over;
+use crate::overwriting::{LAID, laid_behind, written_over};
 use abt_io::*;
 use std::alloc::Alloc;
 use std::fs;
@@ -55,6 +55,24 @@ fn a_spool_file_holds_its_capacity_and_is_emptied(rt: HostRuntime) {
     assert!(rt; through_spool(&mut spool, b"xyz", &mut out) == Ok(3));
     assert!(rt; out == *b"xyzd\0\0");
     assert!(rt; has(&rt, "spool.tmp", "xyz"));
+}
+
+#[test]
+fn a_spool_file_is_written_over_behind_its_clear(rt: HostRuntime) {
+    for (at, want, left) in LAID {
+        let mut out = *b"....";
+        let mut spool = FileSpool::new(opened(&rt, "laid.tmp", ""), 6);
+        assert!(rt; laid_behind(&mut spool, at, &mut out) == want, "place {at}");
+        assert!(rt; out == left, "place {at}");
+        assert!(rt; spool.position() == 10, "place {at}");
+    }
+}
+
+#[test]
+fn a_spool_file_that_was_never_cleared_is_written_over(rt: HostRuntime) {
+    let mut spool = FileSpool::new(opened(&rt, "uncleared.tmp", ""), 8);
+    assert!(rt; written_over(&mut spool, 1, b"XYZ") == Ok(()));
+    assert!(rt; has(&rt, "uncleared.tmp", "aXYZefgh"));
 }
 
 #[test]

@@ -40,7 +40,7 @@ fn size_of(job: &str) -> Size {
             rounds: 30,
             chunks: 10_000,
         },
-        "raw" => Size {
+        "raw" | "raw_once" => Size {
             rounds: 20,
             chunks: 400,
         },
@@ -75,7 +75,8 @@ fn digest_of(
         "pieces" => deliver_mixed(alloc, seed, size, w, m),
         "single" => cut_single(alloc, seed, size, w, m),
         "read" => read_all(alloc, seed, size, w, m),
-        "raw" => write_raw(alloc, seed, size, w, m),
+        "raw" => write_raw(alloc, seed, size, false, w, m),
+        "raw_once" => write_raw(alloc, seed, size, true, w, m),
         "compare" => compare(alloc, seed, size, w, m),
         _ => bail!("no such job"),
     }
@@ -108,7 +109,7 @@ pub fn done_with_file(
 
 /// Does each job on small images.
 pub fn small(rt: HostRuntime, w: &mut Window, m: &mut Meter) -> Result<()> {
-    for job in ["pieces", "single", "read", "raw", "compare"].iter() {
+    for job in ["pieces", "single", "read", "raw", "raw_once", "compare"].iter() {
         let digest = digest_of(rt.alloc(), job, 1, SMALL, w, m)?;
         show(rt, job, &digest)?;
     }

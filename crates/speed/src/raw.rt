@@ -4,7 +4,7 @@ use crate::devices::{Board, Memory};
 use crate::digest::Digest;
 use crate::images::{BLOCK, Maker};
 use crate::jobs::Size;
-use abt_flash::deliver_raw;
+use abt_flash::{deliver_raw, resume_raw};
 use abt_io::{Meter, SliceOutput, SliceSpool, Window};
 use abt_pieces::{Piece, PieceFault};
 use abt_placed::{next_piece_at, sparsify_at};
@@ -73,11 +73,56 @@ fn delivered(image: &[u8], room: &mut [u8], w: &mut Window, m: &mut Meter) -> Re
     Ok(digest)
 }
 
-/// Raw images, of which half is as good as random, and a part only looks like equal words.
+/// Delivers an image from a piece on, and adds what was written to a digest. How many pieces that were.
+fn deliver_from(
+    image: &[u8],
+    from: u32,
+    room: &mut [u8],
+    digest: &mut Digest,
+    w: &mut Window,
+    m: &mut Meter,
+) -> Result<u32> {
+    if room.len() < LIMIT as usize {
+        bail!("no room");
+    }
+    let mut source = Memory::new(image);
+    let mut spool = SliceSpool::new(room);
+    let mut board = Board::new((image.len() as u64).saturating_add(u64::from(BLOCK)));
+    let delivered = if from > 1 {
+        resume_raw(
+            &mut source,
+            BLOCK,
+            LIMIT,
+            from,
+            &mut spool,
+            &mut board,
+            w,
+            m,
+        )?
+    } else {
+        deliver_raw(&mut source, BLOCK, LIMIT, &mut spool, &mut board, w, m)?
+    };
+    digest.join(&board.digest);
+    digest.note(u64::from(delivered.pieces));
+    Ok(delivered.pieces)
+}
+
+/// Delivers an image, and the second half of its pieces once more.
+fn delivered_once(image: &[u8], room: &mut [u8], w: &mut Window, m: &mut Meter) -> Result<Digest> {
+    let mut digest = Digest::new();
+    let pieces = deliver_from(image, 1, room, &mut digest, w, m)?;
+    let from = (pieces / 2).saturating_add(1);
+    deliver_from(image, from, room, &mut digest, w, m)?;
+    Ok(digest)
+}
+
+/// Raw images, of which half is as good as random, and a part only looks like equal words. Where each is to be read
+/// once, the calls for that deliver it.
 pub fn write_raw(
     alloc: Global,
     seed: u64,
     size: Size,
+    is_once: bool,
     w: &mut Window,
     m: &mut Meter,
 ) -> Result<Digest> {
@@ -89,7 +134,12 @@ pub fn write_raw(
         let image = maker.image();
         digest.join(&sparse(image, room.as_mut_slice(), w, m)?);
         digest.join(&cut(image, room.as_mut_slice(), w, m)?);
-        digest.join(&delivered(image, room.as_mut_slice(), w, m)?);
+        let told = if is_once {
+            delivered_once(image, room.as_mut_slice(), w, m)?
+        } else {
+            delivered(image, room.as_mut_slice(), w, m)?
+        };
+        digest.join(&told);
     }
     Ok(digest)
 }

@@ -2,7 +2,7 @@
 
 ghost use Rattle.std.specs.Prelude.{◌≡◌};
 
-use abt_io::{DeviceFault, Input, Output, Source, Spool};
+use abt_io::{DeviceFault, Input, Output, Overwrite, Source, Spool};
 
 /// Counts the bytes that its device hands out and takes, in plain numbers. It is of each kind but a partition that its
 /// device is of.
@@ -95,6 +95,18 @@ impl<D: Output> Output for Counting<D> {
 
     fn write(&mut self, bytes: &[u8]) -> Result<usize, DeviceFault> {
         let n = self.device.write(bytes)?;
+        self.taken = self.taken.saturating_add(n as u64);
+        Ok(n)
+    }
+}
+
+impl<D: Overwrite> Overwrite for Counting<D> {
+    fn position(&self) -> u64 {
+        self.device.position()
+    }
+
+    fn write_over(&mut self, at: u64, bytes: &[u8]) -> Result<usize, DeviceFault> {
+        let n = self.device.write_over(at, bytes)?;
         self.taken = self.taken.saturating_add(n as u64);
         Ok(n)
     }
