@@ -1,5 +1,5 @@
 -- What a window of a source costs, in plain numbers.
-use Rattle.std.proofs.Common.{◌≡◌, ℕ, ◌+◌, ◌-◌, ◌*◌, ◌<◌, ◌≤◌, min, max, arith, mul-le-mul_right, ◌/◌}
+use Rattle.std.proofs.Common.{◌≡◌, ℕ, ◌+◌, ◌-◌, ◌*◌, ◌<◌, ◌≤◌, min, arith, mul-le-mul_right, ◌/◌}
 use Rattle.abt_placed.specs.Whole.{read_of, spare}
 use Rattle.abt_placed.proofs.Costs.{window, half, spare_none, spare_most}
 
@@ -81,12 +81,6 @@ broken_costs i b len at want room got given given' reads reads' writes long t t1
 
 pub few_got : (got want x room : ℕ) → got ≤ want → want ≡ min x room → room ≤ 65536 → got ≤ 65536
 few_got got want x room few is fits = omega (arith, few, is, fits)
-
-pub received_on : (given given' got s s1 s2 s3 : ℕ) → given' ≡ given + got → s1 ≡ s → s2 ≡ s1 + 1 → s3 ≡ s2 → got ≤ 65536 → given' + 65536 * s ≤ given + 65536 * s3
-received_on given given' got s s1 s2 s3 e a b d few = omega (arith, e, a, b, d, few)
-
-pub greatest_on : (x x1 x2 x3 got : ℕ) → x1 ≡ x → x2 ≡ max x1 got → x3 ≡ x2 → got ≤ 65536 → x3 ≤ max x 65536
-greatest_on x x1 x2 x3 got a b d few = omega (arith, a, b, d, few)
 
 pub last_on : (x y given given' got : ℕ) → x ≤ y → given' ≡ given + got → got ≤ 65536 → given' + x ≤ given + y + 65536
 last_on x y given given' got le e few = omega (arith, le, e, few)

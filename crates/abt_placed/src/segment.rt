@@ -14,7 +14,7 @@ ghost use Rattle.abt_placed.specs.Whole.{taken, read_of, spare};
 ghost use Rattle.abt_placed.specs.Segment.{SoundSegment, LaidSegment, ToldSegment, EndedSegment, IsOver, IsUncut};
 ghost use Rattle.abt_placed.specs.Segment.{tail_of_open};
 ghost use Rattle.abt_placed.specs.Piece.{LaidPiece};
-ghost use Rattle.abt_placed.specs.Calls.{Writes, stand};
+ghost use Rattle.abt_placed.specs.Calls.{Writes, LaysOn, stand, scene};
 ghost use Rattle.abt_placed.specs.Unfinished.{IsUnfinished, KeepsFront};
 
 use crate::placer::Placer;
@@ -245,9 +245,8 @@ impl Segment {
         requires within { taken self.old.placer ≤ runs.now.blocks }
         requires opened { IsTrue S.tells → runs.now.length ≡ length (S.content source.old) }
         requires told { ToldSegment S.tells (S.content source.old) runs.now.size (O.written output.old) self.old }
-        ensures content { IsTrue S.tells → S.content source.new ≡ S.content source.old }
-        ensures read_frame { S.read_frame source.new ≡ S.read_frame source.old }
-        ensures write_frame { O.write_frame output.new ≡ O.write_frame output.old }
+        ensures lays { LaysOn result S.tells (scene S.Source O.Output source.old output.old m.old)
+            (scene S.Source O.Output source.new output.new m.new) }
         ensures told { OnOk result (ToldSegment S.tells (S.content source.old) runs.now.size (O.written output.new)
             self.new) }
         ensures ended { IfOk result (λ d. d ≡ true → EndedSegment S.tells (S.content source.old) runs.now.size
@@ -258,14 +257,10 @@ impl Segment {
         ensures inside { OnOk result (taken self.new.placer ≤ runs.now.blocks) }
         ensures same { (self.new.placer.most ≡ self.old.placer.most) × (self.new.placer.front ≡ self.old.placer.front) ×
             (self.new.first ≡ self.old.first) × (self.new.limit ≡ self.old.limit) }
-        ensures grown { length (O.written output.old) ≤ length (O.written output.new) }
         ensures within { length (O.written output.new)
             ≤ self.old.placer.front + 28 + runs.now.blocks * (runs.now.size + 16) }
         ensures long { IsUncut runs.now.size self.old.limit self.old.placer.most →
             length (O.written output.new) + full_cut result ≤ self.old.placer.front + self.old.limit }
-        ensures given { S.given source.old ≤ S.given source.new }
-        ensures received { S.given source.new + 65536 * m.old.steps.number
-            ≤ S.given source.old + 65536 * m.new.steps.number }
         ensures economy { S.given source.new + read_of runs.now.length runs.now.size (taken self.old.placer)
             ≤ S.given source.old + runs.now.length }
         ensures once { IfOk result (λ d. d ≡ false → S.given source.new + read_of runs.now.length runs.now.size
@@ -292,15 +287,6 @@ impl Segment {
             + spare (runs.now.size + 14) runs.now.length runs.now.size (taken self.old.placer)
             ≤ m.old.turns.number + length (O.written output.new) + 7 * (S.given source.new - S.given source.old)
             + runs.now.size + 14 }
-        ensures greatest { m.new.greatest.number ≤ max m.old.greatest.number 65536 }
-        ensures faults { S.read_faults source.old ≤ S.read_faults source.new }
-        ensures write_faults { O.write_faults output.old ≤ O.write_faults output.new }
-        ensures clean { OnOk result ((S.read_faults source.new ≡ S.read_faults source.old) ×
-            (O.write_faults output.new ≡ O.write_faults output.old)) }
-        ensures full_faults { O.full_faults output.new ≡ O.full_faults output.old + full_cut result }
-        ensures full { full_cut result ≡ 1 → IsTrue (O.is_full output.new) }
-        ensures cause { IfErr result (λ e. HasCause e S.tells (S.read_faults source.old) (S.read_faults source.new)
-            (O.write_faults output.old) (O.write_faults output.new)) }
     {
         let from = self.placer.blocks + self.placer.count;
         if from == runs.blocks {
@@ -339,9 +325,8 @@ impl Segment {
         requires within { taken self.old.placer ≤ runs.now.blocks }
         requires opened { IsTrue S.tells → runs.now.length ≡ length (S.content source.old) }
         requires told { ToldSegment S.tells (S.content source.old) runs.now.size (O.written output.old) self.old }
-        ensures content { IsTrue S.tells → S.content source.new ≡ S.content source.old }
-        ensures read_frame { S.read_frame source.new ≡ S.read_frame source.old }
-        ensures write_frame { O.write_frame output.new ≡ O.write_frame output.old }
+        ensures lays { LaysOn result S.tells (scene S.Source O.Output source.old output.old m.old)
+            (scene S.Source O.Output source.new output.new m.new) }
         ensures told { OnOk result (ToldSegment S.tells (S.content source.old) runs.now.size (O.written output.new)
             self.new) }
         ensures ended { OnOk result (EndedSegment S.tells (S.content source.old) runs.now.size runs.now.blocks
@@ -351,14 +336,10 @@ impl Segment {
         ensures inside { OnOk result (taken self.new.placer ≤ runs.now.blocks) }
         ensures same { (self.new.placer.most ≡ self.old.placer.most) × (self.new.placer.front ≡ self.old.placer.front) ×
             (self.new.first ≡ self.old.first) × (self.new.limit ≡ self.old.limit) }
-        ensures grown { length (O.written output.old) ≤ length (O.written output.new) }
         ensures within { length (O.written output.new)
             ≤ self.old.placer.front + 28 + runs.now.blocks * (runs.now.size + 16) }
         ensures long { IsUncut runs.now.size self.old.limit self.old.placer.most →
             length (O.written output.new) + full_cut result ≤ self.old.placer.front + self.old.limit }
-        ensures given { S.given source.old ≤ S.given source.new }
-        ensures received { S.given source.new + 65536 * m.old.steps.number
-            ≤ S.given source.old + 65536 * m.new.steps.number }
         ensures economy { S.given source.new + read_of runs.now.length runs.now.size (taken self.old.placer)
             ≤ S.given source.old + runs.now.length }
         ensures least { OnOk result (S.given source.old + read_of runs.now.length runs.now.size (taken self.new.placer)
@@ -371,15 +352,6 @@ impl Segment {
         ensures turns { m.new.turns.number + length (O.written output.old)
             ≤ m.old.turns.number + length (O.written output.new) + 7 * (S.given source.new - S.given source.old)
             + runs.now.size + 14 }
-        ensures greatest { m.new.greatest.number ≤ max m.old.greatest.number 65536 }
-        ensures faults { S.read_faults source.old ≤ S.read_faults source.new }
-        ensures write_faults { O.write_faults output.old ≤ O.write_faults output.new }
-        ensures clean { OnOk result ((S.read_faults source.new ≡ S.read_faults source.old) ×
-            (O.write_faults output.new ≡ O.write_faults output.old)) }
-        ensures full_faults { O.full_faults output.new ≡ O.full_faults output.old + full_cut result }
-        ensures full { full_cut result ≡ 1 → IsTrue (O.is_full output.new) }
-        ensures cause { IfErr result (λ e. HasCause e S.tells (S.read_faults source.old) (S.read_faults source.new)
-            (O.write_faults output.old) (O.write_faults output.new)) }
     {
         loop {
             match self.step(runs, source, output, w, m) {
