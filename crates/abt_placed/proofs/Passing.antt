@@ -10,24 +10,8 @@ use Rattle.abt_pieces.proofs.Fronts.{says_full}
 use Rattle.abt_pieces.specs.Fault.{HasCause, full_cut}
 use Rattle.abt_pieces.specs.declared.fault.PieceFault.{PieceFault}
 use Rattle.abt_pieces.specs.declared.fault.PieceFault.TheVariants.{Write}
+use Rattle.abt_placed.proofs.Onward.{still}
 use Rattle.abt_placed.specs.Calls.{Stand, Scene, Writes, LaysOn, scene}
-
-pub lays_still : {X : Type 0} {x : X} {tells : Bool} {a : Scene} → LaysOn (Ok x) tells a a
-lays_still = record {
-  content = λ t. refl;
-  read_frame = refl;
-  write_frame = refl;
-  grown = le_refl _;
-  given = le_refl _;
-  received = omega arith;
-  greatest = omega arith;
-  faults = le_refl _;
-  write_faults = le_refl _;
-  clean = (refl, refl);
-  full_faults = omega arith;
-  full = λ h. absurd cc;
-  cause = tt;
-}
 
 clean_on : {X : Type 0} (r : Result X PieceFault) (a m z : Scene) → (m.faults ≡ a.faults) × (m.output.faults ≡ a.output.faults) → OnOk r ((z.faults ≡ m.faults) × (z.output.faults ≡ m.output.faults)) → OnOk r ((z.faults ≡ a.faults) × (z.output.faults ≡ a.output.faults))
 clean_on (Ok x) a m z e h = (h.0 ∙ e.0, h.1 ∙ e.1)
@@ -73,9 +57,6 @@ lays_fault h = record {
   cause = h.cause;
 }
 
-pub lays_value : {X Y : Type 0} {x : X} {y : Y} {tells : Bool} {a z : Scene} → LaysOn (Ok x) tells a z → LaysOn (Ok y) tells a z
-lays_value h = lays_then h lays_still
-
 -- a call of the output alone
 abbrev over : Scene → Stand → Scene
 over a z = record { content = a.content; frame = a.frame; given = a.given; faults = a.faults; output = z }
@@ -113,6 +94,12 @@ lays_unwritten {f = f} a z h = record {
   full = λ e. h.full (says_full f e);
   cause = h.cause;
 }
+
+pub lays_still : {X : Type 0} {x : X} {tells : Bool} {a : Scene} → LaysOn (Ok x) tells a a
+lays_still {x = x} {a = a} = lays_written a a.output (still {x = x} {k = 0} {j = 0})
+
+pub lays_value : {X Y : Type 0} {x : X} {y : Y} {tells : Bool} {a z : Scene} → LaysOn (Ok x) tells a z → LaysOn (Ok y) tells a z
+lays_value h = lays_then h lays_still
 
 -- a step that reads, and writes nothing
 pub reads : {A B X : Type 0} {r : Result X PieceFault} {tells : Bool} (s : sources.Ghosts A) (o : outputs.Ghosts B) (source source' : A) (output : B) (m m1 m2 : Meter) (got : ℕ) → (IsTrue tells → s.content source' ≡ s.content source) → s.read_frame source' ≡ s.read_frame source → s.given source' ≡ s.given source + got → got ≤ 65536

@@ -29,6 +29,10 @@ pub record Read (i a b len n want got given given' reads reads' t t' : ℕ) : Ty
   pub calls : reads' ≤ reads + got + 1
   pub turns : t' ≤ t + got + 1
 
+pub window_read : (i a b len n at want got given given' reads reads' t t' : ℕ) → at ≡ i * b → at < len → 0 < a → 4 ≤ b → want ≡ min (len - at) (a * b) → got ≡ want → i + a ≤ n → n * b < len + b → given' ≡ given + got → reads' ≤ reads + got + 1 → t' ≤ t + got + 1 → Read i a b len n want got given given' reads reads' t t'
+window_read i a b len n at want got given given' reads reads' t t' place below some four is all within last gives calls turns =
+    record { below = rw place at below; some = some; four = four; is = rw place at is; all = all; within = within; last = last; gives = gives; calls = calls; turns = turns }
+
 pub read_costs : (i a b len n want got given given' reads reads' writes writes' long long' t t1 t2 t' : ℕ) → Read i a b len n want got given given' reads reads' t t1 → t2 ≡ t1
     → writes' + long ≤ writes + long' + 14 * a → t' + long ≤ t2 + long' + a * (b / 2 + 17) → Spent i b len given given' reads reads' writes writes' long long' t t'
 read_costs i a b len n want got given given' reads reads' writes writes' long long' t t1 t2 t' h same calls turns =

@@ -75,9 +75,12 @@ impl Segment {
         };
         Segment {
             placer: Placer {
+                front,
+                most,
+                chunks: 0,
+                blocks: 0,
                 kind,
                 count: first,
-                ..Placer::begin(front, most)
             },
             first,
             weight: 52,

@@ -7,7 +7,7 @@ use Rattle.abt_placed.specs.Whole.{taken}
 use Rattle.abt_placed.proofs.Refusing.{keeps_same}
 use Rattle.abt_placed.proofs.Costs.{fits_window, read_more, no_wider, sound_within, not_so_far}
 use Rattle.abt_placed.proofs.Sourced.{Loaded, told_on, ended_on, none_over, no_more_than}
-use Rattle.abt_placed.proofs.Spending.{Read, read_costs, going_costs, broken_costs, unread_costs, taken_read, few_got, last_on}
+use Rattle.abt_placed.proofs.Spending.{window_read, read_costs, going_costs, broken_costs, unread_costs, taken_read, few_got, last_on}
 use Rattle.abt_placed.proofs.Passing.{reads, lays_then, lays_written, lays_unwritten}
 use Rattle.abt_placed.proofs.segment.Segment.step.Goals as goal
 
@@ -128,19 +128,7 @@ returns-in-Ok g c =
     let fits = fits_window a c.in_window.result r.size (omega arith) c.in_window.ensures.fits in
     let few = few_got got want _ _ l.few c.min-want.ensures fits in
     let within : taken s'.placer ≤ taken s.placer + a = no_more_than c.in-Ok.ended (taken s.placer) (taken s'.placer) a e.all e.short in
-    let read : Read (taken s.placer) a r.size r.length r.blocks want got (g.S.Source.given c.args.source.now) (g.S.Source.given c.load_filled-loaded.new.source) (g.S.Source.reads c.args.source.now) (g.S.Source.reads c.load_filled-loaded.new.source) c.args.m.now.turns.number c.load_filled-loaded.new.m.turns.number =
-    record {
-      below = rw c.place_of-at.ensures.place at c.place_of-at.ensures.within;
-      some = omega arith;
-      four = r.some;
-      is = rw c.place_of-at.ensures.place at c.min-want.ensures;
-      all = if_none {P = got ≡ want} c.load_filled-loaded.result.fault c.in_default.is l.whole;
-      within = omega arith;
-      last = r.last;
-      gives = l.given;
-      calls = l.calls;
-      turns = l.turns;
-    } in
+    let read = window_read (taken s.placer) a r.size r.length r.blocks c.place_of-at.result want got _ _ _ _ _ _ c.place_of-at.ensures.place c.place_of-at.ensures.within (omega arith) r.some c.min-want.ensures (if_none {P = got ≡ want} c.load_filled-loaded.result.fault c.in_default.is l.whole) (omega arith) r.last l.given l.calls l.turns in
     let spent = read_costs (taken s.placer) a r.size r.length r.blocks want got _ _ _ _ _ _ _ _ _ _ _ _ read step.turns t.writes.calls t.writes.turns in
     let loaded : IsTrue g.S.Source.tells → Loaded r.size r.length (taken s.placer) want (a * r.size) x c.load_filled-loaded.new.w.bytes =
     λ tells. record {
@@ -187,19 +175,7 @@ returns-in-Err g c =
     let e = c.in-Err.ensures in
     let fits = fits_window a c.in_window.result r.size (omega arith) c.in_window.ensures.fits in
     let few = few_got got want _ _ l.few c.min-want.ensures fits in
-    let read : Read (taken s.placer) a r.size r.length r.blocks want got (g.S.Source.given c.args.source.now) (g.S.Source.given c.load_filled-loaded.new.source) (g.S.Source.reads c.args.source.now) (g.S.Source.reads c.load_filled-loaded.new.source) c.args.m.now.turns.number c.load_filled-loaded.new.m.turns.number =
-    record {
-      below = rw c.place_of-at.ensures.place at c.place_of-at.ensures.within;
-      some = omega arith;
-      four = r.some;
-      is = rw c.place_of-at.ensures.place at c.min-want.ensures;
-      all = if_none {P = got ≡ want} c.load_filled-loaded.result.fault c.in_default.is l.whole;
-      within = omega arith;
-      last = r.last;
-      gives = l.given;
-      calls = l.calls;
-      turns = l.turns;
-    } in
+    let read = window_read (taken s.placer) a r.size r.length r.blocks c.place_of-at.result want got _ _ _ _ _ _ c.place_of-at.ensures.place c.place_of-at.ensures.within (omega arith) r.some c.min-want.ensures (if_none {P = got ≡ want} c.load_filled-loaded.result.fault c.in_default.is l.whole) (omega arith) r.last l.given l.calls l.turns in
     let spent = read_costs (taken s.placer) a r.size r.length r.blocks want got _ _ _ _ _ _ _ _ _ _ _ _ read step.turns t.writes.calls t.writes.turns in
     record {
       lays = lays_then {x = false} (reads g.S.Source g.O.Output c.args.source.now c.load_filled-loaded.new.source c.args.output.now c.args.m.now c.load_filled-loaded.new.m c.close_step-2.new.self got l.content l.frame l.given few l.steps l.greatest step.steps step.greatest l.faults (l.clean (rw c.in_default.is refl)) refl tt) (lays_unwritten _ _ e.writes);
