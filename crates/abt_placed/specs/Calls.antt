@@ -69,8 +69,8 @@ scene s o source output m = record {
   output = stand o output m;
 }
 
--- A call that lays what it reads: no step receives more than a window, and it is answered r, Ok where neither device has
--- failed, and else with the reason.
+-- A call that lays what it reads: no step receives more than a window, and it is answered r, Ok where neither device
+-- has failed, and else with the reason.
 pub record LaysOn {X : Type 0} (r : Result X PieceFault) (tells : Bool) (a z : Scene) : Type 0 where
   pub content : IsTrue tells → z.content ≡ a.content
   pub read_frame : z.frame ≡ a.frame

@@ -1,6 +1,6 @@
 //! Cutting a raw image into pieces, each in one pass over its segment.
-ghost use Rattle.std.specs.Prelude.{◌≡◌, ◌<◌, ◌≤◌, ◌+◌, ◌-◌, ◌*◌, ◌^◌, IsTrue, IfOk, IfErr, IfSome, IfNone};
-ghost use Rattle.std.specs.Prelude.{OnOk, OnErr, Err, length, take, drop, max, false, ◌⊎◌};
+ghost use Rattle.std.specs.Prelude.{◌≡◌, ◌<◌, ◌≤◌, ◌+◌, ◌-◌, ◌*◌, ◌^◌, IsTrue, IfOk, IfErr, IfSome, IfNone, OnErr};
+ghost use Rattle.std.specs.Prelude.{Err, length, take, drop, false, ◌⊎◌};
 ghost use Rattle.abt_sparse.specs.Block.{classify};
 ghost use Rattle.abt_runs.specs.Raw.{RawPlace};
 ghost use Rattle.abt_pieces.specs.Cutter.{SoundOutline, ToldCutter, is_begun, has_failed};
