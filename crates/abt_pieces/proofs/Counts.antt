@@ -1,16 +1,16 @@
 -- What steps cost, summed.
 use Rattle.std.proofs.Common.{◌≡◌, ◌==◌, if◌then◌else◌, ℕ, zero, suc, ◌+◌, ◌-◌, ◌*◌, ◌<◌, ◌≤◌, nat_lt, min, true, false, refl, sym, ap, ◌∙◌, arith, inl, inr, Option, Some, None, Result, Ok, Err, OnOk}
-use Rattle.std.proofs.lemmas.Bool.{cases_Bool, ltb-true, ltb-false, lt-ltb}
+use Rattle.std.proofs.lemmas.Bool.{cases_Bool, eqb-true, eqb-false, ltb-true, ltb-false, lt-ltb}
 use Rattle.abt_runs.specs.Part.{is_end, piece_bytes, entry}
 use Rattle.abt_runs.specs.Whole.{alike_kinds}
 use Rattle.abt_runs.specs.declared.part.Cursor.{Cursor}
 use Rattle.abt_runs.specs.declared.part.Run.{Run}
 use Rattle.abt_runs.specs.declared.part.RunKind.{RunKind}
 use Rattle.abt_runs.specs.declared.part.RunKind.TheVariants as kinds
-use Rattle.abt_pieces.specs.Contents.{opens_len, data_len, contents_before}
+use Rattle.abt_pieces.specs.Contents.{opens_len, head_len, data_len, contents_before}
 use Rattle.abt_pieces.specs.Plan.{last_words}
 use Rattle.abt_pieces.specs.Gather.{ClosedRun, SoundGatherer, gathered_on, silent_left, gathered_to}
-use Rattle.abt_pieces.specs.Write.{begins, starts, passed_to, writer_words, chunk_begun}
+use Rattle.abt_pieces.specs.Write.{begins, starts, copied_on, to_find, silent_write, passed_to, writer_words, chunk_begun}
 use Rattle.abt_pieces.specs.declared.write.Copying.{Copying}
 use Rattle.abt_pieces.specs.declared.write.Writer.{Writer}
 use Rattle.abt_pieces.specs.declared.fault.PieceFault.{PieceFault}
@@ -170,9 +170,53 @@ pub chunk_words : {A : Type 0} (W : Cursor → Type 0) (n b one t t' : ℕ) (w :
 chunk_words W n b one t t' w g r (Ok x) v none sound run h e = rw e (writer_looks one n t t' w (chunk_begun (gathering w g) r b) refl (begun_passes W n b w g r none sound run) h)
 chunk_words W n b one t t' w g r (Err f) v none sound run h e = tt
 
-pub chunk_paid : {A : Type 0} (b n m : ℕ) (w : Writer) (g : Gatherer) (r : Run) (res : Result A PieceFault) (v : Writer) → silent_left n w.past g < m → OnOk res (v ≡ chunk_begun (gathering w g) r b) → OnOk res (silent_left n w.past v.gatherer < m)
-chunk_paid b n m w g r (Ok x) v h e = rw e h
-chunk_paid b n m w g r (Err f) v h e = tt
+one_to_find : (u : ℕ) (c : Copying) → to_find u (Some c) ≤ 1
+one_to_find u c = elim (cases_Bool (nat_lt c.next.block u)) [ inl e ↦ rw e (omega arith) | inr e ↦ rw e (omega arith) ]
+
+-- the header of a raw run pays for its first part
+starts_find : (k : RunKind) (here : Cursor) (m u : ℕ) → to_find u (starts k here m) ≤ head_len k
+starts_find kinds.Raw here m u = let z = one_to_find u (record { here = here; next = here; size = 0; done = 0; left = m }) in omega (arith, z)
+starts_find (kinds.Fill w) here m u = omega arith
+starts_find kinds.Skip here m u = omega arith
+starts_find kinds.End here m u = omega arith
+
+none_to_find : (u : ℕ) (o : Option Copying) → o ≡ None → to_find u o ≡ 0
+none_to_find u o e = rw e refl
+
+pub chunk_paid : {A : Type 0} (b n d old new : ℕ) (w : Writer) (g : Gatherer) (r : Run) (res : Result A PieceFault) (v : Writer) → w.copying ≡ None → silent_left n w.past g < silent_left n w.past w.gatherer + d → OnOk res (v ≡ chunk_begun (gathering w g) r b)
+    → OnOk res (new ≡ old + head_len r.kind) → OnOk res (silent_write n v < silent_write n w + d + (new - old))
+chunk_paid b n d old new w g r (Ok x) v none h e head =
+    let z = starts_find r.kind r.here (data_len r.kind r.blocks b) (begins g) in
+    rw e (omega (arith, h, z, head, none_to_find (begins w.gatherer) w.copying none))
+chunk_paid b n d old new w g r (Err f) v none h e head = tt
+
+pub looks_paid : (n d old : ℕ) (w : Writer) (g : Gatherer) → w.copying ≡ None → silent_left n w.past g < silent_left n w.past w.gatherer + d → silent_write n (gathering w g) < silent_write n w + d + (old - old)
+looks_paid n d old w g none h = omega (arith, h, none_to_find (begins w.gatherer) w.copying none, none_to_find (begins g) w.copying none)
+
+-- a part that is found without a read is all that is left of the run
+pub next_paid : (n k k' : ℕ) (w v : Writer) (c d : Copying) → v.past ≡ w.past → v.gatherer ≡ w.gatherer → w.copying ≡ Some c → v.copying ≡ Some d → c.next.block < begins w.gatherer → k ≤ k' → (k' ≡ k → d.next.block ≡ begins w.gatherer) → silent_write n v < silent_write n w + (k' - k)
+next_paid n k k' w v c d past gathers is now low le all =
+    let u = begins w.gatherer in
+    let old : to_find u w.copying ≡ 1 = ap (λ (o : Option Copying). to_find u o) is ∙ (let h : nat_lt c.next.block u ≡ true = lt-ltb c.next.block u low in rw h refl) in
+    let new : to_find u v.copying ≡ to_find u (Some d) = ap (λ (o : Option Copying). to_find u o) now in
+    rw (past, gathers) (elim (cases_Bool (k' == k)) [
+      | inl e ↦ let z : to_find u (Some d) ≡ 0 = none_left d (all (eqb-true k' k e)) in omega (arith, old, new, z)
+      | inr e ↦ let more = eqb-false k' k e in let z = one_to_find u d in omega (arith, old, new, z, more, le)
+    ])
+  where
+    none_left : (d : Copying) → d.next.block ≡ begins w.gatherer → to_find (begins w.gatherer) (Some d) ≡ 0
+    none_left d e = let h : nat_lt d.next.block (begins w.gatherer) ≡ false = not_below d.next.block (begins w.gatherer) (omega (arith, e)) in rw h refl
+
+copied_find : (u : ℕ) (c : Copying) (m : ℕ) → to_find u (copied_on c m) ≤ to_find u (Some c)
+copied_find u c m = elim (cases_Bool (c.left == m)) [ inl e ↦ rw e (omega arith) | inr e ↦ rw e (omega arith) ]
+
+pub copied_paid : (n k m : ℕ) (w v : Writer) (c : Copying) → v.past ≡ w.past → v.gatherer ≡ w.gatherer → w.copying ≡ Some c → v.copying ≡ copied_on c m → 0 < k → silent_write n v < silent_write n w + k
+copied_paid n k m w v c past gathers is now some =
+    let u = begins w.gatherer in
+    let old : to_find u w.copying ≡ to_find u (Some c) = ap (λ (o : Option Copying). to_find u o) is in
+    let new : to_find u v.copying ≡ to_find u (copied_on c m) = ap (λ (o : Option Copying). to_find u o) now in
+    let z = copied_find u c m in
+    rw (past, gathers) (omega (arith, old, new, z, some))
 
 pub still_passes : (w : Writer) (g : Gatherer) → w.copying ≡ None → w.gatherer.count ≤ w.gatherer.at.block → g.count ≤ g.at.block → g.at.block + w.gatherer.count ≡ w.gatherer.at.block + g.count → passed_to (begins w.gatherer) w.copying ≤ passed_to (begins g) w.copying
 still_passes w g none old new grows = rw none (let z : begins w.gatherer ≤ begins g = omega arith in z)

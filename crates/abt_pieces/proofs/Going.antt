@@ -260,6 +260,14 @@ next_going c d r b is = elim (part_case c r b) [
   | other nay some same ↦ absurd (let z : Some d ≡ None = sym is ∙ same in cc)
 ]
 
+-- what is left of a raw run is known to be raw
+pub raw_known : (P : Cursor → Type 0) (T : Cursor → ℕ) (W : Cursor → Type 0) (reach : Cursor → ℕ) (b n : ℕ) (l : List Block) (w : Writer) (c : Copying) → w.copying ≡ Some c → SoundWriter W reach n b w → n ≡ length l → ToldWriter P T l w → AllOf kinds.Raw (take (begins w.gatherer - c.next.block) (drop c.next.block l))
+raw_known P T W reach b n l w c is sound same told =
+    let h : IsCopying W reach b w.first w.past (begins w.gatherer) w.bytes c = rw is at sound.copies in
+    let t : ToldCopy P T (frame_of l w) (begins w.gatherer) c = rw is at told.copies in
+    let there = frame_take l w.first w.past c.next.block (begins w.gatherer - c.next.block) (omega (arith, h.first, h.order)) (omega (arith, h.until, h.past)) (omega (arith, sound.gathering.past, same)) in
+    rw there at (raw_back (frame_of l w) c.here.block c.next.block (begins w.gatherer) h.order h.until t.all)
+
 -- a source that tells gives a raw part where a raw run was seen
 pub next_told : (P : Cursor → Type 0) (T : Cursor → ℕ) (W : Cursor → Type 0) (reach : Cursor → ℕ) (b bytes : ℕ) (l : List Block) (s e u : ℕ) (c : Copying) (r : Run) → s ≤ e → e ≤ length l → AreBlocks b (frame l s e) → IsCopying W reach b s e u bytes c → c.done ≡ c.size
     → ToldCopy P T (frame l s e) u c → PartOf l c.next.block r → P r.next → P r.here → r.here.block ≡ c.next.block → (r.kind ≡ kinds.Raw → r.blocks ≤ T r.here) → (r.kind ≡ kinds.Raw → r.blocks ≤ u - c.next.block)

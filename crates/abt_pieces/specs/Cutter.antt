@@ -5,9 +5,9 @@ use Rattle.abt_sparse.specs.Block.{Block}
 use Rattle.abt_sparse.specs.Runs.{weight, greedy, segments}
 use Rattle.abt_runs.specs.declared.part.Cursor.{Cursor}
 use Rattle.abt_pieces.specs.Plan.{Even, Planned, FirstPiece, last_words}
-use Rattle.abt_pieces.specs.Gather.{first_gatherer, silent_left}
+use Rattle.abt_pieces.specs.Gather.{first_gatherer}
 use Rattle.abt_pieces.specs.Outline.{IsOutline, piece_at}
-use Rattle.abt_pieces.specs.Write.{SoundWriter, ToldWriter, rest_of, frame_of, write_left, writer_words}
+use Rattle.abt_pieces.specs.Write.{SoundWriter, ToldWriter, rest_of, frame_of, write_left, writer_words, silent_write}
 use Rattle.abt_pieces.specs.declared.fault.PieceFault.{PieceFault}
 use Rattle.abt_pieces.specs.declared.segment_tail.Tail.TheVariants as tails
 use Rattle.abt_pieces.specs.declared.outline.Piece.{Piece}
@@ -235,7 +235,7 @@ abbrev pub silent_cut : ℕ → Stage → ℕ
 silent_cut n Between = 6
 silent_cut n (Plan p) = 6
 silent_cut n (Begin o) = 5
-silent_cut n (Write o w) = silent_left n w.past w.gatherer + 1
+silent_cut n (Write o w) = silent_write n w + 1
 silent_cut n Done = 0
 silent_cut n (Failed f) = 0
 

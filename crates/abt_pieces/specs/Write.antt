@@ -1,6 +1,6 @@
 -- A piece that is being written, and what of it is still to come.
 use Rattle.std.specs.Prelude.{◌≡◌, ℕ, ◌+◌, ◌-◌, ◌*◌, ◌^◌, ◌≤◌, ◌<◌, List, [], ◌++◌, length, drop, map, Option, Some}
-use Rattle.std.specs.Prelude.{None, ⊤, ◌⊎◌, ◌==◌, ◌&&◌, not, min, if◌then◌else◌}
+use Rattle.std.specs.Prelude.{None, ⊤, ◌⊎◌, ◌==◌, ◌&&◌, not, min, nat_lt, if◌then◌else◌}
 use Rattle.std.specs.List.{flat_map}
 use Rattle.abt_sparse.specs.declared.kind.ChunkKind.TheVariants as chunks
 use Rattle.abt_sparse.specs.Block.{Block}
@@ -14,7 +14,7 @@ use Rattle.abt_runs.specs.declared.part.Cursor.{Cursor}
 use Rattle.abt_runs.specs.declared.part.Run.{Run}
 use Rattle.abt_pieces.specs.Plan.{between, last_words}
 use Rattle.abt_pieces.specs.Contents.{head_len, data_len}
-use Rattle.abt_pieces.specs.Gather.{frame, SoundGatherer, ToldGatherer, look_left}
+use Rattle.abt_pieces.specs.Gather.{frame, SoundGatherer, ToldGatherer, look_left, silent_left}
 use Rattle.abt_pieces.specs.declared.fault.PieceFault.{PieceFault}
 use Rattle.abt_pieces.specs.declared.fault.PieceFault.TheVariants.{Read, Write, TooLarge, SourceChanged, BadBlock}
 use Rattle.abt_pieces.specs.declared.fault.PieceFault.TheVariants.{LimitTooSmall}
@@ -151,6 +151,15 @@ unfoldable pub write_left : (Cursor → ℕ) → ℕ → Writer → ℕ
 write_left left n w = look_left left n w.past w.gatherer * 2 ^ 65 + copy_left left w.copying
 
 -- ---- what its steps cost
+
+-- whether a part of the raw run up to block u is still to be found
+abbrev pub to_find : ℕ → Option Copying → ℕ
+to_find u None = 0
+to_find u (Some c) = if nat_lt c.next.block u then 1 else 0
+
+-- how many of its steps may read nothing and write nothing
+abbrev pub silent_write : ℕ → Writer → ℕ
+silent_write n w = silent_left n w.past w.gatherer + to_find (begins w.gatherer) w.copying
 
 -- the block up to which raw runs have been passed to copy them
 abbrev pub passed_to : ℕ → Option Copying → ℕ

@@ -8,9 +8,9 @@ ghost use Rattle.abt_pieces.specs.Contents.{head_len as length_of_head, data_len
 ghost use Rattle.abt_pieces.specs.Cutter.{first_writer};
 ghost use Rattle.abt_pieces.specs.Write.{front_bytes, chunk_len, chunk_begun, ChunkCause, starts, next_copying};
 ghost use Rattle.abt_pieces.specs.Write.{copied_on, rest_of, frame_of, SoundWriter, ToldWriter, write_left};
-ghost use Rattle.abt_pieces.specs.Write.{passed_to, writer_words, charge_of};
+ghost use Rattle.abt_pieces.specs.Write.{silent_write, passed_to, writer_words, charge_of};
 ghost use Rattle.abt_pieces.specs.Image.{Leads, MayCome};
-ghost use Rattle.abt_pieces.specs.Gather.{silent_left, gathered_to};
+ghost use Rattle.abt_pieces.specs.Gather.{gathered_to};
 ghost use Rattle.abt_runs.specs.declared.part.Cursor.{Cursor};
 ghost use Rattle.abt_pieces.specs.Plan.{last_words};
 ghost use Rattle.abt_pieces.specs.Spent.{Spent};
@@ -233,9 +233,9 @@ impl Writer {
         ensures left { OnOk result (write_left (R.left runs.old) (R.count runs.old) self.new
             < write_left (R.left runs.old) (R.count runs.old) self.old) }
         ensures given { S.given source.old ≤ S.given source.new }
-        ensures paid { OnOk result (silent_left (R.count runs.old) self.old.past self.new.gatherer
-            < silent_left (R.count runs.old) self.old.past
-            self.old.gatherer + (S.given source.new - S.given source.old)) }
+        ensures paid { OnOk result (silent_write (R.count runs.old) self.new < silent_write (R.count runs.old)
+            self.old + (S.given source.new - S.given source.old) + (length (O.written output.new) - length
+            (O.written output.old))) }
         ensures gathered { IsTrue S.tells → (d : Cursor) → R.within runs.old d →
             R.place runs.old (S.content source.old) d → d.block ≡ self.old.past → d.ask ≡ 1 →
             OnOk result (S.given source.new + gathered_to (R.charge runs.old) self.old.past d self.old.gatherer.at
@@ -317,8 +317,8 @@ impl Writer {
         ensures left { OnOk result (write_left (R.left runs.old) (R.count runs.old) self.new
             < write_left (R.left runs.old) (R.count runs.old) self.old) }
         ensures given { S.given source.old ≤ S.given source.new }
-        ensures gatherer { self.new.gatherer ≡ self.old.gatherer }
-        ensures fetched { OnOk result (S.given source.old < S.given source.new) }
+        ensures paid { OnOk result (silent_write (R.count runs.old) self.new < silent_write (R.count runs.old)
+            self.old + (S.given source.new - S.given source.old)) }
         ensures charged { OnOk result (S.given source.new + R.charge runs.old copying.next
             ≤ S.given source.old + charge_of (R.charge runs.old) self.new.copying + entry copying.next) }
         ensures spends { IsTrue S.tells → (d : Cursor) → R.within runs.old d → R.place runs.old (S.content source.old) d
@@ -346,7 +346,7 @@ impl Writer {
     {
         let until = self.gatherer.at.block - self.gatherer.count;
         let size = runs.block_size();
-        let part = match runs.next_part(source, copying.next, until - copying.next.block, w, m) {
+        let part = match runs.next_raw(source, copying.next, until - copying.next.block, w, m) {
             Ok(part) => part,
             Err(fault) => return Err(run_fault(fault)),
         };
@@ -409,8 +409,8 @@ impl Writer {
         ensures left { OnOk result (write_left (R.left runs.old) (R.count runs.old) self.new
             < write_left (R.left runs.old) (R.count runs.old) self.old) }
         ensures given { S.given source.old ≤ S.given source.new }
-        ensures gatherer { self.new.gatherer ≡ self.old.gatherer }
-        ensures put { OnOk result (length (O.written output.old) < length (O.written output.new)) }
+        ensures paid { OnOk result (silent_write (R.count runs.old) self.new < silent_write (R.count runs.old)
+            self.old + (length (O.written output.new) - length (O.written output.old))) }
         ensures copies { OnOk result (S.given source.new + R.held runs.old copying.here copying.done
             ≤ S.given source.old + R.held runs.old copying.here
             (copying.done + (length (O.written output.new) - length (O.written output.old)))) }
@@ -508,9 +508,9 @@ impl Writer {
             < write_left (R.left runs.old) (R.count runs.old) self.old) }
         ensures ended { IfOk result (λ d. d ≡ true → (self.old.bytes ≡ 0) ×
             (O.written output.new ≡ O.written output.old)) }
-        ensures paid { IfOk result (λ d. d ≡ false → silent_left (R.count runs.old) self.old.past self.new.gatherer
-            < silent_left (R.count runs.old) self.old.past self.old.gatherer + (S.given source.new - S.given source.old)
-            + (length (O.written output.new) - length (O.written output.old))) }
+        ensures paid { IfOk result (λ d. d ≡ false → silent_write (R.count runs.old) self.new
+            < silent_write (R.count runs.old) self.old + (S.given source.new - S.given source.old) + (length
+            (O.written output.new) - length (O.written output.old))) }
         ensures spends { IsTrue S.tells → (d : Cursor) → R.within runs.old d → R.place runs.old (S.content source.old) d
             → d.block ≡ self.old.past → d.ask ≡ 1 → (s t : ℕ) →
             Spent (λ c. R.within runs.old c × R.place runs.old (S.content source.old) c) (R.charge runs.old)

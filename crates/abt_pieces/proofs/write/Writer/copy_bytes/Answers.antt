@@ -2,7 +2,7 @@ use Rattle.std.proofs.Common.{arith, sym, ◌∙◌, ◌≡◌, ◌≤◌, ◌+�
 use Rattle.std.proofs.lemmas.List.{take-append-drop}
 use Rattle.abt_pieces.proofs.Fronts.{wrote_front, wrote_rest, wrote_part, nothing_more, as_many, no_more, no_more_than, run_causes, run_unfilled, run_unsaid, says_full, not_full}
 use Rattle.abt_pieces.proofs.Going.{is_copying, copied_writer, copied_sound, part_front, part_room, write_copies, copied_fewer, copied_passes}
-use Rattle.abt_pieces.proofs.Counts.{writer_copies}
+use Rattle.abt_pieces.proofs.Counts.{writer_copies, copied_paid}
 use Rattle.abt_pieces.proofs.Spending.{spent_copies}
 use Rattle.abt_pieces.proofs.Image.{copy_leads}
 use Rattle.abt_pieces.proofs.write.Writer.copy_bytes.Goals as goal
@@ -31,8 +31,7 @@ returns-in-Err g c =
       cause = run_causes _ _ _ _ _ _ _ c.run_fault.ensures c.in-Err.ensures.cause;
       left = tt;
       given = given.0;
-      gatherer = refl;
-      put = tt;
+      paid = tt;
       copies = tt;
       spends = λ tells d within place is fresh s t spent. tt;
       calls = k.calls;
@@ -84,8 +83,7 @@ returns-in-Err-write_out g c =
       cause = f.cause;
       left = tt;
       given = e.given.0;
-      gatherer = refl;
-      put = tt;
+      paid = tt;
       copies = tt;
       spends = λ tells d within place is fresh s t spent. tt;
       calls = k.calls;
@@ -140,8 +138,7 @@ returns g c =
       cause = tt;
       left = write_copies _ _ _ _ refl refl (rw (c.and_bytes-self.ensures, c.requires.is) (copied_fewer _ c.args.copying c.in-Ok.count some left));
       given = e.given.0;
-      gatherer = refl;
-      put = omega (arith, all, some);
+      paid = copied_paid _ _ c.in-Ok.count self (record self { copying = c.and_bytes-self.result }) c.args.copying refl refl c.requires.is c.and_bytes-self.ensures (omega (arith, all, some));
       copies = let z : length (g.O.Output.written c.write_out.new.output) - length (g.O.Output.written c.args.output.now) ≡ c.in-Ok.count = omega (arith, all) in rw z e.read;
       spends = λ tells d within place is fresh s t spent.
           let size = g.met.R.BlockRuns.sized c.args.runs.now in

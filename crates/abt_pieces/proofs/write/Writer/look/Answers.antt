@@ -2,7 +2,7 @@ use Rattle.std.proofs.Common.{arith, refl, ◌∙◌, length, IsTrue}
 use Rattle.abt_pieces.proofs.Fronts.{wrote_part, nothing_more, nothing_less, as_many, no_more, no_more_than, none_more, ok_both, run_causes, run_unfilled, run_unsaid, not_full}
 use Rattle.abt_pieces.proofs.Writing.{frame_blocks}
 use Rattle.abt_pieces.proofs.Going.{begun, still_told, still_sound, chunk_sound, chunk_told, chunk_rest, chunk_counted, chunk_left, chunk_causes, write_looks, none_small}
-use Rattle.abt_pieces.proofs.Counts.{chunk_words, chunk_paid, chunk_gathers, still_passes, writer_looks}
+use Rattle.abt_pieces.proofs.Counts.{chunk_words, chunk_paid, looks_paid, chunk_gathers, still_passes, writer_looks}
 use Rattle.abt_pieces.specs.Gather.{gathered_to}
 use Rattle.abt_pieces.proofs.Spending.{chunk_spent, spent_looks}
 use Rattle.abt_pieces.proofs.Image.{chunk_leads, look_comes, leads_same}
@@ -87,7 +87,7 @@ returns-in-Some g c =
       cause = chunk_causes c.begin_chunk.result _ self.chunks self.bytes _ (g.S.Source.read_faults c.args.source.now) (g.S.Source.read_faults c.gather.new.source) (g.O.Output.write_faults c.args.output.now) (g.O.Output.write_faults c.begin_chunk.new.output) (rw size at b.cause) (λ tells. let z = begins tells in (z.enough, z.room));
       left = chunk_left _ (g.R.BlockRuns.within c.args.runs.now) (g.R.BlockRuns.reach c.args.runs.now) _ _ self on c.in-Some.run' c.begin_chunk.result c.begin_chunk.new.self (g.met.R.BlockRuns.left_fits c.args.runs.now) (e.left c.requires.going) (omega (arith, some)) c.requires.sound e.sound run ok room;
       given = a.given;
-      paid = chunk_paid _ _ _ self on c.in-Some.run' c.begin_chunk.result c.begin_chunk.new.self (e.paid c.requires.going) ok;
+      paid = chunk_paid _ _ _ (length (g.O.Output.written c.args.output.now)) (length (g.O.Output.written c.begin_chunk.new.output)) self on c.in-Some.run' c.begin_chunk.result c.begin_chunk.new.self c.requires.none (e.paid c.requires.going) ok b.whole;
       gathered = λ tells d within place is fresh. chunk_gathers _ _ _ (gathered_to (g.R.BlockRuns.charge c.args.runs.now) self.past d) self on c.in-Some.run' c.begin_chunk.result c.begin_chunk.new.self (e.gathered tells d within place is fresh) ok;
       spends = λ tells d within place is fresh s t h.
           let sound = c.requires.sound.gathering in
@@ -137,7 +137,7 @@ returns-in-None g c =
       cause = tt;
       left = write_looks _ _ _ _ (e.left c.requires.going) (none_small _ _ c.requires.none);
       given = a.given;
-      paid = e.paid c.requires.going;
+      paid = looks_paid _ _ (length (g.O.Output.written c.args.output.now)) self on c.requires.none (e.paid c.requires.going);
       gathered = λ tells d within place is fresh. e.gathered tells d within place is fresh;
       spends = λ tells d within place is fresh s t h. spent_looks _ _ _ _ _ _ d s t _ _ self on c.requires.none c.requires.sound.gathering e.sound grows h
           (record { read = e.gathered tells d within place is fresh; grown = e.given; gathering = e.spends tells d within place is fresh s h.gathering });

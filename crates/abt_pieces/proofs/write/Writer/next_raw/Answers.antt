@@ -1,7 +1,8 @@
-use Rattle.std.proofs.Common.{arith, sym, ◌∙◌, ◌≡◌, ◌<◌, Some, None, refl, ◌-◌, Option, IsTrue}
+use Rattle.std.proofs.Common.{arith, sym, ap, ◌∙◌, ◌≡◌, ◌<◌, Some, None, refl, ◌-◌, Option, IsTrue}
+use Rattle.abt_runs.specs.declared.part.Cursor.{Cursor}
 use Rattle.abt_pieces.proofs.Fronts.{not_told, run_causes, run_not_full}
-use Rattle.abt_pieces.proofs.Going.{is_copying, some_of, next_sound, next_writer, write_copies, goes_on, next_next, next_going}
-use Rattle.abt_pieces.proofs.Counts.{segment_words, segment_top, writer_passes}
+use Rattle.abt_pieces.proofs.Going.{is_copying, some_of, next_sound, next_writer, write_copies, goes_on, next_next, raw_known}
+use Rattle.abt_pieces.proofs.Counts.{segment_words, segment_top, writer_passes, next_paid}
 use Rattle.abt_pieces.proofs.Spending.{spent_next}
 use Rattle.abt_pieces.proofs.Image.{part_comes, next_same}
 use Rattle.abt_pieces.proofs.write.Writer.next_raw.Goals as goal
@@ -12,7 +13,7 @@ some_no_none x h = absurd cc
 -- the source has failed
 pub returns-in-Err : goal.returns-in-Err
 returns-in-Err g c =
-    let n = c.next_part.ensures in
+    let n = c.next_raw.ensures in
     let self = c.args.self.now in
     let h = is_copying _ _ _ _ self c.args.copying c.requires.is c.requires.sound in
     let low : c.args.copying.next.block < self.past = let z = goes_on _ _ _ _ _ _ _ c.args.copying h c.requires.whole in omega (arith, z, h.past) in
@@ -31,8 +32,7 @@ returns-in-Err g c =
       comes = tt;
       left = tt;
       given = n.given;
-      gatherer = refl;
-      fetched = tt;
+      paid = tt;
       charged = tt;
       spends = λ tells d within place is fresh s t spent. tt;
       calls = n.calls;
@@ -50,7 +50,7 @@ returns-in-Err g c =
 -- the part goes on with the run
 pub returns-in-Some : goal.returns-in-Some
 returns-in-Some g c =
-    let n = c.next_part.ensures in
+    let n = c.next_raw.ensures in
     let e = c.in-Ok.ensures in
     let self = c.args.self.now in
     let one = g.R.BlockRuns.one c.args.runs.now in
@@ -65,7 +65,7 @@ returns-in-Some g c =
     let is = sym (rw c.block_size-size.ensures at c.and_part.ensures) ∙ c.in-Some.is in
     let next = next_next c.args.copying c.in-Some.next c.in-Ok.part _ is in
     let z = next_sound _ _ (g.R.BlockRuns.left c.args.runs.now) _ _ _ _ _ count c.args.copying c.in-Some.next c.in-Ok.part h c.requires.whole (omega (arith, c.requires.sound.gathering.room))
-    (record { next = e.moved; capped = e.capped.raw; within = e.within; here = (e.here.0, e.here.1); reached = e.reached; shorter = e.on; ended = λ q. (e.at_end q).0 }) is in
+    (record { next = e.moved; capped = e.capped.raw; within = e.within; here = (e.here.0, e.here.1); reached = e.reached; shorter = e.on; ended = e.at_end }) is in
     let x = λ (tells : IsTrue g.S.Source.tells). next_writer _ _ _ _ _ _ _ self c.args.copying c.in-Ok.part c.requires.is c.requires.sound (sym (g.met.R.BlockRuns.long c.args.runs.now _ (c.requires.opened tells))) (g.met.R.BlockRuns.are_blocks c.args.runs.now _ (c.requires.opened tells)) c.requires.whole (c.requires.told tells)
     (e.part tells) (e.place tells) (e.here_place tells) e.here.0 (e.stands tells) e.capped.raw in
     record {
@@ -87,13 +87,12 @@ returns-in-Some g c =
       comes = λ t come. part_comes _ _ self _ c.args.copying c.in-Some.next c.requires.is refl (next_same c.args.copying c.in-Some.next c.in-Ok.part _ is) refl refl t come;
       left = write_copies _ _ _ _ refl refl (rw c.requires.is z.fewer);
       given = n.given;
-      gatherer = refl;
-      fetched = e.fetched (next_going c.args.copying c.in-Some.next c.in-Ok.part _ is);
+      paid = next_paid count _ _ self (record self { copying = Some c.in-Some.next }) c.args.copying c.in-Some.next refl refl c.requires.is refl on n.given (λ none. let z = e.fetched none in let y = ap (λ (x : Cursor). x.block) next in omega (arith, z, y, e.moved, on));
       charged = rw next e.charged;
       spends = λ tells d within place there fresh s t spent. record {
         gathering = spent.gathering;
         copies = spent_next _ _ _ _ _ _ _ _ _ _ c.args.copying c.in-Some.next c.in-Ok.part on c.requires.whole
-            (record { next = e.moved; charged = e.charged; onward = e.onward; copies = e.copies; stops = λ u. (e.stops u).1; first = e.first tells; grown = e.given }) is (rw c.requires.is at spent.copies);
+            (record { next = e.moved; charged = e.charged; onward = e.onward; copies = e.copies; stops = e.stops; first = e.first tells; grown = e.given }) is (rw c.requires.is at spent.copies);
       };
       calls = n.calls;
       turns = omega (arith, top, turns);
@@ -110,7 +109,7 @@ returns-in-Some g c =
 -- the source has changed
 pub returns-in-None : goal.returns-in-None
 returns-in-None g c =
-    let n = c.next_part.ensures in
+    let n = c.next_raw.ensures in
     let e = c.in-Ok.ensures in
     let self = c.args.self.now in
     let h = is_copying _ _ _ _ self c.args.copying c.requires.is c.requires.sound in
@@ -130,8 +129,7 @@ returns-in-None g c =
       comes = tt;
       left = tt;
       given = n.given;
-      gatherer = refl;
-      fetched = tt;
+      paid = tt;
       charged = tt;
       spends = λ tells d within place is fresh s t spent. tt;
       calls = n.calls;
@@ -150,3 +148,13 @@ returns-in-None g c =
           (e.part tells) (e.place tells) (e.here_place tells) e.here.0 (e.stands tells) e.capped.raw in
           some_no_none x.0 (sym x.1 ∙ is));
     }
+
+pub next_raw-requires-clause-inside : goal.next_raw-requires-clause-inside
+next_raw-requires-clause-inside g c =
+    let self = c.args.self.now in
+    let h = is_copying _ _ _ _ self c.args.copying c.requires.is c.requires.sound in
+    omega (arith, h.until, h.past, c.requires.sound.gathering.past)
+
+pub next_raw-requires-clause-raw : goal.next_raw-requires-clause-raw
+next_raw-requires-clause-raw g c tells =
+    raw_known _ _ _ _ _ _ _ c.args.self.now c.args.copying c.requires.is c.requires.sound (sym (g.met.R.BlockRuns.long c.args.runs.now _ (c.requires.opened tells))) (c.requires.told tells)

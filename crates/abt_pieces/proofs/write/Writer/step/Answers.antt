@@ -31,7 +31,7 @@ returns-in-Ok g c =
       cause = tt;
       left = λ d. e.left;
       ended = λ d. absurd (false≢true d);
-      paid = λ d. rw a.gatherer (omega (arith, e.fetched));
+      paid = λ d. let z = e.paid in omega (arith, z);
       spends = λ tells d within place is fresh s t h. e.spends tells d within place is fresh s t h;
       spent = λ tells d within place is fresh s t h whole. absurd (false≢true whole);
       costs = record {
@@ -127,7 +127,7 @@ returns-in-Ok-copy_bytes g c =
       cause = tt;
       left = λ d. e.left;
       ended = λ d. absurd (false≢true d);
-      paid = λ d. rw a.gatherer (omega (arith, e.put));
+      paid = λ d. let z = e.paid in omega (arith, z);
       spends = λ tells d within place is fresh s t h. e.spends tells d within place is fresh s t h;
       spent = λ tells d within place is fresh s t h whole. absurd (false≢true whole);
       costs = record {
