@@ -1,5 +1,5 @@
 -- Where a cutter stands, between pieces and within one.
-use Rattle.std.specs.Prelude.{◌≡◌, ℕ, ◌+◌, ◌-◌, ◌*◌, ◌^◌, ◌≤◌, ◌<◌, Bool, true, false, List, [], ◌++◌, length, drop}
+use Rattle.std.specs.Prelude.{◌≡◌, ℕ, ◌+◌, ◌-◌, ◌*◌, ◌/◌, ◌^◌, ◌≤◌, ◌<◌, Bool, true, false, List, [], ◌++◌, length, drop}
 use Rattle.std.specs.Prelude.{nat_le, None, ⊤, Result, Ok, Err, if◌then◌else◌, nat_lt}
 use Rattle.abt_sparse.specs.Block.{Block}
 use Rattle.abt_sparse.specs.Runs.{weight, greedy, segments}
@@ -19,11 +19,16 @@ use Rattle.abt_pieces.specs.declared.stage.Stage.TheVariants.{Between, Plan, Beg
 use Rattle.abt_pieces.specs.declared.stage.PieceProgress.{PieceProgress}
 use Rattle.abt_pieces.specs.declared.stage.PieceProgress.TheVariants as answers
 
+-- how many blocks a raw run of a piece has at most, behind two headers and the piece's own
+abbrev pub most_raw : ℕ → ℕ → ℕ
+most_raw b limit = (limit - 40) / b
+
 -- before the first chunk of a planned piece
-abbrev pub first_writer : Cursor → Outline → Writer
-first_writer c o = record {
+abbrev pub first_writer : Cursor → Outline → ℕ → Writer
+first_writer c o r = record {
   first = o.piece.first;
   past = o.piece.past;
+  most = r;
   gatherer = first_gatherer c;
   copying = None;
   chunks = o.chunks;
