@@ -118,6 +118,7 @@ impl Segment {
     {
         let room = self.limit - self.weight;
         let most = self.placer.room();
+        // No raw chunk is longer than that.
         if room > u32::MAX as u64 {
             return most;
         }
