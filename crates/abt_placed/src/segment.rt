@@ -111,12 +111,18 @@ impl Segment {
         requires some { 4 ≤ size }
         requires room { self.now.weight ≤ self.now.limit }
         requires most { 0 < self.now.placer.most }
+        requires small { 12 + self.now.placer.most * size < 2 ^ 32 }
         ensures some { 0 < result }
         ensures cap { result ≤ cap_of (tail_of_open self.now.placer.kind) (self.now.limit - self.now.weight) size }
         ensures room { result ≤ room_of self.now.placer }
     {
-        let room = (self.limit - self.weight).min(u32::MAX as u64);
-        raw_cap(&self.tail(), room, size).min(self.placer.room())
+        let room = self.limit - self.weight;
+        let most = self.placer.room();
+        // No raw chunk is longer than that.
+        if room > u32::MAX as u64 {
+            return most;
+        }
+        raw_cap(&self.tail(), room, size).min(most)
     }
 
     /// Takes blocks of one class, whose bytes these are, where they fit. True where they don't: then
