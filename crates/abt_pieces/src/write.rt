@@ -1,7 +1,7 @@
 //! Writing the chunks of an image: one for each of its runs, a raw run in several.
 ghost use Rattle.std.specs.Prelude.{◌≡◌, ℕ, List, [], ◌<◌, ◌≤◌, ◌+◌, ◌-◌, ◌*◌, ◌^◌, ◌++◌, IsTrue, IfOk, IfErr, OnOk};
 ghost use Rattle.std.specs.Prelude.{OnErr, length, take, drop, min, max, true, false};
-ghost use Rattle.abt_runs.specs.Part.{is_end as ends, entry};
+ghost use Rattle.abt_runs.specs.Part.{is_end as ends};
 ghost use Rattle.abt_pieces.specs.Fault.{HasCause, full_cut};
 ghost use Rattle.abt_pieces.specs.Calls.{Failing, devices};
 ghost use Rattle.abt_pieces.specs.Contents.{head_len as length_of_head, data_len};
@@ -9,9 +9,8 @@ ghost use Rattle.abt_pieces.specs.Cutter.{first_writer};
 ghost use Rattle.abt_pieces.specs.Write.{front_bytes, chunk_len, ChunkCause, front_begun, run_begun, run_front, run_head};
 ghost use Rattle.abt_pieces.specs.Write.{next_blocks, opened_with, chunk_opened, next_copying};
 ghost use Rattle.abt_pieces.specs.Write.{copied_on, rest_of, frame_of, SoundWriter, ToldWriter, write_left};
-ghost use Rattle.abt_pieces.specs.Write.{silent_write, passed_to, writer_words, charge_of};
+ghost use Rattle.abt_pieces.specs.Write.{silent_write, writer_words};
 ghost use Rattle.abt_pieces.specs.Image.{Leads, MayCome};
-ghost use Rattle.abt_pieces.specs.Gather.{gathered_to};
 ghost use Rattle.abt_runs.specs.declared.part.Cursor.{Cursor};
 ghost use Rattle.abt_pieces.specs.Plan.{last_words};
 ghost use Rattle.abt_pieces.specs.Spent.{Spent};
@@ -340,10 +339,6 @@ impl Writer {
         ensures paid { OnOk result (silent_write (R.count runs.old) self.new < silent_write (R.count runs.old)
             self.old + (S.given source.new - S.given source.old) + (length (O.written output.new) - length
             (O.written output.old))) }
-        ensures gathered { IsTrue S.tells → (d : Cursor) → R.within runs.old d →
-            R.place runs.old (S.content source.old) d → d.block ≡ self.old.past → d.ask ≡ 1 →
-            OnOk result (S.given source.new + gathered_to (R.charge runs.old) self.old.past d self.old.gatherer.at
-            ≤ S.given source.old + gathered_to (R.charge runs.old) self.old.past d self.new.gatherer.at) }
         ensures spends { IsTrue S.tells → (d : Cursor) → R.within runs.old d → R.place runs.old (S.content source.old) d
             → d.block ≡ self.old.past → d.ask ≡ 1 → (s t : ℕ) →
             Spent (λ c. R.within runs.old c × R.place runs.old (S.content source.old) c) (R.charge runs.old)
@@ -417,8 +412,6 @@ impl Writer {
         ensures given { S.given source.old ≤ S.given source.new }
         ensures paid { OnOk result (silent_write (R.count runs.old) self.new < silent_write (R.count runs.old)
             self.old + (S.given source.new - S.given source.old)) }
-        ensures charged { OnOk result (S.given source.new + R.charge runs.old copying.next
-            ≤ S.given source.old + charge_of (R.charge runs.old) self.new.copying + entry copying.next) }
         ensures spends { IsTrue S.tells → (d : Cursor) → R.within runs.old d → R.place runs.old (S.content source.old) d
             → d.block ≡ self.old.past → d.ask ≡ 1 → (s t : ℕ) →
             Spent (λ c. R.within runs.old c × R.place runs.old (S.content source.old) c) (R.charge runs.old)
@@ -506,9 +499,6 @@ impl Writer {
             < write_left (R.left runs.old) (R.count runs.old) self.old) }
         ensures paid { OnOk result (silent_write (R.count runs.old) self.new < silent_write (R.count runs.old)
             self.old + (length (O.written output.new) - length (O.written output.old))) }
-        ensures copies { OnOk result (S.given source.new + R.held runs.old copying.here copying.done
-            ≤ S.given source.old + R.held runs.old copying.here
-            (copying.done + (length (O.written output.new) - length (O.written output.old)))) }
         ensures spends { IsTrue S.tells → (d : Cursor) → R.within runs.old d → R.place runs.old (S.content source.old) d
             → d.block ≡ self.old.past → d.ask ≡ 1 → (s t : ℕ) →
             Spent (λ c. R.within runs.old c × R.place runs.old (S.content source.old) c) (R.charge runs.old)

@@ -3,7 +3,6 @@ use Rattle.abt_pieces.proofs.Fronts.{wrote_part, nothing_more, nothing_less, as_
 use Rattle.abt_pieces.proofs.Writing.{frame_blocks}
 use Rattle.abt_pieces.proofs.Going.{gathering, run_begins, run_sound, begun_keeps, begun_ok, begun_rest, begun_left, run_counted, still_told, still_sound, chunk_causes, write_looks, none_small}
 use Rattle.abt_pieces.proofs.Counts.{run_words, run_paid, looks_paid, still_passes, writer_looks, writer_looked}
-use Rattle.abt_pieces.specs.Gather.{gathered_to}
 use Rattle.abt_pieces.specs.Spent.{Spent}
 use Rattle.abt_pieces.specs.Write.{SoundWriter, ToldWriter, run_begun, silent_write, write_left, writer_words}
 use Rattle.abt_pieces.proofs.Spending.{run_spent, spent_looks}
@@ -31,7 +30,6 @@ returns-in-Err g c =
       cause = run_causes _ _ _ _ _ _ _ c.run_fault.ensures c.in-Err.ensures.cause;
       left = tt;
       paid = tt;
-      gathered = λ tells d within place is fresh. tt;
       spends = λ tells d within place is fresh s t spent. tt;
       words = tt;
       costs = record {
@@ -93,8 +91,6 @@ returns-in-Some g c =
       left = begun_ok (λ v. write_left (g.R.BlockRuns.left c.args.runs.now) count v < write_left (g.R.BlockRuns.left c.args.runs.now) count self) t res new (begun_left _ (g.R.BlockRuns.within c.args.runs.now) (g.R.BlockRuns.reach c.args.runs.now) _ _ self on x (g.met.R.BlockRuns.left_fits c.args.runs.now) (e.left c.requires.going) begun) b.ok;
       paid = begun_ok (λ v. silent_write count v < silent_write count self + (g.S.Source.given c.gather.new.source - g.S.Source.given c.args.source.now) + (length (g.O.Output.written c.begin_run.new.output) - length (g.O.Output.written c.args.output.now))) t res new
           (let z = run_paid (g.R.BlockRuns.within c.args.runs.now) count _ self on x c.requires.none sound run (e.paid c.requires.going) in omega (arith, z)) b.ok;
-      gathered = λ tells d within place is fresh. begun_ok (λ v. g.S.Source.given c.gather.new.source + gathered_to (g.R.BlockRuns.charge c.args.runs.now) self.past d self.gatherer.at ≤ g.S.Source.given c.args.source.now + gathered_to (g.R.BlockRuns.charge c.args.runs.now) self.past d v.gatherer.at) t res new
-          (rw (begun_keeps x.kind (gathering self on) x).0 (e.gathered tells d within place is fresh)) b.ok;
       spends = λ tells d within place is fresh s t' h.
           begun_ok (λ v. Spent (λ y. g.R.BlockRuns.within runs y × g.R.BlockRuns.place runs content y) (g.R.BlockRuns.charge runs) (g.R.BlockRuns.copied runs) (g.R.BlockRuns.held runs) d s (t' + (g.S.Source.given c.gather.new.source - g.S.Source.given c.args.source.now)) v) t res new (run_spent _ _ _ _ _ _ d s t' _ _ self on x (λ y. let z = g.met.R.BlockRuns.held_grows c.args.runs.now y 0 0 (omega arith) in z.1)
           (λ k q. ((sound.raw k q).within, (c.requires.told tells).gathering.raw k q)) c.requires.none sound run h
@@ -144,7 +140,6 @@ returns-in-None g c =
       cause = tt;
       left = write_looks _ _ self (gathering self on) on refl refl (e.left c.requires.going) (none_small _ self.bytes _ c.requires.none);
       paid = looks_paid _ _ (length (g.O.Output.written c.args.output.now)) self on c.requires.none (e.paid c.requires.going);
-      gathered = λ tells d within place is fresh. e.gathered tells d within place is fresh;
       spends = λ tells d within place is fresh s t h. spent_looks _ _ _ _ _ _ d s t _ _ self on c.requires.none c.requires.sound.gathering e.sound grows h
           (record { read = e.gathered tells d within place is fresh; grown = e.given; gathering = e.spends tells d within place is fresh s h.gathering });
       words = writer_looks _ _ _ _ self _ refl (still_passes self on c.requires.none c.requires.sound.gathering.behind_it e.sound.behind_it grows) (omega (arith, words));

@@ -33,7 +33,6 @@ returns-in-Err g c =
       left = tt;
       given = n.given;
       paid = tt;
-      charged = tt;
       spends = λ tells d within place is fresh s t spent. tt;
       calls = n.calls;
       turns = omega (arith, top, turns);
@@ -89,7 +88,6 @@ returns-in-Some g c =
       left = write_copies _ _ self (record self { copying = Some c.in-Some.next }) refl refl (let y = z.fewer in rw c.requires.is (omega (arith, y)));
       given = n.given;
       paid = next_paid count _ _ self (record self { copying = Some c.in-Some.next }) c.args.copying c.in-Some.next refl refl c.requires.is refl on n.given (λ none. let z = e.fetched none in let y = ap (λ (x : Cursor). x.block) next in omega (arith, z, y, e.moved, on));
-      charged = rw next e.charged;
       spends = λ tells d within place there fresh s t spent. record {
         gathering = spent.gathering;
         copies = spent_next _ _ _ _ _ _ _ _ _ _ c.args.copying c.in-Some.next c.in-Ok.part (omega (arith, on)) c.requires.whole
@@ -131,7 +129,6 @@ returns-in-None g c =
       left = tt;
       given = n.given;
       paid = tt;
-      charged = tt;
       spends = λ tells d within place is fresh s t spent. tt;
       calls = n.calls;
       turns = omega (arith, top, turns);
