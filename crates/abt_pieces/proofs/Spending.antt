@@ -1,5 +1,5 @@
 -- What writing a piece reads, step by step.
-use Rattle.std.proofs.Common.{◌≡◌, ◌==◌, ℕ, zero, suc, ◌+◌, ◌-◌, ◌*◌, ◌<◌, ◌≤◌, nat_lt, true, refl, sym, ap, subst, ◌∙◌, arith, inl, inr, mul-le-mul_right, Some, None, Result, Ok, Err, OnOk, IfOk}
+use Rattle.std.proofs.Common.{◌≡◌, ◌==◌, ℕ, zero, suc, ◌+◌, ◌-◌, ◌*◌, ◌<◌, ◌≤◌, nat_lt, true, refl, sym, ap, subst, ◌∙◌, arith, inl, inr, mul-le-mul_right, Some, None, Result, Ok, Err, IfOk}
 use Rattle.std.proofs.lemmas.Bool.{cases_Bool, eqb-true, ltb-true, ltb-false, lt-ltb}
 use Rattle.abt_runs.specs.Part.{Earliest, afresh, entry, is_end}
 use Rattle.abt_runs.specs.declared.part.Cursor.{Cursor}

@@ -1,5 +1,5 @@
 -- An image that is counted, before it is written, and why it is not.
-use Rattle.std.proofs.Common.{IfOk, ◌^◌, ◌≡◌, ℕ, suc, ◌+◌, ◌-◌, ◌*◌, ◌%◌, ◌<◌, ◌≤◌, List, [], ◌++◌, length, take, drop, replicate, refl, sym, ap, subst, ◌∙◌, append_assoc, append-nil, arith, inl, inr, ◌⊎◌, length-append, length-drop, mul-le-mul_left, mul-le-mul_right, Result, Ok, Err, Bool, IfErr, nat_lt, false}
+use Rattle.std.proofs.Common.{IfOk, ◌^◌, ◌≡◌, ℕ, ◌+◌, ◌-◌, ◌*◌, ◌%◌, ◌<◌, ◌≤◌, List, [], ◌++◌, length, take, drop, replicate, refl, sym, ap, subst, ◌∙◌, append_assoc, append-nil, arith, inl, inr, ◌⊎◌, length-append, mul-le-mul_left, mul-le-mul_right, Result, Ok, Err, Bool, IfErr, nat_lt, false}
 use Rattle.std.proofs.lemmas.Bool.{cases_Bool, ltb-true, ltb-false}
 use Rattle.std.proofs.lemmas.List.{take_all}
 use Rattle.std.proofs.Math.ListN.{drop_of_length-le}
@@ -23,7 +23,6 @@ use Rattle.abt_pieces.specs.Fault.{HasCause, full_in_cut, fault_of_run}
 use Rattle.abt_pieces.specs.declared.fault.PieceFault.{PieceFault}
 use Rattle.abt_pieces.specs.declared.fault.PieceFault.TheVariants.{Read, Write, TooLarge, SourceChanged, BadBlock, LimitTooSmall}
 use Rattle.abt_pieces.specs.declared.gather.Gatherer.{Gatherer}
-use Rattle.abt_pieces.specs.declared.write.Writer.{Writer}
 use Rattle.abt_pieces.proofs.Counts.{not_below}
 use Rattle.abt_pieces.proofs.Cuts.{few_cuts}
 use Rattle.abt_pieces.proofs.Cutting.{sound_first, gathered_first}

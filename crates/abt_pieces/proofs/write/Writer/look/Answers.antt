@@ -1,7 +1,7 @@
 use Rattle.std.proofs.Common.{arith, refl, ◌∙◌, ◌<◌, ◌≤◌, ◌+◌, ◌-◌, ◌*◌, length, IsTrue}
 use Rattle.abt_pieces.proofs.Fronts.{wrote_part, nothing_more, nothing_less, as_many, no_more, no_more_than, none_more, ok_both, run_causes, run_unfilled, run_unsaid, not_full}
 use Rattle.abt_pieces.proofs.Writing.{frame_blocks}
-use Rattle.abt_pieces.proofs.Going.{gathering, run_begins, run_sound, begun_keeps, begun_ok, begun_rest, begun_left, run_counted, still_told, still_sound, chunk_causes, write_looks, none_small}
+use Rattle.abt_pieces.proofs.Going.{gathering, run_begins, run_sound, begun_ok, begun_rest, begun_left, run_counted, still_told, still_sound, chunk_causes, write_looks, none_small}
 use Rattle.abt_pieces.proofs.Counts.{run_words, run_paid, looks_paid, still_passes, writer_looks, writer_looked}
 use Rattle.abt_pieces.specs.Spent.{Spent}
 use Rattle.abt_pieces.specs.Write.{SoundWriter, ToldWriter, run_begun, silent_write, write_left, writer_words}

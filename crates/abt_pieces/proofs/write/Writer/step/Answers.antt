@@ -3,7 +3,7 @@ use Rattle.std.proofs.lemmas.Bool.{false≢true}
 use Rattle.abt_pieces.proofs.Fronts.{wrote_part, wrote_front, wrote_rest, chunk_cause, nothing_more, nothing_less, as_many, no_more, no_more_than, none_more, not_full, cause_unwritten, unfilled_by, none_says, whole_goes_not, whole_unfilled, whole_ended, whole_cause}
 use Rattle.abt_pieces.specs.Write.{chunk_opened}
 use Rattle.abt_pieces.proofs.Going.{told_whole, opened, opened_sound, write_copies}
-use Rattle.abt_pieces.proofs.Counts.{writer_most, writer_looked, writer_passed, open_paid, open_words}
+use Rattle.abt_pieces.proofs.Counts.{writer_most, writer_passed, open_paid, open_words}
 use Rattle.abt_pieces.proofs.Spending.{always_ok, spent_same, spent_whole, open_spent}
 use Rattle.abt_pieces.proofs.Image.{leads_same, end_comes, open_leads}
 use Rattle.abt_pieces.proofs.write.Writer.step.Goals as goal

@@ -1,8 +1,6 @@
-use Rattle.std.proofs.Common.{arith, ◌≡◌, ◌+◌, ◌*◌, ◌≤◌, ◌<◌, ◌-◌, refl, mul-le-mul_right}
+use Rattle.std.proofs.Common.{arith, ◌+◌, ◌*◌, ◌≤◌, ◌-◌, refl, mul-le-mul_right}
 use Rattle.abt_runs.specs.RawLaws.{raw_long, own_size}
 use Rattle.abt_runs.specs.Raw.{RawPlace}
-use Rattle.abt_runs.specs.Part.{afresh}
-use Rattle.abt_runs.specs.declared.part.Cursor.{Cursor}
 use Rattle.abt_runs.proofs.Charges.{charge_fresh, raw_copies, raw_onward, raw_first, no_more, no_more_than, few_turns, none_greatest}
 use Rattle.abt_runs.proofs.raw.RawRunsBlockRuns.next_raw.Goals as goal
 
