@@ -1,5 +1,5 @@
 -- What steps cost, summed.
-use Rattle.std.proofs.Common.{◌≡◌, ◌==◌, if◌then◌else◌, ℕ, zero, suc, ◌+◌, ◌-◌, ◌*◌, ◌<◌, ◌≤◌, nat_lt, min, true, false, refl, sym, ap, ◌∙◌, arith, inl, inr, Option, Some, None, Result, Ok, Err, OnOk}
+use Rattle.std.proofs.Common.{◌≡◌, ◌==◌, if◌then◌else◌, ℕ, zero, suc, ◌+◌, ◌-◌, ◌*◌, ◌<◌, ◌≤◌, nat_lt, min, true, false, refl, sym, ap, ◌∙◌, arith, inl, inr, Option, Some, None}
 use Rattle.std.proofs.lemmas.Bool.{cases_Bool, eqb-true, eqb-false, ltb-true, ltb-false, lt-ltb}
 use Rattle.abt_runs.specs.Part.{is_end, piece_bytes, entry}
 use Rattle.abt_runs.specs.Whole.{alike_kinds}
@@ -13,7 +13,6 @@ use Rattle.abt_pieces.specs.Gather.{ClosedRun, SoundGatherer, gathered_on, silen
 use Rattle.abt_pieces.specs.Write.{begins, begun_as, run_begun, opened_on, chunk_opened, copied_on, to_find, silent_write, passed_to, writer_words}
 use Rattle.abt_pieces.specs.declared.write.Copying.{Copying}
 use Rattle.abt_pieces.specs.declared.write.Writer.{Writer}
-use Rattle.abt_pieces.specs.declared.fault.PieceFault.{PieceFault}
 use Rattle.abt_pieces.proofs.Going.{gathering, begun_keeps, ended, goes, copy_case}
 use Rattle.abt_pieces.specs.declared.gather.Gatherer.{Gatherer}
 use Rattle.abt_pieces.proofs.Gathering.{left_on}

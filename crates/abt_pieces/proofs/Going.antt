@@ -185,11 +185,11 @@ pub run_sound : (W : Cursor → Type 0) (reach : Cursor → ℕ) (n b : ℕ) (w 
 run_sound W reach n b w h x none sound on run = begins_sound W reach n b w h x x.kind refl none sound on run
 
 -- what a begun run leaves as it is
-pub begun_keeps : (k : RunKind) (w : Writer) (x : Run) → ((begun_as k w x).gatherer ≡ w.gatherer) × ((begun_as k w x).past ≡ w.past)
-begun_keeps kinds.Raw w x = (refl, refl)
-begun_keeps (kinds.Fill v) w x = (refl, refl)
-begun_keeps kinds.Skip w x = (refl, refl)
-begun_keeps kinds.End w x = (refl, refl)
+pub begun_keeps : (k : RunKind) (w : Writer) (x : Run) → ((begun_as k w x).gatherer ≡ w.gatherer) × ((begun_as k w x).past ≡ w.past) × ((begun_as k w x).first ≡ w.first)
+begun_keeps kinds.Raw w x = (refl, refl, refl)
+begun_keeps (kinds.Fill v) w x = (refl, refl, refl)
+begun_keeps kinds.Skip w x = (refl, refl, refl)
+begun_keeps kinds.End w x = (refl, refl, refl)
 
 -- its head is counted
 head_counted : (k : RunKind) (w : Writer) (x : Run) → run_head k ≤ w.bytes → run_head k + (begun_as k w x).bytes ≡ w.bytes
@@ -433,24 +433,11 @@ next_sound W reach left b s e u bytes n c d r h whole remains end p is = elim (p
   | other nay some same ↦ absurd (let z : Some d ≡ None = sym is ∙ same in cc)
 ]
 
-pub next_after : (c d : Copying) (r : Run) (b : ℕ) → next_copying c r b ≡ Some d → d.after ≡ c.after
-next_after c d r b is = elim (part_case c r b) [
-  | void gone going same ↦ ap (λ (x : Copying). x.after) (sym (some_of _ d (sym same ∙ is)))
-  | raws k same ↦ ap (λ (x : Copying). x.after) (sym (some_of _ d (sym same ∙ is)))
-  | other nay some same ↦ absurd (let z : Some d ≡ None = sym is ∙ same in cc)
-]
-
-pub next_left : (c d : Copying) (r : Run) (b : ℕ) → next_copying c r b ≡ Some d → d.left ≡ c.left
-next_left c d r b is = elim (part_case c r b) [
-  | void gone going same ↦ ap (λ (x : Copying). x.left) (sym (some_of _ d (sym same ∙ is)))
-  | raws k same ↦ ap (λ (x : Copying). x.left) (sym (some_of _ d (sym same ∙ is)))
-  | other nay some same ↦ absurd (let z : Some d ≡ None = sym is ∙ same in cc)
-]
-
-pub next_next : (c d : Copying) (r : Run) (b : ℕ) → next_copying c r b ≡ Some d → d.next ≡ r.next
-next_next c d r b is = elim (part_case c r b) [
-  | void gone going same ↦ ap (λ (x : Copying). x.next) (sym (some_of _ d (sym same ∙ is)))
-  | raws k same ↦ ap (λ (x : Copying). x.next) (sym (some_of _ d (sym same ∙ is)))
+-- what a next part leaves as it is
+pub next_keeps : (c d : Copying) (r : Run) (b : ℕ) → next_copying c r b ≡ Some d → (d.next ≡ r.next) × (d.left ≡ c.left) × (d.after ≡ c.after)
+next_keeps c d r b is = elim (part_case c r b) [
+  | void gone going same ↦ rw (sym (some_of _ d (sym same ∙ is))) (refl, refl, refl)
+  | raws k same ↦ rw (sym (some_of _ d (sym same ∙ is))) (refl, refl, refl)
   | other nay some same ↦ absurd (let z : Some d ≡ None = sym is ∙ same in cc)
 ]
 
@@ -608,7 +595,7 @@ next_writer P T W reach b n l w c r is sound same good whole remains told part n
     let x = next_told P T W reach b w.most w.bytes l w.first w.past (begins w.gatherer) c r sound.gathering.inner (omega (arith, sound.gathering.past, same)) (frame_blocks b l w.first w.past good) h whole remains t part next here spot stands capped in
     let rest : rest_of (frame_of l w) (copying_on w (Some x.0) 0) ≡ rest_of (frame_of l w) w =
     ap (λ (y : List ℕ). y ++ bytes_of w.most (drop (begins w.gatherer) (frame_of l w))) x.3 ∙ ap (λ (o : Option Copying). to_copy w.most (frame_of l w) (begins w.gatherer) o ++ bytes_of w.most (drop (begins w.gatherer) (frame_of l w))) (sym is) in
-    let begun : to_begin w.most (Some x.0) ≡ to_begin w.most w.copying = ap (λ (m : ℕ). chunks_in kinds.Raw m w.most) (next_after c x.0 r b x.1) ∙ sym (ap (λ (o : Option Copying). to_begin w.most o) is) in
+    let begun : to_begin w.most (Some x.0) ≡ to_begin w.most w.copying = ap (λ (m : ℕ). chunks_in kinds.Raw m w.most) (next_keeps c x.0 r b x.1).2 ∙ sym (ap (λ (o : Option Copying). to_begin w.most o) is) in
     (x.0, x.1, record { told = record { gathering = told.gathering; copies = x.2; count = omega (arith, told.count, begun); long = (let z : w.bytes - 0 ≡ w.bytes = omega arith in z) ∙ told.long ∙ ap length (sym rest) }; rest = rest })
 
 pub record CopiedWriter (P : Cursor → Type 0) (T : Cursor → ℕ) (l : List Block) (w : Writer) (c : Copying) (n : ℕ) : Type 0 where

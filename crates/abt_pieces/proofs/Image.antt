@@ -1,8 +1,7 @@
 -- What is written of a piece leads to a sparse image, whatever the source gave.
-use Rattle.std.proofs.Common.{mul-le-mul_right, ◌≡◌, ℕ, zero, suc, ◌+◌, ◌-◌, ◌*◌, ◌^◌, ◌<◌, ◌≤◌, Bool, true, false, List, [], ◌∷◌, ◌++◌, length, refl, sym, ap, subst, ◌∙◌, append_assoc, append-nil, arith, length-append, length-take, length-drop, take-append-drop, take, drop, ◌%◌, not, Option, Some, None, Result, Ok, Err, OnOk, IfOk, ◌==◌, ◌&&◌, inl, inr, ◌⊎◌}
+use Rattle.std.proofs.Common.{mul-le-mul_right, ◌≡◌, ℕ, zero, suc, ◌+◌, ◌-◌, ◌*◌, ◌^◌, ◌<◌, ◌≤◌, Bool, true, false, List, [], ◌∷◌, ◌++◌, length, refl, sym, ap, subst, ◌∙◌, append_assoc, append-nil, arith, length-append, length-take, length-drop, take-append-drop, take, drop, ◌%◌, Some, None, Result, Ok, Err, OnOk, IfOk, inl, inr, ◌⊎◌}
 use Rattle.std.specs.List.{concat, AllByRecursion}
 use Rattle.std.proofs.lemmas.List.{take_all}
-use Rattle.std.proofs.lemmas.Bool.{cases_Bool, eqb-true}
 use Rattle.abt_sparse.specs.Block.{split}
 use Rattle.abt_sparse.specs.Chunk.{Header, Chunk, Raws, Fills, Skips, count, data_of, plain, plain_header, header_record, image_of}
 use Rattle.abt_sparse.specs.Fails.{Spells, counted_in}

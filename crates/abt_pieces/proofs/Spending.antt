@@ -1,5 +1,5 @@
 -- What writing a piece reads, step by step.
-use Rattle.std.proofs.Common.{◌≡◌, ◌==◌, ℕ, zero, suc, ◌+◌, ◌-◌, ◌*◌, ◌<◌, ◌≤◌, nat_lt, true, refl, sym, ap, subst, ◌∙◌, arith, inl, inr, mul-le-mul_right, Some, None, Result, Ok, Err, OnOk, IfOk}
+use Rattle.std.proofs.Common.{◌≡◌, ◌==◌, ℕ, zero, suc, ◌+◌, ◌-◌, ◌*◌, ◌<◌, ◌≤◌, nat_lt, true, refl, sym, ap, subst, ◌∙◌, arith, inl, inr, mul-le-mul_right, Some, None, Result, Ok, Err, IfOk}
 use Rattle.std.proofs.lemmas.Bool.{cases_Bool, eqb-true, ltb-true, ltb-false, lt-ltb}
 use Rattle.abt_runs.specs.Part.{Earliest, afresh, entry, is_end}
 use Rattle.abt_runs.specs.declared.part.Cursor.{Cursor}
@@ -113,20 +113,12 @@ begins_spent Is charge copied held s t t' e e' w g r (kinds.Fill v) raw none lt 
 begins_spent Is charge copied held s t t' e e' w g r kinds.Skip raw none lt more' h = rw none (still_copies Is charge copied held w.first w.past s (begins w.gatherer) (begins g) t t' e e' (omega (arith, lt)) more' h)
 begins_spent Is charge copied held s t t' e e' w g r kinds.End raw none lt more' h = rw none (still_copies Is charge copied held w.first w.past s (begins w.gatherer) (begins g) t t' e e' (omega (arith, lt)) more' h)
 
-begun_first : (k : RunKind) (w : Writer) (x : Run) → (begun_as k w x).first ≡ w.first
-begun_first kinds.Raw w x = refl
-begun_first (kinds.Fill v) w x = refl
-begun_first kinds.Skip w x = refl
-begun_first kinds.End w x = refl
-
 pub run_spent : (Is : Cursor → Type 0) (charge copied : Cursor → ℕ) (held : Cursor → ℕ → ℕ) (W : Cursor → Type 0) (n : ℕ) (d : Cursor) (s t given given' : ℕ) (w : Writer) (g : Gatherer) (r : Run) → ((c : Cursor) → held c 0 ≤ 0) → (w.gatherer.kind ≡ kinds.Raw → 0 < w.gatherer.count → Is w.gatherer.from)
     → w.copying ≡ None → SoundGatherer W n w.first w.past w.gatherer → ClosedRun w.gatherer g r → Spent Is charge copied held d s t w → Looked charge copied w.first w.past d s given given' w.gatherer g
     → Spent Is charge copied held d s (t + (given' - given)) (run_begun (gathering w g) r)
 run_spent Is charge copied held W n d s t given given' w g r empty place none old run h l =
     let c = rw none at h.copies in
     let k = begun_keeps r.kind (gathering w g) r in
-    let first = begun_first r.kind (gathering w g) r in
-    let v = run_begun (gathering w g) r in
     let copies = begins_spent Is charge copied held s t (t + (given' - given)) (gathered_to charge w.past d w.gatherer.at) (gathered_to charge w.past d g.at) w g r r.kind
     (λ k.
     let same = sym run.kind ∙ k in
@@ -134,8 +126,8 @@ run_spent Is charge copied held W n d s t given given' w g r empty place none ol
     rw run.here (empty w.gatherer.from, h.gathering.from same run.some, place same run.some, (let y : w.gatherer.from.block ≡ w.gatherer.at.block - w.gatherer.count = omega (arith, z.whole) in y), omega (arith, z.past)))
     none (omega (arith, run.start, run.some, old.behind_it)) (omega (arith, l.read, l.grown)) c in
     record {
-      gathering = rw (first, k.0, k.1) l.gathering;
-      copies = rw (first, k.0, k.1) copies;
+      gathering = rw (k.2, k.0, k.1) l.gathering;
+      copies = rw (k.2, k.0, k.1) copies;
     }
 
 -- a chunk that is begun reads nothing

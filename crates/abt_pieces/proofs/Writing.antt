@@ -1,12 +1,11 @@
 -- The bytes of a chunk: what stands in front of its blocks, and the blocks.
-use Rattle.std.proofs.Common.{◌≡◌, ℕ, zero, suc, ◌+◌, ◌-◌, ◌*◌, ◌<◌, ◌≤◌, List, [], ◌∷◌, ◌++◌, length, map, take, drop, replicate, refl, sym, ap, ◌∙◌, append_assoc, append-nil, arith, length-append, length-drop}
-use Rattle.std.specs.List.{AllByRecursion, flat_map, concat}
+use Rattle.std.proofs.Common.{◌≡◌, ℕ, zero, suc, ◌+◌, ◌-◌, ◌*◌, ◌<◌, ◌≤◌, List, [], ◌∷◌, ◌++◌, length, map, take, drop, replicate, refl, sym, ap, ◌∙◌, append-nil, arith, length-append, length-drop}
+use Rattle.std.specs.List.{AllByRecursion, concat}
 use Rattle.std.specs.Int.{w16, to_le_bytes}
 use Rattle.std.proofs.lemmas.Grind.{flat_map-append}
 use Rattle.std.proofs.lemmas.List.{drop-drop, length-take-le, take-append-le, drop-append-le, length-map}
 use Rattle.std.proofs.Math.Seq.{take-add, drop-append_seam}
 use Rattle.abt_sparse.specs.Block.{Block, Raw, Fill, Skip, AreBlocks}
-use Rattle.abt_sparse.specs.Runs.{runs}
 use Rattle.abt_sparse.specs.Chunk.{plain, chunk_of_run, raw_bytes, chunk_bytes}
 use Rattle.abt_sparse.specs.ChunkHead.{chunk_record}
 use Rattle.abt_sparse.specs.declared.kind.ChunkKind.TheVariants as chunks

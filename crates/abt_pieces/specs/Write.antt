@@ -246,8 +246,3 @@ passed_to u (Some c) = c.next.block
 unfoldable pub writer_words : ℕ → ℕ → Writer → ℕ
 writer_words one n w = last_words one n (min w.gatherer.at.block w.past)
     + last_words one n (min (passed_to (begins w.gatherer) w.copying) w.past)
-
--- how many bytes a pass may have read before the next part of the raw run that is copied
-abbrev pub charge_of : (Cursor → ℕ) → Option Copying → ℕ
-charge_of charge None = 0
-charge_of charge (Some c) = charge c.next

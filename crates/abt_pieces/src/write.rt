@@ -1,7 +1,7 @@
 //! Writing the chunks of an image: one for each of its runs, a raw run in several.
 ghost use Rattle.std.specs.Prelude.{◌≡◌, ℕ, List, [], ◌<◌, ◌≤◌, ◌+◌, ◌-◌, ◌*◌, ◌^◌, ◌++◌, IsTrue, IfOk, IfErr, OnOk};
 ghost use Rattle.std.specs.Prelude.{OnErr, length, take, drop, min, max, true, false};
-ghost use Rattle.abt_runs.specs.Part.{is_end as ends, entry};
+ghost use Rattle.abt_runs.specs.Part.{is_end as ends};
 ghost use Rattle.abt_pieces.specs.Fault.{HasCause, full_cut};
 ghost use Rattle.abt_pieces.specs.Calls.{Failing, devices};
 ghost use Rattle.abt_pieces.specs.Contents.{head_len as length_of_head, data_len};
@@ -9,9 +9,8 @@ ghost use Rattle.abt_pieces.specs.Cutter.{first_writer};
 ghost use Rattle.abt_pieces.specs.Write.{front_bytes, chunk_len, ChunkCause, front_begun, run_begun, run_front, run_head};
 ghost use Rattle.abt_pieces.specs.Write.{next_blocks, opened_with, chunk_opened, next_copying};
 ghost use Rattle.abt_pieces.specs.Write.{copied_on, rest_of, frame_of, SoundWriter, ToldWriter, write_left};
-ghost use Rattle.abt_pieces.specs.Write.{silent_write, passed_to, writer_words, charge_of};
+ghost use Rattle.abt_pieces.specs.Write.{silent_write, writer_words};
 ghost use Rattle.abt_pieces.specs.Image.{Leads, MayCome};
-ghost use Rattle.abt_pieces.specs.Gather.{gathered_to};
 ghost use Rattle.abt_runs.specs.declared.part.Cursor.{Cursor};
 ghost use Rattle.abt_pieces.specs.Plan.{last_words};
 ghost use Rattle.abt_pieces.specs.Spent.{Spent};
@@ -320,12 +319,9 @@ impl Writer {
             (R.together runs.old (S.content source.old)) (R.list runs.old (S.content source.old)) self.new) }
         ensures segment { (self.new.first ≡ self.old.first) × (self.new.past ≡ self.old.past) ×
             (self.new.most ≡ self.old.most) }
-        ensures grown { length (O.written output.old) ≤ length (O.written output.new) }
         ensures within { length (O.written output.new) ≤ length (O.written output.old) + self.old.bytes }
         ensures counted { OnOk result (length (O.written output.new) + self.new.bytes
             ≡ length (O.written output.old) + self.old.bytes) }
-        ensures few { length (O.written output.new)
-            ≤ length (O.written output.old) + (S.given source.new - S.given source.old) + 80 }
         ensures front { IsTrue S.tells → O.written output.new ≡ O.written output.old ++ take
             (length (O.written output.new) - length (O.written output.old))
             (rest_of (frame_of (R.list runs.old (S.content source.old)) self.old) self.old) }
@@ -336,19 +332,13 @@ impl Writer {
         ensures leads { OnOk result (Leads (MayCome (R.size runs.old) (R.count runs.old) self.old)
             (MayCome (R.size runs.old) (R.count runs.old) self.new) (O.written output.old) (O.written output.new)) }
         ensures write_frame { O.write_frame output.new ≡ O.write_frame output.old }
-        ensures write_faults { O.write_faults output.old ≤ O.write_faults output.new }
         ensures cause { IfErr result (λ e. HasCause e S.tells (S.read_faults source.old) (S.read_faults source.new)
             (O.write_faults output.old) (O.write_faults output.new)) }
         ensures left { OnOk result (write_left (R.left runs.old) (R.count runs.old) self.new
             < write_left (R.left runs.old) (R.count runs.old) self.old) }
-        ensures given { S.given source.old ≤ S.given source.new }
         ensures paid { OnOk result (silent_write (R.count runs.old) self.new < silent_write (R.count runs.old)
             self.old + (S.given source.new - S.given source.old) + (length (O.written output.new) - length
             (O.written output.old))) }
-        ensures gathered { IsTrue S.tells → (d : Cursor) → R.within runs.old d →
-            R.place runs.old (S.content source.old) d → d.block ≡ self.old.past → d.ask ≡ 1 →
-            OnOk result (S.given source.new + gathered_to (R.charge runs.old) self.old.past d self.old.gatherer.at
-            ≤ S.given source.old + gathered_to (R.charge runs.old) self.old.past d self.new.gatherer.at) }
         ensures spends { IsTrue S.tells → (d : Cursor) → R.within runs.old d → R.place runs.old (S.content source.old) d
             → d.block ≡ self.old.past → d.ask ≡ 1 → (s t : ℕ) →
             Spent (λ c. R.within runs.old c × R.place runs.old (S.content source.old) c) (R.charge runs.old)
@@ -356,23 +346,15 @@ impl Writer {
             OnOk result (Spent (λ c. R.within runs.old c × R.place runs.old (S.content source.old) c)
             (R.charge runs.old) (R.copied runs.old) (R.held runs.old) d s
             (t + (S.given source.new - S.given source.old)) self.new) }
-        ensures calls { S.reads source.new ≤ S.reads source.old + (S.given source.new - S.given source.old) + 2 }
-        ensures write_calls { O.writes output.new + length (O.written output.old) ≤ O.writes output.old + length
-            (O.written output.new) + 1 }
-        ensures turns { m.new.turns.number + last_words (R.one runs.old) (R.count runs.old)
-            (min self.old.gatherer.at.block self.old.past)
-            ≤ m.old.turns.number + 2 * (S.given source.new - S.given source.old) + (length
-            (O.written output.new) - length (O.written output.old)) + 3 + R.one runs.old }
         ensures words { OnOk result (m.new.turns.number + writer_words (R.one runs.old) (R.count runs.old) self.old
             ≤ m.old.turns.number + 2 * (S.given source.new - S.given source.old) + (length
             (O.written output.new) - length (O.written output.old)) + 3 + writer_words (R.one runs.old)
             (R.count runs.old) self.new) }
-        ensures received { S.given source.new ≤ S.given source.old + 65536 }
-        ensures steps { m.new.steps.number ≡ m.old.steps.number + 1 }
-        ensures greatest { m.new.greatest.number ≡ max m.old.greatest.number (S.given source.new - S.given source.old) }
-        ensures faults { S.read_faults source.old ≤ S.read_faults source.new }
-        ensures clean { OnOk result ((S.read_faults source.new ≡ S.read_faults source.old) ×
-            (O.write_faults output.new ≡ O.write_faults output.old)) }
+        ensures costs { StepCosts (writer_words (R.one runs.old) (R.count runs.old) self.old) (2 * R.one runs.old)
+            (devices S.Source O.Output source.old output.old)
+            (devices S.Source O.Output source.new output.new) m.old m.new }
+        ensures failing { Failing result (devices S.Source O.Output source.old output.old)
+            (devices S.Source O.Output source.new output.new) }
         ensures full_faults { O.full_faults output.new ≡ O.full_faults output.old + full_cut result }
         ensures full { full_cut result ≡ 1 → IsTrue (O.is_full output.new) ×
             (length (O.written output.new) < length (O.written output.old) + self.old.bytes) }
@@ -430,8 +412,6 @@ impl Writer {
         ensures given { S.given source.old ≤ S.given source.new }
         ensures paid { OnOk result (silent_write (R.count runs.old) self.new < silent_write (R.count runs.old)
             self.old + (S.given source.new - S.given source.old)) }
-        ensures charged { OnOk result (S.given source.new + R.charge runs.old copying.next
-            ≤ S.given source.old + charge_of (R.charge runs.old) self.new.copying + entry copying.next) }
         ensures spends { IsTrue S.tells → (d : Cursor) → R.within runs.old d → R.place runs.old (S.content source.old) d
             → d.block ≡ self.old.past → d.ask ≡ 1 → (s t : ℕ) →
             Spent (λ c. R.within runs.old c × R.place runs.old (S.content source.old) c) (R.charge runs.old)
@@ -500,12 +480,9 @@ impl Writer {
             (R.together runs.old (S.content source.old)) (R.list runs.old (S.content source.old)) self.new) }
         ensures segment { (self.new.first ≡ self.old.first) × (self.new.past ≡ self.old.past) ×
             (self.new.most ≡ self.old.most) }
-        ensures grown { length (O.written output.old) ≤ length (O.written output.new) }
         ensures within { length (O.written output.new) ≤ length (O.written output.old) + self.old.bytes }
         ensures counted { OnOk result (length (O.written output.new) + self.new.bytes
             ≡ length (O.written output.old) + self.old.bytes) }
-        ensures few { length (O.written output.new)
-            ≤ length (O.written output.old) + (S.given source.new - S.given source.old) + 80 }
         ensures front { IsTrue S.tells → O.written output.new ≡ O.written output.old ++ take
             (length (O.written output.new) - length (O.written output.old))
             (rest_of (frame_of (R.list runs.old (S.content source.old)) self.old) self.old) }
@@ -516,17 +493,12 @@ impl Writer {
         ensures leads { OnOk result (Leads (MayCome (R.size runs.old) (R.count runs.old) self.old)
             (MayCome (R.size runs.old) (R.count runs.old) self.new) (O.written output.old) (O.written output.new)) }
         ensures write_frame { O.write_frame output.new ≡ O.write_frame output.old }
-        ensures write_faults { O.write_faults output.old ≤ O.write_faults output.new }
         ensures cause { IfErr result (λ e. HasCause e S.tells (S.read_faults source.old) (S.read_faults source.new)
             (O.write_faults output.old) (O.write_faults output.new)) }
         ensures left { OnOk result (write_left (R.left runs.old) (R.count runs.old) self.new
             < write_left (R.left runs.old) (R.count runs.old) self.old) }
-        ensures given { S.given source.old ≤ S.given source.new }
         ensures paid { OnOk result (silent_write (R.count runs.old) self.new < silent_write (R.count runs.old)
             self.old + (length (O.written output.new) - length (O.written output.old))) }
-        ensures copies { OnOk result (S.given source.new + R.held runs.old copying.here copying.done
-            ≤ S.given source.old + R.held runs.old copying.here
-            (copying.done + (length (O.written output.new) - length (O.written output.old)))) }
         ensures spends { IsTrue S.tells → (d : Cursor) → R.within runs.old d → R.place runs.old (S.content source.old) d
             → d.block ≡ self.old.past → d.ask ≡ 1 → (s t : ℕ) →
             Spent (λ c. R.within runs.old c × R.place runs.old (S.content source.old) c) (R.charge runs.old)
@@ -534,19 +506,15 @@ impl Writer {
             OnOk result (Spent (λ c. R.within runs.old c × R.place runs.old (S.content source.old) c)
             (R.charge runs.old) (R.copied runs.old) (R.held runs.old) d s
             (t + (S.given source.new - S.given source.old)) self.new) }
-        ensures calls { S.reads source.new ≤ S.reads source.old + 1 }
-        ensures write_calls { O.writes output.new + length (O.written output.old) ≤ O.writes output.old + length
-            (O.written output.new) + 1 }
-        ensures turns { m.new.turns.number
-            ≤ m.old.turns.number + (length (O.written output.new) - length (O.written output.old)) + 1 }
-        ensures words { OnOk result (writer_words (R.one runs.old) (R.count runs.old) self.old
-            ≤ writer_words (R.one runs.old) (R.count runs.old) self.new) }
-        ensures received { S.given source.new ≤ S.given source.old + 65536 }
-        ensures steps { m.new.steps.number ≡ m.old.steps.number + 1 }
-        ensures greatest { m.new.greatest.number ≡ max m.old.greatest.number (S.given source.new - S.given source.old) }
-        ensures faults { S.read_faults source.old ≤ S.read_faults source.new }
-        ensures clean { OnOk result ((S.read_faults source.new ≡ S.read_faults source.old) ×
-            (O.write_faults output.new ≡ O.write_faults output.old)) }
+        ensures words { OnOk result (m.new.turns.number + writer_words (R.one runs.old) (R.count runs.old) self.old
+            ≤ m.old.turns.number + 2 * (S.given source.new - S.given source.old) + (length
+            (O.written output.new) - length (O.written output.old)) + 3 + writer_words (R.one runs.old)
+            (R.count runs.old) self.new) }
+        ensures costs { StepCosts (writer_words (R.one runs.old) (R.count runs.old) self.old) (2 * R.one runs.old)
+            (devices S.Source O.Output source.old output.old)
+            (devices S.Source O.Output source.new output.new) m.old m.new }
+        ensures failing { Failing result (devices S.Source O.Output source.old output.old)
+            (devices S.Source O.Output source.new output.new) }
         ensures full_faults { O.full_faults output.new ≡ O.full_faults output.old + full_cut result }
         ensures full { full_cut result ≡ 1 → IsTrue (O.is_full output.new) ×
             (length (O.written output.new) < length (O.written output.old) + self.old.bytes) }

@@ -195,7 +195,8 @@ pub trait BlockRuns {
         ensures stands { IsTrue S.tells →
             IfOk result (λ r. r.kind ≡ RunKind.Raw → r.blocks ≤ together self.old (S.content source.old) r.here) }
         ensures within { IfOk result (λ r. within self.old r.next) }
-        ensures here { IfOk result (λ r. (r.here.block ≡ from.block) × within self.old r.here) }
+        ensures here { IfOk result (λ r. (r.here.block ≡ from.block) × within self.old r.here ×
+            (charge self.old from ≤ charge self.old r.here)) }
         ensures reached { IfOk result (λ r. r.kind ≡ RunKind.Raw → r.blocks * size self.old ≤ reach self.old r.here) }
         ensures first { IsTrue S.tells →
             IfOk result (λ r. 0 < r.blocks → Earliest (λ d. within self.old d × place self.old (S.content source.old) d)
@@ -203,8 +204,8 @@ pub trait BlockRuns {
         ensures moved { IfOk result (λ r. r.next.block ≡ from.block + r.blocks) }
         ensures capped { IfOk result (λ r. Capped cap r) }
         ensures on { IfOk result (λ r. MovesOn (left self.old) from r) }
-        ensures stops { IfOk result (λ r. 0 < r.next.used → r.blocks ≡ cap) }
-        ensures at_end { IfOk result (λ r. is_end r.kind ≡ true → from.block ≡ count self.old) }
+        ensures stops { IfOk result (λ r. 0 < r.next.used → (r.kind ≡ RunKind.Raw) × (r.blocks ≡ cap)) }
+        ensures at_end { IfOk result (λ r. is_end r.kind ≡ true → (from.block ≡ count self.old) × (r.blocks ≡ 0)) }
         ensures charged { IfOk result (λ r. S.given source.new + charge self.old from ≤ S.given source.old + charge
             self.old r.next + entry from) }
         ensures copies { IfOk result (λ r. r.kind ≡ RunKind.Raw →

@@ -1,5 +1,5 @@
 -- An image that is counted, before it is written, and why it is not.
-use Rattle.std.proofs.Common.{IfOk, ◌^◌, ◌≡◌, ℕ, suc, ◌+◌, ◌-◌, ◌*◌, ◌%◌, ◌<◌, ◌≤◌, List, [], ◌++◌, length, take, drop, replicate, refl, sym, ap, subst, ◌∙◌, append_assoc, append-nil, arith, inl, inr, ◌⊎◌, length-append, length-drop, mul-le-mul_left, mul-le-mul_right, Result, Ok, Err, Bool, IfErr, nat_lt, false}
+use Rattle.std.proofs.Common.{IfOk, ◌^◌, ◌≡◌, ℕ, ◌+◌, ◌-◌, ◌*◌, ◌%◌, ◌<◌, ◌≤◌, List, [], ◌++◌, length, take, drop, replicate, refl, sym, ap, subst, ◌∙◌, append_assoc, append-nil, arith, inl, inr, ◌⊎◌, length-append, mul-le-mul_left, mul-le-mul_right, Result, Ok, Err, Bool, IfErr, nat_lt, false}
 use Rattle.std.proofs.lemmas.Bool.{cases_Bool, ltb-true, ltb-false}
 use Rattle.std.proofs.lemmas.List.{take_all}
 use Rattle.std.proofs.Math.ListN.{drop_of_length-le}
@@ -23,14 +23,13 @@ use Rattle.abt_pieces.specs.Fault.{HasCause, full_in_cut, fault_of_run}
 use Rattle.abt_pieces.specs.declared.fault.PieceFault.{PieceFault}
 use Rattle.abt_pieces.specs.declared.fault.PieceFault.TheVariants.{Read, Write, TooLarge, SourceChanged, BadBlock, LimitTooSmall}
 use Rattle.abt_pieces.specs.declared.gather.Gatherer.{Gatherer}
-use Rattle.abt_pieces.specs.declared.write.Writer.{Writer}
 use Rattle.abt_pieces.proofs.Counts.{not_below}
 use Rattle.abt_pieces.proofs.Cuts.{few_cuts}
 use Rattle.abt_pieces.proofs.Cutting.{sound_first, gathered_first}
 use Rattle.abt_pieces.proofs.Going.{run_ended}
 use Rattle.abt_pieces.proofs.Image.{no_raw, chunks_image, leads_same}
 use Rattle.abt_pieces.proofs.Spending.{spent_first}
-use Rattle.abt_sparsify.specs.Sparsify.{first_writer, with_run, Counted, SoundCount, no_runs, end_place, read_to, IsRawSize, SparsifyCause}
+use Rattle.abt_sparsify.specs.Sparsify.{writer_at_start, with_run, Counted, SoundCount, no_runs, end_place, read_to, IsRawSize, SparsifyCause}
 use Rattle.abt_sparsify.specs.declared.count.Written.{Written}
 
 -- ---- the whole image as its own frame
@@ -61,13 +60,13 @@ first_count b n c = record { chunks = omega arith; least = omega arith; bytes = 
 
 -- ---- a writer of all chunks of an image
 
-pub first_sound : (n b r : ℕ) (c : Cursor) (a : Written) → c.block ≡ 0 → RawPlace n b c → 0 < r → 12 + r * b < 2 ^ 32 → a.bytes < 2 ^ 64 → SoundWriter (λ d. RawPlace n b d) (λ d. (n - d.block) * b) n b (first_writer n r c a)
+pub first_sound : (n b r : ℕ) (c : Cursor) (a : Written) → c.block ≡ 0 → RawPlace n b c → 0 < r → 12 + r * b < 2 ^ 32 → a.bytes < 2 ^ 64 → SoundWriter (λ d. RawPlace n b d) (λ d. (n - d.block) * b) n b (writer_at_start n r c a)
 first_sound n b r c a first place some small fits = record { gathering = gatherer_sound n b c first place; copies = tt; most = some; small = small; fits = omega (arith, fits) }
 
-pub first_rest : (n r : ℕ) (l : List Block) (c : Cursor) (a : Written) → n ≡ length l → rest_of (frame l 0 n) (first_writer n r c a) ≡ bytes_of r l
+pub first_rest : (n r : ℕ) (l : List Block) (c : Cursor) (a : Written) → n ≡ length l → rest_of (frame l 0 n) (writer_at_start n r c a) ≡ bytes_of r l
 first_rest n r l c a e = ap (λ (k : ℕ). bytes_of r (drop k (frame l 0 n))) (none_begun c) ∙ ap (λ (f : List Block). bytes_of r f) (frame_whole l n e)
 
-pub first_told : (n b r : ℕ) (l : List Block) (c : Cursor) (a : Written) → c.block ≡ 0 → RawPlace n b c → n ≡ length l → a.chunks ≡ length (chunks_of r l) → a.bytes ≡ length (spelling b r l) → ToldWriter (λ d. RawPlace n b d) (λ d. n - d.block) l (first_writer n r c a)
+pub first_told : (n b r : ℕ) (l : List Block) (c : Cursor) (a : Written) → c.block ≡ 0 → RawPlace n b c → n ≡ length l → a.chunks ≡ length (chunks_of r l) → a.bytes ≡ length (spelling b r l) → ToldWriter (λ d. RawPlace n b d) (λ d. n - d.block) l (writer_at_start n r c a)
 first_told n b r l c a first place e chunks bytes =
     let whole = length-append (header_record (plain_header b (length l) (length (chunks_of r l)))) (bytes_of r l) in
     let count : a.chunks ≡ length (chunks_of r (drop (c.block - c.block) (frame l 0 n))) = chunks ∙ sym (ap (λ (k : ℕ). length (chunks_of r (drop k (frame l 0 n)))) (none_begun c) ∙ ap (λ (f : List Block). length (chunks_of r f)) (frame_whole l n e)) in
@@ -79,8 +78,8 @@ first_told n b r l c a first place e chunks bytes =
     }
 
 -- what comes behind nothing is all chunks
-pub first_leads : (b n r : ℕ) (start : Cursor) (a : Written) (w : List ℕ) → start.block ≡ 0 → Leads (AreChunks b a.chunks n) (MayCome b n (first_writer n r start a)) w w
-first_leads b n r start a w first = leads_same (AreChunks b a.chunks n) (MayCome b n (first_writer n r start a)) w w refl (λ t m.
+pub first_leads : (b n r : ℕ) (start : Cursor) (a : Written) (w : List ℕ) → start.block ≡ 0 → Leads (AreChunks b a.chunks n) (MayCome b n (writer_at_start n r start a)) w w
+first_leads b n r start a w first = leads_same (AreChunks b a.chunks n) (MayCome b n (writer_at_start n r start a)) w w refl (λ t m.
     subst (λ (y : List ℕ). AreChunks b a.chunks n y) (sym (m.bytes ∙ ap (λ (y : List ℕ). y ++ m.rest) (no_raw m.raw m.long))) (subst (λ (k : ℕ). AreChunks b a.chunks k m.rest) (let z : 0 + (n - (start.block - start.block)) ≡ n = omega arith in z) m.chunks))
 
 -- the header in front of them
@@ -200,11 +199,11 @@ granted_end len n b c e =
 
 -- before the first chunk of an image
 pub all_spent : (len n b r : ℕ) (start : Cursor) (a : Written) → start.block ≡ 0 → start.used ≡ 0 → start.ask ≡ 1 → len ≤ n * b
-    → Spent (λ c. RawPlace n b c × RawPlace n b c) (λ c. raw_charge len n b c) (λ c. raw_before len b c) (λ c k. raw_held len b c k) (end_place n) 16 32 (first_writer n r start a)
+    → Spent (λ c. RawPlace n b c × RawPlace n b c) (λ c. raw_charge len n b c) (λ c. raw_before len b c) (λ c k. raw_held len b c k) (end_place n) 16 32 (writer_at_start n r start a)
 all_spent len n b r start a first used fresh covers =
     let charge : Cursor → ℕ = λ c. raw_charge len n b c in
     let copied : Cursor → ℕ = λ c. raw_before len b c in
-    let h = spent_first (λ c. RawPlace n b c × RawPlace n b c) charge copied (λ c k. raw_held len b c k) start (end_place n) (first_writer n r start a) refl refl (sym first) in
+    let h = spent_first (λ c. RawPlace n b c × RawPlace n b c) charge copied (λ c k. raw_held len b c k) start (end_place n) (writer_at_start n r start a) refl refl (sym first) in
     let one : gathered_to (both charge copied) n (end_place n) start ≡ 16 = before in
     let two : gathered_to charge n (end_place n) start ≡ 16 = alone in
     rw (one, two) at h

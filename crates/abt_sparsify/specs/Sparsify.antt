@@ -44,8 +44,8 @@ pub record SoundCount (b : ℕ) (g : Gatherer) (a : Written) : Type 0 where
 -- ---- writing
 
 -- a writer of all chunks of an image of n blocks, raw runs cut every r blocks
-abbrev pub first_writer : ℕ → ℕ → Cursor → Written → Writer
-first_writer n r c a = record {
+abbrev pub writer_at_start : ℕ → ℕ → Cursor → Written → Writer
+writer_at_start n r c a = record {
   first = 0;
   past = n;
   most = r;

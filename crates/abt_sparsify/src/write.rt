@@ -6,7 +6,7 @@ ghost use Rattle.abt_sparse.specs.Chunk.{spelling, chunks_of};
 ghost use Rattle.abt_pieces.specs.Fault.{HasCause, full_cut};
 ghost use Rattle.abt_pieces.specs.Image.{Appended, AreChunks};
 ghost use Rattle.abt_pieces.specs.Write.{bytes_of};
-ghost use Rattle.abt_sparsify.specs.Sparsify.{first_writer};
+ghost use Rattle.abt_sparsify.specs.Sparsify.{writer_at_start};
 
 use crate::count::Written;
 use abt_io::{Meter, Output, Source, Window};
@@ -15,7 +15,7 @@ use abt_runs::{BlockRuns, Cursor, RawRuns};
 
 /// Before the first chunk of a counted image of so many blocks.
 fn writer_of(counted: Written, count: u32, most: u32, start: Cursor) -> Writer
-    ensures { result ≡ first_writer count most start counted }
+    ensures { result ≡ writer_at_start count most start counted }
 {
     Writer {
         first: 0,

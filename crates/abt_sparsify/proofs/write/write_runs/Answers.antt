@@ -1,6 +1,6 @@
 use Rattle.std.proofs.Common.{arith, refl, sym, ap, length, ◌∙◌, ◌≡◌, ◌+◌, ◌-◌, IsTrue}
 use Rattle.std.proofs.lemmas.Result.{err_from_is_err_and}
-use Rattle.abt_pieces.proofs.Counts.{silent_most, writer_most}
+use Rattle.abt_pieces.proofs.Counts.{silent_most}
 use Rattle.abt_pieces.proofs.Fronts.{front_join, rest_join, whole_join, no_bytes, cause_since, not_full, as_many, max_most, nothing_more, nothing_less}
 use Rattle.abt_pieces.proofs.Image.{leads_join, leads_whole, nothing_appended}
 use Rattle.abt_pieces.specs.Gather.{first_gatherer}

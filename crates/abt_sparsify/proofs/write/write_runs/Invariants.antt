@@ -1,4 +1,4 @@
-use Rattle.std.proofs.Common.{◌≡◌, ◌≤◌, ◌+◌, ◌-◌, ◌*◌, ◌++◌, length, take, drop, max, min}
+use Rattle.std.proofs.Common.{◌≡◌, ◌≤◌, ◌+◌, ◌-◌, ◌*◌, ◌++◌, length, take, drop, max}
 use Rattle.std.specs.Prelude.{IsTrue}
 use Rattle.abt_sparse.specs.Block.{classify}
 use Rattle.abt_runs.specs.Raw.{RawPlace, raw_charge, raw_before, raw_held}

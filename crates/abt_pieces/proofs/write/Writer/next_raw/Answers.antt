@@ -1,7 +1,7 @@
 use Rattle.std.proofs.Common.{arith, sym, ap, ◌∙◌, ◌≡◌, ◌<◌, Some, None, refl, ◌-◌, Option, IsTrue}
 use Rattle.abt_runs.specs.declared.part.Cursor.{Cursor}
 use Rattle.abt_pieces.proofs.Fronts.{not_told, run_causes, run_not_full}
-use Rattle.abt_pieces.proofs.Going.{is_copying, some_of, next_sound, next_writer, write_copies, goes_on, next_next, next_left, next_after, raw_known}
+use Rattle.abt_pieces.proofs.Going.{is_copying, some_of, next_sound, next_writer, write_copies, goes_on, next_keeps, raw_known}
 use Rattle.abt_pieces.proofs.Counts.{segment_words, segment_top, writer_passes, next_paid}
 use Rattle.abt_pieces.proofs.Spending.{spent_next}
 use Rattle.abt_pieces.proofs.Image.{part_comes}
@@ -33,7 +33,6 @@ returns-in-Err g c =
       left = tt;
       given = n.given;
       paid = tt;
-      charged = tt;
       spends = λ tells d within place is fresh s t spent. tt;
       calls = n.calls;
       turns = omega (arith, top, turns);
@@ -63,9 +62,10 @@ returns-in-Some g c =
     let words = segment_words _ one count c.args.copying.next.block c.in-Ok.part.next.block c.in-Ok.part.blocks self.past p.0 p.1 e.filled_up e.moved low c.requires.sound.gathering.past in
     let turns = n.turns in
     let is = sym (rw c.block_size-size.ensures at c.and_part.ensures) ∙ c.in-Some.is in
-    let next = next_next c.args.copying c.in-Some.next c.in-Ok.part _ is in
+    let kept = next_keeps c.args.copying c.in-Some.next c.in-Ok.part _ is in
+    let next = kept.0 in
     let z = next_sound _ _ (g.R.BlockRuns.left c.args.runs.now) _ _ _ _ _ count c.args.copying c.in-Some.next c.in-Ok.part h c.requires.whole c.requires.remains (omega (arith, c.requires.sound.gathering.room))
-    (record { next = e.moved; capped = e.capped.raw; within = e.within; here = (e.here.0, e.here.1); reached = e.reached; shorter = e.on; ended = e.at_end }) is in
+    (record { next = e.moved; capped = e.capped.raw; within = e.within; here = (e.here.0, e.here.1); reached = e.reached; shorter = e.on; ended = λ q. (e.at_end q).0 }) is in
     let x = λ (tells : IsTrue g.S.Source.tells). next_writer _ _ _ _ _ _ _ self c.args.copying c.in-Ok.part c.requires.is c.requires.sound (sym (g.met.R.BlockRuns.long c.args.runs.now _ (c.requires.opened tells))) (g.met.R.BlockRuns.are_blocks c.args.runs.now _ (c.requires.opened tells)) c.requires.whole c.requires.remains (c.requires.told tells)
     (e.part tells) (e.place tells) (e.here_place tells) e.here.0 (e.stands tells) e.capped.raw in
     record {
@@ -84,15 +84,14 @@ returns-in-Some g c =
           let y = x tells in
           let same = some_of y.0 c.in-Some.next (sym y.1 ∙ is) in
           rw same at y.2.rest;
-      comes = λ t come. part_comes _ _ self (record self { copying = Some c.in-Some.next }) c.args.copying c.in-Some.next c.requires.is refl (next_left c.args.copying c.in-Some.next c.in-Ok.part _ is) (next_after c.args.copying c.in-Some.next c.in-Ok.part _ is) refl refl t come;
+      comes = λ t come. part_comes _ _ self (record self { copying = Some c.in-Some.next }) c.args.copying c.in-Some.next c.requires.is refl kept.1 kept.2 refl refl t come;
       left = write_copies _ _ self (record self { copying = Some c.in-Some.next }) refl refl (let y = z.fewer in rw c.requires.is (omega (arith, y)));
       given = n.given;
       paid = next_paid count _ _ self (record self { copying = Some c.in-Some.next }) c.args.copying c.in-Some.next refl refl c.requires.is refl on n.given (λ none. let z = e.fetched none in let y = ap (λ (x : Cursor). x.block) next in omega (arith, z, y, e.moved, on));
-      charged = rw next e.charged;
       spends = λ tells d within place there fresh s t spent. record {
         gathering = spent.gathering;
         copies = spent_next _ _ _ _ _ _ _ _ _ _ c.args.copying c.in-Some.next c.in-Ok.part (omega (arith, on)) c.requires.whole
-            (record { next = e.moved; charged = e.charged; onward = e.onward; copies = e.copies; stops = e.stops; first = e.first tells; grown = e.given }) is (rw c.requires.is at spent.copies);
+            (record { next = e.moved; charged = e.charged; onward = e.onward; copies = e.copies; stops = λ u. (e.stops u).1; first = e.first tells; grown = e.given }) is (rw c.requires.is at spent.copies);
       };
       calls = n.calls;
       turns = omega (arith, top, turns);
@@ -130,7 +129,6 @@ returns-in-None g c =
       left = tt;
       given = n.given;
       paid = tt;
-      charged = tt;
       spends = λ tells d within place is fresh s t spent. tt;
       calls = n.calls;
       turns = omega (arith, top, turns);

@@ -3,7 +3,7 @@ use Rattle.std.proofs.lemmas.Bool.{false≢true}
 use Rattle.abt_pieces.proofs.Fronts.{wrote_part, wrote_front, wrote_rest, chunk_cause, nothing_more, nothing_less, as_many, no_more, no_more_than, none_more, not_full, cause_unwritten, unfilled_by, none_says, whole_goes_not, whole_unfilled, whole_ended, whole_cause}
 use Rattle.abt_pieces.specs.Write.{chunk_opened}
 use Rattle.abt_pieces.proofs.Going.{told_whole, opened, opened_sound, write_copies}
-use Rattle.abt_pieces.proofs.Counts.{writer_most, writer_looked, writer_passed, open_paid, open_words}
+use Rattle.abt_pieces.proofs.Counts.{writer_most, writer_passed, open_paid, open_words}
 use Rattle.abt_pieces.proofs.Spending.{always_ok, spent_same, spent_whole, open_spent}
 use Rattle.abt_pieces.proofs.Image.{leads_same, end_comes, open_leads}
 use Rattle.abt_pieces.proofs.write.Writer.step.Goals as goal
@@ -221,9 +221,6 @@ pub returns-in-Ok-copy_bytes : goal.returns-in-Ok-copy_bytes
 returns-in-Ok-copy_bytes g c =
     let a = c.copy_bytes.ensures in
     let e = c.in-Ok-copy_bytes.ensures in
-    let most = writer_most (g.R.BlockRuns.one c.args.runs.now) (g.R.BlockRuns.count c.args.runs.now) c.args.self.now in
-    let turns = a.turns in
-    let words = e.words in
     record {
       same = a.same;
       content = a.content;
@@ -244,23 +241,9 @@ returns-in-Ok-copy_bytes g c =
       paid = λ d. let z = e.paid in omega (arith, z);
       spends = λ tells d within place is fresh s t h. e.spends tells d within place is fresh s t h;
       spent = λ tells d within place is fresh s t h whole. absurd (false≢true whole);
-      costs = record {
-        given = a.given;
-        received = a.received;
-        grown = a.grown;
-        few = a.few;
-        steps = a.steps;
-        greatest = a.greatest;
-        calls = omega (arith, a.calls);
-        write_calls = a.write_calls;
-        turns = omega (arith, turns, most);
-      };
-      words = omega (arith, turns, words);
-      failing = record {
-        read = a.faults;
-        write = a.write_faults;
-        clean = e.clean;
-      };
+      costs = a.costs;
+      words = e.words;
+      failing = record { read = a.failing.read; write = a.failing.write; clean = e.failing.clean };
       full_faults = e.full_faults;
       full = λ says. absurd (not_full says);
     }
@@ -270,8 +253,6 @@ pub returns-in-Err-copy_bytes : goal.returns-in-Err-copy_bytes
 returns-in-Err-copy_bytes g c =
     let a = c.copy_bytes.ensures in
     let e = c.in-Err-copy_bytes.ensures in
-    let most = writer_most (g.R.BlockRuns.one c.args.runs.now) (g.R.BlockRuns.count c.args.runs.now) c.args.self.now in
-    let turns = a.turns in
     record {
       same = a.same;
       content = a.content;
@@ -292,23 +273,9 @@ returns-in-Err-copy_bytes g c =
       paid = tt;
       spends = λ tells d within place is fresh s t h. tt;
       spent = λ tells d within place is fresh s t h. tt;
-      costs = record {
-        given = a.given;
-        received = a.received;
-        grown = a.grown;
-        few = a.few;
-        steps = a.steps;
-        greatest = a.greatest;
-        calls = omega (arith, a.calls);
-        write_calls = a.write_calls;
-        turns = omega (arith, turns, most);
-      };
+      costs = a.costs;
       words = tt;
-      failing = record {
-        read = a.faults;
-        write = a.write_faults;
-        clean = tt;
-      };
+      failing = record { read = a.failing.read; write = a.failing.write; clean = tt };
       full_faults = e.full_faults;
       full = e.full;
     }
@@ -318,7 +285,6 @@ pub returns-in-Ok-look : goal.returns-in-Ok-look
 returns-in-Ok-look g c =
     let a = c.look.ensures in
     let e = c.in-Ok-look.ensures in
-    let turns = a.turns in
     record {
       same = a.same;
       content = a.content;
@@ -339,23 +305,9 @@ returns-in-Ok-look g c =
       paid = λ d. let z = e.paid in omega (arith, z);
       spends = λ tells d within place is fresh s t h. e.spends tells d within place is fresh s t h;
       spent = λ tells d within place is fresh s t h whole. absurd (false≢true whole);
-      costs = record {
-        given = a.given;
-        received = a.received;
-        grown = a.grown;
-        few = a.few;
-        steps = a.steps;
-        greatest = a.greatest;
-        calls = a.calls;
-        write_calls = a.write_calls;
-        turns = writer_looked _ _ _ _ c.args.self.now (omega (arith, turns));
-      };
+      costs = a.costs;
       words = e.words;
-      failing = record {
-        read = a.faults;
-        write = a.write_faults;
-        clean = e.clean;
-      };
+      failing = record { read = a.failing.read; write = a.failing.write; clean = e.failing.clean };
       full_faults = e.full_faults;
       full = λ says. absurd (not_full says);
     }
@@ -365,7 +317,6 @@ pub returns-in-Err-look : goal.returns-in-Err-look
 returns-in-Err-look g c =
     let a = c.look.ensures in
     let e = c.in-Err-look.ensures in
-    let turns = a.turns in
     record {
       same = a.same;
       content = a.content;
@@ -386,23 +337,9 @@ returns-in-Err-look g c =
       paid = tt;
       spends = λ tells d within place is fresh s t h. tt;
       spent = λ tells d within place is fresh s t h. tt;
-      costs = record {
-        given = a.given;
-        received = a.received;
-        grown = a.grown;
-        few = a.few;
-        steps = a.steps;
-        greatest = a.greatest;
-        calls = a.calls;
-        write_calls = a.write_calls;
-        turns = writer_looked _ _ _ _ c.args.self.now (omega (arith, turns));
-      };
+      costs = a.costs;
       words = tt;
-      failing = record {
-        read = a.faults;
-        write = a.write_faults;
-        clean = tt;
-      };
+      failing = record { read = a.failing.read; write = a.failing.write; clean = tt };
       full_faults = e.full_faults;
       full = e.full;
     }

@@ -1,9 +1,7 @@
-use Rattle.std.proofs.Common.{arith, ◌≡◌, ◌+◌, ◌*◌, ◌≤◌, ◌<◌, ◌-◌, refl, mul-le-mul_right}
+use Rattle.std.proofs.Common.{arith, ◌+◌, ◌*◌, ◌≤◌, ◌-◌, refl, mul-le-mul_right}
 use Rattle.abt_runs.specs.RawLaws.{raw_long, own_size}
 use Rattle.abt_runs.specs.Raw.{RawPlace}
-use Rattle.abt_runs.specs.Part.{afresh}
-use Rattle.abt_runs.specs.declared.part.Cursor.{Cursor}
-use Rattle.abt_runs.proofs.Charges.{raw_copies, raw_onward, raw_first, no_more, no_more_than, few_turns, none_greatest}
+use Rattle.abt_runs.proofs.Charges.{charge_fresh, raw_copies, raw_onward, raw_first, no_more, no_more_than, few_turns, none_greatest}
 use Rattle.abt_runs.proofs.raw.RawRunsBlockRuns.next_raw.Goals as goal
 
 -- raw blocks of a raw image need no header
@@ -34,13 +32,13 @@ returns g c =
       here_place = λ tells. here;
       stands = λ tells kind. omega (arith, c.requires.inside);
       within = next;
-      here = (refl, here);
+      here = (refl, here, charge_fresh self.length self.blocks self.size from (record from { ask = 1 }) (omega (arith, c.requires.some, c.requires.inside)) w.some refl refl);
       reached = λ kind. reach;
       first = λ tells some d is le. (raw_onward self.length self.size (from.block + n) d.block le, raw_first self.length self.blocks self.size (record from { block = from.block + n; ask = 1 }) d self.some self.covers self.last next le);
       moved = refl;
       capped = record { raw = λ kind. own_size _ };
       on = λ going. omega (arith, c.requires.some, c.requires.inside);
-      stops = λ used. refl;
+      stops = λ used. (refl, refl);
       at_end = λ end. absurd cc;
       charged = omega (arith, raw_first self.length self.blocks self.size from (record from { block = from.block + n; ask = 1 }) self.some self.covers self.last w (no_more _ _));
       copies = λ kind. raw_copies self.length self.size from.block n (from.block + n) refl;
