@@ -1,10 +1,10 @@
 //! Writing the chunks of an image: one for each of its runs, a raw run in several.
 ghost use Rattle.std.specs.Prelude.{◌≡◌, ℕ, List, [], ◌<◌, ◌≤◌, ◌+◌, ◌-◌, ◌*◌, ◌^◌, ◌++◌, IsTrue, IfOk, IfErr, OnOk};
-ghost use Rattle.std.specs.Prelude.{OnErr, length, take, drop, min, max, true, false};
+ghost use Rattle.std.specs.Prelude.{length, take, drop, min, max, true, false};
 ghost use Rattle.abt_runs.specs.Part.{is_end as ends};
 ghost use Rattle.abt_pieces.specs.Fault.{HasCause, full_cut};
 ghost use Rattle.abt_pieces.specs.Calls.{Failing, devices};
-ghost use Rattle.abt_pieces.specs.Contents.{head_len as length_of_head, data_len};
+ghost use Rattle.abt_pieces.specs.Contents.{head_len as length_of_head};
 ghost use Rattle.abt_pieces.specs.Cutter.{first_writer};
 ghost use Rattle.abt_pieces.specs.Write.{front_bytes, chunk_len, ChunkCause, front_begun, run_begun, run_front, run_head};
 ghost use Rattle.abt_pieces.specs.Write.{next_blocks, opened_with, chunk_opened, next_copying};
