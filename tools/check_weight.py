@@ -22,7 +22,7 @@ FUNCTIONS = 100
 MORE_FUNCTIONS = {"abt_io": 160, "abt_sections": 122}
 # How many functions have contracts of more clauses than this.
 LONG_CONTRACTS = {15: 112, 20: 50}
-NAMES_DEFINED_TWICE = 105
+NAMES_DEFINED_TWICE = 103
 
 FUNCTION = re.compile(r"\s*(?:pub(?:\(\w+\))? )?(?:const )?(?:unsafe )?(?:extern \"C\" )?(?:final )?fn (\w+)")
 CLAUSE = re.compile(r"\s*(?:requires|ensures)\b")
