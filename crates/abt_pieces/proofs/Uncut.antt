@@ -1,7 +1,7 @@
 -- A piece has no raw run that is cut.
 use Rattle.std.proofs.Common.{inl, inr, ◌≡◌, ℕ, ◌+◌, ◌*◌, ◌<◌, ◌≤◌, nat_lt, List, [], ◌∷◌, ◌++◌, length, take, drop, map, refl, ap, ◌∙◌, arith, length-append, mul-le-mul_right}
 use Rattle.std.proofs.lemmas.Bool.{cases_Bool, ltb-true, ltb-false}
-use Rattle.std.proofs.lemmas.List.{take_all, drop_all, length-map}
+use Rattle.std.proofs.lemmas.List.{take_all, drop_all}
 use Rattle.std.specs.List.{flat_map, AllByRecursion}
 use Rattle.abt_sparse.specs.Block.{Block, Raw, Fill, Skip, AreBlocks}
 use Rattle.abt_sparse.specs.Runs.{runs, joined, IsRun}
@@ -62,6 +62,3 @@ uncut b r f good few = uncut_runs b r (runs f) (each-runs f) (rw (joined-runs f)
 
 pub uncut_spelling : (b r : ℕ) (f : List Block) → chunks_of r f ≡ map chunk_of_run (runs f) → spelling b r f ≡ piece b f
 uncut_spelling b r f e = ap (image_of b (length f)) e
-
-pub uncut_count : (r : ℕ) (f : List Block) → chunks_of r f ≡ map chunk_of_run (runs f) → length (chunks_of r f) ≡ length (runs f)
-uncut_count r f e = ap length e ∙ length-map (runs f) chunk_of_run

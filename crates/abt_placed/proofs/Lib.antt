@@ -6,7 +6,6 @@ pub mod Costs
 pub mod Segments
 pub mod Sourced
 pub mod Spending
-pub mod Uncut
 pub mod Pieces
 pub mod Rooms
 pub mod Within

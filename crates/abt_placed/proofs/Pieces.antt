@@ -30,7 +30,7 @@ use Rattle.abt_placed.specs.declared.segment.Segment.{Segment}
 use Rattle.abt_placed.specs.Unfinished.{IsUnfinished, IsNoImage, KeepsFront}
 use Rattle.abt_placed.proofs.Refusing.{refused, keeps_less, zeros_kept}
 use Rattle.abt_placed.proofs.Laying.{placed_whole}
-use Rattle.abt_placed.proofs.Uncut.{uncut}
+use Rattle.abt_pieces.proofs.Uncut.{uncut, uncut_spelling}
 
 -- ---- the end of a piece
 
@@ -107,7 +107,7 @@ piece_told tells x b n limit r first past chunks old new few t long w =
     let le = piece_le b w.blocks first (n - past) (blocks_of_segment b first w.blocks (skips (n - past)) w.laid.good) in
     let bytes = flat_map plain (map chunk_of_run (runs f)) in
     let all : length (piece b f) ≡ 28 + length bytes = length-append (header_record (plain_header b (length f) (length (map chunk_of_run (runs f))))) bytes in
-    w.laid.stands ∙ ap (λ (y : List ℕ). old ++ y) (uncut b r f w.laid.good (omega (arith, le, all, w.fits, few)))
+    w.laid.stands ∙ ap (λ (y : List ℕ). old ++ y) (uncut_spelling b r f (uncut b r f w.laid.good (omega (arith, le, all, w.fits, few))))
     ∙ ap (λ (g : List Block). old ++ piece b (framed first g (n - past))) (w.told t).0 ∙ ap (λ (m : ℕ). old ++ piece b (framed first (between (classify b x) first past) (m - past))) long
 
 all_held : (g : List Block) → AllByRecursion IsHeld g → written_in g ≡ length g
