@@ -1,10 +1,12 @@
 -- How a piece is written to the spool: what stands there, headers last.
-use Rattle.std.proofs.Common.{zero, suc, ◌+◌, ◌≡◌, ℕ, ◌⊎◌, List, [], ◌∷◌, ◌++◌, length, take, drop, refl, sym, ap, subst, ◌∙◌, inl, inr, append-nil, append_assoc, arith}
+use Rattle.std.proofs.Common.{nat_lt, ltb-true, ltb-false, ◌-◌, ◌*◌, ◌≤◌, ◌<◌, zero, suc, ◌+◌, ◌≡◌, ℕ, ◌⊎◌, List, [], ◌∷◌, ◌++◌, length, take, drop, refl, sym, ap, subst, ◌∙◌, inl, inr, append-nil, append_assoc, arith}
 use Rattle.std.specs.List.{concat}
 use Rattle.std.proofs.lemmas.List.{append_cancel_right, drop_all, take_all, take-append-drop}
 use Rattle.std.proofs.lemmas.List.Folds.{concat-append}
 use Rattle.std.proofs.Math.Seq.{drop-append_seam, take-add}
 use Rattle.abt_io.specs.Frame.{last_cut}
+use Rattle.std.proofs.lemmas.Bool.{cases_Bool}
+use Rattle.abt_pieces.specs.Cutter.{piece_words}
 use Rattle.abt_pieces.specs.Image.{Appended, IsImage}
 use Rattle.abt_placed.specs.Unfinished.{IsNoImage}
 use Rattle.abt_flash.specs.Delivering.{EndsWhole, GaveNoPart, GaveWhole, IsWholeOrNone}
@@ -76,3 +78,29 @@ no_part_then w0 w w' cuts xs k x rest before next (inr h) = inr (gave_more w0 w 
 -- all of them
 pub no_part_all : (w0 w cuts : List ℕ) (xs : List (List ℕ)) → w ≡ w0 ++ concat xs → GaveNoPart w0 w cuts xs
 no_part_all w0 w cuts xs e = inl (record { count = length xs; gave = e ∙ ap (λ (ys : List (List ℕ)). w0 ++ concat ys) (sym (take_all (length xs) xs (omega arith))) })
+
+-- ---- what a piece costs, headers last
+
+pub late_words : (new most one n e : ℕ) → new ≤ most + one → (e < n → new ≤ most) → new ≤ most + piece_words one n e
+late_words new most one n e all going = elim (cases_Bool (nat_lt (e + 1) n)) [
+  | inl t ↦ let lt = ltb-true (e + 1) n t in let h = going (omega (arith, lt)) in rw t (omega (arith, h))
+  | inr t ↦ elim (cases_Bool (nat_lt e n)) [
+    | inl u ↦ let h = going (ltb-true e n u) in rw (t, u) (omega (arith, h))
+    | inr u ↦ rw (t, u) (omega (arith, all))
+  ]
+]
+
+pub late_takes : (new old bytes first past start next k : ℕ) → first ≤ past → first ≡ start → past ≡ next → new ≡ old + bytes → bytes ≤ (past - first) * k + 80 → new + start * k ≤ old + next * k + 80
+late_takes new old bytes first past start next k order begins ends long takes =
+    let all : past ≡ (past - first) + first = omega (arith, order) in
+    let parts : past * k ≡ ((past - first) + first) * k = ap (λ (n : ℕ). n * k) all in
+    let sum : ((past - first) + first) * k ≡ (past - first) * k + first * k = omega arith in
+    let b : first * k ≡ start * k = ap (λ (n : ℕ). n * k) begins in
+    let e : past * k ≡ next * k = ap (λ (n : ℕ). n * k) ends in
+    omega (arith, parts, sum, b, e, long, takes)
+
+pub passes_on : (n first past : ℕ) → (past < n → first < past) → first ≤ n → first ≤ past
+passes_on n first past moves within = elim (cases_Bool (nat_lt past n)) [
+  | inl t ↦ let lt = moves (ltb-true past n t) in omega (arith, lt)
+  | inr t ↦ let le = ltb-false past n t in omega (arith, le, within)
+]

@@ -85,7 +85,17 @@ pub(crate) fn sparse_behind<S: Source, L: Spool, P: Partition>(
         (counts S.Source L.Input L.Output L.Spool.own P.Partition.own source.new spool.new partition.new) m.old m.new }
 {
     match SparseRuns::open(source, w, m) {
-        Ok(runs) => deliver_behind(&Forward {}, runs, source, limit, before, spool, partition, w, m),
+        Ok(runs) => deliver_behind(
+            &Forward {},
+            runs,
+            source,
+            limit,
+            before,
+            spool,
+            partition,
+            w,
+            m,
+        ),
         Err(fault) => Err(not_read(fault)),
     }
 }

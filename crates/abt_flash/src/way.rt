@@ -31,6 +31,7 @@ pub(crate) trait Way<R: BlockRuns + Drop, L: Spool> {
 
     /// How many more for each piece, and for the last.
     ghost each: { R → ℕ };
+
     ghost last: { R → ℕ };
 
     /// How many for all of the image, but for those.

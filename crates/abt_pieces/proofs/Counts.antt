@@ -1,6 +1,6 @@
 -- What steps cost, summed.
-use Rattle.std.proofs.Common.{◌≡◌, ◌==◌, if◌then◌else◌, ℕ, zero, suc, ◌+◌, ◌-◌, ◌*◌, ◌<◌, ◌≤◌, nat_lt, min, true, false, refl, sym, ap, ◌∙◌, arith, inl, inr, Option, Some, None, Result, Ok, Err, OnOk}
-use Rattle.std.proofs.lemmas.Bool.{cases_Bool, ltb-true, ltb-false, lt-ltb}
+use Rattle.std.proofs.Common.{◌≡◌, ◌==◌, if◌then◌else◌, ℕ, zero, suc, ◌+◌, ◌-◌, ◌*◌, ◌<◌, ◌≤◌, nat_lt, min, true, false, refl, sym, ap, ◌∙◌, arith, inl, inr, Option, Some, None}
+use Rattle.std.proofs.lemmas.Bool.{cases_Bool, eqb-true, eqb-false, ltb-true, ltb-false, lt-ltb}
 use Rattle.abt_runs.specs.Part.{is_end, piece_bytes, entry}
 use Rattle.abt_runs.specs.Whole.{alike_kinds}
 use Rattle.abt_runs.specs.declared.part.Cursor.{Cursor}
@@ -10,11 +10,10 @@ use Rattle.abt_runs.specs.declared.part.RunKind.TheVariants as kinds
 use Rattle.abt_pieces.specs.Contents.{opens_len, data_len, contents_before}
 use Rattle.abt_pieces.specs.Plan.{last_words}
 use Rattle.abt_pieces.specs.Gather.{ClosedRun, SoundGatherer, gathered_on, silent_left, gathered_to}
-use Rattle.abt_pieces.specs.Write.{begins, starts, passed_to, writer_words, chunk_begun}
+use Rattle.abt_pieces.specs.Write.{begins, begun_as, run_begun, opened_on, chunk_opened, copied_on, to_find, silent_write, passed_to, writer_words}
 use Rattle.abt_pieces.specs.declared.write.Copying.{Copying}
 use Rattle.abt_pieces.specs.declared.write.Writer.{Writer}
-use Rattle.abt_pieces.specs.declared.fault.PieceFault.{PieceFault}
-use Rattle.abt_pieces.proofs.Going.{gathering}
+use Rattle.abt_pieces.proofs.Going.{gathering, begun_keeps, ended, goes, copy_case}
 use Rattle.abt_pieces.specs.declared.gather.Gatherer.{Gatherer}
 use Rattle.abt_pieces.proofs.Gathering.{left_on}
 
@@ -84,9 +83,9 @@ silent_most n past g = elim (cases_Bool (nat_lt g.at.block past)) [
 
 pub paid_on : (within : Cursor → Type 0) (n first past d : ℕ) (g : Gatherer) (r : Run) → SoundGatherer within n first past g → is_end g.kind ≡ false → (g.at.block < past → 0 < d) → (past ≤ g.at.block → r.next.block ≡ n) → (g.at.block ≡ n → is_end r.kind ≡ true)
     → silent_left n past (gathered_on g r).0 < silent_left n past g + d
-paid_on within n first past d g r h going reads tail ended = elim (cases_Bool (nat_lt g.at.block past)) [
+paid_on within n first past d g r h going reads tail at_end = elim (cases_Bool (nat_lt g.at.block past)) [
   | inl a ↦ let some = reads (ltb-true g.at.block past a) in let most = silent_most n past (gathered_on g r).0 in let same : silent_left n past g ≡ 3 = rw a refl in omega arith
-  | inr a ↦ let over = ltb-false g.at.block past a in let less = left_on (λ c. 0) within n first past g r h going (λ low _. absurd (omega arith)) tail ended in omega arith
+  | inr a ↦ let over = ltb-false g.at.block past a in let less = left_on (λ c. 0) within n first past g r h going (λ low _. absurd (omega arith)) tail at_end in omega arith
 ]
 
 -- ---- what a part takes in a piece
@@ -151,28 +150,83 @@ writer_passed one n t t' w c is h =
     let p : passed_to (begins w.gatherer) w.copying ≡ c.next.block = ap (λ (o : Option Copying). passed_to (begins w.gatherer) o) is in
     rw p (omega (arith, a, h))
 
--- a chunk is begun where the blocks before it have been passed
-starts_passes : (k : RunKind) (here : Cursor) (m u v : ℕ) → (k ≡ kinds.Raw → here.block ≡ u) → u ≤ v → u ≤ passed_to v (starts k here m)
-starts_passes kinds.Raw here m u v same le = let z = same refl in omega arith
-starts_passes (kinds.Fill w) here m u v same le = le
-starts_passes kinds.Skip here m u v same le = le
-starts_passes kinds.End here m u v same le = le
+-- a run is begun where the blocks before it have been passed
+begun_passes : (W : Cursor → Type 0) (n : ℕ) (w : Writer) (g : Gatherer) (r : Run) (k : RunKind) → r.kind ≡ k → w.copying ≡ None → SoundGatherer W n w.first w.past w.gatherer → ClosedRun w.gatherer g r
+    → passed_to (begins w.gatherer) w.copying ≤ passed_to (begins (begun_as k (gathering w g) r).gatherer) (begun_as k (gathering w g) r).copying
+begun_passes W n w g r kinds.Raw e none sound run = let z = sound.raw (sym run.kind ∙ e) run.some in let y = ap (λ (c : Cursor). c.block) run.here in rw none (omega (arith, y, z.whole))
+begun_passes W n w g r (kinds.Fill v) e none sound run = rw none (omega (arith, run.start))
+begun_passes W n w g r kinds.Skip e none sound run = rw none (omega (arith, run.start))
+begun_passes W n w g r kinds.End e none sound run = rw none (omega (arith, run.start))
 
-pub begun_passes : (W : Cursor → Type 0) (n b : ℕ) (w : Writer) (g : Gatherer) (r : Run) → w.copying ≡ None → SoundGatherer W n w.first w.past w.gatherer → ClosedRun w.gatherer g r
-    → passed_to (begins w.gatherer) w.copying ≤ passed_to (begins g) (starts r.kind r.here (data_len r.kind r.blocks b))
-begun_passes W n b w g r none sound run =
+pub run_words : (W : Cursor → Type 0) (n one t t' : ℕ) (w : Writer) (g : Gatherer) (r : Run) → w.copying ≡ None → SoundGatherer W n w.first w.past w.gatherer → ClosedRun w.gatherer g r → t + last_words one n (min w.gatherer.at.block w.past) ≤ t' + last_words one n (min g.at.block w.past)
+    → t + writer_words one n w ≤ t' + writer_words one n (run_begun (gathering w g) r)
+run_words W n one t t' w g r none sound run h =
+    let k = begun_keeps r.kind (gathering w g) r in
+    writer_looks one n t t' w (run_begun (gathering w g) r) k.1 (begun_passes W n w g r r.kind refl none sound run) (rw k.0 h)
+
+one_to_find : (u : ℕ) (c : Copying) → to_find u (Some c) ≤ 1
+one_to_find u c = elim (cases_Bool (nat_lt c.next.block (u - c.after))) [ inl e ↦ rw e (omega arith) | inr e ↦ rw e (omega arith) ]
+
+none_to_find : (u : ℕ) (o : Option Copying) → o ≡ None → to_find u o ≡ 0
+none_to_find u o e = rw e refl
+
+-- no part is found before the first chunk is begun
+begun_find : (W : Cursor → Type 0) (n : ℕ) (w : Writer) (g : Gatherer) (r : Run) (k : RunKind) → r.kind ≡ k → w.copying ≡ None → SoundGatherer W n w.first w.past w.gatherer → ClosedRun w.gatherer g r → to_find (begins (begun_as k (gathering w g) r).gatherer) (begun_as k (gathering w g) r).copying ≡ 0
+begun_find W n w g r kinds.Raw e none sound run =
+    let z = sound.raw (sym run.kind ∙ e) run.some in
+    let y = ap (λ (c : Cursor). c.block) run.here in
+    let h : nat_lt r.here.block (begins g - r.blocks) ≡ false = not_below r.here.block (begins g - r.blocks) (omega (arith, y, z.whole, run.start, run.blocks)) in
+    rw h refl
+begun_find W n w g r (kinds.Fill v) e none sound run = none_to_find (begins g) w.copying none
+begun_find W n w g r kinds.Skip e none sound run = none_to_find (begins g) w.copying none
+begun_find W n w g r kinds.End e none sound run = none_to_find (begins g) w.copying none
+
+pub run_paid : (W : Cursor → Type 0) (n d : ℕ) (w : Writer) (g : Gatherer) (r : Run) → w.copying ≡ None → SoundGatherer W n w.first w.past w.gatherer → ClosedRun w.gatherer g r → silent_left n w.past g < silent_left n w.past w.gatherer + d → silent_write n (run_begun (gathering w g) r) < silent_write n w + d
+run_paid W n d w g r none sound run h =
+    let k = begun_keeps r.kind (gathering w g) r in
+    let find = begun_find W n w g r r.kind refl none sound run in
+    let same : silent_left n (run_begun (gathering w g) r).past (run_begun (gathering w g) r).gatherer ≡ silent_left n w.past g = rw (k.0, k.1) refl in
+    omega (arith, h, find, same)
+
+pub looks_paid : (n d old : ℕ) (w : Writer) (g : Gatherer) → w.copying ≡ None → silent_left n w.past g < silent_left n w.past w.gatherer + d → silent_write n (gathering w g) < silent_write n w + d + (old - old)
+looks_paid n d old w g none h = omega (arith, h, none_to_find (begins w.gatherer) w.copying none, none_to_find (begins g) w.copying none)
+
+-- the header of a chunk pays for its first part
+pub open_paid : (n k : ℕ) (w : Writer) (c : Copying) (b : ℕ) → 1 < k → silent_write n (chunk_opened w c b) < silent_write n w + k
+open_paid n k w c b some = let z = one_to_find (begins w.gatherer) (opened_on c w.most b) in omega (arith, z, some)
+
+-- a part that is found without a read is all that is left of the run
+pub next_paid : (n k k' : ℕ) (w v : Writer) (c d : Copying) → v.past ≡ w.past → v.gatherer ≡ w.gatherer → w.copying ≡ Some c → v.copying ≡ Some d → c.next.block < begins w.gatherer - c.after → k ≤ k' → (k' ≡ k → d.next.block ≡ begins w.gatherer) → silent_write n v < silent_write n w + (k' - k)
+next_paid n k k' w v c d past gathers is now low le all =
     let u = begins w.gatherer in
-    let raw : r.kind ≡ kinds.Raw → r.here.block ≡ u = λ e. let z = sound.raw (sym run.kind ∙ e) run.some in ap (λ (c : Cursor). c.block) run.here ∙ (let y : w.gatherer.from.block ≡ w.gatherer.at.block - w.gatherer.count = omega (arith, z.whole) in y) in
-    rw none (starts_passes r.kind r.here (data_len r.kind r.blocks b) u (begins g) raw (omega (arith, run.start)))
+    let old : to_find u w.copying ≡ 1 = ap (λ (o : Option Copying). to_find u o) is ∙ (let h : nat_lt c.next.block (u - c.after) ≡ true = lt-ltb c.next.block (u - c.after) low in rw h refl) in
+    let new : to_find u v.copying ≡ to_find u (Some d) = ap (λ (o : Option Copying). to_find u o) now in
+    rw (past, gathers) (elim (cases_Bool (k' == k)) [
+      | inl e ↦ let z : to_find u (Some d) ≡ 0 = none_left d (all (eqb-true k' k e)) in omega (arith, old, new, z)
+      | inr e ↦ let more = eqb-false k' k e in let z = one_to_find u d in omega (arith, old, new, z, more, le)
+    ])
+  where
+    none_left : (d : Copying) → d.next.block ≡ begins w.gatherer → to_find (begins w.gatherer) (Some d) ≡ 0
+    none_left d e = let h : nat_lt d.next.block (begins w.gatherer - d.after) ≡ false = not_below d.next.block (begins w.gatherer - d.after) (omega (arith, e)) in rw h refl
 
-pub chunk_words : {A : Type 0} (W : Cursor → Type 0) (n b one t t' : ℕ) (w : Writer) (g : Gatherer) (r : Run) (res : Result A PieceFault) (v : Writer) → w.copying ≡ None → SoundGatherer W n w.first w.past w.gatherer → ClosedRun w.gatherer g r
-    → t + last_words one n (min w.gatherer.at.block w.past) ≤ t' + last_words one n (min g.at.block w.past) → OnOk res (v ≡ chunk_begun (gathering w g) r b) → OnOk res (t + writer_words one n w ≤ t' + writer_words one n v)
-chunk_words W n b one t t' w g r (Ok x) v none sound run h e = rw e (writer_looks one n t t' w (chunk_begun (gathering w g) r b) refl (begun_passes W n b w g r none sound run) h)
-chunk_words W n b one t t' w g r (Err f) v none sound run h e = tt
+copied_find : (u : ℕ) (c : Copying) (m : ℕ) → to_find u (copied_on c m) ≤ to_find u (Some c)
+copied_find u c m = elim (copy_case c m) [
+  | ended x z same ↦ rw same (omega arith)
+  | goes ne same ↦ rw same (omega arith)
+]
 
-pub chunk_paid : {A : Type 0} (b n m : ℕ) (w : Writer) (g : Gatherer) (r : Run) (res : Result A PieceFault) (v : Writer) → silent_left n w.past g < m → OnOk res (v ≡ chunk_begun (gathering w g) r b) → OnOk res (silent_left n w.past v.gatherer < m)
-chunk_paid b n m w g r (Ok x) v h e = rw e h
-chunk_paid b n m w g r (Err f) v h e = tt
+pub copied_paid : (n k m : ℕ) (w v : Writer) (c : Copying) → v.past ≡ w.past → v.gatherer ≡ w.gatherer → w.copying ≡ Some c → v.copying ≡ copied_on c m → 0 < k → silent_write n v < silent_write n w + k
+copied_paid n k m w v c past gathers is now some =
+    let u = begins w.gatherer in
+    let old : to_find u w.copying ≡ to_find u (Some c) = ap (λ (o : Option Copying). to_find u o) is in
+    let new : to_find u v.copying ≡ to_find u (copied_on c m) = ap (λ (o : Option Copying). to_find u o) now in
+    let z = copied_find u c m in
+    rw (past, gathers) (omega (arith, old, new, z, some))
+
+-- a chunk that is begun changes no words
+pub open_words : (one n t t' : ℕ) (w : Writer) (c : Copying) (b : ℕ) → w.copying ≡ Some c → t ≤ t' → t + writer_words one n w ≤ t' + writer_words one n (chunk_opened w c b)
+unfolding writer_words
+open_words one n t t' w c b is h = rw is (omega (arith, h))
 
 pub still_passes : (w : Writer) (g : Gatherer) → w.copying ≡ None → w.gatherer.count ≤ w.gatherer.at.block → g.count ≤ g.at.block → g.at.block + w.gatherer.count ≡ w.gatherer.at.block + g.count → passed_to (begins w.gatherer) w.copying ≤ passed_to (begins g) w.copying
 still_passes w g none old new grows = rw none (let z : begins w.gatherer ≤ begins g = omega arith in z)
@@ -213,7 +267,3 @@ gathers_none charge past given d at n over over' =
     let a = not_below at.block past over in
     let b = not_below n.block past over' in
     rw (a, b) (omega arith)
-
-pub chunk_gathers : {A : Type 0} (b x y : ℕ) (f : Cursor → ℕ) (w : Writer) (g : Gatherer) (r : Run) (res : Result A PieceFault) (v : Writer) → x ≤ y + f g.at → OnOk res (v ≡ chunk_begun (gathering w g) r b) → OnOk res (x ≤ y + f v.gatherer.at)
-chunk_gathers b x y f w g r (Ok z) v h e = rw e h
-chunk_gathers b x y f w g r (Err t) v h e = tt

@@ -1,11 +1,11 @@
 -- A cutter from stage to stage.
-use Rattle.std.proofs.Common.{◌≡◌, ℕ, ◌+◌, ◌-◌, ◌<◌, ◌≤◌, nat_le, nat_lt, Bool, true, List, [], ◌∷◌, ◌++◌, length, map, take, drop, replicate, refl, sym, ap, ◌∙◌, append_assoc, arith, inl, inr, ◌⊎◌, length-append, length-drop, leb-true, if◌then◌else◌}
+use Rattle.std.proofs.Common.{◌≡◌, ℕ, ◌+◌, ◌-◌, ◌*◌, ◌%◌, ◌<◌, ◌≤◌, nat_le, nat_lt, Bool, true, List, [], ◌∷◌, ◌++◌, length, map, take, drop, replicate, refl, sym, ap, ◌∙◌, append_assoc, arith, inl, inr, ◌⊎◌, length-append, length-drop, leb-true, if◌then◌else◌}
 use Rattle.std.proofs.lemmas.Bool.{cases_Bool, ltb-true, ltb-false}
 use Rattle.std.proofs.lemmas.List.{length-take-le, length-replicate}
 use Rattle.std.proofs.Math.Seq.{take-append_seam}
-use Rattle.abt_sparse.specs.Block.{Block, Skip}
+use Rattle.abt_sparse.specs.Block.{Block, Skip, AreBlocks}
 use Rattle.abt_sparse.specs.Runs.{runs, weight, framed, greedy, tail_parts, segments, Division}
-use Rattle.abt_sparse.specs.Chunk.{piece, header_record, plain_header, chunk_of_run}
+use Rattle.abt_sparse.specs.Chunk.{Chunk, piece, plain, header_record, plain_header, chunk_of_run, chunks_of}
 use Rattle.abt_sparse.proofs.Weights.{one_fits, fewest}
 use Rattle.abt_runs.specs.Part.{AllOf}
 use Rattle.abt_runs.specs.declared.part.Cursor.{Cursor}
@@ -13,15 +13,18 @@ use Rattle.abt_runs.specs.declared.part.RunKind.TheVariants as kinds
 use Rattle.abt_pieces.specs.Plan.{between, FirstPiece, Ends}
 use Rattle.abt_pieces.specs.Gather.{frame, first_gatherer, Gathered, SoundGatherer}
 use Rattle.abt_pieces.specs.Outline.{IsOutline, blocks_of, segment_at, piece_at, first_part}
-use Rattle.abt_pieces.specs.Write.{chunks_of, rest_of, frame_of, ToldWriter}
+use Rattle.abt_pieces.specs.Write.{bytes_of, rest_of, frame_of, ToldWriter}
 use Rattle.abt_pieces.specs.declared.outline.Outline.{Outline}
 use Rattle.abt_pieces.specs.declared.plan.Planner.{Planner}
 use Rattle.std.proofs.lemmas.List.{length-map}
-use Rattle.abt_pieces.specs.Cutter.{first_writer, has_more, SoundOutline, ToldCutter, ToldStage, Made, segments_left}
+use Rattle.abt_pieces.specs.Cutter.{most_raw, first_writer, has_more, SoundOutline, ToldCutter, ToldStage, Made, segments_left}
 use Rattle.abt_pieces.specs.declared.stage.Stage.{Stage}
 use Rattle.abt_pieces.specs.declared.fault.PieceFault.{PieceFault}
 use Rattle.abt_pieces.specs.declared.stage.Stage.TheVariants.{Between, Plan, Begin, Write, Done, Failed}
+use Rattle.std.specs.List.{flat_map}
 use Rattle.abt_pieces.proofs.Framing.{length-frame}
+use Rattle.abt_pieces.proofs.Writing.{frame_blocks}
+use Rattle.abt_pieces.proofs.Uncut.{uncut}
 use Rattle.abt_pieces.proofs.Counting.{skips_all}
 
 -- the segment that was planned is the one to come
@@ -72,27 +75,46 @@ sound_first W n e c order within place = record {
   raw = λ h s. absurd cc;
 }
 
+-- no raw run of a piece within the limit is longer than its raw chunks may be
+pub piece_uncut : (b limit : ℕ) (f : List Block) → 0 < b → 40 ≤ limit → AreBlocks b f → length (piece b f) ≤ limit → chunks_of (most_raw b limit) f ≡ map chunk_of_run (runs f)
+piece_uncut b limit f some room good long =
+    let cs = map chunk_of_run (runs f) in
+    let total : length (piece b f) ≡ 28 + length (flat_map plain cs) = length-append (header_record (plain_header b (length f) (length cs))) (flat_map plain cs) in
+    let r = most_raw b limit in
+    let whole : b * r + (limit - 40) % b ≡ limit - 40 = omega arith in
+    let rest : (limit - 40) % b < b = omega arith in
+    let next : (r + 1) * b ≡ b * r + b = omega arith in
+    uncut b r f good (omega (arith, total, long, whole, rest, next))
+
 -- the piece is its header and its chunks
-pub header_first : (b n : ℕ) (l : List Block) (c : Cursor) (o : Outline) → n ≡ length l → c.block ≡ o.piece.first → IsOutline b l o → piece b (blocks_of l o.piece) ≡ header_record (plain_header b n o.chunks) ++ rest_of (frame_of l (first_writer c o)) (first_writer c o)
-header_first b n l c o same first h =
+pub header_first : (b n limit : ℕ) (l : List Block) (c : Cursor) (o : Outline) → n ≡ length l → c.block ≡ o.piece.first → AreBlocks b l → 0 < b → 40 ≤ limit → o.piece.bytes ≤ limit → IsOutline b l o
+    → piece b (blocks_of l o.piece) ≡ header_record (plain_header b n o.chunks) ++ rest_of (frame_of l (first_writer c o (most_raw b limit))) (first_writer c o (most_raw b limit))
+header_first b n limit l c o same first good some room fits h =
     let f = blocks_of l o.piece in
     let long : length f ≡ n = length-frame l o.piece.first o.piece.past h.is.order h.is.within ∙ sym same in
-    let count : length (map chunk_of_run (runs f)) ≡ o.chunks = length-map (runs f) chunk_of_run ∙ sym h.count in
+    let cs = map chunk_of_run (runs f) in
+    let count : length cs ≡ o.chunks = length-map (runs f) chunk_of_run ∙ sym h.count in
     let none : c.block - c.block ≡ 0 = omega arith in
-    ap (λ (k : ℕ). header_record (plain_header b k (length (map chunk_of_run (runs f)))) ++ chunks_of f) long
-    ∙ ap (λ (k : ℕ). header_record (plain_header b n k) ++ chunks_of f) count
-    ∙ ap (λ (k : ℕ). header_record (plain_header b n o.chunks) ++ chunks_of (drop k f)) (sym none)
+    let uncut = piece_uncut b limit f some room (frame_blocks b l o.piece.first o.piece.past good) (omega (arith, h.is.long, fits)) in
+    ap (λ (k : ℕ). header_record (plain_header b k (length cs)) ++ flat_map plain cs) long
+    ∙ ap (λ (k : ℕ). header_record (plain_header b n k) ++ flat_map plain cs) count
+    ∙ ap (λ (x : List Chunk). header_record (plain_header b n o.chunks) ++ flat_map plain x) (sym uncut)
+    ∙ ap (λ (k : ℕ). header_record (plain_header b n o.chunks) ++ bytes_of (most_raw b limit) (drop k f)) (sym none)
 
 pub header_long : (b n k : ℕ) → length (header_record (plain_header b n k)) ≡ 28
 header_long b n k = refl
 
-pub writer_told : (P : Cursor → Type 0) (T : Cursor → ℕ) (b n : ℕ) (l : List Block) (c : Cursor) (o : Outline) → P c → n ≡ length l → c.block ≡ o.piece.first → IsOutline b l o → ToldWriter P T l (first_writer c o)
-writer_told P T b n l c o place same first h =
+pub writer_told : (P : Cursor → Type 0) (T : Cursor → ℕ) (b n limit : ℕ) (l : List Block) (c : Cursor) (o : Outline) → P c → n ≡ length l → c.block ≡ o.piece.first → AreBlocks b l → 0 < b → 40 ≤ limit → o.piece.bytes ≤ limit → IsOutline b l o → ToldWriter P T l (first_writer c o (most_raw b limit))
+writer_told P T b n limit l c o place same first good some room fits h =
     let f = blocks_of l o.piece in
+    let w = first_writer c o (most_raw b limit) in
     let long = length-frame l o.piece.first o.piece.past h.is.order h.is.within in
     let none : c.block - c.block ≡ 0 = omega arith in
-    let whole = header_first b n l c o same first h in
-    let total = ap length whole ∙ length-append (header_record (plain_header b n o.chunks)) (rest_of (frame_of l (first_writer c o)) (first_writer c o)) in
+    let whole = header_first b n limit l c o same first good some room fits h in
+    let total = ap length whole ∙ length-append (header_record (plain_header b n o.chunks)) (rest_of (frame_of l w) w) in
+    let uncut = piece_uncut b limit f some room (frame_blocks b l o.piece.first o.piece.past good) (omega (arith, h.is.long, fits)) in
+    let count : o.chunks ≡ length (chunks_of (most_raw b limit) (drop (c.block - c.block) f)) =
+    h.count ∙ sym (length-map (runs f) chunk_of_run) ∙ sym (ap length uncut) ∙ ap (λ (k : ℕ). length (chunks_of (most_raw b limit) (drop k f))) (sym none) in
     record {
       gathering = record {
         gathered = rw (← first) (gathered_first l o.piece.past c (omega (arith, first, h.is.order)) h.is.within (rw first long));
@@ -100,7 +122,7 @@ writer_told P T b n l c o place same first h =
         raw = λ z s. absurd cc;
       };
       copies = tt;
-      count = rw none h.count;
+      count = omega (arith, count);
       long = omega (arith, h.is.long, total, header_long b n o.chunks);
     }
 

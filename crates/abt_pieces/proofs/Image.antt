@@ -1,8 +1,7 @@
 -- What is written of a piece leads to a sparse image, whatever the source gave.
-use Rattle.std.proofs.Common.{◌≡◌, ℕ, zero, suc, ◌+◌, ◌-◌, ◌*◌, ◌^◌, ◌<◌, ◌≤◌, Bool, true, false, List, [], ◌∷◌, ◌++◌, length, refl, sym, ap, subst, ◌∙◌, append_assoc, append-nil, arith, length-append, length-take, length-drop, take-append-drop, take, drop, ◌%◌, not, Option, Some, None, Result, Ok, Err, OnOk, IfOk, ◌==◌, ◌&&◌, inl, inr, ◌⊎◌}
+use Rattle.std.proofs.Common.{mul-le-mul_right, ◌≡◌, ℕ, zero, suc, ◌+◌, ◌-◌, ◌*◌, ◌^◌, ◌<◌, ◌≤◌, Bool, true, false, List, [], ◌∷◌, ◌++◌, length, refl, sym, ap, subst, ◌∙◌, append_assoc, append-nil, arith, length-append, length-take, length-drop, take-append-drop, take, drop, ◌%◌, Some, None, Result, Ok, Err, OnOk, IfOk, inl, inr, ◌⊎◌}
 use Rattle.std.specs.List.{concat, AllByRecursion}
 use Rattle.std.proofs.lemmas.List.{take_all}
-use Rattle.std.proofs.lemmas.Bool.{cases_Bool, eqb-true}
 use Rattle.abt_sparse.specs.Block.{split}
 use Rattle.abt_sparse.specs.Chunk.{Header, Chunk, Raws, Fills, Skips, count, data_of, plain, plain_header, header_record, image_of}
 use Rattle.abt_sparse.specs.Fails.{Spells, counted_in}
@@ -13,11 +12,10 @@ use Rattle.abt_runs.specs.declared.part.Cursor.{Cursor}
 use Rattle.abt_runs.specs.declared.part.Run.{Run}
 use Rattle.abt_runs.specs.declared.part.RunKind.{RunKind}
 use Rattle.abt_runs.specs.declared.part.RunKind.TheVariants as kinds
-use Rattle.abt_pieces.specs.Contents.{head_len, data_len}
 use Rattle.abt_pieces.specs.Gather.{ClosedRun, SoundGatherer}
-use Rattle.abt_pieces.specs.Write.{begins, front_bytes, chunk_len, chunk_begun, starts, copied_on, next_copying, raw_part, SoundWriter}
+use Rattle.abt_pieces.specs.Write.{begins, front_bytes, front_begun, raw_begun, begun_as, run_begun, run_front, run_head, next_blocks, chunk_opened, copied_on}
 use Rattle.abt_pieces.specs.Cutter.{first_writer, is_begun, has_failed}
-use Rattle.abt_pieces.specs.Image.{Appended, Leads, IsImage, IsPlain, AreChunks, MayCome, StageMayCome, copy_to_come}
+use Rattle.abt_pieces.specs.Image.{Appended, Leads, IsImage, IsPlain, AreChunks, MayCome, StageMayCome, copy_to_come, blocks_to_come}
 use Rattle.abt_pieces.specs.declared.fault.PieceFault.{PieceFault}
 use Rattle.abt_pieces.specs.declared.gather.Gatherer.{Gatherer}
 use Rattle.abt_pieces.specs.declared.outline.Outline.{Outline}
@@ -26,7 +24,7 @@ use Rattle.abt_pieces.specs.declared.write.Writer.{Writer}
 use Rattle.abt_pieces.specs.declared.stage.Stage.{Stage}
 use Rattle.abt_pieces.specs.declared.stage.Stage.TheVariants.{Between, Plan, Begin, Write, Done, Failed}
 use Rattle.abt_pieces.proofs.Writing.{raw_chunk, fill_chunk}
-use Rattle.abt_pieces.proofs.Going.{gathering, copying_on}
+use Rattle.abt_pieces.proofs.Going.{gathering, copying_on, ended, goes, copy_case}
 
 -- ---- what leads on
 
@@ -96,13 +94,6 @@ pub no_raw : (raw : List ℕ) → length raw ≡ 0 → raw ≡ []
 no_raw [] e = refl
 no_raw (x ∷ raw) e = absurd (omega arith)
 
-run_one : (b q : ℕ) (k : RunKind) (here : Cursor) (raw : List ℕ) → is_end k ≡ false → length (front_bytes k q (chunk_len k q b)) ≡ head_len k → chunk_len k q b < 2 ^ 32
-    → length raw ≡ copy_to_come (starts k here (data_len k q b)) → OneChunk b q (front_bytes k q (chunk_len k q b) ++ raw)
-run_one b q kinds.Raw here raw going head fits long = raw_one b q raw long fits
-run_one b q (kinds.Fill w) here raw going head fits long = rw (no_raw raw long) (fill_one b q w (omega (arith, head)))
-run_one b q kinds.Skip here raw going head fits long = rw (no_raw raw long) (skip_one b q)
-run_one b q kinds.End here raw going head fits long = absurd (let e : true ≡ false = going in cc)
-
 -- one chunk in front of others
 pub joined_chunks : (b k j q : ℕ) (x rest : List ℕ) → OneChunk b q x → AreChunks b k j rest → AreChunks b (suc k) (q + j) (x ++ rest)
 joined_chunks b k j q x rest o h = record {
@@ -113,42 +104,48 @@ joined_chunks b k j q x rest o h = record {
   bytes = ap (λ (y : List ℕ). y ++ rest) o.bytes ∙ ap (λ (y : List ℕ). plain o.chunk ++ y) h.bytes;
 }
 
--- ---- steps of a writer
+-- ---- a run that has ended
 
--- where the open run begins once a run is closed
-record Closes (n : ℕ) (w : Writer) (g : Gatherer) (r : Run) : Type 0 where
-  blocks : n - begins w.gatherer ≡ r.blocks + (n - begins g)
-
-closes : (W : Cursor → Type 0) (n : ℕ) (w : Writer) (g : Gatherer) (r : Run) → SoundGatherer W n w.first w.past w.gatherer → SoundGatherer W n w.first w.past g → ClosedRun w.gatherer g r → Closes n w g r
-closes W n w g r sound on run = record { blocks = omega (arith, sound.behind_it, sound.room, on.behind_it, on.room, run.blocks, run.start) }
-
-chunk_comes : (b n : ℕ) (w : Writer) (g : Gatherer) (r : Run) → w.copying ≡ None → Closes n w g r → is_end r.kind ≡ false → 0 < w.chunks → chunk_len r.kind r.blocks b < 2 ^ 32
-    → length (front_bytes r.kind r.blocks (chunk_len r.kind r.blocks b)) ≡ head_len r.kind → (t : List ℕ) → MayCome b n (chunk_begun (gathering w g) r b) t → MayCome b n w (front_bytes r.kind r.blocks (chunk_len r.kind r.blocks b) ++ t)
-chunk_comes b n w g r none closed going some fits head t h =
-    let front = front_bytes r.kind r.blocks (chunk_len r.kind r.blocks b) in
-    let o = run_one b r.blocks r.kind r.here h.raw going head fits h.long in
-    let j = joined_chunks b (w.chunks - 1) (n - begins g) r.blocks (front ++ h.raw) h.rest o h.chunks in
+-- one chunk more in front, of q blocks
+one_more : (b n : ℕ) (w : Writer) (g : Gatherer) (k : RunKind) (q : ℕ) (front t : List ℕ) → w.copying ≡ None → n - begins w.gatherer ≡ q + (n - begins g) → 0 < w.chunks → OneChunk b q (front ++ []) → MayCome b n (front_begun (gathering w g) k) t → MayCome b n w (front ++ t)
+one_more b n w g k q front t none blocks some o h =
+    let few : length h.raw ≡ 0 = h.long ∙ ap copy_to_come none in
+    let still : blocks_to_come w.copying ≡ 0 = ap blocks_to_come none in
+    let more : AreChunks b (w.chunks - 1) (n - begins g) h.rest = subst (λ (m : ℕ). AreChunks b (w.chunks - 1) m h.rest) (let z : blocks_to_come w.copying + (n - begins g) ≡ n - begins g = omega (arith, still) in z) h.chunks in
+    let j = joined_chunks b (w.chunks - 1) (n - begins g) q (front ++ []) h.rest o more in
     record {
       raw = [];
-      rest = (front ++ h.raw) ++ h.rest;
+      rest = (front ++ []) ++ h.rest;
       long = sym (ap copy_to_come none);
-      chunks = subst (λ (k : ℕ). AreChunks b k (n - begins w.gatherer) ((front ++ h.raw) ++ h.rest)) (let z : suc (w.chunks - 1) ≡ w.chunks = omega arith in z) (subst (λ (m : ℕ). AreChunks b (suc (w.chunks - 1)) m ((front ++ h.raw) ++ h.rest)) (sym closed.blocks) j);
-      bytes = ap (λ (y : List ℕ). front ++ y) h.bytes ∙ sym (append_assoc front h.raw h.rest);
+      chunks = subst (λ (k : ℕ). AreChunks b k (blocks_to_come w.copying + (n - begins w.gatherer)) ((front ++ []) ++ h.rest)) (let z : suc (w.chunks - 1) ≡ w.chunks = omega arith in z)
+          (subst (λ (m : ℕ). AreChunks b (suc (w.chunks - 1)) m ((front ++ []) ++ h.rest)) (let z : q + (n - begins g) ≡ blocks_to_come w.copying + (n - begins w.gatherer) = omega (arith, blocks, still) in z) j);
+      bytes = ap (λ (y : List ℕ). front ++ y) (h.bytes ∙ ap (λ (y : List ℕ). y ++ h.rest) (no_raw h.raw few)) ∙ ap (λ (y : List ℕ). y ++ h.rest) (sym (append-nil front));
     }
 
-pub chunk_leads : {A : Type 0} (W : Cursor → Type 0) (reach : Cursor → ℕ) (b n : ℕ) (w : Writer) (g : Gatherer) (r : Run) (res : Result A PieceFault) (v : Writer) (old new : List ℕ) → w.copying ≡ None → is_end w.gatherer.kind ≡ false → SoundWriter W reach n b w → SoundGatherer W n w.first w.past g → ClosedRun w.gatherer g r
-    → OnOk res (v ≡ chunk_begun (gathering w g) r b) → OnOk res ((0 < w.chunks) × (chunk_len r.kind r.blocks b ≤ w.bytes)) → OnOk res (new ≡ old ++ front_bytes r.kind r.blocks (chunk_len r.kind r.blocks b)) → OnOk res (length new ≡ length old + head_len r.kind)
-    → OnOk res (Leads (MayCome b n w) (MayCome b n v) old new)
-chunk_leads W reach b n w g r (Ok x) v old new none going sound on run is room written whole =
-    let closed = closes W n w g r sound.gathering on run in
-    let head : length (front_bytes r.kind r.blocks (chunk_len r.kind r.blocks b)) ≡ head_len r.kind = omega (arith, whole, ap length written, length-append old (front_bytes r.kind r.blocks (chunk_len r.kind r.blocks b))) in
-    let goes : is_end r.kind ≡ false = ap is_end run.kind ∙ going in
-    record {
-      wrote = front_bytes r.kind r.blocks (chunk_len r.kind r.blocks b);
-      behind = written;
-      is = λ t h. chunk_comes b n w g r none closed goes room.0 (omega (arith, room.1, sound.small)) head t (rw is at h);
-    }
-chunk_leads W reach b n w g r (Err f) v old new none going sound on run is room written whole = tt
+raw_more : (b n : ℕ) (w : Writer) (g : Gatherer) (x : Run) (t : List ℕ) → w.copying ≡ None → n - begins w.gatherer ≡ x.blocks + (n - begins g) → MayCome b n (raw_begun (gathering w g) x) t → MayCome b n w t
+raw_more b n w g x t none blocks h = record {
+  raw = [];
+  rest = h.rest;
+  long = sym (ap copy_to_come none);
+  chunks = subst (λ (m : ℕ). AreChunks b w.chunks m h.rest) (let z : x.blocks + (n - begins g) ≡ blocks_to_come w.copying + (n - begins w.gatherer) = omega (arith, blocks, ap blocks_to_come none) in z) h.chunks;
+  bytes = h.bytes ∙ ap (λ (y : List ℕ). y ++ h.rest) (no_raw h.raw h.long);
+}
+
+run_comes : (b n : ℕ) (w : Writer) (g : Gatherer) (x : Run) (k : RunKind) → w.copying ≡ None → n - begins w.gatherer ≡ x.blocks + (n - begins g) → is_end k ≡ false → (0 < run_head k → 0 < w.chunks) → length (run_front k x.blocks) ≡ run_head k
+    → (t : List ℕ) → MayCome b n (begun_as k (gathering w g) x) t → MayCome b n w (run_front k x.blocks ++ t)
+run_comes b n w g x kinds.Raw none blocks going some head t h = raw_more b n w g x t none blocks h
+run_comes b n w g x (kinds.Fill v) none blocks going some head t h = one_more b n w g (kinds.Fill v) x.blocks (front_bytes (kinds.Fill v) x.blocks 16) t none blocks (some (omega arith)) (fill_one b x.blocks v (omega (arith, head))) h
+run_comes b n w g x kinds.Skip none blocks going some head t h = one_more b n w g kinds.Skip x.blocks (front_bytes kinds.Skip x.blocks 12) t none blocks (some (omega arith)) (skip_one b x.blocks) h
+run_comes b n w g x kinds.End none blocks going some head t h = absurd (let e : true ≡ false = going in cc)
+
+pub run_leads : {A : Type 0} (W : Cursor → Type 0) (b n : ℕ) (w : Writer) (g : Gatherer) (x : Run) (res : Result A PieceFault) (v : Writer) (old new : List ℕ) → w.copying ≡ None → is_end w.gatherer.kind ≡ false → SoundGatherer W n w.first w.past w.gatherer → SoundGatherer W n w.first w.past g → ClosedRun w.gatherer g x
+    → OnOk res (v ≡ run_begun (gathering w g) x) → OnOk res (0 < run_head x.kind → 0 < w.chunks) → OnOk res (new ≡ old ++ run_front x.kind x.blocks) → OnOk res (length new ≡ length old + run_head x.kind) → OnOk res (Leads (MayCome b n w) (MayCome b n v) old new)
+run_leads W b n w g x (Ok y) v old new none going sound on run is some written whole =
+    let blocks : n - begins w.gatherer ≡ x.blocks + (n - begins g) = omega (arith, sound.behind_it, sound.room, on.behind_it, on.room, run.blocks, run.start) in
+    let head : length (run_front x.kind x.blocks) ≡ run_head x.kind = omega (arith, whole, ap length written, length-append old (run_front x.kind x.blocks)) in
+    let goes : is_end x.kind ≡ false = ap is_end run.kind ∙ going in
+    record { wrote = run_front x.kind x.blocks; behind = written; is = λ t h. run_comes b n w g x x.kind none blocks goes some head t (rw is at h) }
+run_leads W b n w g x (Err f) v old new none going sound on run is some written whole = tt
 
 -- a part more of the open run changes nothing
 pub look_comes : (W : Cursor → Type 0) (b n : ℕ) (w : Writer) (g : Gatherer) → SoundGatherer W n w.first w.past w.gatherer → SoundGatherer W n w.first w.past g → g.at.block + w.gatherer.count ≡ w.gatherer.at.block + g.count
@@ -157,58 +154,64 @@ look_comes W b n w g sound on grows t h = record {
   raw = h.raw;
   rest = h.rest;
   long = h.long;
-  chunks = subst (λ (u : ℕ). AreChunks b w.chunks (n - u) h.rest) (let z : begins g ≡ begins w.gatherer = omega (arith, sound.behind_it, on.behind_it, grows) in z) h.chunks;
+  chunks = subst (λ (u : ℕ). AreChunks b w.chunks (blocks_to_come w.copying + (n - u)) h.rest) (let z : begins g ≡ begins w.gatherer = omega (arith, sound.behind_it, on.behind_it, grows) in z) h.chunks;
   bytes = h.bytes;
 }
 
+-- ---- the chunks of a raw run
+
+pub open_leads : (b n : ℕ) (w : Writer) (c : Copying) (old new : List ℕ) → w.copying ≡ Some c → c.left ≡ 0 → 0 < w.chunks → 12 + w.most * b < 2 ^ 32 → new ≡ old ++ front_bytes kinds.Raw (next_blocks c w.most) (12 + next_blocks c w.most * b)
+    → Leads (MayCome b n w) (MayCome b n (chunk_opened w c b)) old new
+open_leads b n w c old new is shut some small written =
+    let q = next_blocks c w.most in
+    let front = front_bytes kinds.Raw q (12 + q * b) in
+    let most : q * b ≤ w.most * b = mul-le-mul_right b (let z : q ≤ w.most = omega arith in z) in
+    record {
+      wrote = front;
+      behind = written;
+      is = λ t h.
+          let o = raw_one b q h.raw h.long (omega (arith, most, small)) in
+          let j = joined_chunks b (w.chunks - 1) ((c.after - q) + (n - begins w.gatherer)) q (front ++ h.raw) h.rest o h.chunks in
+          record {
+            raw = [];
+            rest = (front ++ h.raw) ++ h.rest;
+            long = sym (ap copy_to_come is ∙ shut);
+            chunks = rw is (subst (λ (k : ℕ). AreChunks b k (c.after + (n - begins w.gatherer)) ((front ++ h.raw) ++ h.rest)) (let z : suc (w.chunks - 1) ≡ w.chunks = omega arith in z) (subst (λ (m : ℕ). AreChunks b (suc (w.chunks - 1)) m ((front ++ h.raw) ++ h.rest)) (let z : q + ((c.after - q) + (n - begins w.gatherer)) ≡ c.after + (n - begins w.gatherer) = omega arith in z) j));
+            bytes = ap (λ (y : List ℕ). front ++ y) h.bytes ∙ sym (append_assoc front h.raw h.rest);
+          };
+    }
+
 -- the next part of a raw run has as much left
-next_left : (k : RunKind) (c d : Copying) (r : Run) (b : ℕ) → raw_part k c r b ≡ Some d → d.left ≡ c.left
-next_left kinds.Raw c d r b e = sym (ap left_of e)
-  where
-    left_of : Option Copying → ℕ
-    left_of None = 0
-    left_of (Some x) = x.left
-next_left (kinds.Fill w) c d r b e = absurd cc
-next_left kinds.Skip c d r b e = absurd cc
-next_left kinds.End c d r b e = absurd cc
-
-pub next_same : (c d : Copying) (r : Run) (b : ℕ) → next_copying c r b ≡ Some d → d.left ≡ c.left
-next_same c d r b e = elim (cases_Bool ((r.blocks == 0) && not (is_end r.kind))) [
-  | inl t ↦ sym (ap left_of (let z : Some (record { here = c.here; next = r.next; size = c.size; done = c.done; left = c.left }) ≡ Some d = rw t at e in z))
-  | inr t ↦ next_left r.kind c d r b (rw t at e)
-]
-  where
-    left_of : Option Copying → ℕ
-    left_of None = 0
-    left_of (Some x) = x.left
-
-pub part_comes : (b n : ℕ) (w v : Writer) (c d : Copying) → w.copying ≡ Some c → v.copying ≡ Some d → d.left ≡ c.left → v.chunks ≡ w.chunks → v.gatherer ≡ w.gatherer → (t : List ℕ) → MayCome b n v t → MayCome b n w t
-part_comes b n w v c d is now same chunks g t h = record {
+pub part_comes : (b n : ℕ) (w v : Writer) (c d : Copying) → w.copying ≡ Some c → v.copying ≡ Some d → d.left ≡ c.left → d.after ≡ c.after → v.chunks ≡ w.chunks → v.gatherer ≡ w.gatherer → (t : List ℕ) → MayCome b n v t → MayCome b n w t
+part_comes b n w v c d is now same behind chunks g t h = record {
   raw = h.raw;
   rest = h.rest;
   long = h.long ∙ ap copy_to_come now ∙ same ∙ sym (ap copy_to_come is);
-  chunks = subst (λ (x : Gatherer). AreChunks b w.chunks (n - begins x) h.rest) g (subst (λ (k : ℕ). AreChunks b k (n - begins v.gatherer) h.rest) chunks h.chunks);
+  chunks = subst (λ (m : ℕ). AreChunks b w.chunks (m + (n - begins w.gatherer)) h.rest) (ap blocks_to_come now ∙ behind ∙ sym (ap blocks_to_come is))
+      (subst (λ (x : Gatherer). AreChunks b w.chunks (blocks_to_come v.copying + (n - begins x)) h.rest) g (subst (λ (k : ℕ). AreChunks b k (blocks_to_come v.copying + (n - begins v.gatherer)) h.rest) chunks h.chunks));
   bytes = h.bytes;
 }
 
--- bytes of a raw run
-copied_left : (c : Copying) (n : ℕ) → n ≤ c.left → copy_to_come (copied_on c n) + n ≡ c.left
-copied_left c n le = elim (cases_Bool (c.left == n)) [
-  | inl t ↦ rw t (omega (arith, eqb-true c.left n t))
-  | inr t ↦ rw t (omega arith)
+-- what is left of a chunk once n bytes more of it are copied
+copied_left : (c : Copying) (n : ℕ) → n ≤ c.left → (copy_to_come (copied_on c n) + n ≡ c.left) × (blocks_to_come (copied_on c n) ≡ c.after)
+copied_left c n le = elim (copy_case c n) [
+  | ended x z same ↦ rw same (omega (arith, z), sym x)
+  | goes ne same ↦ rw same (omega (arith, le), refl)
 ]
 
 pub copy_leads : (b m : ℕ) (w : Writer) (c : Copying) (n : ℕ) (x old new : List ℕ) → w.copying ≡ Some c → length x ≡ n → n ≤ c.left → new ≡ old ++ x → Leads (MayCome b m w) (MayCome b m (copying_on w (copied_on c n) n)) old new
 copy_leads b m w c n x old new is long le written = record {
   wrote = x;
   behind = written;
-  is = λ t h. record {
-    raw = x ++ h.raw;
-    rest = h.rest;
-    long = omega (arith, length-append x h.raw, long, h.long, copied_left c n le, ap copy_to_come is);
-    chunks = h.chunks;
-    bytes = ap (λ (y : List ℕ). x ++ y) h.bytes ∙ sym (append_assoc x h.raw h.rest);
-  };
+  is = λ t h.
+      let l = copied_left c n le in
+      record {
+        raw = x ++ h.raw;
+        rest = h.rest;
+        long = omega (arith, length-append x h.raw, long, h.long, l.0, ap copy_to_come is);
+        chunks = subst (λ (k : ℕ). AreChunks b w.chunks (k + (m - begins w.gatherer)) h.rest) (l.1 ∙ sym (ap blocks_to_come is)) h.chunks;
+        bytes = ap (λ (y : List ℕ). x ++ y) h.bytes ∙ sym (append_assoc x h.raw h.rest);
+      };
 }
 
 -- nothing is left
@@ -219,7 +222,7 @@ nothing_comes W b n w sound none end few =
       raw = [];
       rest = [];
       long = sym (ap copy_to_come none);
-      chunks = record { chunks = []; count = sym few; blocks = (let z : 0 ≡ n - begins w.gatherer = omega (arith, e.0, e.1) in z); all = tt; bytes = refl };
+      chunks = record { chunks = []; count = sym few; blocks = rw none (let z : 0 ≡ 0 + (n - begins w.gatherer) = omega (arith, e.0, e.1) in z); all = tt; bytes = refl };
       bytes = refl;
     }
 
@@ -237,13 +240,13 @@ chunks_image b n k x good few fewer a =
     let s = image_spells b cs [] good (omega (arith, a.blocks, few)) (omega (arith, a.count, fewer)) (can_write b (2 ^ 32) cs a.all (omega (arith, a.blocks, few)) (omega arith)) in
     record { chunks = cs; spelled = subst (λ (y : List ℕ). Spells y (plain_header b n (length cs)) cs []) image (subst (λ (m : ℕ). Spells (image_of b (counted_in cs) cs ++ []) (plain_header b m (length cs)) cs []) a.blocks s) }
 
-pub header_leads : (b n : ℕ) (start : Cursor) (o : Outline) (old new : List ℕ) → (0 < b) × (b % 4 ≡ 0) × (b < 2 ^ 32) → n < 2 ^ 32 → o.chunks < 2 ^ 32 → new ≡ old ++ header_record (plain_header b n o.chunks)
-    → Leads (IsImage b n) (MayCome b n (first_writer start o)) old new
-header_leads b n start o old new good few fewer written = record {
+pub header_leads : (b n r : ℕ) (start : Cursor) (o : Outline) (old new : List ℕ) → (0 < b) × (b % 4 ≡ 0) × (b < 2 ^ 32) → n < 2 ^ 32 → o.chunks < 2 ^ 32 → new ≡ old ++ header_record (plain_header b n o.chunks)
+    → Leads (IsImage b n) (MayCome b n (first_writer start o r)) old new
+header_leads b n r start o old new good few fewer written = record {
   wrote = header_record (plain_header b n o.chunks);
   behind = written;
   is = λ t h.
-      let all : n - (start.block - start.block) ≡ n = omega arith in
+      let all : 0 + (n - (start.block - start.block)) ≡ n = omega arith in
       let rest : t ≡ h.rest = h.bytes ∙ ap (λ (y : List ℕ). y ++ h.rest) (no_raw h.raw h.long) in
       rw rest (chunks_image b n o.chunks h.rest good few fewer (subst (λ (m : ℕ). AreChunks b o.chunks m h.rest) all h.chunks));
 }

@@ -4,6 +4,8 @@ pub mod Planning
 pub mod Framing
 pub mod Gathering
 pub mod Writing
+pub mod Cuts
+pub mod Uncut
 pub mod Going
 pub mod Fronts
 pub mod Cutting

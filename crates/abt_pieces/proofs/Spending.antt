@@ -1,21 +1,19 @@
 -- What writing a piece reads, step by step.
-use Rattle.std.proofs.Common.{◌≡◌, ◌==◌, ℕ, zero, suc, ◌+◌, ◌-◌, ◌*◌, ◌<◌, ◌≤◌, nat_lt, true, refl, sym, ap, subst, ◌∙◌, arith, inl, inr, mul-le-mul_right, Some, None, Result, Ok, Err, OnOk, IfOk}
+use Rattle.std.proofs.Common.{◌≡◌, ◌==◌, ℕ, zero, suc, ◌+◌, ◌-◌, ◌*◌, ◌<◌, ◌≤◌, nat_lt, true, refl, sym, ap, subst, ◌∙◌, arith, inl, inr, mul-le-mul_right, Some, None, Result, Ok, Err, IfOk}
 use Rattle.std.proofs.lemmas.Bool.{cases_Bool, eqb-true, ltb-true, ltb-false, lt-ltb}
 use Rattle.abt_runs.specs.Part.{Earliest, afresh, entry, is_end}
 use Rattle.abt_runs.specs.declared.part.Cursor.{Cursor}
 use Rattle.abt_runs.specs.declared.part.Run.{Run}
 use Rattle.abt_runs.specs.declared.part.RunKind.{RunKind}
 use Rattle.abt_runs.specs.declared.part.RunKind.TheVariants as kinds
-use Rattle.abt_pieces.specs.Contents.{data_len}
 use Rattle.abt_pieces.specs.Gather.{ClosedRun, SoundGatherer, gathered_on, gathered_to, first_gatherer}
-use Rattle.abt_pieces.specs.Write.{begins, starts, chunk_begun, next_copying, copied_on, IsCopying}
+use Rattle.abt_pieces.specs.Write.{begins, starts, begun_as, run_begun, chunk_opened, next_copying, copied_on, IsCopying}
 use Rattle.abt_pieces.specs.Spent.{both, Entered, SpentGathering, SpentPart, SpentCopying, Spent}
 use Rattle.abt_pieces.specs.declared.gather.Gatherer.{Gatherer}
 use Rattle.abt_pieces.specs.declared.write.Copying.{Copying}
 use Rattle.abt_pieces.specs.declared.write.Writer.{Writer}
-use Rattle.abt_pieces.specs.declared.fault.PieceFault.{PieceFault}
 use Rattle.abt_pieces.proofs.Gathering.{still, begun, more, closes, on_case, same_at}
-use Rattle.abt_pieces.proofs.Going.{void, raws, other, part_case, ended, goes, copy_case, some_of, mul_split, gathering}
+use Rattle.abt_pieces.proofs.Going.{void, raws, other, part_case, ended, goes, copy_case, some_of, mul_split, gathering, begun_keeps}
 use Rattle.abt_pieces.proofs.Counts.{entry_most, entry_none, not_below}
 
 pub same_afresh : (d : Cursor) → d.ask ≡ 1 → afresh d ≡ d
@@ -87,9 +85,9 @@ spent_looks Is charge copied held W n d s t given given' w g none old new grows 
           (omega (arith, grows, old.behind_it, new.behind_it)) (omega (arith, l.read, l.grown)) c);
     }
 
-start_part : (Is : Cursor → Type 0) (charge copied : Cursor → ℕ) (held : Cursor → ℕ → ℕ) (first past s u v t t' e e' : ℕ) (c : Cursor) (bytes : ℕ) → held c 0 ≤ 0 → Entered charge copied first s c → Is c → c.block ≡ u → u < v → u ≤ past → t' + e ≤ t + e'
-    → SpentCopying Is charge copied held first past s u t e None → SpentPart Is charge copied held v t' e' (record { here = c; next = c; size = 0; done = 0; left = bytes })
-start_part Is charge copied held first past s u v t t' e e' c bytes empty into is spot lt end more' (inl h) =
+start_part : (Is : Cursor → Type 0) (charge copied : Cursor → ℕ) (held : Cursor → ℕ → ℕ) (first past s u v t t' e e' : ℕ) (c : Cursor) (q : ℕ) → held c 0 ≤ 0 → Entered charge copied first s c → Is c → c.block ≡ u → u < v → u ≤ past → t' + e ≤ t + e'
+    → SpentCopying Is charge copied held first past s u t e None → SpentPart Is charge copied held v t' e' (starts c q)
+start_part Is charge copied held first past s u v t t' e e' c q empty into is spot lt end more' (inl h) =
     let m = entry_most c in
     record {
       read = omega (arith, h, into.behind, m, more');
@@ -97,7 +95,7 @@ start_part Is charge copied held first past s u v t t' e e' c bytes empty into i
       whole = omega (arith, empty);
       first = λ same. absurd (omega (arith, same, spot, lt));
     }
-start_part Is charge copied held first past s u v t t' e e' c bytes empty into is spot lt end more' (inr h) =
+start_part Is charge copied held first past s u v t t' e e' c q empty into is spot lt end more' (inr h) =
     let z = h.1 c is (omega (arith, spot, end)) in
     let used : c.used ≡ 0 = none_of c.used (λ p. let y = into.inside p in omega (arith, y, spot, h.0)) in
     let none = entry_none c used in
@@ -108,33 +106,36 @@ start_part Is charge copied held first past s u v t t' e e' c bytes empty into i
       first = λ same. absurd (omega (arith, same, spot, lt));
     }
 
-starts_spent : (Is : Cursor → Type 0) (charge copied : Cursor → ℕ) (held : Cursor → ℕ → ℕ) (first past s u v t t' e e' : ℕ) (k : RunKind) (c : Cursor) (bytes : ℕ) → (k ≡ kinds.Raw → (held c 0 ≤ 0) × Entered charge copied first s c × Is c × (c.block ≡ u) × (u ≤ past)) → u < v → t' + e ≤ t + e'
-    → SpentCopying Is charge copied held first past s u t e None → SpentCopying Is charge copied held first past s v t' e' (starts k c bytes)
-starts_spent Is charge copied held first past s u v t t' e e' kinds.Raw c bytes raw lt more' h = let r = raw refl in start_part Is charge copied held first past s u v t t' e e' c bytes r.0 r.1 r.2 r.3 lt r.4 more' h
-starts_spent Is charge copied held first past s u v t t' e e' (kinds.Fill w) c bytes raw lt more' h = still_copies Is charge copied held first past s u v t t' e e' (omega (arith, lt)) more' h
-starts_spent Is charge copied held first past s u v t t' e e' kinds.Skip c bytes raw lt more' h = still_copies Is charge copied held first past s u v t t' e e' (omega (arith, lt)) more' h
-starts_spent Is charge copied held first past s u v t t' e e' kinds.End c bytes raw lt more' h = still_copies Is charge copied held first past s u v t t' e e' (omega (arith, lt)) more' h
+begins_spent : (Is : Cursor → Type 0) (charge copied : Cursor → ℕ) (held : Cursor → ℕ → ℕ) (s t t' e e' : ℕ) (w : Writer) (g : Gatherer) (r : Run) (k : RunKind) → (k ≡ kinds.Raw → (held r.here 0 ≤ 0) × Entered charge copied w.first s r.here × Is r.here × (r.here.block ≡ begins w.gatherer) × (begins w.gatherer ≤ w.past)) → w.copying ≡ None → begins w.gatherer < begins g → t' + e ≤ t + e'
+    → SpentCopying Is charge copied held w.first w.past s (begins w.gatherer) t e None → SpentCopying Is charge copied held w.first w.past s (begins g) t' e' (begun_as k (gathering w g) r).copying
+begins_spent Is charge copied held s t t' e e' w g r kinds.Raw raw none lt more' h = let z = raw refl in start_part Is charge copied held w.first w.past s (begins w.gatherer) (begins g) t t' e e' r.here r.blocks z.0 z.1 z.2 z.3 lt z.4 more' h
+begins_spent Is charge copied held s t t' e e' w g r (kinds.Fill v) raw none lt more' h = rw none (still_copies Is charge copied held w.first w.past s (begins w.gatherer) (begins g) t t' e e' (omega (arith, lt)) more' h)
+begins_spent Is charge copied held s t t' e e' w g r kinds.Skip raw none lt more' h = rw none (still_copies Is charge copied held w.first w.past s (begins w.gatherer) (begins g) t t' e e' (omega (arith, lt)) more' h)
+begins_spent Is charge copied held s t t' e e' w g r kinds.End raw none lt more' h = rw none (still_copies Is charge copied held w.first w.past s (begins w.gatherer) (begins g) t t' e e' (omega (arith, lt)) more' h)
 
-begun_spent : (Is : Cursor → Type 0) (charge copied : Cursor → ℕ) (held : Cursor → ℕ → ℕ) (W : Cursor → Type 0) (n b : ℕ) (d : Cursor) (s t given given' : ℕ) (w : Writer) (g : Gatherer) (r : Run) → ((c : Cursor) → held c 0 ≤ 0) → (w.gatherer.kind ≡ kinds.Raw → 0 < w.gatherer.count → Is w.gatherer.from)
+pub run_spent : (Is : Cursor → Type 0) (charge copied : Cursor → ℕ) (held : Cursor → ℕ → ℕ) (W : Cursor → Type 0) (n : ℕ) (d : Cursor) (s t given given' : ℕ) (w : Writer) (g : Gatherer) (r : Run) → ((c : Cursor) → held c 0 ≤ 0) → (w.gatherer.kind ≡ kinds.Raw → 0 < w.gatherer.count → Is w.gatherer.from)
     → w.copying ≡ None → SoundGatherer W n w.first w.past w.gatherer → ClosedRun w.gatherer g r → Spent Is charge copied held d s t w → Looked charge copied w.first w.past d s given given' w.gatherer g
-    → Spent Is charge copied held d s (t + (given' - given)) (chunk_begun (gathering w g) r b)
-begun_spent Is charge copied held W n b d s t given given' w g r empty place none old run h l =
+    → Spent Is charge copied held d s (t + (given' - given)) (run_begun (gathering w g) r)
+run_spent Is charge copied held W n d s t given given' w g r empty place none old run h l =
     let c = rw none at h.copies in
+    let k = begun_keeps r.kind (gathering w g) r in
+    let copies = begins_spent Is charge copied held s t (t + (given' - given)) (gathered_to charge w.past d w.gatherer.at) (gathered_to charge w.past d g.at) w g r r.kind
+    (λ k.
+    let same = sym run.kind ∙ k in
+    let z = old.raw same run.some in
+    rw run.here (empty w.gatherer.from, h.gathering.from same run.some, place same run.some, (let y : w.gatherer.from.block ≡ w.gatherer.at.block - w.gatherer.count = omega (arith, z.whole) in y), omega (arith, z.past)))
+    none (omega (arith, run.start, run.some, old.behind_it)) (omega (arith, l.read, l.grown)) c in
     record {
-      gathering = l.gathering;
-      copies = starts_spent Is charge copied held w.first w.past s (begins w.gatherer) (begins g) t (t + (given' - given)) (gathered_to charge w.past d w.gatherer.at) (gathered_to charge w.past d g.at) r.kind r.here (data_len r.kind r.blocks b)
-          (λ k.
-          let same = sym run.kind ∙ k in
-          let z = old.raw same run.some in
-          rw run.here (empty w.gatherer.from, h.gathering.from same run.some, place same run.some, (let y : w.gatherer.from.block ≡ w.gatherer.at.block - w.gatherer.count = omega (arith, z.whole) in y), omega (arith, z.past)))
-          (omega (arith, run.start, run.some, old.behind_it)) (omega (arith, l.read, l.grown)) c;
+      gathering = rw (k.2, k.0, k.1) l.gathering;
+      copies = rw (k.2, k.0, k.1) copies;
     }
 
-pub chunk_spent : {A : Type 0} (Is : Cursor → Type 0) (charge copied : Cursor → ℕ) (held : Cursor → ℕ → ℕ) (W : Cursor → Type 0) (n b : ℕ) (d : Cursor) (s t given given' : ℕ) (w : Writer) (g : Gatherer) (r : Run) (res : Result A PieceFault) (v : Writer) → ((c : Cursor) → held c 0 ≤ 0)
-    → (w.gatherer.kind ≡ kinds.Raw → 0 < w.gatherer.count → Is w.gatherer.from) → w.copying ≡ None → SoundGatherer W n w.first w.past w.gatherer → ClosedRun w.gatherer g r → Spent Is charge copied held d s t w → Looked charge copied w.first w.past d s given given' w.gatherer g
-    → OnOk res (v ≡ chunk_begun (gathering w g) r b) → OnOk res (Spent Is charge copied held d s (t + (given' - given)) v)
-chunk_spent Is charge copied held W n b d s t given given' w g r (Ok x) v empty place none old run h l e = rw e (begun_spent Is charge copied held W n b d s t given given' w g r empty place none old run h l)
-chunk_spent Is charge copied held W n b d s t given given' w g r (Err f) v empty place none old run h l e = tt
+-- a chunk that is begun reads nothing
+pub open_spent : (Is : Cursor → Type 0) (charge copied : Cursor → ℕ) (held : Cursor → ℕ → ℕ) (d : Cursor) (s t given b : ℕ) (w : Writer) (c : Copying) → w.copying ≡ Some c → Spent Is charge copied held d s t w → Spent Is charge copied held d s (t + (given - given)) (chunk_opened w c b)
+open_spent Is charge copied held d s t given b w c is h =
+    let z : t + (given - given) ≡ t = omega arith in
+    let p = rw is at h.copies in
+    rw z (record { gathering = h.gathering; copies = record { read = p.read; going = p.going; whole = p.whole; first = p.first } })
 
 -- ---- the next part of a raw run
 
@@ -155,7 +156,7 @@ spent_next Is charge copied held b u t e given given' c c' r low whole p is h =
     let none : r.next.block < u → entry r.next ≡ 0 = λ less. entry_none r.next (none_of r.next.used (λ q. let z = p.stops q in omega (arith, z, p.next, less, low))) in
     elim (part_case c r b) [
       | void gone going same ↦
-          let v : SpentPart Is charge copied held u (t + (given' - given)) e (record { here = c.here; next = r.next; size = c.size; done = c.done; left = c.left }) = record {
+          let v : SpentPart Is charge copied held u (t + (given' - given)) e (record { here = c.here; next = r.next; size = c.size; done = c.done; left = c.left; after = c.after }) = record {
             read = omega (arith, from, p.charged, p.grown);
             going = λ less. let z = none less in omega (arith, from, p.charged, p.grown, z);
             whole = omega (arith, h.whole, p.onward);
@@ -164,7 +165,7 @@ spent_next Is charge copied held b u t e given given' c c' r low whole p is h =
           subst (λ (x : Copying). SpentPart Is charge copied held u (t + (given' - given)) e x) (some_of _ c' (sym same ∙ is)) v
       | raws k same ↦
           let full : held c.here c.done ≡ held c.here c.size = ap (λ (m : ℕ). held c.here m) whole in
-          let v : SpentPart Is charge copied held u (t + (given' - given)) e (record { here = r.here; next = r.next; size = r.blocks * b; done = 0; left = c.left }) = record {
+          let v : SpentPart Is charge copied held u (t + (given' - given)) e (record { here = r.here; next = r.next; size = r.blocks * b; done = 0; left = c.left; after = c.after }) = record {
             read = omega (arith, from, p.charged, p.grown, full, h.whole, p.onward);
             going = λ less. let z = none less in omega (arith, from, p.charged, p.grown, full, h.whole, p.onward, z);
             whole = p.copies k;
@@ -177,14 +178,15 @@ spent_next Is charge copied held b u t e given given' c c' r low whole p is h =
 -- ---- bytes of a raw run
 
 -- where the last byte of a run is copied, its last part is whole, and ends before the block behind it
-run_ends : (W : Cursor → Type 0) (reach : Cursor → ℕ) (b s e u bytes n : ℕ) (c : Copying) → 0 < b → IsCopying W reach b s e u bytes c → c.done + n ≤ c.size → c.left ≡ n → (c.next.block ≡ u) × (c.here.block < u)
-run_ends W reach b s e u bytes n c some h fits all =
+run_ends : (W : Cursor → Type 0) (reach : Cursor → ℕ) (b s e u bytes n : ℕ) (c : Copying) → 0 < b → IsCopying W reach b s e u bytes c → c.done + n ≤ c.size → 0 < n → c.after ≡ 0 → c.left ≡ n → (c.next.block ≡ u) × (c.here.block < u)
+run_ends W reach b s e u bytes n c some h fits any last all =
     let m = mul_split c.here.block c.next.block u b h.order h.until in
+    let total : c.left + c.done ≡ (u - c.here.block) * b = h.total ∙ ap (λ (x : ℕ). x * b) (let z : u - c.after - c.here.block ≡ u - c.here.block = omega (arith, last) in z) in
     let end : c.next.block ≡ u = elim (cases_Bool (nat_lt c.next.block u)) [
       | inl l ↦
           let less = ltb-true c.next.block u l in
           let one : 1 * b ≤ (u - c.next.block) * b = mul-le-mul_right b (let z : 1 ≤ u - c.next.block = omega arith in z) in
-          absurd (omega (arith, m, one, h.total, h.part, fits, all, some))
+          absurd (omega (arith, m, one, total, h.part, fits, all, some))
       | inr l ↦ let over = ltb-false c.next.block u l in omega (arith, over, h.until)
     ] in
     let behind : c.here.block < u = elim (cases_Bool (nat_lt c.here.block u)) [
@@ -192,15 +194,15 @@ run_ends W reach b s e u bytes n c some h fits all =
       | inr l ↦
           let over = ltb-false c.here.block u l in
           let none : (u - c.here.block) * b ≡ 0 * b = ap (λ (x : ℕ). x * b) (let z : u - c.here.block ≡ 0 = omega (arith, over) in z) in
-          absurd (omega (arith, none, h.total, h.some))
+          absurd (omega (arith, none, total, all, any))
     ] in
     (end, behind)
 
-pub spent_copies : (Is : Cursor → Type 0) (charge copied : Cursor → ℕ) (held : Cursor → ℕ → ℕ) (W : Cursor → Type 0) (reach : Cursor → ℕ) (b first past u bytes s t e given given' n : ℕ) (c : Copying) → 0 < b → IsCopying W reach b first past u bytes c → c.done + n ≤ c.size → given ≤ given'
+pub spent_copies : (Is : Cursor → Type 0) (charge copied : Cursor → ℕ) (held : Cursor → ℕ → ℕ) (W : Cursor → Type 0) (reach : Cursor → ℕ) (b first past u bytes s t e given given' n : ℕ) (c : Copying) → 0 < b → 0 < n → IsCopying W reach b first past u bytes c → c.done + n ≤ c.size → given ≤ given'
     → held c.here (c.done + n) ≤ held c.here c.size → given' + held c.here c.done ≤ given + held c.here (c.done + n) → SpentPart Is charge copied held u t e c → SpentCopying Is charge copied held first past s u (t + (given' - given)) e (copied_on c n)
-spent_copies Is charge copied held W reach b first past u bytes s t e given given' n c some i fits le grows read h = elim (copy_case c n) [
-  | ended z same ↦
-      let end = run_ends W reach b first past u bytes n c some i fits z in
+spent_copies Is charge copied held W reach b first past u bytes s t e given given' n c some any i fits le grows read h = elim (copy_case c n) [
+  | ended y z same ↦
+      let end = run_ends W reach b first past u bytes n c some i fits any y z in
       let last = h.first end.0 in
       rw same (inr (
         omega (arith, i.first, end.1),

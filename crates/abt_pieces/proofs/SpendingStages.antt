@@ -63,8 +63,8 @@ plan_ends charge copied b limit n one start t given given' p o grown last at_end
   end = λ over. let z = at_end over in omega (arith, h.most, charges, z);
 }
 
-spent_less : (Is : Cursor → Type 0) (charge copied : Cursor → ℕ) (held : Cursor → ℕ → ℕ) (d start : Cursor) (s t t' : ℕ) (o : Outline) → t' ≤ t → Spent Is charge copied held d s t (first_writer start o) → Spent Is charge copied held d s t' (first_writer start o)
-spent_less Is charge copied held d start s t t' o le h = record {
+spent_less : (Is : Cursor → Type 0) (charge copied : Cursor → ℕ) (held : Cursor → ℕ → ℕ) (d start : Cursor) (s t t' r : ℕ) (o : Outline) → t' ≤ t → Spent Is charge copied held d s t (first_writer start o r) → Spent Is charge copied held d s t' (first_writer start o r)
+spent_less Is charge copied held d start s t t' r o le h = record {
   gathering = h.gathering;
   copies = elim h.copies [
     | inl a ↦ inl (omega (arith, a, le))
@@ -73,8 +73,8 @@ spent_less Is charge copied held d start s t t' o le h = record {
 }
 
 -- nothing is read between the plan and the first chunk
-pub outline_writes : (Is : Cursor → Type 0) (charge copied : Cursor → ℕ) (held : Cursor → ℕ → ℕ) (n one : ℕ) (start : Cursor) (t : ℕ) (o : Outline) → o.piece.first ≡ start.block → SpentOutline charge copied n one start t o → SpentWriting Is charge copied held n one t o (first_writer start o)
-outline_writes Is charge copied held n one start t o first h =
+pub outline_writes : (Is : Cursor → Type 0) (charge copied : Cursor → ℕ) (held : Cursor → ℕ → ℕ) (n one : ℕ) (start : Cursor) (t r : ℕ) (o : Outline) → o.piece.first ≡ start.block → SpentOutline charge copied n one start t o → SpentWriting Is charge copied held n one t o (first_writer start o r)
+outline_writes Is charge copied held n one start t r o first h =
     let e = entry_most start in
     let enough : 2 * charge start + copied start ≤ gathered_to charge o.piece.past o.next start + gathered_to (both charge copied) o.piece.past o.next start = elim (cases_Bool (nat_lt start.block o.piece.past)) [
       | inl a ↦ rw a (omega (arith, e))
@@ -84,7 +84,7 @@ outline_writes Is charge copied held n one start t o first h =
       begun = gathered_to (both charge copied) o.piece.past o.next start;
       total = 2 * charge start + copied start;
       fresh = h.fresh;
-      spent = spent_less Is charge copied held o.next start _ _ _ o enough (spent_first Is charge copied held start o.next (first_writer start o) refl refl first);
+      spent = spent_less Is charge copied held o.next start _ _ _ r o enough (spent_first Is charge copied held start o.next (first_writer start o r) refl refl first);
       most = omega (arith, h.most);
       end = λ over. let z = h.end over in omega (arith, z);
     }

@@ -1,7 +1,7 @@
 -- A cutter from step to step.
 use Rattle.std.proofs.Common.{◌≡◌, ℕ, ◌+◌, ◌-◌, ◌<◌, ◌≤◌, false, List, ◌++◌, length, take, drop, refl, sym, ap, ◌∙◌, arith, inl, inr, nat_lt, append_assoc, take-append-drop, ◌*◌}
 use Rattle.std.proofs.lemmas.Bool.{cases_Bool, ltb-true, ltb-false}
-use Rattle.abt_sparse.specs.Block.{Block}
+use Rattle.abt_sparse.specs.Block.{Block, AreBlocks}
 use Rattle.abt_sparse.specs.Chunk.{piece, header_record, plain_header}
 use Rattle.abt_runs.specs.declared.part.Cursor.{Cursor}
 use Rattle.abt_pieces.specs.Plan.{FirstPiece, last_words}
@@ -9,7 +9,7 @@ use Rattle.abt_pieces.specs.Contents.{contents_before}
 use Rattle.abt_pieces.specs.Gather.{frame, first_gatherer, look_left}
 use Rattle.abt_pieces.specs.Outline.{blocks_of, piece_at}
 use Rattle.abt_pieces.specs.Write.{rest_of, frame_of, write_left, writer_words}
-use Rattle.abt_pieces.specs.Cutter.{first_writer, is_begun, so_far, coming, ToldOutline, ToldCutter, Passed, TakenPlan, planned_left, silent_cut, plan_words, piece_words}
+use Rattle.abt_pieces.specs.Cutter.{most_raw, first_writer, is_begun, so_far, coming, ToldOutline, ToldCutter, Passed, TakenPlan, planned_left, silent_cut, plan_words, piece_words}
 use Rattle.abt_pieces.specs.declared.outline.Piece.{Piece}
 use Rattle.abt_pieces.specs.declared.fault.PieceFault.{PieceFault}
 use Rattle.abt_pieces.specs.declared.outline.Outline.{Outline}
@@ -22,19 +22,21 @@ use Rattle.abt_pieces.proofs.Cutting.{piece_is, writer_told, header_first}
 
 -- ---- the header of a planned piece
 
-pub begun_told : (P : Cursor → Type 0) (T : Cursor → ℕ) (b n : ℕ) (l : List Block) (limit made : ℕ) (start : Cursor) (o : Outline) → n ≡ length l → o.piece.first ≡ start.block → ToldCutter P T b l limit made start (Begin o) → ToldCutter P T b l limit made start (Write o (first_writer start o))
-begun_told P T b n l limit made start o same first h = record {
+pub begun_told : (P : Cursor → Type 0) (T : Cursor → ℕ) (b n : ℕ) (l : List Block) (limit made : ℕ) (start : Cursor) (o : Outline) → n ≡ length l → o.piece.first ≡ start.block → AreBlocks b l → 0 < b → 40 ≤ limit → o.piece.bytes ≤ limit → ToldCutter P T b l limit made start (Begin o)
+    → ToldCutter P T b l limit made start (Write o (first_writer start o (most_raw b limit)))
+begun_told P T b n l limit made start o same first good some room fits h = record {
   place = h.place;
   cuts = h.cuts;
-  stage = record { outline = h.stage; writer = writer_told P T b n l start o h.place same (sym first) h.stage.exact };
+  stage = record { outline = h.stage; writer = writer_told P T b n limit l start o h.place same (sym first) good some room fits h.stage.exact };
 }
 
 -- what is to come is the header and the chunks
-pub header_comes : (P : Cursor → Type 0) (b n limit : ℕ) (l : List Block) (start : Cursor) (o : Outline) → n ≡ length l → o.piece.first ≡ start.block → ToldOutline P b l limit start.block o → piece_at b limit l start.block ≡ header_record (plain_header b n o.chunks) ++ rest_of (frame_of l (first_writer start o)) (first_writer start o)
-header_comes P b n limit l start o same first h =
+pub header_comes : (P : Cursor → Type 0) (b n limit : ℕ) (l : List Block) (start : Cursor) (o : Outline) → n ≡ length l → o.piece.first ≡ start.block → AreBlocks b l → 0 < b → 40 ≤ limit → o.piece.bytes ≤ limit → ToldOutline P b l limit start.block o
+    → piece_at b limit l start.block ≡ header_record (plain_header b n o.chunks) ++ rest_of (frame_of l (first_writer start o (most_raw b limit))) (first_writer start o (most_raw b limit))
+header_comes P b n limit l start o same first good some room fits h =
     let one = piece_is b limit l start.block o.piece.past h.greatest in
     let two : piece b (blocks_of l o.piece) ≡ piece b (frame l start.block o.piece.past) = ap (λ (k : ℕ). piece b (frame l k o.piece.past)) first in
-    sym one ∙ sym two ∙ header_first b n l start o same (sym first) h.exact
+    sym one ∙ sym two ∙ header_first b n limit l start o same (sym first) good some room fits h.exact
 
 -- ---- steps left
 
@@ -48,9 +50,9 @@ looks_first left n e c = elim (cases_Bool (nat_lt c.block e)) [
   | inr h ↦ rw h (elim (cases_Bool (nat_lt c.block n)) [ inl k ↦ rw k (omega arith) | inr k ↦ rw k (omega arith) ])
 ]
 
-pub first_left : (left : Cursor → ℕ) (n : ℕ) (c : Cursor) (o : Outline) → write_left left n (first_writer c o) < planned_left left c - 1
+pub first_left : (left : Cursor → ℕ) (n r : ℕ) (c : Cursor) (o : Outline) → write_left left n (first_writer c o r) < planned_left left c - 1
 unfolding write_left planned_left
-first_left left n c o = let z = looks_first left n o.piece.past c in omega (arith, z)
+first_left left n r c o = let z = looks_first left n o.piece.past c in omega (arith, z)
 
 -- ---- a piece from its first step on
 

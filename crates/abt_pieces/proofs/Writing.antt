@@ -1,12 +1,11 @@
 -- The bytes of a chunk: what stands in front of its blocks, and the blocks.
-use Rattle.std.proofs.Common.{◌≡◌, ℕ, zero, suc, ◌+◌, ◌-◌, ◌*◌, ◌<◌, ◌≤◌, List, [], ◌∷◌, ◌++◌, length, map, take, drop, replicate, refl, sym, ap, ◌∙◌, append_assoc, append-nil, arith, length-append, length-drop}
-use Rattle.std.specs.List.{AllByRecursion, flat_map, concat}
+use Rattle.std.proofs.Common.{◌≡◌, ℕ, zero, suc, ◌+◌, ◌-◌, ◌*◌, ◌<◌, ◌≤◌, List, [], ◌∷◌, ◌++◌, length, map, take, drop, replicate, refl, sym, ap, ◌∙◌, append-nil, arith, length-append, length-drop}
+use Rattle.std.specs.List.{AllByRecursion, concat}
 use Rattle.std.specs.Int.{w16, to_le_bytes}
 use Rattle.std.proofs.lemmas.Grind.{flat_map-append}
 use Rattle.std.proofs.lemmas.List.{drop-drop, length-take-le, take-append-le, drop-append-le, length-map}
 use Rattle.std.proofs.Math.Seq.{take-add, drop-append_seam}
 use Rattle.abt_sparse.specs.Block.{Block, Raw, Fill, Skip, AreBlocks}
-use Rattle.abt_sparse.specs.Runs.{runs}
 use Rattle.abt_sparse.specs.Chunk.{plain, chunk_of_run, raw_bytes, chunk_bytes}
 use Rattle.abt_sparse.specs.ChunkHead.{chunk_record}
 use Rattle.abt_sparse.specs.declared.kind.ChunkKind.TheVariants as chunks
@@ -16,7 +15,7 @@ use Rattle.abt_runs.specs.declared.part.RunKind.TheVariants as kinds
 use Rattle.abt_pieces.specs.Plan.{between}
 use Rattle.abt_pieces.specs.Contents.{head_len, data_len}
 use Rattle.abt_pieces.specs.Gather.{frame}
-use Rattle.abt_pieces.specs.Write.{front_bytes, chunks_of, chunk_len}
+use Rattle.abt_pieces.specs.Write.{front_bytes, chunk_len}
 
 -- ---- lists of blocks
 
@@ -98,16 +97,6 @@ data_long b kinds.Raw g h good = length_raw b g h good
 data_long b (kinds.Fill w) g h good = refl
 data_long b kinds.Skip g h good = refl
 data_long b kinds.End g h good = refl
-
--- the run that comes first, in front of the others
-pub first_chunk : (b : ℕ) (f : List Block) (k : RunKind) (u v : ℕ) → runs (drop u f) ≡ between f u v ∷ runs (drop v f) → AllOf k (between f u v) → u < v → v ≤ length f → AreBlocks b f
-    → chunks_of (drop u f) ≡ front_bytes k (v - u) (chunk_len k (v - u) b) ++ (run_data k (between f u v) ++ chunks_of (drop v f))
-first_chunk b f k u v first all order within good =
-    let these = blocks_take b (v - u) (drop u f) (blocks_drop b u f good) in
-    let long : length (between f u v) ≡ v - u = length-take-le (v - u) (drop u f) (omega (arith, length-drop u f)) in
-    ap (λ (gs : List (List Block)). flat_map plain (map chunk_of_run gs)) first
-    ∙ ap (λ (x : List ℕ). x ++ chunks_of (drop v f)) (run_bytes b k (between f u v) (v - u) all long (omega arith) these)
-    ∙ append_assoc (front_bytes k (v - u) (chunk_len k (v - u) b)) (run_data k (between f u v)) (chunks_of (drop v f))
 
 -- ---- the bytes of a raw run, part by part
 

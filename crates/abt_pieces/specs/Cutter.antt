@@ -1,13 +1,13 @@
 -- Where a cutter stands, between pieces and within one.
-use Rattle.std.specs.Prelude.{◌≡◌, ℕ, ◌+◌, ◌-◌, ◌*◌, ◌^◌, ◌≤◌, ◌<◌, Bool, true, false, List, [], ◌++◌, length, drop}
+use Rattle.std.specs.Prelude.{◌≡◌, ℕ, ◌+◌, ◌-◌, ◌*◌, ◌/◌, ◌^◌, ◌≤◌, ◌<◌, Bool, true, false, List, [], ◌++◌, length, drop}
 use Rattle.std.specs.Prelude.{nat_le, None, ⊤, Result, Ok, Err, if◌then◌else◌, nat_lt}
 use Rattle.abt_sparse.specs.Block.{Block}
 use Rattle.abt_sparse.specs.Runs.{weight, greedy, segments}
 use Rattle.abt_runs.specs.declared.part.Cursor.{Cursor}
 use Rattle.abt_pieces.specs.Plan.{Even, Planned, FirstPiece, last_words}
-use Rattle.abt_pieces.specs.Gather.{first_gatherer, silent_left}
+use Rattle.abt_pieces.specs.Gather.{first_gatherer}
 use Rattle.abt_pieces.specs.Outline.{IsOutline, piece_at}
-use Rattle.abt_pieces.specs.Write.{SoundWriter, ToldWriter, rest_of, frame_of, write_left, writer_words}
+use Rattle.abt_pieces.specs.Write.{SoundWriter, ToldWriter, rest_of, frame_of, write_left, writer_words, silent_write}
 use Rattle.abt_pieces.specs.declared.fault.PieceFault.{PieceFault}
 use Rattle.abt_pieces.specs.declared.segment_tail.Tail.TheVariants as tails
 use Rattle.abt_pieces.specs.declared.outline.Piece.{Piece}
@@ -19,11 +19,16 @@ use Rattle.abt_pieces.specs.declared.stage.Stage.TheVariants.{Between, Plan, Beg
 use Rattle.abt_pieces.specs.declared.stage.PieceProgress.{PieceProgress}
 use Rattle.abt_pieces.specs.declared.stage.PieceProgress.TheVariants as answers
 
+-- how many blocks a raw run of a piece has at most, behind two headers and the piece's own
+abbrev pub most_raw : ℕ → ℕ → ℕ
+most_raw b limit = (limit - 40) / b
+
 -- before the first chunk of a planned piece
-abbrev pub first_writer : Cursor → Outline → Writer
-first_writer c o = record {
+abbrev pub first_writer : Cursor → Outline → ℕ → Writer
+first_writer c o r = record {
   first = o.piece.first;
   past = o.piece.past;
+  most = r;
   gatherer = first_gatherer c;
   copying = None;
   chunks = o.chunks;
@@ -235,7 +240,7 @@ abbrev pub silent_cut : ℕ → Stage → ℕ
 silent_cut n Between = 6
 silent_cut n (Plan p) = 6
 silent_cut n (Begin o) = 5
-silent_cut n (Write o w) = silent_left n w.past w.gatherer + 1
+silent_cut n (Write o w) = silent_write n w + 1
 silent_cut n Done = 0
 silent_cut n (Failed f) = 0
 

@@ -38,18 +38,23 @@ pub record AreChunks (b k j : ℕ) (x : List ℕ) : Type 0 where
   pub all : AllByRecursion (IsPlain b) chunks
   pub bytes : x ≡ flat_map plain chunks
 
--- how many bytes of the raw run that is copied are still to come
+-- how many bytes of the open chunk are still to be copied, and how many blocks of the raw run are in chunks still to
+-- be begun
 abbrev pub copy_to_come : Option Copying → ℕ
 copy_to_come None = 0
 copy_to_come (Some c) = c.left
 
--- t may come behind what is written: the rest of the raw run, and all chunks still to be begun, with all blocks from
--- the open run's first on
+abbrev pub blocks_to_come : Option Copying → ℕ
+blocks_to_come None = 0
+blocks_to_come (Some c) = c.after
+
+-- t may come behind what is written: the rest of the open chunk, and all chunks still to be begun, with all blocks that
+-- are left
 pub record MayCome (b n : ℕ) (w : Writer) (t : List ℕ) : Type 0 where
   pub raw : List ℕ
   pub rest : List ℕ
   pub long : length raw ≡ copy_to_come w.copying
-  pub chunks : AreChunks b w.chunks (n - begins w.gatherer) rest
+  pub chunks : AreChunks b w.chunks (blocks_to_come w.copying + (n - begins w.gatherer)) rest
   pub bytes : t ≡ raw ++ rest
 
 -- the same at any stage: all of an image, or the rest of one

@@ -9,7 +9,8 @@ ghost use Rattle.abt_pieces.specs.Outline.{IsOutline, piece_at};
 ghost use Rattle.abt_pieces.specs.Cutter.{SoundPlanner, SoundOutline, SoundStage};
 ghost use Rattle.abt_pieces.specs.Cutter.{TakenPlan, TakenStage, silent_cut, cut_words, ToldPlanner};
 ghost use Rattle.abt_pieces.specs.Cutter.{ToldStage, ToldCutter, is_more, OnMore, OnEnd};
-ghost use Rattle.abt_pieces.specs.Cutter.{OnPiece, coming, is_begun, so_far, has_failed, first_writer, planned_left};
+ghost use Rattle.abt_pieces.specs.Cutter.{OnPiece, coming, is_begun, so_far, has_failed, planned_left};
+ghost use Rattle.abt_pieces.specs.Cutter.{first_writer, most_raw};
 ghost use Rattle.abt_pieces.specs.Cutter.{cut_left};
 ghost use Rattle.abt_pieces.specs.Image.{Appended, Leads, IsImage, StageMayCome};
 ghost use Rattle.abt_pieces.specs.SpentStage.{SpentPlan, SpentStage, SpentPiece};
@@ -189,7 +190,8 @@ impl<R: BlockRuns + Drop> Cutter<R> {
         ensures small { self.old.limit < 2 ^ 32 }
         ensures fits { (R.size self.old.runs < 2 ^ 32) × (R.count self.old.runs < 2 ^ 32) × (outline.chunks < 2 ^ 32) }
         ensures write_frame { O.write_frame output.new ≡ O.write_frame output.old }
-        ensures stage { OnOk result (self.new.stage ≡ Stage.Write outline (first_writer self.old.start outline)) }
+        ensures stage { OnOk result (self.new.stage ≡ Stage.Write outline (first_writer self.old.start outline
+            (most_raw (R.size self.old.runs) self.old.limit))) }
         ensures grown { length (O.written output.old) ≤ length (O.written output.new) }
         ensures within { length (O.written output.new) ≤ length (O.written output.old) + 28 }
         ensures whole { OnOk result (length (O.written output.new) ≡ length (O.written output.old) + 28) }
@@ -220,7 +222,8 @@ impl<R: BlockRuns + Drop> Cutter<R> {
         m.close_step(0);
         match written {
             Ok(()) => {
-                self.stage = Stage::Write(outline, Writer::begin(start, &outline));
+                let most = (self.limit - 40) / size;
+                self.stage = Stage::Write(outline, Writer::begin(start, &outline, most));
                 Ok(())
             }
             Err(fault) => Err(self.fail(PieceFault::Write(fault))),

@@ -1,16 +1,16 @@
-//! Writing one piece: a chunk for each of its runs.
+//! Writing the chunks of an image: one for each of its runs, a raw run in several.
 ghost use Rattle.std.specs.Prelude.{◌≡◌, ℕ, List, [], ◌<◌, ◌≤◌, ◌+◌, ◌-◌, ◌*◌, ◌^◌, ◌++◌, IsTrue, IfOk, IfErr, OnOk};
 ghost use Rattle.std.specs.Prelude.{OnErr, length, take, drop, min, max, true, false};
-ghost use Rattle.abt_runs.specs.Part.{is_end as ends, entry};
+ghost use Rattle.abt_runs.specs.Part.{is_end as ends};
 ghost use Rattle.abt_pieces.specs.Fault.{HasCause, full_cut};
 ghost use Rattle.abt_pieces.specs.Calls.{Failing, devices};
 ghost use Rattle.abt_pieces.specs.Contents.{head_len as length_of_head, data_len};
 ghost use Rattle.abt_pieces.specs.Cutter.{first_writer};
-ghost use Rattle.abt_pieces.specs.Write.{front_bytes, chunk_len, chunk_begun, ChunkCause, starts, next_copying};
+ghost use Rattle.abt_pieces.specs.Write.{front_bytes, chunk_len, ChunkCause, front_begun, run_begun, run_front, run_head};
+ghost use Rattle.abt_pieces.specs.Write.{next_blocks, opened_with, chunk_opened, next_copying};
 ghost use Rattle.abt_pieces.specs.Write.{copied_on, rest_of, frame_of, SoundWriter, ToldWriter, write_left};
-ghost use Rattle.abt_pieces.specs.Write.{passed_to, writer_words, charge_of};
+ghost use Rattle.abt_pieces.specs.Write.{silent_write, writer_words};
 ghost use Rattle.abt_pieces.specs.Image.{Leads, MayCome};
-ghost use Rattle.abt_pieces.specs.Gather.{silent_left, gathered_to};
 ghost use Rattle.abt_runs.specs.declared.part.Cursor.{Cursor};
 ghost use Rattle.abt_pieces.specs.Plan.{last_words};
 ghost use Rattle.abt_pieces.specs.Spent.{Spent};
@@ -25,7 +25,7 @@ use crate::outline::Outline;
 use abt_io::{Meter, Output, Source, WINDOW, Window, write_out};
 use abt_runs::{BlockRuns, Cursor, Run, RunKind};
 
-/// A raw run whose header stands already, and whose bytes are being copied part by part.
+/// A raw run that is being written: chunk by chunk, and its bytes part by part.
 #[derive(Clone, Copy, Drop)]
 pub struct Copying {
     /// The place of the part that is being copied.
@@ -36,17 +36,21 @@ pub struct Copying {
     pub size: u64,
     /// How many of these are copied.
     pub done: u64,
-    /// How many bytes of the run are still to be copied.
+    /// How many bytes of the open chunk are still to be copied.
     pub left: u64,
+    /// How many blocks of the run are in chunks still to be begun.
+    pub after: u32,
 }
 
-/// Writes one piece, in steps. It holds numbers alone.
+/// Writes the chunks of one piece, or of a whole image, in steps. It holds numbers alone.
 #[derive(Clone, Copy, Drop)]
 pub struct Writer {
     /// The first block of the segment.
     pub first: u32,
     /// The block behind the segment.
     pub past: u32,
+    /// How many blocks a raw chunk has at most.
+    pub most: u32,
     /// The run that is being gathered, behind what is written.
     pub gatherer: Gatherer,
     /// The raw run that is being copied, if one is.
@@ -55,23 +59,6 @@ pub struct Writer {
     pub chunks: u32,
     /// How many bytes of the piece are still to be written.
     pub bytes: u64,
-}
-
-/// Where the copying of a run begins, if it is raw.
-#[inline(always)]
-fn copy_from(run: Run, bytes: u64) -> Option<Copying>
-    ensures { result ≡ starts run.kind run.here bytes }
-{
-    match run.kind {
-        RunKind::Raw => Some(Copying {
-            here: run.here,
-            next: run.here,
-            size: 0,
-            done: 0,
-            left: bytes,
-        }),
-        RunKind::Fill(_) | RunKind::Skip | RunKind::End => None,
-    }
 }
 
 impl Copying {
@@ -92,9 +79,21 @@ impl Copying {
                 next: part.next,
                 size: part.blocks as u64 * size as u64,
                 done: 0,
-                left: self.left,
+                ..self
             }),
             RunKind::Fill(_) | RunKind::Skip | RunKind::End => None,
+        }
+    }
+
+    /// With the next chunk open, of so many blocks of `size` bytes.
+    fn and_chunk(self, blocks: u32, size: u32) -> Copying
+        requires { blocks ≤ self.after }
+        ensures { result ≡ opened_with self blocks size }
+    {
+        Copying {
+            left: blocks as u64 * size as u64,
+            after: self.after - blocks,
+            ..self
         }
     }
 
@@ -105,7 +104,7 @@ impl Copying {
         requires done { self.done + count < 2 ^ 64 }
         ensures { result ≡ copied_on self count }
     {
-        if self.left == count {
+        if self.after == 0 && self.left == count {
             return None;
         }
         Some(Copying {
@@ -118,12 +117,13 @@ impl Copying {
 
 impl Writer {
     /// At the first chunk of a planned piece whose segment begins at a place.
-    pub fn begin(start: Cursor, outline: &Outline) -> Writer
-        ensures { result ≡ first_writer start outline.now }
+    pub fn begin(start: Cursor, outline: &Outline, most: u32) -> Writer
+        ensures { result ≡ first_writer start outline.now most }
     {
         Writer {
             first: outline.piece.first,
             past: outline.piece.past,
+            most,
             gatherer: Gatherer::begin(start),
             copying: None,
             chunks: outline.chunks,
@@ -131,30 +131,32 @@ impl Writer {
         }
     }
 
-    /// Writes what stands in front of a run's blocks, where the piece as it was planned has room
-    /// for the run. Else the source has changed since.
+    /// Writes what stands in front of a chunk's blocks, where what was counted has room for the
+    /// chunk. Else the source has changed since.
     #[inline(always)]
     fn begin_chunk<O: Output>(
         &mut self,
-        run: Run,
+        kind: RunKind,
+        blocks: u32,
         size: u32,
         output: &mut O,
         m: &mut Meter,
     ) -> Result<(), PieceFault>
-        requires small { self.old.bytes < 2 ^ 32 }
-        ensures ok { OnOk result (self.new ≡ chunk_begun self.old run size) }
-        ensures segment { (self.new.first ≡ self.old.first) × (self.new.past ≡ self.old.past) }
-        ensures room { OnOk result ((0 < self.old.chunks) × (chunk_len run.kind run.blocks size ≤ self.old.bytes)) }
-        ensures written { OnOk result (O.written output.new ≡ O.written output.old ++ front_bytes run.kind run.blocks
-            (chunk_len run.kind run.blocks size)) }
+        requires small { chunk_len kind blocks size < 2 ^ 32 }
+        ensures ok { OnOk result (self.new ≡ front_begun self.old kind) }
+        ensures segment { (self.new.first ≡ self.old.first) × (self.new.past ≡ self.old.past) ×
+            (self.new.most ≡ self.old.most) }
+        ensures room { OnOk result ((0 < self.old.chunks) × (chunk_len kind blocks size ≤ self.old.bytes)) }
+        ensures written { OnOk result (O.written output.new ≡ O.written output.old ++ front_bytes kind blocks
+            (chunk_len kind blocks size)) }
         ensures front { O.written output.new ≡ O.written output.old ++ take
             (length (O.written output.new) - length (O.written output.old))
-            (front_bytes run.kind run.blocks (chunk_len run.kind run.blocks size)) }
+            (front_bytes kind blocks (chunk_len kind blocks size)) }
         ensures grown { length (O.written output.old) ≤ length (O.written output.new) }
         ensures within { length (O.written output.new) ≤ length (O.written output.old) + self.old.bytes }
         ensures few { length (O.written output.new) ≤ length (O.written output.old) + 16 }
         ensures whole { OnOk result (length (O.written output.new) ≡ length (O.written output.old) + length_of_head
-            run.kind) }
+            kind) }
         ensures frame { O.write_frame output.new ≡ O.write_frame output.old }
         ensures faults { O.write_faults output.old ≤ O.write_faults output.new }
         ensures clean { OnOk result (O.write_faults output.new ≡ O.write_faults output.old) }
@@ -162,7 +164,7 @@ impl Writer {
         ensures full { full_cut result ≡ 1 → IsTrue (O.is_full output.new) ×
             (length (O.written output.new) < length (O.written output.old) + self.old.bytes) }
         ensures cause { IfErr result (λ e. ChunkCause e self.old.chunks self.old.bytes
-            (chunk_len run.kind run.blocks size) (O.write_faults output.old) (O.write_faults output.new)) }
+            (chunk_len kind blocks size) (O.write_faults output.old) (O.write_faults output.new)) }
         ensures calls { O.writes output.new + length (O.written output.old) ≤ O.writes output.old + length
             (O.written output.new) + 1 }
         ensures turns { m.new.turns.number + length (O.written output.old) ≤ m.old.turns.number + length
@@ -170,21 +172,126 @@ impl Writer {
         ensures steps { m.new.steps.number ≡ m.old.steps.number }
         ensures greatest { m.new.greatest.number ≡ m.old.greatest.number }
     {
-        let copied = copied_len(run.kind, run.blocks, size);
-        let head = head_len(run.kind);
-        if self.chunks == 0 || head + copied > self.bytes {
+        let head = head_len(kind);
+        let total = head + copied_len(kind, blocks, size);
+        if self.chunks == 0 || total > self.bytes {
             return Err(PieceFault::SourceChanged);
         }
-        if let Err(fault) = write_front(output, run.kind, run.blocks, (head + copied) as u32, m) {
+        if let Err(fault) = write_front(output, kind, blocks, total as u32, m) {
             return Err(PieceFault::Write(fault));
         }
         self.chunks -= 1;
         self.bytes -= head;
-        self.copying = copy_from(run, copied);
         Ok(())
     }
 
-    /// Looks for the end of the open run, and begins the chunk of a run that has ended. One step.
+    /// Begins a run that has ended: writes the chunk of one that is filled or skipped. The chunks of
+    /// a raw run have steps of their own.
+    #[inline(always)]
+    fn begin_run<O: Output>(
+        &mut self,
+        run: Run,
+        size: u32,
+        output: &mut O,
+        m: &mut Meter,
+    ) -> Result<(), PieceFault>
+        ensures ok { OnOk result (self.new ≡ run_begun self.old run) }
+        ensures segment { (self.new.first ≡ self.old.first) × (self.new.past ≡ self.old.past) ×
+            (self.new.most ≡ self.old.most) }
+        ensures room { OnOk result (run_head run.kind ≤ self.old.bytes) }
+        ensures some { OnOk result (0 < run_head run.kind → 0 < self.old.chunks) }
+        ensures written { OnOk result (O.written output.new ≡ O.written output.old ++ run_front run.kind run.blocks) }
+        ensures front { O.written output.new ≡ O.written output.old ++ take
+            (length (O.written output.new) - length (O.written output.old)) (run_front run.kind run.blocks) }
+        ensures grown { length (O.written output.old) ≤ length (O.written output.new) }
+        ensures within { length (O.written output.new) ≤ length (O.written output.old) + self.old.bytes }
+        ensures few { length (O.written output.new) ≤ length (O.written output.old) + 16 }
+        ensures whole { OnOk result (length (O.written output.new) ≡ length (O.written output.old) + run_head
+            run.kind) }
+        ensures frame { O.write_frame output.new ≡ O.write_frame output.old }
+        ensures faults { O.write_faults output.old ≤ O.write_faults output.new }
+        ensures clean { OnOk result (O.write_faults output.new ≡ O.write_faults output.old) }
+        ensures full_faults { O.full_faults output.new ≡ O.full_faults output.old + full_cut result }
+        ensures full { full_cut result ≡ 1 → IsTrue (O.is_full output.new) ×
+            (length (O.written output.new) < length (O.written output.old) + self.old.bytes) }
+        ensures cause { IfErr result (λ e. ChunkCause e self.old.chunks self.old.bytes (length_of_head run.kind)
+            (O.write_faults output.old) (O.write_faults output.new)) }
+        ensures calls { O.writes output.new + length (O.written output.old) ≤ O.writes output.old + length
+            (O.written output.new) + 1 }
+        ensures turns { m.new.turns.number + length (O.written output.old) ≤ m.old.turns.number + length
+            (O.written output.new) + 1 }
+        ensures steps { m.new.steps.number ≡ m.old.steps.number }
+        ensures greatest { m.new.greatest.number ≡ m.old.greatest.number }
+    {
+        match run.kind {
+            RunKind::Raw => {
+                self.copying = Some(Copying {
+                    here: run.here,
+                    next: run.here,
+                    size: 0,
+                    done: 0,
+                    left: 0,
+                    after: run.blocks,
+                });
+                Ok(())
+            }
+            RunKind::Fill(_) | RunKind::Skip | RunKind::End => {
+                self.begin_chunk(run.kind, run.blocks, size, output, m)
+            }
+        }
+    }
+
+    /// Begins the next chunk of the raw run that is being written. One step.
+    #[inline(always)]
+    fn open_chunk<O: Output>(
+        &mut self,
+        copying: Copying,
+        size: u32,
+        output: &mut O,
+        m: &mut Meter,
+    ) -> Result<(), PieceFault>
+        requires small { 12 + self.old.most * size < 2 ^ 32 }
+        ensures ok { OnOk result (self.new ≡ chunk_opened self.old copying size) }
+        ensures segment { (self.new.first ≡ self.old.first) × (self.new.past ≡ self.old.past) ×
+            (self.new.most ≡ self.old.most) }
+        ensures room { OnOk result ((0 < self.old.chunks) ×
+            (12 + next_blocks copying self.old.most * size ≤ self.old.bytes)) }
+        ensures written { OnOk result (O.written output.new ≡ O.written output.old ++ front_bytes RunKind.Raw
+            (next_blocks copying self.old.most) (12 + next_blocks copying self.old.most * size)) }
+        ensures front { O.written output.new ≡ O.written output.old ++ take
+            (length (O.written output.new) - length (O.written output.old))
+            (front_bytes RunKind.Raw (next_blocks copying self.old.most)
+            (12 + next_blocks copying self.old.most * size)) }
+        ensures grown { length (O.written output.old) ≤ length (O.written output.new) }
+        ensures within { length (O.written output.new) ≤ length (O.written output.old) + self.old.bytes }
+        ensures few { length (O.written output.new) ≤ length (O.written output.old) + 16 }
+        ensures whole { OnOk result (length (O.written output.new) ≡ length (O.written output.old) + 12) }
+        ensures frame { O.write_frame output.new ≡ O.write_frame output.old }
+        ensures faults { O.write_faults output.old ≤ O.write_faults output.new }
+        ensures clean { OnOk result (O.write_faults output.new ≡ O.write_faults output.old) }
+        ensures full_faults { O.full_faults output.new ≡ O.full_faults output.old + full_cut result }
+        ensures full { full_cut result ≡ 1 → IsTrue (O.is_full output.new) ×
+            (length (O.written output.new) < length (O.written output.old) + self.old.bytes) }
+        ensures cause { IfErr result (λ e. ChunkCause e self.old.chunks self.old.bytes
+            (12 + next_blocks copying self.old.most * size) (O.write_faults output.old) (O.write_faults output.new)) }
+        ensures calls { O.writes output.new + length (O.written output.old) ≤ O.writes output.old + length
+            (O.written output.new) + 1 }
+        ensures turns { m.new.turns.number + length (O.written output.old) ≤ m.old.turns.number + length
+            (O.written output.new) + 1 }
+        ensures steps { m.new.steps.number ≡ m.old.steps.number + 1 }
+        ensures greatest { m.new.greatest.number ≡ max m.old.greatest.number 0 }
+    {
+        m.close_step(0);
+        let blocks = copying.after.min(self.most);
+        match self.begin_chunk(RunKind::Raw, blocks, size, output, m) {
+            Ok(()) => {}
+            Err(fault) => return Err(fault),
+        }
+        self.copying = Some(copying.and_chunk(blocks, size));
+        Ok(())
+    }
+
+    /// Looks for the end of the open run, and begins a run that has ended. One step.
     #[tactic(auto, using(crate::proofs::Fronts::run_not_full))]
     #[inline(always)]
     fn look<R: BlockRuns, S: Source, O: Output>(
@@ -210,13 +317,11 @@ impl Writer {
         ensures told { IsTrue S.tells →
             OnOk result (ToldWriter (R.place runs.old (S.content source.old))
             (R.together runs.old (S.content source.old)) (R.list runs.old (S.content source.old)) self.new) }
-        ensures segment { (self.new.first ≡ self.old.first) × (self.new.past ≡ self.old.past) }
-        ensures grown { length (O.written output.old) ≤ length (O.written output.new) }
+        ensures segment { (self.new.first ≡ self.old.first) × (self.new.past ≡ self.old.past) ×
+            (self.new.most ≡ self.old.most) }
         ensures within { length (O.written output.new) ≤ length (O.written output.old) + self.old.bytes }
         ensures counted { OnOk result (length (O.written output.new) + self.new.bytes
             ≡ length (O.written output.old) + self.old.bytes) }
-        ensures few { length (O.written output.new)
-            ≤ length (O.written output.old) + (S.given source.new - S.given source.old) + 80 }
         ensures front { IsTrue S.tells → O.written output.new ≡ O.written output.old ++ take
             (length (O.written output.new) - length (O.written output.old))
             (rest_of (frame_of (R.list runs.old (S.content source.old)) self.old) self.old) }
@@ -227,19 +332,13 @@ impl Writer {
         ensures leads { OnOk result (Leads (MayCome (R.size runs.old) (R.count runs.old) self.old)
             (MayCome (R.size runs.old) (R.count runs.old) self.new) (O.written output.old) (O.written output.new)) }
         ensures write_frame { O.write_frame output.new ≡ O.write_frame output.old }
-        ensures write_faults { O.write_faults output.old ≤ O.write_faults output.new }
         ensures cause { IfErr result (λ e. HasCause e S.tells (S.read_faults source.old) (S.read_faults source.new)
             (O.write_faults output.old) (O.write_faults output.new)) }
         ensures left { OnOk result (write_left (R.left runs.old) (R.count runs.old) self.new
             < write_left (R.left runs.old) (R.count runs.old) self.old) }
-        ensures given { S.given source.old ≤ S.given source.new }
-        ensures paid { OnOk result (silent_left (R.count runs.old) self.old.past self.new.gatherer
-            < silent_left (R.count runs.old) self.old.past
-            self.old.gatherer + (S.given source.new - S.given source.old)) }
-        ensures gathered { IsTrue S.tells → (d : Cursor) → R.within runs.old d →
-            R.place runs.old (S.content source.old) d → d.block ≡ self.old.past → d.ask ≡ 1 →
-            OnOk result (S.given source.new + gathered_to (R.charge runs.old) self.old.past d self.old.gatherer.at
-            ≤ S.given source.old + gathered_to (R.charge runs.old) self.old.past d self.new.gatherer.at) }
+        ensures paid { OnOk result (silent_write (R.count runs.old) self.new < silent_write (R.count runs.old)
+            self.old + (S.given source.new - S.given source.old) + (length (O.written output.new) - length
+            (O.written output.old))) }
         ensures spends { IsTrue S.tells → (d : Cursor) → R.within runs.old d → R.place runs.old (S.content source.old) d
             → d.block ≡ self.old.past → d.ask ≡ 1 → (s t : ℕ) →
             Spent (λ c. R.within runs.old c × R.place runs.old (S.content source.old) c) (R.charge runs.old)
@@ -247,23 +346,15 @@ impl Writer {
             OnOk result (Spent (λ c. R.within runs.old c × R.place runs.old (S.content source.old) c)
             (R.charge runs.old) (R.copied runs.old) (R.held runs.old) d s
             (t + (S.given source.new - S.given source.old)) self.new) }
-        ensures calls { S.reads source.new ≤ S.reads source.old + (S.given source.new - S.given source.old) + 2 }
-        ensures write_calls { O.writes output.new + length (O.written output.old) ≤ O.writes output.old + length
-            (O.written output.new) + 1 }
-        ensures turns { m.new.turns.number + last_words (R.one runs.old) (R.count runs.old)
-            (min self.old.gatherer.at.block self.old.past)
-            ≤ m.old.turns.number + 2 * (S.given source.new - S.given source.old) + (length
-            (O.written output.new) - length (O.written output.old)) + 3 + R.one runs.old }
         ensures words { OnOk result (m.new.turns.number + writer_words (R.one runs.old) (R.count runs.old) self.old
             ≤ m.old.turns.number + 2 * (S.given source.new - S.given source.old) + (length
             (O.written output.new) - length (O.written output.old)) + 3 + writer_words (R.one runs.old)
             (R.count runs.old) self.new) }
-        ensures received { S.given source.new ≤ S.given source.old + 65536 }
-        ensures steps { m.new.steps.number ≡ m.old.steps.number + 1 }
-        ensures greatest { m.new.greatest.number ≡ max m.old.greatest.number (S.given source.new - S.given source.old) }
-        ensures faults { S.read_faults source.old ≤ S.read_faults source.new }
-        ensures clean { OnOk result ((S.read_faults source.new ≡ S.read_faults source.old) ×
-            (O.write_faults output.new ≡ O.write_faults output.old)) }
+        ensures costs { StepCosts (writer_words (R.one runs.old) (R.count runs.old) self.old) (2 * R.one runs.old)
+            (devices S.Source O.Output source.old output.old)
+            (devices S.Source O.Output source.new output.new) m.old m.new }
+        ensures failing { Failing result (devices S.Source O.Output source.old output.old)
+            (devices S.Source O.Output source.new output.new) }
         ensures full_faults { O.full_faults output.new ≡ O.full_faults output.old + full_cut result }
         ensures full { full_cut result ≡ 1 → IsTrue (O.is_full output.new) ×
             (length (O.written output.new) < length (O.written output.old) + self.old.bytes) }
@@ -276,7 +367,7 @@ impl Writer {
         };
         self.gatherer = gatherer;
         match run {
-            Some(run) => self.begin_chunk(run, size, output, m),
+            Some(run) => self.begin_run(run, size, output, m),
             None => Ok(()),
         }
     }
@@ -299,6 +390,7 @@ impl Writer {
             (R.together runs.old (S.content source.old)) (R.list runs.old (S.content source.old)) self.old }
         requires is { self.old.copying ≡ Some copying }
         requires whole { copying.done ≡ copying.size }
+        requires remains { 0 < copying.left }
         ensures same { runs.new ≡ runs.old }
         ensures content { IsTrue S.tells → S.content source.new ≡ S.content source.old }
         ensures frame { S.read_frame source.new ≡ S.read_frame source.old }
@@ -307,7 +399,8 @@ impl Writer {
         ensures told { IsTrue S.tells →
             OnOk result (ToldWriter (R.place runs.old (S.content source.old))
             (R.together runs.old (S.content source.old)) (R.list runs.old (S.content source.old)) self.new) }
-        ensures segment { (self.new.first ≡ self.old.first) × (self.new.past ≡ self.old.past) }
+        ensures segment { (self.new.first ≡ self.old.first) × (self.new.past ≡ self.old.past) ×
+            (self.new.most ≡ self.old.most) }
         ensures bytes { self.new.bytes ≡ self.old.bytes }
         ensures rest { IsTrue S.tells →
             OnOk result (rest_of (frame_of (R.list runs.old (S.content source.old)) self.old) self.new
@@ -317,10 +410,8 @@ impl Writer {
         ensures left { OnOk result (write_left (R.left runs.old) (R.count runs.old) self.new
             < write_left (R.left runs.old) (R.count runs.old) self.old) }
         ensures given { S.given source.old ≤ S.given source.new }
-        ensures gatherer { self.new.gatherer ≡ self.old.gatherer }
-        ensures fetched { OnOk result (S.given source.old < S.given source.new) }
-        ensures charged { OnOk result (S.given source.new + R.charge runs.old copying.next
-            ≤ S.given source.old + charge_of (R.charge runs.old) self.new.copying + entry copying.next) }
+        ensures paid { OnOk result (silent_write (R.count runs.old) self.new < silent_write (R.count runs.old)
+            self.old + (S.given source.new - S.given source.old)) }
         ensures spends { IsTrue S.tells → (d : Cursor) → R.within runs.old d → R.place runs.old (S.content source.old) d
             → d.block ≡ self.old.past → d.ask ≡ 1 → (s t : ℕ) →
             Spent (λ c. R.within runs.old c × R.place runs.old (S.content source.old) c) (R.charge runs.old)
@@ -346,7 +437,7 @@ impl Writer {
     {
         let until = self.gatherer.at.block - self.gatherer.count;
         let size = runs.block_size();
-        let part = match runs.next_part(source, copying.next, until - copying.next.block, w, m) {
+        let part = match runs.next_raw(source, copying.next, until - copying.next.block, w, m) {
             Ok(part) => part,
             Err(fault) => return Err(run_fault(fault)),
         };
@@ -378,6 +469,7 @@ impl Writer {
             (R.together runs.old (S.content source.old)) (R.list runs.old (S.content source.old)) self.old }
         requires is { self.old.copying ≡ Some copying }
         requires more { copying.done < copying.size }
+        requires remains { 0 < copying.left }
         ensures same { runs.new ≡ runs.old }
         ensures content { IsTrue S.tells → S.content source.new ≡ S.content source.old }
         ensures frame { S.read_frame source.new ≡ S.read_frame source.old }
@@ -386,13 +478,11 @@ impl Writer {
         ensures told { IsTrue S.tells →
             OnOk result (ToldWriter (R.place runs.old (S.content source.old))
             (R.together runs.old (S.content source.old)) (R.list runs.old (S.content source.old)) self.new) }
-        ensures segment { (self.new.first ≡ self.old.first) × (self.new.past ≡ self.old.past) }
-        ensures grown { length (O.written output.old) ≤ length (O.written output.new) }
+        ensures segment { (self.new.first ≡ self.old.first) × (self.new.past ≡ self.old.past) ×
+            (self.new.most ≡ self.old.most) }
         ensures within { length (O.written output.new) ≤ length (O.written output.old) + self.old.bytes }
         ensures counted { OnOk result (length (O.written output.new) + self.new.bytes
             ≡ length (O.written output.old) + self.old.bytes) }
-        ensures few { length (O.written output.new)
-            ≤ length (O.written output.old) + (S.given source.new - S.given source.old) + 80 }
         ensures front { IsTrue S.tells → O.written output.new ≡ O.written output.old ++ take
             (length (O.written output.new) - length (O.written output.old))
             (rest_of (frame_of (R.list runs.old (S.content source.old)) self.old) self.old) }
@@ -403,17 +493,12 @@ impl Writer {
         ensures leads { OnOk result (Leads (MayCome (R.size runs.old) (R.count runs.old) self.old)
             (MayCome (R.size runs.old) (R.count runs.old) self.new) (O.written output.old) (O.written output.new)) }
         ensures write_frame { O.write_frame output.new ≡ O.write_frame output.old }
-        ensures write_faults { O.write_faults output.old ≤ O.write_faults output.new }
         ensures cause { IfErr result (λ e. HasCause e S.tells (S.read_faults source.old) (S.read_faults source.new)
             (O.write_faults output.old) (O.write_faults output.new)) }
         ensures left { OnOk result (write_left (R.left runs.old) (R.count runs.old) self.new
             < write_left (R.left runs.old) (R.count runs.old) self.old) }
-        ensures given { S.given source.old ≤ S.given source.new }
-        ensures gatherer { self.new.gatherer ≡ self.old.gatherer }
-        ensures put { OnOk result (length (O.written output.old) < length (O.written output.new)) }
-        ensures copies { OnOk result (S.given source.new + R.held runs.old copying.here copying.done
-            ≤ S.given source.old + R.held runs.old copying.here
-            (copying.done + (length (O.written output.new) - length (O.written output.old)))) }
+        ensures paid { OnOk result (silent_write (R.count runs.old) self.new < silent_write (R.count runs.old)
+            self.old + (length (O.written output.new) - length (O.written output.old))) }
         ensures spends { IsTrue S.tells → (d : Cursor) → R.within runs.old d → R.place runs.old (S.content source.old) d
             → d.block ≡ self.old.past → d.ask ≡ 1 → (s t : ℕ) →
             Spent (λ c. R.within runs.old c × R.place runs.old (S.content source.old) c) (R.charge runs.old)
@@ -421,24 +506,21 @@ impl Writer {
             OnOk result (Spent (λ c. R.within runs.old c × R.place runs.old (S.content source.old) c)
             (R.charge runs.old) (R.copied runs.old) (R.held runs.old) d s
             (t + (S.given source.new - S.given source.old)) self.new) }
-        ensures calls { S.reads source.new ≤ S.reads source.old + 1 }
-        ensures write_calls { O.writes output.new + length (O.written output.old) ≤ O.writes output.old + length
-            (O.written output.new) + 1 }
-        ensures turns { m.new.turns.number
-            ≤ m.old.turns.number + (length (O.written output.new) - length (O.written output.old)) + 1 }
-        ensures words { OnOk result (writer_words (R.one runs.old) (R.count runs.old) self.old
-            ≤ writer_words (R.one runs.old) (R.count runs.old) self.new) }
-        ensures received { S.given source.new ≤ S.given source.old + 65536 }
-        ensures steps { m.new.steps.number ≡ m.old.steps.number + 1 }
-        ensures greatest { m.new.greatest.number ≡ max m.old.greatest.number (S.given source.new - S.given source.old) }
-        ensures faults { S.read_faults source.old ≤ S.read_faults source.new }
-        ensures clean { OnOk result ((S.read_faults source.new ≡ S.read_faults source.old) ×
-            (O.write_faults output.new ≡ O.write_faults output.old)) }
+        ensures words { OnOk result (m.new.turns.number + writer_words (R.one runs.old) (R.count runs.old) self.old
+            ≤ m.old.turns.number + 2 * (S.given source.new - S.given source.old) + (length
+            (O.written output.new) - length (O.written output.old)) + 3 + writer_words (R.one runs.old)
+            (R.count runs.old) self.new) }
+        ensures costs { StepCosts (writer_words (R.one runs.old) (R.count runs.old) self.old) (2 * R.one runs.old)
+            (devices S.Source O.Output source.old output.old)
+            (devices S.Source O.Output source.new output.new) m.old m.new }
+        ensures failing { Failing result (devices S.Source O.Output source.old output.old)
+            (devices S.Source O.Output source.new output.new) }
         ensures full_faults { O.full_faults output.new ≡ O.full_faults output.old + full_cut result }
         ensures full { full_cut result ≡ 1 → IsTrue (O.is_full output.new) ×
             (length (O.written output.new) < length (O.written output.old) + self.old.bytes) }
     {
-        let ask = (copying.size - copying.done).min(WINDOW as u64) as usize;
+        let part = copying.size - copying.done;
+        let ask = part.min(copying.left).min(WINDOW as u64) as usize;
         w.is_whole();
         let count = match runs.copy(source, copying.here, copying.done, w.part_mut(0, ask), m) {
             Ok(count) => count,
@@ -452,7 +534,7 @@ impl Writer {
         Ok(())
     }
 
-    /// Whether all that was planned is written. Else the source has changed since.
+    /// Whether all that was counted is written. Else the source has changed since.
     fn end(&self) -> Result<bool, PieceFault>
         ensures whole { IfOk result (λ d. (d ≡ true) × (self.now.bytes ≡ 0) × (self.now.chunks ≡ 0)) }
         ensures refused { IfErr result (λ e. (e ≡ PieceFault.SourceChanged) ×
@@ -464,7 +546,7 @@ impl Writer {
         Err(PieceFault::SourceChanged)
     }
 
-    /// One step of the piece: True where it is whole.
+    /// One step: True where all is written.
     #[inline(always)]
     pub fn step<R: BlockRuns, S: Source, O: Output>(
         &mut self,
@@ -487,7 +569,8 @@ impl Writer {
         ensures told { IsTrue S.tells →
             OnOk result (ToldWriter (R.place runs.old (S.content source.old))
             (R.together runs.old (S.content source.old)) (R.list runs.old (S.content source.old)) self.new) }
-        ensures segment { (self.new.first ≡ self.old.first) × (self.new.past ≡ self.old.past) }
+        ensures segment { (self.new.first ≡ self.old.first) × (self.new.past ≡ self.old.past) ×
+            (self.new.most ≡ self.old.most) }
         ensures within { length (O.written output.new) ≤ length (O.written output.old) + self.old.bytes }
         ensures counted { OnOk result (length (O.written output.new) + self.new.bytes
             ≡ length (O.written output.old) + self.old.bytes) }
@@ -508,9 +591,9 @@ impl Writer {
             < write_left (R.left runs.old) (R.count runs.old) self.old) }
         ensures ended { IfOk result (λ d. d ≡ true → (self.old.bytes ≡ 0) ×
             (O.written output.new ≡ O.written output.old)) }
-        ensures paid { IfOk result (λ d. d ≡ false → silent_left (R.count runs.old) self.old.past self.new.gatherer
-            < silent_left (R.count runs.old) self.old.past self.old.gatherer + (S.given source.new - S.given source.old)
-            + (length (O.written output.new) - length (O.written output.old))) }
+        ensures paid { IfOk result (λ d. d ≡ false → silent_write (R.count runs.old) self.new
+            < silent_write (R.count runs.old) self.old + (S.given source.new - S.given source.old) + (length
+            (O.written output.new) - length (O.written output.old))) }
         ensures spends { IsTrue S.tells → (d : Cursor) → R.within runs.old d → R.place runs.old (S.content source.old) d
             → d.block ≡ self.old.past → d.ask ≡ 1 → (s t : ℕ) →
             Spent (λ c. R.within runs.old c × R.place runs.old (S.content source.old) c) (R.charge runs.old)
@@ -539,6 +622,13 @@ impl Writer {
     {
         match self.copying {
             Some(copying) => {
+                if copying.left == 0 {
+                    let size = runs.block_size();
+                    return match self.open_chunk(copying, size, output, m) {
+                        Ok(()) => Ok(false),
+                        Err(fault) => Err(fault),
+                    };
+                }
                 if copying.done == copying.size {
                     return match self.next_raw(copying, runs, source, w, m) {
                         Ok(()) => Ok(false),

@@ -11,4 +11,5 @@ pub mod Pieces
 pub mod Rooms
 pub mod Within
 pub mod Onward
+pub mod Passing
 pub mod Parts

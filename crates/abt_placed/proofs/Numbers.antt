@@ -72,7 +72,7 @@ room_left s q lt le = elim (cases_Bool (nat_lt s.count s.most)) [
   | inr e ↦ let g = ltb-false s.count s.most e in absurd (omega (arith, g, lt))
 ]
 
-room_most : (s : Placer) (q : ℕ) → q ≤ room_of s → q ≤ s.most
+pub room_most : (s : Placer) (q : ℕ) → q ≤ room_of s → q ≤ s.most
 room_most s q le = elim (cases_Bool (nat_lt s.count s.most)) [
   | inl e ↦ let h : q ≤ s.most - s.count = rw e at le in omega (arith, h)
   | inr e ↦ let h : q ≤ s.most = rw e at le in h

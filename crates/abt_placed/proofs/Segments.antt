@@ -1,5 +1,5 @@
 -- A segment that takes blocks: its numbers, and what it has laid.
-use Rattle.std.proofs.Common.{inl, inr, ◌⊎◌, ◌≡◌, ℕ, ◌+◌, ◌-◌, ◌*◌, ◌/◌, ◌%◌, ◌<◌, ◌≤◌, nat_lt, Bool, true, false, List, [], ◌∷◌, ◌++◌, length, take, drop, map, refl, sym, ap, subst, ◌∙◌, arith, append_assoc, ◌&&◌, if◌then◌else◌, bytes_eq, mul-le-mul_right}
+use Rattle.std.proofs.Common.{inl, inr, ◌⊎◌, ◌≡◌, ℕ, zero, suc, ◌^◌, ◌+◌, ◌-◌, ◌*◌, ◌/◌, ◌%◌, ◌<◌, ◌≤◌, nat_lt, Bool, true, false, List, [], ◌∷◌, ◌++◌, length, take, drop, map, refl, sym, ap, subst, ◌∙◌, arith, append_assoc, ◌&&◌, if◌then◌else◌, bytes_eq, mul-le-mul_right}
 use Rattle.std.proofs.lemmas.Bool.{cases_Bool, ltb-true, ltb-false}
 use Rattle.std.proofs.lemmas.List.{length-map}
 use Rattle.std.proofs.Math.Seq.{take-append_seam, drop-append_seam}
@@ -25,7 +25,6 @@ use Rattle.abt_placed.specs.Whole.{taken}
 use Rattle.abt_placed.specs.declared.placer.Placer.{Placer}
 use Rattle.abt_placed.specs.declared.segment.Segment.{Segment}
 use Rattle.abt_placed.proofs.Numbers.{goes}
-use Rattle.abt_placed.proofs.Rooms.{div_some, div_fits}
 use Rattle.abt_placed.proofs.Laying.{classes_more, classes_next}
 use Rattle.std.specs.Prelude.{slice_range}
 
@@ -95,16 +94,16 @@ head_some (kinds.Fill w) n = omega arith
 head_some kinds.Skip n = omega arith
 head_some kinds.End n = omega arith
 
+head_light : (j : RunKind) → head_of (tail_of_open j) ≤ 12
+head_light kinds.Raw = omega arith
+head_light (kinds.Fill w) = omega arith
+head_light kinds.Skip = omega arith
+head_light kinds.End = omega arith
+
 -- no block adds more than its bytes and sixteen
 pub gain_light : (j k : RunKind) (q b : ℕ) → 0 < q → gain_of (tail_of_open j) k q b ≤ q * (b + 16)
 gain_light j k q b some = by_kind k (let d : q * (b + 16) ≡ q * b + 16 * q = omega arith in d)
   where
-    head_light : (j : RunKind) → head_of (tail_of_open j) ≤ 12
-    head_light kinds.Raw = omega arith
-    head_light (kinds.Fill w) = omega arith
-    head_light kinds.Skip = omega arith
-    head_light kinds.End = omega arith
-
     fill_light : (j : RunKind) (w : List ℕ) → fill_gain_of (tail_of_open j) w ≤ 16
     fill_light kinds.Raw w = omega arith
     fill_light (kinds.Fill v) w = elim (cases_Bool (bytes_eq v w)) [ inl e ↦ rw e (omega arith) | inr e ↦ rw e (omega arith) ]
@@ -165,18 +164,18 @@ sound_on b q gain long long' s t k h p some held is passed most front adds grows
       some = λ f. omega (arith, h.order, passed, some);
     }
 
--- where there is less room, no more blocks may be taken
-pub cap_less : (t : Tail) (r room b : ℕ) → 0 < b → r ≤ room → cap_of t r b ≤ cap_of t room b
-cap_less t r room b some le =
-    let x = r - head_of t in
-    let y = room - head_of t in
-    elim (cases_Bool (nat_lt x b)) [
-      | inl e ↦ elim (cases_Bool (nat_lt y b)) [ inl f ↦ rw (e, f) (omega arith) | inr f ↦ rw (e, f) (div_some y b some (ltb-false y b f)) ]
-      | inr e ↦ elim (cases_Bool (nat_lt y b)) [
-        | inl f ↦ let z = ltb-false x b e in let w = ltb-true y b f in absurd (omega (arith, z, w, le))
-        | inr f ↦ rw (e, f) (le-div (x / b) y b some (let z = div_fits x b in omega (arith, z, le)))
-      ]
-    ]
+-- a limit beyond that of raw chunks has room for any
+pub cap_wide : (j : RunKind) (q most room b : ℕ) → 0 < b → 12 + most * b < 2 ^ 32 → 2 ^ 32 ≤ room → q ≤ most → q ≤ cap_of (tail_of_open j) room b
+cap_wide j q most room b some small wide le = elim (cases_Bool (nat_lt (room - head_of (tail_of_open j)) b)) [
+  | inl e ↦ let lt = ltb-true (room - head_of (tail_of_open j)) b e in rw e (none most le (omega (arith, lt, small, wide, head_light j)))
+  | inr e ↦
+      let m : q * b ≤ most * b = mul-le-mul_right b le in
+      rw e (le-div q (room - head_of (tail_of_open j)) b some (omega (arith, m, small, wide, head_light j)))
+]
+  where
+    none : (n : ℕ) → q ≤ n → n * b < b → q ≤ 1
+    none zero le lt = omega (arith, le)
+    none (suc n) le lt = absurd (let d : suc n * b ≡ n * b + b = omega arith in omega (arith, d, lt))
 
 -- a segment without blocks has room for one
 pub first_fits : (b q : ℕ) (s : Segment) (long : ℕ) (k : RunKind) → 4 ≤ b → SoundSegment b long s → is_fresh s.placer.kind ≡ true → 0 < q → q ≤ cap_of (tail_of_open s.placer.kind) (s.limit - s.weight) b → gain_of (tail_of_open s.placer.kind) k q b ≤ s.limit - s.weight

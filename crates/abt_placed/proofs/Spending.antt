@@ -1,5 +1,5 @@
 -- What a window of a source costs, in plain numbers.
-use Rattle.std.proofs.Common.{◌≡◌, ℕ, ◌+◌, ◌-◌, ◌*◌, ◌<◌, ◌≤◌, min, max, arith, mul-le-mul_right, ◌/◌}
+use Rattle.std.proofs.Common.{◌≡◌, ℕ, ◌+◌, ◌-◌, ◌*◌, ◌<◌, ◌≤◌, min, arith, mul-le-mul_right, ◌/◌}
 use Rattle.abt_placed.specs.Whole.{read_of, spare}
 use Rattle.abt_placed.proofs.Costs.{window, half, spare_none, spare_most}
 
@@ -28,6 +28,10 @@ pub record Read (i a b len n want got given given' reads reads' t t' : ℕ) : Ty
   pub gives : given' ≡ given + got
   pub calls : reads' ≤ reads + got + 1
   pub turns : t' ≤ t + got + 1
+
+pub window_read : (i a b len n at want got given given' reads reads' t t' : ℕ) → at ≡ i * b → at < len → 0 < a → 4 ≤ b → want ≡ min (len - at) (a * b) → got ≡ want → i + a ≤ n → n * b < len + b → given' ≡ given + got → reads' ≤ reads + got + 1 → t' ≤ t + got + 1 → Read i a b len n want got given given' reads reads' t t'
+window_read i a b len n at want got given given' reads reads' t t' place below some four is all within last gives calls turns =
+    record { below = rw place at below; some = some; four = four; is = rw place at is; all = all; within = within; last = last; gives = gives; calls = calls; turns = turns }
 
 pub read_costs : (i a b len n want got given given' reads reads' writes writes' long long' t t1 t2 t' : ℕ) → Read i a b len n want got given given' reads reads' t t1 → t2 ≡ t1
     → writes' + long ≤ writes + long' + 14 * a → t' + long ≤ t2 + long' + a * (b / 2 + 17) → Spent i b len given given' reads reads' writes writes' long long' t t'
@@ -81,12 +85,6 @@ broken_costs i b len at want room got given given' reads reads' writes long t t1
 
 pub few_got : (got want x room : ℕ) → got ≤ want → want ≡ min x room → room ≤ 65536 → got ≤ 65536
 few_got got want x room few is fits = omega (arith, few, is, fits)
-
-pub received_on : (given given' got s s1 s2 s3 : ℕ) → given' ≡ given + got → s1 ≡ s → s2 ≡ s1 + 1 → s3 ≡ s2 → got ≤ 65536 → given' + 65536 * s ≤ given + 65536 * s3
-received_on given given' got s s1 s2 s3 e a b d few = omega (arith, e, a, b, d, few)
-
-pub greatest_on : (x x1 x2 x3 got : ℕ) → x1 ≡ x → x2 ≡ max x1 got → x3 ≡ x2 → got ≤ 65536 → x3 ≤ max x 65536
-greatest_on x x1 x2 x3 got a b d few = omega (arith, a, b, d, few)
 
 pub last_on : (x y given given' got : ℕ) → x ≤ y → given' ≡ given + got → got ≤ 65536 → given' + x ≤ given + y + 65536
 last_on x y given given' got le e few = omega (arith, le, e, few)

@@ -1,13 +1,15 @@
 -- What a call leaves in an output, and what it costs.
 use Rattle.std.specs.Prelude.{◌≡◌, ◌+◌, ◌≤◌, ◌<◌, ◌⊎◌, ℕ, Bool, IsTrue, List, length, take, drop, Result, OnOk, OnErr}
-use Rattle.std.specs.Prelude.{IsErrOf}
+use Rattle.std.specs.Prelude.{IsErrOf, IfErr, ◌*◌, max}
 use Rattle.abt_io.specs.Count.{full_of}
-use Rattle.abt_io.specs.Frame.{WriteFrame}
+use Rattle.abt_io.specs.Frame.{PartitionFrame, WriteFrame}
 use Rattle.abt_io.specs.declared.device.DeviceFault.{DeviceFault}
 use Rattle.abt_io.specs.declared.device.DeviceFault.TheVariants.{Full}
 use Rattle.abt_io.specs.declared.device.Output as outputs
+use Rattle.abt_io.specs.declared.device.Source as sources
 use Rattle.abt_io.specs.declared.meter.Meter.{Meter}
 use Rattle.abt_pieces.specs.declared.fault.PieceFault.{PieceFault}
+use Rattle.abt_pieces.specs.Fault.{HasCause, full_cut}
 use Rattle.abt_placed.specs.Unfinished.{IsNoImage}
 
 -- what is known of an output and of a meter, beside the bytes
@@ -49,6 +51,40 @@ pub record Writes {X : Type 0} (r : Result X DeviceFault) (k j : ℕ) (a z : Sta
   pub turns : z.turns + a.long ≤ a.turns + z.long + j
   pub steps : z.steps ≡ a.steps
   pub greatest : z.greatest ≡ a.greatest
+
+-- what is known of a source, an output and a meter
+pub record Scene : Type 0 where
+  pub content : List ℕ
+  pub frame : PartitionFrame
+  pub given : ℕ
+  pub faults : ℕ
+  pub output : Stand
+
+abbrev pub scene : {A B : Type 0} → sources.Ghosts A → outputs.Ghosts B → A → B → Meter → Scene
+scene s o source output m = record {
+  content = s.content source;
+  frame = s.read_frame source;
+  given = s.given source;
+  faults = s.read_faults source;
+  output = stand o output m;
+}
+
+-- A call that lays what it reads: no step receives more than a window, and it is answered r, Ok where neither device
+-- has failed, and else with the reason.
+pub record LaysOn {X : Type 0} (r : Result X PieceFault) (tells : Bool) (a z : Scene) : Type 0 where
+  pub content : IsTrue tells → z.content ≡ a.content
+  pub read_frame : z.frame ≡ a.frame
+  pub write_frame : z.output.frame ≡ a.output.frame
+  pub grown : a.output.long ≤ z.output.long
+  pub given : a.given ≤ z.given
+  pub received : z.given + 65536 * a.output.steps ≤ a.given + 65536 * z.output.steps
+  pub greatest : z.output.greatest ≤ max a.output.greatest 65536
+  pub faults : a.faults ≤ z.faults
+  pub write_faults : a.output.faults ≤ z.output.faults
+  pub clean : OnOk r ((z.faults ≡ a.faults) × (z.output.faults ≡ a.output.faults))
+  pub full_faults : z.output.full_faults ≡ a.output.full_faults + full_cut r
+  pub full : full_cut r ≡ 1 → IsTrue z.output.is_full
+  pub cause : IfErr r (λ e. HasCause e tells a.faults z.faults a.output.faults z.output.faults)
 
 -- Nothing is taken back. What stood in the output stays, and where the call is refused, nothing stands behind it, or
 -- what is no image whatever follows it.

@@ -30,9 +30,6 @@ pub record SoundPlacer (b long : ℕ) (s : Placer) : Type 0 where
 
 -- ---- a placer that goes on
 
-abbrev pub first_placer : ℕ → ℕ → Placer
-first_placer at r = record { front = at; most = r; chunks = 0; blocks = 0; kind = kinds.End; count = 0 }
-
 -- with the open chunk whole
 abbrev pub closed_as : RunKind → Placer → Placer
 closed_as kinds.End s = s

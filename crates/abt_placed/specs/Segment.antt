@@ -1,6 +1,6 @@
 -- The segment of a piece that is laid in one pass: its numbers, and what stands of it.
-use Rattle.std.specs.Prelude.{◌≡◌, ℕ, ◌+◌, ◌-◌, ◌*◌, ◌^◌, ◌≤◌, ◌<◌, Bool, true, false, IsTrue, List, [], ◌∷◌, ◌++◌, drop}
-use Rattle.std.specs.Prelude.{⊤}
+use Rattle.std.specs.Prelude.{◌≡◌, ℕ, ◌+◌, ◌-◌, ◌*◌, ◌^◌, ◌≤◌, ◌<◌, Bool, true, false, IsTrue, List, [], ◌∷◌, ◌++◌}
+use Rattle.std.specs.Prelude.{drop, ⊤}
 use Rattle.std.specs.List.{AllByRecursion}
 use Rattle.abt_sparse.specs.Block.{Block, Raw, Fill, Skip, classify}
 use Rattle.abt_sparse.specs.Runs.{weight}

@@ -1,6 +1,6 @@
 //! Cutting a raw image into pieces, each in one pass over its segment.
-ghost use Rattle.std.specs.Prelude.{◌≡◌, ◌<◌, ◌≤◌, ◌+◌, ◌-◌, ◌*◌, ◌^◌, IsTrue, IfOk, IfErr, IfSome, IfNone};
-ghost use Rattle.std.specs.Prelude.{OnOk, OnErr, Err, length, take, drop, max, false, ◌⊎◌};
+ghost use Rattle.std.specs.Prelude.{◌≡◌, ◌<◌, ◌≤◌, ◌+◌, ◌-◌, ◌*◌, ◌^◌, IsTrue, IfOk, IfErr, IfSome, IfNone, OnErr};
+ghost use Rattle.std.specs.Prelude.{Err, length, take, drop, false, ◌⊎◌};
 ghost use Rattle.abt_sparse.specs.Block.{classify};
 ghost use Rattle.abt_runs.specs.Raw.{RawPlace};
 ghost use Rattle.abt_pieces.specs.Cutter.{SoundOutline, ToldCutter, is_begun, has_failed};
@@ -9,7 +9,7 @@ ghost use Rattle.abt_pieces.specs.Image.{Appended, IsImage};
 ghost use Rattle.abt_pieces.specs.declared.stage.Stage.{Stage};
 ghost use Rattle.abt_placed.specs.Piece.{WholePiece};
 ghost use Rattle.abt_pieces.specs.Calls.{Costs, Failing, devices};
-ghost use Rattle.abt_placed.specs.Calls.{Grows};
+ghost use Rattle.abt_placed.specs.Calls.{Grows, LaysOn, scene};
 ghost use Rattle.abt_pieces.specs.NextPiece.{IsNext, LaidNext, SameCutter};
 ghost use Rattle.abt_placed.specs.Segment.{IsUncut};
 ghost use Rattle.abt_placed.specs.Unfinished.{IsUnfinished};
@@ -37,9 +37,8 @@ pub(crate) fn lay_piece<S: Source, O: Overwrite>(
     requires small { 12 + most * runs.now.size < 2 ^ 32 }
     requires limit { 64 + runs.now.size ≤ limit }
     requires opened { IsTrue S.tells → runs.now.length ≡ length (S.content source.old) }
-    ensures content { IsTrue S.tells → S.content source.new ≡ S.content source.old }
-    ensures frame { S.read_frame source.new ≡ S.read_frame source.old }
-    ensures write_frame { O.write_frame output.new ≡ O.write_frame output.old }
+    ensures lays { LaysOn result S.tells (scene S.Source O.Output source.old output.old m.old)
+        (scene S.Source O.Output source.new output.new m.new) }
     ensures sound { IsUncut runs.now.size limit most → IfOk result (λ o. SoundOutline
         (λ c. RawPlace runs.now.blocks runs.now.size c) runs.now.blocks limit first o) }
     ensures reached { 2 ^ 49 ≤ limit → IfOk result (λ o. o.piece.past ≡ runs.now.blocks) }
@@ -58,10 +57,6 @@ pub(crate) fn lay_piece<S: Source, O: Overwrite>(
         length (O.written output.new) + full_cut result ≤ length (O.written output.old) + limit }
     ensures takes { IsUncut runs.now.size limit most → IfOk result (λ o. o.piece.bytes
         ≤ (o.piece.past - o.piece.first) * (runs.now.size + 16) + 80) }
-    ensures grown { length (O.written output.old) ≤ length (O.written output.new) }
-    ensures given { S.given source.old ≤ S.given source.new }
-    ensures received { S.given source.new + 65536 * m.old.steps.number
-        ≤ S.given source.old + 65536 * m.new.steps.number }
     ensures economy { S.given source.new + read_of runs.now.length runs.now.size first
         ≤ S.given source.old + runs.now.length }
     ensures least { IfOk result (λ o. S.given source.old + read_of runs.now.length runs.now.size o.piece.past
@@ -76,15 +71,6 @@ pub(crate) fn lay_piece<S: Source, O: Overwrite>(
     ensures going_turns { IfOk result (λ o. o.piece.past < runs.now.blocks → m.new.turns.number + length
         (O.written output.old) ≤ m.old.turns.number + length (O.written output.new) + 8 * (S.given source.new - S.given
         source.old) + 100) }
-    ensures greatest { m.new.greatest.number ≤ max m.old.greatest.number 65536 }
-    ensures faults { S.read_faults source.old ≤ S.read_faults source.new }
-    ensures write_faults { O.write_faults output.old ≤ O.write_faults output.new }
-    ensures clean { OnOk result ((S.read_faults source.new ≡ S.read_faults source.old) ×
-        (O.write_faults output.new ≡ O.write_faults output.old)) }
-    ensures full_faults { O.full_faults output.new ≡ O.full_faults output.old + full_cut result }
-    ensures full { full_cut result ≡ 1 → IsTrue (O.is_full output.new) }
-    ensures cause { IfErr result (λ e. HasCause e S.tells (S.read_faults source.old) (S.read_faults source.new)
-        (O.write_faults output.old) (O.write_faults output.new)) }
 {
     let front = output.position();
     match write_out(output, &[0; 28], m) {

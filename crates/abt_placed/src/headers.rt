@@ -1,6 +1,6 @@
 //! Headers that are laid when what they tell is known.
-ghost use Rattle.std.specs.Prelude.{◌≡◌, ◌<◌, ◌≤◌, ◌+◌, ◌*◌, ◌%◌, ◌^◌, IsTrue, OnOk, OnErr, IfErr, IsErrOf, length, drop};
-ghost use Rattle.std.specs.Prelude.{take, replicate, false};
+ghost use Rattle.std.specs.Prelude.{◌≡◌, ◌<◌, ◌≤◌, ◌+◌, ◌*◌, ◌%◌, ◌^◌, OnOk, OnErr, IfErr, length, drop, take};
+ghost use Rattle.std.specs.Prelude.{replicate, false};
 ghost use Rattle.abt_io.specs.Count.{full_of};
 ghost use Rattle.abt_io.specs.Moment.{put_at};
 ghost use Rattle.abt_sparse.specs.Chunk.{header_record, plain_header};

@@ -1,6 +1,6 @@
 //! Writing a raw image as a sparse one in one pass.
-ghost use Rattle.std.specs.Prelude.{◌≡◌, ℕ, ◌<◌, ◌≤◌, ◌+◌, ◌-◌, ◌*◌, ◌^◌, ◌++◌, IsTrue, IfOk, IfErr, OnOk};
-ghost use Rattle.std.specs.Prelude.{Err, length};
+ghost use Rattle.std.specs.Prelude.{◌≡◌, ℕ, ◌<◌, ◌≤◌, ◌+◌, ◌-◌, ◌*◌, ◌^◌, ◌++◌, IsTrue, IfOk, IfErr, OnOk, Err};
+ghost use Rattle.std.specs.Prelude.{length};
 ghost use Rattle.abt_sparse.specs.Block.{classify};
 ghost use Rattle.abt_sparse.specs.Chunk.{spelling, chunks_of};
 ghost use Rattle.abt_pieces.specs.Fault.{full_cut};

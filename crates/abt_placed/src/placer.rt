@@ -1,7 +1,7 @@
 //! What is held of an image that is laid in one pass: numbers alone.
 ghost use Rattle.std.specs.Prelude.{◌≡◌, ◌<◌, ◌≤◌, ◌+◌, ◌^◌, false};
 ghost use Rattle.abt_runs.specs.Part.{is_end};
-ghost use Rattle.abt_placed.specs.Placer.{first_placer, closed, goes_on, with_part, room_of};
+ghost use Rattle.abt_placed.specs.Placer.{closed, goes_on, with_part, room_of};
 
 use abt_runs::{RunKind, are_alike};
 
@@ -24,20 +24,6 @@ pub struct Placer {
 }
 
 impl Placer {
-    /// Before the first block, where the place of the image's header is kept.
-    pub fn begin(front: u64, most: u32) -> Placer
-        ensures { result ≡ first_placer front most }
-    {
-        Placer {
-            front,
-            most,
-            chunks: 0,
-            blocks: 0,
-            kind: RunKind::End,
-            count: 0,
-        }
-    }
-
     /// The same with the open chunk whole.
     pub(crate) fn and_closed(self) -> Placer
         requires within { self.blocks + self.count < 2 ^ 32 }

@@ -1,12 +1,11 @@
 //! The segment of a piece that is laid in one pass: it takes blocks as long as they fit within the limit.
-ghost use Rattle.std.specs.Prelude.{◌≡◌, ℕ, ◌<◌, ◌≤◌, ◌+◌, ◌-◌, ◌*◌, ◌/◌, ◌%◌, ◌^◌, ◌++◌, IsTrue, IfOk, IfErr, OnOk};
-ghost use Rattle.std.specs.Prelude.{OnErr};
-ghost use Rattle.std.specs.Prelude.{IsErrOf, List, [], length, take, drop, replicate, max, true, false};
+ghost use Rattle.std.specs.Prelude.{◌≡◌, ℕ, ◌<◌, ◌≤◌, ◌+◌, ◌-◌, ◌*◌, ◌/◌, ◌%◌, ◌^◌, ◌++◌, IsTrue, IfOk, OnOk, OnErr};
+ghost use Rattle.std.specs.Prelude.{List, [], length, take, drop, replicate, true, false};
 ghost use Rattle.abt_io.specs.Count.{full_of};
 ghost use Rattle.abt_sparse.specs.Block.{Block};
 ghost use Rattle.abt_sparse.specs.Runs.{framed};
 ghost use Rattle.abt_runs.specs.Part.{AllOf, is_end};
-ghost use Rattle.abt_pieces.specs.Fault.{HasCause, full_cut};
+ghost use Rattle.abt_pieces.specs.Fault.{full_cut};
 ghost use Rattle.abt_pieces.specs.Plan.{cap_of, gain_of};
 ghost use Rattle.abt_placed.specs.Placer.{room_of};
 ghost use Rattle.abt_placed.specs.Placed.{classes};
@@ -14,7 +13,7 @@ ghost use Rattle.abt_placed.specs.Whole.{taken, read_of, spare};
 ghost use Rattle.abt_placed.specs.Segment.{SoundSegment, LaidSegment, ToldSegment, EndedSegment, IsOver, IsUncut};
 ghost use Rattle.abt_placed.specs.Segment.{tail_of_open};
 ghost use Rattle.abt_placed.specs.Piece.{LaidPiece};
-ghost use Rattle.abt_placed.specs.Calls.{Writes, stand};
+ghost use Rattle.abt_placed.specs.Calls.{Writes, LaysOn, stand, scene};
 ghost use Rattle.abt_placed.specs.Unfinished.{IsUnfinished, KeepsFront};
 
 use crate::placer::Placer;
@@ -75,9 +74,12 @@ impl Segment {
         };
         Segment {
             placer: Placer {
+                front,
+                most,
+                chunks: 0,
+                blocks: 0,
                 kind,
                 count: first,
-                ..Placer::begin(front, most)
             },
             first,
             weight: 52,
@@ -109,12 +111,18 @@ impl Segment {
         requires some { 4 ≤ size }
         requires room { self.now.weight ≤ self.now.limit }
         requires most { 0 < self.now.placer.most }
+        requires small { 12 + self.now.placer.most * size < 2 ^ 32 }
         ensures some { 0 < result }
         ensures cap { result ≤ cap_of (tail_of_open self.now.placer.kind) (self.now.limit - self.now.weight) size }
         ensures room { result ≤ room_of self.now.placer }
     {
-        let room = (self.limit - self.weight).min(u32::MAX as u64);
-        raw_cap(&self.tail(), room, size).min(self.placer.room())
+        let room = self.limit - self.weight;
+        let most = self.placer.room();
+        // No raw chunk is longer than that.
+        if room > u32::MAX as u64 {
+            return most;
+        }
+        raw_cap(&self.tail(), room, size).min(most)
     }
 
     /// Takes blocks of one class, whose bytes these are, where they fit. True where they don't: then
@@ -245,9 +253,8 @@ impl Segment {
         requires within { taken self.old.placer ≤ runs.now.blocks }
         requires opened { IsTrue S.tells → runs.now.length ≡ length (S.content source.old) }
         requires told { ToldSegment S.tells (S.content source.old) runs.now.size (O.written output.old) self.old }
-        ensures content { IsTrue S.tells → S.content source.new ≡ S.content source.old }
-        ensures read_frame { S.read_frame source.new ≡ S.read_frame source.old }
-        ensures write_frame { O.write_frame output.new ≡ O.write_frame output.old }
+        ensures lays { LaysOn result S.tells (scene S.Source O.Output source.old output.old m.old)
+            (scene S.Source O.Output source.new output.new m.new) }
         ensures told { OnOk result (ToldSegment S.tells (S.content source.old) runs.now.size (O.written output.new)
             self.new) }
         ensures ended { IfOk result (λ d. d ≡ true → EndedSegment S.tells (S.content source.old) runs.now.size
@@ -258,14 +265,10 @@ impl Segment {
         ensures inside { OnOk result (taken self.new.placer ≤ runs.now.blocks) }
         ensures same { (self.new.placer.most ≡ self.old.placer.most) × (self.new.placer.front ≡ self.old.placer.front) ×
             (self.new.first ≡ self.old.first) × (self.new.limit ≡ self.old.limit) }
-        ensures grown { length (O.written output.old) ≤ length (O.written output.new) }
         ensures within { length (O.written output.new)
             ≤ self.old.placer.front + 28 + runs.now.blocks * (runs.now.size + 16) }
         ensures long { IsUncut runs.now.size self.old.limit self.old.placer.most →
             length (O.written output.new) + full_cut result ≤ self.old.placer.front + self.old.limit }
-        ensures given { S.given source.old ≤ S.given source.new }
-        ensures received { S.given source.new + 65536 * m.old.steps.number
-            ≤ S.given source.old + 65536 * m.new.steps.number }
         ensures economy { S.given source.new + read_of runs.now.length runs.now.size (taken self.old.placer)
             ≤ S.given source.old + runs.now.length }
         ensures once { IfOk result (λ d. d ≡ false → S.given source.new + read_of runs.now.length runs.now.size
@@ -292,15 +295,6 @@ impl Segment {
             + spare (runs.now.size + 14) runs.now.length runs.now.size (taken self.old.placer)
             ≤ m.old.turns.number + length (O.written output.new) + 7 * (S.given source.new - S.given source.old)
             + runs.now.size + 14 }
-        ensures greatest { m.new.greatest.number ≤ max m.old.greatest.number 65536 }
-        ensures faults { S.read_faults source.old ≤ S.read_faults source.new }
-        ensures write_faults { O.write_faults output.old ≤ O.write_faults output.new }
-        ensures clean { OnOk result ((S.read_faults source.new ≡ S.read_faults source.old) ×
-            (O.write_faults output.new ≡ O.write_faults output.old)) }
-        ensures full_faults { O.full_faults output.new ≡ O.full_faults output.old + full_cut result }
-        ensures full { full_cut result ≡ 1 → IsTrue (O.is_full output.new) }
-        ensures cause { IfErr result (λ e. HasCause e S.tells (S.read_faults source.old) (S.read_faults source.new)
-            (O.write_faults output.old) (O.write_faults output.new)) }
     {
         let from = self.placer.blocks + self.placer.count;
         if from == runs.blocks {
@@ -339,9 +333,8 @@ impl Segment {
         requires within { taken self.old.placer ≤ runs.now.blocks }
         requires opened { IsTrue S.tells → runs.now.length ≡ length (S.content source.old) }
         requires told { ToldSegment S.tells (S.content source.old) runs.now.size (O.written output.old) self.old }
-        ensures content { IsTrue S.tells → S.content source.new ≡ S.content source.old }
-        ensures read_frame { S.read_frame source.new ≡ S.read_frame source.old }
-        ensures write_frame { O.write_frame output.new ≡ O.write_frame output.old }
+        ensures lays { LaysOn result S.tells (scene S.Source O.Output source.old output.old m.old)
+            (scene S.Source O.Output source.new output.new m.new) }
         ensures told { OnOk result (ToldSegment S.tells (S.content source.old) runs.now.size (O.written output.new)
             self.new) }
         ensures ended { OnOk result (EndedSegment S.tells (S.content source.old) runs.now.size runs.now.blocks
@@ -351,14 +344,10 @@ impl Segment {
         ensures inside { OnOk result (taken self.new.placer ≤ runs.now.blocks) }
         ensures same { (self.new.placer.most ≡ self.old.placer.most) × (self.new.placer.front ≡ self.old.placer.front) ×
             (self.new.first ≡ self.old.first) × (self.new.limit ≡ self.old.limit) }
-        ensures grown { length (O.written output.old) ≤ length (O.written output.new) }
         ensures within { length (O.written output.new)
             ≤ self.old.placer.front + 28 + runs.now.blocks * (runs.now.size + 16) }
         ensures long { IsUncut runs.now.size self.old.limit self.old.placer.most →
             length (O.written output.new) + full_cut result ≤ self.old.placer.front + self.old.limit }
-        ensures given { S.given source.old ≤ S.given source.new }
-        ensures received { S.given source.new + 65536 * m.old.steps.number
-            ≤ S.given source.old + 65536 * m.new.steps.number }
         ensures economy { S.given source.new + read_of runs.now.length runs.now.size (taken self.old.placer)
             ≤ S.given source.old + runs.now.length }
         ensures least { OnOk result (S.given source.old + read_of runs.now.length runs.now.size (taken self.new.placer)
@@ -371,15 +360,6 @@ impl Segment {
         ensures turns { m.new.turns.number + length (O.written output.old)
             ≤ m.old.turns.number + length (O.written output.new) + 7 * (S.given source.new - S.given source.old)
             + runs.now.size + 14 }
-        ensures greatest { m.new.greatest.number ≤ max m.old.greatest.number 65536 }
-        ensures faults { S.read_faults source.old ≤ S.read_faults source.new }
-        ensures write_faults { O.write_faults output.old ≤ O.write_faults output.new }
-        ensures clean { OnOk result ((S.read_faults source.new ≡ S.read_faults source.old) ×
-            (O.write_faults output.new ≡ O.write_faults output.old)) }
-        ensures full_faults { O.full_faults output.new ≡ O.full_faults output.old + full_cut result }
-        ensures full { full_cut result ≡ 1 → IsTrue (O.is_full output.new) }
-        ensures cause { IfErr result (λ e. HasCause e S.tells (S.read_faults source.old) (S.read_faults source.new)
-            (O.write_faults output.old) (O.write_faults output.new)) }
     {
         loop {
             match self.step(runs, source, output, w, m) {

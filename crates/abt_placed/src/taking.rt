@@ -1,10 +1,9 @@
 //! Blocks that are taken, class by class, as they stand in the window.
-ghost use Rattle.std.specs.Prelude.{◌≡◌, ◌<◌, ◌≤◌, ◌+◌, ◌-◌, ◌*◌, ◌%◌, ◌^◌, ◌++◌, IsTrue, OnOk, OnErr, IsErrOf, List};
-ghost use Rattle.std.specs.Prelude.{length, take, drop, replicate, false};
+ghost use Rattle.std.specs.Prelude.{◌≡◌, ◌<◌, ◌≤◌, ◌+◌, ◌-◌, ◌*◌, ◌^◌, ◌++◌, OnOk, List, length, take, false};
 ghost use Rattle.abt_io.specs.Count.{full_of};
 ghost use Rattle.abt_sparse.specs.Block.{Block};
 ghost use Rattle.abt_runs.specs.Part.{AllOf, is_end};
-ghost use Rattle.abt_placed.specs.Placer.{SoundPlacer, open_len, closed, closing, beginning, taking, kept_for};
+ghost use Rattle.abt_placed.specs.Placer.{SoundPlacer, open_len, beginning, kept_for};
 ghost use Rattle.abt_placed.specs.Placer.{data_for, with_part, room_of, closing_len, beginning_len, taking_len};
 ghost use Rattle.abt_placed.specs.Placed.{Placed, classes, skips};
 ghost use Rattle.abt_placed.specs.Calls.{Writes, stand};

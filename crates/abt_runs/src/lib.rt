@@ -4,11 +4,11 @@
 //! Cutting and sparsing stand on one trait, [`BlockRuns`], and never see a chunk header: what is
 //! proved over it holds for sparse images (`sparse_format.h`) and for raw ones alike. Its contract
 //! for the layer above: there is one list of classed blocks; `next_part` and `next_run` give its
-//! blocks from a cursor on, `copy` the bytes of raw ones; and what is read is charged to what was
-//! passed, so that a whole pass reads at most the image (sparse) or twice it (raw), and copying all
-//! raw blocks at most the image, wherever it was broken off and taken up again. Several walks over
-//! one image join at `Earliest` places: behind a part that has blocks none is charged more than
-//! where another walk stands at that block or a later one.
+//! blocks from a cursor on, `next_raw` those that are known to be raw, `copy` the bytes of these;
+//! and what is read is charged to what was passed, so that a whole pass reads at most the image
+//! (sparse) or twice it (raw), and copying all raw blocks at most the image, wherever it was broken
+//! off and taken up again. Several walks over one image join at `Earliest` places: behind a part
+//! that has blocks none is charged more than where another walk stands at that block or a later one.
 //!
 //! The files, in reading order:
 //!

@@ -338,6 +338,27 @@ impl BlockRuns for RawRuns {
         })
     }
 
+    fn next_raw<S: Source>(
+        &mut self,
+        _source: &mut S,
+        from: Cursor,
+        cap: u32,
+        _w: &mut Window,
+        m: &mut Meter,
+    ) -> Result<Run, RunFault> {
+        m.close_step(0);
+        Ok(Run {
+            kind: RunKind::Raw,
+            blocks: cap,
+            here: Cursor { ask: 1, ..from },
+            next: Cursor {
+                block: from.block + cap,
+                ask: 1,
+                ..from
+            },
+        })
+    }
+
     fn copy<S: Source>(
         &mut self,
         source: &mut S,

@@ -166,6 +166,65 @@ pub trait BlockRuns {
         ensures clean { OnOk result (S.read_faults source.new ≡ S.read_faults source.old) }
         ensures cause { IfErr result (λ e. Caused e S.tells (S.read_faults source.old) (S.read_faults source.new)) };
 
+    /// The next part of a run that is known to be raw, of the `cap` blocks from a place on. It is
+    /// that of `next_part`, or all of them without a read, where the blocks' places need no header.
+    /// One step.
+    ///
+    /// It refuses as `next_part` does.
+    fn next_raw<S: Source>(
+        &mut self,
+        source: &mut S,
+        from: Cursor,
+        cap: u32,
+        w: &mut Window,
+        m: &mut Meter,
+    ) -> Result<Run, RunFault>
+        requires some { 0 < cap }
+        requires within { within self.old from }
+        requires inside { from.block + cap ≤ count self.old }
+        requires told { IsTrue S.tells → opened self.old (S.content source.old) ×
+            place self.old (S.content source.old) from }
+        requires raw { IsTrue S.tells →
+            AllOf RunKind.Raw (take cap (drop from.block (list self.old (S.content source.old)))) }
+        ensures same { self.new ≡ self.old }
+        ensures content { IsTrue S.tells → S.content source.new ≡ S.content source.old }
+        ensures frame { S.read_frame source.new ≡ S.read_frame source.old }
+        ensures part { IsTrue S.tells → IfOk result (λ r. PartOf (list self.old (S.content source.old)) from.block r) }
+        ensures place { IsTrue S.tells → IfOk result (λ r. place self.old (S.content source.old) r.next) }
+        ensures here_place { IsTrue S.tells → IfOk result (λ r. place self.old (S.content source.old) r.here) }
+        ensures stands { IsTrue S.tells →
+            IfOk result (λ r. r.kind ≡ RunKind.Raw → r.blocks ≤ together self.old (S.content source.old) r.here) }
+        ensures within { IfOk result (λ r. within self.old r.next) }
+        ensures here { IfOk result (λ r. (r.here.block ≡ from.block) × within self.old r.here ×
+            (charge self.old from ≤ charge self.old r.here)) }
+        ensures reached { IfOk result (λ r. r.kind ≡ RunKind.Raw → r.blocks * size self.old ≤ reach self.old r.here) }
+        ensures first { IsTrue S.tells →
+            IfOk result (λ r. 0 < r.blocks → Earliest (λ d. within self.old d × place self.old (S.content source.old) d)
+            (copied self.old) (charge self.old) r.next) }
+        ensures moved { IfOk result (λ r. r.next.block ≡ from.block + r.blocks) }
+        ensures capped { IfOk result (λ r. Capped cap r) }
+        ensures on { IfOk result (λ r. MovesOn (left self.old) from r) }
+        ensures stops { IfOk result (λ r. 0 < r.next.used → (r.kind ≡ RunKind.Raw) × (r.blocks ≡ cap)) }
+        ensures at_end { IfOk result (λ r. is_end r.kind ≡ true → (from.block ≡ count self.old) × (r.blocks ≡ 0)) }
+        ensures charged { IfOk result (λ r. S.given source.new + charge self.old from ≤ S.given source.old + charge
+            self.old r.next + entry from) }
+        ensures copies { IfOk result (λ r. r.kind ≡ RunKind.Raw →
+            copied self.old r.here + held self.old r.here (r.blocks * size self.old) ≤ copied self.old r.next) }
+        ensures onward { IfOk result (λ r. (copied self.old from ≤ copied self.old r.here) ×
+            (copied self.old r.here ≤ copied self.old r.next)) }
+        ensures given { S.given source.old ≤ S.given source.new }
+        ensures fetched { IfOk result (λ r. S.given source.new ≡ S.given source.old → r.blocks ≡ cap) }
+        ensures received { S.given source.new ≤ S.given source.old + 65536 }
+        ensures calls { S.reads source.new ≤ S.reads source.old + (S.given source.new - S.given source.old) + 2 }
+        ensures turns { m.new.turns.number
+            ≤ m.old.turns.number + 2 * (S.given source.new - S.given source.old) + 2 + padding self.old from }
+        ensures filled_up { IfOk result (λ r. 0 < padding self.old from → 0 < r.blocks) }
+        ensures steps { m.new.steps.number ≡ m.old.steps.number + 1 }
+        ensures greatest { m.new.greatest.number ≡ max m.old.greatest.number (S.given source.new - S.given source.old) }
+        ensures faults { S.read_faults source.old ≤ S.read_faults source.new }
+        ensures clean { OnOk result (S.read_faults source.new ≡ S.read_faults source.old) }
+        ensures cause { IfErr result (λ e. Caused e S.tells (S.read_faults source.old) (S.read_faults source.new)) };
+
     /// Bytes of the raw blocks that stand together at a place, from byte `at` of these on, by at
     /// most one read: how many came to the front of `out`, 0 only where `out` is empty. The call is
     /// one step: it ends with `close_step` of what was read. Bytes that no read gives, the zeros

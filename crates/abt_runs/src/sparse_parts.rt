@@ -348,6 +348,18 @@ impl BlockRuns for SparseRuns {
         }
     }
 
+    #[inline(always)]
+    fn next_raw<S: Source>(
+        &mut self,
+        source: &mut S,
+        from: Cursor,
+        cap: u32,
+        w: &mut Window,
+        m: &mut Meter,
+    ) -> Result<Run, RunFault> {
+        self.next_part(source, from, cap, w, m)
+    }
+
     fn copy<S: Source>(
         &mut self,
         source: &mut S,

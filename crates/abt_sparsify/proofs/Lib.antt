@@ -1,3 +1,2 @@
 pub mod Sparsing
 pub mod SparseSteps
-pub mod Images

@@ -3,7 +3,8 @@ ghost use Rattle.std.specs.Prelude.{◌≡◌, ◌<◌, ◌≤◌, ◌+◌, ◌-
 ghost use Rattle.abt_sparse.specs.Block.{classify};
 ghost use Rattle.abt_sparse.specs.Chunk.{spelling, chunks_of};
 ghost use Rattle.abt_pieces.specs.Fault.{HasCause};
-ghost use Rattle.abt_sparsify.specs.Sparsify.{chunks_in, with_run, no_runs};
+ghost use Rattle.abt_pieces.specs.Write.{chunks_in};
+ghost use Rattle.abt_sparsify.specs.Sparsify.{with_run, no_runs};
 
 use abt_io::{Meter, Source, Window};
 use abt_pieces::{Gatherer, PieceFault, copied_len, head_len, run_fault};

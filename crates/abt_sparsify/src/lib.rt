@@ -5,10 +5,10 @@
 //! pass counts them, and a second writes them.
 //!
 //! - `count`: the pass that counts;
-//! - `write`: the pass that writes, in steps that hold numbers alone;
+//! - `write`: the pass that writes, by the steps of the writer of pieces;
 //! - `image`: both, behind the header.
 //!
-//! `specs/Sparsify` says what is still to come at each step, `proofs/` why.
+//! `specs/Sparsify` says what is counted at each step, `proofs/` why.
 #![tactic(auto)]
 
 mod count;

@@ -1,6 +1,6 @@
-//! What a delivery of a thousand chunks reads and writes.
+//! What a delivery of a thousand chunks, or of a raw image, reads and writes.
 
-use abt_flash::{Delivered, deliver};
+use abt_flash::{Delivered, deliver, deliver_raw, deliver_raw_at};
 use abt_io::{Meter, SlicePartition, SliceSource, SliceSpool, Window};
 use test_data::counting::Counting;
 use test_data::vectors::{HEADER_OF_THOUSAND, ONE_RAW_BLOCK};
@@ -37,4 +37,46 @@ fn a_thousand_chunks_are_delivered_in_112_pieces(rt: HostRuntime) {
     // Eight times the image, and 128 bytes for each piece and once more.
     assert!(rt; source.handed <= 142_688);
     assert!(rt; cells == blocks);
+}
+
+#[test]
+fn a_raw_image_is_read_once_and_a_window_a_piece(rt: HostRuntime) {
+    let (_, blocks) = thousand();
+    let raw = &blocks[..4_000];
+    for is_once in [false, true] {
+        let mut source = Counting::new(SliceSource::new(raw));
+        let mut room = [0u8; 2_100];
+        let mut cells = [255u8; 4_002];
+        let mut spool = Counting::new(SliceSpool::new(&mut room));
+        let mut partition = SlicePartition::new(&mut cells);
+        let mut w = Window::new();
+        let mut m = Meter::new();
+        let answer = if is_once {
+            deliver_raw_at(
+                &mut source,
+                100,
+                2_100,
+                &mut spool,
+                &mut partition,
+                &mut w,
+                &mut m,
+            )
+        } else {
+            deliver_raw(
+                &mut source,
+                100,
+                2_100,
+                &mut spool,
+                &mut partition,
+                &mut w,
+                &mut m,
+            )
+        };
+        assert!(rt; answer == Ok(Delivered { pieces: 2 }));
+        assert!(rt; spool.handed == 4_104);
+        assert!(rt; cells == blocks);
+        // The second piece reads what the window of the first held behind it.
+        assert!(rt; is_once == (source.handed == 6_000));
+        assert!(rt; is_once == (source.handed < 8_000));
+    }
 }

@@ -1,13 +1,15 @@
-//! Raw images, delivered and resumed without a sparse image between.
+//! Raw images, delivered and resumed without a sparse image between, forward and in one pass.
 
 use abt_flash::FlashFault::{
     BadBlock, LimitTooSmall, NoSuchPiece, PartitionTooSmall, SourceChanged, Stopped, TooLarge,
 };
-use abt_flash::{Cause, Delivered, FlashFault, deliver_raw, resume_raw};
-use abt_io::{Long, Meter, SlicePartition, SliceSource, SliceSpool, Window};
+use abt_flash::{
+    Cause, Delivered, FlashFault, deliver_raw, deliver_raw_at, resume_raw, resume_raw_at,
+};
+use abt_io::{DeviceFault, Faulty, Long, Meter, SlicePartition, SliceSource, SliceSpool, Window};
 use test_data::counting::Counting;
 use test_data::standing::holds;
-use test_data::vectors::{MIXED, MIXED_SECOND, OVER_MIXED};
+use test_data::vectors::{MIXED, MIXED_FIRST, MIXED_SECOND, OVER_MIXED};
 
 type Answer = Result<Delivered, FlashFault>;
 
@@ -81,6 +83,43 @@ fn delivered(
     (answer, spool.taken)
 }
 
+/// The same in one pass over the source: the answer.
+fn delivered_at(
+    bytes: &[u8],
+    claims: u64,
+    block: u32,
+    from: u32,
+    room: &mut [u8; 88],
+    cells: &mut [u8],
+) -> Answer {
+    let mut source = Long::new(SliceSource::new(bytes), claims);
+    let mut spool = Counting::new(SliceSpool::new(room));
+    let mut partition = SlicePartition::new(cells);
+    let mut w = Window::new();
+    let mut m = Meter::new();
+    if from == 0 {
+        return deliver_raw_at(
+            &mut source,
+            block,
+            88,
+            &mut spool,
+            &mut partition,
+            &mut w,
+            &mut m,
+        );
+    }
+    resume_raw_at(
+        &mut source,
+        block,
+        88,
+        from,
+        &mut spool,
+        &mut partition,
+        &mut w,
+        &mut m,
+    )
+}
+
 fn is_right(row: &Row) -> bool {
     let (has, claims, block, from, long, want, spooled, stands) = *row;
     let mut room = [0u8; 88];
@@ -92,6 +131,79 @@ fn is_right(row: &Row) -> bool {
         && given == spooled
         && holds(&cells, stands)
         && (answer.is_err() || has == 0 || room.starts_with(&MIXED_SECOND))
+}
+
+/// Whether one pass answers and leaves what the forward way does: on the partition, and of an Ok in the spool.
+fn is_the_same_in_one_pass(row: &Row) -> bool {
+    let (has, claims, block, from, long, want, _, stands) = *row;
+    let mut room = [0u8; 88];
+    let mut cells = [b'.'; 32];
+    let bytes = &MIXED[..has.min(18)];
+    let answer = delivered_at(
+        bytes,
+        claims,
+        block,
+        from,
+        &mut room,
+        &mut cells[..long.min(32)],
+    );
+    answer == want
+        && holds(&cells, stands)
+        && (answer.is_err() || has == 0 || room.starts_with(&MIXED_SECOND))
+}
+
+/// Delivers `MIXED` in one pass over it where call `n` of the spool fails, at 0 none: the answer, and how many calls it
+/// had.
+fn where_the_spool_fails(n: u64, room: &mut [u8; 88]) -> (Answer, u64) {
+    let mut cells = [b'.'; 32];
+    let mut source = SliceSource::new(&MIXED);
+    let mut spool = Faulty::new(SliceSpool::new(room), n);
+    let mut partition = SlicePartition::new(&mut cells);
+    let mut w = Window::new();
+    let mut m = Meter::new();
+    let answer = deliver_raw_at(
+        &mut source,
+        8,
+        88,
+        &mut spool,
+        &mut partition,
+        &mut w,
+        &mut m,
+    );
+    (answer, spool.seen)
+}
+
+/// Whether the spool holds a whole piece, or no magic number in front.
+fn holds_no_part(room: &[u8; 88]) -> bool {
+    room.starts_with(&MIXED_FIRST)
+        || room.starts_with(&MIXED_SECOND)
+        || !room.starts_with(&MIXED_FIRST[..4])
+}
+
+#[test]
+fn a_failing_spool_is_left_without_a_part_of_an_image(rt: HostRuntime) {
+    let mut room = [0u8; 88];
+    let (answer, calls) = where_the_spool_fails(0, &mut room);
+    assert!(rt; answer == Ok(Delivered { pieces: 2 }));
+    assert!(rt; calls > 12);
+    for n in 1..calls.saturating_add(1) {
+        let mut room = [0u8; 88];
+        let stopped = match where_the_spool_fails(n, &mut room).0 {
+            Err(Stopped { cause, .. }) => {
+                cause == Cause::SpoolWrite(DeviceFault::Failed)
+                    || cause == Cause::SpoolRead(DeviceFault::Failed)
+            }
+            _ => false,
+        };
+        assert!(rt; stopped && holds_no_part(&room), "call {n}");
+    }
+}
+
+#[test]
+fn one_pass_answers_and_leaves_the_same(rt: HostRuntime) {
+    for (i, row) in ROWS.iter().enumerate() {
+        assert!(rt; is_the_same_in_one_pass(row), "row {i}");
+    }
 }
 
 #[test]

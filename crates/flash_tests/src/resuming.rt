@@ -1,30 +1,45 @@
 //! A stop at each write, a crash, and resuming from each piece up to the one that was stopped.
 
-use abt_flash::{Delivered, FlashFault, deliver, deliver_raw, resume, resume_raw};
+use abt_flash::{
+    Delivered, FlashFault, deliver, deliver_raw, deliver_raw_at, resume, resume_raw, resume_raw_at,
+};
 use abt_io::{CrashPartition, Faulty, Meter, Pick, SliceSource, SliceSpool, Window};
 use test_data::vectors::{MIXED, NO_GAP};
 
 const PICKS: [Pick; 3] = [Pick::Old, Pick::New, Pick::Byte(0x5A)];
 
+/// From a sparse image, or from a raw one: forward, or in one pass over it.
+#[derive(Clone, Copy, PartialEq, Drop)]
+enum Way {
+    Sparse,
+    Raw,
+    Once,
+}
+
 /// What is delivered, and over what.
 #[derive(Clone, Copy, Drop)]
 struct Job {
-    is_raw: bool,
+    way: Way,
     /// How many pieces it has.
     pieces: u32,
     /// What it leaves of dots, of which the last are no image's.
     leaves: &'static [u8; 32],
 }
 
-/// `NO_GAP` in pieces of at most 68 bytes, and the raw `MIXED` in blocks of 8 and pieces of at most 88.
-const JOBS: [Job; 2] = [
+/// `NO_GAP` in pieces of at most 68 bytes, and the raw `MIXED` in blocks of 8 and pieces of at most 88, both ways.
+const JOBS: [Job; 3] = [
     Job {
-        is_raw: false,
+        way: Way::Sparse,
         pieces: 3,
         leaves: b"ABCD\x04\x03\x02\x01WXYZ....................",
     },
     Job {
-        is_raw: true,
+        way: Way::Raw,
+        pieces: 2,
+        leaves: b"AAAAAAAAABCDEFGHIJ\0\0\0\0\0\0........",
+    },
+    Job {
+        way: Way::Once,
         pieces: 2,
         leaves: b"AAAAAAAAABCDEFGHIJ\0\0\0\0\0\0........",
     },
@@ -42,15 +57,19 @@ fn stopped(
     let mut room = [0u8; 88];
     let mut stable = [0u8; 32];
     let mut touched = [0u8; 32];
-    let image: &[u8] = if job.is_raw { &MIXED } else { &NO_GAP };
+    let image: &[u8] = if job.way == Way::Sparse {
+        &NO_GAP
+    } else {
+        &MIXED
+    };
     let mut source = SliceSource::new(image);
     let mut spool = SliceSpool::new(&mut room);
     let mut partition = Faulty::new(CrashPartition::new(now, &mut stable, &mut touched), n);
     let mut w = Window::new();
     let mut m = Meter::new();
-    let answer = match (job.is_raw, from) {
-        (false, 0) => deliver(&mut source, 68, &mut spool, &mut partition, &mut w, &mut m),
-        (false, from) => resume(
+    let answer = match (job.way, from) {
+        (Way::Sparse, 0) => deliver(&mut source, 68, &mut spool, &mut partition, &mut w, &mut m),
+        (Way::Sparse, from) => resume(
             &mut source,
             68,
             from.max(1),
@@ -59,7 +78,7 @@ fn stopped(
             &mut w,
             &mut m,
         ),
-        (true, 0) => deliver_raw(
+        (Way::Raw, 0) => deliver_raw(
             &mut source,
             8,
             88,
@@ -68,8 +87,29 @@ fn stopped(
             &mut w,
             &mut m,
         ),
-        (true, from) => {
+        (Way::Raw, from) => {
             resume_raw(
+                &mut source,
+                8,
+                88,
+                from.max(1),
+                &mut spool,
+                &mut partition,
+                &mut w,
+                &mut m,
+            )
+        }
+        (Way::Once, 0) => deliver_raw_at(
+            &mut source,
+            8,
+            88,
+            &mut spool,
+            &mut partition,
+            &mut w,
+            &mut m,
+        ),
+        (Way::Once, from) => {
+            resume_raw_at(
                 &mut source,
                 8,
                 88,
@@ -144,7 +184,7 @@ fn second_is_mended(job: Job, n: u64, pick: Pick) -> bool {
 #[test]
 fn a_stop_at_each_call_is_mended_from_each_piece_up_to_it(rt: HostRuntime) {
     for pick in PICKS.iter() {
-        for (job, calls) in JOBS.iter().zip([6, 5]) {
+        for (job, calls) in JOBS.iter().zip([6, 5, 5]) {
             // Each run is written once and each piece synced once.
             assert!(rt; stops(*job, 0, *pick, b"................................") == calls);
         }

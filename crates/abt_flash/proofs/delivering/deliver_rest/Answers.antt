@@ -323,9 +323,9 @@ returns-in-Err-clause-no_part g c late tells =
     let front = pieces_front most b all s (omega (arith, long, within)) in
     let order = i.order in
     let then : drop (made - first) (pieces_behind most b all first) ≡ pieces_left most b all s Between =
-        drop-drop (made - first) first (pieces most b all) ∙ ap (λ (n : ℕ). drop n (pieces most b all)) (let z : first + (made - first) ≡ made = omega (arith, order) in z) ∙ left in
+    drop-drop (made - first) first (pieces most b all) ∙ ap (λ (n : ℕ). drop n (pieces most b all)) (let z : first + (made - first) ≡ made = omega (arith, order) in z) ∙ left in
     let wrote = so_far (g.L.Output.written c.args.spool.now) (g.L.Output.written c.pieces.spool) (pieces_behind most b all first) (made - first)
-        (ap (λ (xs : List (List ℕ)). g.L.Output.written c.pieces.spool ++ concat xs) (then ∙ ap (λ (t : Stage). pieces_left most b all s t) (sym is)) ∙ i.written tells ∙ ap (λ (xs : List (List ℕ)). g.L.Output.written c.args.spool.now ++ concat xs) (sym all_of)) in
+    (ap (λ (xs : List (List ℕ)). g.L.Output.written c.pieces.spool ++ concat xs) (then ∙ ap (λ (t : Stage). pieces_left most b all s t) (sym is)) ∙ i.written tells ∙ ap (λ (xs : List (List ℕ)). g.L.Output.written c.args.spool.now ++ concat xs) (sym all_of)) in
     no_part_then _ _ _ (g.L.Spool.cuts c.deliver_piece.new.spool) _ (made - first) (piece_at b most all s) front.0 wrote (then ∙ front.1) (rw (i.runs, i.kept tells, i.limit) at (c.deliver_piece.ensures.no_part late tells))
 
 -- ---- where a piece was stopped

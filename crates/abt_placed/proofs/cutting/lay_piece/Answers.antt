@@ -1,15 +1,15 @@
-use Rattle.std.proofs.Common.{◌≡◌, ◌∙◌, ◌+◌, ◌-◌, ◌*◌, ◌≤◌, ℕ, sym, refl, subst, inr, arith, length, take, replicate, ap}
-use Rattle.std.proofs.Math.Nat.{le_trans}
+use Rattle.std.proofs.Common.{false, ◌≡◌, ◌∙◌, ◌+◌, ◌-◌, ◌*◌, ◌≤◌, ℕ, sym, refl, subst, inr, arith, length, take, replicate, ap, Ok, Err}
 use Rattle.std.proofs.Math.Seq.{take-append_seam}
 use Rattle.abt_runs.specs.Raw.{RawPlace}
 use Rattle.abt_runs.specs.declared.part.Cursor.{Cursor}
-use Rattle.abt_pieces.proofs.Fronts.{says_full}
 use Rattle.abt_placed.specs.Whole.{taken}
 use Rattle.abt_placed.specs.Segment.{IsUncut}
 use Rattle.abt_placed.proofs.Costs.{block_read}
 use Rattle.abt_placed.proofs.Refusing.{broken_off, zeros_refused}
 use Rattle.abt_placed.proofs.Parts.{full_once, full_as}
 use Rattle.abt_placed.proofs.Pieces.{first_told, front_kept, all_kept, zeros_stay, unfinished_at, whole_piece, all_taken}
+use Rattle.abt_placed.specs.Calls.{Writes, stand, scene}
+use Rattle.abt_placed.proofs.Passing.{lays_then, lays_fault, lays_written, lays_unwritten}
 use Rattle.abt_placed.proofs.cutting.lay_piece.Goals as goal
 
 pub take_source-requires-clause-told : goal.take_source-requires-clause-told
@@ -38,10 +38,9 @@ returns-in-Err g c =
     let e = c.in-Err.ensures in
     let old = g.O.Output.written c.args.output.now in
     let new = g.O.Output.written c.write_out.new.output in
+    let first : Writes {X = Unit {0}} (Err c.in-Err.fault) 1 1 (stand g.O.Output c.args.output.now c.args.m.now) (stand g.O.Output c.write_out.new.output c.write_out.new.m) = record { grown = w.grown; frame = w.frame; faults = w.faults; clean = e.clean; cause = e.cause; full_faults = e.full_faults; full = e.full; calls = w.calls; turns = w.turns; steps = w.steps; greatest = w.greatest } in
     record {
-      content = λ tells. refl;
-      frame = refl;
-      write_frame = w.frame;
+      lays = lays_unwritten (scene g.S.Source g.O.Output c.args.source.now c.args.output.now c.args.m.now) _ first;
       sound = λ uncut. tt;
       reached = λ far. tt;
       next = tt;
@@ -53,22 +52,12 @@ returns-in-Err g c =
       within = omega (arith, w.within);
       long = λ uncut. omega (arith, w.within, c.requires.limit, full_once c.in-Err.fault);
       takes = λ uncut. tt;
-      grown = w.grown;
-      given = omega arith;
-      received = omega (arith, w.steps);
       economy = omega arith;
       least = tt;
       last = tt;
       calls = omega (arith, w.calls);
       turns = omega (arith, w.turns);
       going_turns = tt;
-      greatest = omega (arith, w.greatest);
-      faults = omega arith;
-      write_faults = w.faults;
-      clean = tt;
-      full_faults = e.full_faults;
-      full = λ h. w.full (rw c.in-Err.is (says_full _ h));
-      cause = e.cause;
     }
 
 -- the segment's blocks are not all taken
@@ -85,10 +74,9 @@ returns-in-Err-take_source g c =
     let old = g.O.Output.written c.args.output.now in
     let mid = g.O.Output.written c.write_out.new.output in
     let new = g.O.Output.written c.take_source.new.output in
+    let first : Writes {X = Unit {0}} (Ok tt) 1 1 (stand g.O.Output c.args.output.now c.args.m.now) (stand g.O.Output c.write_out.new.output c.write_out.new.m) = record { grown = w.grown; frame = w.frame; faults = w.faults; clean = kept.clean; cause = kept.cause; full_faults = kept.full_faults; full = λ says. absurd cc; calls = w.calls; turns = w.turns; steps = w.steps; greatest = w.greatest } in
     record {
-      content = t.content;
-      frame = t.read_frame;
-      write_frame = t.write_frame ∙ w.frame;
+      lays = lays_fault (lays_then {x = false} (lays_written (scene g.S.Source g.O.Output c.args.source.now c.args.output.now c.args.m.now) _ first) e.lays);
       sound = λ uncut. tt;
       reached = λ far. tt;
       next = tt;
@@ -100,22 +88,12 @@ returns-in-Err-take_source g c =
       within = omega (arith, t.within, b.front, place);
       long = λ uncut. let long = e.long (rw (b.limit, b.most) uncut) in omega (arith, long, b.front, b.limit, place);
       takes = λ uncut. tt;
-      grown = le_trans w.grown t.grown;
-      given = t.given;
-      received = omega (arith, t.received, w.steps);
       economy = rw b.taken at t.economy;
       least = tt;
       last = tt;
       calls = omega (arith, t.calls, w.calls);
       turns = omega (arith, t.turns, w.turns);
       going_turns = tt;
-      greatest = omega (arith, t.greatest, w.greatest);
-      faults = t.faults;
-      write_faults = le_trans w.faults t.write_faults;
-      clean = tt;
-      full_faults = omega (arith, e.full_faults, kept.full_faults);
-      full = e.full;
-      cause = rw kept.clean at e.cause;
     }
 
 -- the piece is not made whole
@@ -134,10 +112,9 @@ returns-in-Err-end g c =
     let new = g.O.Output.written c.end.new.output in
     let f = c.take_source.new.self.placer.front in
     let place = t.same.1 ∙ b.front ∙ c.position-front.ensures in
+    let first : Writes {X = Unit {0}} (Ok tt) 1 1 (stand g.O.Output c.args.output.now c.args.m.now) (stand g.O.Output c.write_out.new.output c.write_out.new.m) = record { grown = w.grown; frame = w.frame; faults = w.faults; clean = kept.clean; cause = kept.cause; full_faults = kept.full_faults; full = λ says. absurd cc; calls = w.calls; turns = w.turns; steps = w.steps; greatest = w.greatest } in
     record {
-      content = t.content;
-      frame = t.read_frame;
-      write_frame = n.writes.frame ∙ t.write_frame ∙ w.frame;
+      lays = lays_then (lays_then {x = false} (lays_written (scene g.S.Source g.O.Output c.args.source.now c.args.output.now c.args.m.now) _ first) all.lays) (lays_unwritten _ _ e.writes);
       sound = λ uncut. tt;
       reached = λ far. tt;
       next = tt;
@@ -149,22 +126,12 @@ returns-in-Err-end g c =
       within = omega (arith, n.within, place);
       long = λ uncut. let long = n.long (rw (t.same.3, b.limit, t.same.0, b.most) uncut) in omega (arith, long, full_as c.end.result c.in-Err-end.fault c.in-Err-end.is, all.sound.room, t.same.3, b.limit, place);
       takes = λ uncut. tt;
-      grown = le_trans w.grown (le_trans t.grown n.writes.grown);
-      given = t.given;
-      received = omega (arith, t.received, w.steps, n.writes.steps);
       economy = rw b.taken at t.economy;
       least = tt;
       last = tt;
       calls = omega (arith, t.calls, w.calls, n.writes.calls);
       turns = omega (arith, t.turns, w.turns, n.writes.turns);
       going_turns = tt;
-      greatest = omega (arith, t.greatest, w.greatest, n.writes.greatest);
-      faults = t.faults;
-      write_faults = le_trans w.faults (le_trans t.write_faults n.writes.faults);
-      clean = tt;
-      full_faults = omega (arith, e.writes.full_faults, all.full_faults, kept.full_faults);
-      full = λ h. n.writes.full (rw c.in-Err-end.is (says_full _ h));
-      cause = omega (arith, e.writes.cause, all.clean.1, kept.clean);
     }
 
 -- the piece is whole
@@ -189,10 +156,9 @@ returns g c =
     let short = λ (uncut : IsUncut r.size c.args.limit c.args.most). let y = n.long (rw (t.same.3, b.limit, t.same.0, b.most) uncut) in let z : (length new - length old) ≤ s.weight = omega (arith, y, place) in z in
     let light : s.weight ≤ 52 + (taken s.placer - c.args.first) * (r.size + 16) = rw (t.same.2, b.first) at all.sound.light in
     let least = rw b.taken at all.least in
+    let first : Writes {X = Unit {0}} (Ok tt) 1 1 (stand g.O.Output c.args.output.now c.args.m.now) (stand g.O.Output c.write_out.new.output c.write_out.new.m) = record { grown = w.grown; frame = w.frame; faults = w.faults; clean = kept.clean; cause = kept.cause; full_faults = kept.full_faults; full = λ says. absurd cc; calls = w.calls; turns = w.turns; steps = w.steps; greatest = w.greatest } in
     record {
-      content = t.content;
-      frame = t.read_frame;
-      write_frame = n.writes.frame ∙ t.write_frame ∙ w.frame;
+      lays = lays_then (lays_then {x = false} (lays_written (scene g.S.Source g.O.Output c.args.source.now c.args.output.now c.args.m.now) _ first) all.lays) (lays_written _ _ e.writes);
       sound = λ uncut. record {
         first = refl;
         past = refl;
@@ -200,23 +166,20 @@ returns g c =
         moves = λ less. omega (arith, all.ended.moves less, t.same.2, b.first);
         end = all.inside;
         within = next;
-        least = omega (arith, kept.all, t.grown, n.writes.grown);
+        least = omega (arith, kept.all, t.lays.grown, n.writes.grown);
         long = let long = short uncut in omega (arith, long, all.sound.room, t.same.3, b.limit);
       };
       reached = λ far. all_taken (taken s.placer) r.blocks s.limit all.inside all.ended.reached (omega (arith, far, t.same.3, b.limit));
       next = next;
       written = refl;
-      bytes = omega (arith, w.grown, t.grown, n.writes.grown);
+      bytes = omega (arith, w.grown, t.lays.grown, n.writes.grown);
       whole = whole_piece g.S.Source.tells (g.S.Source.content c.args.source.now) r.size r.length r.blocks c.args.limit c.args.most c.args.first (taken s.placer) c.end.new.self.placer.chunks old now (take f now) new s r.some r.covers r.last c.requires.opened all.sound all.told all.ended (t.same.2 ∙ b.first) refl (t.same.3 ∙ b.limit) all.inside
           (front_kept f c.begin-segment.result.placer.front old mid now place (sym t.same.1) kept.ok t.kept) (let l = e.laid all.told.blocks all.told.laid in rw (t.same.0, b.most) at l);
       before = all_kept f c.begin-segment.result.placer.front old mid now new place (sym t.same.1) kept.ok t.kept n.before;
       unfinished = tt;
       within = omega (arith, n.within, place);
-      long = λ uncut. let long = short uncut in omega (arith, long, w.grown, t.grown, n.writes.grown, all.sound.room, t.same.3, b.limit);
+      long = λ uncut. let long = short uncut in omega (arith, long, w.grown, t.lays.grown, n.writes.grown, all.sound.room, t.same.3, b.limit);
       takes = λ uncut. let long = short uncut in omega (arith, long, light);
-      grown = le_trans w.grown (le_trans t.grown n.writes.grown);
-      given = t.given;
-      received = omega (arith, t.received, w.steps, n.writes.steps);
       economy = rw b.taken at t.economy;
       least = least;
       last = rw b.taken at all.last;
@@ -225,11 +188,4 @@ returns g c =
       going_turns = λ less.
           let one = block_read c.args.first (taken s.placer) r.blocks r.size r.length _ _ (let z = all.ended.moves less in omega (arith, z, t.same.2, b.first)) less r.last least in
           omega (arith, t.turns, w.turns, n.writes.turns, one);
-      greatest = omega (arith, t.greatest, w.greatest, n.writes.greatest);
-      faults = t.faults;
-      write_faults = le_trans w.faults (le_trans t.write_faults n.writes.faults);
-      clean = (all.clean.0, e.writes.clean ∙ all.clean.1 ∙ kept.clean);
-      full_faults = omega (arith, e.writes.full_faults, all.full_faults, kept.full_faults);
-      full = λ h. absurd cc;
-      cause = tt;
     }

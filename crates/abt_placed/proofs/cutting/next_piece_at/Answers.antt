@@ -34,7 +34,7 @@ returns-in-Ok g c =
     let long : IsTrue g.S.Source.tells → r.blocks ≡ length l = λ tells. sym (raw_long r.length r.blocks r.size x r.some r.covers r.last (c.requires.opened tells)) in
     record {
       cutter = record { same_image = p.runs; same_limit = p.limit; unbegun = behind_unbegun _ _ _ behind };
-      grows = record { grown = q.grown; before = q.before; unfinished = tt };
+      grows = record { grown = q.lays.grown; before = q.before; unfinished = tt };
       piece = rw (p.piece, p.start) (record {
         passed = (behind_passed _ _ _ _ sound.moves behind);
         begins = sound.first;
@@ -51,16 +51,16 @@ returns-in-Ok g c =
         greatest = rw sound.first (o.whole.told tells).1;
       });
       costs = record {
-        given = q.given;
-        steps = q.received;
-        greatest = q.greatest;
-        calls = omega (arith, q.calls, q.given, q.grown);
-        turns = omega (arith, q.turns, q.given, q.grown);
+        given = q.lays.given;
+        steps = q.lays.received;
+        greatest = q.lays.greatest;
+        calls = omega (arith, q.calls, q.lays.given, q.lays.grown);
+        turns = omega (arith, q.turns, q.lays.given, q.lays.grown);
       };
-      failing = record { read = q.faults; write = q.write_faults; clean = o.clean };
-      content = q.content;
-      frame = q.frame;
-      write_frame = q.write_frame;
+      failing = record { read = q.lays.faults; write = q.lays.write_faults; clean = o.lays.clean };
+      content = q.lays.content;
+      frame = q.lays.read_frame;
+      write_frame = q.lays.write_frame;
       told = λ tells. rw (p.limit, p.made, p.start) (told_more _ _ (λ (d : Cursor). RawPlace r.blocks r.size d) _ r.blocks _ _ _ start u _ _ more (c.requires.told tells) sound (long tells) (o.whole.told tells).1 o.next behind.done behind.between);
       within = let long = q.long uncut in omega (arith, long);
       image = piece_image g.S.Source.tells x r.size r.blocks limit most start.block u.piece.past u.chunks old new (omega (arith, r.some), r.words, omega (arith, r.window)) c.most_raw-most.ensures.some c.most_raw-most.ensures.small r.fits o.whole;
@@ -74,7 +74,7 @@ returns-in-Ok g c =
       going_turns = rw p.piece o.going_turns;
       economy = q.economy;
       once = rw (p.piece, sound.first) o.last;
-      full_faults = λ h. o.full_faults;
+      full_faults = λ h. o.lays.full_faults;
       full = λ h e. absurd cc;
       cause = tt;
     }
@@ -88,21 +88,21 @@ returns-in-Err g c =
     let new = g.O.Output.written c.lay_piece.new.output in
     record {
       cutter = record { same_image = x.rest.0; same_limit = x.rest.1; unbegun = rw x.stage refl };
-      grows = record { grown = q.grown; before = q.before; unfinished = unfinished_refused old new c.in-Err.ensures.unfinished };
+      grows = record { grown = q.lays.grown; before = q.before; unfinished = unfinished_refused old new c.in-Err.ensures.unfinished };
       piece = tt;
       long = tt;
       laid = λ tells. tt;
       costs = record {
-        given = q.given;
-        steps = q.received;
-        greatest = q.greatest;
-        calls = omega (arith, q.calls, q.given, q.grown);
-        turns = omega (arith, q.turns, q.given, q.grown);
+        given = q.lays.given;
+        steps = q.lays.received;
+        greatest = q.lays.greatest;
+        calls = omega (arith, q.calls, q.lays.given, q.lays.grown);
+        turns = omega (arith, q.turns, q.lays.given, q.lays.grown);
       };
-      failing = record { read = q.faults; write = q.write_faults; clean = tt };
-      content = q.content;
-      frame = q.frame;
-      write_frame = q.write_frame;
+      failing = record { read = q.lays.faults; write = q.lays.write_faults; clean = tt };
+      content = q.lays.content;
+      frame = q.lays.read_frame;
+      write_frame = q.lays.write_frame;
       told = λ tells.
           let more : has_more c.args.cutter.now.stage ≡ true = search rules in
           rw (x.rest.1, x.rest.3, x.rest.2, x.stage) (told_failed _ _ _ _ _ _ c.args.cutter.now.start _ _ more (c.requires.told tells));
@@ -118,7 +118,7 @@ returns-in-Err g c =
       going_turns = tt;
       economy = q.economy;
       once = tt;
-      full_faults = λ h. rw x.fault c.in-Err.ensures.full_faults;
-      full = λ h e. let z = rw x.fault at e in let long = c.in-Err.ensures.long c.most_raw-most.ensures.uncut in (c.in-Err.ensures.full z, omega (arith, long, z));
-      cause = inr (rw x.fault c.in-Err.ensures.cause);
+      full_faults = λ h. rw x.fault c.in-Err.ensures.lays.full_faults;
+      full = λ h e. let z = rw x.fault at e in let long = c.in-Err.ensures.long c.most_raw-most.ensures.uncut in (c.in-Err.ensures.lays.full z, omega (arith, long, z));
+      cause = inr (rw x.fault c.in-Err.ensures.lays.cause);
     }

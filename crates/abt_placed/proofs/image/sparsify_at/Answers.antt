@@ -55,9 +55,9 @@ returns-in-Ok-lay_piece g c =
     let blocks = λ (tells : IsTrue g.S.Source.tells). image_blocks g.S.Source.tells x r.size r.length r.blocks 18446744073709551615 c.args.most u.piece.past u.chunks old new r.some r.covers r.last (omega (arith, e.opened)) tells all o.whole in
     let laid = o.whole.laid in
     record {
-      content = w.content;
-      frame = w.frame;
-      write_frame = w.write_frame;
+      content = w.lays.content;
+      frame = w.lays.read_frame;
+      write_frame = w.lays.write_frame;
       bad_block = λ bad. absurd (let own : IsRawSize r.size = (r.some, r.window, r.words) in bad (rw size at own));
       too_large = λ good large. absurd (few_blocks r.blocks c.args.block_size _ (rw size at r.covers) r.fits (rw e.size.1 large));
       blocks = (rw (size, e.size.1) at r.covers, rw (size, e.size.1) at r.last);
@@ -68,7 +68,7 @@ returns-in-Ok-lay_piece g c =
           let q = rw size at p in
           let z = rw size at w.within in
           omega (arith, q, z);
-      grows = record { grown = w.grown; before = w.before; unfinished = tt };
+      grows = record { grown = w.lays.grown; before = w.before; unfinished = tt };
       whole = λ tells. rw size at (laid.stands ∙ ap (λ (l : List Block). old ++ spelling r.size c.args.most l) (blocks tells));
       image = rw size at (piece_image g.S.Source.tells x r.size r.blocks 18446744073709551615 c.args.most 0 u.piece.past u.chunks old new (omega (arith, r.some), r.words, omega (arith, r.window)) c.requires.some (rw size c.requires.small) r.fits o.whole);
       economy = let read = rw e.size.1 at w.economy in omega (arith, read);
@@ -77,14 +77,14 @@ returns-in-Ok-lay_piece g c =
           let read : g.S.Source.given c.lay_piece.new.source ≡ g.S.Source.given c.args.source.now + r.length = omega (arith, whole, r.covers, w.economy, o.least) in
           rw e.size.1 at read;
       costs = record {
-        given = w.given;
-        steps = w.received;
-        greatest = w.greatest;
-        calls = omega (arith, w.calls, w.given, w.grown);
-        turns = let turns = rw size at w.turns in omega (arith, turns, w.given, w.grown);
+        given = w.lays.given;
+        steps = w.lays.received;
+        greatest = w.lays.greatest;
+        calls = omega (arith, w.calls, w.lays.given, w.lays.grown);
+        turns = let turns = rw size at w.turns in omega (arith, turns, w.lays.given, w.lays.grown);
       };
-      failing = record { read = w.faults; write = w.write_faults; clean = o.clean };
-      full_faults = o.full_faults;
+      failing = record { read = w.lays.faults; write = w.lays.write_faults; clean = o.lays.clean };
+      full_faults = o.lays.full_faults;
       full = λ h. absurd cc;
       cause = tt;
     }
@@ -100,9 +100,9 @@ returns-in-Err-lay_piece g c =
     let old = g.O.Output.written c.args.output.now in
     let new = g.O.Output.written c.lay_piece.new.output in
     record {
-      content = w.content;
-      frame = w.frame;
-      write_frame = w.write_frame;
+      content = w.lays.content;
+      frame = w.lays.read_frame;
+      write_frame = w.lays.write_frame;
       bad_block = λ bad. absurd (let own : IsRawSize r.size = (r.some, r.window, r.words) in bad (rw size at own));
       too_large = λ good large. absurd (few_blocks r.blocks c.args.block_size _ (rw size at r.covers) r.fits (rw e.size.1 large));
       blocks = tt;
@@ -113,20 +113,20 @@ returns-in-Err-lay_piece g c =
           let q = rw size at p in
           let z = rw size at w.within in
           omega (arith, q, z);
-      grows = record { grown = w.grown; before = w.before; unfinished = unfinished_refused old new x.unfinished };
+      grows = record { grown = w.lays.grown; before = w.before; unfinished = unfinished_refused old new x.unfinished };
       whole = λ tells. tt;
       image = tt;
       economy = let read = rw e.size.1 at w.economy in omega (arith, read);
       once = tt;
       costs = record {
-        given = w.given;
-        steps = w.received;
-        greatest = w.greatest;
-        calls = omega (arith, w.calls, w.given, w.grown);
-        turns = let turns = rw size at w.turns in omega (arith, turns, w.given, w.grown);
+        given = w.lays.given;
+        steps = w.lays.received;
+        greatest = w.lays.greatest;
+        calls = omega (arith, w.calls, w.lays.given, w.lays.grown);
+        turns = let turns = rw size at w.turns in omega (arith, turns, w.lays.given, w.lays.grown);
       };
-      failing = record { read = w.faults; write = w.write_faults; clean = tt };
-      full_faults = x.full_faults;
-      full = x.full;
-      cause = sparsify_causes (let r : Result Written PieceFault = Err c.in-Err-lay_piece.fault in r) _ _ _ _ _ _ _ x.cause;
+      failing = record { read = w.lays.faults; write = w.lays.write_faults; clean = tt };
+      full_faults = x.lays.full_faults;
+      full = x.lays.full;
+      cause = sparsify_causes (let r : Result Written PieceFault = Err c.in-Err-lay_piece.fault in r) _ _ _ _ _ _ _ x.lays.cause;
     }

@@ -1,7 +1,6 @@
 use Rattle.std.proofs.Common.{◌≡◌, ◌∙◌, arith, refl, IsTrue}
 use Rattle.abt_pieces.proofs.Fronts.{wrote_part, wrote_front, wrote_rest, front_join, whole_of, nothing_more, as_many, no_more, says_full, not_full, cause_unwritten, cause_since, unfilled_by, none_says}
-use Rattle.abt_sparsify.proofs.Images.{header_chunks}
-use Rattle.abt_sparsify.proofs.SparseSteps.{raw_blocks, header_first, unwritten}
+use Rattle.abt_sparsify.proofs.SparseSteps.{raw_blocks, header_first, header_chunks, unwritten}
 use Rattle.abt_sparsify.proofs.image.write_image.Goals as goal
 
 -- the counting has failed

@@ -14,7 +14,7 @@ use Rattle.abt_pieces.specs.declared.fault.PieceFault.TheVariants as faults
 use Rattle.abt_pieces.specs.declared.stage.PieceProgress.{PieceProgress}
 use Rattle.abt_pieces.specs.declared.stage.Stage.{Stage}
 use Rattle.abt_pieces.specs.declared.stage.Stage.TheVariants.{Between, Plan, Begin, Done, Failed, Write}
-use Rattle.abt_pieces.proofs.Fronts.{wrote_part, as_many, no_more, no_more_than, nothing_more, nothing_less, none_more, not_full, unfilled_by, none_says, cause_unwritten}
+use Rattle.abt_pieces.proofs.Fronts.{wrote_rest, wrote_part, as_many, no_more, no_more_than, nothing_more, nothing_less, none_more, not_full, unfilled_by, none_says, cause_unwritten}
 use Rattle.abt_pieces.proofs.Stepping.{begun_told, header_comes, first_left, plan_most}
 use Rattle.abt_pieces.proofs.SpendingStages.{outline_writes, plan_begins_spent, nothing_read, end_not}
 use Rattle.abt_sparse.specs.Chunk.{plain_header}
@@ -335,17 +335,41 @@ plan-requires-clause-told g c tells =
 pub returns-in-Ok-begin-clause-told : goal.returns-in-Ok-begin-clause-told
 returns-in-Ok-begin-clause-told g c tells =
     let e = c.begin-in-Begin.ensures in
-    let long = g.met.R.BlockRuns.long c.args.self.now.runs _ (c.requires.opened tells) in
+    let r = c.args.self.now.runs in
+    let long = g.met.R.BlockRuns.long r _ (c.requires.opened tells) in
+    let good = g.met.R.BlockRuns.are_blocks r _ (c.requires.opened tells) in
+    let size = g.met.R.BlockRuns.sized r in
+    let some : 0 < g.R.BlockRuns.size r = omega (arith, size.0) in
     let s = rw c.in-Begin.is at c.args.self.now.sound in
+    let room : 40 ≤ c.args.self.now.limit = omega (arith, s.granted) in
     let h = rw c.in-Begin.is at (c.requires.told tells) in
-    rw (e.rest.0, e.rest.1, e.rest.2, c.in-Ok-begin.ensures.stage) (begun_told _ _ _ (g.R.BlockRuns.count c.args.self.now.runs) _ _ _ c.args.self.now.start c.in-Begin.outline (sym long) s.stage.first h)
+    rw (e.rest.0, e.rest.1, e.rest.2, c.in-Ok-begin.ensures.stage) (begun_told _ _ _ (g.R.BlockRuns.count r) _ _ _ c.args.self.now.start c.in-Begin.outline (sym long) s.stage.first good some room s.stage.long h)
 
 pub returns-in-Ok-begin-clause-front : goal.returns-in-Ok-begin-clause-front
 returns-in-Ok-begin-clause-front g c tells =
-    let long = g.met.R.BlockRuns.long c.args.self.now.runs _ (c.requires.opened tells) in
+    let r = c.args.self.now.runs in
+    let long = g.met.R.BlockRuns.long r _ (c.requires.opened tells) in
+    let good = g.met.R.BlockRuns.are_blocks r _ (c.requires.opened tells) in
+    let size = g.met.R.BlockRuns.sized r in
+    let some : 0 < g.R.BlockRuns.size r = omega (arith, size.0) in
     let s = rw c.in-Begin.is at c.args.self.now.sound in
+    let room : 40 ≤ c.args.self.now.limit = omega (arith, s.granted) in
     let h = rw c.in-Begin.is at (c.requires.told tells) in
-    rw c.in-Begin.is (wrote_part _ _ _ _ _ c.begin-in-Begin.ensures.front (header_comes _ _ (g.R.BlockRuns.count c.args.self.now.runs) _ _ c.args.self.now.start c.in-Begin.outline (sym long) s.stage.first h.stage))
+    rw c.in-Begin.is (wrote_part _ _ _ _ _ c.begin-in-Begin.ensures.front (header_comes _ _ (g.R.BlockRuns.count r) _ _ c.args.self.now.start c.in-Begin.outline (sym long) s.stage.first good some room s.stage.long h.stage))
+
+pub returns-in-Ok-begin-clause-rest : goal.returns-in-Ok-begin-clause-rest
+returns-in-Ok-begin-clause-rest g c tells =
+    let e = c.begin-in-Begin.ensures in
+    let r = c.args.self.now.runs in
+    let long = g.met.R.BlockRuns.long r _ (c.requires.opened tells) in
+    let good = g.met.R.BlockRuns.are_blocks r _ (c.requires.opened tells) in
+    let size = g.met.R.BlockRuns.sized r in
+    let some : 0 < g.R.BlockRuns.size r = omega (arith, size.0) in
+    let s = rw c.in-Begin.is at c.args.self.now.sound in
+    let room : 40 ≤ c.args.self.now.limit = omega (arith, s.granted) in
+    let h = rw c.in-Begin.is at (c.requires.told tells) in
+    let whole = whole_header (plain_header (g.R.BlockRuns.size r) (g.R.BlockRuns.count r) c.in-Begin.outline.chunks) _ _ e.front c.in-Ok-begin.ensures.whole in
+    rw (c.in-Ok-begin.ensures.stage, c.in-Begin.is) (wrote_rest _ _ _ _ _ whole (header_comes _ _ (g.R.BlockRuns.count r) _ _ c.args.self.now.start c.in-Begin.outline (sym long) s.stage.first good some room s.stage.long h.stage))
 
 pub returns-in-Ok-begin-clause-goes_on : goal.returns-in-Ok-begin-clause-goes_on
 returns-in-Ok-begin-clause-goes_on g c =
@@ -355,30 +379,35 @@ returns-in-Ok-begin-clause-goes_on g c =
       same_place = e.rest.1;
       same_number = e.rest.2;
       counted = search rules;
-      left = rw (o.stage, c.in-Begin.is) (first_left (g.R.BlockRuns.left c.args.self.now.runs) (g.R.BlockRuns.count c.args.self.now.runs) c.args.self.now.start c.in-Begin.outline);
+      left = rw (o.stage, c.in-Begin.is) (first_left (g.R.BlockRuns.left c.args.self.now.runs) (g.R.BlockRuns.count c.args.self.now.runs) _ c.args.self.now.start c.in-Begin.outline);
       paid = search rules;
       words = search rules;
     }
 
 pub returns-in-Err-begin-clause-front : goal.returns-in-Err-begin-clause-front
 returns-in-Err-begin-clause-front g c tells =
-    let long = g.met.R.BlockRuns.long c.args.self.now.runs _ (c.requires.opened tells) in
+    let r = c.args.self.now.runs in
+    let long = g.met.R.BlockRuns.long r _ (c.requires.opened tells) in
+    let good = g.met.R.BlockRuns.are_blocks r _ (c.requires.opened tells) in
+    let size = g.met.R.BlockRuns.sized r in
+    let some : 0 < g.R.BlockRuns.size r = omega (arith, size.0) in
     let s = rw c.in-Begin.is at c.args.self.now.sound in
+    let room : 40 ≤ c.args.self.now.limit = omega (arith, s.granted) in
     let h = rw c.in-Begin.is at (c.requires.told tells) in
-    rw c.in-Begin.is (wrote_part _ _ _ _ _ c.begin-in-Begin.ensures.front (header_comes _ _ (g.R.BlockRuns.count c.args.self.now.runs) _ _ c.args.self.now.start c.in-Begin.outline (sym long) s.stage.first h.stage))
+    rw c.in-Begin.is (wrote_part _ _ _ _ _ c.begin-in-Begin.ensures.front (header_comes _ _ (g.R.BlockRuns.count r) _ _ c.args.self.now.start c.in-Begin.outline (sym long) s.stage.first good some room s.stage.long h.stage))
 
 pub returns-in-Ok-begin-clause-spends : goal.returns-in-Ok-begin-clause-spends
 returns-in-Ok-begin-clause-spends g c tells t spent =
     let s = rw c.in-Begin.is at c.args.self.now.sound in
     let h = rw c.in-Begin.is at spent in
-    rw (c.in-Ok-begin.ensures.stage) (nothing_read _ _ _ _ _ _ t _ c.in-Begin.outline _ (outline_writes _ _ _ _ _ _ c.args.self.now.start t c.in-Begin.outline s.stage.first h))
+    rw (c.in-Ok-begin.ensures.stage) (nothing_read _ _ _ _ _ _ t _ c.in-Begin.outline _ (outline_writes _ _ _ _ _ _ c.args.self.now.start t _ c.in-Begin.outline s.stage.first h))
 
 pub returns-in-Ok-begin-clause-leads : goal.returns-in-Ok-begin-clause-leads
 returns-in-Ok-begin-clause-leads g c =
     let e = c.begin-in-Begin.ensures in
     let size = g.met.R.BlockRuns.sized c.args.self.now.runs in
     let whole = whole_header (plain_header (g.R.BlockRuns.size c.args.self.now.runs) (g.R.BlockRuns.count c.args.self.now.runs) c.in-Begin.outline.chunks) _ _ e.front c.in-Ok-begin.ensures.whole in
-    rw (c.in-Ok-begin.ensures.stage, c.in-Begin.is) (header_leads _ _ c.args.self.now.start c.in-Begin.outline _ _ (omega (arith, size.0), size.1, e.fits.0) e.fits.1 e.fits.2 whole)
+    rw (c.in-Ok-begin.ensures.stage, c.in-Begin.is) (header_leads _ _ _ c.args.self.now.start c.in-Begin.outline _ _ (omega (arith, size.0), size.1, e.fits.0) e.fits.1 e.fits.2 whole)
 
 pub returns-in-Ok-begin-clause-costs : goal.returns-in-Ok-begin-clause-costs
 returns-in-Ok-begin-clause-costs g c =

@@ -31,7 +31,7 @@ returns-in-Ok-false g c =
         same_number = refl;
         counted = rw is (omega (arith, e.counted, a.costs.grown, s.rest));
         left = rw is (e.left test);
-        paid = let z = e.paid test in rw (is, a.segment.1) (omega (arith, z));
+        paid = let z = e.paid test in rw is (omega (arith, z));
         words = rw is (omega (arith, words));
       };
       within = rw is (omega (arith, a.within, a.costs.grown, s.rest, s.outline.long));

@@ -1,9 +1,10 @@
-use Rattle.std.proofs.Common.{arith, sym, ◌∙◌, ◌≡◌, ◌<◌, Some, None, refl, ◌-◌, Option, IsTrue}
+use Rattle.std.proofs.Common.{arith, sym, ap, ◌∙◌, ◌≡◌, ◌<◌, Some, None, refl, ◌-◌, Option, IsTrue}
+use Rattle.abt_runs.specs.declared.part.Cursor.{Cursor}
 use Rattle.abt_pieces.proofs.Fronts.{not_told, run_causes, run_not_full}
-use Rattle.abt_pieces.proofs.Going.{is_copying, some_of, next_sound, next_writer, write_copies, goes_on, next_next, next_going}
-use Rattle.abt_pieces.proofs.Counts.{segment_words, segment_top, writer_passes}
+use Rattle.abt_pieces.proofs.Going.{is_copying, some_of, next_sound, next_writer, write_copies, goes_on, next_keeps, raw_known}
+use Rattle.abt_pieces.proofs.Counts.{segment_words, segment_top, writer_passes, next_paid}
 use Rattle.abt_pieces.proofs.Spending.{spent_next}
-use Rattle.abt_pieces.proofs.Image.{part_comes, next_same}
+use Rattle.abt_pieces.proofs.Image.{part_comes}
 use Rattle.abt_pieces.proofs.write.Writer.next_raw.Goals as goal
 
 some_no_none : {A : Type 0} (x : A) → ◌≡◌ {A = Option A} (Some x) None → ⊥
@@ -12,10 +13,10 @@ some_no_none x h = absurd cc
 -- the source has failed
 pub returns-in-Err : goal.returns-in-Err
 returns-in-Err g c =
-    let n = c.next_part.ensures in
+    let n = c.next_raw.ensures in
     let self = c.args.self.now in
     let h = is_copying _ _ _ _ self c.args.copying c.requires.is c.requires.sound in
-    let low : c.args.copying.next.block < self.past = let z = goes_on _ _ _ _ _ _ _ c.args.copying h c.requires.whole in omega (arith, z, h.past) in
+    let low : c.args.copying.next.block < self.past = let z = goes_on _ _ _ _ _ _ _ c.args.copying h c.requires.whole c.requires.remains in omega (arith, z, h.past) in
     let p = g.met.R.BlockRuns.padded c.args.runs.now c.args.copying.next in
     let top = segment_top _ (g.R.BlockRuns.one c.args.runs.now) (g.R.BlockRuns.count c.args.runs.now) c.args.copying.next.block self.past p.0 p.1 low in
     let turns = n.turns in
@@ -25,15 +26,13 @@ returns-in-Err g c =
       frame = n.frame;
       sound = tt;
       told = λ tells. tt;
-      segment = (refl, refl);
+      segment = (refl, refl, refl);
       bytes = refl;
       rest = λ tells. tt;
       comes = tt;
       left = tt;
       given = n.given;
-      gatherer = refl;
-      fetched = tt;
-      charged = tt;
+      paid = tt;
       spends = λ tells d within place is fresh s t spent. tt;
       calls = n.calls;
       turns = omega (arith, top, turns);
@@ -50,49 +49,48 @@ returns-in-Err g c =
 -- the part goes on with the run
 pub returns-in-Some : goal.returns-in-Some
 returns-in-Some g c =
-    let n = c.next_part.ensures in
+    let n = c.next_raw.ensures in
     let e = c.in-Ok.ensures in
     let self = c.args.self.now in
     let one = g.R.BlockRuns.one c.args.runs.now in
     let count = g.R.BlockRuns.count c.args.runs.now in
     let h = is_copying _ _ _ _ self c.args.copying c.requires.is c.requires.sound in
-    let on = goes_on _ _ _ _ _ _ _ c.args.copying h c.requires.whole in
+    let on = goes_on _ _ _ _ _ _ _ c.args.copying h c.requires.whole c.requires.remains in
     let low : c.args.copying.next.block < self.past = omega (arith, on, h.past) in
     let p = g.met.R.BlockRuns.padded c.args.runs.now c.args.copying.next in
     let top = segment_top _ one count c.args.copying.next.block self.past p.0 p.1 low in
     let words = segment_words _ one count c.args.copying.next.block c.in-Ok.part.next.block c.in-Ok.part.blocks self.past p.0 p.1 e.filled_up e.moved low c.requires.sound.gathering.past in
     let turns = n.turns in
     let is = sym (rw c.block_size-size.ensures at c.and_part.ensures) ∙ c.in-Some.is in
-    let next = next_next c.args.copying c.in-Some.next c.in-Ok.part _ is in
-    let z = next_sound _ _ (g.R.BlockRuns.left c.args.runs.now) _ _ _ _ _ count c.args.copying c.in-Some.next c.in-Ok.part h c.requires.whole (omega (arith, c.requires.sound.gathering.room))
+    let kept = next_keeps c.args.copying c.in-Some.next c.in-Ok.part _ is in
+    let next = kept.0 in
+    let z = next_sound _ _ (g.R.BlockRuns.left c.args.runs.now) _ _ _ _ _ count c.args.copying c.in-Some.next c.in-Ok.part h c.requires.whole c.requires.remains (omega (arith, c.requires.sound.gathering.room))
     (record { next = e.moved; capped = e.capped.raw; within = e.within; here = (e.here.0, e.here.1); reached = e.reached; shorter = e.on; ended = λ q. (e.at_end q).0 }) is in
-    let x = λ (tells : IsTrue g.S.Source.tells). next_writer _ _ _ _ _ _ _ self c.args.copying c.in-Ok.part c.requires.is c.requires.sound (sym (g.met.R.BlockRuns.long c.args.runs.now _ (c.requires.opened tells))) (g.met.R.BlockRuns.are_blocks c.args.runs.now _ (c.requires.opened tells)) c.requires.whole (c.requires.told tells)
+    let x = λ (tells : IsTrue g.S.Source.tells). next_writer _ _ _ _ _ _ _ self c.args.copying c.in-Ok.part c.requires.is c.requires.sound (sym (g.met.R.BlockRuns.long c.args.runs.now _ (c.requires.opened tells))) (g.met.R.BlockRuns.are_blocks c.args.runs.now _ (c.requires.opened tells)) c.requires.whole c.requires.remains (c.requires.told tells)
     (e.part tells) (e.place tells) (e.here_place tells) e.here.0 (e.stands tells) e.capped.raw in
     record {
       same = n.same;
       content = n.content;
       frame = n.frame;
-      sound = record { gathering = c.requires.sound.gathering; copies = z.sound; small = c.requires.sound.small };
+      sound = record { gathering = c.requires.sound.gathering; copies = z.sound; most = c.requires.sound.most; small = c.requires.sound.small; fits = c.requires.sound.fits };
       told = λ tells.
           let y = x tells in
           let same = some_of y.0 c.in-Some.next (sym y.1 ∙ is) in
           let t = rw same at y.2.told in
           record { gathering = t.gathering; copies = t.copies; count = t.count; long = (let m : self.bytes ≡ self.bytes - 0 = omega arith in m) ∙ t.long };
-      segment = (refl, refl);
+      segment = (refl, refl, refl);
       bytes = refl;
       rest = λ tells.
           let y = x tells in
           let same = some_of y.0 c.in-Some.next (sym y.1 ∙ is) in
           rw same at y.2.rest;
-      comes = λ t come. part_comes _ _ self _ c.args.copying c.in-Some.next c.requires.is refl (next_same c.args.copying c.in-Some.next c.in-Ok.part _ is) refl refl t come;
-      left = write_copies _ _ _ _ refl refl (rw c.requires.is z.fewer);
+      comes = λ t come. part_comes _ _ self (record self { copying = Some c.in-Some.next }) c.args.copying c.in-Some.next c.requires.is refl kept.1 kept.2 refl refl t come;
+      left = write_copies _ _ self (record self { copying = Some c.in-Some.next }) refl refl (let y = z.fewer in rw c.requires.is (omega (arith, y)));
       given = n.given;
-      gatherer = refl;
-      fetched = e.fetched (next_going c.args.copying c.in-Some.next c.in-Ok.part _ is);
-      charged = rw next e.charged;
+      paid = next_paid count _ _ self (record self { copying = Some c.in-Some.next }) c.args.copying c.in-Some.next refl refl c.requires.is refl on n.given (λ none. let z = e.fetched none in let y = ap (λ (x : Cursor). x.block) next in omega (arith, z, y, e.moved, on));
       spends = λ tells d within place there fresh s t spent. record {
         gathering = spent.gathering;
-        copies = spent_next _ _ _ _ _ _ _ _ _ _ c.args.copying c.in-Some.next c.in-Ok.part on c.requires.whole
+        copies = spent_next _ _ _ _ _ _ _ _ _ _ c.args.copying c.in-Some.next c.in-Ok.part (omega (arith, on)) c.requires.whole
             (record { next = e.moved; charged = e.charged; onward = e.onward; copies = e.copies; stops = λ u. (e.stops u).1; first = e.first tells; grown = e.given }) is (rw c.requires.is at spent.copies);
       };
       calls = n.calls;
@@ -110,11 +108,11 @@ returns-in-Some g c =
 -- the source has changed
 pub returns-in-None : goal.returns-in-None
 returns-in-None g c =
-    let n = c.next_part.ensures in
+    let n = c.next_raw.ensures in
     let e = c.in-Ok.ensures in
     let self = c.args.self.now in
     let h = is_copying _ _ _ _ self c.args.copying c.requires.is c.requires.sound in
-    let low : c.args.copying.next.block < self.past = let z = goes_on _ _ _ _ _ _ _ c.args.copying h c.requires.whole in omega (arith, z, h.past) in
+    let low : c.args.copying.next.block < self.past = let z = goes_on _ _ _ _ _ _ _ c.args.copying h c.requires.whole c.requires.remains in omega (arith, z, h.past) in
     let p = g.met.R.BlockRuns.padded c.args.runs.now c.args.copying.next in
     let top = segment_top _ (g.R.BlockRuns.one c.args.runs.now) (g.R.BlockRuns.count c.args.runs.now) c.args.copying.next.block self.past p.0 p.1 low in
     let turns = n.turns in
@@ -124,15 +122,13 @@ returns-in-None g c =
       frame = n.frame;
       sound = tt;
       told = λ tells. tt;
-      segment = (refl, refl);
+      segment = (refl, refl, refl);
       bytes = refl;
       rest = λ tells. tt;
       comes = tt;
       left = tt;
       given = n.given;
-      gatherer = refl;
-      fetched = tt;
-      charged = tt;
+      paid = tt;
       spends = λ tells d within place is fresh s t spent. tt;
       calls = n.calls;
       turns = omega (arith, top, turns);
@@ -146,7 +142,17 @@ returns-in-None g c =
       cause = not_told _ (λ tells.
           let o = c.requires.opened tells in
           let is = sym (rw c.block_size-size.ensures at c.and_part.ensures) ∙ c.in-None.is in
-          let x = next_writer _ _ _ _ _ _ _ self c.args.copying c.in-Ok.part c.requires.is c.requires.sound (sym (g.met.R.BlockRuns.long c.args.runs.now _ o)) (g.met.R.BlockRuns.are_blocks c.args.runs.now _ o) c.requires.whole (c.requires.told tells)
+          let x = next_writer _ _ _ _ _ _ _ self c.args.copying c.in-Ok.part c.requires.is c.requires.sound (sym (g.met.R.BlockRuns.long c.args.runs.now _ o)) (g.met.R.BlockRuns.are_blocks c.args.runs.now _ o) c.requires.whole c.requires.remains (c.requires.told tells)
           (e.part tells) (e.place tells) (e.here_place tells) e.here.0 (e.stands tells) e.capped.raw in
           some_no_none x.0 (sym x.1 ∙ is));
     }
+
+pub next_raw-requires-clause-inside : goal.next_raw-requires-clause-inside
+next_raw-requires-clause-inside g c =
+    let self = c.args.self.now in
+    let h = is_copying _ _ _ _ self c.args.copying c.requires.is c.requires.sound in
+    omega (arith, h.until, h.past, c.requires.sound.gathering.past)
+
+pub next_raw-requires-clause-raw : goal.next_raw-requires-clause-raw
+next_raw-requires-clause-raw g c tells =
+    raw_known _ _ _ _ _ _ _ c.args.self.now c.args.copying c.requires.is c.requires.sound (sym (g.met.R.BlockRuns.long c.args.runs.now _ (c.requires.opened tells))) (c.requires.told tells)

@@ -1,17 +1,131 @@
-use Rattle.std.proofs.Common.{arith, sym, ◌≡◌, ◌≤◌, ◌+◌, ◌-◌, ◌*◌, ◌∙◌, true, refl}
+use Rattle.std.proofs.Common.{IsTrue, length, arith, sym, ◌≡◌, ◌≤◌, ◌+◌, ◌-◌, ◌*◌, ◌∙◌, true, refl}
 use Rattle.std.proofs.lemmas.Bool.{false≢true}
-use Rattle.abt_pieces.proofs.Fronts.{nothing_more, nothing_less, as_many, no_more, no_more_than, none_more, not_full, cause_unwritten, unfilled_by, none_says, whole_goes_not, whole_unfilled, whole_ended, whole_cause}
-use Rattle.abt_pieces.proofs.Going.{told_whole}
-use Rattle.abt_pieces.proofs.Counts.{writer_most, writer_looked, writer_passed}
-use Rattle.abt_pieces.proofs.Spending.{always_ok, spent_same, spent_whole}
-use Rattle.abt_pieces.proofs.Image.{leads_same, end_comes}
+use Rattle.abt_pieces.proofs.Fronts.{wrote_part, wrote_front, wrote_rest, chunk_cause, nothing_more, nothing_less, as_many, no_more, no_more_than, none_more, not_full, cause_unwritten, unfilled_by, none_says, whole_goes_not, whole_unfilled, whole_ended, whole_cause}
+use Rattle.abt_pieces.specs.Write.{chunk_opened}
+use Rattle.abt_pieces.proofs.Going.{told_whole, opened, opened_sound, write_copies}
+use Rattle.abt_pieces.proofs.Counts.{writer_most, writer_passed, open_paid, open_words}
+use Rattle.abt_pieces.proofs.Spending.{always_ok, spent_same, spent_whole, open_spent}
+use Rattle.abt_pieces.proofs.Image.{leads_same, end_comes, open_leads}
 use Rattle.abt_pieces.proofs.write.Writer.step.Goals as goal
 
--- the next part of the raw run
+-- the next chunk of the raw run
 pub returns-in-Ok : goal.returns-in-Ok
 returns-in-Ok g c =
-    let a = c.next_raw.ensures in
+    let self = c.args.self.now in
+    let r = c.args.runs.now in
+    let copying = c.in-Some.copying in
+    let b = c.open_chunk.ensures in
     let e = c.in-Ok.ensures in
+    let size = c.block_size-size.ensures in
+    let some = g.met.R.BlockRuns.sized r in
+    let shut = c.if-copying-eq0.true in
+    let ok = rw size at e.ok in
+    let room = rw size at e.room in
+    let written = rw size at e.written in
+    let z = λ (tells : IsTrue g.S.Source.tells). opened _ _ _ _ _ _ _ self copying c.in-Some.is (sym (g.met.R.BlockRuns.long r _ (c.requires.opened tells))) (g.met.R.BlockRuns.are_blocks r _ (c.requires.opened tells)) c.requires.sound (c.requires.told tells) shut in
+    let most = writer_most (g.R.BlockRuns.one r) (g.R.BlockRuns.count r) self in
+    let turns = b.turns in
+    let whole = e.whole in
+    record {
+      same = refl;
+      content = λ tells. refl;
+      frame = refl;
+      sound = rw ok (opened_sound _ _ _ _ self copying (omega (arith, some)) c.in-Some.is c.requires.sound shut room.1);
+      told = λ tells. rw ok (z tells).told;
+      segment = b.segment;
+      within = b.within;
+      counted = rw ok (omega (arith, whole, room.1));
+      front = λ tells. wrote_front _ _ _ _ _ written (z tells).chunk;
+      rest = λ tells. rw ok (wrote_rest _ _ _ _ _ written (z tells).chunk);
+      leads = λ d. rw ok (open_leads _ _ self copying _ _ c.in-Some.is shut room.0 c.requires.sound.small written);
+      all = λ d. absurd (false≢true d);
+      write_frame = b.frame;
+      cause = tt;
+      left = λ d. rw ok (write_copies _ _ self (chunk_opened self copying (g.R.BlockRuns.size r)) refl refl (rw c.in-Some.is (omega (arith, room.1))));
+      ended = λ d. absurd (false≢true d);
+      paid = λ d. rw ok (let y = open_paid (g.R.BlockRuns.count r) (length (g.O.Output.written c.open_chunk.new.output) - length (g.O.Output.written c.args.output.now)) self copying (g.R.BlockRuns.size r) (omega (arith, whole)) in omega (arith, y));
+      spends = λ tells d within place is fresh s t h. rw ok (open_spent _ _ _ _ d s t _ _ self copying c.in-Some.is h);
+      spent = λ tells d within place is fresh s t h whole. absurd (false≢true whole);
+      costs = record {
+        given = as_many _;
+        received = no_more _ _;
+        grown = b.grown;
+        few = omega (arith, b.few);
+        steps = b.steps;
+        greatest = omega (arith, b.greatest);
+        calls = no_more_than _ _ _;
+        write_calls = b.calls;
+        turns = omega (arith, turns, b.grown, most);
+      };
+      words = rw ok (open_words _ _ _ _ self copying _ c.in-Some.is (omega (arith, turns, b.grown)));
+      failing = record {
+        read = as_many _;
+        write = b.faults;
+        clean = (refl, e.clean);
+      };
+      full_faults = e.full_faults;
+      full = λ says. absurd (not_full says);
+    }
+
+-- no next chunk
+pub returns-in-Err : goal.returns-in-Err
+returns-in-Err g c =
+    let self = c.args.self.now in
+    let r = c.args.runs.now in
+    let copying = c.in-Some.copying in
+    let b = c.open_chunk.ensures in
+    let e = c.in-Err.ensures in
+    let size = c.block_size-size.ensures in
+    let shut = c.if-copying-eq0.true in
+    let z = λ (tells : IsTrue g.S.Source.tells). opened _ _ _ _ _ _ _ self copying c.in-Some.is (sym (g.met.R.BlockRuns.long r _ (c.requires.opened tells))) (g.met.R.BlockRuns.are_blocks r _ (c.requires.opened tells)) c.requires.sound (c.requires.told tells) shut in
+    let most = writer_most (g.R.BlockRuns.one r) (g.R.BlockRuns.count r) self in
+    let turns = b.turns in
+    record {
+      same = refl;
+      content = λ tells. refl;
+      frame = refl;
+      sound = tt;
+      told = λ tells. tt;
+      segment = b.segment;
+      within = b.within;
+      counted = tt;
+      front = λ tells. wrote_part _ _ _ _ _ (rw size at b.front) (z tells).chunk;
+      rest = λ tells. tt;
+      leads = tt;
+      all = tt;
+      write_frame = b.frame;
+      cause = chunk_cause c.in-Err.fault _ self.chunks self.bytes _ _ _ _ _ (λ tells. let y = z tells in (y.enough, y.room)) (rw size at e.cause);
+      left = tt;
+      ended = tt;
+      paid = tt;
+      spends = λ tells d within place is fresh s t h. tt;
+      spent = λ tells d within place is fresh s t h. tt;
+      costs = record {
+        given = as_many _;
+        received = no_more _ _;
+        grown = b.grown;
+        few = omega (arith, b.few);
+        steps = b.steps;
+        greatest = omega (arith, b.greatest);
+        calls = no_more_than _ _ _;
+        write_calls = b.calls;
+        turns = omega (arith, turns, b.grown, most);
+      };
+      words = tt;
+      failing = record {
+        read = as_many _;
+        write = b.faults;
+        clean = tt;
+      };
+      full_faults = e.full_faults;
+      full = e.full;
+    }
+
+-- the next part of the raw run
+pub returns-in-Ok-next_raw : goal.returns-in-Ok-next_raw
+returns-in-Ok-next_raw g c =
+    let a = c.next_raw.ensures in
+    let e = c.in-Ok-next_raw.ensures in
     let turns = a.turns in
     let words = e.words in
     record {
@@ -31,7 +145,7 @@ returns-in-Ok g c =
       cause = tt;
       left = λ d. e.left;
       ended = λ d. absurd (false≢true d);
-      paid = λ d. rw a.gatherer (omega (arith, e.fetched));
+      paid = λ d. let z = e.paid in omega (arith, z);
       spends = λ tells d within place is fresh s t h. e.spends tells d within place is fresh s t h;
       spent = λ tells d within place is fresh s t h whole. absurd (false≢true whole);
       costs = record {
@@ -56,10 +170,10 @@ returns-in-Ok g c =
     }
 
 -- no next part
-pub returns-in-Err : goal.returns-in-Err
-returns-in-Err g c =
+pub returns-in-Err-next_raw : goal.returns-in-Err-next_raw
+returns-in-Err-next_raw g c =
     let a = c.next_raw.ensures in
-    let e = c.in-Err.ensures in
+    let e = c.in-Err-next_raw.ensures in
     let turns = a.turns in
     record {
       same = a.same;
@@ -75,7 +189,7 @@ returns-in-Err g c =
       leads = tt;
       all = tt;
       write_frame = refl;
-      cause = cause_unwritten c.in-Err.fault _ _ _ _ _ e.cause;
+      cause = cause_unwritten c.in-Err-next_raw.fault _ _ _ _ _ e.cause;
       left = tt;
       ended = tt;
       paid = tt;
@@ -107,104 +221,6 @@ pub returns-in-Ok-copy_bytes : goal.returns-in-Ok-copy_bytes
 returns-in-Ok-copy_bytes g c =
     let a = c.copy_bytes.ensures in
     let e = c.in-Ok-copy_bytes.ensures in
-    let most = writer_most (g.R.BlockRuns.one c.args.runs.now) (g.R.BlockRuns.count c.args.runs.now) c.args.self.now in
-    let turns = a.turns in
-    let words = e.words in
-    record {
-      same = a.same;
-      content = a.content;
-      frame = a.frame;
-      sound = e.sound;
-      told = e.told;
-      segment = a.segment;
-      within = a.within;
-      counted = e.counted;
-      front = a.front;
-      rest = e.rest;
-      leads = λ d. e.leads;
-      all = λ d. absurd (false≢true d);
-      write_frame = a.write_frame;
-      cause = tt;
-      left = λ d. e.left;
-      ended = λ d. absurd (false≢true d);
-      paid = λ d. rw a.gatherer (omega (arith, e.put));
-      spends = λ tells d within place is fresh s t h. e.spends tells d within place is fresh s t h;
-      spent = λ tells d within place is fresh s t h whole. absurd (false≢true whole);
-      costs = record {
-        given = a.given;
-        received = a.received;
-        grown = a.grown;
-        few = a.few;
-        steps = a.steps;
-        greatest = a.greatest;
-        calls = omega (arith, a.calls);
-        write_calls = a.write_calls;
-        turns = omega (arith, turns, most);
-      };
-      words = omega (arith, turns, words);
-      failing = record {
-        read = a.faults;
-        write = a.write_faults;
-        clean = e.clean;
-      };
-      full_faults = e.full_faults;
-      full = λ says. absurd (not_full says);
-    }
-
--- no bytes of it
-pub returns-in-Err-copy_bytes : goal.returns-in-Err-copy_bytes
-returns-in-Err-copy_bytes g c =
-    let a = c.copy_bytes.ensures in
-    let e = c.in-Err-copy_bytes.ensures in
-    let most = writer_most (g.R.BlockRuns.one c.args.runs.now) (g.R.BlockRuns.count c.args.runs.now) c.args.self.now in
-    let turns = a.turns in
-    record {
-      same = a.same;
-      content = a.content;
-      frame = a.frame;
-      sound = tt;
-      told = λ tells. tt;
-      segment = a.segment;
-      within = a.within;
-      counted = tt;
-      front = a.front;
-      rest = λ tells. tt;
-      leads = tt;
-      all = tt;
-      write_frame = a.write_frame;
-      cause = e.cause;
-      left = tt;
-      ended = tt;
-      paid = tt;
-      spends = λ tells d within place is fresh s t h. tt;
-      spent = λ tells d within place is fresh s t h. tt;
-      costs = record {
-        given = a.given;
-        received = a.received;
-        grown = a.grown;
-        few = a.few;
-        steps = a.steps;
-        greatest = a.greatest;
-        calls = omega (arith, a.calls);
-        write_calls = a.write_calls;
-        turns = omega (arith, turns, most);
-      };
-      words = tt;
-      failing = record {
-        read = a.faults;
-        write = a.write_faults;
-        clean = tt;
-      };
-      full_faults = e.full_faults;
-      full = e.full;
-    }
-
--- a part of the open run
-pub returns-in-Ok-look : goal.returns-in-Ok-look
-returns-in-Ok-look g c =
-    let a = c.look.ensures in
-    let e = c.in-Ok-look.ensures in
-    let turns = a.turns in
     record {
       same = a.same;
       content = a.content;
@@ -225,33 +241,18 @@ returns-in-Ok-look g c =
       paid = λ d. let z = e.paid in omega (arith, z);
       spends = λ tells d within place is fresh s t h. e.spends tells d within place is fresh s t h;
       spent = λ tells d within place is fresh s t h whole. absurd (false≢true whole);
-      costs = record {
-        given = a.given;
-        received = a.received;
-        grown = a.grown;
-        few = a.few;
-        steps = a.steps;
-        greatest = a.greatest;
-        calls = a.calls;
-        write_calls = a.write_calls;
-        turns = writer_looked _ _ _ _ c.args.self.now (omega (arith, turns));
-      };
+      costs = a.costs;
       words = e.words;
-      failing = record {
-        read = a.faults;
-        write = a.write_faults;
-        clean = e.clean;
-      };
+      failing = record { read = a.failing.read; write = a.failing.write; clean = e.failing.clean };
       full_faults = e.full_faults;
       full = λ says. absurd (not_full says);
     }
 
--- no part of it
-pub returns-in-Err-look : goal.returns-in-Err-look
-returns-in-Err-look g c =
-    let a = c.look.ensures in
-    let e = c.in-Err-look.ensures in
-    let turns = a.turns in
+-- no bytes of it
+pub returns-in-Err-copy_bytes : goal.returns-in-Err-copy_bytes
+returns-in-Err-copy_bytes g c =
+    let a = c.copy_bytes.ensures in
+    let e = c.in-Err-copy_bytes.ensures in
     record {
       same = a.same;
       content = a.content;
@@ -272,23 +273,73 @@ returns-in-Err-look g c =
       paid = tt;
       spends = λ tells d within place is fresh s t h. tt;
       spent = λ tells d within place is fresh s t h. tt;
-      costs = record {
-        given = a.given;
-        received = a.received;
-        grown = a.grown;
-        few = a.few;
-        steps = a.steps;
-        greatest = a.greatest;
-        calls = a.calls;
-        write_calls = a.write_calls;
-        turns = writer_looked _ _ _ _ c.args.self.now (omega (arith, turns));
-      };
+      costs = a.costs;
       words = tt;
-      failing = record {
-        read = a.faults;
-        write = a.write_faults;
-        clean = tt;
-      };
+      failing = record { read = a.failing.read; write = a.failing.write; clean = tt };
+      full_faults = e.full_faults;
+      full = e.full;
+    }
+
+-- a part of the open run
+pub returns-in-Ok-look : goal.returns-in-Ok-look
+returns-in-Ok-look g c =
+    let a = c.look.ensures in
+    let e = c.in-Ok-look.ensures in
+    record {
+      same = a.same;
+      content = a.content;
+      frame = a.frame;
+      sound = e.sound;
+      told = e.told;
+      segment = a.segment;
+      within = a.within;
+      counted = e.counted;
+      front = a.front;
+      rest = e.rest;
+      leads = λ d. e.leads;
+      all = λ d. absurd (false≢true d);
+      write_frame = a.write_frame;
+      cause = tt;
+      left = λ d. e.left;
+      ended = λ d. absurd (false≢true d);
+      paid = λ d. let z = e.paid in omega (arith, z);
+      spends = λ tells d within place is fresh s t h. e.spends tells d within place is fresh s t h;
+      spent = λ tells d within place is fresh s t h whole. absurd (false≢true whole);
+      costs = a.costs;
+      words = e.words;
+      failing = record { read = a.failing.read; write = a.failing.write; clean = e.failing.clean };
+      full_faults = e.full_faults;
+      full = λ says. absurd (not_full says);
+    }
+
+-- no part of it
+pub returns-in-Err-look : goal.returns-in-Err-look
+returns-in-Err-look g c =
+    let a = c.look.ensures in
+    let e = c.in-Err-look.ensures in
+    record {
+      same = a.same;
+      content = a.content;
+      frame = a.frame;
+      sound = tt;
+      told = λ tells. tt;
+      segment = a.segment;
+      within = a.within;
+      counted = tt;
+      front = a.front;
+      rest = λ tells. tt;
+      leads = tt;
+      all = tt;
+      write_frame = a.write_frame;
+      cause = e.cause;
+      left = tt;
+      ended = tt;
+      paid = tt;
+      spends = λ tells d within place is fresh s t h. tt;
+      spent = λ tells d within place is fresh s t h. tt;
+      costs = a.costs;
+      words = tt;
+      failing = record { read = a.failing.read; write = a.failing.write; clean = tt };
       full_faults = e.full_faults;
       full = e.full;
     }
@@ -305,7 +356,7 @@ pub returns-then-is_done-clause-sound : goal.returns-then-is_done-clause-sound
 returns-then-is_done-clause-sound g c = always_ok c.end.result _ (λ x. c.requires.sound)
 
 pub returns-then-is_done-clause-segment : goal.returns-then-is_done-clause-segment
-returns-then-is_done-clause-segment g c = (refl, refl)
+returns-then-is_done-clause-segment g c = (refl, refl, refl)
 
 pub returns-then-is_done-clause-within : goal.returns-then-is_done-clause-within
 returns-then-is_done-clause-within g c = no_more _ _

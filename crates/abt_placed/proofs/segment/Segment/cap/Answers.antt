@@ -1,11 +1,10 @@
 use Rattle.std.proofs.Common.{◌-◌, arith}
-use Rattle.abt_placed.specs.Segment.{tail_of_open}
-use Rattle.abt_placed.proofs.Segments.{cap_less}
+use Rattle.abt_placed.proofs.Numbers.{room_most}
+use Rattle.abt_placed.proofs.Segments.{cap_wide}
 use Rattle.abt_placed.proofs.segment.Segment.cap.Goals as goal
 
-pub returns-clause-cap : goal.returns-clause-cap
-returns-clause-cap c =
+pub returns-then-room-clause-cap : goal.returns-then-room-clause-cap
+returns-then-room-clause-cap c =
     let s = c.args.self.now in
-    let raw = rw c.tail.ensures at c.raw_cap.ensures in
-    let less = cap_less (tail_of_open s.placer.kind) c.min-room.result (s.limit - s.weight) c.args.size (omega (arith, c.requires.some)) (omega (arith, c.min-room.ensures)) in
-    omega (arith, c.min.ensures, raw, less)
+    let le = room_most s.placer c.room-most.result (omega (arith, c.room-most.ensures.is)) in
+    cap_wide s.placer.kind c.room-most.result s.placer.most (s.limit - s.weight) c.args.size (omega (arith, c.requires.some)) c.requires.small (omega (arith, c.if-room.true)) le

@@ -2,12 +2,13 @@ use Rattle.std.proofs.Common.{◌≡◌, ◌+◌, ◌-◌, ◌*◌, ◌≤◌, �
 use Rattle.std.proofs.Math.Nat.{le_refl}
 use Rattle.std.specs.Prelude.{IsTrue, slice_range}
 use Rattle.abt_runs.proofs.Classes.{if_none}
-use Rattle.abt_pieces.proofs.Fronts.{not_told, says_full, run_causes, run_unfilled, run_unsaid}
+use Rattle.abt_pieces.proofs.Fronts.{not_told, run_causes, run_unfilled}
 use Rattle.abt_placed.specs.Whole.{taken}
 use Rattle.abt_placed.proofs.Refusing.{keeps_same}
 use Rattle.abt_placed.proofs.Costs.{fits_window, read_more, no_wider, sound_within, not_so_far}
 use Rattle.abt_placed.proofs.Sourced.{Loaded, told_on, ended_on, none_over, no_more_than}
-use Rattle.abt_placed.proofs.Spending.{Read, read_costs, going_costs, broken_costs, unread_costs, taken_read, few_got, received_on, greatest_on, last_on}
+use Rattle.abt_placed.proofs.Spending.{window_read, read_costs, going_costs, broken_costs, unread_costs, taken_read, few_got, last_on}
+use Rattle.abt_placed.proofs.Passing.{reads, lays_then, lays_written, lays_unwritten}
 use Rattle.abt_placed.proofs.segment.Segment.step.Goals as goal
 
 -- where all are taken
@@ -20,9 +21,7 @@ returns-then-from-runs g c =
     let given = g.S.Source.given c.args.source.now in
     let x = unread_costs (taken s.placer) r.size r.length given (g.S.Source.reads c.args.source.now) (g.O.Output.writes c.args.output.now) (length (g.O.Output.written c.args.output.now)) _ _ step.turns in
     record {
-      content = λ tells. refl;
-      read_frame = refl;
-      write_frame = refl;
+      lays = reads g.S.Source g.O.Output _ _ _ c.args.m.now c.args.m.now c.close_step.new.self 0 (λ tells. refl) refl (omega arith) (omega arith) refl refl step.steps step.greatest (le_refl _) refl refl tt;
       told = q.told;
       ended = λ is. none_over g.S.Source.tells (g.S.Source.content c.args.source.now) r.size r.length r.blocks s r.some r.covers r.last q.opened c.if-from-runs.true;
       kept = keeps_same _ _;
@@ -30,11 +29,8 @@ returns-then-from-runs g c =
       on = λ on. absurd (let z : true ≡ false = on in cc);
       inside = q.within;
       same = (refl, refl, refl, refl);
-      grown = le_refl _;
       within = no_wider (taken s.placer) r.blocks r.size (s.placer.front + 28) _ q.within (sound_within r.size _ s.placer q.sound.placer);
       long = λ uncut. let fits = q.sound.fits uncut in omega (arith, fits, q.sound.room);
-      given = le_refl _;
-      received = received_on given given 0 _ _ _ _ (omega arith) refl step.steps refl (omega arith);
       economy = x.economy;
       once = λ on. absurd (let z : true ≡ false = on in cc);
       least = omega arith;
@@ -43,13 +39,6 @@ returns-then-from-runs g c =
       calls = x.calls;
       going_turns = λ on. absurd (let z : true ≡ false = on in cc);
       turns = x.turns;
-      greatest = greatest_on _ _ _ _ 0 refl step.greatest refl (omega arith);
-      faults = le_refl _;
-      write_faults = le_refl _;
-      clean = (refl, refl);
-      full_faults = omega arith;
-      full = λ h. absurd cc;
-      cause = tt;
     }
 
 -- the source is not as long as it was
@@ -62,9 +51,8 @@ returns-then-length-runs g c =
     let given = g.S.Source.given c.args.source.now in
     let x = unread_costs (taken s.placer) r.size r.length given (g.S.Source.reads c.args.source.now) (g.O.Output.writes c.args.output.now) (length (g.O.Output.written c.args.output.now)) _ _ step.turns in
     record {
-      content = λ tells. refl;
-      read_frame = refl;
-      write_frame = refl;
+      lays = reads g.S.Source g.O.Output _ _ _ c.args.m.now c.args.m.now c.close_step-then-length-runs.new.self 0 (λ tells. refl) refl (omega arith) (omega arith) refl refl step.steps step.greatest (le_refl _) tt refl
+          (not_told g.S.Source.tells (λ tells. let other = c.if-length-runs.true in absurd (omega (arith, c.length.ensures.told tells, q.opened tells))));
       told = tt;
       ended = tt;
       kept = keeps_same _ _;
@@ -72,11 +60,8 @@ returns-then-length-runs g c =
       on = tt;
       inside = tt;
       same = (refl, refl, refl, refl);
-      grown = le_refl _;
       within = no_wider (taken s.placer) r.blocks r.size (s.placer.front + 28) _ q.within (sound_within r.size _ s.placer q.sound.placer);
       long = λ uncut. let fits = q.sound.fits uncut in omega (arith, fits, q.sound.room);
-      given = le_refl _;
-      received = received_on given given 0 _ _ _ _ (omega arith) refl step.steps refl (omega arith);
       economy = x.economy;
       once = tt;
       least = tt;
@@ -85,13 +70,6 @@ returns-then-length-runs g c =
       calls = x.calls;
       going_turns = tt;
       turns = x.turns;
-      greatest = greatest_on _ _ _ _ 0 refl step.greatest refl (omega arith);
-      faults = le_refl _;
-      write_faults = le_refl _;
-      clean = tt;
-      full_faults = omega arith;
-      full = λ h. absurd cc;
-      cause = not_told g.S.Source.tells (λ tells. let other = c.if-length-runs.true in absurd (omega (arith, c.length.ensures.told tells, q.opened tells)));
     }
 
 -- the window is not read
@@ -109,9 +87,8 @@ returns-in-Some g c =
     let unsaid = run_unfilled c.run_fault.result c.in-Some.fault 0 c.run_fault.ensures in
     let x = broken_costs (taken s.placer) r.size r.length c.place_of-at.result c.min-want.result (c.min-asked.result * r.size) got _ _ _ _ (g.O.Output.writes c.args.output.now) (length w) _ _ _ c.place_of-at.ensures.place c.place_of-at.ensures.within c.min-want.ensures l.few l.given l.calls l.turns step.turns in
     record {
-      content = l.content;
-      read_frame = l.frame;
-      write_frame = refl;
+      lays = reads g.S.Source g.O.Output c.args.source.now c.load_filled-loaded.new.source c.args.output.now c.args.m.now c.load_filled-loaded.new.m c.close_step-2.new.self got l.content l.frame l.given few l.steps l.greatest step.steps step.greatest l.faults tt (let z = run_unfilled c.run_fault.result c.in-Some.fault 0 c.run_fault.ensures in omega (arith, z))
+          (run_causes c.run_fault.result c.in-Some.fault g.S.Source.tells _ _ _ _ c.run_fault.ensures (rw c.in-Some.is at l.cause));
       told = tt;
       ended = tt;
       kept = keeps_same _ _;
@@ -119,11 +96,8 @@ returns-in-Some g c =
       on = tt;
       inside = tt;
       same = (refl, refl, refl, refl);
-      grown = le_refl _;
       within = no_wider (taken s.placer) r.blocks r.size (s.placer.front + 28) _ c.requires.within (sound_within r.size _ s.placer sound.placer);
       long = λ uncut. let fits = sound.fits uncut in omega (arith, fits, sound.room, unsaid);
-      given = x.more;
-      received = received_on _ _ got _ _ _ _ l.given l.steps step.steps refl few;
       economy = x.economy;
       once = tt;
       least = tt;
@@ -132,13 +106,6 @@ returns-in-Some g c =
       calls = x.calls;
       going_turns = tt;
       turns = x.turns;
-      greatest = greatest_on _ _ _ _ got l.greatest step.greatest refl few;
-      faults = l.faults;
-      write_faults = le_refl _;
-      clean = tt;
-      full_faults = run_unfilled c.run_fault.result c.in-Some.fault _ c.run_fault.ensures;
-      full = λ h. absurd (run_unsaid c.run_fault.result c.in-Some.fault c.run_fault.ensures h);
-      cause = run_causes c.run_fault.result c.in-Some.fault g.S.Source.tells _ _ _ _ c.run_fault.ensures (rw c.in-Some.is at l.cause);
     }
 
 -- what of the window fits is taken
@@ -161,19 +128,7 @@ returns-in-Ok g c =
     let fits = fits_window a c.in_window.result r.size (omega arith) c.in_window.ensures.fits in
     let few = few_got got want _ _ l.few c.min-want.ensures fits in
     let within : taken s'.placer ≤ taken s.placer + a = no_more_than c.in-Ok.ended (taken s.placer) (taken s'.placer) a e.all e.short in
-    let read : Read (taken s.placer) a r.size r.length r.blocks want got (g.S.Source.given c.args.source.now) (g.S.Source.given c.load_filled-loaded.new.source) (g.S.Source.reads c.args.source.now) (g.S.Source.reads c.load_filled-loaded.new.source) c.args.m.now.turns.number c.load_filled-loaded.new.m.turns.number =
-    record {
-      below = rw c.place_of-at.ensures.place at c.place_of-at.ensures.within;
-      some = omega arith;
-      four = r.some;
-      is = rw c.place_of-at.ensures.place at c.min-want.ensures;
-      all = if_none {P = got ≡ want} c.load_filled-loaded.result.fault c.in_default.is l.whole;
-      within = omega arith;
-      last = r.last;
-      gives = l.given;
-      calls = l.calls;
-      turns = l.turns;
-    } in
+    let read = window_read (taken s.placer) a r.size r.length r.blocks c.place_of-at.result want got _ _ _ _ _ _ c.place_of-at.ensures.place c.place_of-at.ensures.within (omega arith) r.some c.min-want.ensures (if_none {P = got ≡ want} c.load_filled-loaded.result.fault c.in_default.is l.whole) (omega arith) r.last l.given l.calls l.turns in
     let spent = read_costs (taken s.placer) a r.size r.length r.blocks want got _ _ _ _ _ _ _ _ _ _ _ _ read step.turns t.writes.calls t.writes.turns in
     let loaded : IsTrue g.S.Source.tells → Loaded r.size r.length (taken s.placer) want (a * r.size) x c.load_filled-loaded.new.w.bytes =
     λ tells. record {
@@ -183,9 +138,7 @@ returns-in-Ok g c =
       bytes = rw c.place_of-at.ensures.place at (if_none {P = slice_range c.load_filled-loaded.new.w.bytes 0 (a * r.size) ≡ take want (drop c.place_of-at.result x) ++ replicate (a * r.size - want) 0} c.load_filled-loaded.result.fault c.in_default.is (l.bytes tells));
     } in
     record {
-      content = l.content;
-      read_frame = l.frame;
-      write_frame = t.writes.frame;
+      lays = lays_then {x = false} (reads g.S.Source g.O.Output c.args.source.now c.load_filled-loaded.new.source c.args.output.now c.args.m.now c.load_filled-loaded.new.m c.close_step-2.new.self got l.content l.frame l.given few l.steps l.greatest step.steps step.greatest l.faults (l.clean (rw c.in_default.is refl)) refl tt) (lays_written _ _ e.writes);
       told = told_on g.S.Source.tells x r.size r.length r.blocks a (taken s'.placer - taken s.placer) want (a * r.size) w w' c.load_filled-loaded.new.w.bytes s s' r.some r.covers r.last (omega arith) (omega (arith, within, e.order)) (omega (arith, e.order)) t.same.2 c.requires.sound.order refl told (e.laid told.blocks told.laid) loaded;
       ended = λ is.
           let short = e.short is in
@@ -196,11 +149,8 @@ returns-in-Ok g c =
       on = λ on. omega (arith, e.all on);
       inside = omega (arith, within);
       same = t.same;
-      grown = t.writes.grown;
       within = no_wider (taken s.placer + a) r.blocks r.size (s.placer.front + 28) _ (omega arith) t.within;
       long = e.long;
-      given = spent.more;
-      received = received_on _ _ got _ _ _ _ l.given l.steps step.steps t.writes.steps few;
       economy = spent.economy;
       once = λ on. (going_costs (taken s.placer) (taken s'.placer) a r.size r.length r.blocks want got _ _ _ _ _ _ _ _ _ _ _ _ (e.all on) read step.turns t.writes.calls t.writes.turns).once;
       least = taken_read (taken s.placer) (taken s'.placer) a r.size r.length r.blocks want got _ _ _ _ _ _ within read;
@@ -209,13 +159,6 @@ returns-in-Ok g c =
       calls = spent.calls;
       going_turns = λ on. (going_costs (taken s.placer) (taken s'.placer) a r.size r.length r.blocks want got _ _ _ _ _ _ _ _ _ _ _ _ (e.all on) read step.turns t.writes.calls t.writes.turns).turns;
       turns = spent.turns;
-      greatest = greatest_on _ _ _ _ got l.greatest step.greatest t.writes.greatest few;
-      faults = l.faults;
-      write_faults = t.writes.faults;
-      clean = (l.clean (rw c.in_default.is refl), e.writes.clean);
-      full_faults = e.writes.full_faults;
-      full = λ h. absurd cc;
-      cause = tt;
     }
 
 -- it is not
@@ -232,24 +175,10 @@ returns-in-Err g c =
     let e = c.in-Err.ensures in
     let fits = fits_window a c.in_window.result r.size (omega arith) c.in_window.ensures.fits in
     let few = few_got got want _ _ l.few c.min-want.ensures fits in
-    let read : Read (taken s.placer) a r.size r.length r.blocks want got (g.S.Source.given c.args.source.now) (g.S.Source.given c.load_filled-loaded.new.source) (g.S.Source.reads c.args.source.now) (g.S.Source.reads c.load_filled-loaded.new.source) c.args.m.now.turns.number c.load_filled-loaded.new.m.turns.number =
-    record {
-      below = rw c.place_of-at.ensures.place at c.place_of-at.ensures.within;
-      some = omega arith;
-      four = r.some;
-      is = rw c.place_of-at.ensures.place at c.min-want.ensures;
-      all = if_none {P = got ≡ want} c.load_filled-loaded.result.fault c.in_default.is l.whole;
-      within = omega arith;
-      last = r.last;
-      gives = l.given;
-      calls = l.calls;
-      turns = l.turns;
-    } in
+    let read = window_read (taken s.placer) a r.size r.length r.blocks c.place_of-at.result want got _ _ _ _ _ _ c.place_of-at.ensures.place c.place_of-at.ensures.within (omega arith) r.some c.min-want.ensures (if_none {P = got ≡ want} c.load_filled-loaded.result.fault c.in_default.is l.whole) (omega arith) r.last l.given l.calls l.turns in
     let spent = read_costs (taken s.placer) a r.size r.length r.blocks want got _ _ _ _ _ _ _ _ _ _ _ _ read step.turns t.writes.calls t.writes.turns in
     record {
-      content = l.content;
-      read_frame = l.frame;
-      write_frame = t.writes.frame;
+      lays = lays_then {x = false} (reads g.S.Source g.O.Output c.args.source.now c.load_filled-loaded.new.source c.args.output.now c.args.m.now c.load_filled-loaded.new.m c.close_step-2.new.self got l.content l.frame l.given few l.steps l.greatest step.steps step.greatest l.faults (l.clean (rw c.in_default.is refl)) refl tt) (lays_unwritten _ _ e.writes);
       told = tt;
       ended = tt;
       kept = t.kept;
@@ -257,11 +186,8 @@ returns-in-Err g c =
       on = tt;
       inside = tt;
       same = t.same;
-      grown = t.writes.grown;
       within = no_wider (taken s.placer + a) r.blocks r.size (s.placer.front + 28) _ (omega arith) t.within;
       long = e.long;
-      given = spent.more;
-      received = received_on _ _ got _ _ _ _ l.given l.steps step.steps t.writes.steps few;
       economy = spent.economy;
       once = tt;
       least = tt;
@@ -270,13 +196,6 @@ returns-in-Err g c =
       calls = spent.calls;
       going_turns = tt;
       turns = spent.turns;
-      greatest = greatest_on _ _ _ _ got l.greatest step.greatest t.writes.greatest few;
-      faults = l.faults;
-      write_faults = t.writes.faults;
-      clean = tt;
-      full_faults = e.writes.full_faults;
-      full = λ h. t.writes.full (rw c.in-Err.is (says_full _ h));
-      cause = e.writes.cause;
     }
 
 -- the window has room for what is asked for

@@ -1,0 +1,57 @@
+use Rattle.std.proofs.Common.{arith, ◌+◌, ◌*◌, ◌≤◌, ◌-◌, refl, mul-le-mul_right}
+use Rattle.abt_runs.specs.RawLaws.{raw_long, own_size}
+use Rattle.abt_runs.specs.Raw.{RawPlace}
+use Rattle.abt_runs.proofs.Charges.{charge_fresh, raw_copies, raw_onward, raw_first, no_more, no_more_than, few_turns, none_greatest}
+use Rattle.abt_runs.proofs.raw.RawRunsBlockRuns.next_raw.Goals as goal
+
+-- raw blocks of a raw image need no header
+pub returns : goal.returns
+returns g c =
+    let self = c.args.self.now in
+    let from = c.args.from in
+    let n = c.args.cap in
+    let w = c.requires.within in
+    let s = c.close_step.ensures in
+    let one : 1 * self.size ≤ from.ask * self.size = mul-le-mul_right self.size (let z : 1 ≤ from.ask = omega (arith, w.some) in z) in
+    let here : RawPlace self.blocks self.size (record from { ask = 1 }) = record { within = w.within; some = omega arith; window = omega (arith, self.window); passed = omega arith; used = w.used } in
+    let next : RawPlace self.blocks self.size (record from { block = from.block + n; ask = 1 }) = record { within = c.requires.inside; some = omega arith; window = omega (arith, self.window); passed = omega arith; used = w.used } in
+    let reach : n * self.size ≤ (self.blocks - from.block) * self.size = mul-le-mul_right self.size (let z : n ≤ self.blocks - from.block = omega (arith, c.requires.inside) in z) in
+    record {
+      same = refl;
+      content = λ tells. refl;
+      frame = refl;
+      part = λ tells.
+          let long = raw_long self.length self.blocks self.size _ self.some self.covers self.last (c.requires.told tells).0 in
+          record {
+            within = omega (arith, long, c.requires.inside);
+            next = refl;
+            all = c.requires.raw tells;
+            ended = λ end. absurd cc;
+          };
+      place = λ tells. next;
+      here_place = λ tells. here;
+      stands = λ tells kind. omega (arith, c.requires.inside);
+      within = next;
+      here = (refl, here, charge_fresh self.length self.blocks self.size from (record from { ask = 1 }) (omega (arith, c.requires.some, c.requires.inside)) w.some refl refl);
+      reached = λ kind. reach;
+      first = λ tells some d is le. (raw_onward self.length self.size (from.block + n) d.block le, raw_first self.length self.blocks self.size (record from { block = from.block + n; ask = 1 }) d self.some self.covers self.last next le);
+      moved = refl;
+      capped = record { raw = λ kind. own_size _ };
+      on = λ going. omega (arith, c.requires.some, c.requires.inside);
+      stops = λ used. (refl, refl);
+      at_end = λ end. absurd cc;
+      charged = omega (arith, raw_first self.length self.blocks self.size from (record from { block = from.block + n; ask = 1 }) self.some self.covers self.last w (no_more _ _));
+      copies = λ kind. raw_copies self.length self.size from.block n (from.block + n) refl;
+      onward = (own_size _, raw_onward self.length self.size from.block (from.block + n) (no_more _ _));
+      given = own_size _;
+      fetched = λ none. refl;
+      received = no_more _ _;
+      calls = no_more_than _ _ _;
+      turns = few_turns _ _ _ _ _ s.turns;
+      filled_up = λ some. c.requires.some;
+      steps = s.steps;
+      greatest = none_greatest _ _ _ s.greatest;
+      faults = own_size _;
+      clean = refl;
+      cause = tt;
+    }
