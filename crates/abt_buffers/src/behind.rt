@@ -1,9 +1,11 @@
 //! What a spool holds back of what it took, and what of it went to its file.
 
 ghost use Rattle.std.specs.Prelude.{◌≡◌, ◌≤◌, ◌+◌, ◌<◌, ◌++◌, [], false, IsTrue, IsErr, IfOk, IfErr, OnOk, OnErr};
-ghost use Rattle.std.specs.Prelude.{length, take};
+ghost use Rattle.std.specs.Prelude.{◌-◌, length, take};
 ghost use Rattle.abt_io.specs.Count.{count_of};
+ghost use Rattle.abt_io.specs.Moment.{put_at};
 
+use crate::held_file::put_held;
 use abt_io::{DeviceFault, Log, WINDOW};
 use std::alloc::Global;
 use std::fs::File;
@@ -12,6 +14,9 @@ use std::os::unix::fs::FileExt;
 
 /// A write of so many bytes or more is not held: what copying them costs is what a call does.
 const LARGE: usize = 16_384;
+
+/// How long what stands at the front is that makes an image of what stands behind it.
+const MAGIC: u64 = 4;
 
 /// Bytes that a spool took and that its file is given later, behind those that it was given. None is held where there was
 /// no memory for it.
@@ -127,6 +132,62 @@ impl Behind {
             }
             Err(fault) => Err(fault),
         }
+    }
+
+    /// Lays a front of these bytes over those that were taken, from a place on, and answers how many: in what is held where
+    /// all of them fall there, and else by one write, behind what was held. So what stands at the front, as the magic number
+    /// does, is laid once all else is in the file.
+    pub(crate) fn put_over(
+        &mut self,
+        file: &File,
+        used: u64,
+        at: u64,
+        bytes: &[u8],
+    ) -> Result<usize, DeviceFault>
+        requires place { length self.old.sent.state.bytes + length self.old.held.items ≡ used }
+        requires stands { at + length bytes.now ≤ used }
+        ensures within { count_of result ≤ length bytes.now }
+        ensures progress { IfOk result (λ n. 0 < length bytes.now → 0 < n) }
+        ensures laid { self.new.sent.state.bytes ++ self.new.held.items
+            ≡ put_at (self.old.sent.state.bytes ++ self.old.held.items) at (take (count_of result) bytes.now) }
+        ensures lost { IsTrue self.old.is_lost → IsErr result }
+        ensures found { OnOk result (self.new.is_lost ≡ false) }
+        ensures place { length self.new.sent.state.bytes + length self.new.held.items ≡ used }
+        ensures failed { IfErr result (λ e. e ≡ DeviceFault.Failed) }
+    {
+        if self.is_lost {
+            return Err(DeviceFault::Failed);
+        }
+        if self.lays(used, at, bytes) {
+            return Ok(bytes.len());
+        }
+        self.settle(file, used)?;
+        match write_at(file, at, bytes) {
+            Ok(n) => {
+                self.sent.put(&bytes[..n], at);
+                Ok(n)
+            }
+            Err(fault) => Err(fault),
+        }
+    }
+
+    // Lays bytes over those that are held, if all of them are, and they are not at the front.
+    fn lays(&mut self, used: u64, at: u64, bytes: &[u8]) -> bool
+        requires place { length self.old.sent.state.bytes + length self.old.held.items ≡ used }
+        requires stands { at + length bytes.now ≤ used }
+        ensures laid { IsTrue result → length self.old.sent.state.bytes ≤ at }
+        ensures held { IsTrue result → self.new.held.items
+            ≡ put_at self.old.held.items (at - length self.old.sent.state.bytes) bytes.now }
+        ensures kept { result ≡ false → self.new.held.items ≡ self.old.held.items }
+        ensures sent { self.new.sent.state ≡ self.old.sent.state }
+        ensures lost { self.new.is_lost ≡ self.old.is_lost }
+    {
+        let sent = used - self.held.len() as u64;
+        if at < MAGIC || at < sent {
+            return false;
+        }
+        put_held(&mut self.held, (at - sent) as usize, bytes);
+        true
     }
 
     /// Whether the file may be emptied: not where something was lost for which no clear was refused yet.

@@ -11,7 +11,7 @@ ghost use Rattle.abt_buffers.specs.Since.{since_cut, Kept};
 use crate::ahead::{Ahead, read_at};
 use crate::ahead_file::AheadFile;
 use crate::behind::Behind;
-use abt_io::{DeviceFault, FileSpool, Input, Output, Spool};
+use abt_io::{DeviceFault, FileSpool, Input, Output, Overwrite, Spool};
 use std::alloc::Global;
 use std::fs::File;
 
@@ -169,10 +169,45 @@ impl Output for GatheringSpool<'_> {
             return Err(DeviceFault::Full);
         }
         let most = (spool.capacity - used).min(bytes.len() as u64) as usize;
+        if most as u64 > u64::MAX - spool.cleared - used {
+            spool.write_faults.add(1);
+            return Err(DeviceFault::Failed);
+        }
         match self.behind.take(&spool.file, used, &bytes[..most]) {
             Ok(n) => {
                 spool.log.append(&bytes[..n]);
                 spool.used = used + n as u64;
+                Ok(n)
+            }
+            Err(_) => {
+                spool.write_faults.add(1);
+                Err(DeviceFault::Failed)
+            }
+        }
+    }
+}
+
+impl Overwrite for GatheringSpool<'_> {
+    fn position(&self) -> u64 {
+        self.spool.position()
+    }
+
+    /// A place before the last clear is refused: nothing stands there any more.
+    fn write_over(&mut self, at: u64, bytes: &[u8]) -> Result<usize, DeviceFault> {
+        let spool = &mut self.spool;
+        spool.writes.add(1);
+        let cleared = spool.cleared;
+        if at < cleared {
+            spool.write_faults.add(1);
+            return Err(DeviceFault::Failed);
+        }
+        forget(&mut self.ahead);
+        match self
+            .behind
+            .put_over(&spool.file, spool.used, at - cleared, bytes)
+        {
+            Ok(n) => {
+                spool.log.put(&bytes[..n], at);
                 Ok(n)
             }
             Err(_) => {
@@ -215,12 +250,17 @@ impl Spool for GatheringSpool<'_> {
             spool.clear_faults.add(1);
             return Err(DeviceFault::Failed);
         }
-        if let Some(ahead) = &mut self.ahead {
-            ahead.forget();
-        }
+        forget(&mut self.ahead);
         self.from.forget();
         spool.clear()?;
         self.behind.forget();
         Ok(())
+    }
+}
+
+// What was read ahead is no longer so.
+fn forget(ahead: &mut Option<Ahead>) {
+    if let Some(ahead) = ahead {
+        ahead.forget();
     }
 }

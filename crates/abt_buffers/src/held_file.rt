@@ -269,7 +269,7 @@ fn take_all_back<U: Under>(laid: &[Laid], file: &mut U, sent: u64, done: usize, 
 }
 
 // Writes bytes over those that are held from a place on.
-fn put_held(held: &mut Vec<u8>, from: usize, bytes: &[u8])
+pub(crate) fn put_held(held: &mut Vec<u8>, from: usize, bytes: &[u8])
     requires { from + length bytes.now ≤ length held.old.items }
     ensures { held.new.items ≡ put_at held.old.items from bytes.now }
 {

@@ -2,7 +2,7 @@
 
 use crate::made::{Random, bytes, part};
 use abt_buffers::{AheadFile, AheadSource, GatheringSpool};
-use abt_io::{DeviceFault, FileSource, FileSpool, Input, Output, Source, Spool, WINDOW};
+use abt_io::{DeviceFault, FileSource, FileSpool, Input, Output, Overwrite, Source, Spool, WINDOW};
 use std::alloc::Alloc;
 use std::fs;
 use std::fs::{File, OpenOptions};
@@ -58,6 +58,19 @@ fn called<S: Spool>(
     }
 }
 
+/// What a spool answered where bytes were laid over what it was given, from so far before its end on.
+fn laid_over<S: Spool + Overwrite>(
+    spool: &mut S,
+    back: u64,
+    bytes: &[u8],
+) -> Result<usize, DeviceFault> {
+    let end = spool.position();
+    if bytes.len() > WINDOW || back > end || bytes.len() as u64 > back {
+        return Err(DeviceFault::Full);
+    }
+    spool.write_over(end - back, bytes)
+}
+
 #[test]
 fn a_spool_that_gathers_does_what_a_file_does(rt: HostRuntime) {
     let text = bytes(rt.alloc(), 100_000);
@@ -87,6 +100,16 @@ fn a_spool_that_gathers_does_what_a_file_does(rt: HostRuntime) {
                 part(have.as_slice(), 0, count) == want,
                 "capacity {capacity}, turn {turn}"
             );
+            if random.to(3) == 0 {
+                let most = random.of(&[100, 100_000]);
+                let back = random.to(most as u64);
+                let count = random.of(&COUNTS);
+                let some = part(text.as_slice(), random.to(30_000), count);
+                assert!(rt;
+                    laid_over(&mut other, back, some) == laid_over(&mut one, back, some),
+                    "capacity {capacity}, turn {turn}"
+                );
+            }
             if random.to(20) == 0 {
                 assert!(rt; other.settle() == Ok(()));
                 assert!(rt;
@@ -118,6 +141,25 @@ fn a_spool_that_gathers_is_written_late(rt: HostRuntime) {
     assert!(rt; same(&rt, "late.tmp", "many.tmp"));
 }
 
+/// Bytes are laid in what is held. Those at the front are laid in the file, once all else is there, and those before the last
+/// clear nowhere.
+#[test]
+fn what_a_spool_holds_is_laid_over(rt: HostRuntime) {
+    let from = AheadFile::new(FileSource::empty());
+    let mut spool = GatheringSpool::new(rt.alloc(), opened(&rt, "late.tmp"), 65_536, &from);
+    fs::write(&rt, "empty.tmp", "").expect(&rt, "is written");
+    fs::write(&rt, "laid.tmp", "ABCD..yz").expect(&rt, "is written");
+    assert!(rt; called(&mut spool, 0, b"........", &mut []) == Ok(8));
+    assert!(rt; laid_over(&mut spool, 2, b"yz") == Ok(2));
+    assert!(rt; same(&rt, "late.tmp", "empty.tmp"));
+    assert!(rt; laid_over(&mut spool, 8, b"ABCD") == Ok(4));
+    assert!(rt; same(&rt, "late.tmp", "laid.tmp"));
+    assert!(rt; called(&mut spool, 9, b"", &mut []) == Ok(0));
+    assert!(rt; called(&mut spool, 0, b"..", &mut []) == Ok(2));
+    assert!(rt; laid_over(&mut spool, 3, b"x") == Err(DeviceFault::Failed));
+    assert!(rt; spool.position() == 10);
+}
+
 /// What can't be written is refused where it is read, and by every call until the spool was cleared, of which the first try
 /// is refused too.
 #[test]
@@ -131,6 +173,7 @@ fn a_gathered_write_that_fails_is_told_later(rt: HostRuntime) {
     assert!(rt; called(&mut spool, 6, b"", &mut out) == Err(DeviceFault::Failed));
     assert!(rt; spool.settle() == Err(DeviceFault::Failed));
     assert!(rt; called(&mut spool, 0, b"ab", &mut []) == Err(DeviceFault::Failed));
+    assert!(rt; laid_over(&mut spool, 1, b"b") == Err(DeviceFault::Failed));
     assert!(rt; called(&mut spool, 9, b"", &mut []) == Err(DeviceFault::Failed));
     assert!(rt; spool.settle() == Err(DeviceFault::Failed));
     assert!(rt; !spool.is_from_short());
