@@ -3,9 +3,8 @@
 ghost use Rattle.std.specs.Prelude.{◌≡◌, ℕ, Err, IfErr, IfOk, IfSome, IsErr, IsTrue, Some, None, false};
 ghost use Rattle.abt_flash.specs.declared.fault.Cause.{Cause};
 
-use crate::pieces::RAW_PASSES;
 use abt_buffers::{AheadFile, AheadSource, GatheringSpool};
-use abt_flash::{Cause, Delivered, FlashFault, flash, resume, resume_raw};
+use abt_flash::{Cause, Delivered, FlashFault, flash, resume, resume_raw_at};
 use abt_host::{Passing, Reading, Watched};
 use abt_io::{DeviceFault, FilePartition, Meter, Source, Window};
 use abt_output::Report;
@@ -89,8 +88,7 @@ pub(crate) fn flash_pieces<'a>(
     }
     let through = writing.spool(spool, pieces.limit)?;
     let mut through = GatheringSpool::new(writing.alloc, through.file, through.capacity, &file);
-    let passes = if raw.is_some() { RAW_PASSES } else { 1 };
-    report.progress.expect(source.length(), passes);
+    report.progress.expect(source.length(), 1);
     let mut watched = Watched::new(&mut source, &mut report.progress);
     let count = match deliver(&mut watched, raw, pieces, &mut through, &mut onto, w, m) {
         Ok(delivered) => delivered.pieces,
@@ -107,7 +105,8 @@ pub(crate) fn flash_pieces<'a>(
     Ok(())
 }
 
-// Flashes the pieces from the one that the words name on. All that the spool took is in its file then.
+// Flashes the pieces from the one that the words name on, of a raw image in one pass over it. All that the spool took is in
+// its file then.
 fn deliver(
     source: &mut Watched<'_, AheadSource<'_>>,
     raw: Option<u32>,
@@ -122,7 +121,7 @@ fn deliver(
     let Pieces { limit, from, .. } = pieces;
     let from = from.max(1);
     let delivered = match raw {
-        Some(size) => resume_raw(source, size, limit, from, spool, onto, w, m),
+        Some(size) => resume_raw_at(source, size, limit, from, spool, onto, w, m),
         None => resume(source, limit, from, spool, onto, w, m),
     };
     told_of(delivered, from, late(spool.settle(), spool.is_from_short()))

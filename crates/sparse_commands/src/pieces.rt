@@ -12,9 +12,9 @@ use abt_refusals::Sides;
 use abt_runs::{BlockRuns, RawRuns, SparseRuns};
 use sparse_rules::{PiecesOf, SparseCommandFault, SparseRefusal, raw_pieces};
 
-/// How often a raw image is read whose pieces get each header before what it tells of, as a spool, a pipe and a device
-/// do: to plan a piece, to find each run whole, and, part by part, to find the run again and to copy it.
-pub(crate) const RAW_PASSES: u64 = 4;
+/// How often a raw image is read whose pieces get each header before what it tells of, as a pipe and a device do: to plan a
+/// piece, to find each run whole, and to copy it.
+const RAW_PASSES: u64 = 3;
 
 /// Those of a sparse image, or of a raw one.
 #[derive(Drop)]

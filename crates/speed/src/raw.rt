@@ -4,7 +4,7 @@ use crate::devices::{Board, Memory};
 use crate::digest::Digest;
 use crate::images::{BLOCK, Maker};
 use crate::jobs::Size;
-use abt_flash::{deliver_raw, resume_raw};
+use abt_flash::{deliver_raw, deliver_raw_at, resume_raw_at};
 use abt_io::{Meter, SliceOutput, SliceSpool, Window};
 use abt_pieces::{Piece, PieceFault};
 use abt_placed::{next_piece_at, sparsify_at};
@@ -89,7 +89,7 @@ fn deliver_from(
     let mut spool = SliceSpool::new(room);
     let mut board = Board::new((image.len() as u64).saturating_add(u64::from(BLOCK)));
     let delivered = if from > 1 {
-        resume_raw(
+        resume_raw_at(
             &mut source,
             BLOCK,
             LIMIT,
@@ -100,7 +100,7 @@ fn deliver_from(
             m,
         )?
     } else {
-        deliver_raw(&mut source, BLOCK, LIMIT, &mut spool, &mut board, w, m)?
+        deliver_raw_at(&mut source, BLOCK, LIMIT, &mut spool, &mut board, w, m)?
     };
     digest.join(&board.digest);
     digest.note(u64::from(delivered.pieces));
