@@ -57,7 +57,7 @@ pub struct Writer {
     pub copying: Option<Copying>,
     /// How many chunks are still to be begun.
     pub chunks: u32,
-    /// How many bytes of the piece are still to be written.
+    /// How many bytes are still to be written.
     pub bytes: u64,
 }
 
