@@ -1,5 +1,6 @@
 pub mod Number
 pub mod Part
+pub mod Found
 pub mod Words
 pub mod Whole
 pub mod Raw

@@ -4,8 +4,8 @@ ghost use Rattle.std.specs.Prelude.{length, take, drop, min, max, true, false};
 ghost use Rattle.abt_io.specs.Count.{count_of};
 ghost use Rattle.abt_sparse.specs.Block.{Block, AreBlocks};
 ghost use Rattle.abt_runs.specs.declared.part.Cursor.{Cursor};
-ghost use Rattle.abt_runs.specs.Part.{PartOf, AllOf, MovesOn, Capped, Caused, Earliest, Afresh, afresh, entry};
-ghost use Rattle.abt_runs.specs.Part.{is_end, raw_of, piece_bytes};
+ghost use Rattle.abt_runs.specs.Part.{AllOf, Capped, Caused, Afresh, afresh, entry, is_end, raw_of};
+ghost use Rattle.abt_runs.specs.Found.{Found, Told, Asked};
 ghost use Rattle.abt_runs.specs.Whole.{RunOf};
 
 use crate::whole::{joined, none_yet, room};
@@ -118,48 +118,20 @@ pub trait BlockRuns {
         ensures same { self.new ≡ self.old }
         ensures content { IsTrue S.tells → S.content source.new ≡ S.content source.old }
         ensures frame { S.read_frame source.new ≡ S.read_frame source.old }
-        ensures part { IsTrue S.tells → IfOk result (λ r. PartOf (list self.old (S.content source.old)) from.block r) }
-        ensures place { IsTrue S.tells → IfOk result (λ r. place self.old (S.content source.old) r.next) }
-        ensures here_place { IsTrue S.tells → IfOk result (λ r. place self.old (S.content source.old) r.here) }
-        ensures stands { IsTrue S.tells →
-            IfOk result (λ r. r.kind ≡ RunKind.Raw → r.blocks ≤ together self.old (S.content source.old) r.here) }
-        ensures within { IfOk result (λ r. within self.old r.next) }
-        ensures here { IfOk result (λ r. (r.here.block ≡ from.block) × within self.old r.here ×
-            (charge self.old from ≤ charge self.old r.here)) }
-        ensures inside { IfOk result (λ r. r.here.used ≤ from.used) }
-        ensures reached { IfOk result (λ r. r.kind ≡ RunKind.Raw → r.blocks * size self.old ≤ reach self.old r.here) }
-        ensures nowhere { IfOk result (λ r. r.blocks ≡ 0 → r.here ≡ r.next) }
-        ensures length { IfOk result (λ r. is_end r.kind ≡ false → S.size source.old ≡ source_size self.old) }
-        ensures first { IsTrue S.tells →
-            IfOk result (λ r. 0 < r.blocks → Earliest (λ d. within self.old d × place self.old (S.content source.old) d)
-            (copied self.old) (charge self.old) r.next) }
-        ensures anew { IfOk result (λ r. charge self.old (afresh r.here) ≤ charge self.old r.here) }
-        ensures not_past { IsTrue S.tells →
-            IfOk result (λ r. (d : Cursor) → within self.old d → place self.old (S.content source.old) d →
-            d.block ≡ from.block + cap → r.blocks ≤ cap) }
-        ensures moved { IfOk result (λ r. r.next.block ≡ from.block + r.blocks) }
-        ensures capped { IfOk result (λ r. Capped cap r) }
-        ensures on { IfOk result (λ r. MovesOn (left self.old) from r) }
-        ensures stops { IfOk result (λ r. 0 < r.next.used → (r.kind ≡ RunKind.Raw) × (r.blocks ≡ cap)) }
-        ensures goes_on { 0 < from.used → IfOk result (λ r. (r.kind ≡ RunKind.Raw) × (0 < r.blocks)) }
-        ensures at_end { IfOk result (λ r. is_end r.kind ≡ true → (from.block ≡ count self.old) × (r.blocks ≡ 0)) }
-        ensures charged { IfOk result (λ r. S.given source.new + charge self.old from ≤ S.given source.old + charge
-            self.old r.next + entry from) }
-        ensures takes { IfOk result (λ r. piece_bytes (size self.old) from.used r.kind r.blocks + taken self.old from
-            ≤ taken self.old r.next) }
-        ensures copies { IfOk result (λ r. r.kind ≡ RunKind.Raw →
-            copied self.old r.here + held self.old r.here (r.blocks * size self.old) ≤ copied self.old r.next) }
-        ensures onward { IfOk result (λ r. (copied self.old from ≤ copied self.old r.here) ×
-            (copied self.old r.here ≤ copied self.old r.next)) }
+        ensures told { IsTrue S.tells → IfOk result (λ r. Told (list self.old (S.content source.old)) (within self.old)
+            (place self.old (S.content source.old)) (together self.old (S.content source.old)) (copied self.old)
+            (charge self.old) from cap r) }
+        ensures found { IfOk result (λ r. Found (within self.old) (size self.old) (count self.old) (left self.old)
+            (charge self.old) (reach self.old) (taken self.old) (copied self.old) (padding self.old) (held self.old)
+            from cap (S.given source.old) (S.given source.new) r) }
+        ensures asked { IfOk result (λ r. Asked (S.size source.old) (source_size self.old) (S.given source.old)
+            (S.given source.new) r) }
         ensures given { S.given source.old ≤ S.given source.new }
-        ensures fetched { IfOk result (λ r. is_end r.kind ≡ false → S.given source.old < S.given source.new) }
-        ensures ended { IfOk result (λ r. is_end r.kind ≡ true → S.given source.new ≡ S.given source.old) }
         ensures most { S.given source.new ≤ S.given source.old + 16 + cap * one self.old }
         ensures received { S.given source.new ≤ S.given source.old + 65536 }
         ensures calls { S.reads source.new ≤ S.reads source.old + (S.given source.new - S.given source.old) + 2 }
         ensures turns { m.new.turns.number
             ≤ m.old.turns.number + 2 * (S.given source.new - S.given source.old) + 2 + padding self.old from }
-        ensures filled_up { IfOk result (λ r. 0 < padding self.old from → 0 < r.blocks) }
         ensures steps { m.new.steps.number ≡ m.old.steps.number + 1 }
         ensures greatest { m.new.greatest.number ≡ max m.old.greatest.number (S.given source.new - S.given source.old) }
         ensures faults { S.read_faults source.old ≤ S.read_faults source.new }
@@ -189,36 +161,18 @@ pub trait BlockRuns {
         ensures same { self.new ≡ self.old }
         ensures content { IsTrue S.tells → S.content source.new ≡ S.content source.old }
         ensures frame { S.read_frame source.new ≡ S.read_frame source.old }
-        ensures part { IsTrue S.tells → IfOk result (λ r. PartOf (list self.old (S.content source.old)) from.block r) }
-        ensures place { IsTrue S.tells → IfOk result (λ r. place self.old (S.content source.old) r.next) }
-        ensures here_place { IsTrue S.tells → IfOk result (λ r. place self.old (S.content source.old) r.here) }
-        ensures stands { IsTrue S.tells →
-            IfOk result (λ r. r.kind ≡ RunKind.Raw → r.blocks ≤ together self.old (S.content source.old) r.here) }
-        ensures within { IfOk result (λ r. within self.old r.next) }
-        ensures here { IfOk result (λ r. (r.here.block ≡ from.block) × within self.old r.here ×
-            (charge self.old from ≤ charge self.old r.here)) }
-        ensures reached { IfOk result (λ r. r.kind ≡ RunKind.Raw → r.blocks * size self.old ≤ reach self.old r.here) }
-        ensures first { IsTrue S.tells →
-            IfOk result (λ r. 0 < r.blocks → Earliest (λ d. within self.old d × place self.old (S.content source.old) d)
-            (copied self.old) (charge self.old) r.next) }
-        ensures moved { IfOk result (λ r. r.next.block ≡ from.block + r.blocks) }
-        ensures capped { IfOk result (λ r. Capped cap r) }
-        ensures on { IfOk result (λ r. MovesOn (left self.old) from r) }
-        ensures stops { IfOk result (λ r. 0 < r.next.used → (r.kind ≡ RunKind.Raw) × (r.blocks ≡ cap)) }
-        ensures at_end { IfOk result (λ r. is_end r.kind ≡ true → (from.block ≡ count self.old) × (r.blocks ≡ 0)) }
-        ensures charged { IfOk result (λ r. S.given source.new + charge self.old from ≤ S.given source.old + charge
-            self.old r.next + entry from) }
-        ensures copies { IfOk result (λ r. r.kind ≡ RunKind.Raw →
-            copied self.old r.here + held self.old r.here (r.blocks * size self.old) ≤ copied self.old r.next) }
-        ensures onward { IfOk result (λ r. (copied self.old from ≤ copied self.old r.here) ×
-            (copied self.old r.here ≤ copied self.old r.next)) }
+        ensures told { IsTrue S.tells → IfOk result (λ r. Told (list self.old (S.content source.old)) (within self.old)
+            (place self.old (S.content source.old)) (together self.old (S.content source.old)) (copied self.old)
+            (charge self.old) from cap r) }
+        ensures found { IfOk result (λ r. Found (within self.old) (size self.old) (count self.old) (left self.old)
+            (charge self.old) (reach self.old) (taken self.old) (copied self.old) (padding self.old) (held self.old)
+            from cap (S.given source.old) (S.given source.new) r) }
         ensures given { S.given source.old ≤ S.given source.new }
         ensures fetched { IfOk result (λ r. S.given source.new ≡ S.given source.old → r.blocks ≡ cap) }
         ensures received { S.given source.new ≤ S.given source.old + 65536 }
         ensures calls { S.reads source.new ≤ S.reads source.old + (S.given source.new - S.given source.old) + 2 }
         ensures turns { m.new.turns.number
             ≤ m.old.turns.number + 2 * (S.given source.new - S.given source.old) + 2 + padding self.old from }
-        ensures filled_up { IfOk result (λ r. 0 < padding self.old from → 0 < r.blocks) }
         ensures steps { m.new.steps.number ≡ m.old.steps.number + 1 }
         ensures greatest { m.new.greatest.number ≡ max m.old.greatest.number (S.given source.new - S.given source.old) }
         ensures faults { S.read_faults source.old ≤ S.read_faults source.new }

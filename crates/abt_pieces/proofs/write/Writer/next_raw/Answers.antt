@@ -59,15 +59,15 @@ returns-in-Some g c =
     let low : c.args.copying.next.block < self.past = omega (arith, on, h.past) in
     let p = g.met.R.BlockRuns.padded c.args.runs.now c.args.copying.next in
     let top = segment_top _ one count c.args.copying.next.block self.past p.0 p.1 low in
-    let words = segment_words _ one count c.args.copying.next.block c.in-Ok.part.next.block c.in-Ok.part.blocks self.past p.0 p.1 e.filled_up e.moved low c.requires.sound.gathering.past in
+    let words = segment_words _ one count c.args.copying.next.block c.in-Ok.part.next.block c.in-Ok.part.blocks self.past p.0 p.1 e.found.filled_up e.found.moved low c.requires.sound.gathering.past in
     let turns = n.turns in
     let is = sym (rw c.block_size-size.ensures at c.and_part.ensures) ∙ c.in-Some.is in
     let kept = next_keeps c.args.copying c.in-Some.next c.in-Ok.part _ is in
     let next = kept.0 in
     let z = next_sound _ _ (g.R.BlockRuns.left c.args.runs.now) _ _ _ _ _ count c.args.copying c.in-Some.next c.in-Ok.part h c.requires.whole c.requires.remains (omega (arith, c.requires.sound.gathering.room))
-    (record { next = e.moved; capped = e.capped.raw; within = e.within; here = (e.here.0, e.here.1); reached = e.reached; shorter = e.on; ended = λ q. (e.at_end q).0 }) is in
+    (record { next = e.found.moved; capped = e.found.capped.raw; within = e.found.within; here = (e.found.here.0, e.found.here.1); reached = e.found.reached; shorter = e.found.on; ended = λ q. (e.found.at_end q).0 }) is in
     let x = λ (tells : IsTrue g.S.Source.tells). next_writer _ _ _ _ _ _ _ self c.args.copying c.in-Ok.part c.requires.is c.requires.sound (sym (g.met.R.BlockRuns.long c.args.runs.now _ (c.requires.opened tells))) (g.met.R.BlockRuns.are_blocks c.args.runs.now _ (c.requires.opened tells)) c.requires.whole c.requires.remains (c.requires.told tells)
-    (e.part tells) (e.place tells) (e.here_place tells) e.here.0 (e.stands tells) e.capped.raw in
+    (e.told tells).part (e.told tells).place (e.told tells).here_place e.found.here.0 (e.told tells).stands e.found.capped.raw in
     record {
       same = n.same;
       content = n.content;
@@ -87,11 +87,11 @@ returns-in-Some g c =
       comes = λ t come. part_comes _ _ self (record self { copying = Some c.in-Some.next }) c.args.copying c.in-Some.next c.requires.is refl kept.1 kept.2 refl refl t come;
       left = write_copies _ _ self (record self { copying = Some c.in-Some.next }) refl refl (let y = z.fewer in rw c.requires.is (omega (arith, y)));
       given = n.given;
-      paid = next_paid count _ _ self (record self { copying = Some c.in-Some.next }) c.args.copying c.in-Some.next refl refl c.requires.is refl on n.given (λ none. let z = e.fetched none in let y = ap (λ (x : Cursor). x.block) next in omega (arith, z, y, e.moved, on));
+      paid = next_paid count _ _ self (record self { copying = Some c.in-Some.next }) c.args.copying c.in-Some.next refl refl c.requires.is refl on n.given (λ none. let z = e.fetched none in let y = ap (λ (x : Cursor). x.block) next in omega (arith, z, y, e.found.moved, on));
       spends = λ tells d within place there fresh s t spent. record {
         gathering = spent.gathering;
         copies = spent_next _ _ _ _ _ _ _ _ _ _ c.args.copying c.in-Some.next c.in-Ok.part (omega (arith, on)) c.requires.whole
-            (record { next = e.moved; charged = e.charged; onward = e.onward; copies = e.copies; stops = λ u. (e.stops u).1; first = e.first tells; grown = e.given }) is (rw c.requires.is at spent.copies);
+            (record { next = e.found.moved; charged = e.found.charged; onward = e.found.onward; copies = e.found.copies; stops = λ u. (e.found.stops u).1; first = (e.told tells).first; grown = e.given }) is (rw c.requires.is at spent.copies);
       };
       calls = n.calls;
       turns = omega (arith, top, turns);
@@ -143,7 +143,7 @@ returns-in-None g c =
           let o = c.requires.opened tells in
           let is = sym (rw c.block_size-size.ensures at c.and_part.ensures) ∙ c.in-None.is in
           let x = next_writer _ _ _ _ _ _ _ self c.args.copying c.in-Ok.part c.requires.is c.requires.sound (sym (g.met.R.BlockRuns.long c.args.runs.now _ o)) (g.met.R.BlockRuns.are_blocks c.args.runs.now _ o) c.requires.whole c.requires.remains (c.requires.told tells)
-          (e.part tells) (e.place tells) (e.here_place tells) e.here.0 (e.stands tells) e.capped.raw in
+          (e.told tells).part (e.told tells).place (e.told tells).here_place e.found.here.0 (e.told tells).stands e.found.capped.raw in
           some_no_none x.0 (sym x.1 ∙ is));
     }
 

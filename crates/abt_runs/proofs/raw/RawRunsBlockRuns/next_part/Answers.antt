@@ -22,44 +22,50 @@ returns-then-from-self g c =
       same = refl;
       content = λ tells. refl;
       frame = refl;
-      part = λ tells.
-          let n = raw_long self.length self.blocks self.size _ self.some self.covers self.last (c.requires.told tells).0 in
-          record {
-            within = omega (arith, n, c.if-from-self.true);
-            next = omega arith;
-            all = refl;
-            ended = λ _. omega (arith, n, c.if-from-self.true);
-          };
-      place = λ tells. w;
-      here_place = λ tells. w;
-      stands = λ tells kind. absurd cc;
-      within = w;
-      here = (refl, w, own_size _);
-      inside = own_size _;
-      reached = λ kind. absurd cc;
-      nowhere = λ _. refl;
-      length = λ going. absurd (none going);
-      first = λ tells some. absurd (omega (arith, some));
-      anew = charge_end self.length self.blocks self.size c.args.from c.if-from-self.true;
-      not_past = λ tells d within place at. omega arith;
-      moved = none_behind _;
-      capped = record { raw = λ kind. omega arith };
-      on = λ going. absurd (none going);
-      stops = λ used. absurd (fresh used);
-      goes_on = λ used. absurd (fresh used);
-      at_end = λ end. (c.if-from-self.true, refl);
-      charged = no_more _ _;
-      takes = none_added _;
-      copies = λ kind. absurd cc;
-      onward = (own_size _, own_size _);
+      told = λ tells. record {
+        part =
+            let n = raw_long self.length self.blocks self.size _ self.some self.covers self.last (c.requires.told tells).0 in
+            record {
+              within = omega (arith, n, c.if-from-self.true);
+              next = omega arith;
+              all = refl;
+              ended = λ _. omega (arith, n, c.if-from-self.true);
+            };
+        place = w;
+        here_place = w;
+        stands = λ kind. absurd cc;
+        first = λ some. absurd (omega (arith, some));
+        not_past = λ d within place at. omega arith;
+      };
+      found = record {
+        within = w;
+        here = (refl, w, own_size _);
+        inside = own_size _;
+        reached = λ kind. absurd cc;
+        nowhere = λ _. refl;
+        anew = charge_end self.length self.blocks self.size c.args.from c.if-from-self.true;
+        moved = none_behind _;
+        capped = record { raw = λ kind. omega arith };
+        on = λ going. absurd (none going);
+        stops = λ used. absurd (fresh used);
+        goes_on = λ used. absurd (fresh used);
+        at_end = λ end. (c.if-from-self.true, refl);
+        charged = no_more _ _;
+        takes = none_added _;
+        copies = λ kind. absurd cc;
+        onward = (own_size _, own_size _);
+        filled_up = λ some. absurd (let last = (raw_padded self.blocks self.size c.args.from).1 some in omega (arith, last, c.if-from-self.true));
+      };
+      asked = record {
+        length = λ going. absurd (none going);
+        fetched = λ going. absurd (none going);
+        ended = λ end. refl;
+      };
       given = own_size _;
-      fetched = λ going. absurd (none going);
-      ended = λ end. refl;
       most = no_more_than _ _ _;
       received = no_more _ _;
       calls = no_more_than _ _ _;
       turns = few_turns _ _ _ _ _ s.turns;
-      filled_up = λ some. absurd (let last = (raw_padded self.blocks self.size c.args.from).1 some in omega (arith, last, c.if-from-self.true));
       steps = s.steps;
       greatest = none_greatest _ _ _ s.greatest;
       faults = own_size _;
@@ -75,37 +81,14 @@ returns-then-length-self g c =
       same = refl;
       content = λ tells. refl;
       frame = refl;
-      part = λ tells. tt;
-      place = λ tells. tt;
-      here_place = λ tells. tt;
-      stands = λ tells. tt;
-      within = tt;
-      here = tt;
-      inside = tt;
-      reached = tt;
-      nowhere = tt;
-      length = tt;
-      first = λ tells. tt;
-      anew = tt;
-      not_past = λ tells. tt;
-      moved = tt;
-      capped = tt;
-      on = tt;
-      stops = tt;
-      goes_on = λ used. tt;
-      at_end = tt;
-      charged = tt;
-      takes = tt;
-      copies = tt;
-      onward = tt;
+      told = λ tells. tt;
+      found = tt;
+      asked = tt;
       given = own_size _;
-      fetched = tt;
-      ended = tt;
       most = no_more_than _ _ _;
       received = no_more _ _;
       calls = no_more_than _ _ _;
       turns = few_turns _ _ _ _ _ s.turns;
-      filled_up = tt;
       steps = s.steps;
       greatest = none_greatest _ _ _ s.greatest;
       faults = own_size _;
@@ -127,37 +110,14 @@ returns-in-Some g c =
       same = refl;
       content = l.content;
       frame = l.frame;
-      part = λ tells. tt;
-      place = λ tells. tt;
-      here_place = λ tells. tt;
-      stands = λ tells. tt;
-      within = tt;
-      here = tt;
-      inside = tt;
-      reached = tt;
-      nowhere = tt;
-      length = tt;
-      first = λ tells. tt;
-      anew = tt;
-      not_past = λ tells. tt;
-      moved = tt;
-      capped = tt;
-      on = tt;
-      stops = tt;
-      goes_on = λ used. tt;
-      at_end = tt;
-      charged = tt;
-      takes = tt;
-      copies = tt;
-      onward = tt;
+      told = λ tells. tt;
+      found = tt;
+      asked = tt;
       given = omega (arith, l.given);
-      fetched = tt;
-      ended = tt;
       most = omega (arith, l.given, l.few, want, capped);
       received = omega (arith, l.given, l.few, want, window, c.requires.within.window);
       calls = omega (arith, l.calls, l.given);
       turns = omega (arith, l.turns, l.given, s.turns);
-      filled_up = tt;
       steps = omega (arith, s.steps, l.steps);
       greatest = omega (arith, s.greatest, l.greatest, l.given);
       faults = l.faults;
@@ -197,43 +157,50 @@ returns g c =
       same = refl;
       content = f.content;
       frame = f.frame;
-      part = λ tells.
-          let x = g.S.Source.content c.args.source.now in
-          let e = (c.requires.told tells).0 in
-          let long = raw_long self.length self.blocks self.size x self.some self.covers self.last e in
-          let read = c.part.ensures.value ∙ if_none c.load_filled-loaded.result.fault c.in_default.is (f.bytes tells) in
-          record {
-            within = omega (arith, long, l.within, a.within);
-            next = n.block;
-            all = raw_all c.leading-kind.result.0 self.size from.block blocks asked self.blocks c.min-want.result c.place_of-at.result (asked * self.size) x c.part.result.now (raw_count self.length self.blocks self.size x self.some self.covers self.last e) a.within l.within at (omega (arith, e, below)) (omega (arith, e, self.covers)) refl (c.min-want.ensures ∙ ap (λ (j : ℕ). min (j - c.place_of-at.result) (asked * self.size)) e) read l.all;
-            ended = never _ _ _ l.goes;
-          };
-      place = λ tells. next;
-      here_place = λ tells. here;
-      stands = λ tells kind. omega (arith, l.within, a.within);
-      within = next;
-      here = (refl, here, charge_fresh self.length self.blocks self.size from (record from { ask = 1 }) there w.some refl refl);
-      inside = own_size _;
-      reached = λ kind. reach;
-      nowhere = λ none. absurd (omega (arith, l.some, none));
-      length = λ _. sym c.length.ensures.size ∙ c.if-length-self.false;
-      first = λ tells some d is le. (raw_onward self.length self.size c.after.result.block d.block le, raw_first self.length self.blocks self.size c.after.result d self.some self.covers self.last next le);
-      anew = own_size _;
-      not_past = λ tells d within place past. omega (arith, l.within, a.capped);
-      moved = n.block;
-      capped = record { raw = λ kind. omega (arith, l.within, a.capped) };
-      on = λ _. omega (arith, n.block, l.some, there);
-      stops = λ used. absurd (omega (arith, n.used, w.used, used));
-      goes_on = λ used. absurd (omega (arith, w.used, used));
-      at_end = λ end. absurd (over end);
-      charged = let r = raw_charged self.length self.blocks self.size from c.after.result asked blocks c.min-want.result l.some l.within there a.within a.ask w.some w.passed self.covers self.last want n.block n.ask in
-          omega (arith, r, got, f.given);
-      takes = raw_takes c.leading-kind.result.0 self.size from.used from.block blocks c.after.result.block l.some n.block;
-      copies = λ kind. raw_copies self.length self.size from.block blocks c.after.result.block n.block;
-      onward = (own_size _, raw_onward self.length self.size from.block c.after.result.block (omega (arith, n.block)));
+      told = λ tells. record {
+        part =
+            let x = g.S.Source.content c.args.source.now in
+            let e = (c.requires.told tells).0 in
+            let long = raw_long self.length self.blocks self.size x self.some self.covers self.last e in
+            let read = c.part.ensures.value ∙ if_none c.load_filled-loaded.result.fault c.in_default.is (f.bytes tells) in
+            record {
+              within = omega (arith, long, l.within, a.within);
+              next = n.block;
+              all = raw_all c.leading-kind.result.0 self.size from.block blocks asked self.blocks c.min-want.result c.place_of-at.result (asked * self.size) x c.part.result.now (raw_count self.length self.blocks self.size x self.some self.covers self.last e) a.within l.within at (omega (arith, e, below)) (omega (arith, e, self.covers)) refl (c.min-want.ensures ∙ ap (λ (j : ℕ). min (j - c.place_of-at.result) (asked * self.size)) e) read l.all;
+              ended = never _ _ _ l.goes;
+            };
+        place = next;
+        here_place = here;
+        stands = λ kind. omega (arith, l.within, a.within);
+        first = λ some d is le. (raw_onward self.length self.size c.after.result.block d.block le, raw_first self.length self.blocks self.size c.after.result d self.some self.covers self.last next le);
+        not_past = λ d within place past. omega (arith, l.within, a.capped);
+      };
+      found = record {
+        within = next;
+        here = (refl, here, charge_fresh self.length self.blocks self.size from (record from { ask = 1 }) there w.some refl refl);
+        inside = own_size _;
+        reached = λ kind. reach;
+        nowhere = λ none. absurd (omega (arith, l.some, none));
+        anew = own_size _;
+        moved = n.block;
+        capped = record { raw = λ kind. omega (arith, l.within, a.capped) };
+        on = λ _. omega (arith, n.block, l.some, there);
+        stops = λ used. absurd (omega (arith, n.used, w.used, used));
+        goes_on = λ used. absurd (omega (arith, w.used, used));
+        at_end = λ end. absurd (over end);
+        charged = let r = raw_charged self.length self.blocks self.size from c.after.result asked blocks c.min-want.result l.some l.within there a.within a.ask w.some w.passed self.covers self.last want n.block n.ask in
+            omega (arith, r, got, f.given);
+        takes = raw_takes c.leading-kind.result.0 self.size from.used from.block blocks c.after.result.block l.some n.block;
+        copies = λ kind. raw_copies self.length self.size from.block blocks c.after.result.block n.block;
+        onward = (own_size _, raw_onward self.length self.size from.block c.after.result.block (omega (arith, n.block)));
+        filled_up = λ _. l.some;
+      };
+      asked = record {
+        length = λ _. sym c.length.ensures.size ∙ c.if-length-self.false;
+        fetched = λ _. omega (arith, got, whole, self.some, want, at, below, f.given);
+        ended = λ end. absurd (over end);
+      };
       given = omega (arith, f.given);
-      fetched = λ _. omega (arith, got, whole, self.some, want, at, below, f.given);
-      ended = λ end. absurd (over end);
       most = omega (arith, f.given, f.few, want, capped);
       received = omega (arith, f.given, f.few, want, window, w.window);
       calls = omega (arith, f.calls, f.given);
@@ -241,7 +208,6 @@ returns g c =
           let t = c.leading-kind.new.m.turns.number - c.load_filled-loaded.new.m.turns.number in
           let r = raw_turns self.length self.blocks self.size from.block asked c.min-want.result t self.some self.words a.some a.within there self.last want (omega (arith, at, below)) (omega (arith, l.turns, long, whole)) in
           omega (arith, r, got, s.turns, f.turns, f.given);
-      filled_up = λ _. l.some;
       steps = omega (arith, s.steps, l.steps, f.steps);
       greatest = omega (arith, s.greatest, l.greatest, f.greatest, f.given);
       faults = f.faults;

@@ -1,7 +1,8 @@
 use Rattle.std.proofs.Common.{arith, ◌+◌, ◌*◌, ◌≤◌, ◌-◌, refl, mul-le-mul_right}
 use Rattle.abt_runs.specs.RawLaws.{raw_long, own_size}
 use Rattle.abt_runs.specs.Raw.{RawPlace}
-use Rattle.abt_runs.proofs.Charges.{charge_fresh, raw_copies, raw_onward, raw_first, no_more, no_more_than, few_turns, none_greatest}
+use Rattle.abt_runs.specs.declared.part.RunKind.TheVariants.{Raw}
+use Rattle.abt_runs.proofs.Charges.{charge_fresh, raw_takes, raw_copies, raw_onward, raw_first, no_more, no_more_than, few_turns, none_greatest}
 use Rattle.abt_runs.proofs.raw.RawRunsBlockRuns.next_raw.Goals as goal
 
 -- raw blocks of a raw image need no header
@@ -20,35 +21,45 @@ returns g c =
       same = refl;
       content = λ tells. refl;
       frame = refl;
-      part = λ tells.
-          let long = raw_long self.length self.blocks self.size _ self.some self.covers self.last (c.requires.told tells).0 in
-          record {
-            within = omega (arith, long, c.requires.inside);
-            next = refl;
-            all = c.requires.raw tells;
-            ended = λ end. absurd cc;
-          };
-      place = λ tells. next;
-      here_place = λ tells. here;
-      stands = λ tells kind. omega (arith, c.requires.inside);
-      within = next;
-      here = (refl, here, charge_fresh self.length self.blocks self.size from (record from { ask = 1 }) (omega (arith, c.requires.some, c.requires.inside)) w.some refl refl);
-      reached = λ kind. reach;
-      first = λ tells some d is le. (raw_onward self.length self.size (from.block + n) d.block le, raw_first self.length self.blocks self.size (record from { block = from.block + n; ask = 1 }) d self.some self.covers self.last next le);
-      moved = refl;
-      capped = record { raw = λ kind. own_size _ };
-      on = λ going. omega (arith, c.requires.some, c.requires.inside);
-      stops = λ used. (refl, refl);
-      at_end = λ end. absurd cc;
-      charged = omega (arith, raw_first self.length self.blocks self.size from (record from { block = from.block + n; ask = 1 }) self.some self.covers self.last w (no_more _ _));
-      copies = λ kind. raw_copies self.length self.size from.block n (from.block + n) refl;
-      onward = (own_size _, raw_onward self.length self.size from.block (from.block + n) (no_more _ _));
+      told = λ tells. record {
+        part =
+            let long = raw_long self.length self.blocks self.size _ self.some self.covers self.last (c.requires.told tells).0 in
+            record {
+              within = omega (arith, long, c.requires.inside);
+              next = refl;
+              all = c.requires.raw tells;
+              ended = λ end. absurd cc;
+            };
+        place = next;
+        here_place = here;
+        stands = λ kind. omega (arith, c.requires.inside);
+        first = λ some d is le. (raw_onward self.length self.size (from.block + n) d.block le, raw_first self.length self.blocks self.size (record from { block = from.block + n; ask = 1 }) d self.some self.covers self.last next le);
+        not_past = λ d within place past. own_size _;
+      };
+      found = record {
+        within = next;
+        here = (refl, here, charge_fresh self.length self.blocks self.size from (record from { ask = 1 }) (omega (arith, c.requires.some, c.requires.inside)) w.some refl refl);
+        inside = own_size _;
+        reached = λ kind. reach;
+        nowhere = λ none. absurd (omega (arith, c.requires.some, none));
+        anew = own_size _;
+        moved = refl;
+        capped = record { raw = λ kind. own_size _ };
+        on = λ going. omega (arith, c.requires.some, c.requires.inside);
+        stops = λ used. (refl, refl);
+        goes_on = λ used. absurd (omega (arith, w.used, used));
+        at_end = λ end. absurd cc;
+        charged = omega (arith, raw_first self.length self.blocks self.size from (record from { block = from.block + n; ask = 1 }) self.some self.covers self.last w (no_more _ _));
+        takes = raw_takes Raw self.size from.used from.block n (from.block + n) c.requires.some refl;
+        copies = λ kind. raw_copies self.length self.size from.block n (from.block + n) refl;
+        onward = (own_size _, raw_onward self.length self.size from.block (from.block + n) (no_more _ _));
+        filled_up = λ some. c.requires.some;
+      };
       given = own_size _;
       fetched = λ none. refl;
       received = no_more _ _;
       calls = no_more_than _ _ _;
       turns = few_turns _ _ _ _ _ s.turns;
-      filled_up = λ some. c.requires.some;
       steps = s.steps;
       greatest = none_greatest _ _ _ s.greatest;
       faults = own_size _;

@@ -32,35 +32,35 @@ parts-preserved g c =
     let s = c.in-Some.longer in
     let j = joins r p s (sym c.joined.ensures ∙ c.in-Some.is) in
     let at : r.next.block ≡ c.args.from.block + r.blocks = i.next in
-    let moved : p.next.block ≡ r.next.block + p.blocks = e.moved in
-    let first : p.here.block ≡ r.next.block = e.here.0 in
+    let moved : p.next.block ≡ r.next.block + p.blocks = e.found.moved in
+    let first : p.here.block ≡ r.next.block = e.found.here.0 in
     let same : s.next ≡ p.next = next_is r p s j in
     let blocks : s.blocks ≡ r.blocks + p.blocks = blocks_are r p s j in
     let tick = c.tick.ensures in
     let steps : c.next_part.new.m.steps.number ≡ c.parts.m.steps.number + 1 = e.steps ∙ ap (λ (n : ℕ). n + 1) tick.steps in
     let room : 0 < room_in r.kind r.blocks c.args.cap = omega (arith, c.if-room-eq0.false, c.room-room.ensures) in
-    let read : g.S.Source.given c.next_part.new.source + runs.charge self r.next ≤ g.S.Source.given c.parts.source + runs.charge self p.next + entry r.next = rw i.same at e.charged in
+    let read : g.S.Source.given c.next_part.new.source + runs.charge self r.next ≤ g.S.Source.given c.parts.source + runs.charge self p.next + entry r.next = rw i.same at e.found.charged in
     let paid : g.S.Source.given c.next_part.new.source + runs.charge self c.args.from ≤ g.S.Source.given c.args.source.now + runs.charge self p.next + entry c.args.from = omega (arith, read, i.going room) in
     let padded = (g.met.Self.BlockRuns.padded c.parts.self r.next).0 in
     record {
       same = e.same ∙ i.same;
       kept = λ t. e.content t ∙ i.kept t;
       frame = e.frame ∙ i.frame;
-      so_far = λ t. so_far (runs.list self x) c.args.from.block r p s j (i.so_far t) (rw (i.same, i.kept t) at (e.part t));
-      here_place = λ t. here_is (λ (h : Cursor). runs.place self x h) r p s j (i.here_place t) (λ z. rw (i.same, i.kept t) at (e.here_place t)) (λ z n. rw (i.same, i.kept t) at (e.place t));
-      next_place = λ t. subst (λ (h : Cursor). runs.place self x h) (sym same) (rw (i.same, i.kept t) at (e.place t));
-      stands = λ t k. raw_is (λ (h : Cursor). 0 < runs.together self x h) r p s j i.none (i.stands t) (λ k' some. let f : p.blocks ≤ runs.together self x p.here = rw (i.same, i.kept t) at (e.stands t k') in omega arith) k;
-      here_within = here_is (λ (h : Cursor). runs.within self h) r p s j i.here_within (λ z. rw i.same at e.here.1) (λ z n. rw i.same at e.within);
-      next_within = subst (λ (h : Cursor). runs.within self h) (sym same) (rw i.same at e.within);
-      reached = λ k. raw_is (λ (h : Cursor). runs.size self ≤ runs.reach self h) r p s j i.none i.reached (λ k' some. at_least p.blocks (runs.size self) (runs.reach self p.here) some (rw i.same at (e.reached k'))) k;
+      so_far = λ t. so_far (runs.list self x) c.args.from.block r p s j (i.so_far t) (rw (i.same, i.kept t) at (e.told t).part);
+      here_place = λ t. here_is (λ (h : Cursor). runs.place self x h) r p s j (i.here_place t) (λ z. rw (i.same, i.kept t) at (e.told t).here_place) (λ z n. rw (i.same, i.kept t) at (e.told t).place);
+      next_place = λ t. subst (λ (h : Cursor). runs.place self x h) (sym same) (rw (i.same, i.kept t) at (e.told t).place);
+      stands = λ t k. raw_is (λ (h : Cursor). 0 < runs.together self x h) r p s j i.none (i.stands t) (λ k' some. let f : p.blocks ≤ runs.together self x p.here = rw (i.same, i.kept t) at ((e.told t).stands k') in omega arith) k;
+      here_within = here_is (λ (h : Cursor). runs.within self h) r p s j i.here_within (λ z. rw i.same at e.found.here.1) (λ z n. rw i.same at e.found.within);
+      next_within = subst (λ (h : Cursor). runs.within self h) (sym same) (rw i.same at e.found.within);
+      reached = λ k. raw_is (λ (h : Cursor). runs.size self ≤ runs.reach self h) r p s j i.none i.reached (λ k' some. at_least p.blocks (runs.size self) (runs.reach self p.here) some (rw i.same at (e.found.reached k'))) k;
       here = here_is (λ (h : Cursor). h.block ≡ c.args.from.block) r p s j i.here (λ z. omega arith) (λ z n. omega arith);
       next = ap (λ (h : Cursor). h.block) same ∙ (let z : p.next.block ≡ c.args.from.block + s.blocks = omega arith in z);
       none = none_is r p s j i.none;
       ended = end_is r p s j i.ended;
       nowhere = nowhere_is r p s j i.nowhere;
-      few = few_are c.args.cap r p s j i.none i.few (λ k. let f = e.capped.raw k in omega (arith, f, c.room-room.ensures));
+      few = few_are c.args.cap r p s j i.none i.few (λ k. let f = e.found.capped.raw k in omega (arith, f, c.room-room.ensures));
       charged = omega (arith, paid, ap (λ (h : Cursor). runs.charge self h) same);
-      going = λ more. let none : entry s.next ≡ 0 = ap entry same ∙ entry_after c.args.cap r p s j i.none room (λ u. let f = e.stops u in (f.0, f.1 ∙ c.room-room.ensures)) more in omega (arith, paid, none, ap (λ (h : Cursor). runs.charge self h) same);
+      going = λ more. let none : entry s.next ≡ 0 = ap entry same ∙ entry_after c.args.cap r p s j i.none room (λ u. let f = e.found.stops u in (f.0, f.1 ∙ c.room-room.ensures)) more in omega (arith, paid, none, ap (λ (h : Cursor). runs.charge self h) same);
       more = omega (arith, i.more, e.given);
       received = let a = i.received in let b = e.received in omega (arith, a, b, steps);
       calls = let a = i.calls in let b = e.calls in omega (arith, a, b, steps, i.more, e.given);
@@ -91,7 +91,7 @@ returns-in-None-clause-end g c =
     let i = c.parts.invariant in
     let self = c.args.self.now in
     let rest = rests c.parts.run c.in-Ok.part (sym c.joined.ensures ∙ c.in-None.is) in
-    none_left c.parts.run c.args.from.block c.parts.run.next.block (runs.count self) i.none i.ended i.next (g.met.Self.BlockRuns.bounded self c.parts.run.next i.next_within) (λ z. rw i.same at ((c.in-Ok.ensures.at_end (rests_at c.parts.run c.in-Ok.part rest z)).0))
+    none_left c.parts.run c.args.from.block c.parts.run.next.block (runs.count self) i.none i.ended i.next (g.met.Self.BlockRuns.bounded self c.parts.run.next i.next_within) (λ z. rw i.same at ((c.in-Ok.ensures.found.at_end (rests_at c.parts.run c.in-Ok.part rest z)).0))
 
 pub returns-in-Err-clause-cause : goal.returns-in-Err-clause-cause
 returns-in-Err-clause-cause g c = later c.in-Err.fault _ _ _ _ c.parts.invariant.faults c.in-Err.ensures.cause
@@ -100,7 +100,7 @@ pub returns-in-None-clause-run : goal.returns-in-None-clause-run
 returns-in-None-clause-run g c tells =
     let i = c.parts.invariant in
     let e = c.in-Ok.ensures in
-    stops c.args.cap _ c.args.from.block c.parts.run c.in-Ok.part (rests c.parts.run c.in-Ok.part (sym c.joined.ensures ∙ c.in-None.is)) (i.so_far tells) (rw (i.same, i.kept tells) at (e.part tells)) i.none i.few
+    stops c.args.cap _ c.args.from.block c.parts.run c.in-Ok.part (rests c.parts.run c.in-Ok.part (sym c.joined.ensures ∙ c.in-None.is)) (i.so_far tells) (rw (i.same, i.kept tells) at (e.told tells).part) i.none i.few
 
 pub returns-in-None-clause-charged : goal.returns-in-None-clause-charged
 returns-in-None-clause-charged g c =

@@ -17,4 +17,4 @@ read_on x at count cap g g' some inside end goes same = elim (cases_Bool (is_end
 ]
 
 pub returns-clause-fetched : goal.returns-clause-fetched
-returns-clause-fetched g c = ok_both c.next_part.result _ _ _ (λ x h i. read_on x _ _ _ _ _ c.requires.some c.requires.inside h i) c.next_part.ensures.at_end c.next_part.ensures.fetched
+returns-clause-fetched g c = ok_both c.next_part.result _ _ _ (λ x h i. read_on x _ _ _ _ _ c.requires.some c.requires.inside h.at_end i.fetched) c.next_part.ensures.found c.next_part.ensures.asked
