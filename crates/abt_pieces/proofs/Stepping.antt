@@ -1,15 +1,18 @@
 -- A cutter from step to step.
-use Rattle.std.proofs.Common.{◌≡◌, ℕ, ◌+◌, ◌-◌, ◌<◌, ◌≤◌, false, List, ◌++◌, length, take, drop, refl, sym, ap, ◌∙◌, arith, inl, inr, nat_lt, append_assoc, take-append-drop, ◌*◌}
+use Rattle.std.proofs.Common.{◌≡◌, ℕ, ◌+◌, ◌-◌, ◌<◌, ◌≤◌, false, List, ◌++◌, length, take, drop, refl, sym, ap, ◌∙◌, arith, inl, inr, nat_lt, append_assoc, take-append-drop, ◌*◌, max}
 use Rattle.std.proofs.lemmas.Bool.{cases_Bool, ltb-true, ltb-false}
 use Rattle.abt_sparse.specs.Block.{Block, AreBlocks}
 use Rattle.abt_sparse.specs.Chunk.{piece, header_record, plain_header}
+use Rattle.abt_io.specs.declared.meter.Meter.{Meter}
 use Rattle.abt_runs.specs.declared.part.Cursor.{Cursor}
+use Rattle.abt_pieces.specs.Calls.{Devices}
+use Rattle.abt_pieces.specs.Step.{StepCosts}
 use Rattle.abt_pieces.specs.Plan.{FirstPiece, last_words}
 use Rattle.abt_pieces.specs.Contents.{contents_before}
 use Rattle.abt_pieces.specs.Gather.{frame, first_gatherer, look_left}
 use Rattle.abt_pieces.specs.Outline.{blocks_of, piece_at}
 use Rattle.abt_pieces.specs.Write.{rest_of, frame_of, write_left, writer_words}
-use Rattle.abt_pieces.specs.Cutter.{most_raw, first_writer, is_begun, so_far, coming, ToldOutline, ToldCutter, Passed, TakenPlan, planned_left, silent_cut, plan_words, piece_words}
+use Rattle.abt_pieces.specs.Cutter.{most_raw, first_writer, is_begun, so_far, coming, ToldOutline, ToldCutter, ToldStage, segments_left, Passed, TakenPlan, planned_left, silent_cut, plan_words, piece_words}
 use Rattle.abt_pieces.specs.declared.outline.Piece.{Piece}
 use Rattle.abt_pieces.specs.declared.fault.PieceFault.{PieceFault}
 use Rattle.abt_pieces.specs.declared.outline.Outline.{Outline}
@@ -147,3 +150,56 @@ behind_unbegun n e st h = elim (cases_Bool (nat_lt e n)) [
 
 pub behind_passed : (n s e : ℕ) (st : Stage) → (e < n → s < e) → Behind n e st → Passed n s e st
 behind_passed n s e st moves h = record { moves = moves; within = h.end; between = h.between; done = λ over. h.done (omega (arith, over, h.end)) }
+
+pub told_moves : (P : Cursor → Type 0) (T : Cursor → ℕ) (b : ℕ) (l : List Block) (limit made : ℕ) (start : Cursor) (st new : Stage) → ToldCutter P T b l limit made start st → segments_left b limit l start.block new ≡ segments_left b limit l start.block st → ToldStage P T b l limit start.block new → ToldCutter P T b l limit made start new
+told_moves P T b l limit made start st new told same stage = record {
+  place = told.place;
+  cuts = record { before = told.cuts.before; count = told.cuts.count; all = told.cuts.all ∙ ap (λ (x : List (List Block)). told.cuts.before ++ x) (sym same) };
+  stage = stage;
+}
+
+-- a step of the writer, in a piece whose plan compared so many words
+pub write_costs : (plan words one : ℕ) (a z : Devices) (m m' : Meter) → plan ≤ one → StepCosts words (2 * one) a z m m' → StepCosts (plan + words) (3 * one) a z m m'
+write_costs plan words one a z m m' most h = record {
+  given = h.given;
+  received = h.received;
+  grown = h.grown;
+  few = h.few;
+  steps = h.steps;
+  greatest = h.greatest;
+  calls = h.calls;
+  write_calls = h.write_calls;
+  turns = omega (arith, h.turns, most);
+}
+
+-- a step that leaves the output alone
+pub unwritten_costs : (words more : ℕ) (a z : Devices) (m m' : Meter) → z.writes ≡ a.writes → z.written ≡ a.written → a.given ≤ z.given → z.given ≤ a.given + 65536 → m'.steps.number ≡ m.steps.number + 1 → m'.greatest.number ≡ max m.greatest.number (z.given - a.given) → z.reads ≤ a.reads + (z.given - a.given) + 2 → m'.turns.number + words ≤ m.turns.number + 2 * (z.given - a.given) + 3 + more → StepCosts words more a z m m'
+unwritten_costs words more a z m m' writes written given received steps greatest calls turns = record {
+  given = given;
+  received = received;
+  grown = omega (arith, written);
+  few = omega (arith, written);
+  steps = steps;
+  greatest = greatest;
+  calls = calls;
+  write_calls = omega (arith, writes, written);
+  turns = omega (arith, written, turns);
+}
+
+-- a step that leaves the source alone, and writes a header
+pub header_costs : (plan one : ℕ) (a z : Devices) (m m' : Meter) → z.reads ≡ a.reads → z.given ≡ a.given → plan ≤ one → a.written ≤ z.written → z.written ≤ a.written + 28 → m'.steps.number ≡ m.steps.number + 1 → m'.greatest.number ≡ m.greatest.number → z.writes + a.written ≤ a.writes + z.written + 1 → m'.turns.number + a.written ≤ m.turns.number + z.written + 1 → StepCosts plan (3 * one) a z m m'
+header_costs plan one a z m m' reads given most grown few steps greatest writes turns = record {
+  given = omega (arith, given);
+  received = omega (arith, given);
+  grown = grown;
+  few = omega (arith, few);
+  steps = steps;
+  greatest = omega (arith, given, greatest);
+  calls = omega (arith, reads);
+  write_calls = writes;
+  turns = omega (arith, most, grown, turns);
+}
+
+-- nothing is written while a piece is planned
+pub no_bytes_yet : (b limit n : ℕ) → 64 + b ≤ limit → 0 + (n - n) ≤ limit
+no_bytes_yet b limit n granted = omega (arith, granted)

@@ -13,3 +13,4 @@ pub mod Turn
 pub mod Calls
 pub mod NextPiece
 pub mod Step
+pub mod Stepped

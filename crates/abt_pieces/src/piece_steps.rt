@@ -16,7 +16,7 @@ ghost use Rattle.abt_pieces.specs.Image.{Appended, Leads, IsImage, StageMayCome}
 ghost use Rattle.abt_pieces.specs.SpentStage.{SpentPlan, SpentStage, SpentPiece};
 ghost use Rattle.abt_pieces.specs.Calls.{Failing, devices};
 ghost use Rattle.abt_pieces.specs.NextPiece.{IsNext};
-ghost use Rattle.abt_pieces.specs.Step.{CameWhole, Ends, GoesOn, StepCosts};
+ghost use Rattle.abt_pieces.specs.Stepped.{Stepped};
 ghost use Rattle.abt_pieces.specs.declared.stage.Stage.{Stage};
 ghost use Rattle.abt_pieces.specs.declared.stage.PieceProgress.{PieceProgress};
 
@@ -176,6 +176,38 @@ impl<R: BlockRuns + Drop> Cutter<R> {
         }
     }
 
+    /// One step of a plan that is begun, or begins here. It leaves the output alone.
+    #[inline(always)]
+    fn plan_on<S: Source, O: Output>(
+        &mut self,
+        from: Planner,
+        source: &mut S,
+        _output: &O,
+        w: &mut Window,
+        m: &mut Meter,
+    ) -> Result<PieceProgress, PieceFault>
+        requires few { self.old.made ≤ self.old.start.block }
+        requires at { (self.old.stage ≡ Stage.Plan from) ⊎ ((self.old.stage ≡ Stage.Between) ×
+            (from.at ≡ self.old.start)) }
+        requires sound { SoundPlanner (R.within self.old.runs) self.old.limit self.old.start.block from }
+        requires taken { TakenPlan (R.taken self.old.runs) (R.size self.old.runs) self.old.limit self.old.start from }
+        requires opened { IsTrue S.tells → R.opened self.old.runs (S.content source.old) }
+        requires told { IsTrue S.tells → ToldCutter (R.place self.old.runs (S.content source.old))
+            (R.together self.old.runs (S.content source.old)) (R.size self.old.runs)
+            (R.list self.old.runs (S.content source.old)) self.old.limit self.old.made self.old.start self.old.stage }
+        requires planned { IsTrue S.tells → ToldPlanner (R.place self.old.runs (S.content source.old))
+            (R.size self.old.runs) (R.list self.old.runs (S.content source.old)) from }
+        ensures stepped { Stepped R.BlockRuns S.Source O.Output result self.old.runs self.new.runs self.old.limit
+            self.new.limit self.old.start self.new.start self.old.made self.new.made self.old.stage self.new.stage
+            source.old source.new _output.now _output.now m.old m.new }
+        ensures unended { OnEnd result ⊥ }
+    {
+        match self.plan(from, source, w, m) {
+            Ok(()) => Ok(PieceProgress::More),
+            Err(fault) => Err(fault),
+        }
+    }
+
     /// Writes the header of a planned piece. One step.
     fn begin<O: Output>(
         &mut self,
@@ -246,70 +278,10 @@ impl<R: BlockRuns + Drop> Cutter<R> {
         requires told { IsTrue S.tells → ToldCutter (R.place self.old.runs (S.content source.old))
             (R.together self.old.runs (S.content source.old)) (R.size self.old.runs)
             (R.list self.old.runs (S.content source.old)) self.old.limit self.old.made self.old.start self.old.stage }
-        ensures same { (self.new.runs ≡ self.old.runs) × (self.new.limit ≡ self.old.limit) }
-        ensures content { IsTrue S.tells → S.content source.new ≡ S.content source.old }
-        ensures frame { S.read_frame source.new ≡ S.read_frame source.old }
-        ensures write_frame { O.write_frame output.new ≡ O.write_frame output.old }
-        ensures told { IsTrue S.tells → ToldCutter (R.place self.old.runs (S.content source.old))
-            (R.together self.old.runs (S.content source.old)) (R.size self.old.runs)
-            (R.list self.old.runs (S.content source.old)) self.new.limit self.new.made self.new.start self.new.stage }
-        ensures begun { is_begun self.new.stage ≡ is_more result }
-        ensures goes_on { OnMore result (GoesOn R.BlockRuns self.old.runs self.old.start self.new.start self.old.made
-            self.new.made self.old.stage self.new.stage (devices S.Source O.Output source.old output.old)
-            (devices S.Source O.Output source.new output.new) m.old m.new) }
-        ensures within { so_far self.old.stage + (length (O.written output.new) - length (O.written output.old))
-            ≤ self.old.limit }
-        ensures front { IsTrue S.tells → O.written output.new ≡ O.written output.old ++ take
-            (length (O.written output.new) - length (O.written output.old))
-            (coming (R.size self.old.runs) self.old.limit (R.list self.old.runs (S.content source.old))
-            self.old.start.block self.old.stage) }
-        ensures rest { IsTrue S.tells →
-            OnMore result (coming (R.size self.old.runs) self.old.limit (R.list self.old.runs (S.content source.old))
-            self.old.start.block self.new.stage ≡ drop (length (O.written output.new) - length (O.written output.old))
-            (coming (R.size self.old.runs) self.old.limit (R.list self.old.runs (S.content source.old))
-            self.old.start.block self.old.stage)) }
-        ensures leads { OnMore
-            result (Leads (StageMayCome (R.size self.old.runs) (R.count self.old.runs) self.old.stage)
-            (StageMayCome (R.size self.old.runs) (R.count self.old.runs) self.new.stage) (O.written output.old)
-            (O.written output.new)) }
-        ensures all { OnPiece
-            result (λ p. Appended (StageMayCome (R.size self.old.runs) (R.count self.old.runs) self.old.stage)
-            (O.written output.old) (O.written output.new)) }
-        ensures piece { OnPiece result (λ p. IsNext (R.count self.old.runs) self.old.limit self.old.start.block
-            self.new.start.block self.old.made self.new.made self.new.stage p) }
-        ensures ends { OnPiece result (λ p. Ends R.BlockRuns self.old.runs self.old.start self.new.start self.old.stage
-            p (devices S.Source O.Output source.old output.old) (devices S.Source O.Output source.new output.new)
-            m.old m.new) }
-        ensures laid { IsTrue S.tells → OnPiece result (λ p. CameWhole (R.size self.old.runs) self.old.limit
-            (R.list self.old.runs (S.content source.old)) self.old.start.block self.old.stage p (O.written output.old)
-            (O.written output.new)) }
-        ensures refused { IfErr result (λ e. self.new.stage ≡ Stage.Failed e) }
-        ensures costs { StepCosts (cut_words (R.one self.old.runs) (R.count self.old.runs) self.old.start
-            self.old.stage) (3 * R.one self.old.runs) (devices S.Source O.Output source.old output.old)
-            (devices S.Source O.Output source.new output.new) m.old m.new }
-        ensures spends { IsTrue S.tells → (t : ℕ) →
-            SpentStage (λ c. R.within self.old.runs c × R.place self.old.runs (S.content source.old) c)
-            (R.charge self.old.runs) (R.copied self.old.runs) (R.held self.old.runs) (R.size self.old.runs)
-            self.old.limit (R.count self.old.runs) (R.one self.old.runs) self.old.start t self.old.stage →
-            OnMore result (SpentStage (λ c. R.within self.old.runs c × R.place self.old.runs (S.content source.old) c)
-            (R.charge self.old.runs) (R.copied self.old.runs) (R.held self.old.runs) (R.size self.old.runs)
-            self.old.limit (R.count self.old.runs) (R.one self.old.runs) self.old.start
-            (t + (S.given source.new - S.given source.old)) self.new.stage) }
-        ensures spent { IsTrue S.tells → (t : ℕ) →
-            SpentStage (λ c. R.within self.old.runs c × R.place self.old.runs (S.content source.old) c)
-            (R.charge self.old.runs) (R.copied self.old.runs) (R.held self.old.runs) (R.size self.old.runs)
-            self.old.limit (R.count self.old.runs) (R.one self.old.runs) self.old.start t self.old.stage →
-            OnPiece result (λ p. SpentPiece (R.charge self.old.runs) (R.copied self.old.runs) (R.count self.old.runs)
-            (R.one self.old.runs) p.past self.new.start (t + (S.given source.new - S.given source.old))) }
-        ensures failing { Failing result (devices S.Source O.Output source.old output.old)
-            (devices S.Source O.Output source.new output.new) }
-        ensures full_faults { O.full_faults output.new ≡ O.full_faults output.old + full_cut result }
-        ensures full { full_cut result ≡ 1 → IsTrue (O.is_full output.new) ×
-            (so_far self.old.stage + (length (O.written output.new) - length (O.written output.old)) < self.old.limit) }
+        ensures stepped { Stepped R.BlockRuns S.Source O.Output result self.old.runs self.new.runs self.old.limit
+            self.new.limit self.old.start self.new.start self.old.made self.new.made self.old.stage self.new.stage
+            source.old source.new output.old output.new m.old m.new }
         ensures unended { OnEnd result ⊥ }
-        ensures cause { IfErr result (λ e. (self.old.stage ≡ Stage.Failed e) ⊎
-            HasCause e S.tells (S.read_faults source.old) (S.read_faults source.new) (O.write_faults output.old)
-            (O.write_faults output.new)) }
     {
         let mut writer = from;
         match writer.step(&mut self.runs, source, output, w, m) {
@@ -339,70 +311,9 @@ impl<R: BlockRuns + Drop> Cutter<R> {
         requires told { IsTrue S.tells → ToldCutter (R.place self.old.runs (S.content source.old))
             (R.together self.old.runs (S.content source.old)) (R.size self.old.runs)
             (R.list self.old.runs (S.content source.old)) self.old.limit self.old.made self.old.start self.old.stage }
-        ensures same { (self.new.runs ≡ self.old.runs) × (self.new.limit ≡ self.old.limit) }
-        ensures content { IsTrue S.tells → S.content source.new ≡ S.content source.old }
-        ensures frame { S.read_frame source.new ≡ S.read_frame source.old }
-        ensures write_frame { O.write_frame output.new ≡ O.write_frame output.old }
-        ensures told { IsTrue S.tells → ToldCutter (R.place self.old.runs (S.content source.old))
-            (R.together self.old.runs (S.content source.old)) (R.size self.old.runs)
-            (R.list self.old.runs (S.content source.old)) self.new.limit self.new.made self.new.start self.new.stage }
-        ensures begun { is_begun self.new.stage ≡ is_more result }
-        ensures goes_on { OnMore result (GoesOn R.BlockRuns self.old.runs self.old.start self.new.start self.old.made
-            self.new.made self.old.stage self.new.stage (devices S.Source O.Output source.old output.old)
-            (devices S.Source O.Output source.new output.new) m.old m.new) }
-        ensures within { so_far self.old.stage + (length (O.written output.new) - length (O.written output.old))
-            ≤ self.old.limit }
-        ensures front { IsTrue S.tells → O.written output.new ≡ O.written output.old ++ take
-            (length (O.written output.new) - length (O.written output.old))
-            (coming (R.size self.old.runs) self.old.limit (R.list self.old.runs (S.content source.old))
-            self.old.start.block self.old.stage) }
-        ensures rest { IsTrue S.tells →
-            OnMore result (coming (R.size self.old.runs) self.old.limit (R.list self.old.runs (S.content source.old))
-            self.old.start.block self.new.stage ≡ drop (length (O.written output.new) - length (O.written output.old))
-            (coming (R.size self.old.runs) self.old.limit (R.list self.old.runs (S.content source.old))
-            self.old.start.block self.old.stage)) }
-        ensures leads { OnMore
-            result (Leads (StageMayCome (R.size self.old.runs) (R.count self.old.runs) self.old.stage)
-            (StageMayCome (R.size self.old.runs) (R.count self.old.runs) self.new.stage) (O.written output.old)
-            (O.written output.new)) }
-        ensures all { OnPiece
-            result (λ p. Appended (StageMayCome (R.size self.old.runs) (R.count self.old.runs) self.old.stage)
-            (O.written output.old) (O.written output.new)) }
-        ensures piece { OnPiece result (λ p. IsNext (R.count self.old.runs) self.old.limit self.old.start.block
-            self.new.start.block self.old.made self.new.made self.new.stage p) }
-        ensures ends { OnPiece result (λ p. Ends R.BlockRuns self.old.runs self.old.start self.new.start self.old.stage
-            p (devices S.Source O.Output source.old output.old) (devices S.Source O.Output source.new output.new)
-            m.old m.new) }
-        ensures laid { IsTrue S.tells → OnPiece result (λ p. CameWhole (R.size self.old.runs) self.old.limit
-            (R.list self.old.runs (S.content source.old)) self.old.start.block self.old.stage p (O.written output.old)
-            (O.written output.new)) }
-        ensures refused { IfErr result (λ e. self.new.stage ≡ Stage.Failed e) }
-        ensures costs { StepCosts (cut_words (R.one self.old.runs) (R.count self.old.runs) self.old.start
-            self.old.stage) (3 * R.one self.old.runs) (devices S.Source O.Output source.old output.old)
-            (devices S.Source O.Output source.new output.new) m.old m.new }
-        ensures spends { IsTrue S.tells → (t : ℕ) →
-            SpentStage (λ c. R.within self.old.runs c × R.place self.old.runs (S.content source.old) c)
-            (R.charge self.old.runs) (R.copied self.old.runs) (R.held self.old.runs) (R.size self.old.runs)
-            self.old.limit (R.count self.old.runs) (R.one self.old.runs) self.old.start t self.old.stage →
-            OnMore result (SpentStage (λ c. R.within self.old.runs c × R.place self.old.runs (S.content source.old) c)
-            (R.charge self.old.runs) (R.copied self.old.runs) (R.held self.old.runs) (R.size self.old.runs)
-            self.old.limit (R.count self.old.runs) (R.one self.old.runs) self.old.start
-            (t + (S.given source.new - S.given source.old)) self.new.stage) }
-        ensures spent { IsTrue S.tells → (t : ℕ) →
-            SpentStage (λ c. R.within self.old.runs c × R.place self.old.runs (S.content source.old) c)
-            (R.charge self.old.runs) (R.copied self.old.runs) (R.held self.old.runs) (R.size self.old.runs)
-            self.old.limit (R.count self.old.runs) (R.one self.old.runs) self.old.start t self.old.stage →
-            OnPiece result (λ p. SpentPiece (R.charge self.old.runs) (R.copied self.old.runs) (R.count self.old.runs)
-            (R.one self.old.runs) p.past self.new.start (t + (S.given source.new - S.given source.old))) }
-        ensures failing { Failing result (devices S.Source O.Output source.old output.old)
-            (devices S.Source O.Output source.new output.new) }
-        ensures full_faults { has_failed self.old.stage ≡ false → O.full_faults output.new
-            ≡ O.full_faults output.old + full_cut result }
-        ensures full { has_failed self.old.stage ≡ false → full_cut result ≡ 1 → IsTrue (O.is_full output.new) ×
-            (so_far self.old.stage + (length (O.written output.new) - length (O.written output.old)) < self.old.limit) }
-        ensures cause { IfErr result (λ e. (self.old.stage ≡ Stage.Failed e) ⊎
-            HasCause e S.tells (S.read_faults source.old) (S.read_faults source.new) (O.write_faults output.old)
-            (O.write_faults output.new)) }
+        ensures stepped { Stepped R.BlockRuns S.Source O.Output result self.old.runs self.new.runs self.old.limit
+            self.new.limit self.old.start self.new.start self.old.made self.new.made self.old.stage self.new.stage
+            source.old source.new output.old output.new m.old m.new }
         ensures end { OnEnd result ((self.old.stage ≡ Stage.Done) × (output.new ≡ output.old) ×
             (source.new ≡ source.old) × (self.new ≡ self.old)) }
         ensures after_last { self.old.stage ≡ Stage.Done → result ≡ Ok PieceProgress.End }
@@ -410,14 +321,8 @@ impl<R: BlockRuns + Drop> Cutter<R> {
             (output.new ≡ output.old) × (source.new ≡ source.old) × (self.new ≡ self.old) }
     {
         match self.stage {
-            Stage::Between => match self.plan(Planner::begin(self.start), source, w, m) {
-                Ok(()) => Ok(PieceProgress::More),
-                Err(fault) => Err(fault),
-            },
-            Stage::Plan(planner) => match self.plan(planner, source, w, m) {
-                Ok(()) => Ok(PieceProgress::More),
-                Err(fault) => Err(fault),
-            },
+            Stage::Between => self.plan_on(Planner::begin(self.start), source, output, w, m),
+            Stage::Plan(planner) => self.plan_on(planner, source, output, w, m),
             Stage::Begin(outline) => match self.begin(outline, output, m) {
                 Ok(()) => Ok(PieceProgress::More),
                 Err(fault) => Err(fault),

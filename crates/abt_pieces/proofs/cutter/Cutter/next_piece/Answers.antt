@@ -45,15 +45,15 @@ steps-init g c =
 pub steps-preserved : goal.steps-preserved
 steps-preserved g c =
     let i = c.steps.invariant in
-    let e = c.step.ensures in
-    let o = c.in-Ok-More.ensures in
+    let e = c.step.ensures.stepped in
+    let o = c.in-Ok-More.ensures.stepped in
     let is = c.in-Ok-More.field-0-is in
     let on = rw is at o.goes_on in
     let begun = rw is at o.begun in
     let costs = e.costs in
     let paid = rw i.runs at on.paid in
     let words = rw i.runs at on.words in
-    let between : c.args.self.now.stage ≡ Between = from_between _ _ c.requires.unbegun i.fresh (λ d. more_no_end (rw is at (o.after_last d))) (λ f d. no_fault _ f (o.again f d).0) in
+    let between : c.args.self.now.stage ≡ Between = from_between _ _ c.requires.unbegun i.fresh (λ d. more_no_end (rw is at (c.in-Ok-More.ensures.after_last d))) (λ f d. no_fault _ f (c.in-Ok-More.ensures.again f d).0) in
     record {
       runs = e.same.0 ∙ i.runs;
       limit = e.same.1 ∙ i.limit;
@@ -90,10 +90,10 @@ steps-preserved g c =
 pub returns-in-Ok-Piece : goal.returns-in-Ok-Piece
 returns-in-Ok-Piece g c =
     let i = c.steps.invariant in
-    let e = c.step.ensures in
-    let o = c.in-Ok-Piece.ensures in
+    let e = c.step.ensures.stepped in
+    let o = c.in-Ok-Piece.ensures.stepped in
     let is = c.in-Ok-Piece.field-0-is in
-    let between : c.args.self.now.stage ≡ Between = from_between _ _ c.requires.unbegun i.fresh (λ d. piece_no_end _ (rw is at (o.after_last d))) (λ f d. no_fault _ f (o.again f d).0) in
+    let between : c.args.self.now.stage ≡ Between = from_between _ _ c.requires.unbegun i.fresh (λ d. piece_no_end _ (rw is at (c.in-Ok-Piece.ensures.after_last d))) (λ f d. no_fault _ f (c.in-Ok-Piece.ensures.again f d).0) in
     let piece = rw is at o.piece in
     let ends = rw is at o.ends in
     record {
@@ -150,8 +150,8 @@ returns-in-Ok-Piece g c =
 pub returns-in-Ok-End : goal.returns-in-Ok-End
 returns-in-Ok-End g c =
     let i = c.steps.invariant in
-    let e = c.step.ensures in
-    let o = c.in-Ok-End.ensures in
+    let e = c.step.ensures.stepped in
+    let o = c.in-Ok-End.ensures.stepped in
     let is = c.in-Ok-End.field-0-is in
     record {
       cutter = record { same_image = e.same.0 ∙ i.runs; same_limit = e.same.1 ∙ i.limit; unbegun = rw is at o.begun };
@@ -188,8 +188,8 @@ returns-in-Ok-End g c =
 pub returns-in-Err : goal.returns-in-Err
 returns-in-Err g c =
     let i = c.steps.invariant in
-    let e = c.step.ensures in
-    let o = c.in-Err.ensures in
+    let e = c.step.ensures.stepped in
+    let o = c.in-Err.ensures.stepped in
     record {
       cutter = record { same_image = e.same.0 ∙ i.runs; same_limit = e.same.1 ∙ i.limit; unbegun = o.begun };
       content = λ tells. e.content tells ∙ i.kept tells;

@@ -3,7 +3,7 @@ use Rattle.abt_pieces.specs.declared.fault.PieceFault.{PieceFault}
 use Rattle.abt_pieces.specs.declared.stage.Stage.TheVariants.{Failed}
 use Rattle.abt_pieces.proofs.Fronts.{not_full, nothing_left}
 use Rattle.abt_pieces.proofs.Cutting.{told_more}
-use Rattle.abt_pieces.proofs.Stepping.{Behind, behind_unbegun, behind_passed, piece_covers, plan_most}
+use Rattle.abt_pieces.proofs.Stepping.{Behind, behind_unbegun, behind_passed, piece_covers, plan_most, write_costs}
 use Rattle.abt_pieces.proofs.SpendingStages.{writing_goes, writing_ends}
 use Rattle.abt_pieces.proofs.Image.{nothing_appended}
 use Rattle.abt_pieces.proofs.cutter.Cutter.write.Goals as goal
@@ -17,57 +17,48 @@ returns-in-Ok-false g c =
     let is = c.requires.at in
     let s = (rw is at c.args.self.now.sound).stage in
     let most = plan_most (g.R.BlockRuns.one c.args.self.now.runs) (g.R.BlockRuns.count c.args.self.now.runs) c.args.outline.piece.past in
-    let turns = a.costs.turns in
     let words = e.words in
     record {
-      same = (a.same, refl);
-      content = a.content;
-      frame = a.frame;
-      write_frame = a.write_frame;
-      told = λ tells. let h = rw is at (c.requires.told tells) in record { place = h.place; cuts = h.cuts; stage = record { outline = h.stage.outline; writer = e.told tells } };
-      begun = refl;
-      goes_on = record {
-        same_place = refl;
-        same_number = refl;
-        counted = rw is (omega (arith, e.counted, a.costs.grown, s.rest));
-        left = rw is (e.left test);
-        paid = let z = e.paid test in rw is (omega (arith, z));
-        words = rw is (omega (arith, words));
+      stepped = record {
+        same = (a.same, refl);
+        content = a.content;
+        frame = a.frame;
+        write_frame = a.write_frame;
+        told = λ tells. let h = rw is at (c.requires.told tells) in record { place = h.place; cuts = h.cuts; stage = record { outline = h.stage.outline; writer = e.told tells } };
+        begun = refl;
+        goes_on = record {
+          same_place = refl;
+          same_number = refl;
+          counted = rw is (omega (arith, e.counted, a.costs.grown, s.rest));
+          left = rw is (e.left test);
+          paid = let z = e.paid test in rw is (omega (arith, z));
+          words = rw is (omega (arith, words));
+        };
+        within = rw is (omega (arith, a.within, a.costs.grown, s.rest, s.outline.long));
+        front = λ tells. rw is (a.front tells);
+        rest = λ tells. rw (is, a.segment.0, a.segment.1) (e.rest tells);
+        leads = rw is (e.leads test);
+        all = tt;
+        piece = tt;
+        ends = tt;
+        laid = λ tells. tt;
+        refused = tt;
+        costs = rw is (write_costs _ _ _ _ _ _ _ most a.costs);
+        spends = λ tells t spent.
+            let told = (rw is at (c.requires.told tells)).stage in
+            let h = rw is at spent in
+            writing_goes _ _ _ _ _ _ t _ _ c.args.outline c.args.from c.step.new.self h (e.spends tells c.args.outline.next s.outline.within told.outline.place (sym (s.past ∙ s.outline.past)) h.fresh h.begun h.total h.spent);
+        spent = λ tells t spent. tt;
+        failing = record {
+          read = a.failing.read;
+          write = a.failing.write;
+          clean = e.failing.clean;
+        };
+        full_faults = λ going. e.full_faults;
+        full = λ going says. absurd (not_full says);
+        cause = tt;
       };
-      within = rw is (omega (arith, a.within, a.costs.grown, s.rest, s.outline.long));
-      front = λ tells. rw is (a.front tells);
-      rest = λ tells. rw (is, a.segment.0, a.segment.1) (e.rest tells);
-      leads = rw is (e.leads test);
-      all = tt;
-      piece = tt;
-      ends = tt;
-      laid = λ tells. tt;
-      refused = tt;
-      costs = record {
-        given = a.costs.given;
-        received = a.costs.received;
-        grown = a.costs.grown;
-        few = a.costs.few;
-        steps = a.costs.steps;
-        greatest = a.costs.greatest;
-        calls = a.costs.calls;
-        write_calls = a.costs.write_calls;
-        turns = rw is (omega (arith, turns, most));
-      };
-      spends = λ tells t spent.
-          let told = (rw is at (c.requires.told tells)).stage in
-          let h = rw is at spent in
-          writing_goes _ _ _ _ _ _ t _ _ c.args.outline c.args.from c.step.new.self h (e.spends tells c.args.outline.next s.outline.within told.outline.place (sym (s.past ∙ s.outline.past)) h.fresh h.begun h.total h.spent);
-      spent = λ tells t spent. tt;
-      failing = record {
-        read = a.failing.read;
-        write = a.failing.write;
-        clean = e.failing.clean;
-      };
-      full_faults = e.full_faults;
-      full = λ says. absurd (not_full says);
       unended = tt;
-      cause = tt;
     }
 
 -- the piece is whole
@@ -85,71 +76,62 @@ returns-in-Ok-true g c =
     let past : c.step.new.self.past ≡ c.args.outline.piece.past = a.segment.1 ∙ s.past in
     let behind : Behind (g.R.BlockRuns.count c.args.self.now.runs) c.args.outline.piece.past c.pass.new.self.stage = record { end = s.outline.end; done = rw a.same at p.done; between = rw a.same at p.between } in
     let most = plan_most (g.R.BlockRuns.one c.args.self.now.runs) (g.R.BlockRuns.count c.args.self.now.runs) c.args.outline.piece.past in
-    let turns = a.costs.turns in
     let words = e.words in
     record {
-      same = (p.runs ∙ a.same, p.limit);
-      content = a.content;
-      frame = a.frame;
-      write_frame = a.write_frame;
-      told = λ tells.
-          let long = g.met.R.BlockRuns.long c.args.self.now.runs _ (c.requires.opened tells) in
-          let h = rw is at (c.requires.told tells) in
-          rw (p.limit, p.made, p.start) (told_more _ _ (g.R.BlockRuns.within c.args.self.now.runs) _ (g.R.BlockRuns.count c.args.self.now.runs) _ _ _ c.args.self.now.start c.args.outline _ _ refl h s.outline (sym long) h.stage.outline.greatest h.stage.outline.place behind.done behind.between);
-      begun = behind_unbegun _ _ _ behind;
-      goes_on = tt;
-      within = rw is (omega (arith, a.within, a.costs.grown, s.rest, s.outline.long));
-      front = λ tells. rw is (a.front tells);
-      rest = λ tells. tt;
-      leads = tt;
-      all = rw is (nothing_appended _ _ _ ended.1 (e.all test));
-      piece = record {
-        passed = rw p.piece (behind_passed _ _ _ _ s.outline.moves behind);
-        begins = rw p.piece s.outline.first;
-        ends = rw (p.piece, p.start) s.outline.past;
-        least = rw p.piece s.outline.least;
-        most = rw p.piece s.outline.long;
-        one_more = p.made;
+      stepped = record {
+        same = (p.runs ∙ a.same, p.limit);
+        content = a.content;
+        frame = a.frame;
+        write_frame = a.write_frame;
+        told = λ tells.
+            let long = g.met.R.BlockRuns.long c.args.self.now.runs _ (c.requires.opened tells) in
+            let h = rw is at (c.requires.told tells) in
+            rw (p.limit, p.made, p.start) (told_more _ _ (g.R.BlockRuns.within c.args.self.now.runs) _ (g.R.BlockRuns.count c.args.self.now.runs) _ _ _ c.args.self.now.start c.args.outline _ _ refl h s.outline (sym long) h.stage.outline.greatest h.stage.outline.place behind.done behind.between);
+        begun = behind_unbegun _ _ _ behind;
+        goes_on = tt;
+        within = rw is (omega (arith, a.within, a.costs.grown, s.rest, s.outline.long));
+        front = λ tells. rw is (a.front tells);
+        rest = λ tells. tt;
+        leads = tt;
+        all = rw is (nothing_appended _ _ _ ended.1 (e.all test));
+        piece = record {
+          passed = rw p.piece (behind_passed _ _ _ _ s.outline.moves behind);
+          begins = rw p.piece s.outline.first;
+          ends = rw (p.piece, p.start) s.outline.past;
+          least = rw p.piece s.outline.least;
+          most = rw p.piece s.outline.long;
+          one_more = p.made;
+        };
+        ends = record {
+          long = rw (p.piece, is) (omega (arith, ended.0, same));
+          takes = rw (p.piece, p.start) sound.taken;
+          words =
+              let z = piece_covers (g.R.BlockRuns.one c.args.self.now.runs) (g.R.BlockRuns.count c.args.self.now.runs) c.args.outline.piece.past c.step.new.self past in
+              rw (is, p.piece) (omega (arith, words, z));
+        };
+        laid = λ tells. let h = rw is at (c.requires.told tells) in record {
+          written = rw is (nothing_left _ _ _ _ ended.1 h.stage.writer.long ended.0);
+          exact = rw p.piece h.stage.outline.exact.is;
+          greatest = rw (p.piece, s.outline.first) h.stage.outline.greatest;
+        };
+        refused = tt;
+        costs = rw is (write_costs _ _ _ _ _ _ _ most a.costs);
+        spends = λ tells t spent. tt;
+        spent = λ tells t spent.
+            let told = (rw is at (c.requires.told tells)).stage in
+            let h = rw is at spent in
+            let z = e.spent tells c.args.outline.next s.outline.within told.outline.place (sym (s.past ∙ s.outline.past)) h.fresh h.begun h.total h.spent test in
+            rw (p.piece, p.start) (writing_ends _ _ _ _ _ _ t _ _ c.args.outline c.args.from h z);
+        failing = record {
+          read = a.failing.read;
+          write = a.failing.write;
+          clean = e.failing.clean;
+        };
+        full_faults = λ going. e.full_faults;
+        full = λ going says. absurd (not_full says);
+        cause = tt;
       };
-      ends = record {
-        long = rw (p.piece, is) (omega (arith, ended.0, same));
-        takes = rw (p.piece, p.start) sound.taken;
-        words =
-            let z = piece_covers (g.R.BlockRuns.one c.args.self.now.runs) (g.R.BlockRuns.count c.args.self.now.runs) c.args.outline.piece.past c.step.new.self past in
-            rw (is, p.piece) (omega (arith, words, z));
-      };
-      laid = λ tells. let h = rw is at (c.requires.told tells) in record {
-        written = rw is (nothing_left _ _ _ _ ended.1 h.stage.writer.long ended.0);
-        exact = rw p.piece h.stage.outline.exact.is;
-        greatest = rw (p.piece, s.outline.first) h.stage.outline.greatest;
-      };
-      refused = tt;
-      costs = record {
-        given = a.costs.given;
-        received = a.costs.received;
-        grown = a.costs.grown;
-        few = a.costs.few;
-        steps = a.costs.steps;
-        greatest = a.costs.greatest;
-        calls = a.costs.calls;
-        write_calls = a.costs.write_calls;
-        turns = rw is (omega (arith, turns, most));
-      };
-      spends = λ tells t spent. tt;
-      spent = λ tells t spent.
-          let told = (rw is at (c.requires.told tells)).stage in
-          let h = rw is at spent in
-          let z = e.spent tells c.args.outline.next s.outline.within told.outline.place (sym (s.past ∙ s.outline.past)) h.fresh h.begun h.total h.spent test in
-          rw (p.piece, p.start) (writing_ends _ _ _ _ _ _ t _ _ c.args.outline c.args.from h z);
-      failing = record {
-        read = a.failing.read;
-        write = a.failing.write;
-        clean = e.failing.clean;
-      };
-      full_faults = e.full_faults;
-      full = λ says. absurd (not_full says);
       unended = tt;
-      cause = tt;
     }
 
 -- the source or the output has failed, or the source has changed
@@ -161,44 +143,35 @@ returns-in-Err g c =
     let is = c.requires.at in
     let s = (rw is at c.args.self.now.sound).stage in
     let most = plan_most (g.R.BlockRuns.one c.args.self.now.runs) (g.R.BlockRuns.count c.args.self.now.runs) c.args.outline.piece.past in
-    let turns = a.costs.turns in
     record {
-      same = (x.rest.0 ∙ a.same, x.rest.1);
-      content = a.content;
-      frame = a.frame;
-      write_frame = a.write_frame;
-      told = λ tells. let h = rw is at (c.requires.told tells) in rw (x.rest.1, x.rest.2, x.rest.3, x.stage) (record { place = h.place; cuts = h.cuts; stage = tt });
-      begun = rw x.stage refl;
-      goes_on = tt;
-      within = rw is (omega (arith, a.within, a.costs.grown, s.rest, s.outline.long));
-      front = λ tells. rw is (a.front tells);
-      rest = λ tells. tt;
-      leads = tt;
-      all = tt;
-      piece = tt;
-      ends = tt;
-      laid = λ tells. tt;
-      refused = x.stage ∙ ap (λ (f : PieceFault). Failed f) (sym x.fault);
-      costs = record {
-        given = a.costs.given;
-        received = a.costs.received;
-        grown = a.costs.grown;
-        few = a.costs.few;
-        steps = a.costs.steps;
-        greatest = a.costs.greatest;
-        calls = a.costs.calls;
-        write_calls = a.costs.write_calls;
-        turns = rw is (omega (arith, turns, most));
+      stepped = record {
+        same = (x.rest.0 ∙ a.same, x.rest.1);
+        content = a.content;
+        frame = a.frame;
+        write_frame = a.write_frame;
+        told = λ tells. let h = rw is at (c.requires.told tells) in rw (x.rest.1, x.rest.2, x.rest.3, x.stage) (record { place = h.place; cuts = h.cuts; stage = tt });
+        begun = rw x.stage refl;
+        goes_on = tt;
+        within = rw is (omega (arith, a.within, a.costs.grown, s.rest, s.outline.long));
+        front = λ tells. rw is (a.front tells);
+        rest = λ tells. tt;
+        leads = tt;
+        all = tt;
+        piece = tt;
+        ends = tt;
+        laid = λ tells. tt;
+        refused = x.stage ∙ ap (λ (f : PieceFault). Failed f) (sym x.fault);
+        costs = rw is (write_costs _ _ _ _ _ _ _ most a.costs);
+        spends = λ tells t spent. tt;
+        spent = λ tells t spent. tt;
+        failing = record {
+          read = a.failing.read;
+          write = a.failing.write;
+          clean = tt;
+        };
+        full_faults = λ going. rw x.fault e.full_faults;
+        full = λ going says. let z = e.full (rw x.fault at says) in (z.0, rw is (omega (arith, z.1, a.costs.grown, s.rest, s.outline.long)));
+        cause = inr (rw x.fault e.cause);
       };
-      spends = λ tells t spent. tt;
-      spent = λ tells t spent. tt;
-      failing = record {
-        read = a.failing.read;
-        write = a.failing.write;
-        clean = tt;
-      };
-      full_faults = rw x.fault e.full_faults;
-      full = λ says. let z = e.full (rw x.fault at says) in (z.0, rw is (omega (arith, z.1, a.costs.grown, s.rest, s.outline.long)));
       unended = tt;
-      cause = inr (rw x.fault e.cause);
     }
