@@ -1,6 +1,6 @@
 //! One step of cutting: a part of a plan, the header of a piece, or a part of its chunks.
 ghost use Rattle.std.specs.Prelude.{◌≡◌, ◌<◌, ◌≤◌, ◌+◌, ◌-◌, ◌*◌, ◌^◌, ◌++◌, ℕ, List, IsTrue, IfOk, IfErr, OnOk};
-ghost use Rattle.std.specs.Prelude.{Ok, Err, length, take, drop, max, true, false, ◌⊎◌};
+ghost use Rattle.std.specs.Prelude.{Ok, Err, length, take, max, true, false, ◌⊎◌};
 ghost use Rattle.abt_sparse.specs.Block.{Block, AreBlocks};
 ghost use Rattle.abt_sparse.specs.Chunk.{header_record, plain_header};
 ghost use Rattle.abt_pieces.specs.Fault.{HasCause, full_cut};
@@ -8,14 +8,11 @@ ghost use Rattle.abt_pieces.specs.Plan.{Planned, Even, last_words};
 ghost use Rattle.abt_pieces.specs.Outline.{IsOutline, piece_at};
 ghost use Rattle.abt_pieces.specs.Cutter.{SoundPlanner, SoundOutline, SoundStage};
 ghost use Rattle.abt_pieces.specs.Cutter.{TakenPlan, TakenStage, silent_cut, cut_words, ToldPlanner};
-ghost use Rattle.abt_pieces.specs.Cutter.{ToldStage, ToldCutter, is_more, OnMore, OnEnd};
-ghost use Rattle.abt_pieces.specs.Cutter.{OnPiece, coming, is_begun, so_far, has_failed, planned_left};
-ghost use Rattle.abt_pieces.specs.Cutter.{first_writer, most_raw};
-ghost use Rattle.abt_pieces.specs.Cutter.{cut_left};
-ghost use Rattle.abt_pieces.specs.Image.{Appended, Leads, IsImage, StageMayCome};
-ghost use Rattle.abt_pieces.specs.SpentStage.{SpentPlan, SpentStage, SpentPiece};
-ghost use Rattle.abt_pieces.specs.Calls.{Failing, devices};
-ghost use Rattle.abt_pieces.specs.NextPiece.{IsNext};
+ghost use Rattle.abt_pieces.specs.Cutter.{ToldStage, ToldCutter, OnEnd};
+ghost use Rattle.abt_pieces.specs.Cutter.{coming, is_begun, so_far, planned_left};
+ghost use Rattle.abt_pieces.specs.Cutter.{first_writer, most_raw, cut_left};
+ghost use Rattle.abt_pieces.specs.Image.{IsImage, StageMayCome};
+ghost use Rattle.abt_pieces.specs.SpentStage.{SpentPlan, SpentStage};
 ghost use Rattle.abt_pieces.specs.Stepped.{Stepped};
 ghost use Rattle.abt_pieces.specs.declared.stage.Stage.{Stage};
 ghost use Rattle.abt_pieces.specs.declared.stage.PieceProgress.{PieceProgress};

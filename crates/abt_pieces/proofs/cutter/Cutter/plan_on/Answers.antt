@@ -7,10 +7,9 @@ use Rattle.abt_pieces.specs.Outline.{piece_at}
 use Rattle.abt_pieces.specs.Plan.{last_words}
 use Rattle.abt_pieces.specs.SpentStage.{SpentPlan, SpentStage}
 use Rattle.abt_pieces.specs.declared.plan.Planner.{Planner}
-use Rattle.abt_pieces.specs.declared.fault.PieceFault.TheVariants as faults
 use Rattle.abt_pieces.specs.declared.stage.Stage.{Stage}
 use Rattle.abt_pieces.specs.declared.stage.Stage.TheVariants.{Between, Plan, Begin, Done, Failed, Write}
-use Rattle.abt_pieces.proofs.Fronts.{as_many, no_more, no_more_than, nothing_more, nothing_less, none_more, not_full, unfilled_by, none_says, cause_unwritten}
+use Rattle.abt_pieces.proofs.Fronts.{as_many, nothing_more, nothing_less, none_more, not_full, unfilled_by, none_says, cause_unwritten}
 use Rattle.abt_pieces.proofs.Stepping.{no_bytes_yet, told_moves, unwritten_costs}
 use Rattle.abt_pieces.proofs.SpendingStages.{plan_begins_spent}
 use Rattle.abt_pieces.proofs.Image.{leads_same}

@@ -1,4 +1,4 @@
-use Rattle.std.proofs.Common.{arith, max, Bool, ◌<◌, rules, ◌*◌, sym, ap, refl, inl, inr, Result, Err, ◌≡◌, ◌≤◌, ◌+◌, ◌∙◌, ◌-◌, ℕ, true, false}
+use Rattle.std.proofs.Common.{arith, Bool, ◌<◌, rules, sym, ap, refl, inl, inr, Result, Err, ◌≡◌, ◌≤◌, ◌+◌, ◌∙◌, ◌-◌, ℕ, true, false}
 use Rattle.std.specs.Prelude.{IsTrue}
 use Rattle.std.proofs.lemmas.Bool.{true≢false}
 use Rattle.abt_pieces.specs.Cutter.{has_failed, segments_left}
