@@ -11,40 +11,20 @@ some_no_none : {A : Type 0} (x : A) → ◌≡◌ {A = Option A} (Some x) None �
 some_no_none x h = absurd cc
 
 -- the source has failed
-pub returns-in-Err : goal.returns-in-Err
-returns-in-Err g c =
-    let n = c.next_raw.ensures in
-    let self = c.args.self.now in
-    let h = is_copying _ _ _ _ self c.args.copying c.requires.is c.requires.sound in
-    let low : c.args.copying.next.block < self.past = let z = goes_on _ _ _ _ _ _ _ c.args.copying h c.requires.whole c.requires.remains in omega (arith, z, h.past) in
+pub returns-in-Err-clause-turns : goal.returns-in-Err-clause-turns
+returns-in-Err-clause-turns g c =
+    let h = is_copying _ _ _ _ c.args.self.now c.args.copying c.requires.is c.requires.sound in
+    let low : c.args.copying.next.block < c.args.self.now.past = let z = goes_on _ _ _ _ _ _ _ c.args.copying h c.requires.whole c.requires.remains in omega (arith, z, h.past) in
     let p = g.met.R.BlockRuns.padded c.args.runs.now c.args.copying.next in
-    let top = segment_top _ (g.R.BlockRuns.one c.args.runs.now) (g.R.BlockRuns.count c.args.runs.now) c.args.copying.next.block self.past p.0 p.1 low in
-    let turns = n.turns in
-    record {
-      same = n.same;
-      content = n.content;
-      frame = n.frame;
-      sound = tt;
-      told = λ tells. tt;
-      segment = (refl, refl, refl);
-      bytes = refl;
-      rest = λ tells. tt;
-      comes = tt;
-      left = tt;
-      given = n.given;
-      paid = tt;
-      spends = λ tells d within place is fresh s t spent. tt;
-      calls = n.calls;
-      turns = omega (arith, top, turns);
-      words = tt;
-      received = n.received;
-      steps = n.steps;
-      greatest = n.greatest;
-      faults = n.faults;
-      clean = tt;
-      unwritten = rw c.run_fault.ensures (run_not_full c.in-Err.fault);
-      cause = run_causes _ _ _ _ _ _ _ c.run_fault.ensures c.in-Err.ensures.cause;
-    }
+    let top = segment_top _ (g.R.BlockRuns.one c.args.runs.now) (g.R.BlockRuns.count c.args.runs.now) c.args.copying.next.block c.args.self.now.past p.0 p.1 low in
+    let turns = c.next_raw.ensures.turns in
+    omega (arith, top, turns)
+
+pub returns-in-Err-clause-unwritten : goal.returns-in-Err-clause-unwritten
+returns-in-Err-clause-unwritten g c = rw c.run_fault.ensures (run_not_full c.in-Err.fault)
+
+pub returns-in-Err-clause-cause : goal.returns-in-Err-clause-cause
+returns-in-Err-clause-cause g c = run_causes _ _ _ _ _ _ _ c.run_fault.ensures c.in-Err.ensures.cause
 
 -- the part goes on with the run
 pub returns-in-Some : goal.returns-in-Some

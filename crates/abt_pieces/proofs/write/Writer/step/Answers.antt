@@ -248,38 +248,6 @@ returns-in-Ok-copy_bytes g c =
       full = λ says. absurd (not_full says);
     }
 
--- no bytes of it
-pub returns-in-Err-copy_bytes : goal.returns-in-Err-copy_bytes
-returns-in-Err-copy_bytes g c =
-    let a = c.copy_bytes.ensures in
-    let e = c.in-Err-copy_bytes.ensures in
-    record {
-      same = a.same;
-      content = a.content;
-      frame = a.frame;
-      sound = tt;
-      told = λ tells. tt;
-      segment = a.segment;
-      within = a.within;
-      counted = tt;
-      front = a.front;
-      rest = λ tells. tt;
-      leads = tt;
-      all = tt;
-      write_frame = a.write_frame;
-      cause = e.cause;
-      left = tt;
-      ended = tt;
-      paid = tt;
-      spends = λ tells d within place is fresh s t h. tt;
-      spent = λ tells d within place is fresh s t h. tt;
-      costs = a.costs;
-      words = tt;
-      failing = record { read = a.failing.read; write = a.failing.write; clean = tt };
-      full_faults = e.full_faults;
-      full = e.full;
-    }
-
 -- a part of the open run
 pub returns-in-Ok-look : goal.returns-in-Ok-look
 returns-in-Ok-look g c =
@@ -310,38 +278,6 @@ returns-in-Ok-look g c =
       failing = record { read = a.failing.read; write = a.failing.write; clean = e.failing.clean };
       full_faults = e.full_faults;
       full = λ says. absurd (not_full says);
-    }
-
--- no part of it
-pub returns-in-Err-look : goal.returns-in-Err-look
-returns-in-Err-look g c =
-    let a = c.look.ensures in
-    let e = c.in-Err-look.ensures in
-    record {
-      same = a.same;
-      content = a.content;
-      frame = a.frame;
-      sound = tt;
-      told = λ tells. tt;
-      segment = a.segment;
-      within = a.within;
-      counted = tt;
-      front = a.front;
-      rest = λ tells. tt;
-      leads = tt;
-      all = tt;
-      write_frame = a.write_frame;
-      cause = e.cause;
-      left = tt;
-      ended = tt;
-      paid = tt;
-      spends = λ tells d within place is fresh s t h. tt;
-      spent = λ tells d within place is fresh s t h. tt;
-      costs = a.costs;
-      words = tt;
-      failing = record { read = a.failing.read; write = a.failing.write; clean = tt };
-      full_faults = e.full_faults;
-      full = e.full;
     }
 
 -- nothing is left to look for
