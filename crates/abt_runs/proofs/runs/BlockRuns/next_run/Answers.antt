@@ -37,7 +37,7 @@ parts-preserved g c =
     let same : s.next ≡ p.next = next_is r p s j in
     let blocks : s.blocks ≡ r.blocks + p.blocks = blocks_are r p s j in
     let tick = c.tick.ensures in
-    let steps : c.next_part.new.m.steps.number ≡ c.parts.m.steps.number + 1 = e.steps ∙ ap (λ (n : ℕ). n + 1) tick.steps in
+    let steps : c.next_part.new.m.steps.number ≡ c.parts.m.steps.number + 1 = e.costs.steps ∙ ap (λ (n : ℕ). n + 1) tick.steps in
     let room : 0 < room_in r.kind r.blocks c.args.cap = omega (arith, c.if-room-eq0.false, c.room-room.ensures) in
     let read : g.S.Source.given c.next_part.new.source + runs.charge self r.next ≤ g.S.Source.given c.parts.source + runs.charge self p.next + entry r.next = rw i.same at e.found.charged in
     let paid : g.S.Source.given c.next_part.new.source + runs.charge self c.args.from ≤ g.S.Source.given c.args.source.now + runs.charge self p.next + entry c.args.from = omega (arith, read, i.going room) in
@@ -61,11 +61,11 @@ parts-preserved g c =
       few = few_are c.args.cap r p s j i.none i.few (λ k. let f = e.found.capped.raw k in omega (arith, f, c.room-room.ensures));
       charged = omega (arith, paid, ap (λ (h : Cursor). runs.charge self h) same);
       going = λ more. let none : entry s.next ≡ 0 = ap entry same ∙ entry_after c.args.cap r p s j i.none room (λ u. let f = e.found.stops u in (f.0, f.1 ∙ c.room-room.ensures)) more in omega (arith, paid, none, ap (λ (h : Cursor). runs.charge self h) same);
-      more = omega (arith, i.more, e.given);
-      received = let a = i.received in let b = e.received in omega (arith, a, b, steps);
-      calls = let a = i.calls in let b = e.calls in omega (arith, a, b, steps, i.more, e.given);
-      turns = let a = i.turns in let b = e.turns in rw steps (rw i.same at (turns_more c.parts.m.turns.number c.parts.m.turns.number c.next_part.new.m.turns.number (g.S.Source.given c.parts.source) (g.S.Source.given c.args.source.now) (g.S.Source.given c.next_part.new.source) c.args.m.now.steps.number c.parts.m.steps.number (runs.one c.parts.self) (runs.padding c.parts.self r.next) (let z : c.parts.m.turns.number ≡ c.parts.m.turns.number = omega arith in z) (omega (arith, b, tick.turns)) padded i.more e.given c.args.m.now.turns.number (rw i.same a)));
-      greatest = let a = i.greatest in let b = e.greatest in let d = e.received in omega (arith, a, b, d, tick.greatest);
+      more = omega (arith, i.more, e.costs.given);
+      received = let a = i.received in let b = e.costs.received in omega (arith, a, b, steps);
+      calls = let a = i.calls in let b = e.costs.calls in omega (arith, a, b, steps, i.more, e.costs.given);
+      turns = let a = i.turns in let b = e.costs.turns in rw steps (rw i.same at (turns_more c.parts.m.turns.number c.parts.m.turns.number c.next_part.new.m.turns.number (g.S.Source.given c.parts.source) (g.S.Source.given c.args.source.now) (g.S.Source.given c.next_part.new.source) c.args.m.now.steps.number c.parts.m.steps.number (runs.one c.parts.self) (runs.padding c.parts.self r.next) (let z : c.parts.m.turns.number ≡ c.parts.m.turns.number = omega arith in z) (omega (arith, b, tick.turns)) padded i.more e.costs.given c.args.m.now.turns.number (rw i.same a)));
+      greatest = let a = i.greatest in let b = e.costs.greatest in let d = e.costs.received in omega (arith, a, b, d, tick.greatest);
       faults = omega (arith, i.faults, e.faults);
       clean = e.clean ∙ i.clean;
     }
@@ -111,7 +111,7 @@ returns-in-None-clause-charged g c =
     let r = c.parts.run in
     let few : c.room-room.result * runs.one self ≤ c.args.cap * runs.one self = mul-le-mul_right (runs.one self) (let z : c.room-room.result ≤ c.args.cap = omega (arith, c.room-room.ensures, room_most c.args.cap r.blocks r.kind) in z) in
     let most : g.S.Source.given c.next_part.new.source ≤ g.S.Source.given c.parts.source + 16 + c.room-room.result * runs.one self = rw i.same at e.most in
-    omega (arith, few, most, e.received, i.charged)
+    omega (arith, few, most, e.costs.received, i.charged)
 
 pub returns-in-None-clause-turns : goal.returns-in-None-clause-turns
 returns-in-None-clause-turns g c =
@@ -119,10 +119,10 @@ returns-in-None-clause-turns g c =
     let i = c.parts.invariant in
     let e = c.in-Ok.ensures in
     let tick = c.tick.ensures in
-    let steps : c.next_part.new.m.steps.number ≡ c.parts.m.steps.number + 1 = e.steps ∙ ap (λ (n : ℕ). n + 1) tick.steps in
+    let steps : c.next_part.new.m.steps.number ≡ c.parts.m.steps.number + 1 = e.costs.steps ∙ ap (λ (n : ℕ). n + 1) tick.steps in
     let padded = (g.met.Self.BlockRuns.padded c.parts.self c.parts.run.next).0 in
     let one : runs.one c.parts.self ≡ runs.one c.args.self.now = rw i.same refl in
-    rw steps (omega (arith, i.turns, e.turns, tick.turns, padded, one, i.more, e.given))
+    rw steps (omega (arith, i.turns, e.costs.turns, tick.turns, padded, one, i.more, e.costs.given))
 
 pub returns-then-room-eq0-clause-places : goal.returns-then-room-eq0-clause-places
 returns-then-room-eq0-clause-places g c tells = let i = c.parts.invariant in (i.here_place tells, i.next_place tells)
@@ -179,16 +179,16 @@ pub returns-in-None-clause-capped : goal.returns-in-None-clause-capped
 returns-in-None-clause-capped g c = record { raw = c.parts.invariant.few }
 
 pub returns-in-None-clause-received : goal.returns-in-None-clause-received
-returns-in-None-clause-received g c = let i = c.parts.invariant in let e = c.in-Ok.ensures in let steps : c.next_part.new.m.steps.number ≡ c.parts.m.steps.number + 1 = e.steps ∙ ap (λ (n : ℕ). n + 1) c.tick.ensures.steps in omega (arith, i.received, e.received, steps)
+returns-in-None-clause-received g c = let i = c.parts.invariant in let e = c.in-Ok.ensures in let steps : c.next_part.new.m.steps.number ≡ c.parts.m.steps.number + 1 = e.costs.steps ∙ ap (λ (n : ℕ). n + 1) c.tick.ensures.steps in omega (arith, i.received, e.costs.received, steps)
 
 pub returns-in-None-clause-calls : goal.returns-in-None-clause-calls
-returns-in-None-clause-calls g c = let i = c.parts.invariant in let e = c.in-Ok.ensures in let steps : c.next_part.new.m.steps.number ≡ c.parts.m.steps.number + 1 = e.steps ∙ ap (λ (n : ℕ). n + 1) c.tick.ensures.steps in omega (arith, i.calls, e.calls, steps, i.more, e.given)
+returns-in-None-clause-calls g c = let i = c.parts.invariant in let e = c.in-Ok.ensures in let steps : c.next_part.new.m.steps.number ≡ c.parts.m.steps.number + 1 = e.costs.steps ∙ ap (λ (n : ℕ). n + 1) c.tick.ensures.steps in omega (arith, i.calls, e.costs.calls, steps, i.more, e.costs.given)
 
 pub returns-in-Err-clause-received : goal.returns-in-Err-clause-received
-returns-in-Err-clause-received g c = let i = c.parts.invariant in let e = c.in-Err.ensures in let steps : c.next_part.new.m.steps.number ≡ c.parts.m.steps.number + 1 = e.steps ∙ ap (λ (n : ℕ). n + 1) c.tick.ensures.steps in omega (arith, i.received, e.received, steps)
+returns-in-Err-clause-received g c = let i = c.parts.invariant in let e = c.in-Err.ensures in let steps : c.next_part.new.m.steps.number ≡ c.parts.m.steps.number + 1 = e.costs.steps ∙ ap (λ (n : ℕ). n + 1) c.tick.ensures.steps in omega (arith, i.received, e.costs.received, steps)
 
 pub returns-in-Err-clause-calls : goal.returns-in-Err-clause-calls
-returns-in-Err-clause-calls g c = let i = c.parts.invariant in let e = c.in-Err.ensures in let steps : c.next_part.new.m.steps.number ≡ c.parts.m.steps.number + 1 = e.steps ∙ ap (λ (n : ℕ). n + 1) c.tick.ensures.steps in omega (arith, i.calls, e.calls, steps, i.more, e.given)
+returns-in-Err-clause-calls g c = let i = c.parts.invariant in let e = c.in-Err.ensures in let steps : c.next_part.new.m.steps.number ≡ c.parts.m.steps.number + 1 = e.costs.steps ∙ ap (λ (n : ℕ). n + 1) c.tick.ensures.steps in omega (arith, i.calls, e.costs.calls, steps, i.more, e.costs.given)
 
 pub returns-in-Err-clause-turns : goal.returns-in-Err-clause-turns
 returns-in-Err-clause-turns g c =
@@ -196,7 +196,7 @@ returns-in-Err-clause-turns g c =
     let i = c.parts.invariant in
     let e = c.in-Err.ensures in
     let tick = c.tick.ensures in
-    let steps : c.next_part.new.m.steps.number ≡ c.parts.m.steps.number + 1 = e.steps ∙ ap (λ (n : ℕ). n + 1) tick.steps in
+    let steps : c.next_part.new.m.steps.number ≡ c.parts.m.steps.number + 1 = e.costs.steps ∙ ap (λ (n : ℕ). n + 1) tick.steps in
     let padded = (g.met.Self.BlockRuns.padded c.parts.self c.parts.run.next).0 in
     let one : runs.one c.parts.self ≡ runs.one c.args.self.now = rw i.same refl in
-    rw steps (omega (arith, i.turns, e.turns, tick.turns, padded, one, i.more, e.given))
+    rw steps (omega (arith, i.turns, e.costs.turns, tick.turns, padded, one, i.more, e.costs.given))
