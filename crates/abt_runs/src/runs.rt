@@ -1,6 +1,6 @@
 //! The trait of opened images: what is known of one, and how it is read in repeated passes.
 ghost use Rattle.std.specs.Prelude.{◌≡◌, ◌<◌, ◌≤◌, ◌+◌, ◌-◌, ◌*◌, ◌%◌, ◌^◌, ◌↔◌, ℕ, List, IsTrue, IfOk, IfErr, OnOk};
-ghost use Rattle.std.specs.Prelude.{length, take, drop, min, max, true, false};
+ghost use Rattle.std.specs.Prelude.{length, take, drop, min, max};
 ghost use Rattle.abt_io.specs.Count.{count_of};
 ghost use Rattle.abt_sparse.specs.Block.{Block, AreBlocks};
 ghost use Rattle.abt_runs.specs.declared.part.Cursor.{Cursor};

@@ -1,12 +1,10 @@
 use Rattle.std.proofs.Common.{arith, ◌∙◌, ap, refl, sym, ◌≡◌, ◌*◌, ◌≤◌, ◌<◌, ◌-◌, ℕ, min, true, false, length, mul-le-mul_right}
-use Rattle.std.specs.Prelude.{is_some, Option, None}
 use Rattle.std.proofs.lemmas.Bool.{true≢false}
 use Rattle.abt_runs.specs.RawLaws.{raw_long, raw_count, raw_padded, own_size}
 use Rattle.abt_runs.specs.Raw.{RawPlace}
 use Rattle.abt_runs.specs.Part.{is_end}
-use Rattle.abt_runs.specs.declared.part.RunFault.{RunFault}
 use Rattle.abt_runs.proofs.Chunked.{not_telling}
-use Rattle.abt_runs.proofs.Classes.{raw_all, never, if_none}
+use Rattle.abt_runs.proofs.Classes.{raw_all, never, if_none, none_is}
 use Rattle.abt_runs.proofs.Charges.{raw_charged, charge_fresh, charge_end, raw_turns, raw_takes, raw_copies, raw_onward, raw_first, minus_zero, raw_next, no_more, no_more_than, none_added, none_behind, nothing_read, read_some}
 use Rattle.abt_runs.proofs.raw.RawRunsBlockRuns.next_part.Goals as goal
 
@@ -109,9 +107,6 @@ returns-in-Some g c =
       clean = tt;
       cause = rw c.in-Some.is at l.cause;
     }
-
-none_is : (o : Option RunFault) → o ≡ None → is_some o ≡ false
-none_is o e = rw e refl
 
 -- the blocks that are alike
 pub returns : goal.returns

@@ -2,7 +2,7 @@ use Rattle.std.proofs.Common.{arith, ◌+◌, ◌*◌, ◌≤◌, ◌-◌, refl,
 use Rattle.abt_runs.specs.RawLaws.{raw_long, own_size}
 use Rattle.abt_runs.specs.Raw.{RawPlace}
 use Rattle.abt_runs.specs.declared.part.RunKind.TheVariants.{Raw}
-use Rattle.abt_runs.proofs.Charges.{charge_fresh, raw_takes, raw_copies, raw_onward, raw_first, no_more, no_more_than, nothing_read}
+use Rattle.abt_runs.proofs.Charges.{charge_fresh, raw_takes, raw_copies, raw_onward, raw_first, no_more, nothing_read}
 use Rattle.abt_runs.proofs.raw.RawRunsBlockRuns.next_raw.Goals as goal
 
 -- raw blocks of a raw image need no header

@@ -1,5 +1,5 @@
 use Rattle.std.proofs.Common.{◌≡◌, ℕ, ◌+◌, ◌<◌, true, false, List, take, drop, refl, sym, ap, subst, ◌∙◌, arith, IsTrue}
-use Rattle.std.specs.Prelude.{is_some, Option, Some, None}
+use Rattle.std.specs.Prelude.{Option, Some, None}
 use Rattle.std.proofs.lemmas.Bool.{true≢false}
 use Rattle.abt_sparse.specs.View.{view}
 use Rattle.abt_runs.specs.Head.{has_word, part_of_chunk}
@@ -9,8 +9,7 @@ use Rattle.abt_runs.specs.SparseLaws.{sparse_long}
 use Rattle.abt_sparse.specs.declared.chunk_header.ChunkHeader.{ChunkHeader}
 use Rattle.abt_runs.specs.declared.part.Cursor.{Cursor}
 use Rattle.abt_runs.specs.declared.part.Run.{Run}
-use Rattle.abt_runs.specs.declared.part.RunFault.{RunFault}
-use Rattle.abt_runs.proofs.Classes.{if_none}
+use Rattle.abt_runs.proofs.Classes.{if_none, none_is}
 use Rattle.abt_runs.proofs.Chunked.{Parts, parts, standing, standing_as, part_is, next_place, here_place, stand_together, at_last, not_telling}
 use Rattle.abt_runs.proofs.Passing.{next_within, here_within, here_block, here_used, here_charge, raw_reach, adds, read_charged, takes, here_next, raw_copies, not_end, nowhere_else, next_block, raw_few, left_less, stops_full, goes_raw}
 use Rattle.abt_runs.specs.RawLaws.{own_size}
@@ -184,9 +183,6 @@ returns-in-None g c =
           let found = c.chunk_here.ensures.found r.0 r.1 r.2.fits in
           absurd (not_both _ _ found c.in-None.is));
     }
-
-none_is : (o : Option RunFault) → o ≡ None → is_some o ≡ false
-none_is o e = rw e refl
 
 -- its word is not read
 pub returns-in-Some-fault : goal.returns-in-Some-fault
