@@ -5,7 +5,9 @@ use Rattle.abt_runs.specs.Part.{next_ask, piece_bytes, afresh}
 use Rattle.abt_runs.specs.declared.part.RunKind.{RunKind}
 use Rattle.abt_runs.specs.declared.part.RunKind.TheVariants as kinds
 use Rattle.abt_runs.specs.Raw.{raw_charge, RawPlace}
-use Rattle.abt_runs.specs.RawLaws.{raw_passed}
+use Rattle.abt_runs.specs.RawLaws.{raw_passed, own_size}
+use Rattle.abt_runs.specs.Found.{PartCosts}
+use Rattle.abt_io.specs.declared.meter.Meter.{Meter}
 use Rattle.abt_runs.specs.declared.part.Cursor.{Cursor}
 
 -- ---- what is not read costs nothing
@@ -22,11 +24,11 @@ none_added n = omega arith
 pub none_behind : (n : ℕ) → n ≡ n + 0
 none_behind n = omega arith
 
-pub few_turns : (t t' g j k : ℕ) → t' ≡ t → t' ≤ t + 2 * (g - g) + j + k
-few_turns t t' g j k e = omega (arith, e)
+pub nothing_read : (more c g : ℕ) (m m' : Meter) → m'.turns.number ≡ m.turns.number → m'.steps.number ≡ m.steps.number + 1 → m'.greatest.number ≡ max m.greatest.number 0 → PartCosts more c g c g m m'
+nothing_read more c g m m' turns steps greatest = record { given = own_size g; received = no_more _ _; calls = no_more_than _ _ _; turns = omega (arith, turns); steps = steps; greatest = omega (arith, greatest) }
 
-pub none_greatest : (m m' g : ℕ) → m' ≡ max m 0 → m' ≡ max m (g - g)
-none_greatest m m' g e = omega (arith, e)
+pub read_some : (more c g r c' g' : ℕ) (m m' : Meter) → r ≤ 65536 → g' ≡ g + r → c' ≤ c + r + 2 → m'.turns.number ≤ m.turns.number + r + 2 → m'.steps.number ≡ m.steps.number + 1 → m'.greatest.number ≡ max m.greatest.number r → PartCosts more c g c' g' m m'
+read_some more c g r c' g' m m' few given calls turns steps greatest = record { given = omega arith; received = omega arith; calls = omega arith; turns = omega arith; steps = steps; greatest = omega arith }
 
 -- ---- what is read of a raw image
 

@@ -1,6 +1,6 @@
 -- The classes of blocks that stand together.
 use Rattle.std.proofs.Common.{◌≡◌, ℕ, zero, suc, ◌+◌, ◌-◌, ◌*◌, ◌/◌, ◌≤◌, Bool, false, List, [], ◌∷◌, ◌++◌, length, take, drop, map, replicate, refl, sym, ap, ◌∙◌, arith, inl, inr, bytes_eq, Option, Some, None, min, IsTrue, subst, length-append, length-drop, append-nil, nat_le, leb-true, leb-false, mul-le-mul_right}
-use Rattle.std.specs.Prelude.{slice_range, IfNone}
+use Rattle.std.specs.Prelude.{slice_range, IfNone, is_some}
 use Rattle.abt_runs.specs.declared.part.RunFault.{RunFault}
 use Rattle.std.specs.List.{list_all, AllByRecursion}
 use Rattle.std.proofs.lemmas.Bool.{cases_Bool}
@@ -177,3 +177,6 @@ never b n m e h = absurd cc
 pub if_none : {P : Type 0} (o : Option RunFault) → o ≡ None → IfNone o P → P
 if_none None e h = h
 if_none (Some f) e h = absurd cc
+
+pub none_is : (o : Option RunFault) → o ≡ None → is_some o ≡ false
+none_is o e = rw e refl

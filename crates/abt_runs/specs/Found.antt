@@ -1,5 +1,6 @@
 -- What is known of a part that was found.
-use Rattle.std.specs.Prelude.{◌≡◌, ℕ, ◌+◌, ◌*◌, ◌≤◌, ◌<◌, true, false, List}
+use Rattle.std.specs.Prelude.{◌≡◌, ℕ, ◌+◌, ◌-◌, ◌*◌, ◌≤◌, ◌<◌, true, false, List, max}
+use Rattle.abt_io.specs.declared.meter.Meter.{Meter}
 use Rattle.abt_sparse.specs.Block.{Block}
 use Rattle.abt_runs.specs.declared.part.Cursor.{Cursor}
 use Rattle.abt_runs.specs.declared.part.Run.{Run}
@@ -43,3 +44,13 @@ pub record Asked (long opened g g' : ℕ) (r : Run) : Type 0 where
   pub length : is_end r.kind ≡ false → long ≡ opened
   pub fetched : is_end r.kind ≡ false → g < g'
   pub ended : is_end r.kind ≡ true → g' ≡ g
+
+-- What finding costs, one step in all: the source went from c calls and g bytes that it gave to c' and g'. Besides what
+-- was read, `more` words may have been compared.
+pub record PartCosts (more c g c' g' : ℕ) (m m' : Meter) : Type 0 where
+  pub given : g ≤ g'
+  pub received : g' ≤ g + 65536
+  pub calls : c' ≤ c + (g' - g) + 2
+  pub turns : m'.turns.number ≤ m.turns.number + 2 * (g' - g) + 2 + more
+  pub steps : m'.steps.number ≡ m.steps.number + 1
+  pub greatest : m'.greatest.number ≡ max m.greatest.number (g' - g)

@@ -1,11 +1,11 @@
 //! The trait of opened images: what is known of one, and how it is read in repeated passes.
 ghost use Rattle.std.specs.Prelude.{◌≡◌, ◌<◌, ◌≤◌, ◌+◌, ◌-◌, ◌*◌, ◌%◌, ◌^◌, ◌↔◌, ℕ, List, IsTrue, IfOk, IfErr, OnOk};
-ghost use Rattle.std.specs.Prelude.{length, take, drop, min, max, true, false};
+ghost use Rattle.std.specs.Prelude.{length, take, drop, min, max};
 ghost use Rattle.abt_io.specs.Count.{count_of};
 ghost use Rattle.abt_sparse.specs.Block.{Block, AreBlocks};
 ghost use Rattle.abt_runs.specs.declared.part.Cursor.{Cursor};
 ghost use Rattle.abt_runs.specs.Part.{AllOf, Capped, Caused, Afresh, afresh, entry, is_end, raw_of};
-ghost use Rattle.abt_runs.specs.Found.{Found, Told, Asked};
+ghost use Rattle.abt_runs.specs.Found.{Found, Told, Asked, PartCosts};
 ghost use Rattle.abt_runs.specs.Whole.{RunOf};
 
 use crate::whole::{joined, none_yet, room};
@@ -126,14 +126,9 @@ pub trait BlockRuns {
             from cap (S.given source.old) (S.given source.new) r) }
         ensures asked { IfOk result (λ r. Asked (S.size source.old) (source_size self.old) (S.given source.old)
             (S.given source.new) r) }
-        ensures given { S.given source.old ≤ S.given source.new }
+        ensures costs { PartCosts (padding self.old from) (S.reads source.old) (S.given source.old) (S.reads source.new)
+            (S.given source.new) m.old m.new }
         ensures most { S.given source.new ≤ S.given source.old + 16 + cap * one self.old }
-        ensures received { S.given source.new ≤ S.given source.old + 65536 }
-        ensures calls { S.reads source.new ≤ S.reads source.old + (S.given source.new - S.given source.old) + 2 }
-        ensures turns { m.new.turns.number
-            ≤ m.old.turns.number + 2 * (S.given source.new - S.given source.old) + 2 + padding self.old from }
-        ensures steps { m.new.steps.number ≡ m.old.steps.number + 1 }
-        ensures greatest { m.new.greatest.number ≡ max m.old.greatest.number (S.given source.new - S.given source.old) }
         ensures faults { S.read_faults source.old ≤ S.read_faults source.new }
         ensures clean { OnOk result (S.read_faults source.new ≡ S.read_faults source.old) }
         ensures cause { IfErr result (λ e. Caused e S.tells (S.read_faults source.old) (S.read_faults source.new)) };
@@ -167,14 +162,9 @@ pub trait BlockRuns {
         ensures found { IfOk result (λ r. Found (within self.old) (size self.old) (count self.old) (left self.old)
             (charge self.old) (reach self.old) (taken self.old) (copied self.old) (padding self.old) (held self.old)
             from cap (S.given source.old) (S.given source.new) r) }
-        ensures given { S.given source.old ≤ S.given source.new }
+        ensures costs { PartCosts (padding self.old from) (S.reads source.old) (S.given source.old) (S.reads source.new)
+            (S.given source.new) m.old m.new }
         ensures fetched { IfOk result (λ r. S.given source.new ≡ S.given source.old → r.blocks ≡ cap) }
-        ensures received { S.given source.new ≤ S.given source.old + 65536 }
-        ensures calls { S.reads source.new ≤ S.reads source.old + (S.given source.new - S.given source.old) + 2 }
-        ensures turns { m.new.turns.number
-            ≤ m.old.turns.number + 2 * (S.given source.new - S.given source.old) + 2 + padding self.old from }
-        ensures steps { m.new.steps.number ≡ m.old.steps.number + 1 }
-        ensures greatest { m.new.greatest.number ≡ max m.old.greatest.number (S.given source.new - S.given source.old) }
         ensures faults { S.read_faults source.old ≤ S.read_faults source.new }
         ensures clean { OnOk result (S.read_faults source.new ≡ S.read_faults source.old) }
         ensures cause { IfErr result (λ e. Caused e S.tells (S.read_faults source.old) (S.read_faults source.new)) };

@@ -17,7 +17,7 @@ returns-in-Err-clause-turns g c =
     let low : c.args.copying.next.block < c.args.self.now.past = let z = goes_on _ _ _ _ _ _ _ c.args.copying h c.requires.whole c.requires.remains in omega (arith, z, h.past) in
     let p = g.met.R.BlockRuns.padded c.args.runs.now c.args.copying.next in
     let top = segment_top _ (g.R.BlockRuns.one c.args.runs.now) (g.R.BlockRuns.count c.args.runs.now) c.args.copying.next.block c.args.self.now.past p.0 p.1 low in
-    let turns = c.next_raw.ensures.turns in
+    let turns = c.next_raw.ensures.costs.turns in
     omega (arith, top, turns)
 
 pub returns-in-Err-clause-unwritten : goal.returns-in-Err-clause-unwritten
@@ -40,7 +40,7 @@ returns-in-Some g c =
     let p = g.met.R.BlockRuns.padded c.args.runs.now c.args.copying.next in
     let top = segment_top _ one count c.args.copying.next.block self.past p.0 p.1 low in
     let words = segment_words _ one count c.args.copying.next.block c.in-Ok.part.next.block c.in-Ok.part.blocks self.past p.0 p.1 e.found.filled_up e.found.moved low c.requires.sound.gathering.past in
-    let turns = n.turns in
+    let turns = n.costs.turns in
     let is = sym (rw c.block_size-size.ensures at c.and_part.ensures) ∙ c.in-Some.is in
     let kept = next_keeps c.args.copying c.in-Some.next c.in-Ok.part _ is in
     let next = kept.0 in
@@ -66,19 +66,19 @@ returns-in-Some g c =
           rw same at y.2.rest;
       comes = λ t come. part_comes _ _ self (record self { copying = Some c.in-Some.next }) c.args.copying c.in-Some.next c.requires.is refl kept.1 kept.2 refl refl t come;
       left = write_copies _ _ self (record self { copying = Some c.in-Some.next }) refl refl (let y = z.fewer in rw c.requires.is (omega (arith, y)));
-      given = n.given;
-      paid = next_paid count _ _ self (record self { copying = Some c.in-Some.next }) c.args.copying c.in-Some.next refl refl c.requires.is refl on n.given (λ none. let z = e.fetched none in let y = ap (λ (x : Cursor). x.block) next in omega (arith, z, y, e.found.moved, on));
+      given = n.costs.given;
+      paid = next_paid count _ _ self (record self { copying = Some c.in-Some.next }) c.args.copying c.in-Some.next refl refl c.requires.is refl on n.costs.given (λ none. let z = e.fetched none in let y = ap (λ (x : Cursor). x.block) next in omega (arith, z, y, e.found.moved, on));
       spends = λ tells d within place there fresh s t spent. record {
         gathering = spent.gathering;
         copies = spent_next _ _ _ _ _ _ _ _ _ _ c.args.copying c.in-Some.next c.in-Ok.part (omega (arith, on)) c.requires.whole
-            (record { next = e.found.moved; charged = e.found.charged; onward = e.found.onward; copies = e.found.copies; stops = λ u. (e.found.stops u).1; first = (e.told tells).first; grown = e.given }) is (rw c.requires.is at spent.copies);
+            (record { next = e.found.moved; charged = e.found.charged; onward = e.found.onward; copies = e.found.copies; stops = λ u. (e.found.stops u).1; first = (e.told tells).first; grown = e.costs.given }) is (rw c.requires.is at spent.copies);
       };
-      calls = n.calls;
+      calls = n.costs.calls;
       turns = omega (arith, top, turns);
       words = writer_passes _ _ _ _ self _ refl refl (rw (c.requires.is, next) (omega (arith, words, turns)));
-      received = n.received;
-      steps = n.steps;
-      greatest = n.greatest;
+      received = n.costs.received;
+      steps = n.costs.steps;
+      greatest = n.costs.greatest;
       faults = n.faults;
       clean = e.clean;
       unwritten = refl;
@@ -95,7 +95,7 @@ returns-in-None g c =
     let low : c.args.copying.next.block < self.past = let z = goes_on _ _ _ _ _ _ _ c.args.copying h c.requires.whole c.requires.remains in omega (arith, z, h.past) in
     let p = g.met.R.BlockRuns.padded c.args.runs.now c.args.copying.next in
     let top = segment_top _ (g.R.BlockRuns.one c.args.runs.now) (g.R.BlockRuns.count c.args.runs.now) c.args.copying.next.block self.past p.0 p.1 low in
-    let turns = n.turns in
+    let turns = n.costs.turns in
     record {
       same = n.same;
       content = n.content;
@@ -107,15 +107,15 @@ returns-in-None g c =
       rest = λ tells. tt;
       comes = tt;
       left = tt;
-      given = n.given;
+      given = n.costs.given;
       paid = tt;
       spends = λ tells d within place is fresh s t spent. tt;
-      calls = n.calls;
+      calls = n.costs.calls;
       turns = omega (arith, top, turns);
       words = tt;
-      received = n.received;
-      steps = n.steps;
-      greatest = n.greatest;
+      received = n.costs.received;
+      steps = n.costs.steps;
+      greatest = n.costs.greatest;
       faults = n.faults;
       clean = tt;
       unwritten = refl;

@@ -1,13 +1,11 @@
 use Rattle.std.proofs.Common.{arith, ◌∙◌, ap, refl, sym, ◌≡◌, ◌*◌, ◌≤◌, ◌<◌, ◌-◌, ℕ, min, true, false, length, mul-le-mul_right}
-use Rattle.std.specs.Prelude.{is_some, Option, None}
 use Rattle.std.proofs.lemmas.Bool.{true≢false}
 use Rattle.abt_runs.specs.RawLaws.{raw_long, raw_count, raw_padded, own_size}
 use Rattle.abt_runs.specs.Raw.{RawPlace}
 use Rattle.abt_runs.specs.Part.{is_end}
-use Rattle.abt_runs.specs.declared.part.RunFault.{RunFault}
 use Rattle.abt_runs.proofs.Chunked.{not_telling}
-use Rattle.abt_runs.proofs.Classes.{raw_all, never, if_none}
-use Rattle.abt_runs.proofs.Charges.{raw_charged, charge_fresh, charge_end, raw_turns, raw_takes, raw_copies, raw_onward, raw_first, minus_zero, raw_next, no_more, no_more_than, none_added, none_behind, few_turns, none_greatest}
+use Rattle.abt_runs.proofs.Classes.{raw_all, never, if_none, none_is}
+use Rattle.abt_runs.proofs.Charges.{raw_charged, charge_fresh, charge_end, raw_turns, raw_takes, raw_copies, raw_onward, raw_first, minus_zero, raw_next, no_more, no_more_than, none_added, none_behind, nothing_read, read_some}
 use Rattle.abt_runs.proofs.raw.RawRunsBlockRuns.next_part.Goals as goal
 
 -- no block is left
@@ -61,13 +59,8 @@ returns-then-from-self g c =
         fetched = λ going. absurd (none going);
         ended = λ end. refl;
       };
-      given = own_size _;
+      costs = nothing_read _ _ _ _ _ s.turns s.steps s.greatest;
       most = no_more_than _ _ _;
-      received = no_more _ _;
-      calls = no_more_than _ _ _;
-      turns = few_turns _ _ _ _ _ s.turns;
-      steps = s.steps;
-      greatest = none_greatest _ _ _ s.greatest;
       faults = own_size _;
       clean = refl;
       cause = tt;
@@ -84,13 +77,8 @@ returns-then-length-self g c =
       told = λ tells. tt;
       found = tt;
       asked = tt;
-      given = own_size _;
+      costs = nothing_read _ _ _ _ _ s.turns s.steps s.greatest;
       most = no_more_than _ _ _;
-      received = no_more _ _;
-      calls = no_more_than _ _ _;
-      turns = few_turns _ _ _ _ _ s.turns;
-      steps = s.steps;
-      greatest = none_greatest _ _ _ s.greatest;
       faults = own_size _;
       clean = tt;
       cause = not_telling g.S.Source.tells (λ t. c.if-length-self.true (c.length.ensures.told t ∙ sym (c.requires.told t).0));
@@ -113,20 +101,12 @@ returns-in-Some g c =
       told = λ tells. tt;
       found = tt;
       asked = tt;
-      given = omega (arith, l.given);
+      costs = read_some _ _ _ c.load_filled-loaded.result.received _ _ _ _ (omega (arith, l.few, want, window, c.requires.within.window)) l.given (omega (arith, l.calls)) (omega (arith, l.turns, s.turns)) (omega (arith, s.steps, l.steps)) (omega (arith, s.greatest, l.greatest));
       most = omega (arith, l.given, l.few, want, capped);
-      received = omega (arith, l.given, l.few, want, window, c.requires.within.window);
-      calls = omega (arith, l.calls, l.given);
-      turns = omega (arith, l.turns, l.given, s.turns);
-      steps = omega (arith, s.steps, l.steps);
-      greatest = omega (arith, s.greatest, l.greatest, l.given);
       faults = l.faults;
       clean = tt;
       cause = rw c.in-Some.is at l.cause;
     }
-
-none_is : (o : Option RunFault) → o ≡ None → is_some o ≡ false
-none_is o e = rw e refl
 
 -- the blocks that are alike
 pub returns : goal.returns
@@ -200,16 +180,18 @@ returns g c =
         fetched = λ _. omega (arith, got, whole, self.some, want, at, below, f.given);
         ended = λ end. absurd (over end);
       };
-      given = omega (arith, f.given);
+      costs = record {
+        given = omega (arith, f.given);
+        received = omega (arith, f.given, f.few, want, window, w.window);
+        calls = omega (arith, f.calls, f.given);
+        turns = let long : length c.part.result.now ≡ asked * self.size = c.part.ensures.long ∙ minus_zero (asked * self.size) in
+            let t = c.leading-kind.new.m.turns.number - c.load_filled-loaded.new.m.turns.number in
+            let r = raw_turns self.length self.blocks self.size from.block asked c.min-want.result t self.some self.words a.some a.within there self.last want (omega (arith, at, below)) (omega (arith, l.turns, long, whole)) in
+            omega (arith, r, got, s.turns, f.turns, f.given);
+        steps = omega (arith, s.steps, l.steps, f.steps);
+        greatest = omega (arith, s.greatest, l.greatest, f.greatest, f.given);
+      };
       most = omega (arith, f.given, f.few, want, capped);
-      received = omega (arith, f.given, f.few, want, window, w.window);
-      calls = omega (arith, f.calls, f.given);
-      turns = let long : length c.part.result.now ≡ asked * self.size = c.part.ensures.long ∙ minus_zero (asked * self.size) in
-          let t = c.leading-kind.new.m.turns.number - c.load_filled-loaded.new.m.turns.number in
-          let r = raw_turns self.length self.blocks self.size from.block asked c.min-want.result t self.some self.words a.some a.within there self.last want (omega (arith, at, below)) (omega (arith, l.turns, long, whole)) in
-          omega (arith, r, got, s.turns, f.turns, f.given);
-      steps = omega (arith, s.steps, l.steps, f.steps);
-      greatest = omega (arith, s.greatest, l.greatest, f.greatest, f.given);
       faults = f.faults;
       clean = f.clean (none_is _ c.in_default.is);
       cause = tt;

@@ -2,7 +2,7 @@ use Rattle.std.proofs.Common.{arith, ◌+◌, ◌*◌, ◌≤◌, ◌-◌, refl,
 use Rattle.abt_runs.specs.RawLaws.{raw_long, own_size}
 use Rattle.abt_runs.specs.Raw.{RawPlace}
 use Rattle.abt_runs.specs.declared.part.RunKind.TheVariants.{Raw}
-use Rattle.abt_runs.proofs.Charges.{charge_fresh, raw_takes, raw_copies, raw_onward, raw_first, no_more, no_more_than, few_turns, none_greatest}
+use Rattle.abt_runs.proofs.Charges.{charge_fresh, raw_takes, raw_copies, raw_onward, raw_first, no_more, nothing_read}
 use Rattle.abt_runs.proofs.raw.RawRunsBlockRuns.next_raw.Goals as goal
 
 -- raw blocks of a raw image need no header
@@ -55,13 +55,8 @@ returns g c =
         onward = (own_size _, raw_onward self.length self.size from.block (from.block + n) (no_more _ _));
         filled_up = λ some. c.requires.some;
       };
-      given = own_size _;
+      costs = nothing_read _ _ _ _ _ s.turns s.steps s.greatest;
       fetched = λ none. refl;
-      received = no_more _ _;
-      calls = no_more_than _ _ _;
-      turns = few_turns _ _ _ _ _ s.turns;
-      steps = s.steps;
-      greatest = none_greatest _ _ _ s.greatest;
       faults = own_size _;
       clean = refl;
       cause = tt;

@@ -1,5 +1,5 @@
 use Rattle.std.proofs.Common.{◌≡◌, ℕ, ◌+◌, ◌<◌, true, false, List, take, drop, refl, sym, ap, subst, ◌∙◌, arith, IsTrue}
-use Rattle.std.specs.Prelude.{is_some, Option, Some, None}
+use Rattle.std.specs.Prelude.{Option, Some, None}
 use Rattle.std.proofs.lemmas.Bool.{true≢false}
 use Rattle.abt_sparse.specs.View.{view}
 use Rattle.abt_runs.specs.Head.{has_word, part_of_chunk}
@@ -9,12 +9,11 @@ use Rattle.abt_runs.specs.SparseLaws.{sparse_long}
 use Rattle.abt_sparse.specs.declared.chunk_header.ChunkHeader.{ChunkHeader}
 use Rattle.abt_runs.specs.declared.part.Cursor.{Cursor}
 use Rattle.abt_runs.specs.declared.part.Run.{Run}
-use Rattle.abt_runs.specs.declared.part.RunFault.{RunFault}
-use Rattle.abt_runs.proofs.Classes.{if_none}
+use Rattle.abt_runs.proofs.Classes.{if_none, none_is}
 use Rattle.abt_runs.proofs.Chunked.{Parts, parts, standing, standing_as, part_is, next_place, here_place, stand_together, at_last, not_telling}
 use Rattle.abt_runs.proofs.Passing.{next_within, here_within, here_block, here_used, here_charge, raw_reach, adds, read_charged, takes, here_next, raw_copies, not_end, nowhere_else, next_block, raw_few, left_less, stops_full, goes_raw}
 use Rattle.abt_runs.specs.RawLaws.{own_size}
-use Rattle.abt_runs.proofs.Charges.{no_more, no_more_than, none_added, none_behind, few_turns, none_greatest}
+use Rattle.abt_runs.proofs.Charges.{no_more, no_more_than, none_added, none_behind, nothing_read, read_some}
 use Rattle.abt_runs.proofs.Ordered.{next_first, not_past}
 use Rattle.abt_runs.proofs.sparse_parts.SparseRunsBlockRuns.next_part.Goals as goal
 
@@ -33,13 +32,8 @@ returns-then-from-self-2 g c =
       told = λ tells. tt;
       found = tt;
       asked = tt;
-      given = own_size _;
+      costs = nothing_read _ _ _ _ _ s.turns s.steps s.greatest;
       most = no_more_than _ _ _;
-      received = no_more _ _;
-      calls = no_more_than _ _ _;
-      turns = few_turns _ _ _ _ _ s.turns;
-      steps = s.steps;
-      greatest = none_greatest _ _ _ s.greatest;
       faults = own_size _;
       clean = tt;
       cause = not_telling g.S.Source.tells (λ t. c.if-from-self-2.true (at_last (view self.header) (g.S.Source.content c.args.source.now) c.args.from (c.requires.told t).1 c.if-from-self.true));
@@ -96,13 +90,8 @@ returns-then-from-self g c =
         fetched = λ going. absurd (none going);
         ended = λ end. refl;
       };
-      given = own_size _;
+      costs = nothing_read _ _ _ _ _ s.turns s.steps s.greatest;
       most = no_more_than _ _ _;
-      received = no_more _ _;
-      calls = no_more_than _ _ _;
-      turns = few_turns _ _ _ _ _ s.turns;
-      steps = s.steps;
-      greatest = none_greatest _ _ _ s.greatest;
       faults = own_size _;
       clean = refl;
       cause = tt;
@@ -119,13 +108,8 @@ returns-then-length-self g c =
       told = λ tells. tt;
       found = tt;
       asked = tt;
-      given = own_size _;
+      costs = nothing_read _ _ _ _ _ s.turns s.steps s.greatest;
       most = no_more_than _ _ _;
-      received = no_more _ _;
-      calls = no_more_than _ _ _;
-      turns = few_turns _ _ _ _ _ s.turns;
-      steps = s.steps;
-      greatest = none_greatest _ _ _ s.greatest;
       faults = own_size _;
       clean = tt;
       cause = not_telling g.S.Source.tells (λ t. c.if-length-self.true (c.length.ensures.told t ∙ (c.requires.told t).0.long_is));
@@ -144,13 +128,8 @@ returns-then-self-from g c =
       told = λ tells. tt;
       found = tt;
       asked = tt;
-      given = own_size _;
+      costs = nothing_read _ _ _ _ _ s.turns s.steps s.greatest;
       most = no_more_than _ _ _;
-      received = no_more _ _;
-      calls = no_more_than _ _ _;
-      turns = few_turns _ _ _ _ _ s.turns;
-      steps = s.steps;
-      greatest = none_greatest _ _ _ s.greatest;
       faults = own_size _;
       clean = tt;
       cause = not_telling g.S.Source.tells (λ t.
@@ -172,13 +151,8 @@ returns-in-Some g c =
       told = λ tells. tt;
       found = tt;
       asked = tt;
-      given = omega (arith, h.given);
+      costs = read_some _ _ _ c.load-head.result.received _ _ _ _ (omega (arith, h.few)) h.given (omega (arith, h.calls)) (omega (arith, h.turns, s.turns)) (omega (arith, s.steps, h.steps)) (omega (arith, s.greatest, h.greatest));
       most = omega (arith, h.given, h.few);
-      received = omega (arith, h.given, h.few);
-      calls = omega (arith, h.calls, h.given);
-      turns = omega (arith, h.turns, h.given, s.turns);
-      steps = omega (arith, s.steps, h.steps);
-      greatest = omega (arith, s.greatest, h.greatest, h.given);
       faults = h.faults;
       clean = tt;
       cause = rw c.in-Some.is at h.cause;
@@ -198,13 +172,8 @@ returns-in-None g c =
       told = λ tells. tt;
       found = tt;
       asked = tt;
-      given = omega (arith, h.given);
+      costs = read_some _ _ _ c.load-head.result.received _ _ _ _ (omega (arith, h.few)) h.given (omega (arith, h.calls)) (omega (arith, h.turns, s.turns)) (omega (arith, s.steps, h.steps)) (omega (arith, s.greatest, h.greatest));
       most = omega (arith, h.given, h.few);
-      received = omega (arith, h.given, h.few);
-      calls = omega (arith, h.calls, h.given);
-      turns = omega (arith, h.turns, h.given, s.turns);
-      steps = omega (arith, s.steps, h.steps);
-      greatest = omega (arith, s.greatest, h.greatest, h.given);
       faults = h.faults;
       clean = tt;
       cause = not_telling g.S.Source.tells (λ t.
@@ -214,9 +183,6 @@ returns-in-None g c =
           let found = c.chunk_here.ensures.found r.0 r.1 r.2.fits in
           absurd (not_both _ _ found c.in-None.is));
     }
-
-none_is : (o : Option RunFault) → o ≡ None → is_some o ≡ false
-none_is o e = rw e refl
 
 -- its word is not read
 pub returns-in-Some-fault : goal.returns-in-Some-fault
@@ -231,13 +197,8 @@ returns-in-Some-fault g c =
       told = λ tells. tt;
       found = tt;
       asked = tt;
-      given = omega (arith, h.given, w.given);
+      costs = read_some _ _ _ (c.load-head.result.received + c.load_word-word.result.received) _ _ _ _ (omega (arith, h.few, w.few)) (omega (arith, h.given, w.given)) (omega (arith, h.calls, w.calls)) (omega (arith, h.turns, w.turns, s.turns)) (omega (arith, s.steps, h.steps, w.steps)) (omega (arith, s.greatest, h.greatest, w.greatest));
       most = omega (arith, h.given, h.few, w.given, w.few);
-      received = omega (arith, h.given, h.few, w.given, w.few);
-      calls = omega (arith, h.calls, h.given, w.calls, w.given);
-      turns = omega (arith, h.turns, h.given, w.turns, w.given, s.turns);
-      steps = omega (arith, s.steps, h.steps, w.steps);
-      greatest = omega (arith, s.greatest, h.greatest, w.greatest, h.given, w.given);
       faults = omega (arith, h.faults, w.faults);
       clean = tt;
       cause = rw (h.clean (none_is _ c.in_default.is), c.in-Some-fault.is) at w.cause;
@@ -313,13 +274,8 @@ returns-in-None-fault g c =
             omega (arith, whole, h.given, w.given);
         ended = λ end. absurd (not_over end);
       };
-      given = omega (arith, h.given, w.given);
+      costs = read_some _ _ _ (c.load-head.result.received + c.load_word-word.result.received) _ _ _ _ (omega (arith, h.few, w.few)) (omega (arith, h.given, w.given)) (omega (arith, h.calls, w.calls)) (omega (arith, h.turns, w.turns, s.turns)) (omega (arith, s.steps, h.steps, w.steps)) (omega (arith, s.greatest, h.greatest, w.greatest));
       most = omega (arith, h.given, h.few, w.given, w.few);
-      received = omega (arith, h.given, h.few, w.given, w.few);
-      calls = omega (arith, h.calls, h.given, w.calls, w.given);
-      turns = omega (arith, h.turns, h.given, w.turns, w.given, s.turns);
-      steps = omega (arith, s.steps, h.steps, w.steps);
-      greatest = omega (arith, s.greatest, h.greatest, w.greatest, h.given, w.given);
       faults = omega (arith, h.faults, w.faults);
       clean = w.clean (none_is _ c.in-None-fault.is) ∙ h.clean (none_is _ c.in_default.is);
       cause = tt;
