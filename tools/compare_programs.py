@@ -52,6 +52,7 @@ EXPLAINED = (
     (r"^changes .*\bexpand\b", r"^(stderr|file \w+)$", "IN ends where it ends now, and more of it may be laid"),
     (r"^changes .*\b(cut|flash)\b", r"^file (got\.p\.\d+|p\.\d+|spool)$", "more of a broken-off piece may be written"),
     (r"^room .*\bflash r part \d+ spool\b", r"^file spool$", "a raw piece that is not finished has no magic number in SPOOL"),
+    (r"^changes .*\bflash r part \d+ spool\b", r"^(stderr|file part)$", "IN is refused up to a window before its new end"),
 )
 SECONDS = 60
 MODES = ("plain", "room", "full", "fifos", "changes", "faults")
