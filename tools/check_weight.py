@@ -3,8 +3,9 @@
 
   tools/check_weight.py [--show]      --show: also the functions and names themselves, heaviest first
 
-Counted are the functions of each crate, those whose contracts have more than 15 and more than 20 clauses, and the names that
-two files of specs/ define. A count above the figure here fails; one below it fails too, until the figure is taken down to it.
+Counted are the functions of each crate, those whose contracts have more than 15 and more than 20 clauses, the clauses that
+repeat an earlier one to the letter, the names that two files of specs/ define, and the lines of specs/ and proofs/ that are
+longer than 120 columns. A count above the figure here fails; one below it fails too, until the figure is taken down to it.
 The last line is 'N passed, M failed'.
 """
 import argparse
@@ -22,7 +23,11 @@ FUNCTIONS = 100
 MORE_FUNCTIONS = {"abt_io": 160, "abt_sections": 122}
 # How many functions have contracts of more clauses than this.
 LONG_CONTRACTS = {15: 108, 20: 46}
+# How many clauses are, to the letter, one that stands before, in any function of any crate.
+REPEATED_CLAUSES = 1959
 NAMES_DEFINED_TWICE = 103
+# How many lines of specs/ and proofs/ are longer than this.
+COLUMNS, LONG_LINES = 120, 5852
 
 FUNCTION = re.compile(r"\s*(?:pub(?:\(\w+\))? )?(?:const )?(?:unsafe )?(?:extern \"C\" )?(?:final )?fn (\w+)")
 CLAUSE = re.compile(r"\s*(?:requires|ensures)\b")
@@ -47,6 +52,27 @@ def contracts(crate):
                     yield clauses, f"{path}: {name}"
                 name, clauses = found[1], 0
             clauses += bool(CLAUSE.match(line))
+
+
+def clauses_of(crates):
+    """Each clause, on one line."""
+    for crate in crates:
+        for _, lines in lines_below(crate, "src", "rt"):
+            clause, open_braces = None, 0
+            for line in lines:
+                if clause is None and not CLAUSE.match(line):
+                    continue
+                clause = line if clause is None else f"{clause} {line}"
+                open_braces += line.count("{") - line.count("}")
+                if open_braces <= 0:
+                    yield " ".join(clause.split())
+                    clause, open_braces = None, 0
+
+
+def long_lines(crates):
+    """How many lines of definitions and of proofs are too long."""
+    parts = (lines_below(crate, part, "antt") for crate in crates for part in ("specs", "proofs"))
+    return sum(len(line) > COLUMNS for part in parts for _, lines in part for line in lines)
 
 
 def defined_twice(crates):
@@ -79,9 +105,16 @@ def main():
     for clauses, figure in LONG_CONTRACTS.items():
         long = sum(many > clauses for many, _ in functions)
         that(long == figure, f"{long} functions have more than {clauses} clauses; {figure}")
+    clauses = collections.Counter(clauses_of(crates))
+    total = sum(clauses.values())
+    repeated = total - len(clauses)
+    that(repeated == REPEATED_CLAUSES, f"{repeated} of {total} clauses repeat an earlier one; {REPEATED_CLAUSES}")
+    wide = long_lines(crates)
+    that(wide == LONG_LINES, f"{wide} lines of specs/ and proofs/ have more than {COLUMNS} columns; {LONG_LINES}")
     twice = defined_twice(crates)
     that(len(twice) == NAMES_DEFINED_TWICE, f"{len(twice)} names are defined in two files of specs/; {NAMES_DEFINED_TWICE}")
     if show:
+        print(*(f"{many} times: {clause}" for clause, many in clauses.most_common() if many > 9), sep="\n")
         print(*(f"{many} {name}" for many, name in sorted(functions, reverse=True) if many > min(LONG_CONTRACTS)), sep="\n")
         print(*(f"{name}: {', '.join(files)}" for name, files in twice), sep="\n")
     print(f"{counts[True]} passed, {counts[False]} failed")
