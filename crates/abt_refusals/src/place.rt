@@ -1,5 +1,8 @@
 //! A file, as the words name it.
 
+ghost use Rattle.std.specs.Prelude.{◌≡◌, IfOk, string_bytes};
+ghost use Rattle.abt_refusals.specs.Paths.{is_standard, path_in, path_of, path_out};
+
 use abt_text::ShownPath;
 use std::alloc::{AllocError, Global};
 use std::fmt;
@@ -46,18 +49,44 @@ impl<'a> Place<'a> {
     }
 
     /// Whether it is `-`, which stands for standard input or standard output.
-    pub fn is_standard(&self) -> bool {
+    pub fn is_standard(&self) -> bool
+        ensures { result ≡ is_standard self.now }
+    {
         self.name == "-" && self.folder.is_none() && self.number.is_none()
     }
 
     /// The path, as the system takes it.
-    pub fn path(&self, alloc: Global) -> Result<String, AllocError> {
+    pub fn path(&self, alloc: Global) -> Result<String, AllocError>
+        ensures { IfOk result (λ path. string_bytes path ≡ path_of self.now) }
+    {
         let name = self.name;
         match (self.folder, self.number) {
             (None, None) => String::from_str(alloc, name),
             (None, Some(number)) => format!(in alloc; "{name}.{number}"),
             (Some(folder), None) => format!(in alloc; "{folder}/{name}"),
             (Some(folder), Some(number)) => format!(in alloc; "{folder}/{name}.{number}"),
+        }
+    }
+
+    /// The path of what is read: `-` is standard input.
+    pub fn path_read(&self, alloc: Global) -> Result<String, AllocError>
+        ensures { IfOk result (λ path. string_bytes path ≡ path_in self.now) }
+    {
+        if self.is_standard() {
+            String::from_str(alloc, "/dev/stdin")
+        } else {
+            self.path(alloc)
+        }
+    }
+
+    /// The path of what is written: `-` is standard output.
+    pub fn path_written(&self, alloc: Global) -> Result<String, AllocError>
+        ensures { IfOk result (λ path. string_bytes path ≡ path_out self.now) }
+    {
+        if self.is_standard() {
+            String::from_str(alloc, "/dev/stdout")
+        } else {
+            self.path(alloc)
         }
     }
 }

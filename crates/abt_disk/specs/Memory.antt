@@ -1,0 +1,33 @@
+-- The files of a disk in memory.
+use Rattle.std.specs.Prelude.{ℕ, List, [], ◌∷◌, Option, Some, None, cond, bytes_eq, string_bytes, map, get_or}
+use Rattle.abt_disk.specs.World.{World, Held}
+use Rattle.abt_disk.specs.declared.memory.MemoryDisk.{MemoryDisk}
+use Rattle.abt_disk.specs.declared.memory.MemoryFile.{MemoryFile}
+use Rattle.abt_disk.specs.declared.memory.MemoryPath.{MemoryPath}
+
+-- the file that this path leads to: the first that is listed of this name
+unfoldable pub leads : List MemoryPath → List ℕ → Option ℕ
+leads [] path = None
+leads (p ∷ ps) path = cond (bytes_eq path (string_bytes p.name)) (Some p.file) (leads ps path)
+
+-- what each file holds, by its number
+abbrev pub contents : List MemoryFile → List (List ℕ)
+contents files = map (λ f. f.bytes.items) files
+
+-- its files, and what was opened
+abbrev pub listed : List MemoryPath → List MemoryFile → World
+listed paths files = record { at = leads paths; holds = λ f. get_or (contents files) f [] }
+
+abbrev pub world_of : MemoryDisk → World
+world_of d = listed d.paths.items d.files.items
+
+abbrev pub held_of : MemoryDisk → Held
+held_of d = record {
+  read = d.read.items;
+  begun = d.begun.items;
+  output = d.output;
+  part = d.part;
+  spool = d.spool;
+  is_synced = d.is_synced;
+  syncs = d.syncs.number;
+}

@@ -1,0 +1,81 @@
+-- The files of a disk, which of them are open, and what the calls of a run leave of them.
+use Rattle.std.specs.Prelude.{◌≡◌, ◌≢◌, ℕ, ◌+◌, List, [], ◌∷◌, ◌++◌, Option, Some, None, Bool, Contains, ◌&&◌}
+use Rattle.std.specs.Prelude.{if◌then◌else◌}
+
+-- which file each path leads to, by a number, and what each file holds
+pub record World : Type 0 where
+  pub at : List ℕ → Option ℕ
+  pub holds : ℕ → List ℕ
+
+-- What was opened: the files that are read; those that were created or opened to be written, the newest first; the
+-- output that is open, the file that is written in place, and the one that pieces go through; whether outputs are
+-- synced at their end, and how often one was.
+pub record Held : Type 0 where
+  pub read : List ℕ
+  pub begun : List ℕ
+  pub output : Option ℕ
+  pub part : Option ℕ
+  pub spool : Option ℕ
+  pub is_synced : Bool
+  pub syncs : ℕ
+
+-- nothing was opened to be written yet
+pub record IsReading (h : Held) : Type 0 where
+  pub begun : h.begun ≡ []
+  pub output : h.output ≡ None
+
+-- this file more is read
+abbrev pub reading : ℕ → Held → Held
+reading file h = record h { read = h.read ++ (file ∷ []) }
+
+-- this file more is written, and is the output that is open
+abbrev pub beginning : ℕ → Held → Held
+beginning file h = record h { begun = file ∷ h.begun; output = Some file }
+
+-- the output that was open is closed, and synced where it was brought to its end and outputs are
+abbrev pub ended : Bool → Held → Held
+ended is_done h = record h { output = None; syncs = h.syncs + (if is_done && h.is_synced then 1 else 0) }
+
+-- it is closed, unfinished
+abbrev pub given_up : Held → Held
+given_up h = record h { output = None }
+
+-- every path leads where it led, and no file but this one holds anything else
+pub record Spares (file : ℕ) (old new : World) : Type 0 where
+  pub paths : (p : List ℕ) (f : ℕ) → old.at p ≡ Some f → new.at p ≡ Some f
+  pub files : (f : ℕ) → f ≢ file → new.holds f ≡ old.holds f
+
+-- the file at this path is one of those that are read now, and these are its bytes
+pub record Opens (world : World) (path bytes : List ℕ) (old new : Held) : Type 0 where
+  pub file : ℕ
+  pub there : world.at path ≡ Some file
+  pub held : bytes ≡ world.holds file
+  pub taken : new ≡ reading file old
+
+-- the file at this path is begun: none that is read or was begun, and all others are as before
+pub record Creates (path : List ℕ) (held held' : Held) (old new : World) : Type 0 where
+  pub file : ℕ
+  pub begins : held' ≡ beginning file held
+  pub there : new.at path ≡ Some file
+  pub free : ¬ Contains held.read file
+  pub fresh : ¬ Contains held.begun file
+  pub spares : Spares file old new
+
+-- nothing has changed, but what the file at this path holds, which is none that is read
+pub data OnlyAt (read path : List ℕ) (old new : World) : Type 0 where
+  untouched : new ≡ old → OnlyAt read path old new
+  in_output : (file : ℕ) → new.at path ≡ Some file → ¬ Contains read file → Spares file old new → OnlyAt read path old new
+
+-- the output that is open holds these bytes, and all other files are as before
+abbrev pub Ends : Option ℕ → List ℕ → World → World → Type 0
+Ends None bytes old new = Unit {0}
+Ends (Some file) bytes old new = (new.holds file ≡ bytes) × Spares file old new
+
+-- all files but this one are as before
+abbrev pub SparesRest : Option ℕ → World → World → Type 0
+SparesRest None old new = new ≡ old
+SparesRest (Some file) old new = Spares file old new
+
+-- the file at this path, if one is there, holds what it held
+abbrev pub Keeps : List ℕ → World → World → Type 0
+Keeps path old new = (file : ℕ) → old.at path ≡ Some file → new.holds file ≡ old.holds file

@@ -1,0 +1,75 @@
+//! What a command asks of the system, and what contracts know of it.
+
+ghost use Rattle.std.specs.Prelude.{◌≡◌, [], None, Bool, IsTrue, IfOk, OnOk, OnErr, is_ok};
+ghost use Rattle.abt_refusals.specs.Paths.{path_in, path_out};
+ghost use Rattle.abt_disk.specs.World.{World, Held, Opens, Creates, OnlyAt, Ends, SparesRest, ended, given_up};
+
+use abt_io::{Input, Output};
+use abt_refusals::{HostRefusal, Place};
+
+/// A device that knows why its last call failed.
+pub trait Reasons {
+    /// The number of the system's error, where its last call failed.
+    fn why(&self) -> Option<i32>;
+}
+
+/// An input that may know how long it is.
+pub trait Measured {
+    /// How many bytes it has from its front on, where that is known before they are read.
+    fn known_length(&self) -> Option<u64>;
+}
+
+/// The files of a run. All that is read is opened before anything is written, and at most one output is open.
+///
+/// A clause under `IsTrue tells` speaks of what files hold, and binds only a disk that tells it. What was opened is
+/// given back: an output by `finish` or `give_up`; what is only read is let go.
+pub trait Disk {
+    /// What is read forward.
+    type From: Input + Reasons + Measured + Drop;
+
+    /// What is written from its front on.
+    type Onto: Output + Reasons + Drop;
+
+    /// It tells what its files hold.
+    ghost tells: { Bool };
+
+    /// Its files.
+    ghost world: { Self → World };
+
+    /// What was opened.
+    ghost held: { Self → Held };
+
+    /// Opens what is read forward. `-` is standard input.
+    fn input<'a>(&mut self, place: Place<'a>) -> Result<Self::From, HostRefusal<'a>>
+        requires first { IsTrue tells → (held self.old).begun ≡ [] }
+        ensures opened { IsTrue tells → IfOk result (λ from. Opens (world self.old) (path_in place.entry)
+            (Self.From.remaining from) (held self.old) (held self.new)) }
+        ensures kept { IsTrue tells → OnErr result (held self.new ≡ held self.old) }
+        ensures world { IsTrue tells → world self.new ≡ world self.old };
+
+    /// Creates or empties the file of a raw image. `-` is standard output.
+    fn raw<'a>(&mut self, place: Place<'a>) -> Result<Self::Onto, HostRefusal<'a>>
+        requires one { IsTrue tells → (held self.old).output ≡ None }
+        ensures empty { IfOk result (λ onto. Self.Onto.written onto ≡ []) }
+        ensures created { IsTrue tells → OnOk result (Creates (path_out place.entry) (held self.old) (held self.new)
+            (world self.old) (world self.new)) }
+        ensures kept { IsTrue tells → OnErr result (held self.new ≡ held self.old) }
+        ensures only { IsTrue tells → OnErr result (OnlyAt (held self.old).read (path_out place.entry)
+            (world self.old) (world self.new)) };
+
+    /// Brings the output that is open to its end: all that it took is in its file, and synced where that is wanted.
+    /// Answers whether it is where standard output goes.
+    fn finish<'a>(&mut self, onto: Self::Onto, place: Place<'a>) -> Result<bool, HostRefusal<'a>>
+        ensures ended { IsTrue tells → OnOk result (Ends (held self.old).output (Self.Onto.written onto)
+            (world self.old) (world self.new)) }
+        ensures closed { IsTrue tells → held self.new ≡ ended (is_ok result) (held self.old) }
+        ensures rest { IsTrue tells → SparesRest (held self.old).output (world self.old) (world self.new) };
+
+    /// Lets the output go that is open, where the work before failed.
+    fn give_up(&mut self, onto: Self::Onto)
+        ensures closed { IsTrue tells → held self.new ≡ given_up (held self.old) }
+        ensures rest { IsTrue tells → SparesRest (held self.old).output (world self.old) (world self.new) };
+
+    /// What it opens to be read tells its bytes.
+    ghost told: { IsTrue tells → IsTrue Self.From.tells };
+}
