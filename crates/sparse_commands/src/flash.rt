@@ -88,6 +88,7 @@ pub(crate) fn flash_pieces<'a>(
     }
     let through = writing.spool(spool, pieces.limit)?;
     let mut through = GatheringSpool::new(writing.alloc, through.file, through.capacity, &file);
+    through.keeps_pages = raw.is_some();
     report.progress.expect(source.length(), 1);
     let mut watched = Watched::new(&mut source, &mut report.progress);
     let count = match deliver(&mut watched, raw, pieces, &mut through, &mut onto, w, m) {
