@@ -103,7 +103,7 @@ impl Behind {
         ensures failed { IfErr result (λ e. e ≡ DeviceFault.Failed) }
     {
         let flushed = self.flush(file, used);
-        self.cut_off(file, used - self.held.len() as u64)?;
+        self.cut_off(file, used)?;
         flushed
     }
 
@@ -138,8 +138,9 @@ impl Behind {
         }
     }
 
-    // Cuts the file off where what it took ends, if anything may stand behind it.
-    fn cut_off(&mut self, file: &File, end: u64) -> Result<(), DeviceFault>
+    // Cuts the file off behind what it took, if anything may stand there.
+    fn cut_off(&mut self, file: &File, used: u64) -> Result<(), DeviceFault>
+        requires { length self.old.sent.state.bytes + length self.old.held.items ≡ used }
         ensures cut { OnOk result (self.new.stale ≡ 0) }
         ensures held { self.new.held.items ≡ self.old.held.items }
         ensures sent { self.new.sent.state ≡ self.old.sent.state }
@@ -147,6 +148,7 @@ impl Behind {
         ensures kept { OnOk result (self.new.is_lost ≡ self.old.is_lost) }
         ensures failed { IfErr result (λ e. e ≡ DeviceFault.Failed) }
     {
+        let end = used - self.held.len() as u64;
         if self.stale > end && file.set_len(end).is_err() {
             self.is_lost = true;
             return Err(DeviceFault::Failed);
