@@ -26,7 +26,7 @@ pub(crate) struct Behind {
     held: Vec<u8>,
     /// What the file took since it was cleared.
     sent: Log,
-    /// Behind that nothing stands from this place on. 0 where the file was emptied, or cut off since it was cleared.
+    /// From here on nothing stands in the file but what it took. 0 where it was emptied, or cut off since it was cleared.
     stale: u64,
     /// Some of what is held could not be written.
     is_lost: bool,
@@ -35,11 +35,11 @@ pub(crate) struct Behind {
 }
 
 impl Behind {
-    /// Nothing is held yet, and the file is empty.
-    pub(crate) fn new(alloc: Global) -> Behind
+    /// Nothing is held yet, and the file has so many bytes, which are of before.
+    pub(crate) fn new(alloc: Global, stale: u64) -> Behind
         ensures held { result.held.items ≡ [] }
         ensures sent { result.sent.state.bytes ≡ [] }
-        ensures stale { result.stale ≡ 0 }
+        ensures stale { result.stale ≡ stale }
         ensures lost { result.is_lost ≡ false }
     {
         let held = match Vec::with_capacity(alloc, WINDOW) {
@@ -49,7 +49,7 @@ impl Behind {
         Behind {
             held,
             sent: Log::new(),
-            stale: 0,
+            stale,
             is_lost: false,
             is_told: false,
         }
@@ -275,11 +275,15 @@ impl Behind {
         ensures told { self.new.is_told ≡ self.old.is_told }
         ensures failed { IfErr result (λ e. e ≡ DeviceFault.Failed) }
     {
-        self.stale = self.stale.max(used);
-        if self.stale > 0 && file.write_all_at(&[0; MAGIC as usize], 0).is_err() {
-            return Err(DeviceFault::Failed);
+        let stands = self.stale.max(used);
+        if stands == 0 {
+            return Ok(());
         }
-        Ok(())
+        self.stale = stands.max(MAGIC);
+        match file.write_all_at(&[0; MAGIC as usize], 0) {
+            Ok(()) => Ok(()),
+            Err(_) => Err(DeviceFault::Failed),
+        }
     }
 
     /// Nothing is held or lost any more, since the file was cleared. Who lost something was told of it.

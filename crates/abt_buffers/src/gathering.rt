@@ -20,9 +20,9 @@ use std::fs::File;
 /// found no room; and then every call fails until it was cleared, of which the first try fails too. A read of at most 256
 /// bytes asks for up to 4 KiB.
 ///
-/// Where `keeps_pages`, a clear leaves the file its pages, and lays zeros over its first four bytes in the place of
-/// emptying it. What then stands behind what it takes is cut off before bytes are laid over those four, before it is read,
-/// and by `settle`. So this is for who lays a magic number last: a file that has one holds nothing else.
+/// Where it is `keeping` the file's pages, a clear lays zeros over its first four bytes in the place of emptying it. What
+/// then stands behind what it takes is cut off before bytes are laid over those four, before it is read, and by `settle`.
+/// So this is for who lays a magic number last: a file that has one has nothing of before behind it.
 ///
 /// What it is given comes from a file that is read ahead. It gives nothing of it back where that file is shorter then.
 #[derive(Drop)]
@@ -32,7 +32,7 @@ pub struct GatheringSpool<'a> {
     is_from_short: bool,
     ahead: Option<Ahead>,
     behind: Behind,
-    pub keeps_pages: bool,
+    is_keeping: bool,
     ghost place: { length behind.sent.state.bytes + length behind.held.items ≡ spool.used },
     ghost whole: { behind.sent.state.bytes ++ behind.held.items ≡ since_cut spool.log.state },
 }
@@ -50,8 +50,32 @@ impl<'a> GatheringSpool<'a> {
             from,
             is_from_short: false,
             ahead: Ahead::new(alloc),
-            behind: Behind::new(alloc),
-            keeps_pages: false,
+            behind: Behind::new(alloc, 0),
+            is_keeping: false,
+        }
+    }
+
+    /// A spool that keeps the pages of its file, which has so many bytes. The first four are zeros, or are laid over by the
+    /// first clear.
+    pub fn keeping(
+        alloc: Global,
+        file: File,
+        capacity: u64,
+        from: &'a AheadFile,
+        stands: u64,
+    ) -> GatheringSpool<'a>
+        ensures capacity { result.spool.capacity ≡ capacity }
+        ensures log { result.spool.log.state ≡ nothing_logged }
+        ensures stale { result.behind.stale ≡ stands }
+        ensures lost { result.behind.is_lost ≡ false }
+    {
+        GatheringSpool {
+            spool: FileSpool::new(file, capacity),
+            from,
+            is_from_short: false,
+            ahead: Ahead::new(alloc),
+            behind: Behind::new(alloc, stands),
+            is_keeping: true,
         }
     }
 
@@ -259,7 +283,7 @@ impl Spool for GatheringSpool<'_> {
         }
         forget(&mut self.ahead);
         self.from.forget();
-        if self.keeps_pages {
+        if self.is_keeping {
             cleared(spool, &mut self.behind)?;
         } else {
             spool.clear()?;
