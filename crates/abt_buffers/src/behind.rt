@@ -236,6 +236,7 @@ impl Behind {
         requires place { length self.old.sent.state.bytes + length self.old.held.items ≡ used }
         requires stands { at + length bytes.now ≤ used }
         ensures laid { IsTrue result → length self.old.sent.state.bytes ≤ at }
+        ensures behind { IsTrue result → 4 ≤ at }
         ensures held { IsTrue result → self.new.held.items
             ≡ put_at self.old.held.items (at - length self.old.sent.state.bytes) bytes.now }
         ensures kept { result ≡ false → self.new.held.items ≡ self.old.held.items }
