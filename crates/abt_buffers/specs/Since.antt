@@ -25,3 +25,13 @@ pub record Kept (old new : FileSpool) : Type 0 where
   pub full_faults : new.full_faults.number ≡ old.full_faults.number
   pub clears : new.clears.number ≡ old.clears.number
   pub clear_faults : new.clear_faults.number ≡ old.clear_faults.number
+
+-- but for its clears a spool was neither written nor read
+pub record SameButClears (old new : FileSpool) : Type 0 where
+  pub capacity : new.capacity ≡ old.capacity
+  pub reads : new.reads.number ≡ old.reads.number
+  pub given : new.given.number ≡ old.given.number
+  pub read_faults : new.read_faults.number ≡ old.read_faults.number
+  pub writes : new.writes.number ≡ old.writes.number
+  pub write_faults : new.write_faults.number ≡ old.write_faults.number
+  pub full_faults : new.full_faults.number ≡ old.full_faults.number

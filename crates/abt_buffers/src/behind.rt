@@ -1,4 +1,5 @@
-//! What a spool holds back of what it took, and what of it went to its file.
+//! What a spool holds back of what it took, and what of it went to its file. The file may keep its pages where it is
+//! cleared: then what stands there of before is written over, and cut off before a magic number is laid.
 
 ghost use Rattle.std.specs.Prelude.{◌≡◌, ◌≤◌, ◌+◌, ◌<◌, ◌++◌, [], false, IsTrue, IsErr, IfOk, IfErr, OnOk, OnErr};
 ghost use Rattle.std.specs.Prelude.{◌-◌, length, take};
@@ -23,8 +24,10 @@ const MAGIC: u64 = 4;
 #[derive(Drop)]
 pub(crate) struct Behind {
     held: Vec<u8>,
-    /// What the file took since it was emptied.
+    /// What the file took since it was cleared.
     sent: Log,
+    /// From here on nothing stands in the file but what it took. 0 where it was emptied, or cut off since it was cleared.
+    stale: u64,
     /// Some of what is held could not be written.
     is_lost: bool,
     /// A clear was refused for that.
@@ -32,10 +35,11 @@ pub(crate) struct Behind {
 }
 
 impl Behind {
-    /// Nothing is held yet, and the file is empty.
-    pub(crate) fn new(alloc: Global) -> Behind
+    /// Nothing is held yet, and the file has so many bytes, which are of before.
+    pub(crate) fn new(alloc: Global, stale: u64) -> Behind
         ensures held { result.held.items ≡ [] }
         ensures sent { result.sent.state.bytes ≡ [] }
+        ensures stale { result.stale ≡ stale }
         ensures lost { result.is_lost ≡ false }
     {
         let held = match Vec::with_capacity(alloc, WINDOW) {
@@ -45,6 +49,7 @@ impl Behind {
         Behind {
             held,
             sent: Log::new(),
+            stale,
             is_lost: false,
             is_told: false,
         }
@@ -80,12 +85,30 @@ impl Behind {
         if n < LARGE && n <= room && self.held.extend_from_slice(bytes).is_ok() {
             return Ok(n);
         }
-        self.settle(file, used)?;
+        self.flush(file, used)?;
         self.send(file, used, bytes)
     }
 
-    /// Writes all that is held. Refused where some of it could not be written, now or before.
+    /// Writes all that is held, and cuts off what stands behind it. Refused where some of it could not be written, now or
+    /// before; then the file ends behind what was.
     pub(crate) fn settle(&mut self, file: &File, used: u64) -> Result<(), DeviceFault>
+        requires { length self.old.sent.state.bytes + length self.old.held.items ≡ used }
+        ensures held { OnOk result (self.new.held.items ≡ []) }
+        ensures cut { OnOk result (self.new.stale ≡ 0) }
+        ensures whole { self.new.sent.state.bytes ++ self.new.held.items ≡ self.old.sent.state.bytes ++ self.old.held.items }
+        ensures place { length self.new.sent.state.bytes + length self.new.held.items ≡ used }
+        ensures lost { OnErr result (IsTrue self.new.is_lost) }
+        ensures found { OnOk result (self.new.is_lost ≡ false) }
+        ensures still { IsTrue self.old.is_lost → IsErr result }
+        ensures failed { IfErr result (λ e. e ≡ DeviceFault.Failed) }
+    {
+        let flushed = self.flush(file, used);
+        self.cut_off(file, used)?;
+        flushed
+    }
+
+    // Writes all that is held. Refused where some of it could not be written, now or before.
+    fn flush(&mut self, file: &File, used: u64) -> Result<(), DeviceFault>
         requires { length self.old.sent.state.bytes + length self.old.held.items ≡ used }
         ensures held { OnOk result (self.new.held.items ≡ []) }
         ensures sent { OnOk result (self.new.sent.state.bytes ≡ self.old.sent.state.bytes ++ self.old.held.items) }
@@ -115,6 +138,25 @@ impl Behind {
         }
     }
 
+    // Cuts the file off behind what it took, if anything may stand there.
+    fn cut_off(&mut self, file: &File, used: u64) -> Result<(), DeviceFault>
+        requires { length self.old.sent.state.bytes + length self.old.held.items ≡ used }
+        ensures cut { OnOk result (self.new.stale ≡ 0) }
+        ensures held { self.new.held.items ≡ self.old.held.items }
+        ensures sent { self.new.sent.state ≡ self.old.sent.state }
+        ensures lost { OnErr result (IsTrue self.new.is_lost) }
+        ensures kept { OnOk result (self.new.is_lost ≡ self.old.is_lost) }
+        ensures failed { IfErr result (λ e. e ≡ DeviceFault.Failed) }
+    {
+        let end = used - self.held.len() as u64;
+        if self.stale > end && file.set_len(end).is_err() {
+            self.is_lost = true;
+            return Err(DeviceFault::Failed);
+        }
+        self.stale = 0;
+        Ok(())
+    }
+
     /// One write to the file, behind all that it was given.
     fn send(&mut self, file: &File, used: u64, bytes: &[u8]) -> Result<usize, DeviceFault>
         requires { length self.old.sent.state.bytes ≡ used }
@@ -136,7 +178,7 @@ impl Behind {
 
     /// Lays a front of these bytes over those that were taken, from a place on, and answers how many: in what is held where
     /// all of them fall there, and else by one write, behind what was held. So what stands at the front, as the magic number
-    /// does, is laid once all else is in the file.
+    /// does, is laid once all else is in the file, and nothing behind that.
     pub(crate) fn put_over(
         &mut self,
         file: &File,
@@ -152,6 +194,7 @@ impl Behind {
             ≡ put_at (self.old.sent.state.bytes ++ self.old.held.items) at (take (count_of result) bytes.now) }
         ensures lost { IsTrue self.old.is_lost → IsErr result }
         ensures found { OnOk result (self.new.is_lost ≡ false) }
+        ensures cut { at < 4 → OnOk result (self.new.stale ≡ 0) }
         ensures place { length self.new.sent.state.bytes + length self.new.held.items ≡ used }
         ensures failed { IfErr result (λ e. e ≡ DeviceFault.Failed) }
     {
@@ -161,7 +204,7 @@ impl Behind {
         if self.lays(used, at, bytes) {
             return Ok(bytes.len());
         }
-        self.settle(file, used)?;
+        self.make_way(file, used, at)?;
         match write_at(file, at, bytes) {
             Ok(n) => {
                 self.sent.put(&bytes[..n], at);
@@ -171,11 +214,29 @@ impl Behind {
         }
     }
 
+    // Writes all that is held, before something is laid at a place. At the front nothing is to stand behind it.
+    fn make_way(&mut self, file: &File, used: u64, at: u64) -> Result<(), DeviceFault>
+        requires { length self.old.sent.state.bytes + length self.old.held.items ≡ used }
+        ensures held { OnOk result (self.new.held.items ≡ []) }
+        ensures cut { at < 4 → OnOk result (self.new.stale ≡ 0) }
+        ensures whole { self.new.sent.state.bytes ++ self.new.held.items ≡ self.old.sent.state.bytes ++ self.old.held.items }
+        ensures place { length self.new.sent.state.bytes + length self.new.held.items ≡ used }
+        ensures found { OnOk result (self.new.is_lost ≡ false) }
+        ensures failed { IfErr result (λ e. e ≡ DeviceFault.Failed) }
+    {
+        if at < MAGIC {
+            self.settle(file, used)
+        } else {
+            self.flush(file, used)
+        }
+    }
+
     // Lays bytes over those that are held, if all of them are, and they are not at the front.
     fn lays(&mut self, used: u64, at: u64, bytes: &[u8]) -> bool
         requires place { length self.old.sent.state.bytes + length self.old.held.items ≡ used }
         requires stands { at + length bytes.now ≤ used }
         ensures laid { IsTrue result → length self.old.sent.state.bytes ≤ at }
+        ensures behind { IsTrue result → 4 ≤ at }
         ensures held { IsTrue result → self.new.held.items
             ≡ put_at self.old.held.items (at - length self.old.sent.state.bytes) bytes.now }
         ensures kept { result ≡ false → self.new.held.items ≡ self.old.held.items }
@@ -205,7 +266,28 @@ impl Behind {
         true
     }
 
-    /// Nothing is held or lost any more, since the file was emptied. Who lost something was told of it.
+    /// Lays zeros over the front of a file that may hold something, so that nothing there makes an image of it, and leaves
+    /// the rest to be written over. `used` bytes were taken since the last clear.
+    pub(crate) fn blank(&mut self, file: &File, used: u64) -> Result<(), DeviceFault>
+        ensures stale { (used ≤ self.new.stale) × (self.old.stale ≤ self.new.stale) }
+        ensures held { self.new.held.items ≡ self.old.held.items }
+        ensures sent { self.new.sent.state ≡ self.old.sent.state }
+        ensures lost { self.new.is_lost ≡ self.old.is_lost }
+        ensures told { self.new.is_told ≡ self.old.is_told }
+        ensures failed { IfErr result (λ e. e ≡ DeviceFault.Failed) }
+    {
+        let stands = self.stale.max(used);
+        if stands == 0 {
+            return Ok(());
+        }
+        self.stale = stands.max(MAGIC);
+        match file.write_all_at(&[0; MAGIC as usize], 0) {
+            Ok(()) => Ok(()),
+            Err(_) => Err(DeviceFault::Failed),
+        }
+    }
+
+    /// Nothing is held or lost any more, since the file was cleared. Who lost something was told of it.
     pub(crate) fn forget(&mut self)
         requires told { IsTrue self.old.is_lost → IsTrue self.old.is_told }
         ensures held { self.new.held.items ≡ [] }

@@ -4,9 +4,9 @@ ghost use Rattle.std.specs.Prelude.{◌≡◌, ◌≤◌, ◌+◌, ◌++◌, [],
 ghost use Rattle.std.specs.Prelude.{IfErr, refl};
 ghost use Rattle.std.proofs.lemmas.Bool.{false≢true};
 ghost use Rattle.abt_io.specs.Count.{count_of};
-ghost use Rattle.abt_io.specs.Frame.{last_cut, nothing_logged};
+ghost use Rattle.abt_io.specs.Frame.{last_cut, nothing_logged, and_cut};
 ghost use Rattle.abt_io.specs.Held.{filled_count};
-ghost use Rattle.abt_buffers.specs.Since.{since_cut, Kept};
+ghost use Rattle.abt_buffers.specs.Since.{since_cut, Kept, SameButClears};
 
 use crate::ahead::{Ahead, read_at};
 use crate::ahead_file::AheadFile;
@@ -20,6 +20,10 @@ use std::fs::File;
 /// found no room; and then every call fails until it was cleared, of which the first try fails too. A read of at most 256
 /// bytes asks for up to 4 KiB.
 ///
+/// Where it is `keeping` the file's pages, a clear lays zeros over its first four bytes in the place of emptying it. What
+/// then stands behind what it takes is cut off before bytes are laid over those four, before it is read, and by `settle`.
+/// So this is for who lays a magic number last: a file that has one has nothing of before behind it.
+///
 /// What it is given comes from a file that is read ahead. It gives nothing of it back where that file is shorter then.
 #[derive(Drop)]
 pub struct GatheringSpool<'a> {
@@ -28,6 +32,7 @@ pub struct GatheringSpool<'a> {
     is_from_short: bool,
     ahead: Option<Ahead>,
     behind: Behind,
+    is_keeping: bool,
     ghost place: { length behind.sent.state.bytes + length behind.held.items ≡ spool.used },
     ghost whole: { behind.sent.state.bytes ++ behind.held.items ≡ since_cut spool.log.state },
 }
@@ -45,7 +50,32 @@ impl<'a> GatheringSpool<'a> {
             from,
             is_from_short: false,
             ahead: Ahead::new(alloc),
-            behind: Behind::new(alloc),
+            behind: Behind::new(alloc, 0),
+            is_keeping: false,
+        }
+    }
+
+    /// A spool that keeps the pages of its file, which has so many bytes. The first four are zeros, or are laid over by the
+    /// first clear.
+    pub fn keeping(
+        alloc: Global,
+        file: File,
+        capacity: u64,
+        from: &'a AheadFile,
+        stands: u64,
+    ) -> GatheringSpool<'a>
+        ensures capacity { result.spool.capacity ≡ capacity }
+        ensures log { result.spool.log.state ≡ nothing_logged }
+        ensures stale { result.behind.stale ≡ stands }
+        ensures lost { result.behind.is_lost ≡ false }
+    {
+        GatheringSpool {
+            spool: FileSpool::new(file, capacity),
+            from,
+            is_from_short: false,
+            ahead: Ahead::new(alloc),
+            behind: Behind::new(alloc, stands),
+            is_keeping: true,
         }
     }
 
@@ -54,11 +84,12 @@ impl<'a> GatheringSpool<'a> {
         self.is_from_short
     }
 
-    /// Writes what is held. Refused where a byte that was taken since the last clear could not be written, now or by
+    /// Writes what is held, and cuts the file off behind it. Refused where a byte that was taken since the last clear could not be written, now or by
     /// an earlier call, so that a read which failed for that reason is told from one which did not.
     pub fn settle(&mut self) -> Result<(), DeviceFault>
         ensures all { OnOk result (self.new.behind.sent.state.bytes ≡ since_cut self.new.spool.log.state) }
         ensures none { OnOk result (self.new.behind.held.items ≡ []) }
+        ensures cut { OnOk result (self.new.behind.stale ≡ 0) }
         ensures lost { OnErr result (IsTrue self.new.behind.is_lost) }
         ensures still { IsTrue self.old.behind.is_lost → IsErr result }
         ensures kept { Kept self.old.spool self.new.spool }
@@ -242,7 +273,7 @@ impl Spool for GatheringSpool<'_> {
         self.spool.capacity
     }
 
-    /// Cuts the file off at its front; it stays open. What comes next begins a piece.
+    /// Cuts the file off at its front, or leaves it its pages; it stays open. What comes next begins a piece.
     fn clear(&mut self) -> Result<(), DeviceFault> {
         let spool = &mut self.spool;
         if !self.behind.may_clear() {
@@ -252,9 +283,45 @@ impl Spool for GatheringSpool<'_> {
         }
         forget(&mut self.ahead);
         self.from.forget();
-        spool.clear()?;
+        if self.is_keeping {
+            cleared(spool, &mut self.behind)?;
+        } else {
+            spool.clear()?;
+        }
         self.behind.forget();
         Ok(())
+    }
+}
+
+// A clear that leaves the file its pages.
+fn cleared(spool: &mut FileSpool, behind: &mut Behind) -> Result<(), DeviceFault>
+    ensures log { OnOk result (spool.new.log.state ≡ and_cut spool.old.log.state) }
+    ensures used { OnOk result ((spool.new.used ≡ 0) × (spool.new.seen ≡ 0)) }
+    ensures kept { OnErr result ((spool.new.log.state ≡ spool.old.log.state) × (spool.new.used ≡ spool.old.used)
+        × (spool.new.seen ≡ spool.old.seen)) }
+    ensures counts { SameButClears spool.old spool.new }
+    ensures calls { spool.new.clears.number ≡ spool.old.clears.number + 1 }
+    ensures cause { OnErr result (spool.new.clear_faults.number ≡ spool.old.clear_faults.number + 1) }
+    ensures clean { OnOk result (spool.new.clear_faults.number ≡ spool.old.clear_faults.number) }
+    ensures held { behind.new.held.items ≡ behind.old.held.items }
+    ensures sent { behind.new.sent.state ≡ behind.old.sent.state }
+    ensures lost { behind.new.is_lost ≡ behind.old.is_lost }
+    ensures told { behind.new.is_told ≡ behind.old.is_told }
+    ensures failed { IfErr result (λ e. e ≡ DeviceFault.Failed) }
+{
+    spool.clears.add(1);
+    match behind.blank(&spool.file, spool.used) {
+        Ok(()) => {
+            spool.log.cut();
+            spool.cleared += spool.used;
+            spool.used = 0;
+            spool.seen = 0;
+            Ok(())
+        }
+        Err(fault) => {
+            spool.clear_faults.add(1);
+            Err(fault)
+        }
     }
 }
 

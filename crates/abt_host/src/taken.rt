@@ -1,6 +1,6 @@
 //! The files that no output may be.
 
-ghost use Rattle.std.specs.Prelude.{◌≡◌, ◌↔◌, [], IsTrue, OnOk, OnErr, Contains};
+ghost use Rattle.std.specs.Prelude.{◌≡◌, ◌≤◌, ◌↔◌, [], IsTrue, IfOk, OnOk, OnErr, Contains};
 ghost use Rattle.abt_host.specs.Taken.{Forbidden, Adds};
 
 use crate::identity::Identity;
@@ -8,6 +8,7 @@ use crate::opening::Found;
 use std::alloc::{AllocError, Global};
 use std::fs::File;
 use std::io;
+use std::os::unix::fs::FileExt;
 
 /// What is read, and what is being written: no further output may be one of them.
 #[derive(Drop)]
@@ -51,5 +52,19 @@ impl Taken {
         } else {
             Ok(())
         }
+    }
+
+    /// Lays zeros over the first four bytes of a file that is one of these, so that it is no image, and answers how many
+    /// bytes stand in it. One with fewer, or with more than `most`, is emptied.
+    pub(crate) fn blank(&self, file: &File, found: Found, most: u64) -> io::Result<u64>
+        requires { Contains self.now.files.items found.identity }
+        ensures { IfOk result (λ stands. stands ≤ most) }
+    {
+        if found.length < 4 || found.length > most {
+            self.empty(file, found)?;
+            return Ok(0);
+        }
+        file.write_all_at(&[0; 4], 0)?;
+        Ok(found.length)
     }
 }

@@ -1,6 +1,6 @@
 //! All that a command writes, once all that it reads is open.
 
-ghost use Rattle.std.specs.Prelude.{◌≡◌, ◌↔◌, ◌⊎◌, [], true, IsTrue, OnOk, OnErr, IfOk, IfErr};
+ghost use Rattle.std.specs.Prelude.{◌≡◌, ◌≤◌, ◌↔◌, ◌⊎◌, [], true, IsTrue, OnOk, OnErr, IfOk, IfErr};
 ghost use Rattle.abt_output.specs.Given.{given};
 ghost use Rattle.abt_io.specs.Frame.{nothing_logged};
 ghost use Rattle.abt_host.specs.Access.{writes};
@@ -139,6 +139,24 @@ impl Writing {
         Ok(FileSpool::new(created.file, limit as u64))
     }
 
+    /// The same, of which a file that is no longer than a piece keeps its pages: its first four bytes are zeros then, and how
+    /// many stand in it is answered too. So this is for who cuts off what he does not write over.
+    pub fn kept_spool<'a>(
+        &mut self,
+        place: Place<'a>,
+        limit: u32,
+    ) -> Result<(FileSpool, u64), HostRefusal<'a>>
+        ensures capacity { IfOk result (λ kept. kept.0.capacity ≡ limit) }
+        ensures stands { IfOk result (λ kept. kept.1 ≤ limit) }
+        ensures writes { OnOk result (WritesOne self.old self.new) }
+    {
+        let Opened { file, found } = self.admitted(place, Access::Spool)?;
+        match self.reading.taken.blank(&file, found, limit as u64) {
+            Ok(stands) => Ok((FileSpool::new(file, limit as u64), stands)),
+            Err(error) => Err(HostRefusal::at(HostFault::CannotOpen, place, error.raw_os_error())),
+        }
+    }
+
     /// What was written in place, by a call that syncs it at its end, is at its end.
     pub fn written_in_place(&self, synced: FilePartition) -> Finished {
         Finished::in_place(synced, self.is_data_on_output)
@@ -215,12 +233,22 @@ impl Writing {
         ensures free { IfOk result (λ opened. ¬ Forbidden self.old.reading.taken opened.found.identity) }
         ensures taken { IfOk result (λ opened. Adds self.old.reading.taken self.new.reading.taken opened.found.identity) }
     {
-        let opened = open_file(self.rt, self.alloc, place, access)?;
-        self.admit(opened.found.identity, place)?;
+        let opened = self.admitted(place, access)?;
         match self.reading.taken.empty(&opened.file, opened.found) {
             Ok(()) => Ok(opened),
             Err(error) => Err(HostRefusal::at(HostFault::CannotOpen, place, error.raw_os_error())),
         }
+    }
+
+    // Opens an output as it is.
+    fn admitted<'a>(&mut self, place: Place<'a>, access: Access) -> Result<Opened, HostRefusal<'a>>
+        requires { writes access ≡ true }
+        ensures free { IfOk result (λ opened. ¬ Forbidden self.old.reading.taken opened.found.identity) }
+        ensures taken { IfOk result (λ opened. Adds self.old.reading.taken self.new.reading.taken opened.found.identity) }
+    {
+        let opened = open_file(self.rt, self.alloc, place, access)?;
+        self.admit(opened.found.identity, place)?;
+        Ok(opened)
     }
 
     // Refuses a file that is read, or that is written already; no further output may be this one.

@@ -3,7 +3,7 @@
 use crate::made::{Random, bytes, part};
 use abt_buffers::{AheadFile, AheadSource, GatheringSpool};
 use abt_io::{DeviceFault, FileSource, FileSpool, Input, Output, Overwrite, Source, Spool, WINDOW};
-use std::alloc::Alloc;
+use std::alloc::{Alloc, Global};
 use std::fs;
 use std::fs::{File, OpenOptions};
 use std::process::Abort;
@@ -71,14 +71,30 @@ fn laid_over<S: Spool + Overwrite>(
     spool.write_over(end - back, bytes)
 }
 
+/// A spool over a file that is empty, which may keep its pages.
+fn gathering<'a>(
+    alloc: Global,
+    file: File,
+    capacity: usize,
+    from: &'a AheadFile,
+    is_keeping: bool,
+) -> GatheringSpool<'a> {
+    if is_keeping {
+        GatheringSpool::keeping(alloc, file, capacity as u64, from, 0)
+    } else {
+        GatheringSpool::new(alloc, file, capacity as u64, from)
+    }
+}
+
 #[test]
 fn a_spool_that_gathers_does_what_a_file_does(rt: HostRuntime) {
     let text = bytes(rt.alloc(), 100_000);
-    for (seed, capacity) in CAPACITIES.iter().enumerate() {
+    for (seed, capacity) in CAPACITIES.iter().chain(CAPACITIES.iter()).enumerate() {
         let mut one = FileSpool::new(opened(&rt, "one.tmp"), *capacity as u64);
         let from = AheadFile::new(FileSource::empty());
         let file = opened(&rt, "other.tmp");
-        let mut other = GatheringSpool::new(rt.alloc(), file, *capacity as u64, &from);
+        let is_keeping = seed >= CAPACITIES.len();
+        let mut other = gathering(rt.alloc(), file, *capacity, &from, is_keeping);
         let mut random = Random::new(seed as u64);
         let mut want = bytes(rt.alloc(), WINDOW);
         let mut have = bytes(rt.alloc(), WINDOW);
@@ -158,6 +174,44 @@ fn what_a_spool_holds_is_laid_over(rt: HostRuntime) {
     assert!(rt; called(&mut spool, 0, b"..", &mut []) == Ok(2));
     assert!(rt; laid_over(&mut spool, 3, b"x") == Err(DeviceFault::Failed));
     assert!(rt; spool.position() == 10);
+}
+
+/// A spool that keeps the pages of its file has no magic number before all else of a piece stands there, and nothing behind
+/// that.
+#[test]
+fn a_spool_keeps_its_pages_until_its_magic_is_laid(rt: HostRuntime) {
+    let mut out = [0u8; 8];
+    let from = AheadFile::new(FileSource::empty());
+    fs::write(&rt, "kept.tmp", "of before").expect(&rt, "is written");
+    fs::write(&rt, "blank.tmp", "\0\0\0\0efore").expect(&rt, "is written");
+    fs::write(&rt, "laid.tmp", "ABCD..yz").expect(&rt, "is written");
+    fs::write(&rt, "cleared.tmp", "\0\0\0\0..yz").expect(&rt, "is written");
+    fs::write(&rt, "few.tmp", "..").expect(&rt, "is written");
+    let file = opened_as_it_is(&rt, "kept.tmp");
+    let mut spool = GatheringSpool::keeping(rt.alloc(), file, 65_536, &from, 9);
+    assert!(rt; called(&mut spool, 9, b"", &mut []) == Ok(0));
+    assert!(rt; called(&mut spool, 0, b"........", &mut []) == Ok(8));
+    assert!(rt; same(&rt, "kept.tmp", "blank.tmp"));
+    assert!(rt; laid_over(&mut spool, 2, b"yz") == Ok(2));
+    assert!(rt; laid_over(&mut spool, 8, b"ABCD") == Ok(4));
+    assert!(rt; same(&rt, "kept.tmp", "laid.tmp"));
+    assert!(rt; called(&mut spool, 9, b"", &mut []) == Ok(0));
+    assert!(rt; same(&rt, "kept.tmp", "cleared.tmp"));
+    assert!(rt; called(&mut spool, 0, b"..", &mut []) == Ok(2));
+    assert!(rt; called(&mut spool, 6, b"", &mut out) == Ok(2));
+    assert!(rt; same(&rt, "kept.tmp", "few.tmp"));
+}
+
+/// What such a spool took is all of its file once it is settled, also where that is nothing.
+#[test]
+fn a_spool_that_is_settled_has_nothing_of_before(rt: HostRuntime) {
+    let from = AheadFile::new(FileSource::empty());
+    fs::write(&rt, "kept.tmp", "of before").expect(&rt, "is written");
+    fs::write(&rt, "empty.tmp", "").expect(&rt, "is written");
+    let file = opened_as_it_is(&rt, "kept.tmp");
+    let mut spool = GatheringSpool::keeping(rt.alloc(), file, 65_536, &from, 9);
+    assert!(rt; spool.settle() == Ok(()));
+    assert!(rt; same(&rt, "kept.tmp", "empty.tmp"));
 }
 
 /// What can't be written is refused where it is read, and by every call until the spool was cleared, of which the first try

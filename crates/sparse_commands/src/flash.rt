@@ -5,10 +5,10 @@ ghost use Rattle.abt_flash.specs.declared.fault.Cause.{Cause};
 
 use abt_buffers::{AheadFile, AheadSource, GatheringSpool};
 use abt_flash::{Cause, Delivered, FlashFault, flash, resume, resume_raw_at};
-use abt_host::{Passing, Reading, Watched};
+use abt_host::{Passing, Reading, Watched, Writing};
 use abt_io::{DeviceFault, FilePartition, Meter, Source, Window};
 use abt_output::Report;
-use abt_refusals::{Place, Sides};
+use abt_refusals::{HostRefusal, Place, Sides};
 use abt_words::Pieces;
 use sparse_rules::{Line, SparseCommandFault, SparseRefusal, image_place, raw_pieces};
 
@@ -86,8 +86,7 @@ pub(crate) fn flash_pieces<'a>(
     {
         return Err(Sides::none().reading(input, None).refuse(fault));
     }
-    let through = writing.spool(spool, pieces.limit)?;
-    let mut through = GatheringSpool::new(writing.alloc, through.file, through.capacity, &file);
+    let mut through = opened(&mut writing, spool, raw.is_some(), pieces.limit, &file)?;
     report.progress.expect(source.length(), 1);
     let mut watched = Watched::new(&mut source, &mut report.progress);
     let count = match deliver(&mut watched, raw, pieces, &mut through, &mut onto, w, m) {
@@ -103,6 +102,24 @@ pub(crate) fn flash_pieces<'a>(
     let finished = writing.written_in_place(onto);
     report.line_of(finished, Line::Pieces(count))?;
     Ok(())
+}
+
+// SPOOL, which of a raw image keeps its pages: there a magic number is laid last.
+fn opened<'a, 'b>(
+    writing: &mut Writing,
+    spool: Place<'a>,
+    is_raw: bool,
+    limit: u32,
+    from: &'b AheadFile,
+) -> Result<GatheringSpool<'b>, HostRefusal<'a>>
+    ensures capacity { IfOk result (λ through. through.spool.capacity ≡ limit) }
+{
+    if !is_raw {
+        let through = writing.spool(spool, limit)?;
+        return Ok(GatheringSpool::new(writing.alloc, through.file, through.capacity, from));
+    }
+    let (through, stands) = writing.kept_spool(spool, limit)?;
+    Ok(GatheringSpool::keeping(writing.alloc, through.file, through.capacity, from, stands))
 }
 
 // Flashes the pieces from the one that the words name on, of a raw image in one pass over it. All that the spool took is in
