@@ -55,16 +55,16 @@ impl Taken {
     }
 
     /// Lays zeros over the first four bytes of a file that is one of these, so that it is no image, and answers how many
-    /// bytes stand in it. One with fewer, or with more than `most`, is emptied.
+    /// bytes stand in it. One with fewer, or with more than `most`, or that does not take them, is emptied.
     pub(crate) fn blank(&self, file: &File, found: Found, most: u64) -> io::Result<u64>
         requires { Contains self.now.files.items found.identity }
         ensures { IfOk result (λ stands. stands ≤ most) }
     {
-        if found.length < 4 || found.length > most {
-            self.empty(file, found)?;
-            return Ok(0);
+        let is_kept = 4 <= found.length && found.length <= most;
+        if is_kept && file.write_all_at(&[0; 4], 0).is_ok() {
+            return Ok(found.length);
         }
-        file.write_all_at(&[0; 4], 0)?;
-        Ok(found.length)
+        self.empty(file, found)?;
+        Ok(0)
     }
 }
