@@ -6,6 +6,7 @@ use crate::input_file::InputFile;
 use crate::reading::Reading;
 use crate::writing::Writing;
 use abt_disk::Disk;
+use abt_io::{FilePartition, FileSource};
 use abt_output::OutputFile;
 use abt_refusals::{HostRefusal, Place};
 
@@ -29,6 +30,10 @@ impl Disk for Host {
 
     type Onto = OutputFile;
 
+    type At = FileSource;
+
+    type Part = FilePartition;
+
     ghost tells = { false };
 
     ghost world = { λ _. record { at = λ _. None; holds = λ _. [] } };
@@ -37,8 +42,24 @@ impl Disk for Host {
 
     ghost told = { λ t. t };
 
+    ghost source_told = { λ t. t };
+
+    ghost part_told = { λ t. t };
+
     fn input<'a>(&mut self, place: Place<'a>) -> Result<InputFile, HostRefusal<'a>> {
         self.writing.reading.input(place)
+    }
+
+    fn source<'a>(&mut self, place: Place<'a>) -> Result<FileSource, HostRefusal<'a>> {
+        self.writing.reading.source(place)
+    }
+
+    fn partition<'a>(&mut self, place: Place<'a>) -> Result<FilePartition, HostRefusal<'a>> {
+        self.writing.partition(place)
+    }
+
+    fn close(&mut self, part: FilePartition) -> bool {
+        self.writing.written_in_place(part).is_data_on_output()
     }
 
     fn raw<'a>(&mut self, place: Place<'a>) -> Result<OutputFile, HostRefusal<'a>> {
