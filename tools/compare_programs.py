@@ -202,6 +202,7 @@ class Maker:
             f"abootimg sparse r out --sync --block {block}", f"abootimg cut r {limit} p --raw {block}",
             f"abootimg cut r {limit} p --raw {block}; abootimg expand p.* out", f"abootimg flash r part --raw {block}",
             f"abootimg flash r part {limit} spool --raw {block}",
+            f"head -c {self.one(limit, size)} r > spool; abootimg flash r part {limit} spool --raw {block} --from {number}",
             f"abootimg flash r part {limit} spool --raw {block} --from {number}", f"abootimg verify r part --raw {block}",
             f"abootimg flash r part --raw {block}; abootimg verify r part --raw {block}"]
 
