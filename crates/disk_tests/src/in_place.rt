@@ -1,13 +1,18 @@
 //! `flash`, `verify` and `list` over a disk in memory.
 
-use abt_disk::{Countdown, Faults, MemoryDisk, MemoryFile, MemoryPath};
+ghost use Rattle.std.specs.Prelude.{◌≡◌, None};
+ghost use Rattle.abt_disk.specs.Memory.{held_of};
+ghost use Rattle.abt_disk.specs.World.{IsReading};
+
+use crate::made::disk;
+use abt_disk::{Countdown, Faults, MemoryDisk};
 use abt_io::{Meter, Window};
 use abt_output::Report;
 use abt_refusals::Place;
 use flash_bodies::{
     flash_in_memory, flash_raw_in_memory, list_in_memory, verify_in_memory, verify_raw_in_memory,
 };
-use std::alloc::{AllocError, Global};
+use std::alloc::AllocError;
 use test_data::vectors::THREE_KINDS;
 
 // What stood on a partition, and what stands there once `THREE_KINDS` is flashed.
@@ -36,41 +41,17 @@ struct Left {
     partition: Vec<u8>,
 }
 
-fn path(alloc: Global, name: &str, file: u64) -> Result<MemoryPath, AllocError> {
-    let name = String::from_str(alloc, name)?;
-    Ok(MemoryPath { name, file })
-}
-
-fn file(alloc: Global, bytes: &[u8]) -> Result<MemoryFile, AllocError> {
-    let bytes = Vec::from_slice(alloc, bytes)?;
-    Ok(MemoryFile { bytes })
-}
-
-/// A disk with IN, and PARTITION, which leads to this file: 0 is what IN leads to.
-fn disk(
-    alloc: Global,
-    input: &[u8],
-    partition: &[u8],
-    leads_to: u64,
-    faults: Faults,
-) -> Result<MemoryDisk, AllocError> {
-    let mut paths = Vec::new(alloc);
-    paths.push(path(alloc, "in", 0)?)?;
-    paths.push(path(alloc, "part", leads_to)?)?;
-    let mut files = Vec::new(alloc);
-    files.push(file(alloc, input)?)?;
-    files.push(file(alloc, partition)?)?;
-    Ok(MemoryDisk::new(alloc, paths, files, false, faults))
-}
-
-/// Whether a command over this disk, of which nothing is open yet, answers Ok.
+/// Whether a command over this disk answers Ok.
 fn is_done(
     command: Command,
     disk: &mut MemoryDisk,
     report: &mut Report,
     w: &mut Window,
     m: &mut Meter,
-) -> bool {
+) -> bool
+    requires first { IsReading (held_of disk.old) }
+    requires one { (held_of disk.old).part ≡ None }
+{
     let input = Place::new("IN", "in");
     let partition = Place::new("PARTITION", "part");
     match command {
@@ -91,7 +72,11 @@ fn run(
     faults: Faults,
 ) -> Result<Left, AllocError> {
     let alloc = rt.alloc();
-    let mut disk = disk(alloc, input, partition, leads_to, faults)?;
+    let paths = [("in", 0), ("part", leads_to)];
+    let Some(made) = disk(alloc, &paths, &[input, partition], false, faults) else {
+        return Err(AllocError);
+    };
+    let mut disk = made;
     let mut report = Report::new(rt);
     let mut w = Box::new(alloc, Window::new())?;
     let mut m = Meter::new();
