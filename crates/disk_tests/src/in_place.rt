@@ -17,10 +17,12 @@ use test_data::vectors::THREE_KINDS;
 
 // What stood on a partition, and what stands there once `THREE_KINDS` is flashed.
 const DOTS: &[u8] = b"..............";
+
 const FLASHED: &[u8] = b"ABCD\x04\x03\x02\x01......";
 
 // A raw image, and what stands there once it is flashed in blocks of 4 bytes.
 const RAW: &[u8] = b"a raw one";
+
 const FLASHED_RAW: &[u8] = b"a raw one\0\0\0..";
 
 /// The commands.
@@ -94,7 +96,13 @@ type Row = (Command, &'static [u8], &'static [u8], bool, &'static [u8]);
 const ROWS: [Row; 11] = [
     (Command::Flash, &THREE_KINDS, DOTS, true, FLASHED),
     (Command::Flash, RAW, DOTS, false, DOTS),
-    (Command::Flash, &THREE_KINDS, b"........", false, b"........"),
+    (
+        Command::Flash,
+        &THREE_KINDS,
+        b"........",
+        false,
+        b"........",
+    ),
     (Command::FlashRaw, RAW, DOTS, true, FLASHED_RAW),
     (Command::FlashRaw, RAW, b".........", false, b"........."),
     (Command::Verify, &THREE_KINDS, FLASHED, true, FLASHED),
@@ -143,7 +151,14 @@ fn faults(kind: Kind, number: u64) -> Faults {
 
 /// A command, what both files hold before it, what fails, the first number that no call has any more, and what
 /// PARTITION holds where that one fails.
-type Failing = (Command, &'static [u8], &'static [u8], Kind, u64, &'static [u8]);
+type Failing = (
+    Command,
+    &'static [u8],
+    &'static [u8],
+    Kind,
+    u64,
+    &'static [u8],
+);
 
 const FAILING: [Failing; 9] = [
     (Command::Flash, &THREE_KINDS, DOTS, Kind::Call, 3, FLASHED),
@@ -151,9 +166,30 @@ const FAILING: [Failing; 9] = [
     (Command::FlashRaw, RAW, DOTS, Kind::Call, 3, FLASHED_RAW),
     (Command::FlashRaw, RAW, DOTS, Kind::Read, 2, FLASHED_RAW),
     (Command::FlashRaw, RAW, DOTS, Kind::Write, 4, FLASHED_RAW),
-    (Command::Verify, &THREE_KINDS, FLASHED, Kind::Call, 3, FLASHED),
-    (Command::VerifyRaw, RAW, FLASHED_RAW, Kind::Call, 3, FLASHED_RAW),
-    (Command::VerifyRaw, RAW, FLASHED_RAW, Kind::Read, 2, FLASHED_RAW),
+    (
+        Command::Verify,
+        &THREE_KINDS,
+        FLASHED,
+        Kind::Call,
+        3,
+        FLASHED,
+    ),
+    (
+        Command::VerifyRaw,
+        RAW,
+        FLASHED_RAW,
+        Kind::Call,
+        3,
+        FLASHED_RAW,
+    ),
+    (
+        Command::VerifyRaw,
+        RAW,
+        FLASHED_RAW,
+        Kind::Read,
+        2,
+        FLASHED_RAW,
+    ),
     (Command::List, &THREE_KINDS, DOTS, Kind::Call, 2, DOTS),
 ];
 
@@ -165,7 +201,10 @@ fn each_call_that_fails_is_told(rt: HostRuntime) {
             let left = run(rt, *command, input, partition, 1, fails).expect(&rt, "has memory");
             assert!(rt; !left.is_done, "row {n}, call {number}");
             assert!(rt; left.input.as_slice() == *input, "row {n}, call {number}");
-            assert!(rt; left.partition.len() == partition.len(), "row {n}, call {number}");
+            assert!(rt;
+                left.partition.len() == partition.len(),
+                "row {n}, call {number}"
+            );
         }
         let fails = faults(*kind, *past);
         let left = run(rt, *command, input, partition, 1, fails).expect(&rt, "has memory");
@@ -177,7 +216,10 @@ fn each_call_that_fails_is_told(rt: HostRuntime) {
 #[test]
 fn a_partition_that_is_the_input_is_not_written(rt: HostRuntime) {
     for command in [Command::Flash, Command::FlashRaw].iter() {
-        let left = run(rt, *command, &THREE_KINDS, DOTS, 0, Faults::none()).expect(&rt, "has memory");
+        let left = run(rt, *command, &THREE_KINDS, DOTS, 0, Faults::none()).expect(
+            &rt,
+            "has memory",
+        );
         assert!(rt; !left.is_done);
         assert!(rt; left.input.as_slice() == THREE_KINDS.as_slice());
     }
