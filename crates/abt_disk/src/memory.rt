@@ -51,6 +51,7 @@ impl MemoryDisk {
         ensures read { result.read.items ≡ [] }
         ensures begun { result.begun.items ≡ [] }
         ensures output { result.output ≡ None }
+        ensures part { result.part ≡ None }
         ensures paths { result.paths ≡ paths }
         ensures files { result.files ≡ files }
     {

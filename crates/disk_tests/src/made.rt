@@ -1,6 +1,6 @@
 //! A disk of some paths and files, and what it holds.
 
-ghost use Rattle.std.specs.Prelude.{IfSome};
+ghost use Rattle.std.specs.Prelude.{◌≡◌, IfSome, None};
 ghost use Rattle.abt_disk.specs.Memory.{held_of};
 ghost use Rattle.abt_disk.specs.World.{IsReading};
 
@@ -18,7 +18,8 @@ pub(crate) fn disk(
     is_synced: bool,
     faults: Faults,
 ) -> Option<MemoryDisk>
-    ensures { IfSome result (λ disk. IsReading (held_of disk)) }
+    ensures reading { IfSome result (λ disk. IsReading (held_of disk)) }
+    ensures part { IfSome result (λ disk. (held_of disk).part ≡ None) }
 {
     let mut listed = Vec::new(alloc);
     for (name, file) in paths {

@@ -1,6 +1,6 @@
 -- A listing that was printed is that of an image, and one that was refused has its fault.
 use Rattle.std.proofs.Common.{◌≡◌, ◌≢◌, ℕ, ◌<◌, List, [], ◌∷◌, ◌++◌, length, refl, sym, ◌∙◌, ap, subst}
-use Rattle.std.specs.Prelude.{Option, Some, None, Result, Ok, Err, unwrap_or, All}
+use Rattle.std.specs.Prelude.{Option, Some, None, Result, Ok, Err, OnOk, IfErr, unwrap_or, flat_map}
 use Rattle.abt_io.specs.Bytes.{AreBytes}
 use Rattle.abt_sparse.specs.declared.fault.SparseFault.{SparseFault}
 use Rattle.abt_sparse.specs.declared.fault.SparseFault.TheVariants.{Magic}
@@ -10,7 +10,11 @@ use Rattle.abt_sparse.specs.Reading.{Outcome, Image, Fault, outcome}
 use Rattle.abt_sparse.proofs.Exactly.{is_so}
 use Rattle.abt_chunks.specs.declared.progress.ChunkInfo.{ChunkInfo}
 use Rattle.abt_chunks.specs.Listing.{Listing, infos, listing_of}
+use Rattle.abt_chunks.specs.Expanding.{UnlessDevice}
+use Rattle.abt_chunks.proofs.Finishing.{unless_map}
 use Rattle.abt_chunks.proofs.ListingLaws.{listings_right}
+use Rattle.sparse_texts.specs.Listed.{Listed, Refuses, chunk_line, header_line}
+use Rattle.flash_bodies.specs.Listing.{IsListed, IsUnlisted}
 
 -- an image and its listing
 pub record ListedAs (x rest : List ℕ) (header : Header) (shown : List ChunkInfo) : Type 0 where
@@ -69,3 +73,25 @@ fault_in x f (Fault g given) is ends =
 pub fault_listed : (x : List ℕ) (f : SparseFault) → AreBytes x → (listing_of x).ending ≡ Err f
     → (given : List (Option ℕ)) × Fails x f given
 fault_listed x f bytes ends = fault_in x f (outcome x) (is_so x bytes) ends
+
+-- ---- what printing a listing says of the bytes
+
+pub listed_whole : {X : Type 0} (r : Result X SparseFault) (x y : List ℕ) (P : List ℕ → Type 0) → AreBytes x
+    → OnOk r (Listed x y P) → OnOk r (IsListed x P)
+listed_whole (Ok u) x y P bytes l =
+    let image = image_listed x y l.header l.chunks bytes l.image in
+    record {
+      header = l.header;
+      chunks = image.chunks;
+      rest = y;
+      spelled = image.spelled;
+      shown = subst (λ i. P (header_line l.header ++ flat_map chunk_line i)) image.infos l.holds;
+    }
+listed_whole (Err f) x y P bytes l = tt
+
+pub unlisted : {X : Type 0} (r : Result X SparseFault) (x : List ℕ) (P : List ℕ → Type 0) → AreBytes x
+    → IfErr r (λ f. UnlessDevice f (Refuses (listing_of x) f P)) → IfErr r (λ f. IsUnlisted f x)
+unlisted (Ok u) x P bytes h = tt
+unlisted (Err f) x P bytes h =
+    unless_map f (Refuses (listing_of x) f P) ((given : List (Option ℕ)) × Fails x f given)
+    (λ r. fault_listed x f bytes r.ending) h

@@ -1,10 +1,10 @@
 -- A fault that a call answered is one that the command may be refused for.
 use Rattle.std.proofs.Common.{◌≡◌, ℕ, List, sym, subst}
-use Rattle.std.specs.Prelude.{Result, Ok, Err}
+use Rattle.std.specs.Prelude.{Result, Ok, Err, OnOk}
 use Rattle.abt_disk.specs.World.{World}
 use Rattle.flash_bodies.specs.Files.{Between, OfBoth}
-use Rattle.flash_bodies.specs.Flashing.{IsUnflashed, Lays, RefusesFlash}
-use Rattle.flash_bodies.specs.FlashingRaw.{IsUnflashedRaw, LaysRaw, RefusesFlashRaw}
+use Rattle.flash_bodies.specs.Flashing.{IsFlashed, IsUnflashed, Lays, RefusesFlash}
+use Rattle.flash_bodies.specs.FlashingRaw.{IsFlashedRaw, IsUnflashedRaw, LaysRaw, RefusesFlashRaw}
 use Rattle.flash_bodies.specs.Verifying.{Finds, FindsRaw, IsNotThere, IsNotThereRaw, RefusesVerify, RefusesVerifyRaw}
 use Rattle.sparse_rules.specs.declared.fault.SparseCommandFault.{SparseCommandFault}
 use Rattle.sparse_rules.specs.declared.fault.SparseCommandFault.TheVariants as faults
@@ -63,3 +63,15 @@ refuses_verify_raw (faults.Run f) b input path x p a with_files finds = absurd f
 refuses_verify_raw (faults.Piece f) b input path x p a with_files finds = absurd finds
 refuses_verify_raw (faults.OtherBlocks image) b input path x p a with_files finds = absurd finds
 refuses_verify_raw (faults.Host f) b input path x p a with_files finds = absurd finds
+
+-- what was answered is so
+pub is_flashed : (answer : Result ℕ SparseCommandFault) (n : ℕ) (x p p' : List ℕ) → answer ≡ Ok n → Lays answer x p p'
+    → IsFlashed n x p p'
+is_flashed answer n x p p' is lays = subst (λ r. Lays r x p p') is lays
+
+pub is_flashed_raw : (answer : Result ℕ SparseCommandFault) (n b : ℕ) (x p p' : List ℕ) → answer ≡ Ok n
+    → LaysRaw answer b x p p' → IsFlashedRaw n b x p p'
+is_flashed_raw answer n b x p p' is lays = subst (λ r. LaysRaw r b x p p') is lays
+
+pub on_ok : (answer : Result ℕ SparseCommandFault) (n : ℕ) (P : Type 0) → answer ≡ Ok n → OnOk answer P → P
+on_ok answer n P is so = subst (λ r. OnOk r P) is so

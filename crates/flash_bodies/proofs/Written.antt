@@ -2,9 +2,9 @@
 use Rattle.std.proofs.Common.{◌≡◌, ◌≢◌, ℕ, ◌+◌, List, [], ◌∷◌, ◌++◌, Bool, true, false, length, Some, refl, sym, ◌∙◌, ap, subst}
 use Rattle.std.specs.Prelude.{Result, Ok, Err, if◌then◌else◌}
 use Rattle.abt_io.specs.Moment.{Past, no_past}
-use Rattle.abt_disk.specs.InPlace.{OpensPart, IsAsLong, closed, in_place, is_settled, is_settled_in}
-use Rattle.abt_disk.specs.World.{World, Held, Spares, Opens, Ends, reading}
-use Rattle.abt_disk.proofs.Closings.{ends_in, apart_from}
+use Rattle.abt_disk.specs.InPlace.{OpensPart, IsAsLong, SparesOthers, closed, in_place, is_settled, is_settled_in}
+use Rattle.abt_disk.specs.World.{World, Held, Spares, Opens, Ends, Keeps, reading}
+use Rattle.abt_disk.proofs.Closings.{ends_in, apart_from, others_spared, keeps_read}
 use Rattle.flash_bodies.specs.Files.{Between, OfBoth, OfFile}
 
 -- a partition is handed back as long as it was
@@ -62,3 +62,17 @@ pub of_file : (input x : List ℕ) (a : World) (h0 h : Held) (P : List ℕ → T
     → OfFile input a P
 of_file input x a h0 h P r so =
     record { from = r.file; there = r.there; so = subst P r.held so }
+
+-- behind an input that was opened, the file that was written in place is the only one that may hold anything else
+pub others_written : (path p p' : List ℕ) (a a' b c : World) (h h' : Held) → a' ≡ a → OpensPart a' path p h h' → b ≡ a'
+    → Ends h'.part p' b c → c.at ≡ b.at → SparesOthers path a c
+others_written path p p' a a' b c h h' same o same' ends paths =
+    others_spared path p p' a c h h' (subst (λ (w : World). OpensPart w path p h h') same o)
+    (subst (λ (w : World). Ends h'.part p' w c) (same' ∙ same) ends) (paths ∙ ap (λ (w : World). w.at) (same' ∙ same))
+
+-- and the input holds what it held
+pub input_kept : (input path x p p' : List ℕ) (a a' b c : World) (h0 h h' : Held) → Opens a input x h0 h → a' ≡ a
+    → OpensPart a' path p h h' → b ≡ a' → Ends h'.part p' b c → Keeps input a c
+input_kept input path x p p' a a' b c h0 h h' r same o same' ends =
+    keeps_read input path x p p' a c h0 h h' r (subst (λ (w : World). OpensPart w path p h h') same o)
+    (subst (λ (w : World). Ends h'.part p' w c) (same' ∙ same) ends)

@@ -1,9 +1,9 @@
 -- What the command `list` prints of a file, which it leaves as it is.
 use Rattle.std.specs.Prelude.{ℕ, List, ◌++◌, flat_map, Option}
 use Rattle.abt_sparse.specs.declared.fault.SparseFault.{SparseFault}
-use Rattle.abt_sparse.specs.declared.fault.SparseFault.TheVariants as of_sparse
 use Rattle.abt_sparse.specs.Chunk.{Header, Chunk}
 use Rattle.abt_sparse.specs.Fails.{Fails, Spells}
+use Rattle.abt_chunks.specs.Expanding.{UnlessDevice}
 use Rattle.abt_chunks.specs.Listing.{infos}
 use Rattle.sparse_texts.specs.Listed.{chunk_line, header_line}
 use Rattle.abt_disk.specs.World.{World}
@@ -21,9 +21,7 @@ pub record IsListed (x : List ℕ) (printed : List ℕ → Type 0) : Type 0 wher
 
 -- the first fault of x, or a device's
 abbrev pub IsUnlisted : SparseFault → List ℕ → Type 0
-IsUnlisted (of_sparse.Read d) x = Unit {0}
-IsUnlisted (of_sparse.Write d) x = Unit {0}
-IsUnlisted f x = (given : List (Option ℕ)) × Fails x f given
+IsUnlisted f x = UnlessDevice f ((given : List (Option ℕ)) × Fails x f given)
 
 -- why the command is refused: for what the file holds, or for a fault of files
 abbrev pub RefusesList : SparseCommandFault → List ℕ → World → Type 0

@@ -50,7 +50,7 @@ pub fn flash_file<'a, D: Disk>(
         Ok(end) => end,
         Err(refusal) => return Err(refusal),
     };
-    report.line_beside(is_on_output, Line::Blocks(u64::from(blocks)))?;
+    report.line_beside(is_on_output, Line::Blocks(blocks as u64))?;
     Ok(())
 }
 

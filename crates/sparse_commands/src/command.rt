@@ -49,9 +49,7 @@ pub fn sparse_command<'a>(
             raw,
             pieces,
         } => match pieces {
-            Some(pieces) => flash_pieces(
-                reading, report, input, partition, raw, pieces, w, m,
-            ),
+            Some(pieces) => flash_pieces(reading, report, input, partition, raw, pieces, w, m),
             None => flash_straight(reading, report, input, partition, raw, w, m),
         },
         SparseTask::Verify {

@@ -13,6 +13,6 @@ pub returns-clause-unsettled : goal.returns-clause-unsettled
 returns-clause-unsettled c _ =
     let s = c.args.self.now in
     let past : c.wrote.new.self.past ≡ wrote s.history.past c.put_part.new.into.items c.args.at (length c.args.bytes.now)
-        = search rules in
+    = search rules in
     rw c.put_part.ensures.value (unsettled_wrote s.history.past c.wrote.new.self.past s.bytes.items c.args.bytes.now
     c.args.at c.requires.fits (rw c.put_part.ensures.value at past))

@@ -1,0 +1,10 @@
+use Rattle.flash_bodies.proofs.Listings.{listed_whole, unlisted}
+use Rattle.flash_bodies.proofs.list.listed.Goals as goal
+
+pub returns-clause-listed : goal.returns-clause-listed
+returns-clause-listed g c = λ t.
+    listed_whole c.report_list.result _ _ _ (g.met.I.Input.are_bytes c.args.from.now t) (c.report_list.ensures.printed t)
+
+pub returns-clause-refused : goal.returns-clause-refused
+returns-clause-refused g c = λ t.
+    unlisted c.report_list.result _ _ (g.met.I.Input.are_bytes c.args.from.now t) (c.report_list.ensures.refused t)
