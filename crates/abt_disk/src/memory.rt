@@ -2,10 +2,12 @@
 
 ghost use Rattle.std.specs.Prelude.{◌≡◌, ◌↔◌, ◌⊎◌, [], None, true, string_bytes, IsTrue, IfOk, OnOk, OnErr};
 ghost use Rattle.std.specs.Prelude.{Contains, get_or, is_ok};
+ghost use Rattle.abt_disk.specs.Images.{is_over};
 ghost use Rattle.abt_disk.specs.Memory.{contents, leads, world_of, held_of};
 ghost use Rattle.abt_disk.specs.World.{Creates, OnlyAt, Ends, SparesRest, given_up};
 
-use crate::{Disk, Faults, MemoryInput, MemoryOutput};
+use crate::memory_image::torn;
+use crate::{Disk, Faults, ImageTo, MemoryImage, MemoryInput, MemoryOutput, MemorySource};
 use abt_io::Tally;
 use abt_refusals::{HostFault, HostRefusal, Place};
 use std::alloc::{AllocError, Global};
@@ -123,8 +125,7 @@ impl MemoryDisk {
     }
 
     // Creates an empty file at a path where none is.
-    fn created(&mut self, path: String) -> Result<u64, HostFault>
-    {
+    fn created(&mut self, path: String) -> Result<u64, HostFault> {
         let file = self.files.len() as u64;
         if self.is_taken(file) {
             return Err(HostFault::SameFile);
@@ -175,13 +176,21 @@ impl Disk for MemoryDisk {
 
     type Onto = MemoryOutput;
 
+    type At = MemorySource;
+
+    type Image = MemoryImage;
+
     ghost tells = { true };
 
     ghost world = { world_of };
 
     ghost held = { held_of };
 
+    ghost is_over = { is_over };
+
     ghost told = { λ t. t };
+
+    ghost told_at = { λ t. t };
 
     fn input<'a>(&mut self, place: Place<'a>) -> Result<MemoryInput, HostRefusal<'a>> {
         if self.faults.calls.is_over() {
@@ -198,6 +207,25 @@ impl Disk for MemoryDisk {
         };
         match self.read.push(file) {
             Ok(()) => Ok(MemoryInput::new(bytes, self.faults.reads)),
+            Err(_) => Err(HostRefusal::memory()),
+        }
+    }
+
+    fn source<'a>(&mut self, place: Place<'a>) -> Result<MemorySource, HostRefusal<'a>> {
+        if self.faults.calls.is_over() {
+            return Err(HostRefusal::at(HostFault::CannotOpen, place, None));
+        }
+        let Ok(path) = place.path_read(self.alloc) else {
+            return Err(HostRefusal::memory());
+        };
+        let Some(file) = self.file_at(path.as_str()) else {
+            return Err(HostRefusal::at(HostFault::CannotOpen, place, None));
+        };
+        let Ok(bytes) = self.copy_of(file) else {
+            return Err(HostRefusal::memory());
+        };
+        match self.read.push(file) {
+            Ok(()) => Ok(MemorySource::new(bytes, self.faults.reads)),
             Err(_) => Err(HostRefusal::memory()),
         }
     }
@@ -232,5 +260,49 @@ impl Disk for MemoryDisk {
 
     fn give_up(&mut self, onto: MemoryOutput) {
         self.put(onto.bytes);
+    }
+
+    fn image<'a>(
+        &mut self,
+        place: Place<'a>,
+    ) -> Result<ImageTo<MemoryImage, MemoryOutput>, HostRefusal<'a>> {
+        if self.faults.calls.is_over() {
+            return Err(HostRefusal::at(HostFault::CannotOpen, place, None));
+        }
+        let Ok(path) = place.path_written(self.alloc) else {
+            return Err(HostRefusal::memory());
+        };
+        let is_over = path.as_str() != "/dev/stdout";
+        let bytes = Vec::new(self.alloc);
+        let writes = self.faults.writes;
+        match self.begin(path) {
+            Ok(()) if is_over => Ok(ImageTo::File(MemoryImage::new(bytes, writes))),
+            Ok(()) => Ok(ImageTo::Stream(MemoryOutput::new(bytes, writes))),
+            Err(fault) => Err(HostRefusal::at(fault, place, None)),
+        }
+    }
+
+    fn finish_image<'a>(
+        &mut self,
+        image: MemoryImage,
+        place: Place<'a>,
+    ) -> Result<bool, HostRefusal<'a>> {
+        let is_over = self.faults.calls.is_over();
+        let bytes = if is_over {
+            torn(image.bytes)
+        } else {
+            image.bytes
+        };
+        if !self.put(bytes) || is_over {
+            return Err(HostRefusal::at(HostFault::Write, place, None).begun(place));
+        }
+        if self.is_synced {
+            self.syncs.add(1);
+        }
+        Ok(false)
+    }
+
+    fn give_up_image(&mut self, image: MemoryImage) {
+        self.put(image.bytes);
     }
 }
