@@ -16,7 +16,7 @@ pub fn ended<'a, D: Disk, T: Drop, F: Told + From<HostFault> + Drop>(
     output: Place<'a>,
     sides: Sides<'a>,
 ) -> Result<(T, bool), Refusal<'a, F>>
-    ensures done { IfOk result (λ end. answer.entry ≡ Ok end.0) }
+    ensures done { IfOk result (λ end. answer ≡ Ok end.0) }
     ensures ended { IsTrue D.tells → OnOk result (Ends (D.held disk.old).output (D.Onto.written onto)
         (D.world disk.old) (D.world disk.new)) }
     ensures closed { IsTrue D.tells → D.held disk.new ≡ ended (is_ok result) (D.held disk.old) }

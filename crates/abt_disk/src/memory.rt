@@ -1,6 +1,6 @@
 //! A disk in memory, which tells what its files hold.
 
-ghost use Rattle.std.specs.Prelude.{◌≡◌, ◌↔◌, ◌⊎◌, [], None, true, string_bytes, IsTrue, IfOk, OnOk, OnErr};
+ghost use Rattle.std.specs.Prelude.{◌≡◌, [], None, true, false, string_bytes, IsTrue, IfOk, OnOk, OnErr};
 ghost use Rattle.std.specs.Prelude.{Contains, get_or, is_ok};
 ghost use Rattle.abt_disk.specs.Images.{is_over};
 ghost use Rattle.abt_disk.specs.Memory.{contents, leads, world_of, held_of};
@@ -90,7 +90,8 @@ impl MemoryDisk {
 
     // Whether it is a file that is read, or that was begun.
     pub(crate) fn is_taken(&self, file: u64) -> bool
-        ensures { IsTrue result ↔ (Contains self.now.read.items file ⊎ Contains self.now.begun.items file) }
+        ensures read { result ≡ false → ¬ Contains self.now.read.items file }
+        ensures begun { result ≡ false → ¬ Contains self.now.begun.items file }
     {
         self.read.as_slice().contains(&file) || self.begun.as_slice().contains(&file)
     }
@@ -98,10 +99,10 @@ impl MemoryDisk {
     // Begins the file at this path, which is created where none is there, and else emptied.
     pub(crate) fn begin(&mut self, path: String) -> Result<(), HostFault>
         requires { self.old.output ≡ None }
-        ensures created { OnOk result (Creates (string_bytes path.entry) (held_of self.old) (held_of self.new)
+        ensures created { OnOk result (Creates (string_bytes path) (held_of self.old) (held_of self.new)
             (world_of self.old) (world_of self.new)) }
         ensures kept { OnErr result (held_of self.new ≡ held_of self.old) }
-        ensures only { OnErr result (OnlyAt self.old.read.items (string_bytes path.entry) (world_of self.old)
+        ensures only { OnErr result (OnlyAt self.old.read.items (string_bytes path) (world_of self.old)
             (world_of self.new)) }
     {
         let file = match self.file_at(path.as_str()) {
