@@ -98,3 +98,13 @@ pub record IsWritten (size : ℕ) (x : List ℕ) (a : Written) (bytes : List ℕ
   pub chunks : a.chunks ≡ chunks_in size x
   pub long : a.bytes ≡ length bytes
   pub holds : bytes ≡ image_of_raw size x
+
+-- the output that was open holds the sparse image of these bytes, which has these numbers
+abbrev pub HoldsWritten : ℕ → List ℕ → Written → Option ℕ → World → World → Type 0
+HoldsWritten size x a None old new = Unit {0}
+HoldsWritten size x a (Some file) old new = IsWritten size x a (new.holds file) × Spares file old new
+
+-- the output that was open holds no part of the sparse image of these bytes, but nothing of it or all
+abbrev pub LeavesNoPart : ℕ → List ℕ → Option ℕ → World → Type 0
+LeavesNoPart size x None new = Unit {0}
+LeavesNoPart size x (Some file) new = IsBrokenOff (new.holds file) ⊎ (new.holds file ≡ image_of_raw size x)

@@ -1,0 +1,39 @@
+//! The command over a disk in memory, which tells what its files hold: no clause is left that says nothing.
+
+ghost use Rattle.std.specs.Prelude.{IsTrue, IfErr, OnOk};
+ghost use Rattle.abt_disk.specs.Images.{is_over};
+ghost use Rattle.abt_disk.specs.Memory.{held_of, world_of};
+ghost use Rattle.abt_disk.specs.World.{IsReading, OnlyAt, Keeps};
+ghost use Rattle.abt_output.specs.Shows.{Shows};
+ghost use Rattle.abt_refusals.specs.Paths.{path_in, path_out};
+ghost use Rattle.image_bodies.specs.Sparsing.{SparsifiesFile, HoldsNoPart, RefusesRaw};
+
+use crate::sparse::sparse_file;
+use abt_disk::MemoryDisk;
+use abt_io::{Meter, Window};
+use abt_output::Report;
+use abt_refusals::Place;
+use sparse_rules::SparseRefusal;
+
+/// Writes the sparse image of a raw one to another file of a disk in memory.
+pub fn sparse_in_memory<'a>(
+    disk: &mut MemoryDisk,
+    report: &mut Report,
+    input: Place<'a>,
+    output: Place<'a>,
+    block: u32,
+    w: &mut Window,
+    m: &mut Meter,
+) -> Result<(), SparseRefusal<'a>>
+    requires { IsReading (held_of disk.old) }
+    ensures done { OnOk result (SparsifiesFile (path_in input.entry) (path_out output.entry) block (held_of disk.old)
+        (held_of disk.new) (world_of disk.old) (world_of disk.new) (Shows report.old report.new)) }
+    ensures others { OnlyAt (held_of disk.old).read (path_out output.entry) (world_of disk.old) (world_of disk.new) }
+    ensures input { Keeps (path_in input.entry) (world_of disk.old) (world_of disk.new) }
+    ensures whole { IsTrue (is_over (path_out output.entry)) → HoldsNoPart (path_in input.entry)
+        (path_out output.entry) block (world_of disk.old) (world_of disk.new) }
+    ensures refused { IfErr result (λ refusal. RefusesRaw (path_in input.entry) block (world_of disk.old)
+        (world_of disk.new) refusal.fault) }
+{
+    sparse_file(disk, report, input, output, block, w, m)
+}
