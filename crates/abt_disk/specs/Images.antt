@@ -28,6 +28,10 @@ abbrev pub EmptiesAt : List ℕ → World → World → Type 0
 EmptiesAt path old new = (file : ℕ) → new.at path ≡ Some file
     → (new.holds file ≡ old.holds file) ⊎ (new.holds file ≡ [])
 
+-- every file holds what it held
+abbrev pub HoldsSame : World → World → Type 0
+HoldsSame old new = (file : ℕ) → new.holds file ≡ old.holds file
+
 -- which paths lead to files, of a disk in memory: all but that of standard output
 abbrev pub is_over : List ℕ → Bool
 is_over path = not (bytes_eq path (codes "/dev/stdout"))

@@ -2,7 +2,7 @@
 
 ghost use Rattle.std.specs.Prelude.{◌≡◌, [], Some, None, true, false, string_bytes, IsTrue, IfOk, OnOk, OnErr};
 ghost use Rattle.std.specs.Prelude.{Contains, get_or, is_ok};
-ghost use Rattle.abt_disk.specs.Images.{is_over};
+ghost use Rattle.abt_disk.specs.Images.{is_over, HoldsSame, Leaves};
 ghost use Rattle.abt_disk.specs.Memory.{contents, leads, world_of, held_of};
 ghost use Rattle.abt_disk.specs.World.{Creates, OnlyAt, Spares, Ends, SparesRest, beginning, given_up};
 
@@ -104,6 +104,7 @@ impl MemoryDisk {
         ensures kept { OnErr result (held_of self.new ≡ held_of self.old) }
         ensures only { OnErr result (OnlyAt self.old.read.items (string_bytes path) (world_of self.old)
             (world_of self.new)) }
+        ensures same { OnErr result (HoldsSame (world_of self.old) (world_of self.new)) }
     {
         match self.file_at(path.as_str()) {
             Some(file) => self.empty(file),
@@ -155,6 +156,7 @@ impl MemoryDisk {
         ensures free { IfOk result (λ file. ¬ Contains self.old.read.items file) }
         ensures only { OnErr result (OnlyAt self.old.read.items (string_bytes path) (world_of self.old)
             (world_of self.new)) }
+        ensures same { HoldsSame (world_of self.old) (world_of self.new) }
     {
         let file = self.files.len() as u64;
         if self.is_taken(file) {
@@ -177,6 +179,7 @@ impl MemoryDisk {
         ensures ended { IsTrue result → Ends self.old.output bytes.items (world_of self.old) (world_of self.new) }
         ensures closed { held_of self.new ≡ given_up (held_of self.old) }
         ensures rest { SparesRest self.old.output (world_of self.old) (world_of self.new) }
+        ensures left { Leaves self.old.output bytes.items (world_of self.new) }
     {
         let Some(file) = self.output.take() else {
             return true;
