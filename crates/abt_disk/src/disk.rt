@@ -1,12 +1,14 @@
 //! What a command asks of the system, and what contracts know of it.
 
 ghost use Rattle.std.specs.Prelude.{◌≡◌, ℕ, List, [], None, Bool, IsTrue, IfOk, OnOk, OnErr, is_ok};
-ghost use Rattle.abt_refusals.specs.Paths.{path_in, path_out};
+ghost use Rattle.abt_io.specs.Moment.{no_past};
+ghost use Rattle.abt_refusals.specs.Paths.{path_in, path_of, path_out};
 ghost use Rattle.abt_disk.specs.Images.{is_file, OfImage, Leaves, EmptiesAt};
+ghost use Rattle.abt_disk.specs.InPlace.{OpensPart, IsAsLong, closed};
 ghost use Rattle.abt_disk.specs.World.{World, Held, Opens, Creates, OnlyAt, Ends, SparesRest, ended, given_up};
 
 use crate::{ImageTo, Late};
-use abt_io::{Input, Output, Source};
+use abt_io::{Input, Output, Partition, Source};
 use abt_refusals::{HostRefusal, Place};
 
 /// A device that knows why its last call failed.
@@ -35,6 +37,9 @@ pub trait Disk {
     /// What is read at any place.
     type At: Source + Drop;
 
+    /// What is written in place.
+    type Part: Partition + Drop;
+
     /// A regular file that an image goes to, which is written over.
     type Image: Late + Reasons + Drop;
 
@@ -58,13 +63,32 @@ pub trait Disk {
         ensures kept { IsTrue tells → OnErr result (held self.new ≡ held self.old) }
         ensures world { IsTrue tells → world self.new ≡ world self.old };
 
-    /// Opens what is read at any place. `-` is standard input.
+    /// Opens what is read at any place. `-` is a file of that name.
     fn source<'a>(&mut self, place: Place<'a>) -> Result<Self::At, HostRefusal<'a>>
         requires first { IsTrue tells → (held self.old).begun ≡ [] }
-        ensures opened { IsTrue tells → IfOk result (λ source. Opens (world self.old) (path_in place.entry)
-            (Self.At.content source) (held self.old) (held self.new)) }
+        ensures opened { IsTrue tells → IfOk result (λ at. Opens (world self.old) (path_of place.entry)
+            (Self.At.content at) (held self.old) (held self.new)) }
         ensures kept { IsTrue tells → OnErr result (held self.new ≡ held self.old) }
         ensures world { IsTrue tells → world self.new ≡ world self.old };
+
+    /// Opens a file that is there, to be written in place.
+    fn partition<'a>(&mut self, place: Place<'a>) -> Result<Self::Part, HostRefusal<'a>>
+        requires one { IsTrue tells → (held self.old).part ≡ None }
+        ensures opened { IsTrue tells → IfOk result (λ part. OpensPart (world self.old) (path_of place.entry)
+            (Self.Part.content part) (held self.old) (held self.new)) }
+        ensures past { IsTrue tells → IfOk result (λ part. Self.Part.past part ≡ no_past) }
+        ensures kept { IsTrue tells → OnErr result (held self.new ≡ held self.old) }
+        ensures world { IsTrue tells → world self.new ≡ world self.old };
+
+    /// Closes the file that is open in place. It holds what the partition holds, which is as long as it was. Answers
+    /// whether it is where standard output goes.
+    fn close(&mut self, part: Self::Part) -> bool
+        requires long { IsTrue tells → IsAsLong (held self.old).part (Self.Part.content part) (world self.old) }
+        ensures ended { IsTrue tells → Ends (held self.old).part (Self.Part.content part) (world self.old)
+            (world self.new) }
+        ensures paths { IsTrue tells → (world self.new).at ≡ (world self.old).at }
+        ensures closed { IsTrue tells → held self.new ≡ closed (Self.Part.past part) (held self.old) }
+        ensures rest { IsTrue tells → SparesRest (held self.old).part (world self.old) (world self.new) };
 
     /// Creates or empties the file of a raw image. `-` is standard output.
     fn raw<'a>(&mut self, place: Place<'a>) -> Result<Self::Onto, HostRefusal<'a>>
@@ -131,6 +155,8 @@ pub trait Disk {
     /// What it opens to be read tells its bytes.
     ghost told: { IsTrue tells → IsTrue Self.From.tells };
 
-    /// The same of what it opens to be read at any place.
-    ghost told_at: { IsTrue tells → IsTrue Self.At.tells };
+    ghost source_told: { IsTrue tells → IsTrue Self.At.tells };
+
+    /// What it opens to be written in place does.
+    ghost part_told: { IsTrue tells → IsTrue Self.Part.tells };
 }

@@ -7,12 +7,15 @@
 //! |---|---|
 //! | `disk.rt` | the calls of a disk, and what contracts know of its files |
 //! | `image_to.rt` | where an image goes that has a magic |
-//! | `ending.rt` | what a call answered, once its output is at its end |
+//! | `ending.rt`, `closing.rt` | what a call answered, once its output is at its end, or its file in place is closed |
 //! | `memory.rt`, `countdown.rt` | a disk in memory, any call of which can be made to fail |
-//! | `memory_input.rt`, `memory_source.rt` | what such a disk opens to be read |
-//! | `memory_output.rt`, `memory_image.rt` | what it opens to be written |
+//! | `memory_input.rt`, `memory_output.rt` | what such a disk opens |
+//! | `memory_source.rt`, `memory_partition.rt` | what it opens to be read at any place, and to be written in place |
+//! | `memory_places.rt` | how it opens and closes these |
+//! | `memory_image.rt` | what it opens to be written over |
 #![tactic(auto)]
 
+mod closing;
 mod countdown;
 mod disk;
 mod ending;
@@ -21,8 +24,11 @@ mod memory;
 mod memory_image;
 mod memory_input;
 mod memory_output;
+mod memory_partition;
+mod memory_places;
 mod memory_source;
 
+pub use closing::closed;
 pub use countdown::{Countdown, Faults};
 pub use disk::{Disk, Measured, Reasons};
 pub use ending::ended;
@@ -31,4 +37,5 @@ pub use memory::{MemoryDisk, MemoryFile, MemoryPath};
 pub use memory_image::MemoryImage;
 pub use memory_input::MemoryInput;
 pub use memory_output::MemoryOutput;
+pub use memory_partition::MemoryPartition;
 pub use memory_source::MemorySource;

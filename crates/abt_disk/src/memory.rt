@@ -7,7 +7,9 @@ ghost use Rattle.abt_disk.specs.Memory.{contents, leads, world_of, held_of};
 ghost use Rattle.abt_disk.specs.World.{Creates, OnlyAt, Spares, Ends, SparesRest, beginning, given_up};
 
 use crate::memory_image::torn;
-use crate::{Disk, Faults, ImageTo, MemoryImage, MemoryInput, MemoryOutput, MemorySource};
+use crate::{
+    Disk, Faults, ImageTo, MemoryImage, MemoryInput, MemoryOutput, MemoryPartition, MemorySource,
+};
 use abt_io::Tally;
 use abt_refusals::{HostFault, HostRefusal, Place};
 use std::alloc::{AllocError, Global};
@@ -28,7 +30,7 @@ pub struct MemoryPath {
 /// Files in memory, and the paths that lead to them.
 #[derive(Drop)]
 pub struct MemoryDisk {
-    alloc: Global,
+    pub(crate) alloc: Global,
     pub paths: Vec<MemoryPath>,
     pub files: Vec<MemoryFile>,
     pub(crate) faults: Faults,
@@ -211,6 +213,8 @@ impl Disk for MemoryDisk {
 
     type At = MemorySource;
 
+    type Part = MemoryPartition;
+
     type Image = MemoryImage;
 
     ghost tells = { true };
@@ -223,7 +227,9 @@ impl Disk for MemoryDisk {
 
     ghost told = { λ t. t };
 
-    ghost told_at = { λ t. t };
+    ghost source_told = { λ t. t };
+
+    ghost part_told = { λ t. t };
 
     fn input<'a>(&mut self, place: Place<'a>) -> Result<MemoryInput, HostRefusal<'a>> {
         if self.faults.calls.is_over() {
@@ -245,22 +251,16 @@ impl Disk for MemoryDisk {
     }
 
     fn source<'a>(&mut self, place: Place<'a>) -> Result<MemorySource, HostRefusal<'a>> {
-        if self.faults.calls.is_over() {
-            return Err(HostRefusal::at(HostFault::CannotOpen, place, None));
-        }
-        let Ok(path) = place.path_read(self.alloc) else {
-            return Err(HostRefusal::memory());
-        };
-        let Some(file) = self.file_at(path.as_str()) else {
-            return Err(HostRefusal::at(HostFault::CannotOpen, place, None));
-        };
-        let Ok(bytes) = self.copy_of(file) else {
-            return Err(HostRefusal::memory());
-        };
-        match self.read.push(file) {
-            Ok(()) => Ok(MemorySource::new(bytes, self.faults.reads)),
-            Err(_) => Err(HostRefusal::memory()),
-        }
+        self.source_at(place)
+    }
+
+    fn partition<'a>(&mut self, place: Place<'a>) -> Result<MemoryPartition, HostRefusal<'a>> {
+        self.partition_at(place)
+    }
+
+    fn close(&mut self, part: MemoryPartition) -> bool {
+        self.put_back(part);
+        false
     }
 
     fn raw<'a>(&mut self, place: Place<'a>) -> Result<MemoryOutput, HostRefusal<'a>> {

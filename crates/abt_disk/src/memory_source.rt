@@ -18,7 +18,6 @@ pub struct MemorySource {
 }
 
 impl MemorySource {
-    /// These bytes, where a read may fail.
     pub fn new(bytes: Vec<u8>, faults: Countdown) -> MemorySource
         ensures { result.bytes ≡ bytes }
     {
