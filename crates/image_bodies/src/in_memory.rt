@@ -5,7 +5,7 @@ ghost use Rattle.abt_disk.specs.Images.{is_over};
 ghost use Rattle.abt_disk.specs.Memory.{held_of, world_of};
 ghost use Rattle.abt_disk.specs.World.{IsReading, OnlyAt, Keeps};
 ghost use Rattle.abt_output.specs.Shows.{Shows};
-ghost use Rattle.abt_refusals.specs.Paths.{path_in, path_out};
+ghost use Rattle.abt_refusals.specs.Paths.{path_of, path_out};
 ghost use Rattle.image_bodies.specs.Sparsing.{SparsifiesFile, HoldsNoPart, RefusesRaw};
 
 use crate::sparse::sparse_file;
@@ -26,13 +26,13 @@ pub fn sparse_in_memory<'a>(
     m: &mut Meter,
 ) -> Result<(), SparseRefusal<'a>>
     requires { IsReading (held_of disk.old) }
-    ensures done { OnOk result (SparsifiesFile (path_in input.entry) (path_out output.entry) block (held_of disk.old)
+    ensures done { OnOk result (SparsifiesFile (path_of input.entry) (path_out output.entry) block (held_of disk.old)
         (held_of disk.new) (world_of disk.old) (world_of disk.new) (Shows report.old report.new)) }
     ensures others { OnlyAt (held_of disk.old).read (path_out output.entry) (world_of disk.old) (world_of disk.new) }
-    ensures input { Keeps (path_in input.entry) (world_of disk.old) (world_of disk.new) }
-    ensures whole { IsTrue (is_over (path_out output.entry)) → HoldsNoPart (path_in input.entry)
+    ensures input { Keeps (path_of input.entry) (world_of disk.old) (world_of disk.new) }
+    ensures whole { IsTrue (is_over (path_out output.entry)) → HoldsNoPart (path_of input.entry)
         (path_out output.entry) block (world_of disk.old) (world_of disk.new) }
-    ensures refused { IfErr result (λ refusal. RefusesRaw (path_in input.entry) block (world_of disk.old)
+    ensures refused { IfErr result (λ refusal. RefusesRaw (path_of input.entry) block (world_of disk.old)
         (world_of disk.new) refusal.fault) }
 {
     sparse_file(disk, report, input, output, block, w, m)

@@ -3,7 +3,7 @@
 ghost use Rattle.std.specs.Prelude.{IsTrue, IfErr, OnOk};
 ghost use Rattle.abt_disk.specs.World.{IsReading, OnlyAt, Keeps};
 ghost use Rattle.abt_output.specs.Shows.{Shows};
-ghost use Rattle.abt_refusals.specs.Paths.{path_in, path_out};
+ghost use Rattle.abt_refusals.specs.Paths.{path_of, path_out};
 ghost use Rattle.image_bodies.specs.Sparsing.{SparsifiesFile, HoldsNoPart, RefusesRaw};
 
 use crate::writing::write_whole;
@@ -27,16 +27,16 @@ pub fn sparse_file<'a, D: Disk>(
 ) -> Result<(), SparseRefusal<'a>>
     requires first { IsTrue D.tells → IsReading (D.held disk.old) }
     // OUT is another file than IN, and holds the sparse image of what IN holds; what was printed tells of it
-    ensures done { IsTrue D.tells → OnOk result (SparsifiesFile (path_in input.entry) (path_out output.entry) block
+    ensures done { IsTrue D.tells → OnOk result (SparsifiesFile (path_of input.entry) (path_out output.entry) block
         (D.held disk.old) (D.held disk.new) (D.world disk.old) (D.world disk.new) (Shows report.old report.new)) }
     // whatever the outcome, OUT alone may hold anything else, IN holds what it held, and a file has no part of an image
     ensures others { IsTrue D.tells → OnlyAt (D.held disk.old).read (path_out output.entry) (D.world disk.old)
         (D.world disk.new) }
-    ensures input { IsTrue D.tells → Keeps (path_in input.entry) (D.world disk.old) (D.world disk.new) }
-    ensures whole { IsTrue D.tells → IsTrue (D.is_over (path_out output.entry)) → HoldsNoPart (path_in input.entry)
+    ensures input { IsTrue D.tells → Keeps (path_of input.entry) (D.world disk.old) (D.world disk.new) }
+    ensures whole { IsTrue D.tells → IsTrue (D.is_over (path_out output.entry)) → HoldsNoPart (path_of input.entry)
         (path_out output.entry) block (D.world disk.old) (D.world disk.new) }
     // it is refused for a block size that IN hasn't, before anything is touched, or for a fault of files or devices
-    ensures refused { IsTrue D.tells → IfErr result (λ refusal. RefusesRaw (path_in input.entry) block
+    ensures refused { IsTrue D.tells → IfErr result (λ refusal. RefusesRaw (path_of input.entry) block
         (D.world disk.old) (D.world disk.new) refusal.fault) }
 {
     let mut source = disk.source(input)?;
