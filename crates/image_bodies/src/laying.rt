@@ -7,7 +7,6 @@ ghost use Rattle.sparse_rules.specs.Blocks.{IsBlockSize, most_of};
 use abt_host::Watched;
 use abt_io::{Meter, Output, Overwrite, Source, Window};
 use abt_output::Progress;
-use abt_pieces::PieceFault;
 use abt_placed::sparsify_at;
 use abt_sparsify::{Written, sparsify};
 use sparse_rules::{Blocks, SparseCommandFault};
@@ -32,7 +31,10 @@ pub(crate) fn lay_image<S: Source, O: Overwrite>(
 {
     let Blocks { size, most } = blocks;
     let mut watched = Watched::over(source, progress);
-    answered(sparsify_at(&mut watched, size, most, output, w, m))
+    match sparsify_at(&mut watched, size, most, output, w, m) {
+        Ok(written) => Ok(written),
+        Err(fault) => Err(SparseCommandFault::Piece(fault)),
+    }
 }
 
 /// Writes the same from its front on.
@@ -54,15 +56,7 @@ pub(crate) fn write_image<S: Source, O: Output>(
 {
     let Blocks { size, most } = blocks;
     let mut watched = Watched::over(source, progress);
-    answered(sparsify(&mut watched, size, most, output, w, m))
-}
-
-// What writing the image answered, as this command does.
-fn answered(answer: Result<Written, PieceFault>) -> Result<Written, SparseCommandFault>
-    ensures done { IfOk answer (λ written. result ≡ Ok written) }
-    ensures refused { IfErr answer (λ fault. result ≡ Err (SparseCommandFault.Piece fault)) }
-{
-    match answer {
+    match sparsify(&mut watched, size, most, output, w, m) {
         Ok(written) => Ok(written),
         Err(fault) => Err(SparseCommandFault::Piece(fault)),
     }

@@ -1,0 +1,178 @@
+-- What opening, creating and ending leave together.
+use Rattle.std.proofs.Common.{inl, inr, arith, ◌⊎◌, ◌+◌, ◌≡◌, ◌≢◌, ◌<◌, ℕ, List, [], ◌∷◌, ◌++◌, length, Option, Some, None, Bool, true, refl, sym, ◌∙◌, ap, subst}
+use Rattle.std.specs.Prelude.{Contains, unwrap_or, IsTrue, if◌then◌else◌, ◌&&◌}
+use Rattle.std.proofs.lemmas.List.Elements.{Contains-append_left, Contains-push}
+use Rattle.abt_runs.specs.declared.fault.RunFault.{RunFault}
+use Rattle.abt_runs.specs.Raw.{Refused}
+use Rattle.abt_sparsify.specs.declared.count.Written.{Written}
+use Rattle.abt_disk.specs.Images.{EmptiesAt}
+use Rattle.abt_disk.specs.World.{World, Held, Spares, Opens, Creates, OnlyAt, untouched, in_output, SparesRest, Keeps, reading, beginning, ended}
+use Rattle.sparse_rules.specs.Blocks.{IsBlockSize}
+use Rattle.sparse_rules.specs.Lines.{text_of}
+use Rattle.sparse_rules.specs.declared.lines.Line.TheVariants as lines
+use Rattle.sparse_rules.specs.declared.fault.SparseCommandFault.{SparseCommandFault}
+use Rattle.sparse_rules.specs.declared.fault.SparseCommandFault.TheVariants as faults
+use Rattle.image_bodies.specs.Sparsing.{SparsifiesFile, HoldsNoPart, HoldsImage, HasNoBlocks, IsOutside, RefusesRaw, IsWritten, HoldsWritten, LeavesNoPart, IsBrokenOff, image_of_raw, blocks_in, chunks_in}
+
+pub spares_trans : (f : ℕ) (a b c : World) → Spares f a b → Spares f b c → Spares f a c
+spares_trans f a b c s t = record {
+  paths = λ p g h. t.paths p g (s.paths p g h);
+  files = λ g n. t.files g n ∙ s.files g n;
+}
+
+-- what is not among the files that were read when the output was created, was not among fewer
+fewer : (read read' : List ℕ) (f : ℕ) (path : List ℕ) (old new : World) → read' ≡ read ++ (f ∷ [])
+    → OnlyAt read' path old new → OnlyAt read path old new
+fewer read read' f path old new e (untouched same) = untouched same
+fewer read read' f path old new e (in_output file at free spares) =
+    in_output file at (λ c. free (subst (λ r. Contains r file) (sym e) (Contains-append_left read (f ∷ []) file c))) spares
+
+-- a file that is read is none that was written
+apart : (read read' : List ℕ) (f file : ℕ) → read' ≡ read ++ (f ∷ []) → ¬ Contains read' file → f ≢ file
+apart read read' f file e free same =
+    free (subst (λ g. Contains read' g) same (subst (λ r. Contains r f) (sym e) (Contains-push read f)))
+
+keeps_beside : (input path : List ℕ) (read read' : List ℕ) (f : ℕ) (old new : World) → old.at input ≡ Some f
+    → read' ≡ read ++ (f ∷ []) → OnlyAt read' path old new → Keeps input old new
+keeps_beside input path read read' f old new at e (untouched same) = λ g _. ap (λ w. w.holds g) same
+keeps_beside input path read read' f old new at e (in_output file here free spares) =
+    λ g h. spares.files g (λ same. apart read read' f file e free (ap (λ o. unwrap_or o 0) (sym at ∙ h) ∙ same))
+
+one : (o : Option ℕ) (f g : ℕ) → o ≡ Some f → o ≡ Some g → f ≡ g
+one o f g a b = ap (λ p. unwrap_or p 0) (sym a ∙ b)
+
+-- an output that was created, and then brought to its end or let go
+after : (path : List ℕ) (h h' : Held) (a b c : World) (made : Creates path h h' a b) → SparesRest h'.output b c
+    → Spares made.file b c
+after path h h' a b c made rest = subst (λ k. SparesRest k.output b c) made.begins rest
+
+pub only_written : (path : List ℕ) (h h' : Held) (a b c : World) → Creates path h h' a b → SparesRest h'.output b c
+    → OnlyAt h.read path a c
+only_written path h h' a b c made rest =
+    let t : Spares made.file b c = after path h h' a b c made rest in
+    in_output made.file (t.paths path made.file made.there) made.free (spares_trans made.file a b c made.spares t)
+
+-- behind an input that was opened, the output alone was touched
+pub only_behind : (path input bytes : List ℕ) (h h' : Held) (a b c : World) → Opens a input bytes h h' → b ≡ a
+    → OnlyAt h'.read path b c → OnlyAt h.read path a c
+only_behind path input bytes h h' a b c opened same only =
+    fewer h.read h'.read opened.file path a c (ap (λ k. k.read) opened.taken) (subst (λ w. OnlyAt h'.read path w c) same only)
+
+-- and the input holds what it held
+pub kept_behind : (path input bytes : List ℕ) (h h' : Held) (a b c : World) → Opens a input bytes h h' → b ≡ a
+    → OnlyAt h'.read path b c → Keeps input a c
+kept_behind path input bytes h h' a b c opened same only =
+    keeps_beside input path h.read h'.read opened.file a c opened.there (ap (λ k. k.read) opened.taken)
+    (subst (λ w. OnlyAt h'.read path w c) same only)
+
+-- the output may be opened
+pub none_open : (input bytes : List ℕ) (h h' : Held) (a : World) → Opens a input bytes h h' → h.output ≡ None
+    → h'.output ≡ None
+none_open input bytes h h' a opened none = ap (λ k. k.output) opened.taken ∙ none
+
+-- ---- what OUT holds
+
+pub part_same : (input output : List ℕ) (size : ℕ) (a c : World) → c ≡ a → HoldsNoPart input output size a c
+part_same input output size a c same = λ file _. inl (ap (λ w. w.holds file) same)
+
+nothing : (x : List ℕ) → x ≡ [] → IsBrokenOff x
+nothing x e = inl (subst (λ l. length l < 4) (sym e) (omega arith))
+
+-- the output could not be opened
+pub part_emptied : (input output : List ℕ) (size : ℕ) (a b c : World) → b ≡ a → EmptiesAt output b c
+    → HoldsNoPart input output size a c
+part_emptied input output size a b c same empties = λ file at. elim (empties file at) [
+  | inl kept ↦ inl (kept ∙ ap (λ w. w.holds file) same)
+  | inr none ↦ inr (inl (nothing _ none))
+]
+
+-- it was begun, and could not be brought to its end
+pub part_left : (input output bytes : List ℕ) (size : ℕ) (h h' h'' : Held) (a b c d : World) → Opens a input bytes h h'
+    → Creates output h' h'' b c → SparesRest h''.output c d → LeavesNoPart size bytes h''.output d
+    → HoldsNoPart input output size a d
+part_left input output bytes size h h' h'' a b c d opened made rest left = λ file at.
+    let t : Spares made.file c d = after output h' h'' b c d made rest in
+    let is : made.file ≡ file = one (d.at output) made.file file (t.paths output made.file made.there) at in
+    let it : IsBrokenOff (d.holds made.file) ⊎ (d.holds made.file ≡ image_of_raw size bytes)
+    = subst (λ k. LeavesNoPart size bytes k.output d) made.begins left in
+    inr (elim (subst (λ f. IsBrokenOff (d.holds f) ⊎ (d.holds f ≡ image_of_raw size bytes)) is it) [
+      | inl broken ↦ inl broken
+      | inr whole ↦ inr (record {
+        from = opened.file;
+        there = opened.there;
+        holds = whole ∙ ap (image_of_raw size) opened.held;
+      })
+    ])
+
+-- it was brought to its end
+pub part_whole : (input output bytes : List ℕ) (size : ℕ) (x : Written) (h h' h'' : Held) (a b c d : World)
+    → Opens a input bytes h h' → Creates output h' h'' b c → HoldsWritten size bytes x h''.output c d
+    → HoldsNoPart input output size a d
+part_whole input output bytes size x h h' h'' a b c d opened made has = λ file at.
+    let it : IsWritten size bytes x (d.holds made.file) × Spares made.file c d
+    = subst (λ k. HoldsWritten size bytes x k.output c d) made.begins has in
+    let is : made.file ≡ file = one (d.at output) made.file file (it.1.paths output made.file made.there) at in
+    inr (inr (record {
+      from = opened.file;
+      there = opened.there;
+      holds = ap (λ f. d.holds f) (sym is) ∙ it.0.holds ∙ ap (image_of_raw size) opened.held;
+    }))
+
+-- ---- why it is refused
+
+pub no_blocks : (path bytes : List ℕ) (size long : ℕ) (h h' : Held) (a b : World) (f : RunFault)
+    → Opens a path bytes h h' → b ≡ a → long ≡ length bytes → Refused f size long → HasNoBlocks path size a b f
+no_blocks path bytes size long h h' a b f opened same is refused = record {
+  file = opened.file;
+  there = opened.there;
+  fails = subst (λ n. Refused f size n) (is ∙ ap length opened.held) refused;
+  untouched = same;
+}
+
+pub refuses : (path : List ℕ) (size : ℕ) (a b : World) (f : SparseCommandFault) → IsOutside f → RefusesRaw path size a b f
+refuses path size a b (faults.Sparse f) h = absurd h
+refuses path size a b (faults.Run f) h = absurd h
+refuses path size a b (faults.Piece f) h = h
+refuses path size a b (faults.Flash f) h = absurd h
+refuses path size a b (faults.Verify f) h = absurd h
+refuses path size a b (faults.OtherBlocks image) h = absurd h
+refuses path size a b (faults.Host f) h = tt
+
+-- ---- all is done
+
+synced : (h h' h'' h''' : Held) (f g : ℕ) → h' ≡ reading f h → h'' ≡ beginning g h' → h''' ≡ ended true h''
+    → h'''.syncs ≡ h.syncs + (if h.is_synced then 1 else 0)
+synced h h' h'' h''' f g taken begins closed =
+    ap (λ k. k.syncs) closed ∙ ap (λ k. k.syncs + (if k.is_synced then 1 else 0)) begins
+    ∙ ap (λ k. k.syncs + (if k.is_synced then 1 else 0)) taken
+
+pub sparsifies : (input output bytes : List ℕ) (size : ℕ) (x : Written) (h h' h'' h''' : Held) (a b c d : World)
+    (shows : List ℕ → Type 0) → IsBlockSize size → Opens a input bytes h h' → b ≡ a → Creates output h' h'' b c
+    → HoldsWritten size bytes x h''.output c d → h''' ≡ ended true h''
+    → shows (text_of (lines.Sparse x.blocks x.chunks x.bytes) ++ (10 ∷ []))
+    → SparsifiesFile input output size h h''' a d shows
+sparsifies input output bytes size x h h' h'' h''' a b c d shows good opened same made has closed shown =
+    let it : IsWritten size bytes x (d.holds made.file) × Spares made.file c d
+    = subst (λ k. HoldsWritten size bytes x k.output c d) made.begins has in
+    let spared : Spares made.file a c = subst (λ w. Spares made.file w c) same made.spares in
+    let one_ : shows (text_of (lines.Sparse (blocks_in size bytes) x.chunks x.bytes) ++ (10 ∷ []))
+    = subst (λ n. shows (text_of (lines.Sparse n x.chunks x.bytes) ++ (10 ∷ []))) it.0.blocks shown in
+    let two : shows (text_of (lines.Sparse (blocks_in size bytes) (chunks_in size bytes) x.bytes) ++ (10 ∷ []))
+    = subst (λ n. shows (text_of (lines.Sparse (blocks_in size bytes) n x.bytes) ++ (10 ∷ []))) it.0.chunks one_ in
+    let three : shows (text_of (lines.Sparse (blocks_in size bytes) (chunks_in size bytes) (length (d.holds made.file)))
+    ++ (10 ∷ []))
+    = subst (λ n. shows (text_of (lines.Sparse (blocks_in size bytes) (chunks_in size bytes) n) ++ (10 ∷ [])))
+    it.0.long two in
+    record {
+      from = opened.file;
+      onto = made.file;
+      there = opened.there;
+      here = it.1.paths output made.file made.there;
+      apart = apart h.read h'.read opened.file made.file (ap (λ k. k.read) opened.taken) made.free;
+      sized = good;
+      holds = it.0.holds ∙ ap (image_of_raw size) opened.held;
+      spares = spares_trans made.file a c d spared it.1;
+      synced = synced h h' h'' h''' opened.file made.file opened.taken made.begins closed;
+      shown = subst (λ y. shows (text_of (lines.Sparse (blocks_in size y) (chunks_in size y)
+          (length (d.holds made.file))) ++ (10 ∷ []))) opened.held three;
+    }
