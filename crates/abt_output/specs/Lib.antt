@@ -1,3 +1,2 @@
 pub mod Follows
 pub mod Given
-pub mod Shows
