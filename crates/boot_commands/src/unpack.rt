@@ -64,10 +64,11 @@ fn write_part<'t, 'a>(
     m: &mut Meter,
 ) -> BootOutcome<'t, 'a> {
     let part = part_of(&own.image, i);
-    let mut output = writing.plain(part.place(folder))?;
+    let place = part.place(folder);
+    let mut output = writing.plain(place)?;
     let answer = written(own, i, folder, &mut output, report, w, m);
     let sides = Sides::none().reading(own.place, None);
-    let (bytes, finished) = ended(BootCommandFault::of_bytes(answer), output, sides)?;
+    let (bytes, finished) = ended(BootCommandFault::of_bytes(answer), output, place, sides)?;
     report.line_of(finished, PartLine { part, bytes })?;
     Ok(())
 }
@@ -77,7 +78,7 @@ fn written(
     own: &mut Own<'_>,
     i: u64,
     folder: &str,
-    output: &mut OutputFile<'_>,
+    output: &mut OutputFile,
     report: &mut Report,
     w: &mut Window,
     m: &mut Meter,
@@ -103,7 +104,7 @@ fn section_written(
     image: &Image,
     i: usize,
     source: &mut FileSource,
-    output: &mut OutputFile<'_>,
+    output: &mut OutputFile,
     progress: &mut Progress,
     w: &mut Window,
     m: &mut Meter,
@@ -119,7 +120,7 @@ fn fragment_written(
     image: &Image,
     index: u32,
     source: &mut FileSource,
-    output: &mut OutputFile<'_>,
+    output: &mut OutputFile,
     progress: &mut Progress,
     w: &mut Window,
     m: &mut Meter,
@@ -136,7 +137,7 @@ fn words_written(
     image: &Image,
     folder: &str,
     source: &mut FileSource,
-    output: &mut OutputFile<'_>,
+    output: &mut OutputFile,
     progress: &mut Progress,
     w: &mut Window,
     m: &mut Meter,

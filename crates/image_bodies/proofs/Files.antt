@@ -7,36 +7,14 @@ use Rattle.abt_runs.specs.Raw.{Refused}
 use Rattle.abt_sparsify.specs.declared.count.Written.{Written}
 use Rattle.abt_disk.specs.Images.{EmptiesAt}
 use Rattle.abt_disk.specs.World.{World, Held, Spares, Opens, Creates, OnlyAt, untouched, in_output, SparesRest, Keeps, reading, beginning, ended}
+use Rattle.abt_disk.proofs.Files.{spares_trans}
+use Rattle.abt_disk.proofs.Worlds.{apart}
 use Rattle.sparse_rules.specs.Blocks.{IsBlockSize}
 use Rattle.sparse_rules.specs.Lines.{text_of}
 use Rattle.sparse_rules.specs.declared.lines.Line.TheVariants as lines
 use Rattle.sparse_rules.specs.declared.fault.SparseCommandFault.{SparseCommandFault}
 use Rattle.sparse_rules.specs.declared.fault.SparseCommandFault.TheVariants as faults
 use Rattle.image_bodies.specs.Sparsing.{SparsifiesFile, HoldsNoPart, HoldsImage, HasNoBlocks, IsOutside, RefusesRaw, IsWritten, HoldsWritten, LeavesNoPart, IsBrokenOff, image_of_raw, blocks_in, chunks_in}
-
-pub spares_trans : (f : ℕ) (a b c : World) → Spares f a b → Spares f b c → Spares f a c
-spares_trans f a b c s t = record {
-  paths = λ p g h. t.paths p g (s.paths p g h);
-  files = λ g n. t.files g n ∙ s.files g n;
-}
-
--- what is not among the files that were read when the output was created, was not among fewer
-fewer : (read read' : List ℕ) (f : ℕ) (path : List ℕ) (old new : World) → read' ≡ read ++ (f ∷ [])
-    → OnlyAt read' path old new → OnlyAt read path old new
-fewer read read' f path old new e (untouched same) = untouched same
-fewer read read' f path old new e (in_output file at free spares) =
-    in_output file at (λ c. free (subst (λ r. Contains r file) (sym e) (Contains-append_left read (f ∷ []) file c))) spares
-
--- a file that is read is none that was written
-apart : (read read' : List ℕ) (f file : ℕ) → read' ≡ read ++ (f ∷ []) → ¬ Contains read' file → f ≢ file
-apart read read' f file e free same =
-    free (subst (λ g. Contains read' g) same (subst (λ r. Contains r f) (sym e) (Contains-push read f)))
-
-keeps_beside : (input path : List ℕ) (read read' : List ℕ) (f : ℕ) (old new : World) → old.at input ≡ Some f
-    → read' ≡ read ++ (f ∷ []) → OnlyAt read' path old new → Keeps input old new
-keeps_beside input path read read' f old new at e (untouched same) = λ g _. ap (λ w. w.holds g) same
-keeps_beside input path read read' f old new at e (in_output file here free spares) =
-    λ g h. spares.files g (λ same. apart read read' f file e free (ap (λ o. unwrap_or o 0) (sym at ∙ h) ∙ same))
 
 one : (o : Option ℕ) (f g : ℕ) → o ≡ Some f → o ≡ Some g → f ≡ g
 one o f g a b = ap (λ p. unwrap_or p 0) (sym a ∙ b)
@@ -45,25 +23,6 @@ one o f g a b = ap (λ p. unwrap_or p 0) (sym a ∙ b)
 after : (path : List ℕ) (h h' : Held) (a b c : World) (made : Creates path h h' a b) → SparesRest h'.output b c
     → Spares made.file b c
 after path h h' a b c made rest = subst (λ k. SparesRest k.output b c) made.begins rest
-
-pub only_written : (path : List ℕ) (h h' : Held) (a b c : World) → Creates path h h' a b → SparesRest h'.output b c
-    → OnlyAt h.read path a c
-only_written path h h' a b c made rest =
-    let t : Spares made.file b c = after path h h' a b c made rest in
-    in_output made.file (t.paths path made.file made.there) made.free (spares_trans made.file a b c made.spares t)
-
--- behind an input that was opened, the output alone was touched
-pub only_behind : (path input bytes : List ℕ) (h h' : Held) (a b c : World) → Opens a input bytes h h' → b ≡ a
-    → OnlyAt h'.read path b c → OnlyAt h.read path a c
-only_behind path input bytes h h' a b c opened same only =
-    fewer h.read h'.read opened.file path a c (ap (λ k. k.read) opened.taken) (subst (λ w. OnlyAt h'.read path w c) same only)
-
--- and the input holds what it held
-pub kept_behind : (path input bytes : List ℕ) (h h' : Held) (a b c : World) → Opens a input bytes h h' → b ≡ a
-    → OnlyAt h'.read path b c → Keeps input a c
-kept_behind path input bytes h h' a b c opened same only =
-    keeps_beside input path h.read h'.read opened.file a c opened.there (ap (λ k. k.read) opened.taken)
-    (subst (λ w. OnlyAt h'.read path w c) same only)
 
 -- the output may be opened
 pub none_open : (input bytes : List ℕ) (h h' : Held) (a : World) → Opens a input bytes h h' → h.output ≡ None
@@ -140,18 +99,12 @@ refuses path size a b (faults.Host f) h = tt
 
 -- ---- all is done
 
-synced : (h h' h'' h''' : Held) (f g : ℕ) → h' ≡ reading f h → h'' ≡ beginning g h' → h''' ≡ ended true h''
-    → h'''.syncs ≡ h.syncs + (if h.is_synced then 1 else 0)
-synced h h' h'' h''' f g taken begins closed =
-    ap (λ k. k.syncs) closed ∙ ap (λ k. k.syncs + (if k.is_synced then 1 else 0)) begins
-    ∙ ap (λ k. k.syncs + (if k.is_synced then 1 else 0)) taken
-
-pub sparsifies : (input output bytes : List ℕ) (size : ℕ) (x : Written) (h h' h'' h''' : Held) (a b c d : World)
+pub sparsifies : (input output bytes : List ℕ) (size : ℕ) (x : Written) (h h' h'' : Held) (a b c d : World)
     (shows : List ℕ → Type 0) → IsBlockSize size → Opens a input bytes h h' → b ≡ a → Creates output h' h'' b c
-    → HoldsWritten size bytes x h''.output c d → h''' ≡ ended true h''
+    → HoldsWritten size bytes x h''.output c d
     → shows (text_of (lines.Sparse x.blocks x.chunks x.bytes) ++ (10 ∷ []))
-    → SparsifiesFile input output size h h''' a d shows
-sparsifies input output bytes size x h h' h'' h''' a b c d shows good opened same made has closed shown =
+    → SparsifiesFile input output size a d shows
+sparsifies input output bytes size x h h' h'' a b c d shows good opened same made has shown =
     let it : IsWritten size bytes x (d.holds made.file) × Spares made.file c d
     = subst (λ k. HoldsWritten size bytes x k.output c d) made.begins has in
     let spared : Spares made.file a c = subst (λ w. Spares made.file w c) same made.spares in
@@ -172,7 +125,6 @@ sparsifies input output bytes size x h h' h'' h''' a b c d shows good opened sam
       sized = good;
       holds = it.0.holds ∙ ap (image_of_raw size) opened.held;
       spares = spares_trans made.file a c d spared it.1;
-      synced = synced h h' h'' h''' opened.file made.file opened.taken made.begins closed;
       shown = subst (λ y. shows (text_of (lines.Sparse (blocks_in size y) (chunks_in size y)
           (length (d.holds made.file))) ++ (10 ∷ []))) opened.held three;
     }

@@ -1,5 +1,5 @@
 -- What the command `sparse` leaves of files, and what it prints.
-use Rattle.std.specs.Prelude.{◌≡◌, ◌≢◌, ◌<◌, ◌+◌, ◌⊎◌, ℕ, List, [], ◌∷◌, ◌++◌, Option, Some, None, length, Bool, if◌then◌else◌}
+use Rattle.std.specs.Prelude.{◌≡◌, ◌≢◌, ◌<◌, ◌⊎◌, ℕ, List, [], ◌∷◌, ◌++◌, Option, Some, None, length}
 use Rattle.abt_sparse.specs.Block.{classify}
 use Rattle.abt_sparse.specs.Chunk.{chunks_of, spelling}
 use Rattle.abt_runs.specs.declared.fault.RunFault.{RunFault}
@@ -8,7 +8,7 @@ use Rattle.abt_pieces.specs.declared.fault.PieceFault.{PieceFault}
 use Rattle.abt_pieces.specs.declared.fault.PieceFault.TheVariants as pieces
 use Rattle.abt_placed.specs.Unfinished.{IsNoImage}
 use Rattle.abt_sparsify.specs.declared.count.Written.{Written}
-use Rattle.abt_disk.specs.World.{World, Spares, Held}
+use Rattle.abt_disk.specs.World.{World, Spares}
 use Rattle.sparse_rules.specs.Blocks.{IsBlockSize, most_of}
 use Rattle.sparse_rules.specs.Lines.{text_of}
 use Rattle.sparse_rules.specs.declared.fault.SparseCommandFault.{SparseCommandFault}
@@ -26,9 +26,8 @@ abbrev pub chunks_in : ℕ → List ℕ → ℕ
 chunks_in size x = length (chunks_of (most_of size) (classify size x))
 
 -- The file at one path held bytes, the one at the other is another file that holds their sparse image and nothing else,
--- synced where outputs are. No other file has changed, and the line that was printed has the image's numbers.
-pub record SparsifiesFile (input output : List ℕ) (size : ℕ) (held held' : Held) (old new : World)
-    (shows : List ℕ → Type 0) : Type 0 where
+-- no other file has changed, and the line that was printed has the image's numbers.
+pub record SparsifiesFile (input output : List ℕ) (size : ℕ) (old new : World) (shows : List ℕ → Type 0) : Type 0 where
   pub from : ℕ
   pub onto : ℕ
   pub there : old.at input ≡ Some from
@@ -37,7 +36,6 @@ pub record SparsifiesFile (input output : List ℕ) (size : ℕ) (held held' : H
   pub sized : IsBlockSize size
   pub holds : new.holds onto ≡ image_of_raw size (old.holds from)
   pub spares : Spares onto old new
-  pub synced : held'.syncs ≡ held.syncs + (if held.is_synced then 1 else 0)
   pub shown : shows (text_of (lines.Sparse (blocks_in size (old.holds from)) (chunks_in size (old.holds from))
       (length (new.holds onto))) ++ (10 ∷ []))
 

@@ -1,6 +1,6 @@
 //! The command over a disk in memory, which tells what its files hold: no clause is left that says nothing.
 
-ghost use Rattle.std.specs.Prelude.{IsTrue, IfErr, OnOk};
+ghost use Rattle.std.specs.Prelude.{◌≡◌, ◌+◌, None, IsTrue, IfErr, OnOk, if◌then◌else◌};
 ghost use Rattle.abt_disk.specs.Images.{is_over};
 ghost use Rattle.abt_disk.specs.Memory.{held_of, world_of};
 ghost use Rattle.abt_disk.specs.World.{IsReading, OnlyAt, Keeps};
@@ -26,8 +26,11 @@ pub fn sparse_in_memory<'a>(
     m: &mut Meter,
 ) -> Result<(), SparseRefusal<'a>>
     requires { IsReading (held_of disk.old) }
-    ensures done { OnOk result (SparsifiesFile (path_of input.entry) (path_out output.entry) block (held_of disk.old)
-        (held_of disk.new) (world_of disk.old) (world_of disk.new) (Shows report.old report.new)) }
+    ensures done { OnOk result (SparsifiesFile (path_of input.entry) (path_out output.entry) block (world_of disk.old)
+        (world_of disk.new) (Shows report.old report.new)) }
+    ensures synced { OnOk result ((held_of disk.new).syncs
+        ≡ (held_of disk.old).syncs + (if (held_of disk.old).is_synced then 1 else 0)) }
+    ensures closed { (held_of disk.new).output ≡ None }
     ensures others { OnlyAt (held_of disk.old).read (path_out output.entry) (world_of disk.old) (world_of disk.new) }
     ensures input { Keeps (path_of input.entry) (world_of disk.old) (world_of disk.new) }
     ensures whole { IsTrue (is_over (path_out output.entry)) → HoldsNoPart (path_of input.entry)

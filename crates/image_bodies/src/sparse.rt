@@ -1,6 +1,6 @@
 //! The body of the command `sparse`.
 
-ghost use Rattle.std.specs.Prelude.{IsTrue, IfErr, OnOk};
+ghost use Rattle.std.specs.Prelude.{◌≡◌, ◌+◌, None, IsTrue, IfErr, OnOk, if◌then◌else◌};
 ghost use Rattle.abt_disk.specs.World.{IsReading, OnlyAt, Keeps};
 ghost use Rattle.abt_output.specs.Shows.{Shows};
 ghost use Rattle.abt_refusals.specs.Paths.{path_of, path_out};
@@ -16,6 +16,7 @@ use sparse_rules::{Line, SparseCommandFault, SparseRefusal, blocks_of};
 /// Writes the sparse image of a raw one, and prints what it has.
 ///
 /// The block size is judged before OUT is created or emptied.
+#[inline(never)]
 pub fn sparse_file<'a, D: Disk>(
     disk: &mut D,
     report: &mut Report,
@@ -28,10 +29,14 @@ pub fn sparse_file<'a, D: Disk>(
     requires first { IsTrue D.tells → IsReading (D.held disk.old) }
     // OUT is another file than IN, and holds the sparse image of what IN holds; what was printed tells of it
     ensures done { IsTrue D.tells → OnOk result (SparsifiesFile (path_of input.entry) (path_out output.entry) block
-        (D.held disk.old) (D.held disk.new) (D.world disk.old) (D.world disk.new) (Shows report.old report.new)) }
+        (D.world disk.old) (D.world disk.new) (Shows report.old report.new)) }
+    // it was synced, where that is wanted
+    ensures synced { IsTrue D.tells → OnOk result ((D.held disk.new).syncs
+        ≡ (D.held disk.old).syncs + (if (D.held disk.old).is_synced then 1 else 0)) }
     // whatever the outcome, OUT alone may hold anything else, IN holds what it held, and a file has no part of an image
     ensures others { IsTrue D.tells → OnlyAt (D.held disk.old).read (path_out output.entry) (D.world disk.old)
         (D.world disk.new) }
+    ensures closed { IsTrue D.tells → (D.held disk.new).output ≡ None }
     ensures input { IsTrue D.tells → Keeps (path_of input.entry) (D.world disk.old) (D.world disk.new) }
     ensures whole { IsTrue D.tells → IsTrue (D.is_over (path_out output.entry)) → HoldsNoPart (path_of input.entry)
         (path_out output.entry) block (D.world disk.old) (D.world disk.new) }
