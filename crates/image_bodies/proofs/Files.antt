@@ -2,7 +2,7 @@
 use Rattle.std.proofs.Common.{inl, inr, arith, ◌⊎◌, ◌+◌, ◌≡◌, ◌≢◌, ◌<◌, ℕ, List, [], ◌∷◌, ◌++◌, length, Option, Some, None, Bool, true, refl, sym, ◌∙◌, ap, subst}
 use Rattle.std.specs.Prelude.{Contains, unwrap_or, IsTrue, if◌then◌else◌, ◌&&◌}
 use Rattle.std.proofs.lemmas.List.Elements.{Contains-append_left, Contains-push}
-use Rattle.abt_runs.specs.declared.fault.RunFault.{RunFault}
+use Rattle.abt_runs.specs.declared.part.RunFault.{RunFault}
 use Rattle.abt_runs.specs.Raw.{Refused}
 use Rattle.abt_sparsify.specs.declared.count.Written.{Written}
 use Rattle.abt_disk.specs.Images.{EmptiesAt}

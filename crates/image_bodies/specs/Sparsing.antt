@@ -2,7 +2,7 @@
 use Rattle.std.specs.Prelude.{◌≡◌, ◌≢◌, ◌<◌, ◌⊎◌, ℕ, List, [], ◌∷◌, ◌++◌, Option, Some, None, length}
 use Rattle.abt_sparse.specs.Block.{classify}
 use Rattle.abt_sparse.specs.Chunk.{chunks_of, spelling}
-use Rattle.abt_runs.specs.declared.fault.RunFault.{RunFault}
+use Rattle.abt_runs.specs.declared.part.RunFault.{RunFault}
 use Rattle.abt_runs.specs.Raw.{Refused}
 use Rattle.abt_pieces.specs.declared.fault.PieceFault.{PieceFault}
 use Rattle.abt_pieces.specs.declared.fault.PieceFault.TheVariants as pieces
