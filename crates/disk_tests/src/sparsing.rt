@@ -1,8 +1,12 @@
 //! `sparse` over a disk in memory: once as it should go, with each call failing once, and where two paths are one file.
 
-ghost use Rattle.std.specs.Prelude.{◌≡◌, [], None, IfSome};
+ghost use Rattle.std.specs.Prelude.{IfSome};
+ghost use Rattle.abt_disk.specs.Memory.{held_of};
+ghost use Rattle.abt_disk.specs.World.{IsReading};
 
-use abt_disk::{Countdown, Faults, MemoryDisk, MemoryFile, MemoryPath};
+use crate::made;
+use crate::made::{Listed, holds};
+use abt_disk::{Countdown, Faults, MemoryDisk};
 use abt_io::{Meter, Window};
 use abt_output::Report;
 use abt_refusals::Place;
@@ -27,50 +31,18 @@ const OLD: [u8; 5] = [9, 8, 7, 6, 5];
 // How many calls a run makes at most.
 const CALLS: u64 = 24;
 
-fn path(alloc: Global, name: &str, file: u64) -> Option<MemoryPath> {
-    match String::from_str(alloc, name) {
-        Ok(name) => Some(MemoryPath { name, file }),
-        Err(_) => None,
-    }
-}
+// The paths: two lead to the file of IN.
+const PATHS: [Listed; 3] = [("in", 0), ("link", 0), ("out", 1)];
 
-fn file(alloc: Global, bytes: &[u8]) -> Option<MemoryFile> {
-    match Vec::from_slice(alloc, bytes) {
-        Ok(bytes) => Some(MemoryFile { bytes }),
-        Err(_) => None,
-    }
-}
-
-// The file of IN, and that of OUT, to which two paths lead.
 fn disk(alloc: Global, faults: Faults) -> Option<MemoryDisk>
-    ensures begun { IfSome result (λ disk. disk.begun.items ≡ []) }
-    ensures output { IfSome result (λ disk. disk.output ≡ None) }
+    ensures { IfSome result (λ disk. IsReading (held_of disk)) }
 {
-    let mut paths = Vec::new(alloc);
-    for (name, number) in [("in", 0), ("link", 0), ("out", 1)] {
-        if paths.push(path(alloc, name, number)?).is_err() {
-            return None;
-        }
-    }
-    let mut files = Vec::new(alloc);
-    if files.push(file(alloc, &RAW)?).is_err() || files.push(file(alloc, &OLD)?).is_err() {
-        return None;
-    }
-    Some(MemoryDisk::new(alloc, paths, files, true, faults))
-}
-
-// Whether a file holds these bytes.
-fn holds(disk: &MemoryDisk, file: usize, bytes: &[u8]) -> bool {
-    match disk.files.as_slice().get(file) {
-        Some(file) => file.bytes.as_slice() == bytes,
-        None => false,
-    }
+    made::disk(alloc, &PATHS, &[&RAW, &OLD], true, faults)
 }
 
 // Whether a run writes an image, in blocks of so many bytes.
 fn run(rt: HostRuntime, disk: &mut MemoryDisk, output: &str, block: u32) -> bool
-    requires begun { disk.old.begun.items ≡ [] }
-    requires output { disk.old.output ≡ None }
+    requires { IsReading (held_of disk.old) }
 {
     let mut report = Report::new(rt);
     let Ok(mut window) = Box::new(rt.alloc(), Window::new()) else {
@@ -87,48 +59,44 @@ fn run(rt: HostRuntime, disk: &mut MemoryDisk, output: &str, block: u32) -> bool
 fn an_image_stands_in_the_other_file(rt: HostRuntime) {
     let mut disk = disk(rt.alloc(), Faults::none()).expect(&rt, "memory");
     assert!(rt; run(rt, &mut disk, "out", 8));
-    assert!(rt; holds(&disk, 1, &IMAGE));
-    assert!(rt; holds(&disk, 0, &RAW));
+    assert!(rt; holds(&disk, "out", &IMAGE));
+    assert!(rt; holds(&disk, "in", &RAW));
 }
 
 #[test]
 fn an_image_stands_in_a_new_file(rt: HostRuntime) {
     let mut disk = disk(rt.alloc(), Faults::none()).expect(&rt, "memory");
     assert!(rt; run(rt, &mut disk, "new", 8));
-    assert!(rt; holds(&disk, 2, &IMAGE));
-    assert!(rt; holds(&disk, 1, &OLD));
+    assert!(rt; holds(&disk, "new", &IMAGE));
+    assert!(rt; holds(&disk, "out", &OLD));
 }
 
 #[test]
 fn a_stream_gets_the_same_image(rt: HostRuntime) {
     let mut disk = disk(rt.alloc(), Faults::none()).expect(&rt, "memory");
     assert!(rt; run(rt, &mut disk, "-", 8));
-    assert!(rt; holds(&disk, 2, &IMAGE));
+    assert!(rt; holds(&disk, "/dev/stdout", &IMAGE));
 }
 
 #[test]
 fn a_block_size_is_judged_before_out_is_emptied(rt: HostRuntime) {
     let mut disk = disk(rt.alloc(), Faults::none()).expect(&rt, "memory");
     assert!(rt; !run(rt, &mut disk, "out", 6));
-    assert!(rt; holds(&disk, 1, &OLD));
+    assert!(rt; holds(&disk, "out", &OLD));
 }
 
 #[test]
 fn a_file_of_two_paths_is_not_written(rt: HostRuntime) {
     let mut disk = disk(rt.alloc(), Faults::none()).expect(&rt, "memory");
     assert!(rt; !run(rt, &mut disk, "link", 8));
-    assert!(rt; holds(&disk, 0, &RAW));
+    assert!(rt; holds(&disk, "in", &RAW));
 }
 
 // Whether OUT holds what it held, all of the image, or nothing of its magic.
 fn has_no_part(disk: &MemoryDisk) -> bool {
-    holds(disk, 1, &OLD) || holds(disk, 1, &IMAGE) || !begins(disk, 1, &IMAGE[..4])
-}
-
-fn begins(disk: &MemoryDisk, file: usize, bytes: &[u8]) -> bool {
-    match disk.files.as_slice().get(file) {
-        Some(file) => file.bytes.as_slice().starts_with(bytes),
-        None => false,
+    match disk.copy_of(1) {
+        Ok(held) => holds(disk, "out", &IMAGE) || !held.as_slice().starts_with(&IMAGE[..4]),
+        Err(_) => false,
     }
 }
 
@@ -138,8 +106,8 @@ fn breaks_off(rt: HostRuntime, faults: Faults) -> bool {
         return false;
     };
     let is_done = run(rt, &mut disk, "out", 8);
-    let is_whole = holds(&disk, 1, &IMAGE);
-    holds(&disk, 0, &RAW) && (is_done == is_whole) && has_no_part(&disk)
+    let is_whole = holds(&disk, "out", &IMAGE);
+    holds(&disk, "in", &RAW) && (is_done == is_whole) && has_no_part(&disk)
 }
 
 #[test]
