@@ -115,8 +115,17 @@ fn each_call_fails_once(rt: HostRuntime) {
     for number in 1..CALLS {
         let at = Countdown::at(number);
         let none = Faults::none();
-        assert!(rt; breaks_off(rt, Faults { calls: at, ..none }), "call {number}");
-        assert!(rt; breaks_off(rt, Faults { reads: at, ..none }), "read {number}");
-        assert!(rt; breaks_off(rt, Faults { writes: at, ..none }), "write {number}");
+        assert!(rt;
+            breaks_off(rt, Faults { calls: at, ..none }),
+            "call {number}"
+        );
+        assert!(rt;
+            breaks_off(rt, Faults { reads: at, ..none }),
+            "read {number}"
+        );
+        assert!(rt;
+            breaks_off(rt, Faults { writes: at, ..none }),
+            "write {number}"
+        );
     }
 }
