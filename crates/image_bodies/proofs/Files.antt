@@ -46,14 +46,15 @@ part_emptied input output size a b c same empties = λ file at. elim (empties fi
 ]
 
 -- it was begun, and could not be brought to its end
-pub part_left : (input output bytes : List ℕ) (size : ℕ) (h h' h'' : Held) (a b c d : World) → Opens a input bytes h h'
-    → Creates output h' h'' b c → SparesRest h''.output c d → LeavesNoPart size bytes h''.output d
-    → HoldsNoPart input output size a d
-part_left input output bytes size h h' h'' a b c d opened made rest left = λ file at.
+pub part_left : (input output bytes : List ℕ) (size n : ℕ) (h h' h'' : Held) (a b c d : World) → n ≡ size
+    → Opens a input bytes h h' → Creates output h' h'' b c → SparesRest h''.output c d
+    → LeavesNoPart n bytes h''.output d → HoldsNoPart input output size a d
+part_left input output bytes size n h h' h'' a b c d sized opened made rest left = λ file at.
     let t : Spares made.file c d = after output h' h'' b c d made rest in
     let is : made.file ≡ file = one (d.at output) made.file file (t.paths output made.file made.there) at in
+    let so : LeavesNoPart size bytes h''.output d = subst (λ k. LeavesNoPart k bytes h''.output d) sized left in
     let it : IsBrokenOff (d.holds made.file) ⊎ (d.holds made.file ≡ image_of_raw size bytes)
-    = subst (λ k. LeavesNoPart size bytes k.output d) made.begins left in
+    = subst (λ k. LeavesNoPart size bytes k.output d) made.begins so in
     inr (elim (subst (λ f. IsBrokenOff (d.holds f) ⊎ (d.holds f ≡ image_of_raw size bytes)) is it) [
       | inl broken ↦ inl broken
       | inr whole ↦ inr (record {
@@ -64,12 +65,13 @@ part_left input output bytes size h h' h'' a b c d opened made rest left = λ fi
     ])
 
 -- it was brought to its end
-pub part_whole : (input output bytes : List ℕ) (size : ℕ) (x : Written) (h h' h'' : Held) (a b c d : World)
-    → Opens a input bytes h h' → Creates output h' h'' b c → HoldsWritten size bytes x h''.output c d
+pub part_whole : (input output bytes : List ℕ) (size n : ℕ) (x : Written) (h h' h'' : Held) (a b c d : World)
+    → n ≡ size → Opens a input bytes h h' → Creates output h' h'' b c → HoldsWritten n bytes x h''.output c d
     → HoldsNoPart input output size a d
-part_whole input output bytes size x h h' h'' a b c d opened made has = λ file at.
+part_whole input output bytes size n x h h' h'' a b c d sized opened made has = λ file at.
+    let so : HoldsWritten size bytes x h''.output c d = subst (λ k. HoldsWritten k bytes x h''.output c d) sized has in
     let it : IsWritten size bytes x (d.holds made.file) × Spares made.file c d
-    = subst (λ k. HoldsWritten size bytes x k.output c d) made.begins has in
+    = subst (λ k. HoldsWritten size bytes x k.output c d) made.begins so in
     let is : made.file ≡ file = one (d.at output) made.file file (it.1.paths output made.file made.there) at in
     inr (inr (record {
       from = opened.file;
@@ -80,13 +82,15 @@ part_whole input output bytes size x h h' h'' a b c d opened made has = λ file 
 -- ---- why it is refused
 
 pub no_blocks : (path bytes : List ℕ) (size long : ℕ) (h h' : Held) (a b : World) (f : RunFault)
-    → Opens a path bytes h h' → b ≡ a → long ≡ length bytes → Refused f size long → HasNoBlocks path size a b f
-no_blocks path bytes size long h h' a b f opened same is refused = record {
-  file = opened.file;
-  there = opened.there;
-  fails = subst (λ n. Refused f size n) (is ∙ ap length opened.held) refused;
-  untouched = same;
-}
+    (told : SparseCommandFault) → Opens a path bytes h h' → b ≡ a → long ≡ length bytes → Refused f size long
+    → told ≡ faults.Run f → RefusesRaw path size a b told
+no_blocks path bytes size long h h' a b f told opened same is refused told_is =
+    subst (λ k. RefusesRaw path size a b k) (sym told_is) (record {
+      file = opened.file;
+      there = opened.there;
+      fails = subst (λ n. Refused f size n) (is ∙ ap length opened.held) refused;
+      untouched = same;
+    })
 
 pub refuses : (path : List ℕ) (size : ℕ) (a b : World) (f : SparseCommandFault) → IsOutside f → RefusesRaw path size a b f
 refuses path size a b (faults.Sparse f) h = absurd h
@@ -99,14 +103,15 @@ refuses path size a b (faults.Host f) h = tt
 
 -- ---- all is done
 
-pub sparsifies : (input output bytes : List ℕ) (size : ℕ) (x : Written) (h h' h'' : Held) (a b c d : World)
-    (shows : List ℕ → Type 0) → IsBlockSize size → Opens a input bytes h h' → b ≡ a → Creates output h' h'' b c
-    → HoldsWritten size bytes x h''.output c d
+pub sparsifies : (input output bytes : List ℕ) (size n : ℕ) (x : Written) (h h' h'' : Held) (a b c d : World)
+    (shows : List ℕ → Type 0) → n ≡ size → IsBlockSize size → Opens a input bytes h h' → b ≡ a
+    → Creates output h' h'' b c → HoldsWritten n bytes x h''.output c d
     → shows (text_of (lines.Sparse x.blocks x.chunks x.bytes) ++ (10 ∷ []))
     → SparsifiesFile input output size a d shows
-sparsifies input output bytes size x h h' h'' a b c d shows good opened same made has shown =
+sparsifies input output bytes size n x h h' h'' a b c d shows sized_as good opened same made has shown =
+    let so : HoldsWritten size bytes x h''.output c d = subst (λ k. HoldsWritten k bytes x h''.output c d) sized_as has in
     let it : IsWritten size bytes x (d.holds made.file) × Spares made.file c d
-    = subst (λ k. HoldsWritten size bytes x k.output c d) made.begins has in
+    = subst (λ k. HoldsWritten size bytes x k.output c d) made.begins so in
     let spared : Spares made.file a c = subst (λ w. Spares made.file w c) same made.spares in
     let one_ : shows (text_of (lines.Sparse (blocks_in size bytes) x.chunks x.bytes) ++ (10 ∷ []))
     = subst (λ n. shows (text_of (lines.Sparse n x.chunks x.bytes) ++ (10 ∷ []))) it.0.blocks shown in

@@ -1,16 +1,18 @@
 //! The body of the command `sparse`.
 
-ghost use Rattle.std.specs.Prelude.{◌≡◌, ◌+◌, None, IsTrue, IfErr, OnOk, if◌then◌else◌};
+ghost use Rattle.std.specs.Prelude.{◌≡◌, ◌+◌, ◌++◌, ◌∷◌, [], None, IsTrue, IfErr, OnOk, if◌then◌else◌};
 ghost use Rattle.abt_disk.specs.World.{IsReading, OnlyAt, Keeps};
 ghost use Rattle.abt_output.specs.Shows.{Shows};
 ghost use Rattle.abt_refusals.specs.Paths.{path_of, path_out};
+ghost use Rattle.sparse_rules.specs.Lines.{text_of};
 ghost use Rattle.image_bodies.specs.Sparsing.{SparsifiesFile, HoldsNoPart, RefusesRaw};
 
 use crate::writing::write_whole;
 use abt_disk::Disk;
 use abt_io::{Meter, Source, Window};
 use abt_output::Report;
-use abt_refusals::{Place, Sides};
+use abt_refusals::{HostRefusal, Place, Sides};
+use abt_sparsify::Written;
 use sparse_rules::{Line, SparseCommandFault, SparseRefusal, blocks_of};
 
 /// Writes the sparse image of a raw one, and prints what it has.
@@ -66,11 +68,26 @@ pub fn sparse_file<'a, D: Disk>(
         Ok(end) => end,
         Err(refusal) => return Err(refusal),
     };
+    match printed(written, is_on_output, report) {
+        Ok(()) => Ok(()),
+        Err(refusal) => Err(refusal.into()),
+    }
+}
+
+// Its text takes more of the stack than all else here, and none of it while the image is written.
+#[inline(never)]
+fn printed<'a>(
+    written: Written,
+    is_on_output: bool,
+    report: &mut Report,
+) -> Result<(), HostRefusal<'a>>
+    ensures { OnOk result (Shows report.old report.new (text_of (Line.Sparse written.blocks written.chunks written.bytes)
+        ++ (10 ∷ []))) }
+{
     let line = Line::Sparse {
         blocks: written.blocks,
         chunks: written.chunks,
         bytes: written.bytes,
     };
-    report.line_beside(is_on_output, line)?;
-    Ok(())
+    report.line_beside(is_on_output, line)
 }
