@@ -329,7 +329,8 @@ impl Disk for MemoryDisk {
         if !self.put(bytes) || is_over {
             return Err(HostRefusal::at(HostFault::Write, place, None).begun(place));
         }
-        if self.is_synced {
+        let is_synced = self.is_synced;
+        if is_synced {
             self.syncs.add(1);
         }
         Ok(false)

@@ -13,10 +13,10 @@ use Rattle.abt_placed.proofs.Refusing.{refused, unfinished_by}
 use Rattle.abt_disk.specs.Images.{IsTorn, Leaves}
 use Rattle.abt_disk.specs.World.{World, Ends}
 use Rattle.sparse_rules.specs.Blocks.{IsBlockSize, most_of}
-use Rattle.image_bodies.specs.Sparsing.{IsBrokenOff, IsOfDevices, IsWritten, HoldsWritten, LeavesNoPart}
+use Rattle.image_bodies.specs.Sparsing.{HoldsNone, IsOfDevices, IsWritten, HoldsWritten, LeavesNoPart}
 
 -- nothing stood there before
-pub broken : (old new : List ℕ) → old ≡ [] → (new ≡ old) ⊎ IsNoImage (drop (length old) new) → IsBrokenOff new
+pub broken : (old new : List ℕ) → old ≡ [] → (new ≡ old) ⊎ IsNoImage (drop (length old) new) → HoldsNone new
 broken old new empty (inl same) = inl (subst (λ l. length l < 4) (sym (same ∙ empty)) (omega arith))
 broken old new empty (inr none) = inr (subst (λ l. IsNoImage (drop (length l) new)) empty none)
 
@@ -44,7 +44,7 @@ outside pieces.TooLarge b long tells r r' w w' t sized few cause = absurd (omega
 outside (pieces.BadBlock n) b long tells r r' w w' t sized few cause = absurd (cause.1 sized)
 outside (pieces.LimitTooSmall n) b long tells r r' w w' t sized few cause = absurd cause
 
-pub torn : (x : List ℕ) → IsTorn x → IsBrokenOff x
+pub torn : (x : List ℕ) → IsTorn x → HoldsNone x
 torn x (inl few) = inl few
 torn x (inr zero) = inr (refused x (unfinished_by 1 x (omega arith) zero))
 
@@ -61,8 +61,8 @@ left_whole (Some file) size x bytes a new is (inl same) = inr (same ∙ is.holds
 left_whole (Some file) size x bytes a new is (inr short) = inl (torn _ short)
 
 -- it was let go
-pub left_broken : (o : Option ℕ) (size : ℕ) (x bytes : List ℕ) (new : World) → IsBrokenOff bytes → Leaves o bytes new
+pub left_broken : (o : Option ℕ) (size : ℕ) (x bytes : List ℕ) (new : World) → HoldsNone bytes → Leaves o bytes new
     → LeavesNoPart size x o new
 left_broken None size x bytes new is left = tt
-left_broken (Some file) size x bytes new is (inl same) = inl (subst IsBrokenOff (sym same) is)
+left_broken (Some file) size x bytes new is (inl same) = inl (subst HoldsNone (sym same) is)
 left_broken (Some file) size x bytes new is (inr short) = inl (torn _ short)

@@ -14,7 +14,7 @@ use Rattle.sparse_rules.specs.Lines.{text_of}
 use Rattle.sparse_rules.specs.declared.lines.Line.TheVariants as lines
 use Rattle.sparse_rules.specs.declared.fault.SparseCommandFault.{SparseCommandFault}
 use Rattle.sparse_rules.specs.declared.fault.SparseCommandFault.TheVariants as faults
-use Rattle.image_bodies.specs.Sparsing.{SparsifiesFile, HoldsNoPart, HoldsImage, HasNoBlocks, IsOutside, RefusesRaw, IsWritten, HoldsWritten, LeavesNoPart, IsBrokenOff, image_of_raw, blocks_in, chunks_in}
+use Rattle.image_bodies.specs.Sparsing.{SparsifiesFile, HoldsNoPart, HoldsImage, HasNoBlocks, IsOutside, RefusesRaw, IsWritten, HoldsWritten, LeavesNoPart, HoldsNone, image_of_raw, blocks_of_raw, chunks_of_raw}
 
 one : (o : Option ℕ) (f g : ℕ) → o ≡ Some f → o ≡ Some g → f ≡ g
 one o f g a b = ap (λ p. unwrap_or p 0) (sym a ∙ b)
@@ -34,7 +34,7 @@ none_open input bytes h h' a opened none = ap (λ k. k.output) opened.taken ∙ 
 pub part_same : (input output : List ℕ) (size : ℕ) (a c : World) → c ≡ a → HoldsNoPart input output size a c
 part_same input output size a c same = λ file _. inl (ap (λ w. w.holds file) same)
 
-nothing : (x : List ℕ) → x ≡ [] → IsBrokenOff x
+nothing : (x : List ℕ) → x ≡ [] → HoldsNone x
 nothing x e = inl (subst (λ l. length l < 4) (sym e) (omega arith))
 
 -- the output could not be opened
@@ -53,9 +53,9 @@ part_left input output bytes size n h h' h'' a b c d sized opened made rest left
     let t : Spares made.file c d = after output h' h'' b c d made rest in
     let is : made.file ≡ file = one (d.at output) made.file file (t.paths output made.file made.there) at in
     let so : LeavesNoPart size bytes h''.output d = subst (λ k. LeavesNoPart k bytes h''.output d) sized left in
-    let it : IsBrokenOff (d.holds made.file) ⊎ (d.holds made.file ≡ image_of_raw size bytes)
+    let it : HoldsNone (d.holds made.file) ⊎ (d.holds made.file ≡ image_of_raw size bytes)
     = subst (λ k. LeavesNoPart size bytes k.output d) made.begins so in
-    inr (elim (subst (λ f. IsBrokenOff (d.holds f) ⊎ (d.holds f ≡ image_of_raw size bytes)) is it) [
+    inr (elim (subst (λ f. HoldsNone (d.holds f) ⊎ (d.holds f ≡ image_of_raw size bytes)) is it) [
       | inl broken ↦ inl broken
       | inr whole ↦ inr (record {
         from = opened.file;
@@ -113,13 +113,13 @@ sparsifies input output bytes size n x h h' h'' a b c d shows sized_as good open
     let it : IsWritten size bytes x (d.holds made.file) × Spares made.file c d
     = subst (λ k. HoldsWritten size bytes x k.output c d) made.begins so in
     let spared : Spares made.file a c = subst (λ w. Spares made.file w c) same made.spares in
-    let one_ : shows (text_of (lines.Sparse (blocks_in size bytes) x.chunks x.bytes) ++ (10 ∷ []))
+    let one_ : shows (text_of (lines.Sparse (blocks_of_raw size bytes) x.chunks x.bytes) ++ (10 ∷ []))
     = subst (λ n. shows (text_of (lines.Sparse n x.chunks x.bytes) ++ (10 ∷ []))) it.0.blocks shown in
-    let two : shows (text_of (lines.Sparse (blocks_in size bytes) (chunks_in size bytes) x.bytes) ++ (10 ∷ []))
-    = subst (λ n. shows (text_of (lines.Sparse (blocks_in size bytes) n x.bytes) ++ (10 ∷ []))) it.0.chunks one_ in
-    let three : shows (text_of (lines.Sparse (blocks_in size bytes) (chunks_in size bytes) (length (d.holds made.file)))
+    let two : shows (text_of (lines.Sparse (blocks_of_raw size bytes) (chunks_of_raw size bytes) x.bytes) ++ (10 ∷ []))
+    = subst (λ n. shows (text_of (lines.Sparse (blocks_of_raw size bytes) n x.bytes) ++ (10 ∷ []))) it.0.chunks one_ in
+    let three : shows (text_of (lines.Sparse (blocks_of_raw size bytes) (chunks_of_raw size bytes) (length (d.holds made.file)))
     ++ (10 ∷ []))
-    = subst (λ n. shows (text_of (lines.Sparse (blocks_in size bytes) (chunks_in size bytes) n) ++ (10 ∷ [])))
+    = subst (λ n. shows (text_of (lines.Sparse (blocks_of_raw size bytes) (chunks_of_raw size bytes) n) ++ (10 ∷ [])))
     it.0.long two in
     record {
       from = opened.file;
@@ -130,6 +130,6 @@ sparsifies input output bytes size n x h h' h'' a b c d shows sized_as good open
       sized = good;
       holds = it.0.holds ∙ ap (image_of_raw size) opened.held;
       spares = spares_trans made.file a c d spared it.1;
-      shown = subst (λ y. shows (text_of (lines.Sparse (blocks_in size y) (chunks_in size y)
+      shown = subst (λ y. shows (text_of (lines.Sparse (blocks_of_raw size y) (chunks_of_raw size y)
           (length (d.holds made.file))) ++ (10 ∷ []))) opened.held three;
     }

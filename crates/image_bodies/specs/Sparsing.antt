@@ -19,11 +19,11 @@ use Rattle.sparse_rules.specs.declared.lines.Line.TheVariants as lines
 abbrev pub image_of_raw : ℕ → List ℕ → List ℕ
 image_of_raw size x = spelling size (most_of size) (classify size x)
 
-abbrev pub blocks_in : ℕ → List ℕ → ℕ
-blocks_in size x = length (classify size x)
+abbrev pub blocks_of_raw : ℕ → List ℕ → ℕ
+blocks_of_raw size x = length (classify size x)
 
-abbrev pub chunks_in : ℕ → List ℕ → ℕ
-chunks_in size x = length (chunks_of (most_of size) (classify size x))
+abbrev pub chunks_of_raw : ℕ → List ℕ → ℕ
+chunks_of_raw size x = length (chunks_of (most_of size) (classify size x))
 
 -- The file at one path held bytes, the one at the other is another file that holds their sparse image and nothing else,
 -- no other file has changed, and the line that was printed has the image's numbers.
@@ -36,12 +36,12 @@ pub record SparsifiesFile (input output : List ℕ) (size : ℕ) (old new : Worl
   pub sized : IsBlockSize size
   pub holds : new.holds onto ≡ image_of_raw size (old.holds from)
   pub spares : Spares onto old new
-  pub shown : shows (text_of (lines.Sparse (blocks_in size (old.holds from)) (chunks_in size (old.holds from))
+  pub shown : shows (text_of (lines.Sparse (blocks_of_raw size (old.holds from)) (chunks_of_raw size (old.holds from))
       (length (new.holds onto))) ++ (10 ∷ []))
 
 -- what is no image: it has fewer than four bytes, or no reader finds one, whatever follows
-abbrev pub IsBrokenOff : List ℕ → Type 0
-IsBrokenOff x = (length x < 4) ⊎ IsNoImage x
+abbrev pub HoldsNone : List ℕ → Type 0
+HoldsNone x = (length x < 4) ⊎ IsNoImage x
 
 -- the file at this path holds the sparse image of what the file at the other one held
 pub record HoldsImage (input : List ℕ) (size : ℕ) (old : World) (bytes : List ℕ) : Type 0 where
@@ -52,7 +52,7 @@ pub record HoldsImage (input : List ℕ) (size : ℕ) (old : World) (bytes : Lis
 -- whatever the outcome, the file at this path holds what it held, or what is no image, or the whole image
 abbrev pub HoldsNoPart : List ℕ → List ℕ → ℕ → World → World → Type 0
 HoldsNoPart input output size old new = (file : ℕ) → new.at output ≡ Some file → (new.holds file ≡ old.holds file)
-    ⊎ (IsBrokenOff (new.holds file) ⊎ HoldsImage input size old (new.holds file))
+    ⊎ (HoldsNone (new.holds file) ⊎ HoldsImage input size old (new.holds file))
 
 -- the file at this path has no blocks of this size, or too many, and nothing has changed
 pub record HasNoBlocks (path : List ℕ) (size : ℕ) (old new : World) (fault : RunFault) : Type 0 where
@@ -92,8 +92,8 @@ RefusesRaw path size old new (faults.OtherBlocks image) = ⊥
 
 -- these are the numbers of the sparse image of these bytes, and behind nothing it was written
 pub record IsWritten (size : ℕ) (x : List ℕ) (a : Written) (bytes : List ℕ) : Type 0 where
-  pub blocks : a.blocks ≡ blocks_in size x
-  pub chunks : a.chunks ≡ chunks_in size x
+  pub blocks : a.blocks ≡ blocks_of_raw size x
+  pub chunks : a.chunks ≡ chunks_of_raw size x
   pub long : a.bytes ≡ length bytes
   pub holds : bytes ≡ image_of_raw size x
 
@@ -105,4 +105,4 @@ HoldsWritten size x a (Some file) old new = IsWritten size x a (new.holds file) 
 -- the output that was open holds no part of the sparse image of these bytes, but nothing of it or all
 abbrev pub LeavesNoPart : ℕ → List ℕ → Option ℕ → World → Type 0
 LeavesNoPart size x None new = Unit {0}
-LeavesNoPart size x (Some file) new = IsBrokenOff (new.holds file) ⊎ (new.holds file ≡ image_of_raw size x)
+LeavesNoPart size x (Some file) new = HoldsNone (new.holds file) ⊎ (new.holds file ≡ image_of_raw size x)

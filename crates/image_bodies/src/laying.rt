@@ -1,7 +1,7 @@
 //! The sparse image of a raw one, as far as it goes, while it is known how far the command is.
 
 ghost use Rattle.std.specs.Prelude.{◌≡◌, ◌≤◌, ◌-◌, ◌*◌, ◌^◌, [], IsTrue, IfOk, IfErr, OnErr};
-ghost use Rattle.image_bodies.specs.Sparsing.{IsBrokenOff, IsOutside, IsWritten};
+ghost use Rattle.image_bodies.specs.Sparsing.{HoldsNone, IsOutside, IsWritten};
 ghost use Rattle.sparse_rules.specs.Blocks.{IsBlockSize, most_of};
 
 use abt_host::Watched;
@@ -12,6 +12,7 @@ use abt_sparsify::{Written, sparsify};
 use sparse_rules::{Blocks, SparseCommandFault};
 
 /// Lays the sparse image of a raw one, its magic last.
+#[tactic(auto, using(crate::proofs::Answered::broken))]
 pub(crate) fn lay_image<S: Source, O: Overwrite>(
     source: &mut S,
     blocks: Blocks,
@@ -26,7 +27,7 @@ pub(crate) fn lay_image<S: Source, O: Overwrite>(
     requires empty { O.written output.old ≡ [] }
     ensures written { IsTrue S.tells → IfOk result (λ a. IsWritten blocks.size (S.content source.old) a
         (O.written output.new)) }
-    ensures broken { OnErr result (IsBrokenOff (O.written output.new)) }
+    ensures broken { OnErr result (HoldsNone (O.written output.new)) }
     ensures outside { IsTrue S.tells → IfErr result IsOutside }
 {
     let Blocks { size, most } = blocks;

@@ -62,18 +62,18 @@ returns-in-Err-write_whole-clause-refused g c = λ t. refuses _ _ _ _ _ (c.in-Er
 
 -- nothing can be printed
 
-pub returns-in-Err-printed-clause-others : goal.returns-in-Err-printed-clause-others
-returns-in-Err-printed-clause-others g c = λ t.
+pub returns-clause-others : goal.returns-clause-others
+returns-clause-others g c = λ t.
     only_behind _ _ _ _ _ _ _ _ (c.in_ok-source.ensures.opened t) (c.in_ok-source.ensures.world t)
     (only_written _ _ _ _ _ _ (c.in_ok-image.ensures.created t) (c.in-Ok-write_whole.ensures.rest t))
 
-pub returns-in-Err-printed-clause-input : goal.returns-in-Err-printed-clause-input
-returns-in-Err-printed-clause-input g c = λ t.
+pub returns-clause-input : goal.returns-clause-input
+returns-clause-input g c = λ t.
     kept_behind _ _ _ _ _ _ _ _ (c.in_ok-source.ensures.opened t) (c.in_ok-source.ensures.world t)
     (only_written _ _ _ _ _ _ (c.in_ok-image.ensures.created t) (c.in-Ok-write_whole.ensures.rest t))
 
-pub returns-in-Err-printed-clause-whole : goal.returns-in-Err-printed-clause-whole
-returns-in-Err-printed-clause-whole g c = λ t o.
+pub returns-clause-whole : goal.returns-clause-whole
+returns-clause-whole g c = λ t o.
     part_whole _ _ _ _ _ c.in-Ok-write_whole.end.0 _ _ _ _ _ _ _ c.in-Ok.ensures.size (c.in_ok-source.ensures.opened t) (c.in_ok-image.ensures.created t)
     (c.in-Ok-write_whole.ensures.holds t)
 
