@@ -12,7 +12,6 @@ use abt_sparsify::{Written, sparsify};
 use sparse_rules::{Blocks, SparseCommandFault};
 
 /// Lays the sparse image of a raw one, its magic last.
-#[tactic(auto, using(crate::proofs::Answered::broken))]
 pub(crate) fn lay_image<S: Source, O: Overwrite>(
     source: &mut S,
     blocks: Blocks,
