@@ -1,3 +1,4 @@
 pub mod Closings
 pub mod Files
+pub mod Images
 pub mod Worlds

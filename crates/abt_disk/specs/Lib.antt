@@ -1,3 +1,4 @@
+pub mod Images
 pub mod InPlace
 pub mod Memory
 pub mod World

@@ -1,11 +1,13 @@
 //! What a command asks of the system, and what contracts know of it.
 
-ghost use Rattle.std.specs.Prelude.{◌≡◌, [], None, Bool, IsTrue, IfOk, OnOk, OnErr, is_ok};
+ghost use Rattle.std.specs.Prelude.{◌≡◌, ℕ, List, [], None, Bool, IsTrue, IfOk, OnOk, OnErr, is_ok};
 ghost use Rattle.abt_io.specs.Moment.{no_past};
 ghost use Rattle.abt_refusals.specs.Paths.{path_in, path_of, path_out};
+ghost use Rattle.abt_disk.specs.Images.{is_file, OfImage, Leaves, EmptiesAt};
 ghost use Rattle.abt_disk.specs.InPlace.{OpensPart, IsAsLong, closed};
 ghost use Rattle.abt_disk.specs.World.{World, Held, Opens, Creates, OnlyAt, Ends, SparesRest, ended, given_up};
 
+use crate::{ImageTo, Late};
 use abt_io::{Input, Output, Partition, Source};
 use abt_refusals::{HostRefusal, Place};
 
@@ -38,6 +40,9 @@ pub trait Disk {
     /// What is written in place.
     type Part: Partition + Drop;
 
+    /// A regular file that an image goes to, which is written over.
+    type Image: Late + Reasons + Drop;
+
     /// It tells what its files hold.
     ghost tells: { Bool };
 
@@ -46,6 +51,9 @@ pub trait Disk {
 
     /// What was opened.
     ghost held: { Self → Held };
+
+    /// Which paths lead to regular files, where an image can be written over.
+    ghost is_over: { List ℕ → Bool };
 
     /// Opens what is read forward. `-` is standard input.
     fn input<'a>(&mut self, place: Place<'a>) -> Result<Self::From, HostRefusal<'a>>
@@ -92,6 +100,23 @@ pub trait Disk {
         ensures only { IsTrue tells → OnErr result (OnlyAt (held self.old).read (path_out place.entry)
             (world self.old) (world self.new)) };
 
+    /// Creates or empties the file of an image that has a magic. `-` is standard output.
+    fn image<'a>(
+        &mut self,
+        place: Place<'a>,
+    ) -> Result<ImageTo<Self::Image, Self::Onto>, HostRefusal<'a>>
+        requires one { IsTrue tells → (held self.old).output ≡ None }
+        ensures empty { IfOk result (OfImage (λ file. Self.Image.Output.written file ≡ [])
+            (λ onto. Self.Onto.written onto ≡ [])) }
+        ensures kind { IsTrue tells → IfOk result (λ image. is_file image ≡ is_over (path_out place.entry)) }
+        ensures created { IsTrue tells → OnOk result (Creates (path_out place.entry) (held self.old) (held self.new)
+            (world self.old) (world self.new)) }
+        ensures kept { IsTrue tells → OnErr result (held self.new ≡ held self.old) }
+        ensures only { IsTrue tells → OnErr result (OnlyAt (held self.old).read (path_out place.entry)
+            (world self.old) (world self.new)) }
+        ensures empties { IsTrue tells → OnErr result (EmptiesAt (path_out place.entry) (world self.old)
+            (world self.new)) };
+
     /// Brings the output that is open to its end: all that it took is in its file, and synced where that is wanted.
     /// Answers whether it is where standard output goes.
     fn finish<'a>(&mut self, onto: Self::Onto, place: Place<'a>) -> Result<bool, HostRefusal<'a>>
@@ -102,6 +127,28 @@ pub trait Disk {
 
     /// Lets the output go that is open, where the work before failed.
     fn give_up(&mut self, onto: Self::Onto)
+        ensures closed { IsTrue tells → held self.new ≡ given_up (held self.old) }
+        ensures rest { IsTrue tells → SparesRest (held self.old).output (world self.old) (world self.new) };
+
+    /// Brings the image that is open to its end, as `finish` does. Where that cannot be done, its file holds all the
+    /// same, or nothing at its front.
+    fn finish_image<'a>(
+        &mut self,
+        image: Self::Image,
+        place: Place<'a>,
+    ) -> Result<bool, HostRefusal<'a>>
+        ensures ended { IsTrue tells → OnOk result (Ends (held self.old).output (Self.Image.Output.written image)
+            (world self.old) (world self.new)) }
+        ensures left { IsTrue tells → OnErr result (Leaves (held self.old).output (Self.Image.Output.written image)
+            (world self.new)) }
+        ensures closed { IsTrue tells → held self.new ≡ ended (is_ok result) (held self.old) }
+        ensures rest { IsTrue tells → SparesRest (held self.old).output (world self.old) (world self.new) };
+
+    /// Lets the image go that is open, where the work before failed. Its file holds what was written, or nothing at its
+    /// front.
+    fn give_up_image(&mut self, image: Self::Image)
+        ensures left { IsTrue tells → Leaves (held self.old).output (Self.Image.Output.written image)
+            (world self.new) }
         ensures closed { IsTrue tells → held self.new ≡ given_up (held self.old) }
         ensures rest { IsTrue tells → SparesRest (held self.old).output (world self.old) (world self.new) };
 

@@ -2,10 +2,14 @@
 
 ghost use Rattle.std.specs.Prelude.{◌≡◌, [], Some, None, true, false, string_bytes, IsTrue, IfOk, OnOk, OnErr};
 ghost use Rattle.std.specs.Prelude.{Contains, get_or, is_ok};
+ghost use Rattle.abt_disk.specs.Images.{is_over, HoldsSame, Leaves};
 ghost use Rattle.abt_disk.specs.Memory.{contents, leads, world_of, held_of};
 ghost use Rattle.abt_disk.specs.World.{Creates, OnlyAt, Spares, Ends, SparesRest, beginning, given_up};
 
-use crate::{Disk, Faults, MemoryInput, MemoryOutput, MemoryPartition, MemorySource};
+use crate::memory_image::torn;
+use crate::{
+    Disk, Faults, ImageTo, MemoryImage, MemoryInput, MemoryOutput, MemoryPartition, MemorySource,
+};
 use abt_io::Tally;
 use abt_refusals::{HostFault, HostRefusal, Place};
 use std::alloc::{AllocError, Global};
@@ -103,6 +107,7 @@ impl MemoryDisk {
         ensures kept { OnErr result (held_of self.new ≡ held_of self.old) }
         ensures only { OnErr result (OnlyAt self.old.read.items (string_bytes path) (world_of self.old)
             (world_of self.new)) }
+        ensures same { OnErr result (HoldsSame (world_of self.old) (world_of self.new)) }
     {
         match self.file_at(path.as_str()) {
             Some(file) => self.empty(file),
@@ -154,6 +159,7 @@ impl MemoryDisk {
         ensures free { IfOk result (λ file. ¬ Contains self.old.read.items file) }
         ensures only { OnErr result (OnlyAt self.old.read.items (string_bytes path) (world_of self.old)
             (world_of self.new)) }
+        ensures same { HoldsSame (world_of self.old) (world_of self.new) }
     {
         let file = self.files.len() as u64;
         if self.is_taken(file) {
@@ -176,6 +182,7 @@ impl MemoryDisk {
         ensures ended { IsTrue result → Ends self.old.output bytes.items (world_of self.old) (world_of self.new) }
         ensures closed { held_of self.new ≡ given_up (held_of self.old) }
         ensures rest { SparesRest self.old.output (world_of self.old) (world_of self.new) }
+        ensures left { Leaves self.old.output bytes.items (world_of self.new) }
     {
         let Some(file) = self.output.take() else {
             return true;
@@ -209,11 +216,15 @@ impl Disk for MemoryDisk {
 
     type Part = MemoryPartition;
 
+    type Image = MemoryImage;
+
     ghost tells = { true };
 
     ghost world = { world_of };
 
     ghost held = { held_of };
+
+    ghost is_over = { is_over };
 
     ghost told = { λ t. t };
 
@@ -283,5 +294,50 @@ impl Disk for MemoryDisk {
 
     fn give_up(&mut self, onto: MemoryOutput) {
         self.put(onto.bytes);
+    }
+
+    fn image<'a>(
+        &mut self,
+        place: Place<'a>,
+    ) -> Result<ImageTo<MemoryImage, MemoryOutput>, HostRefusal<'a>> {
+        if self.faults.calls.is_over() {
+            return Err(HostRefusal::at(HostFault::CannotOpen, place, None));
+        }
+        let Ok(path) = place.path_written(self.alloc) else {
+            return Err(HostRefusal::memory());
+        };
+        let is_over = path.as_str() != "/dev/stdout";
+        let bytes = Vec::new(self.alloc);
+        let writes = self.faults.writes;
+        match self.begin(path) {
+            Ok(()) if is_over => Ok(ImageTo::File(MemoryImage::new(bytes, writes))),
+            Ok(()) => Ok(ImageTo::Stream(MemoryOutput::new(bytes, writes))),
+            Err(fault) => Err(HostRefusal::at(fault, place, None)),
+        }
+    }
+
+    fn finish_image<'a>(
+        &mut self,
+        image: MemoryImage,
+        place: Place<'a>,
+    ) -> Result<bool, HostRefusal<'a>> {
+        let is_over = self.faults.calls.is_over();
+        let bytes = if is_over {
+            torn(image.bytes)
+        } else {
+            image.bytes
+        };
+        if !self.put(bytes) || is_over {
+            return Err(HostRefusal::at(HostFault::Write, place, None).begun(place));
+        }
+        let is_synced = self.is_synced;
+        if is_synced {
+            self.syncs.add(1);
+        }
+        Ok(false)
+    }
+
+    fn give_up_image(&mut self, image: MemoryImage) {
+        self.put(image.bytes);
     }
 }

@@ -5,9 +5,9 @@ ghost use Rattle.std.specs.Prelude.{[], None, false};
 use crate::input_file::InputFile;
 use crate::reading::Reading;
 use crate::writing::Writing;
-use abt_disk::Disk;
+use abt_disk::{Disk, ImageTo};
 use abt_io::{FilePartition, FileSource};
-use abt_output::OutputFile;
+use abt_output::{ImageFile, ImageOutput, OutputFile};
 use abt_refusals::{HostRefusal, Place};
 
 /// What a run does with files. It tells nothing of what they hold.
@@ -34,11 +34,15 @@ impl Disk for Host {
 
     type Part = FilePartition;
 
+    type Image = ImageFile;
+
     ghost tells = { false };
 
     ghost world = { λ _. record { at = λ _. None; holds = λ _. [] } };
 
     ghost held = { λ _. record { read = []; begun = []; output = None; part = None; spool = None; is_synced = false; syncs = 0 } };
+
+    ghost is_over = { λ _. false };
 
     ghost told = { λ t. t };
 
@@ -75,5 +79,43 @@ impl Disk for Host {
 
     fn give_up(&mut self, onto: OutputFile) {
         onto.give_up()
+    }
+
+    fn source<'a>(&mut self, place: Place<'a>) -> Result<FileSource, HostRefusal<'a>> {
+        self.writing.reading.source(place)
+    }
+
+    fn partition<'a>(&mut self, place: Place<'a>) -> Result<FilePartition, HostRefusal<'a>> {
+        self.writing.partition(place)
+    }
+
+    fn close(&mut self, part: FilePartition) -> bool {
+        self.writing.written_in_place(part).is_data_on_output()
+    }
+
+    fn image<'a>(
+        &mut self,
+        place: Place<'a>,
+    ) -> Result<ImageTo<ImageFile, OutputFile>, HostRefusal<'a>> {
+        match self.writing.gathered_image(place) {
+            Ok(ImageOutput::File(front)) => Ok(ImageTo::File(front.output)),
+            Ok(ImageOutput::Stream(output)) => Ok(ImageTo::Stream(output)),
+            Err(refusal) => Err(refusal),
+        }
+    }
+
+    fn finish_image<'a>(
+        &mut self,
+        image: ImageFile,
+        place: Place<'a>,
+    ) -> Result<bool, HostRefusal<'a>> {
+        match image.finish(place) {
+            Ok(finished) => Ok(finished.is_data_on_output()),
+            Err(refusal) => Err(refusal),
+        }
+    }
+
+    fn give_up_image(&mut self, image: ImageFile) {
+        image.give_up()
     }
 }

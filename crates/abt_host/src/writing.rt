@@ -1,6 +1,7 @@
 //! All that a command writes, once all that it reads is open.
 
 ghost use Rattle.std.specs.Prelude.{◌≡◌, ◌≤◌, ◌↔◌, ◌⊎◌, [], true, IsTrue, OnOk, OnErr, IfOk, IfErr};
+ghost use Rattle.abt_output.specs.Blank.{IsBlank};
 ghost use Rattle.abt_output.specs.Given.{given};
 ghost use Rattle.abt_io.specs.Frame.{nothing_logged};
 ghost use Rattle.abt_host.specs.Access.{writes};
@@ -75,6 +76,7 @@ impl Writing {
     /// and at its end, so this is for who waits for nobody meanwhile.
     pub fn gathered_image<'a>(&mut self, place: Place<'a>) -> Result<ImageOutput, HostRefusal<'a>>
         ensures writes { OnOk result (WritesOne self.old self.new) }
+        ensures blank { IfOk result IsBlank }
     {
         self.image_of(place, true)
     }
@@ -85,6 +87,7 @@ impl Writing {
         is_gathered: bool,
     ) -> Result<ImageOutput, HostRefusal<'a>>
         ensures writes { OnOk result (WritesOne self.old self.new) }
+        ensures blank { IfOk result IsBlank }
     {
         if place.is_standard() {
             return Ok(ImageOutput::Stream(self.standard(place)?));

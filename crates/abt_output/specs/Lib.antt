@@ -1,3 +1,4 @@
+pub mod Blank
 pub mod Follows
 pub mod Given
 pub mod Shows

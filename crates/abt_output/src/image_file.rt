@@ -5,6 +5,7 @@ ghost use Rattle.std.specs.Prelude.{◌≡◌, [], false, length, IfOk};
 ghost use Rattle.abt_output.specs.Given.{given};
 
 use crate::output_file::{Finished, OutputFile};
+use abt_disk::{Late, Reasons};
 use abt_io::{DeviceFault, Output, Overwrite};
 use abt_refusals::{HostFault, HostRefusal, Place};
 
@@ -82,5 +83,17 @@ impl Overwrite for ImageFile {
 
     fn write_over(&mut self, at: u64, bytes: &[u8]) -> Result<usize, DeviceFault> {
         self.output.to.put(at, bytes)
+    }
+}
+
+impl Late for ImageFile {
+    fn settle(&mut self) -> Result<(), DeviceFault> {
+        self.output.settle()
+    }
+}
+
+impl Reasons for ImageFile {
+    fn why(&self) -> Option<i32> {
+        self.output.why()
     }
 }

@@ -9,6 +9,7 @@
 //! | `made.rt` | a disk of these paths and files, and what it holds |
 //! | `expanding.rt` | `expand` |
 //! | `in_place.rt` | `flash`, `flash --raw`, `verify`, `verify --raw` and `list` |
+//! | `sparsing.rt` | `sparse` |
 #![tactic(auto)]
 
 #[cfg(test)]
@@ -17,3 +18,5 @@ mod expanding;
 mod in_place;
 #[cfg(test)]
 mod made;
+#[cfg(test)]
+mod sparsing;

@@ -1,10 +1,10 @@
 //! Which blocks a raw image has.
 
-ghost use Rattle.std.specs.Prelude.{◌≡◌, ◌<◌, ◌≤◌, ◌+◌, ◌*◌, ◌^◌, IfErr, IfOk, OnOk};
+ghost use Rattle.std.specs.Prelude.{◌≡◌, ◌<◌, ◌≤◌, ◌+◌, ◌-◌, ◌*◌, ◌^◌, IfErr, IfOk, OnOk};
 ghost use Rattle.abt_runs.specs.Raw.{Refused};
-ghost use Rattle.sparse_rules.specs.Blocks.{IsBlockSize};
+ghost use Rattle.sparse_rules.specs.Blocks.{IsBlockSize, most_of};
 
-use abt_io::FileSource;
+use abt_io::Source;
 use abt_runs::{BlockRuns, RawRuns, RunFault};
 
 /// How many bytes of data a raw chunk has at most: whole blocks in 64 MiB.
@@ -22,10 +22,12 @@ pub struct Blocks {
 }
 
 /// The blocks of a raw image. A block size that no raw image has is refused before it divides.
-pub fn blocks_of(source: &FileSource, size: u32) -> Result<Blocks, RunFault>
+pub fn blocks_of<S: Source>(source: &S, size: u32) -> Result<Blocks, RunFault>
     ensures size { IfOk result (λ blocks. blocks.size ≡ size) }
+    ensures most { IfOk result (λ blocks. blocks.most ≡ most_of size) }
     ensures granted { OnOk result (IsBlockSize size) }
-    ensures refused { IfErr result (λ fault. Refused fault size source.now.size) }
+    ensures few { OnOk result (S.size source.now ≤ (2 ^ 32 - 1) * size) }
+    ensures refused { IfErr result (λ fault. Refused fault size (S.size source.now)) }
 {
     let runs = RawRuns::open(source, size)?;
     let most = CHUNK_DATA / runs.block_size();

@@ -1,0 +1,135 @@
+-- What opening, creating and ending leave together.
+use Rattle.std.proofs.Common.{inl, inr, arith, ◌⊎◌, ◌+◌, ◌≡◌, ◌≢◌, ◌<◌, ℕ, List, [], ◌∷◌, ◌++◌, length, Option, Some, None, Bool, true, refl, sym, ◌∙◌, ap, subst}
+use Rattle.std.specs.Prelude.{Contains, unwrap_or, IsTrue, if◌then◌else◌, ◌&&◌}
+use Rattle.std.proofs.lemmas.List.Elements.{Contains-append_left, Contains-push}
+use Rattle.abt_runs.specs.declared.part.RunFault.{RunFault}
+use Rattle.abt_runs.specs.Raw.{Refused}
+use Rattle.abt_sparsify.specs.declared.count.Written.{Written}
+use Rattle.abt_disk.specs.Images.{EmptiesAt}
+use Rattle.abt_disk.specs.World.{World, Held, Spares, Opens, Creates, OnlyAt, untouched, in_output, SparesRest, Keeps, reading, beginning, ended}
+use Rattle.abt_disk.proofs.Files.{spares_trans}
+use Rattle.abt_disk.proofs.Worlds.{apart}
+use Rattle.sparse_rules.specs.Blocks.{IsBlockSize}
+use Rattle.sparse_rules.specs.Lines.{text_of}
+use Rattle.sparse_rules.specs.declared.lines.Line.TheVariants as lines
+use Rattle.sparse_rules.specs.declared.fault.SparseCommandFault.{SparseCommandFault}
+use Rattle.sparse_rules.specs.declared.fault.SparseCommandFault.TheVariants as faults
+use Rattle.image_bodies.specs.Sparsing.{SparsifiesFile, HoldsNoPart, HoldsImage, HasNoBlocks, IsOutside, RefusesRaw, IsWritten, HoldsWritten, LeavesNoPart, HoldsNone, image_of_raw, blocks_of_raw, chunks_of_raw}
+
+one : (o : Option ℕ) (f g : ℕ) → o ≡ Some f → o ≡ Some g → f ≡ g
+one o f g a b = ap (λ p. unwrap_or p 0) (sym a ∙ b)
+
+-- an output that was created, and then brought to its end or let go
+after : (path : List ℕ) (h h' : Held) (a b c : World) (made : Creates path h h' a b) → SparesRest h'.output b c
+    → Spares made.file b c
+after path h h' a b c made rest = subst (λ k. SparesRest k.output b c) made.begins rest
+
+-- the output may be opened
+pub none_open : (input bytes : List ℕ) (h h' : Held) (a : World) → Opens a input bytes h h' → h.output ≡ None
+    → h'.output ≡ None
+none_open input bytes h h' a opened none = ap (λ k. k.output) opened.taken ∙ none
+
+-- ---- what OUT holds
+
+pub part_same : (input output : List ℕ) (size : ℕ) (a c : World) → c ≡ a → HoldsNoPart input output size a c
+part_same input output size a c same = λ file _. inl (ap (λ w. w.holds file) same)
+
+nothing : (x : List ℕ) → x ≡ [] → HoldsNone x
+nothing x e = inl (subst (λ l. length l < 4) (sym e) (omega arith))
+
+-- the output could not be opened
+pub part_emptied : (input output : List ℕ) (size : ℕ) (a b c : World) → b ≡ a → EmptiesAt output b c
+    → HoldsNoPart input output size a c
+part_emptied input output size a b c same empties = λ file at. elim (empties file at) [
+  | inl kept ↦ inl (kept ∙ ap (λ w. w.holds file) same)
+  | inr none ↦ inr (inl (nothing _ none))
+]
+
+-- it was begun, and could not be brought to its end
+pub part_left : (input output bytes : List ℕ) (size n : ℕ) (h h' h'' : Held) (a b c d : World) → n ≡ size
+    → Opens a input bytes h h' → Creates output h' h'' b c → SparesRest h''.output c d
+    → LeavesNoPart n bytes h''.output d → HoldsNoPart input output size a d
+part_left input output bytes size n h h' h'' a b c d sized opened made rest left = λ file at.
+    let t : Spares made.file c d = after output h' h'' b c d made rest in
+    let is : made.file ≡ file = one (d.at output) made.file file (t.paths output made.file made.there) at in
+    let so : LeavesNoPart size bytes h''.output d = subst (λ k. LeavesNoPart k bytes h''.output d) sized left in
+    let it : HoldsNone (d.holds made.file) ⊎ (d.holds made.file ≡ image_of_raw size bytes)
+    = subst (λ k. LeavesNoPart size bytes k.output d) made.begins so in
+    inr (elim (subst (λ f. HoldsNone (d.holds f) ⊎ (d.holds f ≡ image_of_raw size bytes)) is it) [
+      | inl broken ↦ inl broken
+      | inr whole ↦ inr (record {
+        from = opened.file;
+        there = opened.there;
+        holds = whole ∙ ap (image_of_raw size) opened.held;
+      })
+    ])
+
+-- it was brought to its end
+pub part_whole : (input output bytes : List ℕ) (size n : ℕ) (x : Written) (h h' h'' : Held) (a b c d : World)
+    → n ≡ size → Opens a input bytes h h' → Creates output h' h'' b c → HoldsWritten n bytes x h''.output c d
+    → HoldsNoPart input output size a d
+part_whole input output bytes size n x h h' h'' a b c d sized opened made has = λ file at.
+    let so : HoldsWritten size bytes x h''.output c d = subst (λ k. HoldsWritten k bytes x h''.output c d) sized has in
+    let it : IsWritten size bytes x (d.holds made.file) × Spares made.file c d
+    = subst (λ k. HoldsWritten size bytes x k.output c d) made.begins so in
+    let is : made.file ≡ file = one (d.at output) made.file file (it.1.paths output made.file made.there) at in
+    inr (inr (record {
+      from = opened.file;
+      there = opened.there;
+      holds = ap (λ f. d.holds f) (sym is) ∙ it.0.holds ∙ ap (image_of_raw size) opened.held;
+    }))
+
+-- ---- why it is refused
+
+pub no_blocks : (path bytes : List ℕ) (size long : ℕ) (h h' : Held) (a b : World) (f : RunFault)
+    (told : SparseCommandFault) → Opens a path bytes h h' → b ≡ a → long ≡ length bytes → Refused f size long
+    → told ≡ faults.Run f → RefusesRaw path size a b told
+no_blocks path bytes size long h h' a b f told opened same is refused told_is =
+    subst (λ k. RefusesRaw path size a b k) (sym told_is) (record {
+      file = opened.file;
+      there = opened.there;
+      fails = subst (λ n. Refused f size n) (is ∙ ap length opened.held) refused;
+      untouched = same;
+    })
+
+pub refuses : (path : List ℕ) (size : ℕ) (a b : World) (f : SparseCommandFault) → IsOutside f → RefusesRaw path size a b f
+refuses path size a b (faults.Sparse f) h = absurd h
+refuses path size a b (faults.Run f) h = absurd h
+refuses path size a b (faults.Piece f) h = h
+refuses path size a b (faults.Flash f) h = absurd h
+refuses path size a b (faults.Verify f) h = absurd h
+refuses path size a b (faults.OtherBlocks image) h = absurd h
+refuses path size a b (faults.Host f) h = tt
+
+-- ---- all is done
+
+pub sparsifies : (input output bytes : List ℕ) (size n : ℕ) (x : Written) (h h' h'' : Held) (a b c d : World)
+    (shows : List ℕ → Type 0) → n ≡ size → IsBlockSize size → Opens a input bytes h h' → b ≡ a
+    → Creates output h' h'' b c → HoldsWritten n bytes x h''.output c d
+    → shows (text_of (lines.Sparse x.blocks x.chunks x.bytes) ++ (10 ∷ []))
+    → SparsifiesFile input output size a d shows
+sparsifies input output bytes size n x h h' h'' a b c d shows sized_as good opened same made has shown =
+    let so : HoldsWritten size bytes x h''.output c d = subst (λ k. HoldsWritten k bytes x h''.output c d) sized_as has in
+    let it : IsWritten size bytes x (d.holds made.file) × Spares made.file c d
+    = subst (λ k. HoldsWritten size bytes x k.output c d) made.begins so in
+    let spared : Spares made.file a c = subst (λ w. Spares made.file w c) same made.spares in
+    let one_ : shows (text_of (lines.Sparse (blocks_of_raw size bytes) x.chunks x.bytes) ++ (10 ∷ []))
+    = subst (λ n. shows (text_of (lines.Sparse n x.chunks x.bytes) ++ (10 ∷ []))) it.0.blocks shown in
+    let two : shows (text_of (lines.Sparse (blocks_of_raw size bytes) (chunks_of_raw size bytes) x.bytes) ++ (10 ∷ []))
+    = subst (λ n. shows (text_of (lines.Sparse (blocks_of_raw size bytes) n x.bytes) ++ (10 ∷ []))) it.0.chunks one_ in
+    let three : shows (text_of (lines.Sparse (blocks_of_raw size bytes) (chunks_of_raw size bytes) (length (d.holds made.file)))
+    ++ (10 ∷ []))
+    = subst (λ n. shows (text_of (lines.Sparse (blocks_of_raw size bytes) (chunks_of_raw size bytes) n) ++ (10 ∷ [])))
+    it.0.long two in
+    record {
+      from = opened.file;
+      onto = made.file;
+      there = opened.there;
+      here = it.1.paths output made.file made.there;
+      apart = apart h.read h'.read opened.file made.file (ap (λ k. k.read) opened.taken) made.free;
+      sized = good;
+      holds = it.0.holds ∙ ap (image_of_raw size) opened.held;
+      spares = spares_trans made.file a c d spared it.1;
+      shown = subst (λ y. shows (text_of (lines.Sparse (blocks_of_raw size y) (chunks_of_raw size y)
+          (length (d.holds made.file))) ++ (10 ∷ []))) opened.held three;
+    }

@@ -1,0 +1,108 @@
+-- What the command `sparse` leaves of files, and what it prints.
+use Rattle.std.specs.Prelude.{◌≡◌, ◌≢◌, ◌<◌, ◌⊎◌, ℕ, List, [], ◌∷◌, ◌++◌, Option, Some, None, length}
+use Rattle.abt_sparse.specs.Block.{classify}
+use Rattle.abt_sparse.specs.Chunk.{chunks_of, spelling}
+use Rattle.abt_runs.specs.declared.part.RunFault.{RunFault}
+use Rattle.abt_runs.specs.Raw.{Refused}
+use Rattle.abt_pieces.specs.declared.fault.PieceFault.{PieceFault}
+use Rattle.abt_pieces.specs.declared.fault.PieceFault.TheVariants as pieces
+use Rattle.abt_placed.specs.Unfinished.{IsNoImage}
+use Rattle.abt_sparsify.specs.declared.count.Written.{Written}
+use Rattle.abt_disk.specs.World.{World, Spares}
+use Rattle.sparse_rules.specs.Blocks.{IsBlockSize, most_of}
+use Rattle.sparse_rules.specs.Lines.{text_of}
+use Rattle.sparse_rules.specs.declared.fault.SparseCommandFault.{SparseCommandFault}
+use Rattle.sparse_rules.specs.declared.fault.SparseCommandFault.TheVariants as faults
+use Rattle.sparse_rules.specs.declared.lines.Line.TheVariants as lines
+
+-- the sparse image of these bytes in blocks of this size, in how many blocks and chunks
+abbrev pub image_of_raw : ℕ → List ℕ → List ℕ
+image_of_raw size x = spelling size (most_of size) (classify size x)
+
+abbrev pub blocks_of_raw : ℕ → List ℕ → ℕ
+blocks_of_raw size x = length (classify size x)
+
+abbrev pub chunks_of_raw : ℕ → List ℕ → ℕ
+chunks_of_raw size x = length (chunks_of (most_of size) (classify size x))
+
+-- The file at one path held bytes, the one at the other is another file that holds their sparse image and nothing else,
+-- no other file has changed, and the line that was printed has the image's numbers.
+pub record SparsifiesFile (input output : List ℕ) (size : ℕ) (old new : World) (shows : List ℕ → Type 0) : Type 0 where
+  pub from : ℕ
+  pub onto : ℕ
+  pub there : old.at input ≡ Some from
+  pub here : new.at output ≡ Some onto
+  pub apart : from ≢ onto
+  pub sized : IsBlockSize size
+  pub holds : new.holds onto ≡ image_of_raw size (old.holds from)
+  pub spares : Spares onto old new
+  pub shown : shows (text_of (lines.Sparse (blocks_of_raw size (old.holds from)) (chunks_of_raw size (old.holds from))
+      (length (new.holds onto))) ++ (10 ∷ []))
+
+-- what is no image: it has fewer than four bytes, or no reader finds one, whatever follows
+abbrev pub HoldsNone : List ℕ → Type 0
+HoldsNone x = (length x < 4) ⊎ IsNoImage x
+
+-- the file at this path holds the sparse image of what the file at the other one held
+pub record HoldsImage (input : List ℕ) (size : ℕ) (old : World) (bytes : List ℕ) : Type 0 where
+  pub from : ℕ
+  pub there : old.at input ≡ Some from
+  pub holds : bytes ≡ image_of_raw size (old.holds from)
+
+-- whatever the outcome, the file at this path holds what it held, or what is no image, or the whole image
+abbrev pub HoldsNoPart : List ℕ → List ℕ → ℕ → World → World → Type 0
+HoldsNoPart input output size old new = (file : ℕ) → new.at output ≡ Some file → (new.holds file ≡ old.holds file)
+    ⊎ (HoldsNone (new.holds file) ⊎ HoldsImage input size old (new.holds file))
+
+-- the file at this path has no blocks of this size, or too many, and nothing has changed
+pub record HasNoBlocks (path : List ℕ) (size : ℕ) (old new : World) (fault : RunFault) : Type 0 where
+  pub file : ℕ
+  pub there : old.at path ≡ Some file
+  pub fails : Refused fault size (length (old.holds file))
+  pub untouched : new ≡ old
+
+-- a device failed
+abbrev pub IsOfDevices : PieceFault → Type 0
+IsOfDevices (pieces.Read f) = Unit {0}
+IsOfDevices (pieces.Write f) = Unit {0}
+IsOfDevices pieces.SourceChanged = ⊥
+IsOfDevices pieces.TooLarge = ⊥
+IsOfDevices (pieces.BadBlock n) = ⊥
+IsOfDevices (pieces.LimitTooSmall n) = ⊥
+
+-- a fault of the devices or of files
+abbrev pub IsOutside : SparseCommandFault → Type 0
+IsOutside (faults.Sparse f) = ⊥
+IsOutside (faults.Run f) = ⊥
+IsOutside (faults.Piece f) = IsOfDevices f
+IsOutside (faults.Flash f) = ⊥
+IsOutside (faults.Verify f) = ⊥
+IsOutside (faults.OtherBlocks image) = ⊥
+IsOutside (faults.Host f) = Unit {0}
+
+-- the block size is none that the file at this path has, which is told before anything is touched; or a device failed
+abbrev pub RefusesRaw : List ℕ → ℕ → World → World → SparseCommandFault → Type 0
+RefusesRaw path size old new (faults.Run f) = HasNoBlocks path size old new f
+RefusesRaw path size old new (faults.Piece f) = IsOfDevices f
+RefusesRaw path size old new (faults.Host f) = Unit {0}
+RefusesRaw path size old new (faults.Sparse f) = ⊥
+RefusesRaw path size old new (faults.Flash f) = ⊥
+RefusesRaw path size old new (faults.Verify f) = ⊥
+RefusesRaw path size old new (faults.OtherBlocks image) = ⊥
+
+-- these are the numbers of the sparse image of these bytes, and behind nothing it was written
+pub record IsWritten (size : ℕ) (x : List ℕ) (a : Written) (bytes : List ℕ) : Type 0 where
+  pub blocks : a.blocks ≡ blocks_of_raw size x
+  pub chunks : a.chunks ≡ chunks_of_raw size x
+  pub long : a.bytes ≡ length bytes
+  pub holds : bytes ≡ image_of_raw size x
+
+-- the output that was open holds the sparse image of these bytes, which has these numbers
+abbrev pub HoldsWritten : ℕ → List ℕ → Written → Option ℕ → World → World → Type 0
+HoldsWritten size x a None old new = Unit {0}
+HoldsWritten size x a (Some file) old new = IsWritten size x a (new.holds file) × Spares file old new
+
+-- the output that was open holds no part of the sparse image of these bytes, but nothing of it or all
+abbrev pub LeavesNoPart : ℕ → List ℕ → Option ℕ → World → Type 0
+LeavesNoPart size x None new = Unit {0}
+LeavesNoPart size x (Some file) new = HoldsNone (new.holds file) ⊎ (new.holds file ≡ image_of_raw size x)

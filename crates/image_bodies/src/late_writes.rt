@@ -1,0 +1,43 @@
+//! What is told of a command that stopped, where its file is written late.
+
+ghost use Rattle.std.specs.Prelude.{◌≡◌, IsTrue, IfErr, IfOk, OnOk};
+ghost use Rattle.abt_disk.specs.Images.{Leaves};
+ghost use Rattle.abt_disk.specs.World.{SparesRest, given_up};
+ghost use Rattle.image_bodies.specs.Sparsing.{IsOutside};
+
+use abt_disk::{Disk, Late, Reasons};
+use abt_io::DeviceFault;
+use abt_pieces::PieceFault;
+use abt_refusals::{Place, Sides};
+use sparse_rules::{SparseCommandFault, SparseRefusal};
+
+/// Lets an image go, and refuses the command for this fault, or for a write that came before it and could not be done.
+pub(crate) fn stopped<'a, D: Disk>(
+    disk: &mut D,
+    fault: SparseCommandFault,
+    image: D::Image,
+    output: Place<'a>,
+    sides: Sides<'a>,
+) -> SparseRefusal<'a>
+    ensures left { IsTrue D.tells → Leaves (D.held disk.old).output (D.Image.Output.written image) (D.world disk.new) }
+    ensures closed { IsTrue D.tells → D.held disk.new ≡ given_up (D.held disk.old) }
+    ensures rest { IsTrue D.tells → SparesRest (D.held disk.old).output (D.world disk.old) (D.world disk.new) }
+    ensures outside { IsOutside fault → IsOutside result.fault }
+{
+    let mut image = image;
+    let fault = first_of(image.settle(), fault);
+    let sides = sides.begun(output, image.why());
+    disk.give_up_image(image);
+    sides.refuse(fault)
+}
+
+// Of a write and a fault behind it the first.
+fn first_of(settled: Result<(), DeviceFault>, fault: SparseCommandFault) -> SparseCommandFault
+    ensures settled { OnOk settled (result ≡ fault) }
+    ensures refused { IfErr settled (λ device. result ≡ SparseCommandFault.Piece (PieceFault.Write device)) }
+{
+    match settled {
+        Ok(()) => fault,
+        Err(device) => SparseCommandFault::Piece(PieceFault::Write(device)),
+    }
+}

@@ -1,0 +1,93 @@
+//! The body of the command `sparse`.
+
+ghost use Rattle.std.specs.Prelude.{◌≡◌, ◌+◌, ◌++◌, ◌∷◌, [], None, IsTrue, IfErr, OnOk, if◌then◌else◌};
+ghost use Rattle.abt_disk.specs.World.{IsReading, OnlyAt, Keeps};
+ghost use Rattle.abt_output.specs.Shows.{Shows};
+ghost use Rattle.abt_refusals.specs.Paths.{path_of, path_out};
+ghost use Rattle.sparse_rules.specs.Lines.{text_of};
+ghost use Rattle.image_bodies.specs.Sparsing.{SparsifiesFile, HoldsNoPart, RefusesRaw};
+
+use crate::writing::write_whole;
+use abt_disk::Disk;
+use abt_io::{Meter, Source, Window};
+use abt_output::Report;
+use abt_refusals::{HostRefusal, Place, Sides};
+use abt_sparsify::Written;
+use sparse_rules::{Line, SparseCommandFault, SparseRefusal, blocks_of};
+
+/// Writes the sparse image of a raw one, and prints what it has.
+///
+/// The block size is judged before OUT is created or emptied.
+#[inline(never)]
+pub fn sparse_file<'a, D: Disk>(
+    disk: &mut D,
+    report: &mut Report,
+    input: Place<'a>,
+    output: Place<'a>,
+    block: u32,
+    w: &mut Window,
+    m: &mut Meter,
+) -> Result<(), SparseRefusal<'a>>
+    requires first { IsTrue D.tells → IsReading (D.held disk.old) }
+    // OUT is another file than IN, and holds the sparse image of what IN holds; what was printed tells of it
+    ensures done { IsTrue D.tells → OnOk result (SparsifiesFile (path_of input.entry) (path_out output.entry) block
+        (D.world disk.old) (D.world disk.new) (Shows report.old report.new)) }
+    // it was synced, where that is wanted
+    ensures synced { IsTrue D.tells → OnOk result ((D.held disk.new).syncs
+        ≡ (D.held disk.old).syncs + (if (D.held disk.old).is_synced then 1 else 0)) }
+    // whatever the outcome, OUT alone may hold anything else, IN holds what it held, and a file has no part of an image
+    ensures others { IsTrue D.tells → OnlyAt (D.held disk.old).read (path_out output.entry) (D.world disk.old)
+        (D.world disk.new) }
+    ensures closed { IsTrue D.tells → (D.held disk.new).output ≡ None }
+    ensures input { IsTrue D.tells → Keeps (path_of input.entry) (D.world disk.old) (D.world disk.new) }
+    ensures whole { IsTrue D.tells → IsTrue (D.is_over (path_out output.entry)) → HoldsNoPart (path_of input.entry)
+        (path_out output.entry) block (D.world disk.old) (D.world disk.new) }
+    // it is refused for a block size that IN hasn't, before anything is touched, or for a fault of files or devices
+    ensures refused { IsTrue D.tells → IfErr result (λ refusal. RefusesRaw (path_of input.entry) block
+        (D.world disk.old) (D.world disk.new) refusal.fault) }
+{
+    let mut source = disk.source(input)?;
+    let sides = Sides::none().reading(input, None);
+    let blocks = match blocks_of(&source, block) {
+        Ok(blocks) => blocks,
+        Err(fault) => return Err(sides.refuse(SparseCommandFault::Run(fault))),
+    };
+    report.progress.expect(source.length(), 1);
+    let image = disk.image(output)?;
+    let (written, is_on_output) = match write_whole(
+        disk,
+        &mut source,
+        blocks,
+        image,
+        output,
+        sides,
+        &mut report.progress,
+        w,
+        m,
+    ) {
+        Ok(end) => end,
+        Err(refusal) => return Err(refusal),
+    };
+    match printed(written, is_on_output, report) {
+        Ok(()) => Ok(()),
+        Err(refusal) => Err(refusal.into()),
+    }
+}
+
+// Its text takes more of the stack than all else here, and none of it while the image is written.
+#[inline(never)]
+fn printed<'a>(
+    written: Written,
+    is_on_output: bool,
+    report: &mut Report,
+) -> Result<(), HostRefusal<'a>>
+    ensures { OnOk result (Shows report.old report.new (text_of (Line.Sparse written.blocks written.chunks written.bytes)
+        ++ (10 ∷ []))) }
+{
+    let line = Line::Sparse {
+        blocks: written.blocks,
+        chunks: written.chunks,
+        bytes: written.bytes,
+    };
+    report.line_beside(is_on_output, line)
+}

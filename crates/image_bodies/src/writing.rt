@@ -1,0 +1,117 @@
+//! The sparse image of a raw one in its file, which is at its end then.
+
+ghost use Rattle.std.specs.Prelude.{◌≡◌, ◌≤◌, ◌-◌, ◌*◌, ◌^◌, [], IsTrue, IfOk, IfErr, OnErr, is_ok};
+ghost use Rattle.abt_disk.specs.Images.{OfImage, is_file};
+ghost use Rattle.abt_disk.specs.World.{SparesRest, ended};
+ghost use Rattle.image_bodies.specs.Sparsing.{HoldsWritten, LeavesNoPart, IsOutside};
+ghost use Rattle.sparse_rules.specs.Blocks.{IsBlockSize, most_of};
+
+use crate::late_writes::stopped;
+use crate::laying::{lay_image, write_image};
+use abt_disk::{Disk, ImageTo, Reasons, ended};
+use abt_io::{Meter, Window};
+use abt_output::Progress;
+use abt_refusals::{Place, Sides};
+use abt_sparsify::Written;
+use sparse_rules::{Blocks, SparseRefusal};
+
+// A pipe or a device gets each header before what it tells of: the raw image is read to count its chunks, to find each
+// run whole, and to copy it. A regular file is written over, and the raw image read once.
+const PASSES: u64 = 3;
+
+/// Writes the sparse image of a raw one to the output that is open, and brings it to its end. What it has, and whether it
+/// is where standard output goes.
+pub(crate) fn write_whole<'a, D: Disk>(
+    disk: &mut D,
+    source: &mut D::At,
+    blocks: Blocks,
+    image: ImageTo<D::Image, D::Onto>,
+    output: Place<'a>,
+    sides: Sides<'a>,
+    progress: &mut Progress,
+    w: &mut Window,
+    m: &mut Meter,
+) -> Result<(Written, bool), SparseRefusal<'a>>
+    requires sized { IsBlockSize blocks.size }
+    requires most { blocks.most ≡ most_of blocks.size }
+    requires few { D.At.size source.old ≤ (2 ^ 32 - 1) * blocks.size }
+    requires empty { OfImage (λ file. D.Image.Output.written file ≡ []) (λ onto. D.Onto.written onto ≡ []) image }
+    ensures holds { IsTrue D.tells → IfOk result (λ end. HoldsWritten blocks.size (D.At.content source.old) end.0
+        (D.held disk.old).output (D.world disk.old) (D.world disk.new)) }
+    ensures closed { IsTrue D.tells → D.held disk.new ≡ ended (is_ok result) (D.held disk.old) }
+    ensures rest { IsTrue D.tells → SparesRest (D.held disk.old).output (D.world disk.old) (D.world disk.new) }
+    ensures broken { IsTrue D.tells → IsTrue (is_file image) → OnErr result (LeavesNoPart blocks.size
+        (D.At.content source.old) (D.held disk.old).output (D.world disk.new)) }
+    ensures outside { IsTrue D.tells → IfErr result (λ refusal. IsOutside refusal.fault) }
+{
+    match image {
+        ImageTo::File(file) => write_over(
+            disk, source, blocks, file, output, sides, progress, w, m,
+        ),
+        ImageTo::Stream(onto) => {
+            progress.repeat(PASSES);
+            write_through(disk, source, blocks, onto, output, sides, progress, w, m)
+        }
+    }
+}
+
+// The same to a file that is written over.
+fn write_over<'a, D: Disk>(
+    disk: &mut D,
+    source: &mut D::At,
+    blocks: Blocks,
+    image: D::Image,
+    output: Place<'a>,
+    sides: Sides<'a>,
+    progress: &mut Progress,
+    w: &mut Window,
+    m: &mut Meter,
+) -> Result<(Written, bool), SparseRefusal<'a>>
+    requires sized { IsBlockSize blocks.size }
+    requires most { blocks.most ≡ most_of blocks.size }
+    requires few { D.At.size source.old ≤ (2 ^ 32 - 1) * blocks.size }
+    requires empty { D.Image.Output.written image ≡ [] }
+    ensures holds { IsTrue D.tells → IfOk result (λ end. HoldsWritten blocks.size (D.At.content source.old) end.0
+        (D.held disk.old).output (D.world disk.old) (D.world disk.new)) }
+    ensures closed { IsTrue D.tells → D.held disk.new ≡ ended (is_ok result) (D.held disk.old) }
+    ensures rest { IsTrue D.tells → SparesRest (D.held disk.old).output (D.world disk.old) (D.world disk.new) }
+    ensures broken { IsTrue D.tells → OnErr result (LeavesNoPart blocks.size (D.At.content source.old)
+        (D.held disk.old).output (D.world disk.new)) }
+    ensures outside { IsTrue D.tells → IfErr result (λ refusal. IsOutside refusal.fault) }
+{
+    let mut image = image;
+    match lay_image(source, blocks, &mut image, progress, w, m) {
+        Ok(written) => match disk.finish_image(image, output) {
+            Ok(is_on_output) => Ok((written, is_on_output)),
+            Err(refusal) => Err(refusal.into()),
+        },
+        Err(fault) => Err(stopped(disk, fault, image, output, sides)),
+    }
+}
+
+// The same to what is written from its front on.
+fn write_through<'a, D: Disk>(
+    disk: &mut D,
+    source: &mut D::At,
+    blocks: Blocks,
+    onto: D::Onto,
+    output: Place<'a>,
+    sides: Sides<'a>,
+    progress: &mut Progress,
+    w: &mut Window,
+    m: &mut Meter,
+) -> Result<(Written, bool), SparseRefusal<'a>>
+    requires sized { IsBlockSize blocks.size }
+    requires most { blocks.most ≡ most_of blocks.size }
+    requires few { D.At.size source.old ≤ (2 ^ 32 - 1) * blocks.size }
+    requires empty { D.Onto.written onto ≡ [] }
+    ensures holds { IsTrue D.tells → IfOk result (λ end. HoldsWritten blocks.size (D.At.content source.old) end.0
+        (D.held disk.old).output (D.world disk.old) (D.world disk.new)) }
+    ensures closed { IsTrue D.tells → D.held disk.new ≡ ended (is_ok result) (D.held disk.old) }
+    ensures rest { IsTrue D.tells → SparesRest (D.held disk.old).output (D.world disk.old) (D.world disk.new) }
+    ensures outside { IsTrue D.tells → IfErr result (λ refusal. IsOutside refusal.fault) }
+{
+    let mut onto = onto;
+    let answer = write_image(source, blocks, &mut onto, progress, w, m);
+    ended(disk, answer, onto, output, sides)
+}
