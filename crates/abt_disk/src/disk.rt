@@ -1,10 +1,10 @@
 //! What a command asks of the system, and what contracts know of it.
 
 ghost use Rattle.std.specs.Prelude.{◌≡◌, [], None, Bool, IsTrue, IfOk, OnOk, OnErr, is_ok};
-ghost use Rattle.abt_refusals.specs.Paths.{path_in, path_out};
-ghost use Rattle.abt_disk.specs.World.{World, Held, Opens, Creates, OnlyAt, Ends, SparesRest, ended, given_up};
+ghost use Rattle.abt_refusals.specs.Paths.{path_in, path_of, path_out};
+ghost use Rattle.abt_disk.specs.World.{World, Held, Opens, Creates, OnlyAt, Ends, SparesRest, IsFree, ended, given_up};
 
-use abt_io::{Input, Output};
+use abt_io::{Input, Output, Source};
 use abt_refusals::{HostRefusal, Place};
 
 /// A device that knows why its last call failed.
@@ -30,6 +30,9 @@ pub trait Disk {
     /// What is written from its front on.
     type Onto: Output + Reasons + Drop;
 
+    /// What is read at any place.
+    type At: Source + Drop;
+
     /// It tells what its files hold.
     ghost tells: { Bool };
 
@@ -46,6 +49,28 @@ pub trait Disk {
             (Self.From.remaining from) (held self.old) (held self.new)) }
         ensures kept { IsTrue tells → OnErr result (held self.new ≡ held self.old) }
         ensures world { IsTrue tells → world self.new ≡ world self.old };
+
+    /// Opens what is read at any place. `-` is a file of that name.
+    fn source<'a>(&mut self, place: Place<'a>) -> Result<Self::At, HostRefusal<'a>>
+        requires first { IsTrue tells → (held self.old).begun ≡ [] }
+        ensures opened { IsTrue tells → IfOk result (λ at. Opens (world self.old) (path_of place.entry)
+            (Self.At.content at) (held self.old) (held self.new)) }
+        ensures kept { IsTrue tells → OnErr result (held self.new ≡ held self.old) }
+        ensures world { IsTrue tells → world self.new ≡ world self.old };
+
+    /// Refuses a path that is going to be written where it leads to a file that is read, or that was begun.
+    fn refuse_taken<'a>(&self, place: Place<'a>) -> Result<(), HostRefusal<'a>>
+        ensures { IsTrue tells → OnOk result (IsFree (path_of place.entry) (held self.now) (world self.now)) };
+
+    /// Creates or empties a file. `-` is a file of that name.
+    fn plain<'a>(&mut self, place: Place<'a>) -> Result<Self::Onto, HostRefusal<'a>>
+        requires one { IsTrue tells → (held self.old).output ≡ None }
+        ensures empty { IfOk result (λ onto. Self.Onto.written onto ≡ []) }
+        ensures created { IsTrue tells → OnOk result (Creates (path_of place.entry) (held self.old) (held self.new)
+            (world self.old) (world self.new)) }
+        ensures kept { IsTrue tells → OnErr result (held self.new ≡ held self.old) }
+        ensures only { IsTrue tells → OnErr result (OnlyAt (held self.old).read (path_of place.entry)
+            (world self.old) (world self.new)) };
 
     /// Creates or empties the file of a raw image. `-` is standard output.
     fn raw<'a>(&mut self, place: Place<'a>) -> Result<Self::Onto, HostRefusal<'a>>
@@ -72,4 +97,6 @@ pub trait Disk {
 
     /// What it opens to be read tells its bytes.
     ghost told: { IsTrue tells → IsTrue Self.From.tells };
+
+    ghost source_told: { IsTrue tells → IsTrue Self.At.tells };
 }

@@ -1,0 +1,109 @@
+//! The bytes of a part, from the image to an output.
+
+ghost use Rattle.std.specs.Prelude.{◌≡◌, ◌<◌, ◌++◌, IsTrue, IfErr, OnOk, length, slice_index_or};
+ghost use Rattle.abt_headers.specs.declared.sections.Place.{Place};
+ghost use Rattle.abt_sections.specs.Header.{fragment_count, fragment_of, places_of, view_of};
+ghost use Rattle.abt_sections.specs.Layout.{part_of};
+ghost use Rattle.abt_sections.specs.Open.{IsOpened};
+ghost use Rattle.boot_bodies.specs.Faults.{IsFaultOf};
+ghost use Rattle.boot_texts.specs.Words.{image_words, words_text};
+
+use abt_io::{Meter, Output, Source, Window};
+use abt_output::{Progress, Watched};
+use abt_sections::{Image, SectionFault, fragment, section, unpack, unpack_fragment};
+use boot_texts::write_words;
+
+/// Writes section `i`, and answers how many bytes it has.
+pub(crate) fn copy_section<S: Source, O: Output>(
+    image: &Image,
+    i: usize,
+    source: &mut S,
+    onto: &mut O,
+    progress: &mut Progress,
+    w: &mut Window,
+    m: &mut Meter,
+) -> Result<u64, SectionFault>
+    requires { i < length (places_of (view_of image.now.header)) }
+    ensures content { IsTrue S.tells → OnOk result (S.content source.new ≡ S.content source.old) }
+    ensures written { (p : Place) → p ≡ slice_index_or (places_of (view_of image.now.header)) i p → IsTrue S.tells →
+        OnOk result (O.written onto.new ≡ O.written onto.old ++ part_of (S.content source.old) p) }
+    ensures refused { IsTrue S.tells → IsOpened (S.content source.old) image.now →
+        IfErr result (IsFaultOf (S.content source.old)) }
+{
+    let mut watched = Watched::over(source, progress);
+    match unpack(image, i, &mut watched, onto, w, m) {
+        Ok(()) => Ok(section(image, i).size as u64),
+        Err(fault) => Err(fault),
+    }
+}
+
+/// Writes fragment `index`, and answers how many bytes it has.
+pub(crate) fn copy_fragment<S: Source, O: Output>(
+    image: &Image,
+    index: u32,
+    source: &mut S,
+    onto: &mut O,
+    progress: &mut Progress,
+    w: &mut Window,
+    m: &mut Meter,
+) -> Result<u64, SectionFault>
+    requires { index < fragment_count (view_of image.now.header) }
+    ensures content { IsTrue S.tells → OnOk result (S.content source.new ≡ S.content source.old) }
+    ensures written { IsTrue S.tells → OnOk result (O.written onto.new ≡ O.written onto.old
+        ++ fragment_of (S.content source.old) (view_of image.now.header) index) }
+    ensures refused { IsTrue S.tells → IsOpened (S.content source.old) image.now →
+        IfErr result (IsFaultOf (S.content source.old)) }
+{
+    let entry = match fragment(image, index, source, w, m) {
+        Ok(entry) => entry,
+        Err(fault) => return Err(fault),
+    };
+    let mut watched = Watched::over(source, progress);
+    match unpack_fragment(image, index, &mut watched, onto, w, m) {
+        Ok(()) => Ok(entry.ramdisk_size as u64),
+        Err(fault) => Err(fault),
+    }
+}
+
+/// Writes the words that pack the image again, and answers how many bytes they have.
+pub(crate) fn copy_words<S: Source, O: Output>(
+    image: &Image,
+    folder: &str,
+    source: &mut S,
+    onto: &mut O,
+    progress: &mut Progress,
+    w: &mut Window,
+    m: &mut Meter,
+) -> Result<u64, SectionFault>
+    ensures content { IsTrue S.tells → OnOk result (S.content source.new ≡ S.content source.old) }
+    ensures written { IsTrue S.tells → OnOk result (O.written onto.new ≡ O.written onto.old
+        ++ words_text (image_words folder.now (S.content source.old) (view_of image.now.header))) }
+    ensures refused { IsTrue S.tells → IsOpened (S.content source.old) image.now →
+        IfErr result (IsFaultOf (S.content source.old)) }
+{
+    let before = progress.done;
+    let answer = words_watched(image, folder, source, onto, progress, w, m);
+    match answer {
+        Ok(()) => Ok(progress.done.saturating_sub(before)),
+        Err(fault) => Err(fault),
+    }
+}
+
+fn words_watched<S: Source, O: Output>(
+    image: &Image,
+    folder: &str,
+    source: &mut S,
+    onto: &mut O,
+    progress: &mut Progress,
+    w: &mut Window,
+    m: &mut Meter,
+) -> Result<(), SectionFault>
+    ensures content { IsTrue S.tells → OnOk result (S.content source.new ≡ S.content source.old) }
+    ensures written { IsTrue S.tells → OnOk result (O.written onto.new ≡ O.written onto.old
+        ++ words_text (image_words folder.now (S.content source.old) (view_of image.now.header))) }
+    ensures refused { IsTrue S.tells → IsOpened (S.content source.old) image.now →
+        IfErr result (IsFaultOf (S.content source.old)) }
+{
+    let mut watched = Watched::over(onto, progress);
+    write_words(image, folder, source, &mut watched, w, m)
+}
