@@ -6,7 +6,7 @@ use Rattle.abt_disk.specs.declared.memory.MemoryFile.{MemoryFile}
 use Rattle.abt_disk.specs.declared.memory.MemoryPath.{MemoryPath}
 
 -- the file that this path leads to: the first that is listed of this name
-pub leads : List MemoryPath → List ℕ → Option ℕ
+unfoldable pub leads : List MemoryPath → List ℕ → Option ℕ
 leads [] path = None
 leads (p ∷ ps) path = cond (bytes_eq path (string_bytes p.name)) (Some p.file) (leads ps path)
 
@@ -15,8 +15,11 @@ abbrev pub contents : List MemoryFile → List (List ℕ)
 contents files = map (λ f. f.bytes.items) files
 
 -- its files, and what was opened
+abbrev pub listed : List MemoryPath → List MemoryFile → World
+listed paths files = record { at = leads paths; holds = λ f. get_or (contents files) f [] }
+
 abbrev pub world_of : MemoryDisk → World
-world_of d = record { at = leads d.paths.items; holds = λ f. get_or (contents d.files.items) f [] }
+world_of d = listed d.paths.items d.files.items
 
 abbrev pub held_of : MemoryDisk → Held
 held_of d = record {

@@ -1,9 +1,9 @@
 //! A disk in memory, which tells what its files hold.
 
-ghost use Rattle.std.specs.Prelude.{◌≡◌, [], None, true, false, string_bytes, IsTrue, IfOk, OnOk, OnErr};
+ghost use Rattle.std.specs.Prelude.{◌≡◌, [], Some, None, true, false, string_bytes, IsTrue, IfOk, OnOk, OnErr};
 ghost use Rattle.std.specs.Prelude.{Contains, get_or, is_ok};
 ghost use Rattle.abt_disk.specs.Memory.{contents, leads, world_of, held_of};
-ghost use Rattle.abt_disk.specs.World.{Creates, OnlyAt, Ends, SparesRest, given_up};
+ghost use Rattle.abt_disk.specs.World.{Creates, OnlyAt, Spares, Ends, SparesRest, beginning, given_up};
 
 use crate::{Disk, Faults, MemoryInput, MemoryOutput};
 use abt_io::Tally;
@@ -103,10 +103,31 @@ impl MemoryDisk {
         ensures only { OnErr result (OnlyAt self.old.read.items (string_bytes path) (world_of self.old)
             (world_of self.new)) }
     {
-        let file = match self.file_at(path.as_str()) {
-            Some(file) => file,
-            None => self.created(path)?,
-        };
+        match self.file_at(path.as_str()) {
+            Some(file) => self.empty(file),
+            None => {
+                let file = match self.create(path) {
+                    Ok(file) => file,
+                    Err(fault) => return Err(fault),
+                };
+                match self.empty(file) {
+                    Ok(()) => Ok(()),
+                    Err(fault) => Err(fault),
+                }
+            }
+        }
+    }
+
+    // Empties a file that is there, and begins it.
+    fn empty(&mut self, file: u64) -> Result<(), HostFault>
+        ensures held { OnOk result (held_of self.new ≡ beginning file (held_of self.old)) }
+        ensures kept { OnErr result (held_of self.new ≡ held_of self.old) }
+        ensures free { OnOk result (¬ Contains self.old.read.items file) }
+        ensures fresh { OnOk result (¬ Contains self.old.begun.items file) }
+        ensures same { OnErr result (world_of self.new ≡ world_of self.old) }
+        ensures spares { OnOk result (Spares file (world_of self.old) (world_of self.new)) }
+        ensures paths { self.new.paths ≡ self.old.paths }
+    {
         if self.is_taken(file) {
             return Err(HostFault::SameFile);
         }
@@ -123,22 +144,30 @@ impl MemoryDisk {
         Ok(())
     }
 
-    // Creates an empty file at a path where none is.
-    fn created(&mut self, path: String) -> Result<u64, HostFault> {
+    // Creates an empty file at a path where none is, and answers its number. It is none that was opened.
+    fn create(&mut self, path: String) -> Result<u64, HostFault>
+        requires { leads self.old.paths.items (string_bytes path) ≡ None }
+        ensures held { held_of self.new ≡ held_of self.old }
+        ensures there { IfOk result (λ file. leads self.new.paths.items (string_bytes path) ≡ Some file) }
+        ensures spares { IfOk result (λ file. Spares file (world_of self.old) (world_of self.new)) }
+        ensures free { IfOk result (λ file. ¬ Contains self.old.read.items file) }
+        ensures only { OnErr result (OnlyAt self.old.read.items (string_bytes path) (world_of self.old)
+            (world_of self.new)) }
+    {
         let file = self.files.len() as u64;
         if self.is_taken(file) {
             return Err(HostFault::SameFile);
         }
-        if self.paths.push(MemoryPath { name: path, file }).is_err() {
+        let Ok(()) = self.paths.push(MemoryPath { name: path, file }) else {
             return Err(HostFault::Memory);
-        }
+        };
         let empty = MemoryFile {
             bytes: Vec::new(self.alloc),
         };
-        match self.files.push(empty) {
-            Ok(()) => Ok(file),
-            Err(_) => Err(HostFault::Memory),
-        }
+        let Ok(()) = self.files.push(empty) else {
+            return Err(HostFault::Memory);
+        };
+        Ok(file)
     }
 
     // Puts these bytes into the output that is open, which is closed. Whether it was there.
@@ -150,7 +179,7 @@ impl MemoryDisk {
         let Some(file) = self.output.take() else {
             return true;
         };
-        if file >= self.files.len() as u64 {
+        if file >= self.files.as_slice().len() as u64 {
             return false;
         }
         self.files[file as usize] = MemoryFile { bytes };
