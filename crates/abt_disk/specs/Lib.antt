@@ -1,2 +1,3 @@
+pub mod InPlace
 pub mod Memory
 pub mod World

@@ -1,10 +1,13 @@
 //! What a command asks of the system, and what contracts know of it.
 
 ghost use Rattle.std.specs.Prelude.{◌≡◌, [], None, Bool, IsTrue, IfOk, OnOk, OnErr, is_ok};
+ghost use Rattle.abt_io.specs.Moment.{no_past};
 ghost use Rattle.abt_refusals.specs.Paths.{path_in, path_of, path_out};
-ghost use Rattle.abt_disk.specs.World.{World, Held, Opens, Creates, OnlyAt, Ends, SparesRest, IsFree, ended, given_up};
+ghost use Rattle.abt_disk.specs.InPlace.{OpensPart, IsAsLong, closed};
+ghost use Rattle.abt_disk.specs.World.{World, Held, Opens, Creates, OnlyAt, Ends, SparesRest, IsFree, ended};
+ghost use Rattle.abt_disk.specs.World.{given_up};
 
-use abt_io::{Input, Output, Source};
+use abt_io::{Input, Output, Partition, Source};
 use abt_refusals::{HostRefusal, Place};
 
 /// A device that knows why its last call failed.
@@ -33,6 +36,9 @@ pub trait Disk {
     /// What is read at any place.
     type At: Source + Drop;
 
+    /// What is written in place.
+    type Part: Partition + Drop;
+
     /// It tells what its files hold.
     ghost tells: { Bool };
 
@@ -57,6 +63,25 @@ pub trait Disk {
             (Self.At.content at) (held self.old) (held self.new)) }
         ensures kept { IsTrue tells → OnErr result (held self.new ≡ held self.old) }
         ensures world { IsTrue tells → world self.new ≡ world self.old };
+
+    /// Opens a file that is there, to be written in place.
+    fn partition<'a>(&mut self, place: Place<'a>) -> Result<Self::Part, HostRefusal<'a>>
+        requires one { IsTrue tells → (held self.old).part ≡ None }
+        ensures opened { IsTrue tells → IfOk result (λ part. OpensPart (world self.old) (path_of place.entry)
+            (Self.Part.content part) (held self.old) (held self.new)) }
+        ensures past { IsTrue tells → IfOk result (λ part. Self.Part.past part ≡ no_past) }
+        ensures kept { IsTrue tells → OnErr result (held self.new ≡ held self.old) }
+        ensures world { IsTrue tells → world self.new ≡ world self.old };
+
+    /// Closes the file that is open in place. It holds what the partition holds, which is as long as it was. Answers
+    /// whether it is where standard output goes.
+    fn close(&mut self, part: Self::Part) -> bool
+        requires long { IsTrue tells → IsAsLong (held self.old).part (Self.Part.content part) (world self.old) }
+        ensures ended { IsTrue tells → Ends (held self.old).part (Self.Part.content part) (world self.old)
+            (world self.new) }
+        ensures paths { IsTrue tells → (world self.new).at ≡ (world self.old).at }
+        ensures closed { IsTrue tells → held self.new ≡ closed (Self.Part.past part) (held self.old) }
+        ensures rest { IsTrue tells → SparesRest (held self.old).part (world self.old) (world self.new) };
 
     /// Refuses a path that is going to be written where it leads to a file that is read, or that was begun.
     fn refuse_taken<'a>(&self, place: Place<'a>) -> Result<(), HostRefusal<'a>>
@@ -99,4 +124,7 @@ pub trait Disk {
     ghost told: { IsTrue tells → IsTrue Self.From.tells };
 
     ghost source_told: { IsTrue tells → IsTrue Self.At.tells };
+
+    /// What it opens to be written in place does.
+    ghost part_told: { IsTrue tells → IsTrue Self.Part.tells };
 }

@@ -6,21 +6,32 @@
 //! | file | has |
 //! |---|---|
 //! | `disk.rt` | the calls of a disk, and what contracts know of its files |
-//! | `ending.rt` | what a call answered, once its output is at its end |
+//! | `ending.rt`, `closing.rt` | what a call answered, once its output is at its end, or its file in place is closed |
 //! | `memory.rt`, `countdown.rt` | a disk in memory, any call of which can be made to fail |
 //! | `memory_input.rt`, `memory_output.rt` | what such a disk opens |
+//! | `memory_source.rt`, `memory_partition.rt` | what it opens to be read at any place, and to be written in place |
+//! | `memory_places.rt` | how it opens and closes these |
+//! | `memory_plain.rt` | how it creates a plain file |
 #![tactic(auto)]
 
+mod closing;
 mod countdown;
 mod disk;
 mod ending;
 mod memory;
 mod memory_input;
 mod memory_output;
+mod memory_partition;
+mod memory_places;
+mod memory_plain;
+mod memory_source;
 
+pub use closing::closed;
 pub use countdown::{Countdown, Faults};
 pub use disk::{Disk, Measured, Reasons};
 pub use ending::ended;
 pub use memory::{MemoryDisk, MemoryFile, MemoryPath};
 pub use memory_input::MemoryInput;
 pub use memory_output::MemoryOutput;
+pub use memory_partition::MemoryPartition;
+pub use memory_source::MemorySource;

@@ -5,7 +5,7 @@ ghost use Rattle.std.specs.Prelude.{Contains, get_or, is_ok};
 ghost use Rattle.abt_disk.specs.Memory.{contents, leads, world_of, held_of};
 ghost use Rattle.abt_disk.specs.World.{Creates, OnlyAt, Spares, Ends, SparesRest, beginning, given_up};
 
-use crate::{Disk, Faults, MemoryInput, MemoryOutput};
+use crate::{Disk, Faults, MemoryInput, MemoryOutput, MemoryPartition, MemorySource};
 use abt_io::Tally;
 use abt_refusals::{HostFault, HostRefusal, Place};
 use std::alloc::{AllocError, Global};
@@ -26,7 +26,7 @@ pub struct MemoryPath {
 /// Files in memory, and the paths that lead to them.
 #[derive(Drop)]
 pub struct MemoryDisk {
-    alloc: Global,
+    pub(crate) alloc: Global,
     pub paths: Vec<MemoryPath>,
     pub files: Vec<MemoryFile>,
     pub(crate) faults: Faults,
@@ -204,6 +204,10 @@ impl Disk for MemoryDisk {
 
     type Onto = MemoryOutput;
 
+    type At = MemorySource;
+
+    type Part = MemoryPartition;
+
     ghost tells = { true };
 
     ghost world = { world_of };
@@ -211,6 +215,10 @@ impl Disk for MemoryDisk {
     ghost held = { held_of };
 
     ghost told = { λ t. t };
+
+    ghost source_told = { λ t. t };
+
+    ghost part_told = { λ t. t };
 
     fn input<'a>(&mut self, place: Place<'a>) -> Result<MemoryInput, HostRefusal<'a>> {
         if self.faults.calls.is_over() {
@@ -229,6 +237,27 @@ impl Disk for MemoryDisk {
             Ok(()) => Ok(MemoryInput::new(bytes, self.faults.reads)),
             Err(_) => Err(HostRefusal::memory()),
         }
+    }
+
+    fn source<'a>(&mut self, place: Place<'a>) -> Result<MemorySource, HostRefusal<'a>> {
+        self.source_at(place)
+    }
+
+    fn partition<'a>(&mut self, place: Place<'a>) -> Result<MemoryPartition, HostRefusal<'a>> {
+        self.partition_at(place)
+    }
+
+    fn close(&mut self, part: MemoryPartition) -> bool {
+        self.put_back(part);
+        false
+    }
+
+    fn refuse_taken<'a>(&self, place: Place<'a>) -> Result<(), HostRefusal<'a>> {
+        self.refuse_taken_at(place)
+    }
+
+    fn plain<'a>(&mut self, place: Place<'a>) -> Result<MemoryOutput, HostRefusal<'a>> {
+        self.plain_at(place)
     }
 
     fn raw<'a>(&mut self, place: Place<'a>) -> Result<MemoryOutput, HostRefusal<'a>> {

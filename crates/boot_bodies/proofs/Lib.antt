@@ -1,1 +1,3 @@
 pub mod Amongs
+pub mod Causes
+pub mod Loops

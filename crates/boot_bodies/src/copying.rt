@@ -9,7 +9,8 @@ ghost use Rattle.boot_bodies.specs.Faults.{IsFaultOf};
 ghost use Rattle.boot_texts.specs.Words.{image_words, words_text};
 
 use abt_io::{Meter, Output, Source, Window};
-use abt_output::{Progress, Watched};
+use abt_host::Watched;
+use abt_output::Progress;
 use abt_sections::{Image, SectionFault, fragment, section, unpack, unpack_fragment};
 use boot_texts::write_words;
 

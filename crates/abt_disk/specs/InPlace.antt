@@ -1,0 +1,40 @@
+-- A file that is written in place: it was there, is opened, and is closed.
+use Rattle.std.specs.Prelude.{◌≡◌, ℕ, ◌+◌, List, [], ◌∷◌, length, Option, Some, None, Bool, false, Contains, nat_lt}
+use Rattle.std.specs.Prelude.{if◌then◌else◌}
+use Rattle.abt_io.specs.Moment.{Past}
+use Rattle.abt_disk.specs.World.{World, Held}
+
+-- this file more is written, in place
+abbrev pub in_place : ℕ → Held → Held
+in_place file h = record h { begun = file ∷ h.begun; part = Some file }
+
+-- the file at this path is written in place from now on: none that is read or was begun, and these are its bytes
+pub record OpensPart (world : World) (path bytes : List ℕ) (old new : Held) : Type 0 where
+  pub file : ℕ
+  pub there : world.at path ≡ Some file
+  pub free : ¬ Contains old.read file
+  pub fresh : ¬ Contains old.begun file
+  pub held : bytes ≡ world.holds file
+  pub taken : new ≡ in_place file old
+
+-- a sync has succeeded, and nothing was written behind it
+abbrev pub is_settled_in : List (ℕ × ℕ) → ℕ → Bool
+is_settled_in [] synced = nat_lt 0 synced
+is_settled_in (r ∷ rs) synced = false
+
+abbrev pub is_settled : Past → Bool
+is_settled past = is_settled_in past.pending past.synced
+
+-- it is closed; one sync more, where it was synced behind its last byte
+abbrev pub closed : Past → Held → Held
+closed past h = record h { part = None; syncs = h.syncs + (if is_settled past then 1 else 0) }
+
+-- these are as many bytes as the file holds
+abbrev pub IsAsLong : Option ℕ → List ℕ → World → Type 0
+IsAsLong None bytes world = Unit {0}
+IsAsLong (Some file) bytes world = length bytes ≡ length (world.holds file)
+
+-- every path leads where it led, and each file holds what it held, but maybe the one at this path
+pub record SparesOthers (path : List ℕ) (old new : World) : Type 0 where
+  pub paths : new.at ≡ old.at
+  pub files : (f : ℕ) → ¬ (old.at path ≡ Some f) → new.holds f ≡ old.holds f

@@ -1,0 +1,78 @@
+-- One part more, and all of them.
+use Rattle.std.proofs.Common.{◌≡◌, ◌⊎◌, inl, inr, ℕ, ◌+◌, ◌<◌, Bool, IsTrue, List, Some, length, sym, ◌∙◌, ap, subst, below_more}
+use Rattle.std.specs.Prelude.{slice_index_or}
+use Rattle.abt_headers.specs.declared.sections.Place.{Place}
+use Rattle.abt_disk.specs.World.{World, Held, Opens}
+use Rattle.abt_sections.specs.Header.{Header, places_of, fragment_of}
+use Rattle.abt_sections.specs.Layout.{part_of}
+use Rattle.boot_rules.specs.declared.part_names.Part.TheVariants as parts
+use Rattle.boot_bodies.specs.Among.{GoesAmong, IsAmong, IsDone, KeepsDone}
+use Rattle.boot_bodies.specs.Unpacking.{FragmentsDone, SectionsDone, WordsDone, path_of_part, section_at}
+use Rattle.boot_bodies.specs.Unpacking.{IsFragmentPath, IsPartPath, IsSectionPath, of_section, of_fragment, of_words}
+use Rattle.boot_bodies.proofs.Amongs.{done_later}
+
+more_named : (P Q : List ℕ → Type 0) (read : List ℕ) (w : World) (f : ℕ) → ((p : List ℕ) → P p → Q p)
+    → IsAmong P read w f → IsAmong Q read w f
+more_named P Q read w f wider there = record {
+  path = there.path;
+  is_named = wider there.path there.is_named;
+  there = there.there;
+  free = there.free;
+}
+
+pub goes_more : (P Q : List ℕ → Type 0) (h h' : Held) (a b : World) → ((p : List ℕ) → P p → Q p)
+    → GoesAmong P h h' a b → GoesAmong Q h h' a b
+goes_more P Q h h' a b wider goes = record {
+  read = goes.read;
+  leads = goes.leads;
+  files = λ f. elim (goes.files f) [
+    | inl same ↦ inl same
+    | inr there ↦ inr (more_named P Q h.read b f wider there)
+  ];
+  opened = λ f listed. elim (goes.opened f listed) [
+    | inl before ↦ inl before
+    | inr there ↦ inr (more_named P Q h.read b f wider there)
+  ];
+}
+
+pub goes_section : (folder : List ℕ) (with_words : Bool) (header : Header) (h h' : Held) (a b : World)
+    → GoesAmong (IsSectionPath folder header) h h' a b → GoesAmong (IsPartPath folder with_words header) h h' a b
+goes_section folder with_words header h h' a b goes = goes_more _ _ h h' a b (λ p named. of_section named) goes
+
+pub goes_fragment : (folder : List ℕ) (with_words : Bool) (header : Header) (h h' : Held) (a b : World)
+    → GoesAmong (IsFragmentPath folder header) h h' a b → GoesAmong (IsPartPath folder with_words header) h h' a b
+goes_fragment folder with_words header h h' a b goes = goes_more _ _ h h' a b (λ p named. of_fragment named) goes
+
+pub goes_words : (folder : List ℕ) (with_words : Bool) (header : Header) (h h' : Held) (a b : World)
+    → IsTrue with_words → GoesAmong (λ path. path ≡ path_of_part folder parts.Words) h h' a b
+    → GoesAmong (IsPartPath folder with_words header) h h' a b
+goes_words folder with_words header h h' a b wanted goes = goes_more _ _ h h' a b (λ p named. of_words wanted named) goes
+
+pub sections_later : (folder : List ℕ) (header : Header) (x : List ℕ) (n : ℕ) (h h' : Held) (a b : World)
+    → KeepsDone h h' a b → SectionsDone folder header x n h a → SectionsDone folder header x n h' b
+sections_later folder header x n h h' a b kept done =
+    λ k below p found. done_later h h' a b _ _ kept (done k below p found)
+
+pub sections_more : (folder : List ℕ) (header : Header) (x y : List ℕ) (n : ℕ) (h h' : Held) (a b : World) → y ≡ x
+    → KeepsDone h h' a b → SectionsDone folder header x n h a
+    → ((p : Place) → p ≡ slice_index_or (places_of header) n p
+        → IsDone h' b (path_of_part folder (section_at p)) (part_of y p))
+    → SectionsDone folder header x (n + 1) h' b
+sections_more folder header x y n h h' a b same kept done next =
+    below_more (λ k. (p : Place) → p ≡ slice_index_or (places_of header) k p
+        → IsDone h' b (path_of_part folder (section_at p)) (part_of x p)) n
+    (sections_later folder header x n h h' a b kept done)
+    (λ p found. subst (λ z. IsDone h' b (path_of_part folder (section_at p)) (part_of z p)) same (next p found))
+
+pub fragments_later : (folder : List ℕ) (header : Header) (x : List ℕ) (n : ℕ) (h h' : Held) (a b : World)
+    → KeepsDone h h' a b → FragmentsDone folder header x n h a → FragmentsDone folder header x n h' b
+fragments_later folder header x n h h' a b kept done = λ k below. done_later h h' a b _ _ kept (done k below)
+
+pub fragments_more : (folder : List ℕ) (header : Header) (x y : List ℕ) (n : ℕ) (h h' : Held) (a b : World) → y ≡ x
+    → KeepsDone h h' a b → FragmentsDone folder header x n h a
+    → IsDone h' b (path_of_part folder (parts.Fragment n)) (fragment_of y header n)
+    → FragmentsDone folder header x (n + 1) h' b
+fragments_more folder header x y n h h' a b same kept done next =
+    below_more (λ k. IsDone h' b (path_of_part folder (parts.Fragment k)) (fragment_of x header k)) n
+    (fragments_later folder header x n h h' a b kept done)
+    (subst (λ z. IsDone h' b (path_of_part folder (parts.Fragment n)) (fragment_of z header n)) same next)
