@@ -1,6 +1,8 @@
 -- Which faults a call answers over an image that stays as it was.
 use Rattle.std.proofs.Common.{◌≡◌, ℕ, ◌<◌, List, Some, Result, Ok, Err, sym, subst}
-use Rattle.std.specs.Prelude.{IfErr}
+use Rattle.std.specs.Prelude.{IfErr, IsOk, OnOk}
+use Rattle.abt_refusals.specs.declared.refusal.HostFault.{HostFault}
+use Rattle.std.proofs.lemmas.Bool.{false≢true}
 use Rattle.abt_disk.specs.World.{World, Held, Opens}
 use Rattle.abt_sections.specs.declared.fault.SectionFault.{SectionFault}
 use Rattle.abt_sections.specs.declared.fault.SectionFault.TheVariants as sections
@@ -72,3 +74,12 @@ refuses_file path bytes held held' world (faults.BadFragment word) opens refuses
 refuses_file path bytes held held' world (faults.BadNumber word) opens refuses = absurd refuses
 refuses_file path bytes held held' world (faults.BadBoardId word) opens refuses = absurd refuses
 refuses_file path bytes held held' world faults.CheckFailed opens refuses = absurd refuses
+
+-- of files alone
+pub host_refuses : (x : List ℕ) (fault : BootCommandFault) (host : HostFault) → fault ≡ faults.Host host → Refuses x fault
+host_refuses x fault host same = subst (λ f. Refuses x f) (sym same) tt
+
+-- what holds where a call answered Ok
+pub ok_gives : {X E : Type 0} (answer : Result X E) (P : Type 0) → IsOk answer → OnOk answer P → P
+ok_gives (Ok x) P done given = given
+ok_gives (Err e) P done given = absurd (false≢true done)

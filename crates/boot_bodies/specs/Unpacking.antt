@@ -1,25 +1,31 @@
 -- What the command `unpack` leaves of files.
-use Rattle.std.specs.Prelude.{◌≡◌, ◌<◌, ℕ, Bool, IsTrue, List, ◌∷◌, ◌++◌, Some, length, codes, decimal, slice_index_or}
+use Rattle.std.specs.Prelude.{◌≡◌, ◌<◌, ℕ, Bool, IsTrue, List, Option, Some, None, length, codes, slice_index_or}
 use Rattle.abt_headers.specs.declared.sections.Place.{Place}
 use Rattle.abt_headers.specs.Places.{section_name}
 use Rattle.abt_sections.specs.Header.{Header, places_of, fragment_count, fragment_of}
 use Rattle.abt_sections.specs.Layout.{part_of}
 use Rattle.abt_sections.specs.Open.{HasImage}
+use Rattle.abt_refusals.specs.Paths.{in_folder, numbered}
 use Rattle.abt_disk.specs.World.{World, Held}
 use Rattle.boot_rules.specs.declared.part_names.Part.{Part}
 use Rattle.boot_rules.specs.declared.part_names.Part.TheVariants as parts
 use Rattle.boot_texts.specs.Words.{words_text, image_words}
 use Rattle.boot_bodies.specs.Among.{Stands, IsDone}
 
--- the file of a part
-abbrev pub file_name : Part → List ℕ
-file_name (parts.Section kind) = section_name kind
-file_name (parts.Fragment index) = codes "fragment" ++ (46 ∷ decimal index)
-file_name parts.Words = codes "pack.words"
+-- the name of a part's file, and the number that stands behind it
+abbrev pub name_of : Part → List ℕ
+name_of (parts.Section kind) = section_name kind
+name_of (parts.Fragment index) = codes "fragment"
+name_of parts.Words = codes "pack.words"
 
--- its path
+abbrev pub number_of : Part → Option ℕ
+number_of (parts.Section kind) = None
+number_of (parts.Fragment index) = Some index
+number_of parts.Words = None
+
+-- the path of its file: `DIR/kernel`, `DIR/fragment.0`, `DIR/pack.words`
 abbrev pub path_of_part : List ℕ → Part → List ℕ
-path_of_part folder part = folder ++ (47 ∷ file_name part)
+path_of_part folder part = in_folder (Some folder) (numbered (name_of part) (number_of part))
 
 -- the section at a place
 abbrev pub section_at : Place → Part

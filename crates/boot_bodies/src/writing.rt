@@ -52,7 +52,10 @@ pub(crate) fn write_section<'t, 'a, D: Disk>(
     let place = place_of(part, folder);
     let mut onto = disk.plain(place)?;
     let answer = copy_section(image, i, source, &mut onto, &mut report.progress, w, m);
-    finish(disk, answer, onto, place, input, part, report)
+    match finish(disk, answer, onto, place, input, part, report) {
+        Ok(()) => Ok(()),
+        Err(refusal) => Err(refusal),
+    }
 }
 
 /// Writes fragment `index` to its file.
@@ -84,7 +87,10 @@ pub(crate) fn write_fragment<'t, 'a, D: Disk>(
     let place = place_of(part, folder);
     let mut onto = disk.plain(place)?;
     let answer = copy_fragment(image, index, source, &mut onto, &mut report.progress, w, m);
-    finish(disk, answer, onto, place, input, part, report)
+    match finish(disk, answer, onto, place, input, part, report) {
+        Ok(()) => Ok(()),
+        Err(refusal) => Err(refusal),
+    }
 }
 
 /// Writes the words that pack the image again to their file.
@@ -112,7 +118,10 @@ pub(crate) fn write_pack_words<'t, 'a, D: Disk>(
     let place = place_of(Part::Words, folder);
     let mut onto = disk.plain(place)?;
     let answer = copy_words(image, folder, source, &mut onto, &mut report.progress, w, m);
-    finish(disk, answer, onto, place, input, Part::Words, report)
+    match finish(disk, answer, onto, place, input, Part::Words, report) {
+        Ok(()) => Ok(()),
+        Err(refusal) => Err(refusal),
+    }
 }
 
 // What a call answered that copied a part, once its file is at its end and its line is printed.
