@@ -23,5 +23,5 @@ pub record ReadsOne (old new : Reading) : Type 0 where
 -- one more file is written: it is none that is read, and none that is written already
 pub record WritesOne (old new : Writing) : Type 0 where
   pub file : Identity
-  pub free : ¬ Forbidden old.taken file
-  pub taken : Adds old.taken new.taken file
+  pub free : ¬ Forbidden old.reading.taken file
+  pub taken : Adds old.reading.taken new.reading.taken file

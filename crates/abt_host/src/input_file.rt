@@ -6,6 +6,7 @@ ghost use Rattle.std.specs.Prelude.{◌≡◌, ◌<◌, ◌≤◌, [], false, le
 ghost use Rattle.std.proofs.lemmas.Bool.{false≢true};
 
 use crate::opening::{Found, Opened, not_opened};
+use abt_disk::{Measured, Reasons};
 use abt_io::{DeviceFault, FromRead, Input};
 use abt_refusals::{HostRefusal, Place};
 use std::alloc::Global;
@@ -71,6 +72,40 @@ impl InputFile {
     /// Why its last call failed, where one did.
     pub fn why(&self) -> Option<i32> {
         self.from.from.reader.get_ref().why
+    }
+}
+
+impl Input for InputFile {
+    ghost tells = { false };
+
+    ghost remaining = { λ _. [] };
+
+    ghost reads = { λ s. ⟦<Passing as Input>⟧.reads s.from };
+
+    ghost given = { λ s. ⟦<Passing as Input>⟧.given s.from };
+
+    ghost read_faults = { λ s. ⟦<Passing as Input>⟧.read_faults s.from };
+
+    ghost are_bytes = { λ _ t. absurd (false≢true t) };
+
+    fn read(&mut self, out: &mut [u8]) -> Result<usize, DeviceFault> {
+        self.from.read(out)
+    }
+
+    fn pass(&mut self, room: &mut [u8]) -> Result<usize, DeviceFault> {
+        self.from.pass(room)
+    }
+}
+
+impl Reasons for InputFile {
+    fn why(&self) -> Option<i32> {
+        self.from.from.reader.get_ref().why
+    }
+}
+
+impl Measured for InputFile {
+    fn known_length(&self) -> Option<u64> {
+        self.length
     }
 }
 

@@ -26,10 +26,10 @@ const TEXT: u64 = 1 << 20;
 pub struct Reading {
     pub rt: HostRuntime,
     pub alloc: Global,
-    taken: Taken,
-    streams: Streams,
+    pub(crate) taken: Taken,
+    pub(crate) streams: Streams,
     // Whether each output is synced at its end.
-    is_synced: bool,
+    pub(crate) is_synced: bool,
 }
 
 impl Reading {
@@ -123,18 +123,9 @@ impl Reading {
 
     /// All that is read is open.
     pub fn all_open(self) -> Writing
-        ensures taken { result.taken ≡ self.taken }
-        ensures streams { result.streams ≡ self.streams }
-        ensures synced { result.is_synced ≡ self.is_synced }
+        ensures { result.reading ≡ self }
     {
-        let Reading {
-            rt,
-            alloc,
-            taken,
-            streams,
-            is_synced,
-        } = self;
-        Writing::new(rt, alloc, taken, streams, is_synced)
+        Writing::new(self)
     }
 
     // Opens a file that is read.

@@ -1,5 +1,7 @@
 //! A device whose bytes are counted as they move, so that a terminal shows how far a command is.
 
+ghost use Rattle.std.specs.Prelude.{◌≡◌};
+
 use abt_io::{DeviceFault, Input, Output, Overwrite, Source};
 use abt_output::Progress;
 
@@ -12,6 +14,14 @@ pub struct Watched<'a, D> {
 
 impl<'a, D> Watched<'a, D> {
     pub fn new(device: &'a mut D, progress: &'a mut Progress) -> Watched<'a, D> {
+        Watched { device, progress }
+    }
+
+    /// The same, of which a contract knows what its device is.
+    pub fn over(device: &'a mut D, progress: &'a mut Progress) -> Watched<'a, D>
+        ensures device { result.device.now ≡ device.old }
+        ensures same_device { result.device.ghost_name ≡ device.entry.ghost_name }
+    {
         Watched { device, progress }
     }
 }

@@ -8,8 +8,7 @@ ghost use Rattle.abt_host.specs.Taken.{Forbidden, Adds, WritesOne};
 
 use crate::identity::{Identity, identity_at};
 use crate::opening::{Access, Opened, not_opened, open_file};
-use crate::streams::Streams;
-use crate::taken::Taken;
+use crate::reading::Reading;
 use abt_io::{FilePartition, FileSpool, FrontLast};
 use abt_output::{Finished, ImageFile, ImageOutput, OutputFile, Sink};
 use abt_refusals::{HostFault, HostRefusal, Place};
@@ -23,32 +22,19 @@ use std::io;
 pub struct Writing {
     pub rt: HostRuntime,
     pub alloc: Global,
-    taken: Taken,
-    streams: Streams,
-    // Whether each output is synced at its end.
-    is_synced: bool,
+    pub(crate) reading: Reading,
     // Data goes to where standard output goes: then no report does.
     is_data_on_output: bool,
 }
 
 impl Writing {
-    pub(crate) fn new(
-        rt: HostRuntime,
-        alloc: Global,
-        taken: Taken,
-        streams: Streams,
-        is_synced: bool,
-    ) -> Writing
-        ensures taken { result.taken ≡ taken }
-        ensures streams { result.streams ≡ streams }
-        ensures synced { result.is_synced ≡ is_synced }
+    pub(crate) fn new(reading: Reading) -> Writing
+        ensures { result.reading ≡ reading }
     {
         Writing {
-            rt,
-            alloc,
-            taken,
-            streams,
-            is_synced,
+            rt: reading.rt,
+            alloc: reading.alloc,
+            reading,
             is_data_on_output: false,
         }
     }
@@ -66,8 +52,9 @@ impl Writing {
     }
 
     /// Creates or empties the file of a raw image, in which zeros may be holes. `-` is standard output.
-    pub fn raw<'a>(&mut self, place: Place<'a>) -> Result<OutputFile<'a>, HostRefusal<'a>>
+    pub fn raw<'a>(&mut self, place: Place<'a>) -> Result<OutputFile, HostRefusal<'a>>
         ensures writes { OnOk result (WritesOne self.old self.new) }
+        ensures empty { IfOk result (λ output. given output.to.writer ≡ []) }
     {
         if place.is_standard() {
             return self.standard(place);
@@ -78,7 +65,7 @@ impl Writing {
     }
 
     /// Creates or empties the file of an image that has a magic. `-` is standard output.
-    pub fn image<'a>(&mut self, place: Place<'a>) -> Result<ImageOutput<'a>, HostRefusal<'a>>
+    pub fn image<'a>(&mut self, place: Place<'a>) -> Result<ImageOutput, HostRefusal<'a>>
         ensures writes { OnOk result (WritesOne self.old self.new) }
     {
         self.image_of(place, false)
@@ -86,10 +73,7 @@ impl Writing {
 
     /// The same. A regular file holds up to 64 KiB of what it took, which are written together where no more have room
     /// and at its end, so this is for who waits for nobody meanwhile.
-    pub fn gathered_image<'a>(
-        &mut self,
-        place: Place<'a>,
-    ) -> Result<ImageOutput<'a>, HostRefusal<'a>>
+    pub fn gathered_image<'a>(&mut self, place: Place<'a>) -> Result<ImageOutput, HostRefusal<'a>>
         ensures writes { OnOk result (WritesOne self.old self.new) }
     {
         self.image_of(place, true)
@@ -99,7 +83,7 @@ impl Writing {
         &mut self,
         place: Place<'a>,
         is_gathered: bool,
-    ) -> Result<ImageOutput<'a>, HostRefusal<'a>>
+    ) -> Result<ImageOutput, HostRefusal<'a>>
         ensures writes { OnOk result (WritesOne self.old self.new) }
     {
         if place.is_standard() {
@@ -120,8 +104,9 @@ impl Writing {
     }
 
     /// Creates or empties a file.
-    pub fn plain<'a>(&mut self, place: Place<'a>) -> Result<OutputFile<'a>, HostRefusal<'a>>
+    pub fn plain<'a>(&mut self, place: Place<'a>) -> Result<OutputFile, HostRefusal<'a>>
         ensures writes { OnOk result (WritesOne self.old self.new) }
+        ensures empty { IfOk result (λ output. given output.to.writer ≡ []) }
     {
         let Opened { file, found } = self.created(place, Access::Create)?;
         self.buffered(place, Sink::file(file), found.identity.holds_data)
@@ -165,7 +150,7 @@ impl Writing {
             return Err(HostRefusal::memory());
         };
         match identity_at(self.rt, path.as_str()) {
-            Some(identity) if self.taken.forbids(identity) => {
+            Some(identity) if self.reading.taken.forbids(identity) => {
                 Err(HostRefusal::at(HostFault::SameFile, place, None))
             }
             _ => Ok(()),
@@ -181,10 +166,11 @@ impl Writing {
     }
 
     // Data goes to standard output.
-    fn standard<'a>(&mut self, place: Place<'a>) -> Result<OutputFile<'a>, HostRefusal<'a>>
+    fn standard<'a>(&mut self, place: Place<'a>) -> Result<OutputFile, HostRefusal<'a>>
         ensures writes { OnOk result (WritesOne self.old self.new) }
+        ensures empty { IfOk result (λ output. given output.to.writer ≡ []) }
     {
-        let identity = self.streams.out;
+        let identity = self.reading.streams.out;
         self.admit(identity, place)?;
         self.is_data_on_output = true;
         match self.to_sync(identity) {
@@ -198,7 +184,7 @@ impl Writing {
 
     // A second handle of the file that standard output is, where it is synced at its end.
     fn to_sync(&self, output: Identity) -> io::Result<Option<File>> {
-        if !self.is_synced || !output.holds_data {
+        if !self.reading.is_synced || !output.holds_data {
             return Ok(None);
         }
         let mut options = OpenOptions::new();
@@ -214,24 +200,24 @@ impl Writing {
         place: Place<'a>,
         sink: Sink,
         holds_data: bool,
-    ) -> Result<OutputFile<'a>, HostRefusal<'a>>
+    ) -> Result<OutputFile, HostRefusal<'a>>
         requires { sink.log.state ≡ nothing_logged }
         ensures empty { IfOk result (λ output. given output.to.writer ≡ []) }
         ensures data { IfOk result (λ output. output.is_data_on_output ≡ self.now.is_data_on_output) }
     {
-        let is_synced = self.is_synced && holds_data;
+        let is_synced = self.reading.is_synced && holds_data;
         OutputFile::new(self.alloc, place, sink, is_synced, self.is_data_on_output)
     }
 
     // Opens an output as it is, and empties it once it is known that it is no other file of this run.
     fn created<'a>(&mut self, place: Place<'a>, access: Access) -> Result<Opened, HostRefusal<'a>>
         requires { writes access ≡ true }
-        ensures free { IfOk result (λ opened. ¬ Forbidden self.old.taken opened.found.identity) }
-        ensures taken { IfOk result (λ opened. Adds self.old.taken self.new.taken opened.found.identity) }
+        ensures free { IfOk result (λ opened. ¬ Forbidden self.old.reading.taken opened.found.identity) }
+        ensures taken { IfOk result (λ opened. Adds self.old.reading.taken self.new.reading.taken opened.found.identity) }
     {
         let opened = open_file(self.rt, self.alloc, place, access)?;
         self.admit(opened.found.identity, place)?;
-        match self.taken.empty(&opened.file, opened.found) {
+        match self.reading.taken.empty(&opened.file, opened.found) {
             Ok(()) => Ok(opened),
             Err(error) => Err(HostRefusal::at(HostFault::CannotOpen, place, error.raw_os_error())),
         }
@@ -239,22 +225,22 @@ impl Writing {
 
     // Refuses a file that is read, or that is written already; no further output may be this one.
     fn admit<'a>(&mut self, identity: Identity, place: Place<'a>) -> Result<(), HostRefusal<'a>>
-        ensures free { OnOk result (¬ Forbidden self.old.taken identity) }
-        ensures taken { OnOk result (Adds self.old.taken self.new.taken identity) }
+        ensures free { OnOk result (¬ Forbidden self.old.reading.taken identity) }
+        ensures taken { OnOk result (Adds self.old.reading.taken self.new.reading.taken identity) }
         ensures refused { IfErr result (λ refusal.
-            (refusal.fault ≡ HostFault.SameFile) ↔ Forbidden self.old.taken identity) }
+            (refusal.fault ≡ HostFault.SameFile) ↔ Forbidden self.old.reading.taken identity) }
         ensures faults { IfErr result (λ refusal.
             (refusal.fault ≡ HostFault.SameFile) ⊎ (refusal.fault ≡ HostFault.Memory)) }
-        ensures kept { OnErr result (self.new.taken.files.items ≡ self.old.taken.files.items) }
-        ensures on_output { OnOk result (self.old.streams.out ≡ identity → IsTrue self.new.is_data_on_output) }
+        ensures kept { OnErr result (self.new.reading.taken.files.items ≡ self.old.reading.taken.files.items) }
+        ensures on_output { OnOk result (self.old.reading.streams.out ≡ identity → IsTrue self.new.is_data_on_output) }
     {
-        if self.taken.forbids(identity) {
+        if self.reading.taken.forbids(identity) {
             return Err(HostRefusal::at(HostFault::SameFile, place, None));
         }
-        if self.streams.out == identity {
+        if self.reading.streams.out == identity {
             self.is_data_on_output = true;
         }
-        match self.taken.take(identity) {
+        match self.reading.taken.take(identity) {
             Ok(()) => Ok(()),
             Err(_) => Err(HostRefusal::memory()),
         }

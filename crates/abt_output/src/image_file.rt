@@ -10,23 +10,19 @@ use abt_refusals::{HostFault, HostRefusal, Place};
 
 /// A regular file that is written from its front on, and over what was written.
 #[derive(Drop)]
-pub struct ImageFile<'a> {
-    pub output: OutputFile<'a>,
+pub struct ImageFile {
+    pub output: OutputFile,
     used: u64,
     ghost long: { used ≡ length (given output.to.writer) },
 }
 
-impl<'a> ImageFile<'a> {
+impl ImageFile {
     /// Begins at the front of this output, which is an empty file.
-    pub fn new(output: OutputFile<'a>) -> ImageFile<'a>
+    pub fn new(output: OutputFile) -> ImageFile
         requires { given output.to.writer ≡ [] }
-        ensures { result.output ≡ output.entry }
+        ensures { result.output ≡ output }
     {
         ImageFile { output, used: 0 }
-    }
-
-    pub fn place(&self) -> Place<'a> {
-        self.output.place
     }
 
     /// Why its last call failed, where one did.
@@ -35,10 +31,10 @@ impl<'a> ImageFile<'a> {
     }
 
     /// Brings it to its end.
-    pub fn finish(self) -> Result<Finished, HostRefusal<'a>>
-        ensures { IfOk result (λ finished. finished.sent.state.bytes ≡ given self.entry.output.to.writer) }
+    pub fn finish<'a>(self, place: Place<'a>) -> Result<Finished, HostRefusal<'a>>
+        ensures { IfOk result (λ finished. finished.sent.state.bytes ≡ given self.output.to.writer) }
     {
-        self.output.finish()
+        self.output.finish(place)
     }
 
     /// Sends what it took together, where the work before failed.
@@ -46,13 +42,12 @@ impl<'a> ImageFile<'a> {
         self.output.give_up()
     }
 
-    pub(crate) fn refused(&self) -> HostRefusal<'a> {
-        let place = self.output.place;
+    pub(crate) fn refused<'a>(&self, place: Place<'a>) -> HostRefusal<'a> {
         HostRefusal::at(HostFault::Write, place, self.why()).begun(place)
     }
 }
 
-impl Output for ImageFile<'_> {
+impl Output for ImageFile {
     ghost written = { λ o. given o.output.to.writer };
 
     ghost is_full = { λ _. false };
@@ -80,7 +75,7 @@ impl Output for ImageFile<'_> {
     }
 }
 
-impl Overwrite for ImageFile<'_> {
+impl Overwrite for ImageFile {
     fn position(&self) -> u64 {
         self.used
     }

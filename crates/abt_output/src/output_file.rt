@@ -1,6 +1,6 @@
 //! An output that is written from its front on, and how it is brought to its end.
 
-ghost use Rattle.std.specs.Prelude.{◌≡◌, [], IfErr, IfOk, OnOk};
+ghost use Rattle.std.specs.Prelude.{◌≡◌, [], false, IfErr, IfOk, OnOk};
 ghost use Rattle.abt_output.specs.Given.{given, IsSettled};
 ghost use Rattle.abt_io.specs.Frame.{nothing_logged};
 ghost use Rattle.abt_io.specs.Over.{with_front};
@@ -8,7 +8,8 @@ ghost use Rattle.abt_io.specs.Over.{with_front};
 use crate::gathered::Gathered;
 use crate::image_file::ImageFile;
 use crate::sink::Sink;
-use abt_io::{DeviceFault, FilePartition, FrontLast, Log, Meter};
+use abt_disk::Reasons;
+use abt_io::{DeviceFault, FilePartition, FrontLast, Log, Meter, Output};
 use abt_refusals::{HostFault, HostRefusal, Place};
 use std::alloc::Global;
 use std::io::BufWriter;
@@ -18,9 +19,8 @@ const PAGE: usize = 4096;
 
 /// A file, a pipe, a device or standard output, which takes small writes together.
 #[derive(Drop)]
-pub struct OutputFile<'a> {
+pub struct OutputFile {
     pub to: Gathered,
-    pub place: Place<'a>,
     // Whether it is synced at its end.
     is_synced: bool,
     // Whether data goes to where standard output goes.
@@ -50,15 +50,15 @@ impl Finished {
     }
 }
 
-impl<'a> OutputFile<'a> {
+impl OutputFile {
     /// An output that takes small writes together, and is synced at its end where that is wanted.
-    pub fn new(
+    pub fn new<'a>(
         alloc: Global,
         place: Place<'a>,
         sink: Sink,
         is_synced: bool,
         is_data_on_output: bool,
-    ) -> Result<OutputFile<'a>, HostRefusal<'a>>
+    ) -> Result<OutputFile, HostRefusal<'a>>
         requires { sink.log.state ≡ nothing_logged }
         ensures empty { IfOk result (λ output. given output.to.writer ≡ []) }
         ensures data { IfOk result (λ output. output.is_data_on_output ≡ is_data_on_output) }
@@ -66,7 +66,6 @@ impl<'a> OutputFile<'a> {
         match BufWriter::with_capacity(alloc, PAGE, sink) {
             Ok(writer) => Ok(OutputFile {
                 to: Gathered::new(writer),
-                place,
                 is_synced,
                 is_data_on_output,
             }),
@@ -90,10 +89,9 @@ impl<'a> OutputFile<'a> {
     }
 
     /// Brings it to its end: what it holds is sent, and it is synced, where that is wanted.
-    pub fn finish(self) -> Result<Finished, HostRefusal<'a>>
-        ensures { IfOk result (λ finished. finished.sent.state.bytes ≡ given self.entry.to.writer) }
+    pub fn finish<'a>(self, place: Place<'a>) -> Result<Finished, HostRefusal<'a>>
+        ensures { IfOk result (λ finished. finished.sent.state.bytes ≡ given self.to.writer) }
     {
-        let place = self.place;
         let is_data_on_output = self.is_data_on_output;
         match self.to.finish(self.is_synced) {
             Ok(sent) => Ok(Finished {
@@ -110,28 +108,55 @@ impl<'a> OutputFile<'a> {
     }
 }
 
+impl Output for OutputFile {
+    ghost written = { λ o. given o.to.writer };
+
+    ghost is_full = { λ _. false };
+
+    ghost writes = { λ o. o.to.calls.number };
+
+    ghost write_faults = { λ o. o.to.faults.number };
+
+    ghost full_faults = { λ _. 0 };
+
+    fn write(&mut self, bytes: &[u8]) -> Result<usize, DeviceFault> {
+        self.to.write(bytes)
+    }
+
+    fn write_zeros(&mut self, n: u64, zeros: &[u8]) -> Result<u64, DeviceFault> {
+        self.to.write_zeros(n, zeros)
+    }
+}
+
+impl Reasons for OutputFile {
+    fn why(&self) -> Option<i32> {
+        self.to.why()
+    }
+}
+
 /// Where an image goes that has a magic.
 #[derive(Drop)]
-pub enum ImageOutput<'a> {
+pub enum ImageOutput {
     /// A regular file, in which the magic is laid last: what is broken off has none.
-    File(FrontLast<ImageFile<'a>>),
+    File(FrontLast<ImageFile>),
     /// A pipe, a device or standard output, which is written from its front on.
-    Stream(OutputFile<'a>),
+    Stream(OutputFile),
 }
 
 /// Brings an image to its end: its magic is laid.
 pub fn finish_front<'a>(
-    image: FrontLast<ImageFile<'a>>,
+    image: FrontLast<ImageFile>,
+    place: Place<'a>,
     m: &mut Meter,
 ) -> Result<Finished, HostRefusal<'a>>
     ensures { IfOk result (λ finished. finished.sent.state.bytes ≡
-        with_front image.entry.front image.entry.kept (given image.entry.output.output.to.writer)) }
+        with_front image.front image.kept (given image.output.output.to.writer)) }
 {
     let mut image = image;
     match image.finish(m) {
-        Ok(()) => image.output.finish(),
+        Ok(()) => image.output.finish(place),
         Err(_) => {
-            let refused = image.output.refused();
+            let refused = image.output.refused(place);
             image.output.give_up();
             Err(refused)
         }

@@ -1,5 +1,9 @@
 //! What a command prints.
 
+ghost use Rattle.std.specs.Prelude.{OnOk, IfSome};
+ghost use Rattle.std.specs.Fmt.{with_newline};
+ghost use Rattle.abt_output.specs.Shows.{Shows};
+
 use crate::output_file::Finished;
 use crate::progress::Progress;
 use crate::sink::Sink;
@@ -36,14 +40,27 @@ impl Report {
         output: Finished,
         line: D,
     ) -> Result<(), HostRefusal<'a>> {
-        if output.is_data_on_output() {
+        self.line_beside(output.is_data_on_output(), line)
+    }
+
+    /// The same, where it is known whether data goes to where standard output goes.
+    pub fn line_beside<'a, D: fmt::Display + Drop>(
+        &mut self,
+        is_data_on_output: bool,
+        line: D,
+    ) -> Result<(), HostRefusal<'a>>
+        ensures { OnOk result (IfSome (with_newline (D.output line)) (Shows self.old self.new)) }
+    {
+        if is_data_on_output {
             self.is_data_on_output = true;
         }
         self.line(line)
     }
 
     /// Prints a line.
-    pub fn line<'a, D: fmt::Display + Drop>(&mut self, line: D) -> Result<(), HostRefusal<'a>> {
+    pub fn line<'a, D: fmt::Display + Drop>(&mut self, line: D) -> Result<(), HostRefusal<'a>>
+        ensures { OnOk result (IfSome (with_newline (D.output line)) (Shows self.old self.new)) }
+    {
         self.progress.erase();
         match self.print(line) {
             Ok(()) => Ok(()),
@@ -54,7 +71,9 @@ impl Report {
         }
     }
 
-    fn print<D: fmt::Display + Drop>(&mut self, line: D) -> Result<(), DeviceFault> {
+    fn print<D: fmt::Display + Drop>(&mut self, line: D) -> Result<(), DeviceFault>
+        ensures { OnOk result (IfSome (with_newline (D.output line)) (Shows self.old self.new)) }
+    {
         if self.is_data_on_output {
             print_line(&mut self.err, line)
         } else {

@@ -35,15 +35,17 @@ pub(crate) fn write_image<'t, 'a>(
         return Err(sides_of(&contents).refuse(BootCommandFault::Section(fault)));
     }
     report.progress.expect(bytes_of(&contents), 1);
-    let image = reading.all_open().image(Place::new("OUT", path))?;
-    let (bytes, finished) = write_to(image, report, &mut contents, w, m)?;
+    let output = Place::new("OUT", path);
+    let image = reading.all_open().image(output)?;
+    let (bytes, finished) = write_to(image, output, report, &mut contents, w, m)?;
     report.line_of(finished, ImageLine(bytes))?;
     Ok(())
 }
 
 // A boot image with nothing behind it is packed in one pass over its parts. In all others the magic is laid last.
 fn write_to<'t, 'a>(
-    image: ImageOutput<'t>,
+    image: ImageOutput,
+    output: Place<'t>,
     report: &mut Report,
     contents: &mut Contents<'_, 't>,
     w: &mut Window,
@@ -53,18 +55,18 @@ fn write_to<'t, 'a>(
         ImageOutput::Stream(mut stream) => {
             let answer = pack_contents(contents, &mut stream.to, report, w, m);
             let answer = BootCommandFault::of_bytes(answer);
-            ended(answer, stream, sides_of(contents))
+            ended(answer, stream, output, sides_of(contents))
         }
         ImageOutput::File(front) if is_read_once(contents) => {
             let mut file = front.output;
             let answer = pack_once(contents, &mut file, report, w, m);
             let answer = BootCommandFault::of_bytes(answer);
-            ended_file(answer, file, sides_of(contents))
+            ended_file(answer, file, output, sides_of(contents))
         }
         ImageOutput::File(mut front) => {
             let answer = pack_contents(contents, &mut front, report, w, m);
             let answer = BootCommandFault::of_bytes(answer);
-            ended_front(answer, front, sides_of(contents), m)
+            ended_front(answer, front, output, sides_of(contents), m)
         }
     }
 }

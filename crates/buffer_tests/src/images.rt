@@ -21,7 +21,7 @@ const TURNS: [u64; 3] = [400, 3000, 30];
 const HEADERS: [usize; 6] = [12, 12, 12, 12, 4, 28];
 
 /// The file of an image.
-fn file<'a>(output: ImageOutput<'a>) -> Option<ImageFile<'a>> {
+fn file(output: ImageOutput) -> Option<ImageFile> {
     match output {
         ImageOutput::File(front) => Some(front.output),
         ImageOutput::Stream(_) => None,
@@ -56,8 +56,8 @@ fn place(random: &mut Random, position: u64, is_near: bool) -> Option<u64> {
 
 /// The same calls of both: whether they answered the same.
 fn written(
-    one: &mut ImageFile<'_>,
-    other: &mut ImageFile<'_>,
+    one: &mut ImageFile,
+    other: &mut ImageFile,
     text: &[u8],
     image: u64,
     random: &mut Random,
@@ -89,9 +89,10 @@ fn a_gathered_image_has_the_bytes_of_one_that_is_not(rt: HostRuntime) {
     for image in 0..36u64 {
         let mut random = Random::new(image);
         let mut writing = writing(rt);
-        let one = writing.image(Place::new("OUT", "alone.tmp")).ok();
-        let other = Place::new("OUT", "together.tmp");
-        let other = writing.gathered_image(other).ok();
+        let alone = Place::new("OUT", "alone.tmp");
+        let together = Place::new("OUT", "together.tmp");
+        let one = writing.image(alone).ok();
+        let other = writing.gathered_image(together).ok();
         let mut one = file(one.expect(&rt, "opens")).expect(&rt, "is a file");
         let mut other = file(other.expect(&rt, "opens")).expect(&rt, "is a file");
         let text = text.as_slice();
@@ -104,8 +105,8 @@ fn a_gathered_image_has_the_bytes_of_one_that_is_not(rt: HostRuntime) {
             other.give_up();
         } else {
             assert!(rt; other.output.settle() == Ok(()));
-            assert!(rt; one.finish().is_ok());
-            assert!(rt; other.finish().is_ok());
+            assert!(rt; one.finish(alone).is_ok());
+            assert!(rt; other.finish(together).is_ok());
         }
         assert!(rt; same(&rt, "alone.tmp", "together.tmp"), "image {image}");
     }

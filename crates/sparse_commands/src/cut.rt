@@ -90,7 +90,15 @@ fn write_piece<'a>(
     if number == 1 {
         report.progress.repeat(pieces.passes(&output));
     }
-    let (piece, finished) = pieces.write_next(source, output, sides, &mut report.progress, w, m)?;
+    let (piece, finished) = pieces.write_next(
+        source,
+        output,
+        place,
+        sides,
+        &mut report.progress,
+        w,
+        m,
+    )?;
     let Some(piece) = piece else {
         return Ok(());
     };

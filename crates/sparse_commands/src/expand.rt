@@ -1,12 +1,13 @@
 //! The command `expand`: the raw image that a sparse image stands for, or several together.
 
 use crate::overlay::overlay;
-use abt_chunks::{Expanded, expand};
-use abt_host::{Reading, Watched};
+use abt_chunks::Expanded;
+use abt_host::{Host, Reading};
 use abt_io::{Meter, Window};
-use abt_output::{Finished, Report, ended};
-use abt_refusals::{Place, Sides};
-use sparse_rules::{Line, SparseCommandFault, SparseRefusal};
+use abt_output::Report;
+use abt_refusals::Place;
+use sparse_bodies::expand_one;
+use sparse_rules::{Line, SparseRefusal};
 
 /// Writes the raw image of a sparse one, or of several laid over one another, and prints what it has.
 ///
@@ -20,34 +21,16 @@ pub(crate) fn expand_files<'a>(
     m: &mut Meter,
 ) -> Result<(), SparseRefusal<'a>> {
     let output = Place::new("OUT", output);
-    let (expanded, finished) = match inputs {
-        [input] => expand_one(reading, report, Place::new("IN", input), output, w, m)?,
-        _ => overlay(reading, report, inputs, output, w, m)?,
-    };
-    let Expanded { blocks, bytes } = expanded;
-    report.line_of(finished, Line::Expanded { blocks, bytes })?;
-    Ok(())
-}
-
-#[inline(never)]
-fn expand_one<'a>(
-    reading: Reading,
-    report: &mut Report,
-    input: Place<'a>,
-    output: Place<'a>,
-    w: &mut Window,
-    m: &mut Meter,
-) -> Result<(Expanded, Finished), SparseRefusal<'a>> {
-    let mut reading = reading;
-    let mut from = reading.input(input)?;
-    report.progress.expect_if(from.length);
-    let mut to = reading.all_open().raw(output)?;
-    let mut watched = Watched::new(&mut from.from, &mut report.progress);
-    let answer = expand(&mut watched, &mut to.to, w, m);
-    let sides = Sides::none().reading(input, from.why());
-    let answer = match answer {
-        Ok(expanded) => Ok(expanded),
-        Err(fault) => Err(SparseCommandFault::Sparse(fault)),
-    };
-    ended(answer, to, sides)
+    match inputs {
+        [input] => {
+            let mut host = Host::new(reading);
+            expand_one(&mut host, report, Place::new("IN", input), output, w, m)
+        }
+        _ => {
+            let (expanded, finished) = overlay(reading, report, inputs, output, w, m)?;
+            let Expanded { blocks, bytes } = expanded;
+            report.line_of(finished, Line::Expanded { blocks, bytes })?;
+            Ok(())
+        }
+    }
 }

@@ -8,7 +8,7 @@ use abt_io::{Meter, Output, Window};
 use abt_output::{Finished, ImageFile, ImageOutput, Progress, ended, ended_file, ended_front};
 use abt_pieces::Piece;
 use abt_placed::next_piece_at;
-use abt_refusals::Sides;
+use abt_refusals::{Place, Sides};
 use abt_runs::{BlockRuns, RawRuns, SparseRuns};
 use sparse_rules::{PiecesOf, SparseCommandFault, SparseRefusal, raw_pieces};
 
@@ -51,7 +51,7 @@ impl Pieces {
     }
 
     /// How often the image is read for pieces that go to such a file as this.
-    pub(crate) fn passes(&self, output: &ImageOutput<'_>) -> u64 {
+    pub(crate) fn passes(&self, output: &ImageOutput) -> u64 {
         match (self, output) {
             (Pieces::Raw(_), ImageOutput::Stream(_)) => RAW_PASSES,
             _ => 1,
@@ -63,7 +63,8 @@ impl Pieces {
     pub(crate) fn write_next<'a>(
         &mut self,
         source: &mut AheadSource<'_>,
-        output: ImageOutput<'a>,
+        output: ImageOutput,
+        place: Place<'a>,
         sides: Sides<'a>,
         progress: &mut Progress,
         w: &mut Window,
@@ -73,24 +74,24 @@ impl Pieces {
         match (self, output) {
             (Pieces::Sparse(pieces), ImageOutput::File(mut front)) => {
                 match next_piece(pieces, source, progress, &mut front, w, m) {
-                    Ok(piece) => ended_front(Ok(piece), front, sides, m),
-                    Err(fault) => stopped(fault, front.output.output, sides),
+                    Ok(piece) => ended_front(Ok(piece), front, place, sides, m),
+                    Err(fault) => stopped(fault, front.output.output, place, sides),
                 }
             }
             (Pieces::Raw(pieces), ImageOutput::File(front)) => {
                 let mut file = front.output;
                 match next_raw_piece(pieces, source, progress, &mut file, w, m) {
-                    Ok(piece) => ended_file(Ok(piece), file, sides),
-                    Err(fault) => stopped(fault, file.output, sides),
+                    Ok(piece) => ended_file(Ok(piece), file, place, sides),
+                    Err(fault) => stopped(fault, file.output, place, sides),
                 }
             }
             (Pieces::Sparse(pieces), ImageOutput::Stream(mut stream)) => {
                 let answer = next_piece(pieces, source, progress, &mut stream.to, w, m);
-                ended(answer, stream, sides)
+                ended(answer, stream, place, sides)
             }
             (Pieces::Raw(pieces), ImageOutput::Stream(mut stream)) => {
                 let answer = next_piece(pieces, source, progress, &mut stream.to, w, m);
-                ended(answer, stream, sides)
+                ended(answer, stream, place, sides)
             }
         }
     }
@@ -114,7 +115,7 @@ fn next_raw_piece(
     pieces: &mut PiecesOf<RawRuns>,
     source: &mut AheadSource<'_>,
     progress: &mut Progress,
-    file: &mut ImageFile<'_>,
+    file: &mut ImageFile,
     w: &mut Window,
     m: &mut Meter,
 ) -> Result<Option<Piece>, SparseCommandFault> {

@@ -36,10 +36,9 @@ pub(crate) fn sparse_file<'a>(
         Err(fault) => return Err(sides.refuse(SparseCommandFault::Run(fault))),
     };
     report.progress.expect(source.length(), 1);
-    let image = reading
-        .all_open()
-        .gathered_image(Place::new("OUT", output))?;
-    let (written, finished) = write_image(&mut source, blocks, image, sides, report, w, m)?;
+    let output = Place::new("OUT", output);
+    let image = reading.all_open().gathered_image(output)?;
+    let (written, finished) = write_image(&mut source, blocks, image, output, sides, report, w, m)?;
     let line = Line::Sparse {
         blocks: written.blocks,
         chunks: written.chunks,
@@ -52,7 +51,8 @@ pub(crate) fn sparse_file<'a>(
 fn write_image<'a>(
     source: &mut FileSource,
     blocks: Blocks,
-    image: ImageOutput<'a>,
+    image: ImageOutput,
+    output: Place<'a>,
     sides: Sides<'a>,
     report: &mut Report,
     w: &mut Window,
@@ -65,15 +65,15 @@ fn write_image<'a>(
             let mut watched = Watched::new(source, &mut report.progress);
             let answer = sparsify_at(&mut watched, size, most, &mut file, w, m);
             match answered(answer) {
-                Ok(written) => ended_file(Ok(written), file, sides),
-                Err(fault) => stopped(fault, file.output, sides),
+                Ok(written) => ended_file(Ok(written), file, output, sides),
+                Err(fault) => stopped(fault, file.output, output, sides),
             }
         }
         ImageOutput::Stream(mut stream) => {
             report.progress.repeat(PASSES);
             let mut watched = Watched::new(source, &mut report.progress);
             let answer = sparsify(&mut watched, size, most, &mut stream.to, w, m);
-            ended(answered(answer), stream, sides)
+            ended(answered(answer), stream, output, sides)
         }
     }
 }

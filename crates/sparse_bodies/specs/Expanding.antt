@@ -1,0 +1,63 @@
+-- What the command `expand` leaves of files, and what it prints.
+use Rattle.std.specs.Prelude.{◌≡◌, ◌≢◌, ℕ, ◌*◌, List, [], ◌∷◌, ◌++◌, Option, Some, Result, Ok, Err}
+use Rattle.abt_sparse.specs.declared.fault.SparseFault.{SparseFault}
+use Rattle.abt_sparse.specs.Block.{expansion}
+use Rattle.abt_sparse.specs.Chunk.{Header, Chunk, classed}
+use Rattle.abt_sparse.specs.Fails.{Fails, Spells}
+use Rattle.abt_chunks.specs.declared.progress.Expanded.{Expanded}
+use Rattle.abt_chunks.specs.Expanding.{UnlessDevice}
+use Rattle.abt_chunks.specs.Whole.{Expansion, Refusal}
+use Rattle.abt_disk.specs.World.{World, Spares}
+use Rattle.abt_refusals.specs.declared.refusal.HostFault.{HostFault}
+use Rattle.sparse_rules.specs.declared.fault.SparseCommandFault.{SparseCommandFault}
+use Rattle.sparse_rules.specs.declared.fault.SparseCommandFault.TheVariants as faults
+use Rattle.sparse_rules.specs.declared.lines.Line.TheVariants as lines
+use Rattle.sparse_rules.specs.Lines.{text_of}
+
+-- what expanding an input x answers and writes
+abbrev pub Says : Result Expanded SparseCommandFault → List ℕ → List ℕ → List ℕ → Type 0
+Says (Ok e) x old new = (rest : List ℕ) × Expansion e old new x rest
+Says (Err (faults.Sparse f)) x old new = UnlessDevice f (Refusal f old new x)
+Says (Err (faults.Run f)) x old new = ⊥
+Says (Err (faults.Piece f)) x old new = ⊥
+Says (Err (faults.Flash f)) x old new = ⊥
+Says (Err (faults.Verify f)) x old new = ⊥
+Says (Err (faults.OtherBlocks image)) x old new = ⊥
+Says (Err (faults.Host f)) x old new = ⊥
+
+-- a fault of files
+abbrev pub FromHost : SparseCommandFault → Type 0
+FromHost f = (host : HostFault) × (f ≡ faults.Host host)
+
+-- what the file at this path holds has this fault
+pub record HasFault (path : List ℕ) (world : World) (f : SparseFault) : Type 0 where
+  pub file : ℕ
+  pub there : world.at path ≡ Some file
+  pub given : List (Option ℕ)
+  pub fails : Fails (world.holds file) f given
+
+-- a fault of what the file at this path holds, or of files or devices
+abbrev pub RefusesFile : List ℕ → World → SparseCommandFault → Type 0
+RefusesFile path world (faults.Sparse f) = UnlessDevice f (HasFault path world f)
+RefusesFile path world (faults.Run f) = ⊥
+RefusesFile path world (faults.Piece f) = ⊥
+RefusesFile path world (faults.Flash f) = ⊥
+RefusesFile path world (faults.Verify f) = ⊥
+RefusesFile path world (faults.OtherBlocks image) = ⊥
+RefusesFile path world (faults.Host f) = Unit {0}
+
+-- The file at one path held an image, the one at the other holds its expansion and nothing else, no other file has
+-- changed, and the line that was printed has the image's numbers.
+pub record ExpandsFile (input output : List ℕ) (old new : World) (shows : List ℕ → Type 0) : Type 0 where
+  pub from : ℕ
+  pub onto : ℕ
+  pub there : old.at input ≡ Some from
+  pub here : new.at output ≡ Some onto
+  pub apart : from ≢ onto
+  pub header : Header
+  pub chunks : List Chunk
+  pub rest : List ℕ
+  pub spelled : Spells (old.holds from) header chunks rest
+  pub holds : new.holds onto ≡ expansion header.blk_sz (classed chunks)
+  pub spares : Spares onto old new
+  pub shown : shows (text_of (lines.Expanded header.total_blks (header.total_blks * header.blk_sz)) ++ (10 ∷ []))

@@ -1,0 +1,14 @@
+//! The commands of sparse images over any disk: what each leaves of files, and what it prints, is proved of a disk that
+//! tells what its files hold, as one in memory.
+//!
+//! | file | has |
+//! |---|---|
+//! | `expand.rt` | `expand` of one image |
+//! | `in_memory.rt` | the same over a disk in memory, where each clause speaks |
+#![tactic(auto)]
+
+mod expand;
+mod in_memory;
+
+pub use expand::expand_one;
+pub use in_memory::expand_in_memory;
