@@ -108,3 +108,9 @@ part_done path path' before after bytes b h h' h'' u v w is_path empty written m
     let done = done_written path after b h h' h'' u v w made closed ends in
     subst (λ q. IsDone h'' w q bytes) is_path
     (subst (λ x. IsDone h'' w path x) (written ∙ ap (λ x. x ++ bytes) empty) done)
+
+pub same_path : (folder : List ℕ) (header : Header) (i : ℕ) (q p : Place) → i < length (places_of header)
+    → q ≡ slice_index_or (places_of header) i q → p ≡ slice_index_or (places_of header) i p
+    → path_of_part folder (section_at q) ≡ path_of_part folder (section_at p)
+same_path folder header i q p there found found' =
+    ap (λ place. path_of_part folder (section_at place)) (same_section header i q p there found found')

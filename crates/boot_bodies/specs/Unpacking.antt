@@ -61,11 +61,15 @@ pub record IsPartOf (input folder : List ℕ) (with_words : Bool) (world : World
 
 -- ---- on the way
 
--- the first n sections of an image x are in their files
-abbrev pub SectionsDone : List ℕ → Header → List ℕ → ℕ → Held → World → Type 0
-SectionsDone folder h x n held world =
-    (k : ℕ) → k < n → (p : Place) → p ≡ slice_index_or (places_of h) k p
+-- section i of an image x is in its file
+abbrev pub SectionDone : List ℕ → Header → List ℕ → ℕ → Held → World → Type 0
+SectionDone folder h x i held world =
+    (p : Place) → p ≡ slice_index_or (places_of h) i p
     → IsDone held world (path_of_part folder (section_at p)) (part_of x p)
+
+-- the first n sections are
+abbrev pub SectionsDone : List ℕ → Header → List ℕ → ℕ → Held → World → Type 0
+SectionsDone folder h x n held world = (k : ℕ) → k < n → SectionDone folder h x k held world
 
 -- and the first n fragments
 abbrev pub FragmentsDone : List ℕ → Header → List ℕ → ℕ → Held → World → Type 0

@@ -7,6 +7,7 @@ ghost use Rattle.boot_bodies.specs.Among.{OnlyAmong};
 ghost use Rattle.boot_bodies.specs.Faults.{RefusesFile};
 ghost use Rattle.boot_bodies.specs.Unpacking.{IsPartOf, Unpacks};
 
+use crate::carried::Carried;
 use crate::names::place_of;
 use crate::parts::write_parts;
 use abt_disk::Disk;
@@ -45,8 +46,8 @@ pub fn unpack_file<'t, 'a, D: Disk>(
     ensures refused { IsTrue D.tells → IfErr result (λ refusal. RefusesFile (path_of input.entry) (D.world disk.old)
         refusal.fault) }
 {
-    let mut source = disk.source(input)?;
-    let image = match open(&mut source, w, m) {
+    let mut device = disk.source(input)?;
+    let image = match open(&mut device, w, m) {
         Ok(image) => image,
         Err(fault) => return Err(not_opened(input, fault)),
     };
@@ -54,7 +55,12 @@ pub fn unpack_file<'t, 'a, D: Disk>(
         Ok(()) => {}
         Err(refusal) => return Err(refusal.into()),
     }
-    write_parts(disk, &image, &mut source, input, folder, with_words, report, w, m)
+    let progress = report.progress;
+    let mut source = Carried { device, progress };
+    match write_parts(disk, &image, &mut source, input, folder, with_words, report, w, m) {
+        Ok(()) => Ok(()),
+        Err(refusal) => Err(refusal),
+    }
 }
 
 // The refusal of an image that is none.

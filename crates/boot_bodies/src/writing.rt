@@ -1,17 +1,15 @@
 //! One part of an image, to a file of its own.
 
-ghost use Rattle.std.specs.Prelude.{◌≡◌, ◌<◌, None, Ok, Err, Bool, MatchResult, IsTrue, IsOk, IfErr, OnOk, length, slice_index_or};
-ghost use Rattle.abt_headers.specs.declared.sections.Place.{Place};
+ghost use Rattle.std.specs.Prelude.{◌≡◌, ◌<◌, None, Ok, Err, Bool, MatchResult, IsTrue, IsOk, IfErr, OnOk, length};
 ghost use Rattle.abt_disk.specs.World.{Ends, SparesRest, ended};
 ghost use Rattle.abt_sections.specs.Header.{fragment_count, fragment_of, places_of, view_of};
-ghost use Rattle.abt_sections.specs.Layout.{part_of};
 ghost use Rattle.abt_sections.specs.Open.{IsOpened};
 ghost use Rattle.boot_bodies.specs.Among.{GoesAmong, IsDone, KeepsDone};
 ghost use Rattle.boot_bodies.specs.Faults.{IsToldOf, Refuses};
-ghost use Rattle.boot_bodies.specs.Unpacking.{IsFragmentPath, IsSectionPath, path_of_part, section_at};
+ghost use Rattle.boot_bodies.specs.Unpacking.{IsFragmentPath, IsSectionPath, SectionDone, WordsDone, path_of_part};
 ghost use Rattle.boot_rules.specs.declared.part_names.Part.TheVariants as parts;
-ghost use Rattle.boot_texts.specs.Words.{image_words, words_text};
 
+use crate::carried::Carried;
 use crate::copying::{copy_fragment, copy_section, copy_words};
 use crate::lines::PartLine;
 use crate::names::place_of;
@@ -28,7 +26,7 @@ pub(crate) fn write_section<'t, 'a, D: Disk>(
     disk: &mut D,
     image: &Image,
     i: usize,
-    source: &mut D::At,
+    source: &mut Carried<D::At>,
     input: Place<'t>,
     folder: &'t str,
     report: &mut Report,
@@ -37,16 +35,15 @@ pub(crate) fn write_section<'t, 'a, D: Disk>(
 ) -> BootOutcome<'t, 'a>
     requires there { i < length (places_of (view_of image.now.header)) }
     requires one { IsTrue D.tells → (D.held disk.old).output ≡ None }
-    ensures content { IsTrue D.tells → OnOk result (D.At.content source.new ≡ D.At.content source.old) }
-    ensures done { IsTrue D.tells → (p : Place) → p ≡ slice_index_or (places_of (view_of image.now.header)) i p →
-        OnOk result (IsDone (D.held disk.new) (D.world disk.new) (path_of_part folder.now (section_at p))
-        (part_of (D.At.content source.old) p)) }
+    ensures content { IsTrue D.tells → OnOk result (D.At.content source.new.device ≡ D.At.content source.old.device) }
+    ensures done { IsTrue D.tells → OnOk result (SectionDone folder.now (view_of image.now.header)
+        (D.At.content source.old.device) i (D.held disk.new) (D.world disk.new)) }
     ensures keeps { IsTrue D.tells → OnOk result (KeepsDone (D.held disk.old) (D.held disk.new) (D.world disk.old)
         (D.world disk.new)) }
     ensures only { IsTrue D.tells → GoesAmong (IsSectionPath folder.now (view_of image.now.header)) (D.held disk.old)
         (D.held disk.new) (D.world disk.old) (D.world disk.new) }
-    ensures refused { IsTrue D.tells → IsOpened (D.At.content source.old) image.now →
-        IfErr result (λ refusal. Refuses (D.At.content source.old) refusal.fault) }
+    ensures refused { IsTrue D.tells → IsOpened (D.At.content source.old.device) image.now →
+        IfErr result (λ refusal. Refuses (D.At.content source.old.device) refusal.fault) }
 {
     let part = Part::Section(section(image, i).kind);
     let place = place_of(part, folder);
@@ -63,7 +60,7 @@ pub(crate) fn write_fragment<'t, 'a, D: Disk>(
     disk: &mut D,
     image: &Image,
     index: u32,
-    source: &mut D::At,
+    source: &mut Carried<D::At>,
     input: Place<'t>,
     folder: &'t str,
     report: &mut Report,
@@ -72,16 +69,16 @@ pub(crate) fn write_fragment<'t, 'a, D: Disk>(
 ) -> BootOutcome<'t, 'a>
     requires there { index < fragment_count (view_of image.now.header) }
     requires one { IsTrue D.tells → (D.held disk.old).output ≡ None }
-    ensures content { IsTrue D.tells → OnOk result (D.At.content source.new ≡ D.At.content source.old) }
+    ensures content { IsTrue D.tells → OnOk result (D.At.content source.new.device ≡ D.At.content source.old.device) }
     ensures done { IsTrue D.tells → OnOk result (IsDone (D.held disk.new) (D.world disk.new)
         (path_of_part folder.now (parts.Fragment index))
-        (fragment_of (D.At.content source.old) (view_of image.now.header) index)) }
+        (fragment_of (D.At.content source.old.device) (view_of image.now.header) index)) }
     ensures keeps { IsTrue D.tells → OnOk result (KeepsDone (D.held disk.old) (D.held disk.new) (D.world disk.old)
         (D.world disk.new)) }
     ensures only { IsTrue D.tells → GoesAmong (IsFragmentPath folder.now (view_of image.now.header)) (D.held disk.old)
         (D.held disk.new) (D.world disk.old) (D.world disk.new) }
-    ensures refused { IsTrue D.tells → IsOpened (D.At.content source.old) image.now →
-        IfErr result (λ refusal. Refuses (D.At.content source.old) refusal.fault) }
+    ensures refused { IsTrue D.tells → IsOpened (D.At.content source.old.device) image.now →
+        IfErr result (λ refusal. Refuses (D.At.content source.old.device) refusal.fault) }
 {
     let part = Part::Fragment(index);
     let place = place_of(part, folder);
@@ -97,7 +94,7 @@ pub(crate) fn write_fragment<'t, 'a, D: Disk>(
 pub(crate) fn write_pack_words<'t, 'a, D: Disk>(
     disk: &mut D,
     image: &Image,
-    source: &mut D::At,
+    source: &mut Carried<D::At>,
     input: Place<'t>,
     folder: &'t str,
     report: &mut Report,
@@ -105,19 +102,19 @@ pub(crate) fn write_pack_words<'t, 'a, D: Disk>(
     m: &mut Meter,
 ) -> BootOutcome<'t, 'a>
     requires one { IsTrue D.tells → (D.held disk.old).output ≡ None }
-    ensures done { IsTrue D.tells → OnOk result (IsDone (D.held disk.new) (D.world disk.new)
-        (path_of_part folder.now parts.Words)
-        (words_text (image_words folder.now (D.At.content source.old) (view_of image.now.header)))) }
+    ensures done { IsTrue D.tells → OnOk result (WordsDone folder.now (view_of image.now.header)
+        (D.At.content source.old.device) (D.held disk.new) (D.world disk.new)) }
     ensures keeps { IsTrue D.tells → OnOk result (KeepsDone (D.held disk.old) (D.held disk.new) (D.world disk.old)
         (D.world disk.new)) }
     ensures only { IsTrue D.tells → GoesAmong (λ path. path ≡ path_of_part folder.now parts.Words)
         (D.held disk.old) (D.held disk.new) (D.world disk.old) (D.world disk.new) }
-    ensures refused { IsTrue D.tells → IsOpened (D.At.content source.old) image.now →
-        IfErr result (λ refusal. Refuses (D.At.content source.old) refusal.fault) }
+    ensures refused { IsTrue D.tells → IsOpened (D.At.content source.old.device) image.now →
+        IfErr result (λ refusal. Refuses (D.At.content source.old.device) refusal.fault) }
 {
     let place = place_of(Part::Words, folder);
-    let mut onto = disk.plain(place)?;
-    let answer = copy_words(image, folder, source, &mut onto, &mut report.progress, w, m);
+    let onto = disk.plain(place)?;
+    let progress = &mut report.progress;
+    let (onto, answer) = copy_words(image, folder, &mut source.device, onto, progress, w, m);
     match finish(disk, answer, onto, place, input, Part::Words, report) {
         Ok(()) => Ok(()),
         Err(refusal) => Err(refusal),

@@ -142,7 +142,7 @@ fn faults(kind: Kind, number: u64) -> Faults {
 }
 
 /// What fails, and the first number that no call has any more.
-const FAILING: [(Kind, u64); 3] = [(Kind::Call, 14), (Kind::Read, 10), (Kind::Write, 3)];
+const FAILING: [(Kind, u64); 3] = [(Kind::Call, 14), (Kind::Read, 11), (Kind::Write, 2)];
 
 #[test]
 fn each_call_that_fails_is_told(rt: HostRuntime) {
