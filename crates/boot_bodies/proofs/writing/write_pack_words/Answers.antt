@@ -12,7 +12,7 @@ returns-in_err-onto-clause-only g c = λ t.
 pub returns-in-Ok-clause-done : goal.returns-in-Ok-clause-done
 returns-in-Ok-clause-done g c = λ t.
     part_done _ _ _ _ _ _ _ _ _ _ _ _ c.place_of-place.ensures c.in_ok-onto.ensures.empty
-    (ok_gives _ _ c.in-Ok.ensures.done (c.copy_words.ensures.written (g.met.D.Disk.source_told t)))
+    (ok_gives _ _ c.in-Ok.ensures.done (c.copy_words-onto.ensures.written (g.met.D.Disk.source_told t)))
     (c.in_ok-onto.ensures.created t) (c.in-Ok.ensures.closed t).1 (c.in-Ok.ensures.ended t)
 
 pub returns-in-Ok-clause-keeps : goal.returns-in-Ok-clause-keeps
@@ -31,4 +31,4 @@ returns-in-Err-clause-only g c = λ t.
 
 pub returns-in-Err-clause-refused : goal.returns-in-Err-clause-refused
 returns-in-Err-clause-refused g c = λ t opened.
-    told_is _ (g.D.At.Source.content c.args.source.now.device) _ c.in-Err.ensures.told (c.copy_words.ensures.refused (g.met.D.Disk.source_told t) opened)
+    told_is _ (g.D.At.Source.content c.args.source.now.device) _ c.in-Err.ensures.told (c.copy_words-onto.ensures.refused (g.met.D.Disk.source_told t) opened)
