@@ -2,9 +2,10 @@
 use Rattle.std.proofs.Common.{◌≡◌, ℕ, Bool, IsTrue, List, [], Some, length, refl, sym, ◌∙◌, ap, subst}
 use Rattle.std.specs.Prelude.{unwrap_or}
 use Rattle.abt_disk.specs.World.{World, Held, Opens, Keeps}
-use Rattle.abt_sections.specs.Header.{Header, places_of, fragment_count, fragment_of}
+use Rattle.abt_sections.specs.Header.{Header, view_of, places_of, fragment_count, fragment_of}
+use Rattle.abt_sections.specs.declared.image.Image.{Image}
 use Rattle.abt_sections.specs.Layout.{part_of}
-use Rattle.abt_sections.specs.Open.{HasImage}
+use Rattle.abt_sections.specs.Open.{HasImage, IsOpened}
 use Rattle.boot_rules.specs.declared.part_names.Part.TheVariants as parts
 use Rattle.boot_texts.specs.Words.{image_words, words_text}
 use Rattle.boot_bodies.specs.Among.{GoesAmong, OnlyAmong, Stands}
@@ -66,3 +67,12 @@ keeps_opened P path bytes h h' h'' a b c opens same goes = λ f there.
 
 pub keeps_same : (path : List ℕ) (a b : World) → b ≡ a → Keeps path a b
 keeps_same path a b same = λ f there. ap (λ w. w.holds f) same
+
+pub opens_as : (path x y : List ℕ) (h h' : Held) (a : World) → y ≡ x → Opens a path x h h' → Opens a path y h h'
+opens_as path x y h h' a same opens = subst (λ z. Opens a path z h h') (sym same) opens
+
+pub has_as : (x y : List ℕ) (image : Image) → y ≡ x → IsOpened x image → HasImage y (view_of image.header)
+has_as x y image same opened = subst (λ z. HasImage z (view_of image.header)) (sym same) opened.has
+
+pub opened_as : (x y : List ℕ) (image : Image) → y ≡ x → IsOpened x image → IsOpened y image
+opened_as x y image same opened = subst (λ z. IsOpened z image) (sym same) opened

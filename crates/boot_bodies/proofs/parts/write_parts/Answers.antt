@@ -1,8 +1,8 @@
-use Rattle.std.proofs.Common.{◌∙◌, sym, subst}
+use Rattle.std.proofs.Common.{sym, subst, rules}
 use Rattle.abt_sections.specs.Header.{fragment_count, view_of}
 use Rattle.abt_sections.specs.Open.{IsOpened}
 use Rattle.boot_bodies.specs.Faults.{Refuses}
-use Rattle.boot_bodies.specs.Unpacking.{FragmentsDone, WordsDone}
+use Rattle.boot_bodies.specs.Unpacking.{FragmentsDone}
 use Rattle.boot_bodies.proofs.Amongs.{goes_then, keeps_then}
 use Rattle.boot_bodies.proofs.Loops.{fragments_later, goes_fragment, goes_section, goes_words, sections_later}
 use Rattle.boot_bodies.proofs.parts.write_parts.Goals as goal
@@ -49,7 +49,7 @@ returns-in-Ok-write_pack_words-clause-only g c = λ t.
     goes_then _ _ _ _ _ _ _
     (goes_then _ _ _ _ _ _ _ (goes_section _ _ _ _ _ _ _ (c.in-Ok.ensures.only t))
     (goes_fragment _ _ _ _ _ _ _ (c.in-Ok-write_fragments.ensures.only t)))
-    (goes_words _ _ _ _ _ _ _ (first_of (c.if-not-with_words.false, search (c.if-not-with_words.false), cc))
+    (goes_words _ c.args.with_words _ _ _ _ _ (first_of (search (rules, c.if-not-with_words.false), cc))
     (c.in-Ok-write_pack_words.ensures.only t))
 
 pub returns-in-Err-write_pack_words-clause-only : goal.returns-in-Err-write_pack_words-clause-only
@@ -57,5 +57,5 @@ returns-in-Err-write_pack_words-clause-only g c = λ t.
     goes_then _ _ _ _ _ _ _
     (goes_then _ _ _ _ _ _ _ (goes_section _ _ _ _ _ _ _ (c.in-Ok.ensures.only t))
     (goes_fragment _ _ _ _ _ _ _ (c.in-Ok-write_fragments.ensures.only t)))
-    (goes_words _ _ _ _ _ _ _ (first_of (c.if-not-with_words.false, search (c.if-not-with_words.false), cc))
+    (goes_words _ c.args.with_words _ _ _ _ _ (first_of (search (rules, c.if-not-with_words.false), cc))
     (c.in-Err-write_pack_words.ensures.only t))
