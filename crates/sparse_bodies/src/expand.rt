@@ -1,9 +1,10 @@
 //! The command `expand` of one image.
 
-ghost use Rattle.std.specs.Prelude.{◌≡◌, ◌+◌, None, IsTrue, IfErr, OnOk, if◌then◌else◌};
+ghost use Rattle.std.specs.Prelude.{◌≡◌, ◌+◌, ◌++◌, [], ◌∷◌, None, IsTrue, IfErr, OnOk, if◌then◌else◌};
 ghost use Rattle.abt_refusals.specs.Paths.{path_in, path_out};
 ghost use Rattle.abt_disk.specs.World.{IsReading, OnlyAt, Keeps};
 ghost use Rattle.abt_output.specs.Shows.{Shows};
+ghost use Rattle.sparse_rules.specs.Lines.{text_of};
 ghost use Rattle.sparse_bodies.specs.Expanding.{Says, ExpandsFile, RefusesFile};
 
 use abt_chunks::{Expanded, expand};
@@ -11,7 +12,7 @@ use abt_disk::{Disk, Measured, Reasons, ended};
 use abt_host::Watched;
 use abt_io::{Input, Meter, Output, Window};
 use abt_output::{Progress, Report};
-use abt_refusals::{Place, Sides};
+use abt_refusals::{HostRefusal, Place, Sides};
 use sparse_rules::{Line, SparseCommandFault, SparseRefusal};
 
 /// Writes the raw image of a sparse one, and prints what it has. `-` is standard input, and standard output.
@@ -50,9 +51,24 @@ pub fn expand_one<'a, D: Disk>(
         Err(refusal) => return Err(refusal),
     };
     drop(from);
+    match printed(expanded, is_on_output, report) {
+        Ok(()) => Ok(()),
+        Err(refusal) => Err(refusal.into()),
+    }
+}
+
+// Its text takes more of the stack than all else here, and none of it while the image is written.
+#[inline(never)]
+fn printed<'a>(
+    expanded: Expanded,
+    is_on_output: bool,
+    report: &mut Report,
+) -> Result<(), HostRefusal<'a>>
+    ensures { OnOk result (Shows report.old report.new (text_of (Line.Expanded expanded.blocks expanded.bytes)
+        ++ (10 ∷ []))) }
+{
     let Expanded { blocks, bytes } = expanded;
-    report.line_beside(is_on_output, Line::Expanded { blocks, bytes })?;
-    Ok(())
+    report.line_beside(is_on_output, Line::Expanded { blocks, bytes })
 }
 
 fn expanded<I: Input, O: Output>(

@@ -1,0 +1,16 @@
+//! Tests of the commands over a disk in memory: each once over one that does all, over one of which each call fails in
+//! turn, and over one with two paths to one file.
+//!
+//! What a contract says of every disk needs no test. These hold what is answered and left, and that the disk fails where
+//! it is told to.
+//!
+//! | file | what it has |
+//! |---|---|
+//! | `made.rt` | a disk of these paths and files, and what it holds |
+//! | `expanding.rt` | `expand` |
+#![tactic(auto)]
+
+#[cfg(test)]
+mod expanding;
+#[cfg(test)]
+mod made;
