@@ -8,9 +8,12 @@
 //! |---|---|
 //! | `made.rt` | a disk of these paths and files, and what it holds |
 //! | `expanding.rt` | `expand` |
+//! | `in_place.rt` | `flash`, `flash --raw`, `verify`, `verify --raw` and `list` |
 #![tactic(auto)]
 
 #[cfg(test)]
 mod expanding;
+#[cfg(test)]
+mod in_place;
 #[cfg(test)]
 mod made;

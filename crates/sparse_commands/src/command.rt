@@ -2,11 +2,9 @@
 
 use crate::cut::{Cutting, cut_file};
 use crate::expand::expand_files;
-use crate::flash::{flash_file, flash_pieces};
-use crate::flash_raw::flash_raw_file;
-use crate::list::list_file;
+use crate::flash::flash_pieces;
+use crate::host_commands::{flash_straight, list_file, verify_image};
 use crate::sparse::sparse_file;
-use crate::verify::{verify_file, verify_raw_file};
 use abt_host::Reading;
 use abt_io::{Meter, Window};
 use abt_output::Report;
@@ -50,20 +48,16 @@ pub fn sparse_command<'a>(
             partition,
             raw,
             pieces,
-        } => match (pieces, raw) {
-            (Some(pieces), raw) => flash_pieces(
+        } => match pieces {
+            Some(pieces) => flash_pieces(
                 reading, report, input, partition, raw, pieces, w, m,
             ),
-            (None, Some(size)) => flash_raw_file(reading, report, input, partition, size, w, m),
-            (None, None) => flash_file(reading, report, input, partition, w, m),
+            None => flash_straight(reading, report, input, partition, raw, w, m),
         },
         SparseTask::Verify {
             input,
             partition,
             raw,
-        } => match raw {
-            Some(size) => verify_raw_file(reading, report, input, partition, size, w, m),
-            None => verify_file(reading, report, input, partition, w, m),
-        },
+        } => verify_image(reading, report, input, partition, raw, w, m),
     }
 }

@@ -1,62 +1,16 @@
-//! The command `flash`: a sparse image straight to a partition, or an image in pieces that go through a spool.
+//! The command `flash` of an image in pieces that go through a spool.
 
 ghost use Rattle.std.specs.Prelude.{◌≡◌, ℕ, Err, IfErr, IfOk, IfSome, IsErr, IsTrue, Some, None, false};
 ghost use Rattle.abt_flash.specs.declared.fault.Cause.{Cause};
 
 use abt_buffers::{AheadFile, AheadSource, GatheringSpool};
-use abt_flash::{Cause, Delivered, FlashFault, flash, resume, resume_raw_at};
-use abt_host::{Passing, Reading, Watched};
+use abt_flash::{Cause, Delivered, FlashFault, resume, resume_raw_at};
+use abt_host::{Reading, Watched};
 use abt_io::{DeviceFault, FilePartition, Meter, Source, Window};
 use abt_output::Report;
 use abt_refusals::{Place, Sides};
 use abt_words::Pieces;
 use sparse_rules::{Line, SparseCommandFault, SparseRefusal, image_place, raw_pieces};
-
-/// Flashes an image to a partition, which must be there, and prints how many blocks it was. The image is read forward,
-/// so that it may be a pipe.
-#[inline(never)]
-pub(crate) fn flash_file<'a>(
-    reading: Reading,
-    report: &mut Report,
-    input: &'a str,
-    partition: &'a str,
-    w: &mut Window,
-    m: &mut Meter,
-) -> Result<(), SparseRefusal<'a>> {
-    let mut reading = reading;
-    let input = Place::new("IN", input);
-    let partition = Place::new("PARTITION", partition);
-    let mut from = reading.input(input)?;
-    report.progress.expect_if(from.length);
-    let mut writing = reading.all_open();
-    let mut onto = writing.partition(partition)?;
-    let mut watched = Watched::new(&mut from.from, &mut report.progress);
-    let blocks = match flashed(&mut watched, &mut onto, w, m) {
-        Ok(blocks) => blocks,
-        Err(fault) => {
-            let sides = Sides::none()
-                .reading(input, from.why())
-                .writing(partition, None);
-            return Err(sides.refuse(SparseCommandFault::Flash(fault)));
-        }
-    };
-    let finished = writing.written_in_place(onto);
-    report.line_of(finished, Line::Blocks(u64::from(blocks)))?;
-    Ok(())
-}
-
-// How many blocks were flashed.
-fn flashed(
-    source: &mut Watched<'_, Passing>,
-    onto: &mut FilePartition,
-    w: &mut Window,
-    m: &mut Meter,
-) -> Result<u32, FlashFault> {
-    match flash(source, onto, w, m) {
-        Ok(flashed) => Ok(flashed.blocks),
-        Err(fault) => Err(fault),
-    }
-}
 
 /// Flashes an image in pieces, and prints how many they were. The image is read at any place, so that standard input
 /// will do only where it is a file.

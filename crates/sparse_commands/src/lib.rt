@@ -5,8 +5,8 @@
 //! |---|---|
 //! | `command.rt` | which command it is |
 //! | `expand.rt`, `overlay.rt` | `expand`, of one image and of several laid over one another |
-//! | `list.rt`, `sparse.rt`, `cut.rt`, `flash.rt`, `verify.rt` | the command of that name |
-//! | `flash_raw.rt` | `flash` of a raw image that goes straight to a partition |
+//! | `host_commands.rt` | `list`, `flash` straight to a partition and `verify`, which `flash_bodies` has |
+//! | `sparse.rt`, `cut.rt`, `flash.rt` | `sparse`, `cut`, and `flash` in pieces |
 //! | `pieces.rt` | the pieces of a sparse or a raw image, each written to a file |
 //! | `piece_names.rt` | an image that has the name of a piece |
 //! | `late_writes.rt` | what is told of a command that stopped, where its file is written late |
@@ -17,14 +17,12 @@ mod command;
 mod cut;
 mod expand;
 mod flash;
-mod flash_raw;
+mod host_commands;
 mod lasting;
 mod late_writes;
-mod list;
 mod overlay;
 mod piece_names;
 mod pieces;
 mod sparse;
-mod verify;
 
 pub use command::sparse_command;

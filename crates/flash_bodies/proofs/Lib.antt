@@ -1,0 +1,4 @@
+pub mod Laid
+pub mod Listings
+pub mod Refusals
+pub mod Written

@@ -1,0 +1,71 @@
+-- A listing that was printed is that of an image, and one that was refused has its fault.
+use Rattle.std.proofs.Common.{◌≡◌, ◌≢◌, ℕ, ◌<◌, List, [], ◌∷◌, ◌++◌, length, refl, sym, ◌∙◌, ap, subst}
+use Rattle.std.specs.Prelude.{Option, Some, None, Result, Ok, Err, unwrap_or, All}
+use Rattle.abt_io.specs.Bytes.{AreBytes}
+use Rattle.abt_sparse.specs.declared.fault.SparseFault.{SparseFault}
+use Rattle.abt_sparse.specs.declared.fault.SparseFault.TheVariants.{Magic}
+use Rattle.abt_sparse.specs.Chunk.{Header, Chunk}
+use Rattle.abt_sparse.specs.Fails.{Fails, IsOutcome, Spells, no_image, bad_header, cut_header, bad_chunk, too_few}
+use Rattle.abt_sparse.specs.Reading.{Outcome, Image, Fault, outcome}
+use Rattle.abt_sparse.proofs.Exactly.{is_so}
+use Rattle.abt_chunks.specs.declared.progress.ChunkInfo.{ChunkInfo}
+use Rattle.abt_chunks.specs.Listing.{Listing, infos, listing_of}
+use Rattle.abt_chunks.proofs.ListingLaws.{listings_right}
+
+-- an image and its listing
+pub record ListedAs (x rest : List ℕ) (header : Header) (shown : List ChunkInfo) : Type 0 where
+  pub chunks : List Chunk
+  pub spelled : Spells x header chunks rest
+  pub infos : shown ≡ infos 0 chunks
+
+abbrev fault_or : SparseFault → Result (List ℕ) SparseFault → SparseFault
+fault_or d (Ok x) = d
+fault_or d (Err f) = f
+
+abbrev rest_or : Result (List ℕ) SparseFault → List ℕ
+rest_or (Ok x) = x
+rest_or (Err f) = []
+
+abbrev IsOkay : Result (List ℕ) SparseFault → Type 0
+IsOkay (Ok x) = Unit {0}
+IsOkay (Err f) = ⊥
+
+-- bytes with a fault have a listing that ends with it
+fault_ends : (x : List ℕ) (f : SparseFault) (given : List (Option ℕ)) → Fails x f given → (listing_of x).ending ≡ Err f
+fault_ends x _ _ (no_image short) = ap (λ l. l.ending) (listings_right.no_image x short)
+fault_ends x _ _ (bad_header f long fails) = ap (λ l. l.ending) (listings_right.bad_header x f long fails)
+fault_ends x _ _ (cut_header h y fits is short) = ap (λ l. l.ending) (listings_right.cut_header x h y fits is short)
+fault_ends x _ _ (bad_chunk h cs y f came front few fails) =
+    ap (λ l. l.ending) (listings_right.bad_chunk x h cs y f came front few fails)
+fault_ends x _ _ (too_few h cs y front all short) = ap (λ l. l.ending) (listings_right.too_few x h cs y front all short)
+
+image_in : (x rest : List ℕ) (header : Header) (shown : List ChunkInfo) (o : Outcome) → IsOutcome x o
+    → listing_of x ≡ record { head = Some header; shown = shown; ending = Ok rest } → ListedAs x rest header shown
+image_in x rest header shown (Image h cs left) is l =
+    let own = listings_right.image x h cs left is in
+    let same : h ≡ header = ap (λ k. unwrap_or k.head header) (sym own ∙ l) in
+    let behind : left ≡ rest = ap (λ k. rest_or k.ending) (sym own ∙ l) in
+    record {
+      chunks = cs;
+      spelled = subst (λ g. Spells x g cs rest) same (subst (λ y. Spells x h cs y) behind is);
+      infos = sym (ap (λ k. k.shown) (sym own ∙ l));
+    }
+image_in x rest header shown (Fault f given) is l =
+    absurd (subst IsOkay (sym (ap (λ k. k.ending) l) ∙ fault_ends x f given is) tt)
+
+-- what was printed whole is an image
+pub image_listed : (x rest : List ℕ) (header : Header) (shown : List ChunkInfo) → AreBytes x
+    → listing_of x ≡ record { head = Some header; shown = shown; ending = Ok rest } → ListedAs x rest header shown
+image_listed x rest header shown bytes l = image_in x rest header shown (outcome x) (is_so x bytes) l
+
+fault_in : (x : List ℕ) (f : SparseFault) (o : Outcome) → IsOutcome x o → (listing_of x).ending ≡ Err f
+    → (given : List (Option ℕ)) × Fails x f given
+fault_in x f (Image h cs left) is ends =
+    absurd (subst IsOkay (sym (ap (λ l. l.ending) (listings_right.image x h cs left is)) ∙ ends) tt)
+fault_in x f (Fault g given) is ends =
+    (given, subst (λ e. Fails x e given) (ap (fault_or g) (sym (fault_ends x g given is) ∙ ends)) is)
+
+-- a fault that was told is the first of these bytes
+pub fault_listed : (x : List ℕ) (f : SparseFault) → AreBytes x → (listing_of x).ending ≡ Err f
+    → (given : List (Option ℕ)) × Fails x f given
+fault_listed x f bytes ends = fault_in x f (outcome x) (is_so x bytes) ends

@@ -1,0 +1,74 @@
+-- What the command `flash` of a sparse image leaves of files, and what it prints.
+use Rattle.std.specs.Prelude.{◌≡◌, ℕ, ◌+◌, ◌*◌, ◌≤◌, ◌<◌, List, [], ◌∷◌, ◌++◌, length, Option, Result, Ok, Err}
+use Rattle.abt_sparse.specs.declared.fault.SparseFault.{SparseFault}
+use Rattle.abt_sparse.specs.Chunk.{Header, Chunk, classed}
+use Rattle.abt_sparse.specs.Fails.{Fails, Spells, SpellsHeader}
+use Rattle.abt_sparse.specs.Pieces.{flashed}
+use Rattle.abt_pieces.specs.Contents.{written_in}
+use Rattle.abt_flash.specs.declared.fault.FlashFault.{FlashFault}
+use Rattle.abt_flash.specs.declared.fault.FlashFault.TheVariants as flashes
+use Rattle.abt_disk.specs.World.{World}
+use Rattle.sparse_rules.specs.declared.fault.SparseCommandFault.{SparseCommandFault}
+use Rattle.sparse_rules.specs.declared.fault.SparseCommandFault.TheVariants as faults
+use Rattle.sparse_rules.specs.declared.lines.Line.TheVariants as lines
+use Rattle.sparse_rules.specs.Lines.{text_of}
+use Rattle.flash_bodies.specs.Files.{Between}
+
+-- ---- one image, over what held p and holds p' then
+
+-- An image stands at the front of x, with n raw and fill blocks. It fits, and p' is what flashing leaves of p.
+pub record IsFlashed (n : ℕ) (x p p' : List ℕ) : Type 0 where
+  pub header : Header
+  pub chunks : List Chunk
+  pub rest : List ℕ
+  pub spelled : Spells x header chunks rest
+  pub fits : header.total_blks * header.blk_sz ≤ length p
+  pub blocks : n ≡ written_in (classed chunks)
+  pub holds : p' ≡ flashed p x
+
+-- x has this fault, and p' is p with what comes before it
+pub record IsFlashedUpTo (f : SparseFault) (x p p' : List ℕ) : Type 0 where
+  pub given : List (Option ℕ)
+  pub fails : Fails x f given
+  pub holds : p' ≡ flashed p x
+
+-- the image at the front of x needs so many bytes, which p has not; nothing was written
+pub record HasNoRoom (need : ℕ) (x p p' : List ℕ) : Type 0 where
+  pub header : Header
+  pub behind : List ℕ
+  pub spelled : SpellsHeader x header behind
+  pub needs : need ≡ header.total_blks * header.blk_sz
+  pub short : length p < need
+  pub kept : p' ≡ p
+
+-- why it is not flashed: the first fault of x, no room, or a device's
+abbrev pub IsUnflashed : FlashFault → List ℕ → List ℕ → List ℕ → Type 0
+IsUnflashed (flashes.Sparse f) x p p' = IsFlashedUpTo f x p p'
+IsUnflashed (flashes.PartitionTooSmall need) x p p' = HasNoRoom need x p p'
+IsUnflashed (flashes.Read d) x p p' = Unit {0}
+IsUnflashed (flashes.Write d) x p p' = Unit {0}
+IsUnflashed (flashes.Sync d) x p p' = Unit {0}
+IsUnflashed f x p p' = ⊥
+
+-- ---- of files
+
+-- The one file held an image that fits. The other holds what flashing leaves of what it held, and was synced behind its
+-- last byte. The line that was printed has the number of the image's raw and fill blocks.
+pub record FlashesFile (input partition : List ℕ) (old new : World) (syncs syncs' : ℕ) (shows : List ℕ → Type 0)
+    : Type 0 where
+  pub blocks : ℕ
+  pub flashed : Between input partition old new (IsFlashed blocks)
+  pub synced : syncs' ≡ syncs + 1
+  pub shown : shows (text_of (lines.Blocks blocks) ++ (10 ∷ []))
+
+-- why the command is refused: for what the files hold, or for a fault of files
+abbrev pub RefusesFlash : SparseCommandFault → List ℕ → List ℕ → World → World → Type 0
+RefusesFlash (faults.Flash f) input partition old new = Between input partition old new (IsUnflashed f)
+RefusesFlash (faults.Host f) input partition old new = Unit {0}
+RefusesFlash f input partition old new = ⊥
+
+-- what the call answers of x, over what held p and holds p' then
+abbrev pub Lays : Result ℕ SparseCommandFault → List ℕ → List ℕ → List ℕ → Type 0
+Lays (Ok n) x p p' = IsFlashed n x p p'
+Lays (Err (faults.Flash f)) x p p' = IsUnflashed f x p p'
+Lays (Err f) x p p' = ⊥

@@ -1,0 +1,71 @@
+-- What the command `flash --raw` leaves of files, and what it prints.
+use Rattle.std.specs.Prelude.{◌≡◌, ℕ, ◌+◌, ◌*◌, ◌≤◌, ◌<◌, List, [], ◌∷◌, ◌++◌, length, Result, Ok, Err}
+use Rattle.abt_io.specs.Moment.{put_at}
+use Rattle.abt_sparse.specs.Block.{filled_to}
+use Rattle.abt_runs.specs.Raw.{Refused}
+use Rattle.abt_runs.specs.declared.part.RunFault.{RunFault}
+use Rattle.abt_runs.specs.declared.part.RunFault.TheVariants as of_runs
+use Rattle.abt_flash.specs.Raw.{IsFilled}
+use Rattle.abt_flash.specs.declared.fault.FlashFault.{FlashFault}
+use Rattle.abt_flash.specs.declared.fault.FlashFault.TheVariants as flashes
+use Rattle.abt_disk.specs.World.{World}
+use Rattle.sparse_rules.specs.declared.fault.SparseCommandFault.{SparseCommandFault}
+use Rattle.sparse_rules.specs.declared.fault.SparseCommandFault.TheVariants as faults
+use Rattle.sparse_rules.specs.declared.lines.Line.TheVariants as lines
+use Rattle.sparse_rules.specs.Lines.{text_of}
+use Rattle.flash_bodies.specs.Files.{Between}
+
+-- ---- one image, over what held p and holds p' then
+
+-- n blocks of b bytes are what x fills, the last of them maybe in part. They fit, and p' is p with x and zeros up to
+-- their end at its front.
+pub record IsFlashedRaw (n b : ℕ) (x p p' : List ℕ) : Type 0 where
+  pub filled : IsFilled n b (length x)
+  pub fits : n * b ≤ length p
+  pub holds : p' ≡ put_at p 0 (filled_to (n * b) x)
+
+-- the blocks of x need so many bytes, which p has not; nothing was written
+pub record HasNoRoomRaw (need b : ℕ) (x p p' : List ℕ) : Type 0 where
+  pub blocks : ℕ
+  pub filled : IsFilled blocks b (length x)
+  pub needs : need ≡ blocks * b
+  pub short : length p < need
+  pub kept : p' ≡ p
+
+-- it has no such blocks, or more than can be, and nothing was written; or a device failed
+abbrev pub IsUnopened : RunFault → ℕ → List ℕ → List ℕ → List ℕ → Type 0
+IsUnopened (of_runs.Read d) b x p p' = Unit {0}
+IsUnopened f b x p p' = Refused f b (length x) × (p' ≡ p)
+
+-- there is no room, or a device failed
+abbrev pub IsUnlaid : FlashFault → ℕ → List ℕ → List ℕ → List ℕ → Type 0
+IsUnlaid (flashes.PartitionTooSmall need) b x p p' = HasNoRoomRaw need b x p p'
+IsUnlaid (flashes.Write d) b x p p' = Unit {0}
+IsUnlaid (flashes.Sync d) b x p p' = Unit {0}
+IsUnlaid f b x p p' = ⊥
+
+-- what the call answers of x, over what held p and holds p' then
+abbrev pub IsUnflashedRaw : SparseCommandFault → ℕ → List ℕ → List ℕ → List ℕ → Type 0
+IsUnflashedRaw (faults.Run f) b x p p' = IsUnopened f b x p p'
+IsUnflashedRaw (faults.Flash f) b x p p' = IsUnlaid f b x p p'
+IsUnflashedRaw f b x p p' = ⊥
+
+abbrev pub LaysRaw : Result ℕ SparseCommandFault → ℕ → List ℕ → List ℕ → List ℕ → Type 0
+LaysRaw (Ok n) b x p p' = IsFlashedRaw n b x p p'
+LaysRaw (Err f) b x p p' = IsUnflashedRaw f b x p p'
+
+-- ---- of files
+
+-- The one file held a raw image whose blocks fit. The other holds it at its front, with zeros up to a whole block, and
+-- else what it held, and was synced behind its last byte. The line that was printed has the number of blocks.
+pub record FlashesRawFile (size : ℕ) (input partition : List ℕ) (old new : World) (syncs syncs' : ℕ)
+    (shows : List ℕ → Type 0) : Type 0 where
+  pub blocks : ℕ
+  pub flashed : Between input partition old new (IsFlashedRaw blocks size)
+  pub synced : syncs' ≡ syncs + 1
+  pub shown : shows (text_of (lines.Blocks blocks) ++ (10 ∷ []))
+
+-- why the command is refused: for what the files hold, or for a fault of files
+abbrev pub RefusesFlashRaw : SparseCommandFault → ℕ → List ℕ → List ℕ → World → World → Type 0
+RefusesFlashRaw (faults.Host f) size input partition old new = Unit {0}
+RefusesFlashRaw f size input partition old new = Between input partition old new (IsUnflashedRaw f size)

@@ -1,0 +1,20 @@
+-- What laying a source over the front of a partition may be refused for.
+use Rattle.std.specs.Prelude.{◌≡◌, Bool, false}
+use Rattle.abt_runs.specs.declared.part.RunFault.TheVariants as of_runs
+use Rattle.abt_flash.specs.declared.fault.FlashFault.TheVariants as flashes
+use Rattle.sparse_rules.specs.declared.fault.SparseCommandFault.{SparseCommandFault}
+use Rattle.sparse_rules.specs.declared.fault.SparseCommandFault.TheVariants as faults
+use Rattle.abt_io.specs.declared.copying.CopyFault.{CopyFault}
+use Rattle.abt_io.specs.declared.copying.CopyFault.TheVariants as copies
+
+-- a fault of a device; a source gives fewer bytes than it has said only where it doesn't tell them
+abbrev pub IsOfDevices : Bool → CopyFault → Type 0
+IsOfDevices tells (copies.Read d) = Unit {0}
+IsOfDevices tells (copies.Write d) = Unit {0}
+IsOfDevices tells copies.Changed = tells ≡ false
+
+-- what is told of it
+abbrev pub unlaid : CopyFault → SparseCommandFault
+unlaid (copies.Read d) = faults.Run (of_runs.Read d)
+unlaid (copies.Write d) = faults.Flash (flashes.Write d)
+unlaid copies.Changed = faults.Run of_runs.SourceChanged

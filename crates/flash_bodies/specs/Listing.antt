@@ -1,0 +1,32 @@
+-- What the command `list` prints of a file, which it leaves as it is.
+use Rattle.std.specs.Prelude.{ℕ, List, ◌++◌, flat_map, Option}
+use Rattle.abt_sparse.specs.declared.fault.SparseFault.{SparseFault}
+use Rattle.abt_sparse.specs.declared.fault.SparseFault.TheVariants as of_sparse
+use Rattle.abt_sparse.specs.Chunk.{Header, Chunk}
+use Rattle.abt_sparse.specs.Fails.{Fails, Spells}
+use Rattle.abt_chunks.specs.Listing.{infos}
+use Rattle.sparse_texts.specs.Listed.{chunk_line, header_line}
+use Rattle.abt_disk.specs.World.{World}
+use Rattle.sparse_rules.specs.declared.fault.SparseCommandFault.{SparseCommandFault}
+use Rattle.sparse_rules.specs.declared.fault.SparseCommandFault.TheVariants as faults
+use Rattle.flash_bodies.specs.Files.{OfFile}
+
+-- an image stands at the front of x, and its header and its chunks were printed, a line each
+pub record IsListed (x : List ℕ) (printed : List ℕ → Type 0) : Type 0 where
+  pub header : Header
+  pub chunks : List Chunk
+  pub rest : List ℕ
+  pub spelled : Spells x header chunks rest
+  pub shown : printed (header_line header ++ flat_map chunk_line (infos 0 chunks))
+
+-- the first fault of x, or a device's
+abbrev pub IsUnlisted : SparseFault → List ℕ → Type 0
+IsUnlisted (of_sparse.Read d) x = Unit {0}
+IsUnlisted (of_sparse.Write d) x = Unit {0}
+IsUnlisted f x = (given : List (Option ℕ)) × Fails x f given
+
+-- why the command is refused: for what the file holds, or for a fault of files
+abbrev pub RefusesList : SparseCommandFault → List ℕ → World → Type 0
+RefusesList (faults.Sparse f) input world = OfFile input world (IsUnlisted f)
+RefusesList (faults.Host f) input world = Unit {0}
+RefusesList f input world = ⊥

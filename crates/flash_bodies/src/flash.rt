@@ -1,0 +1,76 @@
+//! The command `flash` of a sparse image that goes straight to a partition.
+
+ghost use Rattle.std.specs.Prelude.{◌≡◌, ◌+◌, [], None, IsTrue, OnOk, IfErr};
+ghost use Rattle.abt_refusals.specs.Paths.{path_in, path_of};
+ghost use Rattle.abt_disk.specs.InPlace.{SparesOthers};
+ghost use Rattle.abt_disk.specs.World.{Keeps};
+ghost use Rattle.abt_output.specs.Shows.{Shows};
+ghost use Rattle.flash_bodies.specs.Flashing.{FlashesFile, Lays, RefusesFlash};
+
+use abt_disk::{Disk, Measured, Reasons, closed};
+use abt_flash::flash;
+use abt_host::Watched;
+use abt_io::{Input, Meter, Partition, Window};
+use abt_output::{Progress, Report};
+use abt_refusals::{Place, Sides};
+use sparse_rules::{Line, SparseCommandFault, SparseRefusal};
+
+/// Flashes an image to a partition, which must be there, and prints how many blocks it was. The image is read forward,
+/// so that it may be a pipe.
+#[inline(never)]
+pub fn flash_file<'a, D: Disk>(
+    disk: &mut D,
+    report: &mut Report,
+    input: Place<'a>,
+    partition: Place<'a>,
+    w: &mut Window,
+    m: &mut Meter,
+) -> Result<(), SparseRefusal<'a>>
+    requires first { IsTrue D.tells → (D.held disk.old).begun ≡ [] }
+    requires one { IsTrue D.tells → (D.held disk.old).part ≡ None }
+    // PARTITION holds what flashing IN leaves of what it held, and is synced; what was printed tells of it
+    ensures done { IsTrue D.tells → OnOk result (FlashesFile (path_in input.entry) (path_of partition.entry)
+        (D.world disk.old) (D.world disk.new) (D.held disk.old).syncs (D.held disk.new).syncs
+        (Shows report.old report.new)) }
+    // whatever comes, PARTITION alone may hold anything else, and IN holds what it held
+    ensures others { IsTrue D.tells → SparesOthers (path_of partition.entry) (D.world disk.old) (D.world disk.new) }
+    ensures input { IsTrue D.tells → Keeps (path_in input.entry) (D.world disk.old) (D.world disk.new) }
+    // it is refused for the first fault that IN has, for want of room, or for a fault of files or devices
+    ensures refused { IsTrue D.tells → IfErr result (λ refusal. RefusesFlash refusal.fault (path_in input.entry)
+        (path_of partition.entry) (D.world disk.old) (D.world disk.new)) }
+{
+    let mut from = disk.input(input)?;
+    report.progress.expect_if(from.known_length());
+    let mut onto = disk.partition(partition)?;
+    let answer = flashed(&mut from, &mut onto, &mut report.progress, w, m);
+    let sides = Sides::none()
+        .reading(input, from.why())
+        .writing(partition, None);
+    let (blocks, is_on_output) = match closed(disk, answer, onto, sides) {
+        Ok(end) => end,
+        Err(refusal) => return Err(refusal),
+    };
+    report.line_beside(is_on_output, Line::Blocks(u64::from(blocks)))?;
+    Ok(())
+}
+
+// How many blocks were flashed.
+fn flashed<I: Input, P: Partition>(
+    from: &mut I,
+    onto: &mut P,
+    progress: &mut Progress,
+    w: &mut Window,
+    m: &mut Meter,
+) -> Result<u32, SparseCommandFault>
+    ensures lays { IsTrue I.tells → IsTrue P.tells →
+        Lays result (I.remaining from.old) (P.content onto.old) (P.content onto.new) }
+    ensures synced { OnOk result ((P.past onto.new).synced ≡ (P.past onto.old).synced + 1) }
+    ensures settled { IsTrue P.tells → OnOk result ((P.past onto.new).pending ≡ []) }
+    ensures size { P.size onto.new ≡ P.size onto.old }
+{
+    let mut watched = Watched::over(from, progress);
+    match flash(&mut watched, onto, w, m) {
+        Ok(flashed) => Ok(flashed.blocks),
+        Err(fault) => Err(SparseCommandFault::Flash(fault)),
+    }
+}

@@ -1,0 +1,73 @@
+//! The command `flash` of a raw image that goes straight to a partition.
+
+ghost use Rattle.std.specs.Prelude.{◌≡◌, ◌+◌, [], None, IsTrue, OnOk, IfErr};
+ghost use Rattle.abt_refusals.specs.Paths.{path_of};
+ghost use Rattle.abt_disk.specs.InPlace.{SparesOthers};
+ghost use Rattle.abt_disk.specs.World.{Keeps};
+ghost use Rattle.abt_output.specs.Shows.{Shows};
+ghost use Rattle.flash_bodies.specs.FlashingRaw.{FlashesRawFile, LaysRaw, RefusesFlashRaw};
+
+use crate::blocks::flash_blocks;
+use abt_disk::{Disk, closed};
+use abt_host::Watched;
+use abt_io::{Meter, Partition, Source, Window};
+use abt_output::{Progress, Report};
+use abt_refusals::{Place, Sides};
+use sparse_rules::{Line, SparseCommandFault, SparseRefusal};
+
+/// Flashes a raw image in blocks of so many bytes to a partition, which must be there, and prints how many they were. It
+/// is read once, at any place, so that standard input will do only where it is a file.
+#[inline(never)]
+pub fn flash_raw_file<'a, D: Disk>(
+    disk: &mut D,
+    report: &mut Report,
+    input: Place<'a>,
+    partition: Place<'a>,
+    size: u32,
+    w: &mut Window,
+    m: &mut Meter,
+) -> Result<(), SparseRefusal<'a>>
+    requires first { IsTrue D.tells → (D.held disk.old).begun ≡ [] }
+    requires one { IsTrue D.tells → (D.held disk.old).part ≡ None }
+    // PARTITION holds IN in whole blocks at its front, and is synced; what was printed tells of it
+    ensures done { IsTrue D.tells → OnOk result (FlashesRawFile size (path_of input.entry) (path_of partition.entry)
+        (D.world disk.old) (D.world disk.new) (D.held disk.old).syncs (D.held disk.new).syncs
+        (Shows report.old report.new)) }
+    // whatever comes, PARTITION alone may hold anything else, and IN holds what it held
+    ensures others { IsTrue D.tells → SparesOthers (path_of partition.entry) (D.world disk.old) (D.world disk.new) }
+    ensures input { IsTrue D.tells → Keeps (path_of input.entry) (D.world disk.old) (D.world disk.new) }
+    // it is refused for its blocks, for want of room, or for a fault of files or devices
+    ensures refused { IsTrue D.tells → IfErr result (λ refusal. RefusesFlashRaw refusal.fault size (path_of input.entry)
+        (path_of partition.entry) (D.world disk.old) (D.world disk.new)) }
+{
+    let mut source = disk.source(input)?;
+    report.progress.expect(source.length(), 1);
+    let mut onto = disk.partition(partition)?;
+    let answer = flashed(&mut source, size, &mut onto, &mut report.progress, w, m);
+    let sides = Sides::none().reading(input, None).writing(partition, None);
+    let (blocks, is_on_output) = match closed(disk, answer, onto, sides) {
+        Ok(end) => end,
+        Err(refusal) => return Err(refusal),
+    };
+    report.line_beside(is_on_output, Line::Blocks(u64::from(blocks)))?;
+    Ok(())
+}
+
+// How many blocks were flashed.
+fn flashed<S: Source, P: Partition>(
+    source: &mut S,
+    size: u32,
+    onto: &mut P,
+    progress: &mut Progress,
+    w: &mut Window,
+    m: &mut Meter,
+) -> Result<u32, SparseCommandFault>
+    ensures lays { IsTrue S.tells → IsTrue P.tells →
+        LaysRaw result size (S.content source.old) (P.content onto.old) (P.content onto.new) }
+    ensures synced { OnOk result ((P.past onto.new).synced ≡ (P.past onto.old).synced + 1) }
+    ensures settled { IsTrue P.tells → OnOk result ((P.past onto.new).pending ≡ []) }
+    ensures size { P.size onto.new ≡ P.size onto.old }
+{
+    let mut watched = Watched::over(source, progress);
+    flash_blocks(&mut watched, size, onto, w, m)
+}

@@ -1,0 +1,119 @@
+//! The commands at a disk in memory, of which every clause speaks.
+
+ghost use Rattle.std.specs.Prelude.{◌≡◌, ◌++◌, [], None, OnOk, IfErr};
+ghost use Rattle.abt_refusals.specs.Paths.{path_in, path_of};
+ghost use Rattle.abt_disk.specs.InPlace.{SparesOthers};
+ghost use Rattle.abt_disk.specs.Memory.{held_of, world_of};
+ghost use Rattle.abt_disk.specs.World.{Keeps};
+ghost use Rattle.abt_output.specs.Shows.{Shows};
+ghost use Rattle.flash_bodies.specs.Files.{OfFile};
+ghost use Rattle.flash_bodies.specs.Flashing.{FlashesFile, RefusesFlash};
+ghost use Rattle.flash_bodies.specs.FlashingRaw.{FlashesRawFile, RefusesFlashRaw};
+ghost use Rattle.flash_bodies.specs.Listing.{IsListed, RefusesList};
+ghost use Rattle.flash_bodies.specs.Verifying.{RefusesVerify, RefusesVerifyRaw, VerifiesFile, VerifiesRawFile};
+
+use crate::{flash_file, flash_raw_file, list_file, verify_file, verify_raw_file};
+use abt_disk::MemoryDisk;
+use abt_io::{Meter, Window};
+use abt_output::Report;
+use abt_refusals::Place;
+use sparse_rules::SparseRefusal;
+
+/// `flash` at a disk in memory.
+pub fn flash_in_memory<'a>(
+    disk: &mut MemoryDisk,
+    report: &mut Report,
+    input: Place<'a>,
+    partition: Place<'a>,
+    w: &mut Window,
+    m: &mut Meter,
+) -> Result<(), SparseRefusal<'a>>
+    requires first { (held_of disk.old).begun ≡ [] }
+    requires one { (held_of disk.old).part ≡ None }
+    ensures done { OnOk result (FlashesFile (path_in input.entry) (path_of partition.entry) (world_of disk.old)
+        (world_of disk.new) (held_of disk.old).syncs (held_of disk.new).syncs (Shows report.old report.new)) }
+    ensures others { SparesOthers (path_of partition.entry) (world_of disk.old) (world_of disk.new) }
+    ensures input { Keeps (path_in input.entry) (world_of disk.old) (world_of disk.new) }
+    ensures refused { IfErr result (λ refusal. RefusesFlash refusal.fault (path_in input.entry)
+        (path_of partition.entry) (world_of disk.old) (world_of disk.new)) }
+{
+    flash_file(disk, report, input, partition, w, m)
+}
+
+/// `flash --raw` at a disk in memory.
+pub fn flash_raw_in_memory<'a>(
+    disk: &mut MemoryDisk,
+    report: &mut Report,
+    input: Place<'a>,
+    partition: Place<'a>,
+    size: u32,
+    w: &mut Window,
+    m: &mut Meter,
+) -> Result<(), SparseRefusal<'a>>
+    requires first { (held_of disk.old).begun ≡ [] }
+    requires one { (held_of disk.old).part ≡ None }
+    ensures done { OnOk result (FlashesRawFile size (path_of input.entry) (path_of partition.entry) (world_of disk.old)
+        (world_of disk.new) (held_of disk.old).syncs (held_of disk.new).syncs (Shows report.old report.new)) }
+    ensures others { SparesOthers (path_of partition.entry) (world_of disk.old) (world_of disk.new) }
+    ensures input { Keeps (path_of input.entry) (world_of disk.old) (world_of disk.new) }
+    ensures refused { IfErr result (λ refusal. RefusesFlashRaw refusal.fault size (path_of input.entry)
+        (path_of partition.entry) (world_of disk.old) (world_of disk.new)) }
+{
+    flash_raw_file(disk, report, input, partition, size, w, m)
+}
+
+/// `verify` at a disk in memory.
+pub fn verify_in_memory<'a>(
+    disk: &mut MemoryDisk,
+    report: &mut Report,
+    input: Place<'a>,
+    partition: Place<'a>,
+    w: &mut Window,
+    m: &mut Meter,
+) -> Result<(), SparseRefusal<'a>>
+    requires first { (held_of disk.old).begun ≡ [] }
+    ensures done { OnOk result (VerifiesFile (path_in input.entry) (path_of partition.entry) (world_of disk.old)
+        (Shows report.old report.new)) }
+    ensures world { world_of disk.new ≡ world_of disk.old }
+    ensures refused { IfErr result (λ refusal. RefusesVerify refusal.fault (path_in input.entry)
+        (path_of partition.entry) (world_of disk.old)) }
+{
+    verify_file(disk, report, input, partition, w, m)
+}
+
+/// `verify --raw` at a disk in memory.
+pub fn verify_raw_in_memory<'a>(
+    disk: &mut MemoryDisk,
+    report: &mut Report,
+    input: Place<'a>,
+    partition: Place<'a>,
+    size: u32,
+    w: &mut Window,
+    m: &mut Meter,
+) -> Result<(), SparseRefusal<'a>>
+    requires first { (held_of disk.old).begun ≡ [] }
+    ensures done { OnOk result (VerifiesRawFile size (path_of input.entry) (path_of partition.entry) (world_of disk.old)
+        (Shows report.old report.new)) }
+    ensures world { world_of disk.new ≡ world_of disk.old }
+    ensures refused { IfErr result (λ refusal. RefusesVerifyRaw refusal.fault size (path_of input.entry)
+        (path_of partition.entry) (world_of disk.old)) }
+{
+    verify_raw_file(disk, report, input, partition, size, w, m)
+}
+
+/// `list` at a disk in memory.
+pub fn list_in_memory<'a>(
+    disk: &mut MemoryDisk,
+    report: &mut Report,
+    input: Place<'a>,
+    w: &mut Window,
+    m: &mut Meter,
+) -> Result<(), SparseRefusal<'a>>
+    requires first { (held_of disk.old).begun ≡ [] }
+    ensures done { OnOk result (OfFile (path_in input.entry) (world_of disk.old) (λ x.
+        IsListed x (λ text. report.new.out.log.state.bytes ≡ report.old.out.log.state.bytes ++ text))) }
+    ensures world { world_of disk.new ≡ world_of disk.old }
+    ensures refused { IfErr result (λ refusal. RefusesList refusal.fault (path_in input.entry) (world_of disk.old)) }
+{
+    list_file(disk, report, input, w, m)
+}

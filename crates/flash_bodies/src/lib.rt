@@ -1,0 +1,29 @@
+//! The commands `flash`, straight to a partition, `verify` and `list`, over any disk.
+//!
+//! Each says what it leaves of files, whatever comes, and what it prints. At a disk that tells what its files hold, as
+//! `MemoryDisk`, every clause speaks; the program's own disk tells nothing.
+//!
+//! | file | has |
+//! |---|---|
+//! | `flash.rt`, `flash_raw.rt` | an image straight to a partition, sparse or raw |
+//! | `blocks.rt`, `laying.rt` | each block of a raw image to a partition; a source over its front |
+//! | `verify.rt` | whether an image stands on a partition |
+//! | `list.rt` | the header and the chunks of a sparse image |
+//! | `in_memory.rt` | the same commands at a disk in memory |
+#![tactic(auto)]
+
+mod blocks;
+mod flash;
+mod flash_raw;
+mod in_memory;
+mod laying;
+mod list;
+mod verify;
+
+pub use flash::flash_file;
+pub use flash_raw::flash_raw_file;
+pub use in_memory::{
+    flash_in_memory, flash_raw_in_memory, list_in_memory, verify_in_memory, verify_raw_in_memory,
+};
+pub use list::list_file;
+pub use verify::{verify_file, verify_raw_file};

@@ -1,0 +1,59 @@
+//! The command `list`: the header and the chunks of a sparse image.
+
+ghost use Rattle.std.specs.Prelude.{◌≡◌, ◌++◌, [], IsTrue, OnOk, IfErr};
+ghost use Rattle.abt_refusals.specs.Paths.{path_in};
+ghost use Rattle.flash_bodies.specs.Files.{OfFile};
+ghost use Rattle.flash_bodies.specs.Listing.{IsListed, IsUnlisted, RefusesList};
+
+use abt_disk::{Disk, Reasons};
+use abt_io::{Input, Meter, Output, Window};
+use abt_output::Report;
+use abt_refusals::{Place, Sides};
+use abt_sparse::SparseFault;
+use sparse_rules::{SparseCommandFault, SparseRefusal};
+use sparse_texts::report_list;
+
+/// Prints the header and each chunk of a sparse image. `-` is standard input.
+#[inline(never)]
+pub fn list_file<'a, D: Disk>(
+    disk: &mut D,
+    report: &mut Report,
+    input: Place<'a>,
+    w: &mut Window,
+    m: &mut Meter,
+) -> Result<(), SparseRefusal<'a>>
+    requires first { IsTrue D.tells → (D.held disk.old).begun ≡ [] }
+    // what was printed are the header and the chunks of the image that IN holds
+    ensures done { IsTrue D.tells → OnOk result (OfFile (path_in input.entry) (D.world disk.old) (λ x.
+        IsListed x (λ text. report.new.out.log.state.bytes ≡ report.old.out.log.state.bytes ++ text))) }
+    // every file stays as it is
+    ensures world { IsTrue D.tells → D.world disk.new ≡ D.world disk.old }
+    // it is refused for the first fault that IN has, or for one of files or devices
+    ensures refused { IsTrue D.tells → IfErr result (λ refusal. RefusesList refusal.fault (path_in input.entry)
+        (D.world disk.old)) }
+{
+    let mut from = disk.input(input)?;
+    match listed(&mut from, &mut report.out, w, m) {
+        Ok(()) => Ok(()),
+        Err(fault) => {
+            let sides = Sides::none()
+                .reading(input, from.why())
+                .printing(report.out.writer.why);
+            Err(sides.refuse(SparseCommandFault::Sparse(fault)))
+        }
+    }
+}
+
+// Prints the listing of an image.
+fn listed<I: Input, O: Output>(
+    from: &mut I,
+    out: &mut O,
+    w: &mut Window,
+    m: &mut Meter,
+) -> Result<(), SparseFault>
+    ensures listed { IsTrue I.tells → OnOk result (IsListed (I.remaining from.old) (λ text.
+        O.written out.new ≡ O.written out.old ++ text)) }
+    ensures refused { IsTrue I.tells → IfErr result (λ fault. IsUnlisted fault (I.remaining from.old)) }
+{
+    report_list(from, out, w, m)
+}
