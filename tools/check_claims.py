@@ -24,12 +24,13 @@ import subprocess
 import sys
 
 HERE = os.path.dirname(os.path.dirname(os.path.abspath(__file__)))
-MOST_LINES = 800
+MOST_LINES = 850
 DOCUMENTS = ("README.md", "CONTRIBUTING.md", "CHANGELOG.md", "docs/*.md")
 # What these do is called by the program alone, and most of it only in its own crate.
 OF_THE_PROGRAM = (
     "abt_buffers", "abt_values", "abt_words", "abt_refusals", "abt_disk", "abt_output", "abt_host", "sparse_rules",
-    "sparse_bodies", "image_bodies", "sparse_commands", "boot_rules", "boot_commands", "abootimg",
+    "sparse_bodies", "image_bodies", "flash_bodies", "sparse_commands", "boot_rules", "boot_bodies", "boot_commands",
+    "abootimg",
 )
 
 

@@ -66,6 +66,11 @@ pub data OnlyAt (read path : List ℕ) (old new : World) : Type 0 where
   untouched : new ≡ old → OnlyAt read path old new
   in_output : (file : ℕ) → new.at path ≡ Some file → ¬ Contains read file → Spares file old new → OnlyAt read path old new
 
+-- no file that is read or was begun is at this path
+abbrev pub IsFree : List ℕ → Held → World → Type 0
+IsFree path held world =
+    (file : ℕ) → world.at path ≡ Some file → (¬ Contains held.read file) × (¬ Contains held.begun file)
+
 -- the output that is open holds these bytes, and all other files are as before
 abbrev pub Ends : Option ℕ → List ℕ → World → World → Type 0
 Ends None bytes old new = Unit {0}

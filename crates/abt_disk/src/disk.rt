@@ -5,7 +5,8 @@ ghost use Rattle.abt_io.specs.Moment.{no_past};
 ghost use Rattle.abt_refusals.specs.Paths.{path_in, path_of, path_out};
 ghost use Rattle.abt_disk.specs.Images.{is_file, OfImage, Leaves, EmptiesAt};
 ghost use Rattle.abt_disk.specs.InPlace.{OpensPart, IsAsLong, closed};
-ghost use Rattle.abt_disk.specs.World.{World, Held, Opens, Creates, OnlyAt, Ends, SparesRest, ended, given_up};
+ghost use Rattle.abt_disk.specs.World.{World, Held, Opens, Creates, OnlyAt, Ends, SparesRest, IsFree, ended};
+ghost use Rattle.abt_disk.specs.World.{given_up};
 
 use crate::{ImageTo, Late};
 use abt_io::{Input, Output, Partition, Source};
@@ -89,6 +90,20 @@ pub trait Disk {
         ensures paths { IsTrue tells → (world self.new).at ≡ (world self.old).at }
         ensures closed { IsTrue tells → held self.new ≡ closed (Self.Part.past part) (held self.old) }
         ensures rest { IsTrue tells → SparesRest (held self.old).part (world self.old) (world self.new) };
+
+    /// Refuses a path that is going to be written where it leads to a file that is read, or that was begun.
+    fn refuse_taken<'a>(&self, place: Place<'a>) -> Result<(), HostRefusal<'a>>
+        ensures { IsTrue tells → OnOk result (IsFree (path_of place.entry) (held self.now) (world self.now)) };
+
+    /// Creates or empties a file. `-` is a file of that name.
+    fn plain<'a>(&mut self, place: Place<'a>) -> Result<Self::Onto, HostRefusal<'a>>
+        requires one { IsTrue tells → (held self.old).output ≡ None }
+        ensures empty { IfOk result (λ onto. Self.Onto.written onto ≡ []) }
+        ensures created { IsTrue tells → OnOk result (Creates (path_of place.entry) (held self.old) (held self.new)
+            (world self.old) (world self.new)) }
+        ensures kept { IsTrue tells → OnErr result (held self.new ≡ held self.old) }
+        ensures only { IsTrue tells → OnErr result (OnlyAt (held self.old).read (path_of place.entry)
+            (world self.old) (world self.new)) };
 
     /// Creates or empties the file of a raw image. `-` is standard output.
     fn raw<'a>(&mut self, place: Place<'a>) -> Result<Self::Onto, HostRefusal<'a>>

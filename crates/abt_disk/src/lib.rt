@@ -13,6 +13,7 @@
 //! | `memory_source.rt`, `memory_partition.rt` | what it opens to be read at any place, and to be written in place |
 //! | `memory_places.rt` | how it opens and closes these |
 //! | `memory_image.rt` | what it opens to be written over |
+//! | `memory_plain.rt` | how it creates a plain file |
 #![tactic(auto)]
 
 mod closing;
@@ -26,6 +27,7 @@ mod memory_input;
 mod memory_output;
 mod memory_partition;
 mod memory_places;
+mod memory_plain;
 mod memory_source;
 
 pub use closing::closed;

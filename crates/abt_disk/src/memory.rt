@@ -264,6 +264,14 @@ impl Disk for MemoryDisk {
         false
     }
 
+    fn refuse_taken<'a>(&self, place: Place<'a>) -> Result<(), HostRefusal<'a>> {
+        self.refuse_taken_at(place)
+    }
+
+    fn plain<'a>(&mut self, place: Place<'a>) -> Result<MemoryOutput, HostRefusal<'a>> {
+        self.plain_at(place)
+    }
+
     fn raw<'a>(&mut self, place: Place<'a>) -> Result<MemoryOutput, HostRefusal<'a>> {
         if self.faults.calls.is_over() {
             return Err(HostRefusal::at(HostFault::CannotOpen, place, None));

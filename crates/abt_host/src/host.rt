@@ -66,6 +66,14 @@ impl Disk for Host {
         self.writing.written_in_place(part).is_data_on_output()
     }
 
+    fn refuse_taken<'a>(&self, place: Place<'a>) -> Result<(), HostRefusal<'a>> {
+        self.writing.refuse_taken(place)
+    }
+
+    fn plain<'a>(&mut self, place: Place<'a>) -> Result<OutputFile, HostRefusal<'a>> {
+        self.writing.plain(place)
+    }
+
     fn raw<'a>(&mut self, place: Place<'a>) -> Result<OutputFile, HostRefusal<'a>> {
         self.writing.raw(place)
     }

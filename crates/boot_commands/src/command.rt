@@ -4,17 +4,14 @@ use crate::info::info_file;
 use crate::pack::pack_file;
 use crate::pack_order::command_of;
 use crate::repack::repack_file;
-use crate::unpack::unpack_file;
-use abt_host::Reading;
+use abt_host::{Host, Reading};
 use abt_io::{Meter, Window};
 use abt_output::Report;
-use abt_refusals::Refusal;
+use abt_refusals::Place;
 use abt_words::BootTask;
-use boot_rules::{BootCommandFault, PackCommand};
+use boot_bodies::{BootOutcome, unpack_file};
+use boot_rules::PackCommand;
 use std::alloc::{AllocError, Global};
-
-/// How a command over boot images ended: the files that it is about are named at `'t`, and its words at `'a`.
-pub type BootOutcome<'t, 'a> = Result<(), Refusal<'t, BootCommandFault<'a>>>;
 
 /// A command over boot images, whose words are read.
 #[derive(Drop)]
@@ -88,7 +85,10 @@ pub fn boot_command<'t, 'a>(
             input,
             folder,
             with_words,
-        } => unpack_file(reading, report, input, folder, *with_words, w, m),
+        } => {
+            let mut disk = Host::new(reading);
+            unpack_file(&mut disk, report, Place::new("IN", input), folder, *with_words, w, m)
+        }
         Kind::Info {
             input,
             with_check,

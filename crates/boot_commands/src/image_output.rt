@@ -5,7 +5,7 @@ ghost use Rattle.abt_sections.specs.Refusal.{IfRefused};
 ghost use Rattle.boot_rules.specs.Parts.{IsBoot};
 ghost use Rattle.boot_rules.specs.Refused.{refusal_of};
 
-use crate::command::BootOutcome;
+use boot_bodies::BootOutcome;
 use crate::lines::ImageLine;
 use abt_host::{Reading, Watched};
 use abt_io::{CopyFault, Meter, Output, Overwrite, Window, copy_range};

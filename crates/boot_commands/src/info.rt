@@ -1,6 +1,6 @@
 //! The command `info`: what the header of a boot image says, and what checking it finds.
 
-use crate::command::BootOutcome;
+use boot_bodies::BootOutcome;
 use abt_host::Reading;
 use abt_io::{FileSource, Meter, Window};
 use abt_output::Report;

@@ -6,8 +6,7 @@
 //! | file | has |
 //! |---|---|
 //! | `command.rt` | which command it is |
-//! | `info.rt`, `unpack.rt` | the command of that name |
-//! | `pack.rt`, `repack.rt` | the command of that name |
+//! | `info.rt`, `pack.rt`, `repack.rt` | the command of that name; the body of `unpack` stands in `boot_bodies` |
 //! | `pack_order.rt` | what these two are told, as bytes |
 //! | `own.rt`, `own_fields.rt` | an image that is read, and the fields that it has |
 //! | `parts.rt`, `ramdisks.rt` | the parts and ramdisk fragments of one that is packed, each open to be read |
@@ -27,7 +26,7 @@ mod pack_order;
 mod parts;
 mod ramdisks;
 mod repack;
-mod unpack;
 
+pub use boot_bodies::BootOutcome;
 pub use boot_rules::BootCommandFault;
-pub use command::{BootCommand, BootOutcome, boot_command};
+pub use command::{BootCommand, boot_command};

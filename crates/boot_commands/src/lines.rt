@@ -1,7 +1,6 @@
 //! What is printed of what was done.
 
 use boot_findings::LeftOut;
-use boot_rules::Part;
 use std::fmt;
 
 /// The line of an image that was written: how many bytes it has.
@@ -23,24 +22,5 @@ impl fmt::Display for LeftOutNote {
     fn fmt<W: fmt::Write>(&self, f: &mut fmt::Formatter<W>) -> fmt::Result {
         let left = self.0;
         write!(f, "abootimg: {left}")
-    }
-}
-
-/// The line of a part that was written.
-#[derive(Drop)]
-pub(crate) struct PartLine {
-    pub part: Part,
-    /// How many bytes it has.
-    pub bytes: u64,
-}
-
-impl fmt::Display for PartLine {
-    fn fmt<W: fmt::Write>(&self, f: &mut fmt::Formatter<W>) -> fmt::Result {
-        let bytes = self.bytes;
-        match self.part {
-            Part::Section(kind) => write!(f, "{kind} {bytes}"),
-            Part::Fragment(index) => write!(f, "fragment {index} {bytes}"),
-            Part::Words => write!(f, "pack.words {bytes}"),
-        }
     }
 }

@@ -4,7 +4,7 @@ ghost use Rattle.std.specs.Prelude.{◌≡◌, MatchResult, false};
 ghost use Rattle.boot_rules.specs.Fault.{of_version};
 ghost use Rattle.boot_fields.specs.Kind.{is_version, version_of};
 
-use crate::command::BootOutcome;
+use boot_bodies::BootOutcome;
 use crate::filling::filled;
 use crate::image_output::write_image;
 use crate::parts::open_parts;

@@ -3,7 +3,7 @@
 ghost use Rattle.std.specs.Prelude.{◌≡◌};
 ghost use Rattle.boot_fields.specs.Kind.{version_of};
 
-use crate::command::BootOutcome;
+use boot_bodies::BootOutcome;
 use crate::filling::filled;
 use crate::image_output::write_image;
 use crate::lines::LeftOutNote;

@@ -1,0 +1,4 @@
+pub mod Amongs
+pub mod Causes
+pub mod Loops
+pub mod Wholes

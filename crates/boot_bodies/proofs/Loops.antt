@@ -1,0 +1,116 @@
+-- One part more, and all of them.
+use Rattle.std.proofs.Common.{◌≡◌, ◌⊎◌, inl, inr, ℕ, ◌+◌, ◌<◌, Bool, IsTrue, List, [], ◌++◌, Some, length, sym, ◌∙◌, ap, subst, below_more}
+use Rattle.std.specs.Prelude.{slice_index_or}
+use Rattle.abt_headers.specs.declared.sections.Place.{Place}
+use Rattle.abt_disk.specs.World.{World, Held, Creates, Ends, ended}
+use Rattle.abt_sections.specs.Header.{Header, places_of, fragment_count, fragment_of}
+use Rattle.abt_sections.specs.Layout.{part_of}
+use Rattle.boot_rules.specs.declared.part_names.Part.TheVariants as parts
+use Rattle.boot_bodies.specs.Among.{GoesAmong, IsAmong, IsDone, KeepsDone}
+use Rattle.boot_bodies.specs.Unpacking.{FragmentsDone, SectionsDone, WordsDone, path_of_part, section_at}
+use Rattle.boot_bodies.specs.Unpacking.{IsFragmentPath, IsPartPath, IsSectionPath, of_section, of_fragment, of_words}
+use Rattle.std.proofs.lemmas.List.{get_or_default}
+use Rattle.boot_bodies.proofs.Amongs.{done_later, done_written}
+
+more_named : (P Q : List ℕ → Type 0) (read : List ℕ) (w : World) (f : ℕ) → ((p : List ℕ) → P p → Q p)
+    → IsAmong P read w f → IsAmong Q read w f
+more_named P Q read w f wider there = record {
+  path = there.path;
+  is_named = wider there.path there.is_named;
+  there = there.there;
+  free = there.free;
+}
+
+pub goes_more : (P Q : List ℕ → Type 0) (h h' : Held) (a b : World) → ((p : List ℕ) → P p → Q p)
+    → GoesAmong P h h' a b → GoesAmong Q h h' a b
+goes_more P Q h h' a b wider goes = record {
+  read = goes.read;
+  leads = goes.leads;
+  files = λ f. elim (goes.files f) [
+    | inl same ↦ inl same
+    | inr there ↦ inr (more_named P Q h.read b f wider there)
+  ];
+  opened = λ f listed. elim (goes.opened f listed) [
+    | inl before ↦ inl before
+    | inr there ↦ inr (more_named P Q h.read b f wider there)
+  ];
+}
+
+pub goes_section : (folder : List ℕ) (with_words : Bool) (header : Header) (h h' : Held) (a b : World)
+    → GoesAmong (IsSectionPath folder header) h h' a b → GoesAmong (IsPartPath folder with_words header) h h' a b
+goes_section folder with_words header h h' a b goes = goes_more _ _ h h' a b (λ p named. of_section named) goes
+
+pub goes_fragment : (folder : List ℕ) (with_words : Bool) (header : Header) (h h' : Held) (a b : World)
+    → GoesAmong (IsFragmentPath folder header) h h' a b → GoesAmong (IsPartPath folder with_words header) h h' a b
+goes_fragment folder with_words header h h' a b goes = goes_more _ _ h h' a b (λ p named. of_fragment named) goes
+
+pub goes_words : (folder : List ℕ) (with_words : Bool) (header : Header) (h h' : Held) (a b : World)
+    → IsTrue with_words → GoesAmong (λ path. path ≡ path_of_part folder parts.Words) h h' a b
+    → GoesAmong (IsPartPath folder with_words header) h h' a b
+goes_words folder with_words header h h' a b wanted goes = goes_more _ _ h h' a b (λ p named. of_words wanted named) goes
+
+pub sections_later : (folder : List ℕ) (header : Header) (x : List ℕ) (n : ℕ) (h h' : Held) (a b : World)
+    → KeepsDone h h' a b → SectionsDone folder header x n h a → SectionsDone folder header x n h' b
+sections_later folder header x n h h' a b kept done =
+    λ k below p found. done_later h h' a b _ _ kept (done k below p found)
+
+pub sections_more : (folder : List ℕ) (header : Header) (x y : List ℕ) (n : ℕ) (h h' : Held) (a b : World) → y ≡ x
+    → KeepsDone h h' a b → SectionsDone folder header x n h a
+    → ((p : Place) → p ≡ slice_index_or (places_of header) n p
+        → IsDone h' b (path_of_part folder (section_at p)) (part_of y p))
+    → SectionsDone folder header x (n + 1) h' b
+sections_more folder header x y n h h' a b same kept done next =
+    below_more (λ k. (p : Place) → p ≡ slice_index_or (places_of header) k p
+        → IsDone h' b (path_of_part folder (section_at p)) (part_of x p)) n
+    (sections_later folder header x n h h' a b kept done)
+    (λ p found. subst (λ z. IsDone h' b (path_of_part folder (section_at p)) (part_of z p)) same (next p found))
+
+pub fragments_later : (folder : List ℕ) (header : Header) (x : List ℕ) (n : ℕ) (h h' : Held) (a b : World)
+    → KeepsDone h h' a b → FragmentsDone folder header x n h a → FragmentsDone folder header x n h' b
+fragments_later folder header x n h h' a b kept done = λ k below. done_later h h' a b _ _ kept (done k below)
+
+pub fragments_more : (folder : List ℕ) (header : Header) (x y : List ℕ) (n : ℕ) (h h' : Held) (a b : World) → y ≡ x
+    → KeepsDone h h' a b → FragmentsDone folder header x n h a
+    → IsDone h' b (path_of_part folder (parts.Fragment n)) (fragment_of y header n)
+    → FragmentsDone folder header x (n + 1) h' b
+fragments_more folder header x y n h h' a b same kept done next =
+    below_more (λ k. IsDone h' b (path_of_part folder (parts.Fragment k)) (fragment_of x header k)) n
+    (fragments_later folder header x n h h' a b kept done)
+    (subst (λ z. IsDone h' b (path_of_part folder (parts.Fragment n)) (fragment_of z header n)) same next)
+
+-- ---- one section
+
+-- a section does not depend on what is taken where there is none
+pub same_section : (header : Header) (i : ℕ) (p q : Place) → i < length (places_of header)
+    → p ≡ slice_index_or (places_of header) i p → q ≡ slice_index_or (places_of header) i q → p ≡ q
+same_section header i p q there found found' = found ∙ get_or_default (places_of header) i p q there ∙ sym found'
+
+pub section_named : (folder : List ℕ) (header : Header) (i : ℕ) (q : Place) (path : List ℕ)
+    → i < length (places_of header) → q ≡ slice_index_or (places_of header) i q
+    → path ≡ path_of_part folder (section_at q) → IsSectionPath folder header path
+section_named folder header i q path there found is_path = record {
+  index = i;
+  place = q;
+  there = there;
+  found = found;
+  is_path = is_path;
+}
+
+pub fragment_named : (folder : List ℕ) (header : Header) (i : ℕ) (path : List ℕ) → i < fragment_count header
+    → path ≡ path_of_part folder (parts.Fragment i) → IsFragmentPath folder header path
+fragment_named folder header i path there is_path = record { index = i; there = there; is_path = is_path }
+
+-- an output that was created empty, written, and brought to its end
+pub part_done : (path path' before after bytes : List ℕ) (b : Bool) (h h' h'' : Held) (u v w : World) → path ≡ path'
+    → before ≡ [] → after ≡ before ++ bytes → Creates path h h' u v → h'' ≡ ended b h' → Ends h'.output after v w
+    → IsDone h'' w path' bytes
+part_done path path' before after bytes b h h' h'' u v w is_path empty written made closed ends =
+    let done = done_written path after b h h' h'' u v w made closed ends in
+    subst (λ q. IsDone h'' w q bytes) is_path
+    (subst (λ x. IsDone h'' w path x) (written ∙ ap (λ x. x ++ bytes) empty) done)
+
+pub same_path : (folder : List ℕ) (header : Header) (i : ℕ) (q p : Place) → i < length (places_of header)
+    → q ≡ slice_index_or (places_of header) i q → p ≡ slice_index_or (places_of header) i p
+    → path_of_part folder (section_at q) ≡ path_of_part folder (section_at p)
+same_path folder header i q p there found found' =
+    ap (λ place. path_of_part folder (section_at place)) (same_section header i q p there found found')

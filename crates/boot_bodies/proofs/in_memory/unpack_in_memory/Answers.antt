@@ -1,0 +1,14 @@
+use Rattle.std.proofs.Common.{refl}
+use Rattle.boot_bodies.proofs.in_memory.unpack_in_memory.Goals as goal
+
+pub returns-clause-done : goal.returns-clause-done
+returns-clause-done c = c.unpack_file.ensures.done refl
+
+pub returns-clause-only : goal.returns-clause-only
+returns-clause-only c = c.unpack_file.ensures.only refl
+
+pub returns-clause-input : goal.returns-clause-input
+returns-clause-input c = c.unpack_file.ensures.input refl
+
+pub returns-clause-refused : goal.returns-clause-refused
+returns-clause-refused c = c.unpack_file.ensures.refused refl

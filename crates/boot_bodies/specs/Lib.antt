@@ -1,0 +1,4 @@
+pub mod Among
+pub mod Faults
+pub mod Lines
+pub mod Unpacking

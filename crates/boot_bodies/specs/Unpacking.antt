@@ -1,0 +1,99 @@
+-- What the command `unpack` leaves of files.
+use Rattle.std.specs.Prelude.{◌≡◌, ◌<◌, ℕ, Bool, IsTrue, List, Option, Some, None, length, codes, slice_index_or}
+use Rattle.abt_headers.specs.declared.sections.Place.{Place}
+use Rattle.abt_headers.specs.Places.{section_name}
+use Rattle.abt_sections.specs.Header.{Header, places_of, fragment_count, fragment_of}
+use Rattle.abt_sections.specs.Layout.{part_of}
+use Rattle.abt_sections.specs.Open.{HasImage}
+use Rattle.abt_refusals.specs.Paths.{in_folder, numbered}
+use Rattle.abt_disk.specs.World.{World, Held}
+use Rattle.boot_rules.specs.declared.part_names.Part.{Part}
+use Rattle.boot_rules.specs.declared.part_names.Part.TheVariants as parts
+use Rattle.boot_texts.specs.Words.{words_text, image_words}
+use Rattle.boot_bodies.specs.Among.{Stands, IsDone}
+
+-- the name of a part's file, and the number that stands behind it
+abbrev pub name_of : Part → List ℕ
+name_of (parts.Section kind) = section_name kind
+name_of (parts.Fragment index) = codes "fragment"
+name_of parts.Words = codes "pack.words"
+
+abbrev pub number_of : Part → Option ℕ
+number_of (parts.Section kind) = None
+number_of (parts.Fragment index) = Some index
+number_of parts.Words = None
+
+-- the path of its file: `DIR/kernel`, `DIR/fragment.0`, `DIR/pack.words`
+abbrev pub path_of_part : List ℕ → Part → List ℕ
+path_of_part folder part = in_folder (Some folder) (numbered (name_of part) (number_of part))
+
+-- the section at a place
+abbrev pub section_at : Place → Part
+section_at p = parts.Section p.kind
+
+-- the path of one of the sections
+pub record IsSectionPath (folder : List ℕ) (h : Header) (path : List ℕ) : Type 0 where
+  pub index : ℕ
+  pub place : Place
+  pub there : index < length (places_of h)
+  pub found : place ≡ slice_index_or (places_of h) index place
+  pub is_path : path ≡ path_of_part folder (section_at place)
+
+-- of one of the fragments
+pub record IsFragmentPath (folder : List ℕ) (h : Header) (path : List ℕ) : Type 0 where
+  pub index : ℕ
+  pub there : index < fragment_count h
+  pub is_path : path ≡ path_of_part folder (parts.Fragment index)
+
+-- of one of them, or of the words where they are wanted
+pub data IsPartPath (folder : List ℕ) (with_words : Bool) (h : Header) (path : List ℕ) : Type 0 where
+  of_section : IsSectionPath folder h path → IsPartPath folder with_words h path
+  of_fragment : IsFragmentPath folder h path → IsPartPath folder with_words h path
+  of_words : IsTrue with_words → path ≡ path_of_part folder parts.Words → IsPartPath folder with_words h path
+
+-- the path of a part of the image that the file at another path holds
+pub record IsPartOf (input folder : List ℕ) (with_words : Bool) (world : World) (path : List ℕ) : Type 0 where
+  pub from : ℕ
+  pub there : world.at input ≡ Some from
+  pub header : Header
+  pub image : HasImage (world.holds from) header
+  pub is_part : IsPartPath folder with_words header path
+
+-- ---- on the way
+
+-- section i of an image x is in its file
+abbrev pub SectionDone : List ℕ → Header → List ℕ → ℕ → Held → World → Type 0
+SectionDone folder h x i held world =
+    (p : Place) → p ≡ slice_index_or (places_of h) i p
+    → IsDone held world (path_of_part folder (section_at p)) (part_of x p)
+
+-- the first n sections are
+abbrev pub SectionsDone : List ℕ → Header → List ℕ → ℕ → Held → World → Type 0
+SectionsDone folder h x n held world = (k : ℕ) → k < n → SectionDone folder h x k held world
+
+-- and the first n fragments
+abbrev pub FragmentsDone : List ℕ → Header → List ℕ → ℕ → Held → World → Type 0
+FragmentsDone folder h x n held world =
+    (k : ℕ) → k < n → IsDone held world (path_of_part folder (parts.Fragment k)) (fragment_of x h k)
+
+-- and the words
+abbrev pub WordsDone : List ℕ → Header → List ℕ → Held → World → Type 0
+WordsDone folder h x held world =
+    IsDone held world (path_of_part folder parts.Words) (words_text (image_words folder x h))
+
+-- ---- all of it
+
+-- The file at a path held a boot image or a vendor boot image. In the folder there is a file for each of its sections
+-- and one for each of its ramdisk fragments, under its name, which holds exactly its bytes, and, where they are wanted,
+-- one that holds the words that pack it again.
+pub record Unpacks (input folder : List ℕ) (with_words : Bool) (old new : World) : Type 0 where
+  pub from : ℕ
+  pub there : old.at input ≡ Some from
+  pub header : Header
+  pub image : HasImage (old.holds from) header
+  pub sections : (i : ℕ) (p : Place) → i < length (places_of header) → p ≡ slice_index_or (places_of header) i p
+      → Stands new (path_of_part folder (section_at p)) (part_of (old.holds from) p)
+  pub fragments : (i : ℕ) → i < fragment_count header
+      → Stands new (path_of_part folder (parts.Fragment i)) (fragment_of (old.holds from) header i)
+  pub words : IsTrue with_words
+      → Stands new (path_of_part folder parts.Words) (words_text (image_words folder (old.holds from) header))

@@ -1,0 +1,79 @@
+//! A device that is held together with how far the command is, so that contracts know the device through every call.
+
+use abt_io::{DeviceFault, Output, Source};
+use abt_output::Progress;
+
+/// Does what its device does, and counts the bytes that it moves. It is of each kind that its device is of.
+#[derive(Drop)]
+pub(crate) struct Carried<D> {
+    pub device: D,
+    pub progress: Progress,
+}
+
+impl<D: Source> Source for Carried<D> {
+    ghost tells = { D.tells };
+
+    ghost content = { λ c. D.content c.device };
+
+    ghost size = { λ c. D.size c.device };
+
+    ghost reads = { λ c. D.reads c.device };
+
+    ghost given = { λ c. D.given c.device };
+
+    ghost read_faults = { λ c. D.read_faults c.device };
+
+    ghost read_frame = { λ c. D.read_frame c.device };
+
+    ghost sized = { λ c t. D.sized c.device t };
+
+    ghost are_bytes = { λ c t. D.are_bytes c.device t };
+
+    fn length(&self) -> u64 {
+        self.device.length()
+    }
+
+    fn read_at(&mut self, at: u64, out: &mut [u8]) -> Result<usize, DeviceFault> {
+        match self.device.read_at(at, out) {
+            Ok(n) => {
+                self.progress.advance(n);
+                Ok(n)
+            }
+            Err(fault) => Err(fault),
+        }
+    }
+}
+
+impl<D: Output> Output for Carried<D> {
+    ghost written = { λ c. D.written c.device };
+
+    ghost is_full = { λ c. D.is_full c.device };
+
+    ghost writes = { λ c. D.writes c.device };
+
+    ghost write_faults = { λ c. D.write_faults c.device };
+
+    ghost full_faults = { λ c. D.full_faults c.device };
+
+    ghost write_frame = { λ c. D.write_frame c.device };
+
+    fn write(&mut self, bytes: &[u8]) -> Result<usize, DeviceFault> {
+        match self.device.write(bytes) {
+            Ok(n) => {
+                self.progress.advance(n);
+                Ok(n)
+            }
+            Err(fault) => Err(fault),
+        }
+    }
+
+    fn write_zeros(&mut self, n: u64, zeros: &[u8]) -> Result<u64, DeviceFault> {
+        match self.device.write_zeros(n, zeros) {
+            Ok(some) => {
+                self.progress.advance(some as usize);
+                Ok(some)
+            }
+            Err(fault) => Err(fault),
+        }
+    }
+}

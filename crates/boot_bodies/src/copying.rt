@@ -1,0 +1,102 @@
+//! The bytes of a part, from the image to an output.
+
+ghost use Rattle.std.specs.Prelude.{◌≡◌, ◌<◌, ◌++◌, IsTrue, IfErr, OnOk, length, slice_index_or};
+ghost use Rattle.abt_headers.specs.declared.sections.Place.{Place};
+ghost use Rattle.abt_sections.specs.Header.{fragment_count, fragment_of, places_of, view_of};
+ghost use Rattle.abt_sections.specs.Layout.{part_of};
+ghost use Rattle.abt_sections.specs.Open.{IsOpened};
+ghost use Rattle.boot_bodies.specs.Faults.{IsFaultOf};
+ghost use Rattle.boot_texts.specs.Words.{image_words, words_text};
+
+use crate::carried::Carried;
+use abt_io::{Meter, Output, Source, Window};
+use abt_output::Progress;
+use abt_sections::{Image, SectionFault, fragment, section, unpack, unpack_fragment};
+use boot_texts::write_words;
+
+/// Writes section `i`, and answers how many bytes it has.
+pub(crate) fn copy_section<S: Source, O: Output>(
+    image: &Image,
+    i: usize,
+    source: &mut Carried<S>,
+    onto: &mut O,
+    progress: &mut Progress,
+    w: &mut Window,
+    m: &mut Meter,
+) -> Result<u64, SectionFault>
+    requires { i < length (places_of (view_of image.now.header)) }
+    ensures content { IsTrue S.tells → OnOk result (S.content source.new.device ≡ S.content source.old.device) }
+    ensures written { (p : Place) → p ≡ slice_index_or (places_of (view_of image.now.header)) i p → IsTrue S.tells →
+        OnOk result (O.written onto.new ≡ O.written onto.old ++ part_of (S.content source.old.device) p) }
+    ensures refused { IsTrue S.tells → IsOpened (S.content source.old.device) image.now →
+        IfErr result (IsFaultOf (S.content source.old.device)) }
+{
+    source.progress = *progress;
+    let answer = unpack(image, i, source, onto, w, m);
+    *progress = source.progress;
+    match answer {
+        Ok(()) => Ok(section(image, i).size as u64),
+        Err(fault) => Err(fault),
+    }
+}
+
+/// Writes fragment `index`, and answers how many bytes it has.
+pub(crate) fn copy_fragment<S: Source, O: Output>(
+    image: &Image,
+    index: u32,
+    source: &mut Carried<S>,
+    onto: &mut O,
+    progress: &mut Progress,
+    w: &mut Window,
+    m: &mut Meter,
+) -> Result<u64, SectionFault>
+    requires { index < fragment_count (view_of image.now.header) }
+    ensures content { IsTrue S.tells → OnOk result (S.content source.new.device ≡ S.content source.old.device) }
+    ensures written { IsTrue S.tells → OnOk result (O.written onto.new ≡ O.written onto.old
+        ++ fragment_of (S.content source.old.device) (view_of image.now.header) index) }
+    ensures refused { IsTrue S.tells → IsOpened (S.content source.old.device) image.now →
+        IfErr result (IsFaultOf (S.content source.old.device)) }
+{
+    let entry = match fragment(image, index, &mut source.device, w, m) {
+        Ok(entry) => entry,
+        Err(fault) => return Err(fault),
+    };
+    source.progress = *progress;
+    let answer = unpack_fragment(image, index, source, onto, w, m);
+    *progress = source.progress;
+    match answer {
+        Ok(()) => Ok(entry.ramdisk_size as u64),
+        Err(fault) => Err(fault),
+    }
+}
+
+/// Writes the words that pack the image again, and answers the output with how many bytes they have.
+pub(crate) fn copy_words<S: Source, O: Output>(
+    image: &Image,
+    folder: &str,
+    source: &mut S,
+    onto: O,
+    progress: &mut Progress,
+    w: &mut Window,
+    m: &mut Meter,
+) -> (O, Result<u64, SectionFault>)
+    ensures written { IsTrue S.tells → OnOk result.1 (O.written result.0 ≡ O.written onto
+        ++ words_text (image_words folder.now (S.content source.old) (view_of image.now.header))) }
+    ensures refused { IsTrue S.tells → IsOpened (S.content source.old) image.now →
+        IfErr result.1 (IsFaultOf (S.content source.old)) }
+{
+    let before = progress.done;
+    let mut carried = Carried {
+        device: onto,
+        progress: *progress,
+    };
+    let answer = write_words(image, folder, source, &mut carried, w, m);
+    *progress = carried.progress;
+    match answer {
+        Ok(()) => {
+            let bytes = progress.done.saturating_sub(before);
+            (carried.device, Ok(bytes))
+        }
+        Err(fault) => (carried.device, Err(fault)),
+    }
+}

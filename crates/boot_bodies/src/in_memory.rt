@@ -1,0 +1,36 @@
+//! The command over a disk in memory, which tells what its files hold: no clause is left that says nothing.
+
+ghost use Rattle.std.specs.Prelude.{OnOk, IfErr};
+ghost use Rattle.abt_refusals.specs.Paths.{path_of};
+ghost use Rattle.abt_disk.specs.Memory.{held_of, world_of};
+ghost use Rattle.abt_disk.specs.World.{IsReading, Keeps};
+ghost use Rattle.boot_bodies.specs.Among.{OnlyAmong};
+ghost use Rattle.boot_bodies.specs.Faults.{RefusesFile};
+ghost use Rattle.boot_bodies.specs.Unpacking.{IsPartOf, Unpacks};
+
+use crate::unpack::{BootOutcome, unpack_file};
+use abt_disk::MemoryDisk;
+use abt_io::{Meter, Window};
+use abt_output::Report;
+use abt_refusals::Place;
+
+/// Takes an image apart that a disk in memory holds.
+pub fn unpack_in_memory<'t, 'a>(
+    disk: &mut MemoryDisk,
+    report: &mut Report,
+    input: Place<'t>,
+    folder: &'t str,
+    with_words: bool,
+    w: &mut Window,
+    m: &mut Meter,
+) -> BootOutcome<'t, 'a>
+    requires { IsReading (held_of disk.old) }
+    ensures done { OnOk result (Unpacks (path_of input.entry) folder.now with_words (world_of disk.old)
+        (world_of disk.new)) }
+    ensures only { OnlyAmong (IsPartOf (path_of input.entry) folder.now with_words (world_of disk.old))
+        (held_of disk.old).read (held_of disk.new).begun (world_of disk.old) (world_of disk.new) }
+    ensures input { Keeps (path_of input.entry) (world_of disk.old) (world_of disk.new) }
+    ensures refused { IfErr result (λ refusal. RefusesFile (path_of input.entry) (world_of disk.old) refusal.fault) }
+{
+    unpack_file(disk, report, input, folder, with_words, w, m)
+}

@@ -1,0 +1,29 @@
+//! The bodies of commands over boot images, over any disk.
+//!
+//! What is proved of a body says what it leaves of the files of a disk that tells what they hold; over the disk in
+//! memory each clause speaks.
+//!
+//! | file | has |
+//! |---|---|
+//! | `unpack.rt` | the command `unpack` |
+//! | `parts.rt` | all parts, one after another |
+//! | `writing.rt` | one part, to a file of its own |
+//! | `carried.rt` | a device with how far the command is |
+//! | `copying.rt` | the bytes of a part, from the image to an output |
+//! | `names.rt`, `lines.rt` | the file of a part, and what is printed of it |
+//! | `in_memory.rt` | the command over the disk in memory |
+#![tactic(auto)]
+
+mod carried;
+mod copying;
+mod in_memory;
+mod lines;
+mod names;
+mod parts;
+mod unpack;
+mod writing;
+
+pub use in_memory::unpack_in_memory;
+pub use lines::PartLine;
+pub use names::place_of;
+pub use unpack::{BootOutcome, unpack_file};

@@ -1,0 +1,119 @@
+//! All parts of an image, one after another.
+
+ghost use Rattle.std.specs.Prelude.{◌≡◌, None, IsTrue, IfErr, OnOk, length};
+ghost use Rattle.abt_sections.specs.Header.{fragment_count, places_of, view_of};
+ghost use Rattle.abt_sections.specs.Open.{IsOpened};
+ghost use Rattle.boot_bodies.specs.Among.{GoesAmong, KeepsDone};
+ghost use Rattle.boot_bodies.specs.Faults.{Refuses};
+ghost use Rattle.boot_bodies.specs.Unpacking.{FragmentsDone, IsFragmentPath, IsPartPath, IsSectionPath, SectionsDone};
+ghost use Rattle.boot_bodies.specs.Unpacking.{WordsDone};
+
+use crate::carried::Carried;
+use crate::unpack::BootOutcome;
+use crate::writing::{write_fragment, write_pack_words, write_section};
+use abt_disk::Disk;
+use abt_io::{Meter, Window};
+use abt_output::Report;
+use abt_refusals::Place;
+use abt_sections::{Image, fragments, sections};
+
+/// Writes each section, each fragment, and maybe the words.
+pub(crate) fn write_parts<'t, 'a, D: Disk>(
+    disk: &mut D,
+    image: &Image,
+    source: &mut Carried<D::At>,
+    input: Place<'t>,
+    folder: &'t str,
+    with_words: bool,
+    report: &mut Report,
+    w: &mut Window,
+    m: &mut Meter,
+) -> BootOutcome<'t, 'a>
+    requires one { IsTrue D.tells → (D.held disk.old).output ≡ None }
+    ensures sections { IsTrue D.tells → OnOk result (SectionsDone folder.now (view_of image.now.header)
+        (D.At.content source.old.device) (length (places_of (view_of image.now.header))) (D.held disk.new) (D.world disk.new)) }
+    ensures fragments { IsTrue D.tells → OnOk result (FragmentsDone folder.now (view_of image.now.header)
+        (D.At.content source.old.device) (fragment_count (view_of image.now.header)) (D.held disk.new) (D.world disk.new)) }
+    ensures words { IsTrue D.tells → IsTrue with_words → OnOk result (WordsDone folder.now (view_of image.now.header)
+        (D.At.content source.old.device) (D.held disk.new) (D.world disk.new)) }
+    ensures only { IsTrue D.tells → GoesAmong (IsPartPath folder.now with_words (view_of image.now.header))
+        (D.held disk.old) (D.held disk.new) (D.world disk.old) (D.world disk.new) }
+    ensures refused { IsTrue D.tells → IsOpened (D.At.content source.old.device) image.now →
+        IfErr result (λ refusal. Refuses (D.At.content source.old.device) refusal.fault) }
+{
+    match write_sections(disk, image, source, input, folder, report, w, m) {
+        Ok(()) => {}
+        Err(refusal) => return Err(refusal),
+    }
+    match write_fragments(disk, image, source, input, folder, report, w, m) {
+        Ok(()) => {}
+        Err(refusal) => return Err(refusal),
+    }
+    if !with_words {
+        return Ok(());
+    }
+    match write_pack_words(disk, image, source, input, folder, report, w, m) {
+        Ok(()) => Ok(()),
+        Err(refusal) => Err(refusal),
+    }
+}
+
+fn write_sections<'t, 'a, D: Disk>(
+    disk: &mut D,
+    image: &Image,
+    source: &mut Carried<D::At>,
+    input: Place<'t>,
+    folder: &'t str,
+    report: &mut Report,
+    w: &mut Window,
+    m: &mut Meter,
+) -> BootOutcome<'t, 'a>
+    requires one { IsTrue D.tells → (D.held disk.old).output ≡ None }
+    ensures content { IsTrue D.tells → OnOk result (D.At.content source.new.device ≡ D.At.content source.old.device) }
+    ensures done { IsTrue D.tells → OnOk result (SectionsDone folder.now (view_of image.now.header)
+        (D.At.content source.old.device) (length (places_of (view_of image.now.header))) (D.held disk.new) (D.world disk.new)) }
+    ensures keeps { IsTrue D.tells → OnOk result (KeepsDone (D.held disk.old) (D.held disk.new) (D.world disk.old)
+        (D.world disk.new)) }
+    ensures only { IsTrue D.tells → GoesAmong (IsSectionPath folder.now (view_of image.now.header)) (D.held disk.old)
+        (D.held disk.new) (D.world disk.old) (D.world disk.new) }
+    ensures refused { IsTrue D.tells → IsOpened (D.At.content source.old.device) image.now →
+        IfErr result (λ refusal. Refuses (D.At.content source.old.device) refusal.fault) }
+{
+    for i in 0..sections(image) {
+        match write_section(disk, image, i, source, input, folder, report, w, m) {
+            Ok(()) => {}
+            Err(refusal) => return Err(refusal),
+        }
+    }
+    Ok(())
+}
+
+fn write_fragments<'t, 'a, D: Disk>(
+    disk: &mut D,
+    image: &Image,
+    source: &mut Carried<D::At>,
+    input: Place<'t>,
+    folder: &'t str,
+    report: &mut Report,
+    w: &mut Window,
+    m: &mut Meter,
+) -> BootOutcome<'t, 'a>
+    requires one { IsTrue D.tells → (D.held disk.old).output ≡ None }
+    ensures content { IsTrue D.tells → OnOk result (D.At.content source.new.device ≡ D.At.content source.old.device) }
+    ensures done { IsTrue D.tells → OnOk result (FragmentsDone folder.now (view_of image.now.header)
+        (D.At.content source.old.device) (fragment_count (view_of image.now.header)) (D.held disk.new) (D.world disk.new)) }
+    ensures keeps { IsTrue D.tells → OnOk result (KeepsDone (D.held disk.old) (D.held disk.new) (D.world disk.old)
+        (D.world disk.new)) }
+    ensures only { IsTrue D.tells → GoesAmong (IsFragmentPath folder.now (view_of image.now.header)) (D.held disk.old)
+        (D.held disk.new) (D.world disk.old) (D.world disk.new) }
+    ensures refused { IsTrue D.tells → IsOpened (D.At.content source.old.device) image.now →
+        IfErr result (λ refusal. Refuses (D.At.content source.old.device) refusal.fault) }
+{
+    for i in 0..fragments(image) {
+        match write_fragment(disk, image, i, source, input, folder, report, w, m) {
+            Ok(()) => {}
+            Err(refusal) => return Err(refusal),
+        }
+    }
+    Ok(())
+}

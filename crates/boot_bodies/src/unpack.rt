@@ -1,0 +1,85 @@
+//! The command `unpack`: the sections and ramdisk fragments of an image, each into a file of its own.
+
+ghost use Rattle.std.specs.Prelude.{◌≡◌, IsTrue, IfErr, OnOk};
+ghost use Rattle.abt_refusals.specs.Paths.{path_of};
+ghost use Rattle.abt_disk.specs.World.{IsReading, Keeps};
+ghost use Rattle.boot_bodies.specs.Among.{OnlyAmong};
+ghost use Rattle.boot_bodies.specs.Faults.{RefusesFile};
+ghost use Rattle.boot_bodies.specs.Unpacking.{IsPartOf, Unpacks};
+
+use crate::carried::Carried;
+use crate::names::place_of;
+use crate::parts::write_parts;
+use abt_disk::Disk;
+use abt_io::{Meter, Window};
+use abt_output::Report;
+use abt_refusals::{HostRefusal, Place, Refusal, Sides};
+use abt_sections::{Image, SectionFault, open};
+use boot_rules::{BootCommandFault, part_count, part_of};
+
+/// How a command over boot images ended: the files that it is about are named at `'t`, and its words at `'a`.
+pub type BootOutcome<'t, 'a> = Result<(), Refusal<'t, BootCommandFault<'a>>>;
+
+/// Writes each section and then each ramdisk fragment of an image to a file of a folder, and the words that pack it
+/// again.
+///
+/// Each file is opened when its turn comes, and its line is printed when it is whole. Where the image is one of the
+/// files that are going to be written, none is.
+pub fn unpack_file<'t, 'a, D: Disk>(
+    disk: &mut D,
+    report: &mut Report,
+    input: Place<'t>,
+    folder: &'t str,
+    with_words: bool,
+    w: &mut Window,
+    m: &mut Meter,
+) -> BootOutcome<'t, 'a>
+    requires first { IsTrue D.tells → IsReading (D.held disk.old) }
+    // each part of the image that IN holds stands in the folder under its name
+    ensures done { IsTrue D.tells → OnOk result (Unpacks (path_of input.entry) folder.now with_words (D.world disk.old)
+        (D.world disk.new)) }
+    // whatever the outcome, only such files were created or changed, and IN holds what it held
+    ensures only { IsTrue D.tells → OnlyAmong (IsPartOf (path_of input.entry) folder.now with_words (D.world disk.old))
+        (D.held disk.old).read (D.held disk.new).begun (D.world disk.old) (D.world disk.new) }
+    ensures input { IsTrue D.tells → Keeps (path_of input.entry) (D.world disk.old) (D.world disk.new) }
+    // it is refused for a fault that IN has, or for one of files or devices
+    ensures refused { IsTrue D.tells → IfErr result (λ refusal. RefusesFile (path_of input.entry) (D.world disk.old)
+        refusal.fault) }
+{
+    let mut device = disk.source(input)?;
+    let image = match open(&mut device, w, m) {
+        Ok(image) => image,
+        Err(fault) => return Err(not_opened(input, fault)),
+    };
+    match refuse_taken(disk, &image, folder, with_words) {
+        Ok(()) => {}
+        Err(refusal) => return Err(refusal.into()),
+    }
+    let progress = report.progress;
+    let mut source = Carried { device, progress };
+    match write_parts(disk, &image, &mut source, input, folder, with_words, report, w, m) {
+        Ok(()) => Ok(()),
+        Err(refusal) => Err(refusal),
+    }
+}
+
+// The refusal of an image that is none.
+fn not_opened<'t, 'a>(input: Place<'t>, fault: SectionFault) -> Refusal<'t, BootCommandFault<'a>>
+    ensures { result.fault ≡ BootCommandFault.Section fault }
+{
+    let sides = Sides::none().reading(input, None);
+    sides.refuse(BootCommandFault::Section(fault))
+}
+
+// Refuses to write where the image is one of the files.
+fn refuse_taken<'t, D: Disk>(
+    disk: &D,
+    image: &Image,
+    folder: &'t str,
+    with_words: bool,
+) -> Result<(), HostRefusal<'t>> {
+    for i in 0..part_count(image, with_words) {
+        disk.refuse_taken(place_of(part_of(image, i), folder))?;
+    }
+    Ok(())
+}

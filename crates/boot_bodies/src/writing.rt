@@ -1,0 +1,158 @@
+//! One part of an image, to a file of its own.
+
+ghost use Rattle.std.specs.Prelude.{◌≡◌, ◌<◌, None, Ok, Err, Bool, MatchResult, IsTrue, IsOk, IfErr, OnOk, length};
+ghost use Rattle.abt_disk.specs.World.{Ends, SparesRest, ended};
+ghost use Rattle.abt_sections.specs.Header.{fragment_count, fragment_of, places_of, view_of};
+ghost use Rattle.abt_sections.specs.Open.{IsOpened};
+ghost use Rattle.boot_bodies.specs.Among.{GoesAmong, IsDone, KeepsDone};
+ghost use Rattle.boot_bodies.specs.Faults.{IsToldOf, Refuses};
+ghost use Rattle.boot_bodies.specs.Unpacking.{IsFragmentPath, IsSectionPath, SectionDone, WordsDone, path_of_part};
+ghost use Rattle.boot_rules.specs.declared.part_names.Part.TheVariants as parts;
+
+use crate::carried::Carried;
+use crate::copying::{copy_fragment, copy_section, copy_words};
+use crate::lines::PartLine;
+use crate::names::place_of;
+use crate::unpack::BootOutcome;
+use abt_disk::{Disk, ended};
+use abt_io::{Meter, Window};
+use abt_output::Report;
+use abt_refusals::{Place, Sides};
+use abt_sections::{Image, SectionFault, section};
+use boot_rules::{BootCommandFault, Part};
+
+/// Writes section `i` to its file.
+pub(crate) fn write_section<'t, 'a, D: Disk>(
+    disk: &mut D,
+    image: &Image,
+    i: usize,
+    source: &mut Carried<D::At>,
+    input: Place<'t>,
+    folder: &'t str,
+    report: &mut Report,
+    w: &mut Window,
+    m: &mut Meter,
+) -> BootOutcome<'t, 'a>
+    requires there { i < length (places_of (view_of image.now.header)) }
+    requires one { IsTrue D.tells → (D.held disk.old).output ≡ None }
+    ensures content { IsTrue D.tells → OnOk result (D.At.content source.new.device ≡ D.At.content source.old.device) }
+    ensures done { IsTrue D.tells → OnOk result (SectionDone folder.now (view_of image.now.header)
+        (D.At.content source.old.device) i (D.held disk.new) (D.world disk.new)) }
+    ensures keeps { IsTrue D.tells → OnOk result (KeepsDone (D.held disk.old) (D.held disk.new) (D.world disk.old)
+        (D.world disk.new)) }
+    ensures only { IsTrue D.tells → GoesAmong (IsSectionPath folder.now (view_of image.now.header)) (D.held disk.old)
+        (D.held disk.new) (D.world disk.old) (D.world disk.new) }
+    ensures refused { IsTrue D.tells → IsOpened (D.At.content source.old.device) image.now →
+        IfErr result (λ refusal. Refuses (D.At.content source.old.device) refusal.fault) }
+{
+    let part = Part::Section(section(image, i).kind);
+    let place = place_of(part, folder);
+    let mut onto = disk.plain(place)?;
+    let answer = copy_section(image, i, source, &mut onto, &mut report.progress, w, m);
+    match finish(disk, answer, onto, place, input, part, report) {
+        Ok(()) => Ok(()),
+        Err(refusal) => Err(refusal),
+    }
+}
+
+/// Writes fragment `index` to its file.
+pub(crate) fn write_fragment<'t, 'a, D: Disk>(
+    disk: &mut D,
+    image: &Image,
+    index: u32,
+    source: &mut Carried<D::At>,
+    input: Place<'t>,
+    folder: &'t str,
+    report: &mut Report,
+    w: &mut Window,
+    m: &mut Meter,
+) -> BootOutcome<'t, 'a>
+    requires there { index < fragment_count (view_of image.now.header) }
+    requires one { IsTrue D.tells → (D.held disk.old).output ≡ None }
+    ensures content { IsTrue D.tells → OnOk result (D.At.content source.new.device ≡ D.At.content source.old.device) }
+    ensures done { IsTrue D.tells → OnOk result (IsDone (D.held disk.new) (D.world disk.new)
+        (path_of_part folder.now (parts.Fragment index))
+        (fragment_of (D.At.content source.old.device) (view_of image.now.header) index)) }
+    ensures keeps { IsTrue D.tells → OnOk result (KeepsDone (D.held disk.old) (D.held disk.new) (D.world disk.old)
+        (D.world disk.new)) }
+    ensures only { IsTrue D.tells → GoesAmong (IsFragmentPath folder.now (view_of image.now.header)) (D.held disk.old)
+        (D.held disk.new) (D.world disk.old) (D.world disk.new) }
+    ensures refused { IsTrue D.tells → IsOpened (D.At.content source.old.device) image.now →
+        IfErr result (λ refusal. Refuses (D.At.content source.old.device) refusal.fault) }
+{
+    let part = Part::Fragment(index);
+    let place = place_of(part, folder);
+    let mut onto = disk.plain(place)?;
+    let answer = copy_fragment(image, index, source, &mut onto, &mut report.progress, w, m);
+    match finish(disk, answer, onto, place, input, part, report) {
+        Ok(()) => Ok(()),
+        Err(refusal) => Err(refusal),
+    }
+}
+
+/// Writes the words that pack the image again to their file.
+pub(crate) fn write_pack_words<'t, 'a, D: Disk>(
+    disk: &mut D,
+    image: &Image,
+    source: &mut Carried<D::At>,
+    input: Place<'t>,
+    folder: &'t str,
+    report: &mut Report,
+    w: &mut Window,
+    m: &mut Meter,
+) -> BootOutcome<'t, 'a>
+    requires one { IsTrue D.tells → (D.held disk.old).output ≡ None }
+    ensures done { IsTrue D.tells → OnOk result (WordsDone folder.now (view_of image.now.header)
+        (D.At.content source.old.device) (D.held disk.new) (D.world disk.new)) }
+    ensures keeps { IsTrue D.tells → OnOk result (KeepsDone (D.held disk.old) (D.held disk.new) (D.world disk.old)
+        (D.world disk.new)) }
+    ensures only { IsTrue D.tells → GoesAmong (λ path. path ≡ path_of_part folder.now parts.Words)
+        (D.held disk.old) (D.held disk.new) (D.world disk.old) (D.world disk.new) }
+    ensures refused { IsTrue D.tells → IsOpened (D.At.content source.old.device) image.now →
+        IfErr result (λ refusal. Refuses (D.At.content source.old.device) refusal.fault) }
+{
+    let place = place_of(Part::Words, folder);
+    let onto = disk.plain(place)?;
+    let progress = &mut report.progress;
+    let (onto, answer) = copy_words(image, folder, &mut source.device, onto, progress, w, m);
+    match finish(disk, answer, onto, place, input, Part::Words, report) {
+        Ok(()) => Ok(()),
+        Err(refusal) => Err(refusal),
+    }
+}
+
+// What a call answered that copied a part, once its file is at its end and its line is printed.
+fn finish<'t, 'a, D: Disk>(
+    disk: &mut D,
+    answer: Result<u64, SectionFault>,
+    onto: D::Onto,
+    place: Place<'t>,
+    input: Place<'t>,
+    part: Part,
+    report: &mut Report,
+) -> BootOutcome<'t, 'a>
+    ensures done { OnOk result (IsOk answer) }
+    ensures ended { IsTrue D.tells → OnOk result (Ends (D.held disk.old).output (D.Onto.written onto)
+        (D.world disk.old) (D.world disk.new)) }
+    ensures closed { IsTrue D.tells → (b : Bool) × (D.held disk.new ≡ ended b (D.held disk.old)) }
+    ensures rest { IsTrue D.tells → SparesRest (D.held disk.old).output (D.world disk.old) (D.world disk.new) }
+    ensures told { IfErr result (λ refusal. IsToldOf answer refusal.fault) }
+{
+    let sides = Sides::none().reading(input, None);
+    let (bytes, is_on_output) = match ended(disk, of_answer(answer), onto, place, sides) {
+        Ok(end) => end,
+        Err(refusal) => return Err(refusal),
+    };
+    report.line_beside(is_on_output, PartLine { part, bytes })?;
+    Ok(())
+}
+
+// The fault of a section as one of a command.
+fn of_answer<'a>(answer: Result<u64, SectionFault>) -> Result<u64, BootCommandFault<'a>>
+    ensures { MatchResult answer (λ n. result ≡ Ok n) (λ f. result ≡ Err (BootCommandFault.Section f)) }
+{
+    match answer {
+        Ok(bytes) => Ok(bytes),
+        Err(fault) => Err(BootCommandFault::Section(fault)),
+    }
+}
