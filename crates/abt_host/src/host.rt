@@ -89,18 +89,6 @@ impl Disk for Host {
         onto.give_up()
     }
 
-    fn source<'a>(&mut self, place: Place<'a>) -> Result<FileSource, HostRefusal<'a>> {
-        self.writing.reading.source(place)
-    }
-
-    fn partition<'a>(&mut self, place: Place<'a>) -> Result<FilePartition, HostRefusal<'a>> {
-        self.writing.partition(place)
-    }
-
-    fn close(&mut self, part: FilePartition) -> bool {
-        self.writing.written_in_place(part).is_data_on_output()
-    }
-
     fn image<'a>(
         &mut self,
         place: Place<'a>,
