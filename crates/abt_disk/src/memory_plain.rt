@@ -35,10 +35,7 @@ impl MemoryDisk {
     }
 
     // Creates or empties a file.
-    pub(crate) fn plain_at<'a>(
-        &mut self,
-        place: Place<'a>,
-    ) -> Result<MemoryOutput, HostRefusal<'a>>
+    pub(crate) fn plain_at<'a>(&mut self, place: Place<'a>) -> Result<MemoryOutput, HostRefusal<'a>>
         requires { self.old.output ≡ None }
         ensures empty { IfOk result (λ onto. onto.bytes.items ≡ []) }
         ensures created { OnOk result (Creates (path_of place.entry) (held_of self.old) (held_of self.new)

@@ -6,7 +6,7 @@ use Rattle.std.proofs.lemmas.List.Elements.{Contains-append_left, Contains-appen
 use Rattle.std.proofs.lemmas.List.Elements.{Contains-push, Contains-push_cases}
 use Rattle.abt_disk.specs.World.{World, Held, Opens, Creates, OnlyAt, untouched, in_output, Spares, Ends, SparesRest}
 use Rattle.abt_disk.specs.World.{reading, beginning, ended}
-use Rattle.boot_bodies.specs.Among.{Stands, IsAmong, OnlyAmong, GoesAmong, KeepsDone, IsDone}
+use Rattle.boot_bodies.specs.Among.{FileHolds, IsAmong, OnlyAmong, GoesAmong, KeepsDone, IsDone}
 
 -- ---- that nothing else was changed
 
@@ -124,9 +124,9 @@ goes_written P path b h h' h'' u v w named made closed rest =
           (spares_then made.file u v w made.spares after) (cases_eq f made.file);
       opened = λ f listed. elim (first_or made.file f h.begun
           (subst (λ l. Contains l f) (begun_now path h h' h'' b u v made closed) listed)) [
-        | inl before ↦ inl before
-        | inr same ↦ inr (one_among P h.read path made.file w f named there made.free same)
-      ];
+            | inl before ↦ inl before
+            | inr same ↦ inr (one_among P h.read path made.file w f named there made.free same)
+          ];
     }
 
 pub keeps_written : (path : List ℕ) (b : Bool) (h h' h'' : Held) (u v w : World) → Creates path h h' u v
@@ -146,7 +146,7 @@ pub done_written : (path bytes : List ℕ) (b : Bool) (h h' h'' : Held) (u v w :
     → h'' ≡ ended b h' → Ends h'.output bytes v w → IsDone h'' w path bytes
 done_written path bytes b h h' h'' u v w made closed ends =
     let now : (w.holds made.file ≡ bytes) × Spares made.file v w =
-        subst (λ o. Ends o bytes v w) (open_is path h h' u v made) ends in
+    subst (λ o. Ends o bytes v w) (open_is path h h' u v made) ends in
     record {
       file = made.file;
       there = now.1.paths path made.file made.there;
@@ -182,7 +182,7 @@ done_later h h' a b path bytes kept done = record {
   listed = kept.listed done.file done.listed;
 }
 
-pub stands : (h : Held) (world : World) (path bytes : List ℕ) → IsDone h world path bytes → Stands world path bytes
+pub stands : (h : Held) (world : World) (path bytes : List ℕ) → IsDone h world path bytes → FileHolds world path bytes
 stands h world path bytes done = record {
   file = done.file;
   there = done.there;

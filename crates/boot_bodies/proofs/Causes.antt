@@ -11,7 +11,7 @@ use Rattle.abt_sections.specs.Open.{RefusedAs}
 use Rattle.boot_rules.specs.declared.fault.BootCommandFault.{BootCommandFault}
 use Rattle.boot_rules.specs.declared.fault.BootCommandFault.TheVariants as faults
 use Rattle.boot_texts.specs.Info.{PrintCause}
-use Rattle.boot_bodies.specs.Faults.{IsFaultOf, IsToldOf, Refuses, RefusesFile}
+use Rattle.boot_bodies.specs.Faults.{IsFaultOf, IsAnswerOf, IsRefusalOf, RefusesImage}
 
 pub moved : (f : SectionFault) (r r' w w' : ℕ) (x : List ℕ) (changed : Type 0) → MoveCause f r r' w w' changed
     → ¬ changed → IsFaultOf x f
@@ -48,7 +48,7 @@ opened (sections.SectionTruncated s) x refused = refused
 opened (sections.SectionTooLarge s) x refused = absurd refused
 
 of_files : {X : Type 0} (answer : X) (x : List ℕ) (fault : BootCommandFault)
-    → IsToldOf {X = X} (Ok answer) fault → Refuses x fault
+    → IsAnswerOf {X = X} (Ok answer) fault → IsRefusalOf x fault
 of_files answer x (faults.Host f) told = tt
 of_files answer x (faults.Section f) told = absurd told
 of_files answer x (faults.OptionNotCarried name) told = absurd told
@@ -58,14 +58,14 @@ of_files answer x (faults.BadBoardId word) told = absurd told
 of_files answer x faults.CheckFailed told = absurd told
 
 -- a fault that is told is one of the bytes
-pub told_is : (answer : Result ℕ SectionFault) (x : List ℕ) (fault : BootCommandFault) → IsToldOf answer fault
-    → IfErr answer (IsFaultOf x) → Refuses x fault
+pub told_is : (answer : Result ℕ SectionFault) (x : List ℕ) (fault : BootCommandFault) → IsAnswerOf answer fault
+    → IfErr answer (IsFaultOf x) → IsRefusalOf x fault
 told_is (Ok n) x fault told own = of_files n x fault told
-told_is (Err f) x fault told own = subst (λ g. Refuses x g) (sym told) own
+told_is (Err f) x fault told own = subst (λ g. IsRefusalOf x g) (sym told) own
 
 -- and so of the file that they were opened from
 pub refuses_file : (path bytes : List ℕ) (held held' : Held) (world : World) (fault : BootCommandFault)
-    → Opens world path bytes held held' → Refuses bytes fault → RefusesFile path world fault
+    → Opens world path bytes held held' → IsRefusalOf bytes fault → RefusesImage path world fault
 refuses_file path bytes held held' world (faults.Host f) opens refuses = tt
 refuses_file path bytes held held' world (faults.Section f) opens refuses =
     (opens.file, opens.there, subst (λ x. IsFaultOf x f) opens.held refuses)
@@ -76,8 +76,8 @@ refuses_file path bytes held held' world (faults.BadBoardId word) opens refuses 
 refuses_file path bytes held held' world faults.CheckFailed opens refuses = absurd refuses
 
 -- of files alone
-pub host_refuses : (x : List ℕ) (fault : BootCommandFault) (host : HostFault) → fault ≡ faults.Host host → Refuses x fault
-host_refuses x fault host same = subst (λ f. Refuses x f) (sym same) tt
+pub host_refuses : (x : List ℕ) (fault : BootCommandFault) (host : HostFault) → fault ≡ faults.Host host → IsRefusalOf x fault
+host_refuses x fault host same = subst (λ f. IsRefusalOf x f) (sym same) tt
 
 -- what holds where a call answered Ok
 pub ok_gives : {X E : Type 0} (answer : Result X E) (P : Type 0) → IsOk answer → OnOk answer P → P

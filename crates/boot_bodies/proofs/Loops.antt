@@ -7,7 +7,7 @@ use Rattle.abt_sections.specs.Header.{Header, places_of, fragment_count, fragmen
 use Rattle.abt_sections.specs.Layout.{part_of}
 use Rattle.boot_rules.specs.declared.part_names.Part.TheVariants as parts
 use Rattle.boot_bodies.specs.Among.{GoesAmong, IsAmong, IsDone, KeepsDone}
-use Rattle.boot_bodies.specs.Unpacking.{FragmentsDone, SectionsDone, WordsDone, path_of_part, section_at}
+use Rattle.boot_bodies.specs.Unpacking.{FragmentsDone, SectionsDone, WordsDone, path_of_part, section_part}
 use Rattle.boot_bodies.specs.Unpacking.{IsFragmentPath, IsPartPath, IsSectionPath, of_section, of_fragment, of_words}
 use Rattle.std.proofs.lemmas.List.{get_or_default}
 use Rattle.boot_bodies.proofs.Amongs.{done_later, done_written}
@@ -57,13 +57,13 @@ sections_later folder header x n h h' a b kept done =
 pub sections_more : (folder : List ℕ) (header : Header) (x y : List ℕ) (n : ℕ) (h h' : Held) (a b : World) → y ≡ x
     → KeepsDone h h' a b → SectionsDone folder header x n h a
     → ((p : Place) → p ≡ slice_index_or (places_of header) n p
-        → IsDone h' b (path_of_part folder (section_at p)) (part_of y p))
+    → IsDone h' b (path_of_part folder (section_part p)) (part_of y p))
     → SectionsDone folder header x (n + 1) h' b
 sections_more folder header x y n h h' a b same kept done next =
     below_more (λ k. (p : Place) → p ≡ slice_index_or (places_of header) k p
-        → IsDone h' b (path_of_part folder (section_at p)) (part_of x p)) n
+    → IsDone h' b (path_of_part folder (section_part p)) (part_of x p)) n
     (sections_later folder header x n h h' a b kept done)
-    (λ p found. subst (λ z. IsDone h' b (path_of_part folder (section_at p)) (part_of z p)) same (next p found))
+    (λ p found. subst (λ z. IsDone h' b (path_of_part folder (section_part p)) (part_of z p)) same (next p found))
 
 pub fragments_later : (folder : List ℕ) (header : Header) (x : List ℕ) (n : ℕ) (h h' : Held) (a b : World)
     → KeepsDone h h' a b → FragmentsDone folder header x n h a → FragmentsDone folder header x n h' b
@@ -87,7 +87,7 @@ same_section header i p q there found found' = found ∙ get_or_default (places_
 
 pub section_named : (folder : List ℕ) (header : Header) (i : ℕ) (q : Place) (path : List ℕ)
     → i < length (places_of header) → q ≡ slice_index_or (places_of header) i q
-    → path ≡ path_of_part folder (section_at q) → IsSectionPath folder header path
+    → path ≡ path_of_part folder (section_part q) → IsSectionPath folder header path
 section_named folder header i q path there found is_path = record {
   index = i;
   place = q;
@@ -111,6 +111,6 @@ part_done path path' before after bytes b h h' h'' u v w is_path empty written m
 
 pub same_path : (folder : List ℕ) (header : Header) (i : ℕ) (q p : Place) → i < length (places_of header)
     → q ≡ slice_index_or (places_of header) i q → p ≡ slice_index_or (places_of header) i p
-    → path_of_part folder (section_at q) ≡ path_of_part folder (section_at p)
+    → path_of_part folder (section_part q) ≡ path_of_part folder (section_part p)
 same_path folder header i q p there found found' =
-    ap (λ place. path_of_part folder (section_at place)) (same_section header i q p there found found')
+    ap (λ place. path_of_part folder (section_part place)) (same_section header i q p there found found')

@@ -8,8 +8,8 @@ use Rattle.abt_sections.specs.Layout.{part_of}
 use Rattle.abt_sections.specs.Open.{HasImage, IsOpened}
 use Rattle.boot_rules.specs.declared.part_names.Part.TheVariants as parts
 use Rattle.boot_texts.specs.Words.{image_words, words_text}
-use Rattle.boot_bodies.specs.Among.{GoesAmong, OnlyAmong, Stands}
-use Rattle.boot_bodies.specs.Unpacking.{FragmentsDone, SectionsDone, WordsDone, path_of_part, section_at}
+use Rattle.boot_bodies.specs.Among.{GoesAmong, OnlyAmong, FileHolds}
+use Rattle.boot_bodies.specs.Unpacking.{FragmentsDone, SectionsDone, WordsDone, path_of_part, section_part}
 use Rattle.boot_bodies.specs.Unpacking.{IsPartOf, IsPartPath, Unpacks}
 use Rattle.boot_bodies.proofs.Amongs.{goes_none, kept_behind, only_behind, stands}
 use Rattle.boot_bodies.proofs.Loops.{goes_more}
@@ -24,13 +24,13 @@ unpacks path folder x with_words header h h' h'' a c opens image sections fragme
   there = opens.there;
   header = header;
   image = subst (λ z. HasImage z header) opens.held image;
-  sections = λ i p below found. subst (λ z. Stands c (path_of_part folder (section_at p)) (part_of z p)) opens.held
+  sections = λ i p below found. subst (λ z. FileHolds c (path_of_part folder (section_part p)) (part_of z p)) opens.held
       (stands h'' c _ _ (sections i below p found));
   fragments = λ i below.
-      subst (λ z. Stands c (path_of_part folder (parts.Fragment i)) (fragment_of z header i)) opens.held
+      subst (λ z. FileHolds c (path_of_part folder (parts.Fragment i)) (fragment_of z header i)) opens.held
       (stands h'' c _ _ (fragments i below));
   words = λ wanted.
-      subst (λ z. Stands c (path_of_part folder parts.Words) (words_text (image_words folder z header))) opens.held
+      subst (λ z. FileHolds c (path_of_part folder parts.Words) (words_text (image_words folder z header))) opens.held
       (stands h'' c _ _ (words wanted));
 }
 

@@ -3,7 +3,7 @@ use Rattle.std.specs.Prelude.{◌≡◌, ◌⊎◌, ℕ, List, [], ◌∷◌, Op
 use Rattle.abt_disk.specs.World.{World, Held}
 
 -- a file stands at this path, and holds these bytes
-pub record Stands (world : World) (path bytes : List ℕ) : Type 0 where
+pub record FileHolds (world : World) (path bytes : List ℕ) : Type 0 where
   pub file : ℕ
   pub there : world.at path ≡ Some file
   pub holds : world.holds file ≡ bytes

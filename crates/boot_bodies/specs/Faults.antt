@@ -20,32 +20,32 @@ IsFaultOf x (sections.SectionTruncated s) = RefusedAs x (sections.SectionTruncat
 IsFaultOf x (sections.SectionTooLarge s) = ⊥
 
 -- a fault of files or devices, or one that the bytes x have
-abbrev pub Refuses : List ℕ → BootCommandFault → Type 0
-Refuses x (faults.Host f) = Unit {0}
-Refuses x (faults.Section f) = IsFaultOf x f
-Refuses x (faults.OptionNotCarried name) = ⊥
-Refuses x (faults.BadFragment word) = ⊥
-Refuses x (faults.BadNumber word) = ⊥
-Refuses x (faults.BadBoardId word) = ⊥
-Refuses x faults.CheckFailed = ⊥
+abbrev pub IsRefusalOf : List ℕ → BootCommandFault → Type 0
+IsRefusalOf x (faults.Host f) = Unit {0}
+IsRefusalOf x (faults.Section f) = IsFaultOf x f
+IsRefusalOf x (faults.OptionNotCarried name) = ⊥
+IsRefusalOf x (faults.BadFragment word) = ⊥
+IsRefusalOf x (faults.BadNumber word) = ⊥
+IsRefusalOf x (faults.BadBoardId word) = ⊥
+IsRefusalOf x faults.CheckFailed = ⊥
 
 -- a fault of files or devices, or one of what the file at this path holds
-abbrev pub RefusesFile : List ℕ → World → BootCommandFault → Type 0
-RefusesFile path world (faults.Host f) = Unit {0}
-RefusesFile path world (faults.Section f) = (file : ℕ) × (world.at path ≡ Some file) × IsFaultOf (world.holds file) f
-RefusesFile path world (faults.OptionNotCarried name) = ⊥
-RefusesFile path world (faults.BadFragment word) = ⊥
-RefusesFile path world (faults.BadNumber word) = ⊥
-RefusesFile path world (faults.BadBoardId word) = ⊥
-RefusesFile path world faults.CheckFailed = ⊥
+abbrev pub RefusesImage : List ℕ → World → BootCommandFault → Type 0
+RefusesImage path world (faults.Host f) = Unit {0}
+RefusesImage path world (faults.Section f) = (file : ℕ) × (world.at path ≡ Some file) × IsFaultOf (world.holds file) f
+RefusesImage path world (faults.OptionNotCarried name) = ⊥
+RefusesImage path world (faults.BadFragment word) = ⊥
+RefusesImage path world (faults.BadNumber word) = ⊥
+RefusesImage path world (faults.BadBoardId word) = ⊥
+RefusesImage path world faults.CheckFailed = ⊥
 
 -- what a call is refused for that answered so, where it was not files that failed
-abbrev pub IsToldOf : {X : Type 0} → Result X SectionFault → BootCommandFault → Type 0
-IsToldOf (Ok x) (faults.Host f) = Unit {0}
-IsToldOf (Ok x) (faults.Section f) = ⊥
-IsToldOf (Ok x) (faults.OptionNotCarried name) = ⊥
-IsToldOf (Ok x) (faults.BadFragment word) = ⊥
-IsToldOf (Ok x) (faults.BadNumber word) = ⊥
-IsToldOf (Ok x) (faults.BadBoardId word) = ⊥
-IsToldOf (Ok x) faults.CheckFailed = ⊥
-IsToldOf (Err e) fault = fault ≡ faults.Section e
+abbrev pub IsAnswerOf : {X : Type 0} → Result X SectionFault → BootCommandFault → Type 0
+IsAnswerOf (Ok x) (faults.Host f) = Unit {0}
+IsAnswerOf (Ok x) (faults.Section f) = ⊥
+IsAnswerOf (Ok x) (faults.OptionNotCarried name) = ⊥
+IsAnswerOf (Ok x) (faults.BadFragment word) = ⊥
+IsAnswerOf (Ok x) (faults.BadNumber word) = ⊥
+IsAnswerOf (Ok x) (faults.BadBoardId word) = ⊥
+IsAnswerOf (Ok x) faults.CheckFailed = ⊥
+IsAnswerOf (Err e) fault = fault ≡ faults.Section e

@@ -5,7 +5,7 @@ use Rattle.boot_rules.specs.declared.part_names.Part.{Part}
 use Rattle.boot_rules.specs.declared.part_names.Part.TheVariants as parts
 
 -- its name, and how many bytes it has
-abbrev pub text_of : Part → ℕ → List ℕ
-text_of (parts.Section kind) bytes = section_name kind ++ (codes " " ++ decimal bytes)
-text_of (parts.Fragment index) bytes = codes "fragment " ++ (decimal index ++ (codes " " ++ decimal bytes))
-text_of parts.Words bytes = codes "pack.words " ++ decimal bytes
+abbrev pub part_line : Part → ℕ → List ℕ
+part_line (parts.Section kind) bytes = section_name kind ++ (codes " " ++ decimal bytes)
+part_line (parts.Fragment index) bytes = codes "fragment " ++ (decimal index ++ (codes " " ++ decimal bytes))
+part_line parts.Words bytes = codes "pack.words " ++ decimal bytes

@@ -10,26 +10,26 @@ use Rattle.abt_disk.specs.World.{World, Held}
 use Rattle.boot_rules.specs.declared.part_names.Part.{Part}
 use Rattle.boot_rules.specs.declared.part_names.Part.TheVariants as parts
 use Rattle.boot_texts.specs.Words.{words_text, image_words}
-use Rattle.boot_bodies.specs.Among.{Stands, IsDone}
+use Rattle.boot_bodies.specs.Among.{FileHolds, IsDone}
 
 -- the name of a part's file, and the number that stands behind it
-abbrev pub name_of : Part → List ℕ
-name_of (parts.Section kind) = section_name kind
-name_of (parts.Fragment index) = codes "fragment"
-name_of parts.Words = codes "pack.words"
+abbrev pub part_name : Part → List ℕ
+part_name (parts.Section kind) = section_name kind
+part_name (parts.Fragment index) = codes "fragment"
+part_name parts.Words = codes "pack.words"
 
-abbrev pub number_of : Part → Option ℕ
-number_of (parts.Section kind) = None
-number_of (parts.Fragment index) = Some index
-number_of parts.Words = None
+abbrev pub part_number : Part → Option ℕ
+part_number (parts.Section kind) = None
+part_number (parts.Fragment index) = Some index
+part_number parts.Words = None
 
 -- the path of its file: `DIR/kernel`, `DIR/fragment.0`, `DIR/pack.words`
 abbrev pub path_of_part : List ℕ → Part → List ℕ
-path_of_part folder part = in_folder (Some folder) (numbered (name_of part) (number_of part))
+path_of_part folder part = in_folder (Some folder) (numbered (part_name part) (part_number part))
 
 -- the section at a place
-abbrev pub section_at : Place → Part
-section_at p = parts.Section p.kind
+abbrev pub section_part : Place → Part
+section_part p = parts.Section p.kind
 
 -- the path of one of the sections
 pub record IsSectionPath (folder : List ℕ) (h : Header) (path : List ℕ) : Type 0 where
@@ -37,7 +37,7 @@ pub record IsSectionPath (folder : List ℕ) (h : Header) (path : List ℕ) : Ty
   pub place : Place
   pub there : index < length (places_of h)
   pub found : place ≡ slice_index_or (places_of h) index place
-  pub is_path : path ≡ path_of_part folder (section_at place)
+  pub is_path : path ≡ path_of_part folder (section_part place)
 
 -- of one of the fragments
 pub record IsFragmentPath (folder : List ℕ) (h : Header) (path : List ℕ) : Type 0 where
@@ -65,7 +65,7 @@ pub record IsPartOf (input folder : List ℕ) (with_words : Bool) (world : World
 abbrev pub SectionDone : List ℕ → Header → List ℕ → ℕ → Held → World → Type 0
 SectionDone folder h x i held world =
     (p : Place) → p ≡ slice_index_or (places_of h) i p
-    → IsDone held world (path_of_part folder (section_at p)) (part_of x p)
+    → IsDone held world (path_of_part folder (section_part p)) (part_of x p)
 
 -- the first n sections are
 abbrev pub SectionsDone : List ℕ → Header → List ℕ → ℕ → Held → World → Type 0
@@ -92,8 +92,8 @@ pub record Unpacks (input folder : List ℕ) (with_words : Bool) (old new : Worl
   pub header : Header
   pub image : HasImage (old.holds from) header
   pub sections : (i : ℕ) (p : Place) → i < length (places_of header) → p ≡ slice_index_or (places_of header) i p
-      → Stands new (path_of_part folder (section_at p)) (part_of (old.holds from) p)
+      → FileHolds new (path_of_part folder (section_part p)) (part_of (old.holds from) p)
   pub fragments : (i : ℕ) → i < fragment_count header
-      → Stands new (path_of_part folder (parts.Fragment i)) (fragment_of (old.holds from) header i)
+      → FileHolds new (path_of_part folder (parts.Fragment i)) (fragment_of (old.holds from) header i)
   pub words : IsTrue with_words
-      → Stands new (path_of_part folder parts.Words) (words_text (image_words folder (old.holds from) header))
+      → FileHolds new (path_of_part folder parts.Words) (words_text (image_words folder (old.holds from) header))

@@ -1,7 +1,7 @@
 //! What is printed of a part.
 
 ghost use Rattle.std.specs.Prelude.{Some};
-ghost use Rattle.boot_bodies.specs.Lines.{text_of};
+ghost use Rattle.boot_bodies.specs.Lines.{part_line};
 
 use boot_rules::Part;
 use std::fmt;
@@ -15,7 +15,7 @@ pub struct PartLine {
 }
 
 impl fmt::Display for PartLine {
-    ghost output = { λ line. Some (text_of line.part line.bytes) };
+    ghost output = { λ line. Some (part_line line.part line.bytes) };
 
     fn fmt<W: fmt::Write>(&self, f: &mut fmt::Formatter<W>) -> fmt::Result {
         let bytes = self.bytes;

@@ -2,7 +2,7 @@
 
 ghost use Rattle.std.specs.Prelude.{◌≡◌};
 ghost use Rattle.abt_refusals.specs.Paths.{path_of};
-ghost use Rattle.boot_bodies.specs.Unpacking.{name_of, number_of, path_of_part};
+ghost use Rattle.boot_bodies.specs.Unpacking.{part_name, part_number, path_of_part};
 
 use abt_refusals::Place;
 use boot_rules::Part;
@@ -14,13 +14,13 @@ pub fn place_of<'a>(part: Part, folder: &'a str) -> Place<'a>
     Place {
         role: "PART",
         folder: Some(folder),
-        name: name_of(part),
-        number: number_of(part),
+        name: part_name(part),
+        number: part_number(part),
     }
 }
 
-fn name_of(part: Part) -> &'static str
-    ensures { result.now ≡ name_of part }
+fn part_name(part: Part) -> &'static str
+    ensures { result.now ≡ part_name part }
 {
     match part {
         Part::Section(kind) => kind.name(),
@@ -29,8 +29,8 @@ fn name_of(part: Part) -> &'static str
     }
 }
 
-fn number_of(part: Part) -> Option<u32>
-    ensures { result ≡ number_of part }
+fn part_number(part: Part) -> Option<u32>
+    ensures { result ≡ part_number part }
 {
     match part {
         Part::Fragment(index) => Some(index),

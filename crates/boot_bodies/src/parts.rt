@@ -4,7 +4,7 @@ ghost use Rattle.std.specs.Prelude.{◌≡◌, None, IsTrue, IfErr, OnOk, length
 ghost use Rattle.abt_sections.specs.Header.{fragment_count, places_of, view_of};
 ghost use Rattle.abt_sections.specs.Open.{IsOpened};
 ghost use Rattle.boot_bodies.specs.Among.{GoesAmong, KeepsDone};
-ghost use Rattle.boot_bodies.specs.Faults.{Refuses};
+ghost use Rattle.boot_bodies.specs.Faults.{IsRefusalOf};
 ghost use Rattle.boot_bodies.specs.Unpacking.{FragmentsDone, IsFragmentPath, IsPartPath, IsSectionPath, SectionsDone};
 ghost use Rattle.boot_bodies.specs.Unpacking.{WordsDone};
 
@@ -39,7 +39,7 @@ pub(crate) fn write_parts<'t, 'a, D: Disk>(
     ensures only { IsTrue D.tells → GoesAmong (IsPartPath folder.now with_words (view_of image.now.header))
         (D.held disk.old) (D.held disk.new) (D.world disk.old) (D.world disk.new) }
     ensures refused { IsTrue D.tells → IsOpened (D.At.content source.old.device) image.now →
-        IfErr result (λ refusal. Refuses (D.At.content source.old.device) refusal.fault) }
+        IfErr result (λ refusal. IsRefusalOf (D.At.content source.old.device) refusal.fault) }
 {
     match write_sections(disk, image, source, input, folder, report, w, m) {
         Ok(()) => {}
@@ -77,7 +77,7 @@ fn write_sections<'t, 'a, D: Disk>(
     ensures only { IsTrue D.tells → GoesAmong (IsSectionPath folder.now (view_of image.now.header)) (D.held disk.old)
         (D.held disk.new) (D.world disk.old) (D.world disk.new) }
     ensures refused { IsTrue D.tells → IsOpened (D.At.content source.old.device) image.now →
-        IfErr result (λ refusal. Refuses (D.At.content source.old.device) refusal.fault) }
+        IfErr result (λ refusal. IsRefusalOf (D.At.content source.old.device) refusal.fault) }
 {
     for i in 0..sections(image) {
         match write_section(disk, image, i, source, input, folder, report, w, m) {
@@ -107,7 +107,7 @@ fn write_fragments<'t, 'a, D: Disk>(
     ensures only { IsTrue D.tells → GoesAmong (IsFragmentPath folder.now (view_of image.now.header)) (D.held disk.old)
         (D.held disk.new) (D.world disk.old) (D.world disk.new) }
     ensures refused { IsTrue D.tells → IsOpened (D.At.content source.old.device) image.now →
-        IfErr result (λ refusal. Refuses (D.At.content source.old.device) refusal.fault) }
+        IfErr result (λ refusal. IsRefusalOf (D.At.content source.old.device) refusal.fault) }
 {
     for i in 0..fragments(image) {
         match write_fragment(disk, image, i, source, input, folder, report, w, m) {

@@ -4,7 +4,7 @@ ghost use Rattle.std.specs.Prelude.{◌≡◌, IsTrue, IfErr, OnOk};
 ghost use Rattle.abt_refusals.specs.Paths.{path_of};
 ghost use Rattle.abt_disk.specs.World.{IsReading, Keeps};
 ghost use Rattle.boot_bodies.specs.Among.{OnlyAmong};
-ghost use Rattle.boot_bodies.specs.Faults.{RefusesFile};
+ghost use Rattle.boot_bodies.specs.Faults.{RefusesImage};
 ghost use Rattle.boot_bodies.specs.Unpacking.{IsPartOf, Unpacks};
 
 use crate::carried::Carried;
@@ -43,7 +43,7 @@ pub fn unpack_file<'t, 'a, D: Disk>(
         (D.held disk.old).read (D.held disk.new).begun (D.world disk.old) (D.world disk.new) }
     ensures input { IsTrue D.tells → Keeps (path_of input.entry) (D.world disk.old) (D.world disk.new) }
     // it is refused for a fault that IN has, or for one of files or devices
-    ensures refused { IsTrue D.tells → IfErr result (λ refusal. RefusesFile (path_of input.entry) (D.world disk.old)
+    ensures refused { IsTrue D.tells → IfErr result (λ refusal. RefusesImage (path_of input.entry) (D.world disk.old)
         refusal.fault) }
 {
     let mut device = disk.source(input)?;
@@ -57,7 +57,17 @@ pub fn unpack_file<'t, 'a, D: Disk>(
     }
     let progress = report.progress;
     let mut source = Carried { device, progress };
-    match write_parts(disk, &image, &mut source, input, folder, with_words, report, w, m) {
+    match write_parts(
+        disk,
+        &image,
+        &mut source,
+        input,
+        folder,
+        with_words,
+        report,
+        w,
+        m,
+    ) {
         Ok(()) => Ok(()),
         Err(refusal) => Err(refusal),
     }
@@ -71,7 +81,7 @@ fn not_opened<'t, 'a>(input: Place<'t>, fault: SectionFault) -> Refusal<'t, Boot
     sides.refuse(BootCommandFault::Section(fault))
 }
 
-// Refuses to write where the image is one of the files.
+// IsRefusalOf to write where the image is one of the files.
 fn refuse_taken<'t, D: Disk>(
     disk: &D,
     image: &Image,

@@ -5,7 +5,7 @@ ghost use Rattle.abt_disk.specs.World.{Ends, SparesRest, ended};
 ghost use Rattle.abt_sections.specs.Header.{fragment_count, fragment_of, places_of, view_of};
 ghost use Rattle.abt_sections.specs.Open.{IsOpened};
 ghost use Rattle.boot_bodies.specs.Among.{GoesAmong, IsDone, KeepsDone};
-ghost use Rattle.boot_bodies.specs.Faults.{IsToldOf, Refuses};
+ghost use Rattle.boot_bodies.specs.Faults.{IsAnswerOf, IsRefusalOf};
 ghost use Rattle.boot_bodies.specs.Unpacking.{IsFragmentPath, IsSectionPath, SectionDone, WordsDone, path_of_part};
 ghost use Rattle.boot_rules.specs.declared.part_names.Part.TheVariants as parts;
 
@@ -43,7 +43,7 @@ pub(crate) fn write_section<'t, 'a, D: Disk>(
     ensures only { IsTrue D.tells → GoesAmong (IsSectionPath folder.now (view_of image.now.header)) (D.held disk.old)
         (D.held disk.new) (D.world disk.old) (D.world disk.new) }
     ensures refused { IsTrue D.tells → IsOpened (D.At.content source.old.device) image.now →
-        IfErr result (λ refusal. Refuses (D.At.content source.old.device) refusal.fault) }
+        IfErr result (λ refusal. IsRefusalOf (D.At.content source.old.device) refusal.fault) }
 {
     let part = Part::Section(section(image, i).kind);
     let place = place_of(part, folder);
@@ -78,7 +78,7 @@ pub(crate) fn write_fragment<'t, 'a, D: Disk>(
     ensures only { IsTrue D.tells → GoesAmong (IsFragmentPath folder.now (view_of image.now.header)) (D.held disk.old)
         (D.held disk.new) (D.world disk.old) (D.world disk.new) }
     ensures refused { IsTrue D.tells → IsOpened (D.At.content source.old.device) image.now →
-        IfErr result (λ refusal. Refuses (D.At.content source.old.device) refusal.fault) }
+        IfErr result (λ refusal. IsRefusalOf (D.At.content source.old.device) refusal.fault) }
 {
     let part = Part::Fragment(index);
     let place = place_of(part, folder);
@@ -109,7 +109,7 @@ pub(crate) fn write_pack_words<'t, 'a, D: Disk>(
     ensures only { IsTrue D.tells → GoesAmong (λ path. path ≡ path_of_part folder.now parts.Words)
         (D.held disk.old) (D.held disk.new) (D.world disk.old) (D.world disk.new) }
     ensures refused { IsTrue D.tells → IsOpened (D.At.content source.old.device) image.now →
-        IfErr result (λ refusal. Refuses (D.At.content source.old.device) refusal.fault) }
+        IfErr result (λ refusal. IsRefusalOf (D.At.content source.old.device) refusal.fault) }
 {
     let place = place_of(Part::Words, folder);
     let onto = disk.plain(place)?;
@@ -136,7 +136,7 @@ fn finish<'t, 'a, D: Disk>(
         (D.world disk.old) (D.world disk.new)) }
     ensures closed { IsTrue D.tells → (b : Bool) × (D.held disk.new ≡ ended b (D.held disk.old)) }
     ensures rest { IsTrue D.tells → SparesRest (D.held disk.old).output (D.world disk.old) (D.world disk.new) }
-    ensures told { IfErr result (λ refusal. IsToldOf answer refusal.fault) }
+    ensures told { IfErr result (λ refusal. IsAnswerOf answer refusal.fault) }
 {
     let sides = Sides::none().reading(input, None);
     let (bytes, is_on_output) = match ended(disk, of_answer(answer), onto, place, sides) {

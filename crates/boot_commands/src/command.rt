@@ -87,7 +87,15 @@ pub fn boot_command<'t, 'a>(
             with_words,
         } => {
             let mut disk = Host::new(reading);
-            unpack_file(&mut disk, report, Place::new("IN", input), folder, *with_words, w, m)
+            unpack_file(
+                &mut disk,
+                report,
+                Place::new("IN", input),
+                folder,
+                *with_words,
+                w,
+                m,
+            )
         }
         Kind::Info {
             input,

@@ -5,13 +5,13 @@ ghost use Rattle.abt_sections.specs.Refusal.{IfRefused};
 ghost use Rattle.boot_rules.specs.Parts.{IsBoot};
 ghost use Rattle.boot_rules.specs.Refused.{refusal_of};
 
-use boot_bodies::BootOutcome;
 use crate::lines::ImageLine;
 use abt_host::{Reading, Watched};
 use abt_io::{CopyFault, Meter, Output, Overwrite, Window, copy_range};
 use abt_output::{Finished, ImageOutput, Report, ended, ended_file, ended_front};
 use abt_refusals::{Place, Refusal, Sides};
 use abt_sections::{SectionFault, pack_boot, pack_boot_once};
+use boot_bodies::BootOutcome;
 use boot_fields::ImageKind;
 use boot_rules::{BootCommandFault, Contents, PartSource, judge, pack_vendor_parts};
 

@@ -1,11 +1,11 @@
 //! The command `info`: what the header of a boot image says, and what checking it finds.
 
-use boot_bodies::BootOutcome;
 use abt_host::Reading;
 use abt_io::{FileSource, Meter, Window};
 use abt_output::Report;
 use abt_refusals::{Place, Refusal, Sides};
 use abt_sections::{SectionFault, Verdict};
+use boot_bodies::BootOutcome;
 use boot_findings::{Findings, find_reasons};
 use boot_rules::BootCommandFault;
 use boot_texts::{InfoReport, Notation, report_info};

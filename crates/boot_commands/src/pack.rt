@@ -4,7 +4,6 @@ ghost use Rattle.std.specs.Prelude.{◌≡◌, MatchResult, false};
 ghost use Rattle.boot_rules.specs.Fault.{of_version};
 ghost use Rattle.boot_fields.specs.Kind.{is_version, version_of};
 
-use boot_bodies::BootOutcome;
 use crate::filling::filled;
 use crate::image_output::write_image;
 use crate::parts::open_parts;
@@ -14,6 +13,7 @@ use abt_io::{Meter, Window};
 use abt_output::Report;
 use abt_refusals::Refusal;
 use abt_sections::BootSpec;
+use boot_bodies::BootOutcome;
 use boot_fields::ImageKind;
 use boot_rules::{BootCommandFault, Contents, PackCommand, PartSource, judge_words};
 

@@ -3,7 +3,6 @@
 ghost use Rattle.std.specs.Prelude.{◌≡◌};
 ghost use Rattle.boot_fields.specs.Kind.{version_of};
 
-use boot_bodies::BootOutcome;
 use crate::filling::filled;
 use crate::image_output::write_image;
 use crate::lines::LeftOutNote;
@@ -17,6 +16,7 @@ use abt_io::{Meter, Window};
 use abt_output::Report;
 use abt_refusals::{HostFault, HostRefusal, Place, Refusal, Sides};
 use abt_sections::BootSpec;
+use boot_bodies::BootOutcome;
 use boot_fields::ImageKind;
 use boot_findings::{LeftOut, count_left_out, end_of, in_no_fragment, place_of};
 use boot_rules::{

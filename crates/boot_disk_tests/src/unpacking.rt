@@ -42,11 +42,7 @@ fn path(alloc: Global, name: &str, file: u64) -> Result<MemoryPath, AllocError> 
 }
 
 /// A disk with the image as IN, and these further paths. File 0 is what IN leads to, file 1 is an empty one.
-fn disk(
-    alloc: Global,
-    links: &[(&str, u64)],
-    faults: Faults,
-) -> Result<MemoryDisk, AllocError> {
+fn disk(alloc: Global, links: &[(&str, u64)], faults: Faults) -> Result<MemoryDisk, AllocError> {
     let mut paths = Vec::new(alloc);
     paths.push(path(alloc, "in", 0)?)?;
     for (name, file) in links.iter() {
@@ -72,7 +68,15 @@ fn is_unpacked(
     let mut w = Box::new(rt.alloc(), Window::new())?;
     let mut m = Meter::new();
     let input = Place::new("IN", "in");
-    let answer = unpack_in_memory(disk, &mut report, input, "parts", with_words, &mut w, &mut m);
+    let answer = unpack_in_memory(
+        disk,
+        &mut report,
+        input,
+        "parts",
+        with_words,
+        &mut w,
+        &mut m,
+    );
     Ok(answer.is_ok())
 }
 
@@ -112,7 +116,11 @@ fn the_words_stand_beside_the_parts(rt: HostRuntime) {
     assert!(rt; is_unpacked(rt, &mut disk, true) == Ok(true));
     let words = disk.file_at("parts/pack.words").expect(&rt, "is there");
     let words = disk.copy_of(words).expect(&rt, "has memory");
-    assert!(rt; words.as_slice().starts_with(b"--escaped\n--vendor\n--version=4\n--page=2048\n--dtb=parts/dtb\n"));
+    assert!(rt;
+        words.as_slice().starts_with(
+            b"--escaped\n--vendor\n--version=4\n--page=2048\n--dtb=parts/dtb\n"
+        )
+    );
 }
 
 /// Which of the calls fails.
@@ -149,8 +157,14 @@ fn each_call_that_fails_is_told(rt: HostRuntime) {
     for (n, (kind, past)) in FAILING.iter().enumerate() {
         for number in 1..*past {
             let mut disk = disk(rt.alloc(), &[], faults(*kind, number)).expect(&rt, "has memory");
-            assert!(rt; is_unpacked(rt, &mut disk, true) == Ok(false), "row {n}, call {number}");
-            assert!(rt; is_kept(rt.alloc(), &disk) == Ok(true), "row {n}, call {number}");
+            assert!(rt;
+                is_unpacked(rt, &mut disk, true) == Ok(false),
+                "row {n}, call {number}"
+            );
+            assert!(rt;
+                is_kept(rt.alloc(), &disk) == Ok(true),
+                "row {n}, call {number}"
+            );
         }
         let mut disk = disk(rt.alloc(), &[], faults(*kind, *past)).expect(&rt, "has memory");
         assert!(rt; is_unpacked(rt, &mut disk, true) == Ok(true), "row {n}");
@@ -160,7 +174,10 @@ fn each_call_that_fails_is_told(rt: HostRuntime) {
 /// Where the image is one of the parts, none is written.
 #[test]
 fn a_part_that_is_the_image_is_refused_first(rt: HostRuntime) {
-    let mut disk = disk(rt.alloc(), &[("parts/table", 0)], Faults::none()).expect(&rt, "has memory");
+    let mut disk = disk(rt.alloc(), &[("parts/table", 0)], Faults::none()).expect(
+        &rt,
+        "has memory",
+    );
     assert!(rt; is_unpacked(rt, &mut disk, false) == Ok(false));
     assert!(rt; disk.file_at("parts/vendor_ramdisk").is_none());
     assert!(rt; is_kept(rt.alloc(), &disk) == Ok(true));

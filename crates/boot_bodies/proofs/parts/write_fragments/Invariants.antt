@@ -9,8 +9,8 @@ abbrev pub invariant-loop-i : goal.invariant-loop-i
 invariant-loop-i g l = IsTrue g.D.Disk.tells
     → (g.D.At.Source.content l.source.device ≡ g.D.At.Source.content l.initial.source.device)
     × GoesAmong (IsFragmentPath l.folder (view_of l.image.header)) (g.D.Disk.held l.initial.disk) (g.D.Disk.held l.disk)
-      (g.D.Disk.world l.initial.disk) (g.D.Disk.world l.disk)
+    (g.D.Disk.world l.initial.disk) (g.D.Disk.world l.disk)
     × KeepsDone (g.D.Disk.held l.initial.disk) (g.D.Disk.held l.disk) (g.D.Disk.world l.initial.disk)
-      (g.D.Disk.world l.disk)
+    (g.D.Disk.world l.disk)
     × FragmentsDone l.folder (view_of l.image.header) (g.D.At.Source.content l.initial.source.device) l.i (g.D.Disk.held l.disk)
-      (g.D.Disk.world l.disk)
+    (g.D.Disk.world l.disk)

@@ -1,7 +1,7 @@
 use Rattle.std.proofs.Common.{sym, subst, rules}
 use Rattle.abt_sections.specs.Header.{fragment_count, view_of}
 use Rattle.abt_sections.specs.Open.{IsOpened}
-use Rattle.boot_bodies.specs.Faults.{Refuses}
+use Rattle.boot_bodies.specs.Faults.{IsRefusalOf}
 use Rattle.boot_bodies.specs.Unpacking.{FragmentsDone}
 use Rattle.boot_bodies.proofs.Amongs.{goes_then, keeps_then}
 use Rattle.boot_bodies.proofs.Loops.{fragments_later, goes_fragment, goes_section, goes_words, sections_later}
@@ -18,7 +18,7 @@ returns-in-Err-write_fragments-clause-only g c = λ t.
 pub returns-in-Err-write_fragments-clause-refused : goal.returns-in-Err-write_fragments-clause-refused
 returns-in-Err-write_fragments-clause-refused g c = λ t opened.
     let same = c.in-Ok.ensures.content t in
-    subst (λ x. Refuses x c.in-Err-write_fragments.refusal.fault) same
+    subst (λ x. IsRefusalOf x c.in-Err-write_fragments.refusal.fault) same
     (c.in-Err-write_fragments.ensures.refused t (subst (λ x. IsOpened x c.args.image.now) (sym same) opened))
 
 pub returns-then-not-with_words-clause-sections : goal.returns-then-not-with_words-clause-sections
@@ -40,8 +40,8 @@ pub returns-in-Ok-write_pack_words-clause-fragments : goal.returns-in-Ok-write_p
 returns-in-Ok-write_pack_words-clause-fragments g c = λ t.
     fragments_later _ _ _ _ _ _ _ _ (c.in-Ok-write_pack_words.ensures.keeps t)
     (subst (λ x. FragmentsDone c.args.folder.now (view_of c.args.image.now.header) x
-        (fragment_count (view_of c.args.image.now.header)) (g.D.Disk.held c.write_fragments.new.disk)
-        (g.D.Disk.world c.write_fragments.new.disk))
+    (fragment_count (view_of c.args.image.now.header)) (g.D.Disk.held c.write_fragments.new.disk)
+    (g.D.Disk.world c.write_fragments.new.disk))
     (c.in-Ok.ensures.content t) (c.in-Ok-write_fragments.ensures.done t))
 
 pub returns-in-Ok-write_pack_words-clause-only : goal.returns-in-Ok-write_pack_words-clause-only

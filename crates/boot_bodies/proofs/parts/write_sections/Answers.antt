@@ -1,14 +1,13 @@
 use Rattle.std.proofs.Common.{◌∙◌, sym, subst, arith}
 use Rattle.abt_sections.specs.Open.{IsOpened}
-use Rattle.boot_bodies.specs.Faults.{Refuses}
+use Rattle.boot_bodies.specs.Faults.{IsRefusalOf}
 use Rattle.boot_bodies.proofs.Amongs.{goes_then, keeps_then}
 use Rattle.boot_bodies.proofs.Loops.{sections_more}
 use Rattle.boot_bodies.proofs.parts.write_sections.Goals as goal
 
 pub loop-i-preserved : goal.loop-i-preserved
 loop-i-preserved g c = λ t.
-    let i = c.loop-i.invariant t in
-    (
+    let i = c.loop-i.invariant t in (
       c.in-Ok.ensures.content t ∙ i.0,
       goes_then _ _ _ _ _ _ _ i.1 (c.in-Ok.ensures.only t),
       keeps_then _ _ _ _ _ _ i.2 (c.in-Ok.ensures.keeps t),
@@ -22,7 +21,7 @@ returns-in-Err-clause-only g c = λ t.
 pub returns-in-Err-clause-refused : goal.returns-in-Err-clause-refused
 returns-in-Err-clause-refused g c = λ t opened.
     let same = (c.loop-i.invariant t).0 in
-    subst (λ x. Refuses x c.in-Err.refusal.fault) same
+    subst (λ x. IsRefusalOf x c.in-Err.refusal.fault) same
     (c.in-Err.ensures.refused t (subst (λ x. IsOpened x c.args.image.now) (sym same) opened))
 
 pub returns-clause-done : goal.returns-clause-done

@@ -1,5 +1,5 @@
 use Rattle.std.proofs.Common.{sym, subst}
-use Rattle.boot_bodies.specs.Faults.{Refuses}
+use Rattle.boot_bodies.specs.Faults.{IsRefusalOf}
 use Rattle.boot_bodies.proofs.Amongs.{only_none}
 use Rattle.boot_bodies.proofs.Causes.{opened, refuses_file}
 use Rattle.boot_bodies.proofs.Wholes.{has_as, keeps_opened, keeps_same, only_opened, only_parts, opened_as, opens_as, unpacks}
@@ -22,7 +22,7 @@ returns-in-Err-clause-input g c = λ t. keeps_same _ _ _ (c.in_ok-device.ensures
 pub returns-in-Err-clause-refused : goal.returns-in-Err-clause-refused
 returns-in-Err-clause-refused g c = λ t.
     refuses_file _ _ _ _ _ _ (c.in_ok-device.ensures.opened t)
-    (subst (λ f. Refuses (g.D.At.Source.content c.in_ok-device.device) f) (sym c.not_opened.ensures)
+    (subst (λ f. IsRefusalOf (g.D.At.Source.content c.in_ok-device.device) f) (sym c.not_opened.ensures)
     (opened _ (g.D.At.Source.content c.in_ok-device.device) (c.in-Err.ensures.opens (g.met.D.Disk.source_told t))))
 
 pub returns-in-Err-refuse_taken-clause-only : goal.returns-in-Err-refuse_taken-clause-only
