@@ -3,7 +3,7 @@ use Rattle.std.proofs.Common.{◌≡◌, ◌≢◌, ℕ, ◌+◌, List, [], ◌�
 use Rattle.std.specs.Prelude.{Contains, unwrap_or}
 use Rattle.std.proofs.lemmas.List.Elements.{Contains-push}
 use Rattle.abt_disk.specs.InPlace.{OpensPart, SparesOthers, in_place}
-use Rattle.abt_disk.specs.World.{World, Held, Spares, Opens, Ends, Keeps, reading}
+use Rattle.abt_disk.specs.World.{World, Held, Spares, OpensFile, Ends, KeepsFile, reading}
 
 -- what it holds then, and that all others are as they were
 pub ends_in : (path x y : List ℕ) (a c : World) (h h' : Held) (o : OpensPart a path x h h') → Ends h'.part y a c
@@ -20,18 +20,18 @@ others_spared path x y a c h h' o ends paths = record {
 pub others_same : (path : List ℕ) (a c : World) → c ≡ a → SparesOthers path a c
 others_same path a c same = record { paths = ap (λ w. w.at) same; files = λ f other. ap (λ w. w.holds f) same }
 
-pub keeps_same : (path : List ℕ) (a c : World) → c ≡ a → Keeps path a c
+pub keeps_same : (path : List ℕ) (a c : World) → c ≡ a → KeepsFile path a c
 keeps_same path a c same = λ f there. ap (λ w. w.holds f) same
 
 -- a file that is read is not the one that is written in place
-pub apart_from : (input path x y : List ℕ) (a : World) (h0 h h' : Held) (r : Opens a input x h0 h) (o : OpensPart a path y h h')
+pub apart_from : (input path x y : List ℕ) (a : World) (h0 h h' : Held) (r : OpensFile a input x h0 h) (o : OpensPart a path y h h')
     → r.file ≢ o.file
 apart_from input path x y a h0 h h' r o same =
     o.free (subst (λ f. Contains h.read f) same
     (subst (λ (g : Held). Contains g.read r.file) (sym r.taken) (Contains-push h0.read r.file)))
 
-pub keeps_read : (input path x y z : List ℕ) (a c : World) (h0 h h' : Held) → Opens a input x h0 h → OpensPart a path y h h'
-    → Ends h'.part z a c → Keeps input a c
+pub keeps_read : (input path x y z : List ℕ) (a c : World) (h0 h h' : Held) → OpensFile a input x h0 h → OpensPart a path y h h'
+    → Ends h'.part z a c → KeepsFile input a c
 keeps_read input path x y z a c h0 h h' r o ends = λ f there.
     (ends_in path y z a c h h' o ends).1.files f (λ same. apart_from input path x y a h0 h h' r o
     (ap (λ q. unwrap_or q 0) (sym r.there ∙ there) ∙ same))

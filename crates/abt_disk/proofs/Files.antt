@@ -7,8 +7,8 @@ use Rattle.std.proofs.Math.Seq.{drop-cons}
 use Rattle.std.proofs.lemmas.Option.{none-some}
 use Rattle.std.proofs.lemmas.Bool.{cond-true, cond-false}
 use Rattle.std.proofs.lemmas.Slice.Eq.{bytes_eq-Decides}
-use Rattle.abt_disk.specs.Memory.{contents, leads, listed}
-use Rattle.abt_disk.specs.World.{World, Spares, Ends, SparesRest, OnlyAt, in_output, Creates, Held, beginning}
+use Rattle.abt_disk.specs.Memory.{contents, leads, world_of_files}
+use Rattle.abt_disk.specs.World.{World, Spares, Ends, SparesRest, OnlyAt, in_output, Creates, Held, creating}
 use Rattle.abt_disk.specs.declared.memory.MemoryFile.{MemoryFile}
 use Rattle.abt_disk.specs.declared.memory.MemoryPath.{MemoryPath}
 
@@ -63,7 +63,7 @@ holds_new fs i x below = ap (λ l. get_or l i []) (map-set (λ y. y.bytes.items)
 
 -- one file is written
 pub spares_set : (ps : List MemoryPath) (fs : List MemoryFile) (i : ℕ) (x : MemoryFile)
-    → Spares i (listed ps fs) (listed ps (set fs i x))
+    → Spares i (world_of_files ps fs) (world_of_files ps (set fs i x))
 spares_set ps fs i x = record { paths = λ p f h. h; files = λ f n. holds_other fs i x f n }
 
 at_end : (xs : List (List ℕ)) (f : ℕ) → get_or (xs ++ ([] ∷ [])) f [] ≡ get_or xs f []
@@ -80,11 +80,11 @@ holds_more fs x empty f = ap (λ l. get_or l f []) (map-append (λ y. y.bytes.it
 
 -- a path more, and maybe an empty file
 pub spares_path : (ps : List MemoryPath) (q : MemoryPath) (fs : List MemoryFile) (file : ℕ)
-    → Spares file (listed ps fs) (listed (ps ++ (q ∷ [])) fs)
+    → Spares file (world_of_files ps fs) (world_of_files (ps ++ (q ∷ [])) fs)
 spares_path ps q fs file = record { paths = λ p f h. leads_more ps q p f h; files = λ f n. refl }
 
 pub spares_made : (ps : List MemoryPath) (q : MemoryPath) (fs : List MemoryFile) (x : MemoryFile) → x.bytes.items ≡ []
-    → (file : ℕ) → Spares file (listed ps fs) (listed (ps ++ (q ∷ [])) (fs ++ (x ∷ [])))
+    → (file : ℕ) → Spares file (world_of_files ps fs) (world_of_files (ps ++ (q ∷ [])) (fs ++ (x ∷ [])))
 spares_made ps q fs x empty file = record {
   paths = λ p f h. leads_more ps q p f h;
   files = λ f n. holds_more fs x empty f;
@@ -121,15 +121,15 @@ found_nowhere ps i name past kept =
 
 -- the output that is open holds what was put into it
 pub ends_put : (o : Option ℕ) (file : ℕ) (ps : List MemoryPath) (fs : List MemoryFile) (x : MemoryFile) → o ≡ Some file
-    → file < length fs → Ends o x.bytes.items (listed ps fs) (listed ps (set fs file x))
+    → file < length fs → Ends o x.bytes.items (world_of_files ps fs) (world_of_files ps (set fs file x))
 ends_put o file ps fs x e below =
-    subst (λ o. Ends o x.bytes.items (listed ps fs) (listed ps (set fs file x))) (sym e)
+    subst (λ o. Ends o x.bytes.items (world_of_files ps fs) (world_of_files ps (set fs file x))) (sym e)
     (holds_new fs file x below, spares_set ps fs file x)
 
 pub rest_put : (o : Option ℕ) (file : ℕ) (ps : List MemoryPath) (fs : List MemoryFile) (x : MemoryFile) → o ≡ Some file
-    → SparesRest o (listed ps fs) (listed ps (set fs file x))
+    → SparesRest o (world_of_files ps fs) (world_of_files ps (set fs file x))
 rest_put o file ps fs x e =
-    subst (λ o. SparesRest o (listed ps fs) (listed ps (set fs file x))) (sym e) (spares_set ps fs file x)
+    subst (λ o. SparesRest o (world_of_files ps fs) (world_of_files ps (set fs file x))) (sym e) (spares_set ps fs file x)
 
 -- a path and a file were made
 pub leads_created : (ps ps' : List MemoryPath) (q : MemoryPath) (path : List ℕ) → ps' ≡ ps ++ (q ∷ [])
@@ -137,27 +137,27 @@ pub leads_created : (ps ps' : List MemoryPath) (q : MemoryPath) (path : List ℕ
 leads_created ps ps' q path e none named = ap (λ l. leads l path) e ∙ leads_new ps q path none named
 
 pub spares_created : (ps ps' : List MemoryPath) (q : MemoryPath) (fs fs' : List MemoryFile) (x : MemoryFile) (file : ℕ)
-    → ps' ≡ ps ++ (q ∷ []) → fs' ≡ fs ++ (x ∷ []) → x.bytes.items ≡ [] → Spares file (listed ps fs) (listed ps' fs')
+    → ps' ≡ ps ++ (q ∷ []) → fs' ≡ fs ++ (x ∷ []) → x.bytes.items ≡ [] → Spares file (world_of_files ps fs) (world_of_files ps' fs')
 spares_created ps ps' q fs fs' x file e d empty =
-    subst (λ l. Spares file (listed ps fs) (listed l fs')) (sym e)
-    (subst (λ l. Spares file (listed ps fs) (listed (ps ++ (q ∷ [])) l)) (sym d) (spares_made ps q fs x empty file))
+    subst (λ l. Spares file (world_of_files ps fs) (world_of_files l fs')) (sym e)
+    (subst (λ l. Spares file (world_of_files ps fs) (world_of_files (ps ++ (q ∷ [])) l)) (sym d) (spares_made ps q fs x empty file))
 
 -- a path was made alone
 pub only_path : (read path : List ℕ) (ps ps' : List MemoryPath) (q : MemoryPath) (fs fs' : List MemoryFile)
     → ps' ≡ ps ++ (q ∷ []) → fs' ≡ fs → leads ps path ≡ None → string_bytes q.name ≡ path → ¬ Contains read q.file
-    → OnlyAt read path (listed ps fs) (listed ps' fs')
+    → OnlyAt read path (world_of_files ps fs) (world_of_files ps' fs')
 only_path read path ps ps' q fs fs' e d none named free =
     in_output q.file (leads_created ps ps' q path e none named) free
-    (subst (λ l. Spares q.file (listed ps fs) (listed l fs')) (sym e)
-    (subst (λ l. Spares q.file (listed ps fs) (listed (ps ++ (q ∷ [])) l)) (sym d) (spares_path ps q fs q.file)))
+    (subst (λ l. Spares q.file (world_of_files ps fs) (world_of_files l fs')) (sym e)
+    (subst (λ l. Spares q.file (world_of_files ps fs) (world_of_files (ps ++ (q ∷ [])) l)) (sym d) (spares_path ps q fs q.file)))
 
 -- a file was made, and then begun
 pub begun_created : (path : List ℕ) (file : ℕ) (h h' h'' : Held) (a b c : World) → h' ≡ h → b.at path ≡ Some file
-    → Spares file a b → ¬ Contains h.read file → h'' ≡ beginning file h' → ¬ Contains h'.begun file
+    → Spares file a b → ¬ Contains h.read file → h'' ≡ creating file h' → ¬ Contains h'.begun file
     → Spares file b c → Creates path h h'' a c
 begun_created path file h h' h'' a b c same there made free begins fresh spares = record {
   file = file;
-  begins = begins ∙ ap (beginning file) same;
+  begins = begins ∙ ap (creating file) same;
   there = spares.paths path file there;
   free = free;
   fresh = subst (λ k. ¬ Contains k.begun file) same fresh;

@@ -2,8 +2,8 @@
 use Rattle.std.proofs.Common.{inl, inr, arith, ◌+◌, ◌≡◌, ℕ, ◌<◌, ◌≤◌, List, [], ◌∷◌, ◌++◌, Option, Some, None, refl, sym, ◌∙◌, ap, subst}
 use Rattle.std.specs.Prelude.{get_or, set, length, Result, Ok, Err, OnErr}
 use Rattle.std.proofs.lemmas.List.{get_or_past, length-map}
-use Rattle.abt_disk.specs.Images.{Leaves, HoldsSame, EmptiesAt, IsTorn}
-use Rattle.abt_disk.specs.Memory.{contents, leads, listed}
+use Rattle.abt_disk.specs.Images.{Leaves, HoldsSame, EmptiesAt, HasNoFront}
+use Rattle.abt_disk.specs.Memory.{contents, leads, world_of_files}
 use Rattle.abt_disk.specs.World.{World}
 use Rattle.abt_disk.specs.declared.memory.MemoryFile.{MemoryFile}
 use Rattle.abt_disk.specs.declared.memory.MemoryPath.{MemoryPath}
@@ -11,23 +11,23 @@ use Rattle.abt_disk.proofs.Files.{holds_new, holds_more}
 
 -- the output that is open holds what was put into it
 pub left_put : (o : Option ℕ) (file : ℕ) (ps : List MemoryPath) (fs : List MemoryFile) (x : MemoryFile) → o ≡ Some file
-    → file < length fs → Leaves o x.bytes.items (listed ps (set fs file x))
+    → file < length fs → Leaves o x.bytes.items (world_of_files ps (set fs file x))
 left_put o file ps fs x e below =
-    subst (λ o. Leaves o x.bytes.items (listed ps (set fs file x))) (sym e) (inl (holds_new fs file x below))
+    subst (λ o. Leaves o x.bytes.items (world_of_files ps (set fs file x))) (sym e) (inl (holds_new fs file x below))
 
-nothing_torn : (x : List ℕ) → x ≡ [] → IsTorn x
-nothing_torn x e = subst IsTorn (sym e) (inl (omega arith))
+nothing_torn : (x : List ℕ) → x ≡ [] → HasNoFront x
+nothing_torn x e = subst HasNoFront (sym e) (inl (omega arith))
 
 -- no such file is there
 pub left_absent : (o : Option ℕ) (file : ℕ) (bytes : List ℕ) (ps : List MemoryPath) (fs : List MemoryFile)
-    → o ≡ Some file → length fs ≤ file → Leaves o bytes (listed ps fs)
+    → o ≡ Some file → length fs ≤ file → Leaves o bytes (world_of_files ps fs)
 left_absent o file bytes ps fs e past =
-    subst (λ o. Leaves o bytes (listed ps fs)) (sym e)
+    subst (λ o. Leaves o bytes (world_of_files ps fs)) (sym e)
     (inr (nothing_torn _ (get_or_past (contents fs) file [] (subst (λ n. n ≤ file) (sym (length-map fs (λ y. y.bytes.items))) past))))
 
 -- a file was made
 pub same_made : (ps ps' : List MemoryPath) (fs fs' : List MemoryFile) (x : MemoryFile) → fs' ≡ fs ++ (x ∷ [])
-    → x.bytes.items ≡ [] → HoldsSame (listed ps fs) (listed ps' fs')
+    → x.bytes.items ≡ [] → HoldsSame (world_of_files ps fs) (world_of_files ps' fs')
 same_made ps ps' fs fs' x e empty file = ap (λ l. get_or (contents l) file []) e ∙ holds_more fs x empty file
 
 pub same_then : (held : ℕ → List ℕ) (b c : World) → ((f : ℕ) → b.holds f ≡ held f) → c ≡ b → (f : ℕ)

@@ -2,7 +2,7 @@
 use Rattle.std.proofs.Common.{◌≡◌, ◌≢◌, ℕ, ◌+◌, List, [], ◌∷◌, ◌++◌, Option, Some, None, sym, ◌∙◌, ap, subst}
 use Rattle.std.specs.Prelude.{Contains, unwrap_or, true, if◌then◌else◌}
 use Rattle.std.proofs.lemmas.List.Elements.{Contains-append_left, Contains-push}
-use Rattle.abt_disk.specs.World.{World, Held, Spares, Opens, Creates, OnlyAt, untouched, in_output, Ends, SparesRest, Keeps, ended}
+use Rattle.abt_disk.specs.World.{World, Held, Spares, OpensFile, Creates, OnlyAt, untouched, in_output, Ends, SparesRest, KeepsFile, ended}
 use Rattle.abt_disk.proofs.Files.{spares_trans}
 
 -- what is not among the files that were read when the output was created, was not among fewer
@@ -18,7 +18,7 @@ apart read read' f file e free same =
     free (subst (λ g. Contains read' g) same (subst (λ r. Contains r f) (sym e) (Contains-push read f)))
 
 keeps_beside : (input path : List ℕ) (read read' : List ℕ) (f : ℕ) (old new : World) → old.at input ≡ Some f
-    → read' ≡ read ++ (f ∷ []) → OnlyAt read' path old new → Keeps input old new
+    → read' ≡ read ++ (f ∷ []) → OnlyAt read' path old new → KeepsFile input old new
 keeps_beside input path read read' f old new at e (untouched same) = λ g _. ap (λ w. w.holds g) same
 keeps_beside input path read read' f old new at e (in_output file here free spares) =
     λ g h. spares.files g (λ same. apart read read' f file e free (ap (λ o. unwrap_or o 0) (sym at ∙ h) ∙ same))
@@ -31,21 +31,21 @@ only_written path h h' a b c made rest =
     in_output made.file (after.paths path made.file made.there) made.free (spares_trans made.file a b c made.spares after)
 
 -- behind an input that was opened, the output alone was touched
-pub only_behind : (path input bytes : List ℕ) (h h' : Held) (a b c : World) → Opens a input bytes h h' → b ≡ a
+pub only_behind : (path input bytes : List ℕ) (h h' : Held) (a b c : World) → OpensFile a input bytes h h' → b ≡ a
     → OnlyAt h'.read path b c → OnlyAt h.read path a c
 only_behind path input bytes h h' a b c opened same only =
     fewer h.read h'.read opened.file path a c (ap (λ k. k.read) opened.taken)
     (subst (λ w. OnlyAt h'.read path w c) same only)
 
 -- and the input holds what it held
-pub kept_behind : (path input bytes : List ℕ) (h h' : Held) (a b c : World) → Opens a input bytes h h' → b ≡ a
-    → OnlyAt h'.read path b c → Keeps input a c
+pub kept_behind : (path input bytes : List ℕ) (h h' : Held) (a b c : World) → OpensFile a input bytes h h' → b ≡ a
+    → OnlyAt h'.read path b c → KeepsFile input a c
 kept_behind path input bytes h h' a b c opened same only =
     keeps_beside input path h.read h'.read opened.file a c opened.there (ap (λ k. k.read) opened.taken)
     (subst (λ w. OnlyAt h'.read path w c) same only)
 
 -- an input and an output were opened, and the output brought to its end: it was synced if outputs are
-pub synced_behind : (path input bytes : List ℕ) (h h' h'' new : Held) (w a b : World) → Opens w input bytes h h'
+pub synced_behind : (path input bytes : List ℕ) (h h' h'' new : Held) (w a b : World) → OpensFile w input bytes h h'
     → Creates path h' h'' a b → new ≡ ended true h'' → new.syncs ≡ h.syncs + (if h.is_synced then 1 else 0)
 synced_behind path input bytes h h' h'' new w a b opened made done =
     ap (λ k. k.syncs) done ∙ ap (λ k. k.syncs + (if k.is_synced then 1 else 0)) made.begins

@@ -15,13 +15,13 @@ OfImage p q (File file) = p file
 OfImage p q (Stream stream) = q stream
 
 -- its front isn't there: it has fewer than four bytes, or begins with a zero
-abbrev pub IsTorn : List ℕ → Type 0
-IsTorn x = (length x < 4) ⊎ (take 1 x ≡ 0 ∷ [])
+abbrev pub HasNoFront : List ℕ → Type 0
+HasNoFront x = (length x < 4) ⊎ (take 1 x ≡ 0 ∷ [])
 
 -- the output that was open holds these bytes, or its front isn't there
 abbrev pub Leaves : Option ℕ → List ℕ → World → Type 0
 Leaves None bytes new = Unit {0}
-Leaves (Some file) bytes new = (new.holds file ≡ bytes) ⊎ IsTorn (new.holds file)
+Leaves (Some file) bytes new = (new.holds file ≡ bytes) ⊎ HasNoFront (new.holds file)
 
 -- what is at this path holds what it held, or nothing
 abbrev pub EmptiesAt : List ℕ → World → World → Type 0

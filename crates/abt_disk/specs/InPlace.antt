@@ -26,8 +26,8 @@ abbrev pub is_settled : Past → Bool
 is_settled past = is_settled_in past.pending past.synced
 
 -- it is closed; one sync more, where it was synced behind its last byte
-abbrev pub closed : Past → Held → Held
-closed past h = record h { part = None; syncs = h.syncs + (if is_settled past then 1 else 0) }
+abbrev pub closed_part : Past → Held → Held
+closed_part past h = record h { part = None; syncs = h.syncs + (if is_settled past then 1 else 0) }
 
 -- these are as many bytes as the file holds
 abbrev pub IsAsLong : Option ℕ → List ℕ → World → Type 0

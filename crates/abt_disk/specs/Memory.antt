@@ -15,11 +15,11 @@ abbrev pub contents : List MemoryFile → List (List ℕ)
 contents files = map (λ f. f.bytes.items) files
 
 -- its files, and what was opened
-abbrev pub listed : List MemoryPath → List MemoryFile → World
-listed paths files = record { at = leads paths; holds = λ f. get_or (contents files) f [] }
+abbrev pub world_of_files : List MemoryPath → List MemoryFile → World
+world_of_files paths files = record { at = leads paths; holds = λ f. get_or (contents files) f [] }
 
 abbrev pub world_of : MemoryDisk → World
-world_of d = listed d.paths.items d.files.items
+world_of d = world_of_files d.paths.items d.files.items
 
 abbrev pub held_of : MemoryDisk → Held
 held_of d = record {

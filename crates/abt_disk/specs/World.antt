@@ -29,8 +29,8 @@ abbrev pub reading : ℕ → Held → Held
 reading file h = record h { read = h.read ++ (file ∷ []) }
 
 -- this file more is written, and is the output that is open
-abbrev pub beginning : ℕ → Held → Held
-beginning file h = record h { begun = file ∷ h.begun; output = Some file }
+abbrev pub creating : ℕ → Held → Held
+creating file h = record h { begun = file ∷ h.begun; output = Some file }
 
 -- the output that was open is closed, and synced where it was brought to its end and outputs are
 abbrev pub ended : Bool → Held → Held
@@ -46,7 +46,7 @@ pub record Spares (file : ℕ) (old new : World) : Type 0 where
   pub files : (f : ℕ) → f ≢ file → new.holds f ≡ old.holds f
 
 -- the file at this path is one of those that are read now, and these are its bytes
-pub record Opens (world : World) (path bytes : List ℕ) (old new : Held) : Type 0 where
+pub record OpensFile (world : World) (path bytes : List ℕ) (old new : Held) : Type 0 where
   pub file : ℕ
   pub there : world.at path ≡ Some file
   pub held : bytes ≡ world.holds file
@@ -55,7 +55,7 @@ pub record Opens (world : World) (path bytes : List ℕ) (old new : Held) : Type
 -- the file at this path is begun: none that is read or was begun, and all others are as before
 pub record Creates (path : List ℕ) (held held' : Held) (old new : World) : Type 0 where
   pub file : ℕ
-  pub begins : held' ≡ beginning file held
+  pub begins : held' ≡ creating file held
   pub there : new.at path ≡ Some file
   pub free : ¬ Contains held.read file
   pub fresh : ¬ Contains held.begun file
@@ -82,5 +82,5 @@ SparesRest None old new = new ≡ old
 SparesRest (Some file) old new = Spares file old new
 
 -- the file at this path, if one is there, holds what it held
-abbrev pub Keeps : List ℕ → World → World → Type 0
-Keeps path old new = (file : ℕ) → old.at path ≡ Some file → new.holds file ≡ old.holds file
+abbrev pub KeepsFile : List ℕ → World → World → Type 0
+KeepsFile path old new = (file : ℕ) → old.at path ≡ Some file → new.holds file ≡ old.holds file

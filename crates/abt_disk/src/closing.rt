@@ -1,7 +1,7 @@
 //! What a call answered that wrote a file in place, once that is closed.
 
 ghost use Rattle.std.specs.Prelude.{◌≡◌, IsTrue, IfOk, IfErr, Ok, Err};
-ghost use Rattle.abt_disk.specs.InPlace.{IsAsLong, closed};
+ghost use Rattle.abt_disk.specs.InPlace.{IsAsLong, closed_part};
 ghost use Rattle.abt_disk.specs.World.{Ends, SparesRest};
 
 use crate::Disk;
@@ -20,7 +20,7 @@ pub fn closed<'a, D: Disk, T: Drop, F: Told + Drop>(
     ensures ended { IsTrue D.tells → Ends (D.held disk.old).part (D.Part.content part) (D.world disk.old)
         (D.world disk.new) }
     ensures paths { IsTrue D.tells → (D.world disk.new).at ≡ (D.world disk.old).at }
-    ensures closed { IsTrue D.tells → D.held disk.new ≡ closed (D.Part.past part) (D.held disk.old) }
+    ensures closed { IsTrue D.tells → D.held disk.new ≡ closed_part (D.Part.past part) (D.held disk.old) }
     ensures rest { IsTrue D.tells → SparesRest (D.held disk.old).part (D.world disk.old) (D.world disk.new) }
 {
     let is_on_output = disk.close(part);

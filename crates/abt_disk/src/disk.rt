@@ -4,8 +4,8 @@ ghost use Rattle.std.specs.Prelude.{◌≡◌, ℕ, List, [], None, Bool, IsTrue
 ghost use Rattle.abt_io.specs.Moment.{no_past};
 ghost use Rattle.abt_refusals.specs.Paths.{path_in, path_of, path_out};
 ghost use Rattle.abt_disk.specs.Images.{is_file, OfImage, Leaves, EmptiesAt};
-ghost use Rattle.abt_disk.specs.InPlace.{OpensPart, IsAsLong, closed};
-ghost use Rattle.abt_disk.specs.World.{World, Held, Opens, Creates, OnlyAt, Ends, SparesRest, IsFree, ended};
+ghost use Rattle.abt_disk.specs.InPlace.{OpensPart, IsAsLong, closed_part};
+ghost use Rattle.abt_disk.specs.World.{World, Held, OpensFile, Creates, OnlyAt, Ends, SparesRest, IsFree, ended};
 ghost use Rattle.abt_disk.specs.World.{given_up};
 
 use crate::{ImageTo, Late};
@@ -59,7 +59,7 @@ pub trait Disk {
     /// Opens what is read forward. `-` is standard input.
     fn input<'a>(&mut self, place: Place<'a>) -> Result<Self::From, HostRefusal<'a>>
         requires first { IsTrue tells → (held self.old).begun ≡ [] }
-        ensures opened { IsTrue tells → IfOk result (λ from. Opens (world self.old) (path_in place.entry)
+        ensures opened { IsTrue tells → IfOk result (λ from. OpensFile (world self.old) (path_in place.entry)
             (Self.From.remaining from) (held self.old) (held self.new)) }
         ensures kept { IsTrue tells → OnErr result (held self.new ≡ held self.old) }
         ensures world { IsTrue tells → world self.new ≡ world self.old };
@@ -67,7 +67,7 @@ pub trait Disk {
     /// Opens what is read at any place. `-` is a file of that name.
     fn source<'a>(&mut self, place: Place<'a>) -> Result<Self::At, HostRefusal<'a>>
         requires first { IsTrue tells → (held self.old).begun ≡ [] }
-        ensures opened { IsTrue tells → IfOk result (λ at. Opens (world self.old) (path_of place.entry)
+        ensures opened { IsTrue tells → IfOk result (λ at. OpensFile (world self.old) (path_of place.entry)
             (Self.At.content at) (held self.old) (held self.new)) }
         ensures kept { IsTrue tells → OnErr result (held self.new ≡ held self.old) }
         ensures world { IsTrue tells → world self.new ≡ world self.old };
@@ -88,7 +88,7 @@ pub trait Disk {
         ensures ended { IsTrue tells → Ends (held self.old).part (Self.Part.content part) (world self.old)
             (world self.new) }
         ensures paths { IsTrue tells → (world self.new).at ≡ (world self.old).at }
-        ensures closed { IsTrue tells → held self.new ≡ closed (Self.Part.past part) (held self.old) }
+        ensures closed { IsTrue tells → held self.new ≡ closed_part (Self.Part.past part) (held self.old) }
         ensures rest { IsTrue tells → SparesRest (held self.old).part (world self.old) (world self.new) };
 
     /// Refuses a path that is going to be written where it leads to a file that is read, or that was begun.

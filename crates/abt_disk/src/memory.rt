@@ -4,7 +4,7 @@ ghost use Rattle.std.specs.Prelude.{◌≡◌, [], Some, None, true, false, stri
 ghost use Rattle.std.specs.Prelude.{Contains, get_or, is_ok};
 ghost use Rattle.abt_disk.specs.Images.{is_over, HoldsSame, Leaves};
 ghost use Rattle.abt_disk.specs.Memory.{contents, leads, world_of, held_of};
-ghost use Rattle.abt_disk.specs.World.{Creates, OnlyAt, Spares, Ends, SparesRest, beginning, given_up};
+ghost use Rattle.abt_disk.specs.World.{Creates, OnlyAt, Spares, Ends, SparesRest, creating, given_up};
 
 use crate::memory_image::torn;
 use crate::{
@@ -126,7 +126,7 @@ impl MemoryDisk {
 
     // Empties a file that is there, and begins it.
     fn empty(&mut self, file: u64) -> Result<(), HostFault>
-        ensures held { OnOk result (held_of self.new ≡ beginning file (held_of self.old)) }
+        ensures held { OnOk result (held_of self.new ≡ creating file (held_of self.old)) }
         ensures kept { OnErr result (held_of self.new ≡ held_of self.old) }
         ensures free { OnOk result (¬ Contains self.old.read.items file) }
         ensures fresh { OnOk result (¬ Contains self.old.begun.items file) }

@@ -1,7 +1,7 @@
 //! What a disk in memory opens to be written over.
 
 ghost use Rattle.std.specs.Prelude.{◌≡◌, ◌≤◌, ◌+◌, false, length};
-ghost use Rattle.abt_disk.specs.Images.{IsTorn};
+ghost use Rattle.abt_disk.specs.Images.{HasNoFront};
 ghost use Rattle.abt_io.specs.Moment.{put_at};
 
 use crate::{Countdown, Late, Reasons};
@@ -98,7 +98,7 @@ fn put_part(into: &mut [u8], from: usize, bytes: &[u8])
 
 // The same bytes without the first.
 pub(crate) fn torn(bytes: Vec<u8>) -> Vec<u8>
-    ensures { IsTorn result.items }
+    ensures { HasNoFront result.items }
 {
     let mut bytes = bytes;
     if !bytes.is_empty() {

@@ -3,9 +3,9 @@
 ghost use Rattle.std.specs.Prelude.{◌≡◌, None, IfOk, OnErr, length, if◌then◌else◌};
 ghost use Rattle.abt_io.specs.Moment.{no_past};
 ghost use Rattle.abt_refusals.specs.Paths.{path_of};
-ghost use Rattle.abt_disk.specs.InPlace.{OpensPart, IsAsLong, closed};
+ghost use Rattle.abt_disk.specs.InPlace.{OpensPart, IsAsLong, closed_part};
 ghost use Rattle.abt_disk.specs.Memory.{world_of, held_of};
-ghost use Rattle.abt_disk.specs.World.{Opens, Spares, Ends, SparesRest};
+ghost use Rattle.abt_disk.specs.World.{OpensFile, Spares, Ends, SparesRest};
 
 use crate::memory::{MemoryDisk, MemoryFile};
 use crate::{MemoryPartition, MemorySource};
@@ -17,7 +17,7 @@ impl MemoryDisk {
         &mut self,
         place: Place<'a>,
     ) -> Result<MemorySource, HostRefusal<'a>>
-        ensures opened { IfOk result (λ at. Opens (world_of self.old) (path_of place.entry) at.bytes.items
+        ensures opened { IfOk result (λ at. OpensFile (world_of self.old) (path_of place.entry) at.bytes.items
             (held_of self.old) (held_of self.new)) }
         ensures kept { OnErr result (held_of self.new ≡ held_of self.old) }
         ensures world { world_of self.new ≡ world_of self.old }
@@ -78,7 +78,7 @@ impl MemoryDisk {
         requires { IsAsLong self.old.part part.bytes.items (world_of self.old) }
         ensures ended { Ends self.old.part part.bytes.items (world_of self.old) (world_of self.new) }
         ensures paths { (world_of self.new).at ≡ (world_of self.old).at }
-        ensures closed { held_of self.new ≡ closed part.history.past (held_of self.old) }
+        ensures closed { held_of self.new ≡ closed_part part.history.past (held_of self.old) }
         ensures rest { SparesRest self.old.part (world_of self.old) (world_of self.new) }
     {
         self.syncs.add(once(part.is_stable));

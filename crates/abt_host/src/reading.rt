@@ -86,13 +86,6 @@ impl Reading {
         source_of(file, place)
     }
 
-    /// Opens a partition that is compared: it is only read, as any other source.
-    pub fn compared<'a>(&mut self, place: Place<'a>) -> Result<FileSource, HostRefusal<'a>>
-        ensures reads { OnOk result (ReadsOne self.old self.new) }
-    {
-        self.source(place)
-    }
-
     /// A source that is open, to be read a second time beside the first.
     pub fn again<'a>(
         &self,

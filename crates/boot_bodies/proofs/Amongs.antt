@@ -4,8 +4,8 @@ use Rattle.std.specs.Prelude.{Contains}
 use Rattle.std.proofs.lemmas.Bool.{cases_eq}
 use Rattle.std.proofs.lemmas.List.Elements.{Contains-append_left, Contains-append_right, Contains-append_cases}
 use Rattle.std.proofs.lemmas.List.Elements.{Contains-push, Contains-push_cases}
-use Rattle.abt_disk.specs.World.{World, Held, Opens, Creates, OnlyAt, untouched, in_output, Spares, Ends, SparesRest}
-use Rattle.abt_disk.specs.World.{reading, beginning, ended}
+use Rattle.abt_disk.specs.World.{World, Held, OpensFile, Creates, OnlyAt, untouched, in_output, Spares, Ends, SparesRest}
+use Rattle.abt_disk.specs.World.{reading, creating, ended}
 use Rattle.boot_bodies.specs.Among.{FileHolds, IsAmong, OnlyAmong, GoesAmong, KeepsDone, IsDone}
 
 -- ---- that nothing else was changed
@@ -200,7 +200,7 @@ none_listed f begun none listed =
 
 -- behind a file that was opened to be read
 pub only_behind : (P : List ℕ → Type 0) (path bytes : List ℕ) (h h' h'' : Held) (a b c : World) → h.begun ≡ []
-    → Opens a path bytes h h' → b ≡ a → GoesAmong P h' h'' b c → OnlyAmong P h.read h''.begun a c
+    → OpensFile a path bytes h h' → b ≡ a → GoesAmong P h' h'' b c → OnlyAmong P h.read h''.begun a c
 only_behind P path bytes h h' h'' a b c none opens same goes = record {
   leads = λ p f there. goes.leads p f (subst (λ w. w.at p ≡ Some f) (sym same) there);
   files = λ f. elim (goes.files f) [
@@ -232,7 +232,7 @@ only_none P h h' a b none same_held same = record {
 
 -- the file that was opened holds what it held
 pub kept_behind : (P : List ℕ → Type 0) (path bytes : List ℕ) (h h' h'' : Held) (a b c : World)
-    (opens : Opens a path bytes h h') → b ≡ a → GoesAmong P h' h'' b c → c.holds opens.file ≡ a.holds opens.file
+    (opens : OpensFile a path bytes h h') → b ≡ a → GoesAmong P h' h'' b c → c.holds opens.file ≡ a.holds opens.file
 kept_behind P path bytes h h' h'' a b c opens same goes = elim (goes.files opens.file) [
   | inl still ↦ still ∙ ap (λ w. w.holds opens.file) same
   | inr there ↦ absurd (there.free (subst (λ k. Contains k.read opens.file) (sym opens.taken)

@@ -3,7 +3,7 @@ use Rattle.std.proofs.Common.{◌≡◌, ℕ, ◌<◌, List, Some, Result, Ok, E
 use Rattle.std.specs.Prelude.{IfErr, IsOk, OnOk}
 use Rattle.abt_refusals.specs.declared.refusal.HostFault.{HostFault}
 use Rattle.std.proofs.lemmas.Bool.{false≢true}
-use Rattle.abt_disk.specs.World.{World, Held, Opens}
+use Rattle.abt_disk.specs.World.{World, Held, OpensFile}
 use Rattle.abt_sections.specs.declared.fault.SectionFault.{SectionFault}
 use Rattle.abt_sections.specs.declared.fault.SectionFault.TheVariants as sections
 use Rattle.abt_sections.specs.Cause.{MoveCause}
@@ -65,7 +65,7 @@ told_is (Err f) x fault told own = subst (λ g. IsRefusalOf x g) (sym told) own
 
 -- and so of the file that they were opened from
 pub refuses_file : (path bytes : List ℕ) (held held' : Held) (world : World) (fault : BootCommandFault)
-    → Opens world path bytes held held' → IsRefusalOf bytes fault → RefusesImage path world fault
+    → OpensFile world path bytes held held' → IsRefusalOf bytes fault → RefusesImage path world fault
 refuses_file path bytes held held' world (faults.Host f) opens refuses = tt
 refuses_file path bytes held held' world (faults.Section f) opens refuses =
     (opens.file, opens.there, subst (λ x. IsFaultOf x f) opens.held refuses)

@@ -3,7 +3,7 @@
 ghost use Rattle.std.specs.Prelude.{OnOk, IfErr};
 ghost use Rattle.abt_refusals.specs.Paths.{path_of};
 ghost use Rattle.abt_disk.specs.Memory.{held_of, world_of};
-ghost use Rattle.abt_disk.specs.World.{IsReading, Keeps};
+ghost use Rattle.abt_disk.specs.World.{IsReading, KeepsFile};
 ghost use Rattle.boot_bodies.specs.Among.{OnlyAmong};
 ghost use Rattle.boot_bodies.specs.Faults.{RefusesImage};
 ghost use Rattle.boot_bodies.specs.Unpacking.{IsPartOf, Unpacks};
@@ -29,7 +29,7 @@ pub fn unpack_in_memory<'t, 'a>(
         (world_of disk.new)) }
     ensures only { OnlyAmong (IsPartOf (path_of input.entry) folder.now with_words (world_of disk.old))
         (held_of disk.old).read (held_of disk.new).begun (world_of disk.old) (world_of disk.new) }
-    ensures input { Keeps (path_of input.entry) (world_of disk.old) (world_of disk.new) }
+    ensures input { KeepsFile (path_of input.entry) (world_of disk.old) (world_of disk.new) }
     ensures refused { IfErr result (λ refusal. RefusesImage (path_of input.entry) (world_of disk.old) refusal.fault) }
 {
     unpack_file(disk, report, input, folder, with_words, w, m)

@@ -2,7 +2,7 @@
 
 ghost use Rattle.std.specs.Prelude.{◌≡◌, IsTrue, IfErr, OnOk};
 ghost use Rattle.abt_refusals.specs.Paths.{path_of};
-ghost use Rattle.abt_disk.specs.World.{IsReading, Keeps};
+ghost use Rattle.abt_disk.specs.World.{IsReading, KeepsFile};
 ghost use Rattle.boot_bodies.specs.Among.{OnlyAmong};
 ghost use Rattle.boot_bodies.specs.Faults.{RefusesImage};
 ghost use Rattle.boot_bodies.specs.Unpacking.{IsPartOf, Unpacks};
@@ -41,7 +41,7 @@ pub fn unpack_file<'t, 'a, D: Disk>(
     // whatever the outcome, only such files were created or changed, and IN holds what it held
     ensures only { IsTrue D.tells → OnlyAmong (IsPartOf (path_of input.entry) folder.now with_words (D.world disk.old))
         (D.held disk.old).read (D.held disk.new).begun (D.world disk.old) (D.world disk.new) }
-    ensures input { IsTrue D.tells → Keeps (path_of input.entry) (D.world disk.old) (D.world disk.new) }
+    ensures input { IsTrue D.tells → KeepsFile (path_of input.entry) (D.world disk.old) (D.world disk.new) }
     // it is refused for a fault that IN has, or for one of files or devices
     ensures refused { IsTrue D.tells → IfErr result (λ refusal. RefusesImage (path_of input.entry) (D.world disk.old)
         refusal.fault) }

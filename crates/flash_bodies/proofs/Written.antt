@@ -2,8 +2,8 @@
 use Rattle.std.proofs.Common.{◌≡◌, ◌≢◌, ℕ, ◌+◌, List, [], ◌∷◌, ◌++◌, Bool, true, false, length, Some, refl, sym, ◌∙◌, ap, subst}
 use Rattle.std.specs.Prelude.{Result, Ok, Err, if◌then◌else◌}
 use Rattle.abt_io.specs.Moment.{Past, no_past}
-use Rattle.abt_disk.specs.InPlace.{OpensPart, IsAsLong, SparesOthers, closed, in_place, is_settled, is_settled_in}
-use Rattle.abt_disk.specs.World.{World, Held, Spares, Opens, Ends, Keeps, reading}
+use Rattle.abt_disk.specs.InPlace.{OpensPart, IsAsLong, SparesOthers, closed_part, in_place, is_settled, is_settled_in}
+use Rattle.abt_disk.specs.World.{World, Held, Spares, OpensFile, Ends, KeepsFile, reading}
 use Rattle.abt_disk.proofs.Closings.{ends_in, apart_from, others_spared, keeps_read}
 use Rattle.flash_bodies.specs.Files.{Between, OfBoth, OfFile}
 
@@ -22,14 +22,14 @@ settled_once past past' fresh one empty =
     ∙ ap (is_settled_in []) (one ∙ ap (λ (q : Past). q.synced + 1) fresh)
 
 -- one sync more, of a file that was opened, and closed
-pub synced_once : (input path x p : List ℕ) (a b : World) (h0 h h' h'' : Held) (past : Past) → Opens a input x h0 h
-    → OpensPart b path p h h' → h'' ≡ closed past h' → is_settled past ≡ true → h''.syncs ≡ h0.syncs + 1
+pub synced_once : (input path x p : List ℕ) (a b : World) (h0 h h' h'' : Held) (past : Past) → OpensFile a input x h0 h
+    → OpensPart b path p h h' → h'' ≡ closed_part past h' → is_settled past ≡ true → h''.syncs ≡ h0.syncs + 1
 synced_once input path x p a b h0 h h' h'' past r o c settled =
     ap (λ (k : Held). k.syncs) c ∙ ap (λ (t : Bool). h'.syncs + (if t then 1 else 0)) settled
     ∙ ap (λ (k : Held). k.syncs + 1) o.taken ∙ ap (λ (k : Held). k.syncs + 1) r.taken
 
 pub between : (input path x p p' : List ℕ) (a a' b c : World) (h0 h h' : Held) (P : List ℕ → List ℕ → List ℕ → Type 0)
-    → Opens a input x h0 h → a' ≡ a → OpensPart a' path p h h' → b ≡ a' → Ends h'.part p' b c → P x p p'
+    → OpensFile a input x h0 h → a' ≡ a → OpensPart a' path p h h' → b ≡ a' → Ends h'.part p' b c → P x p p'
     → Between input path a c P
 between input path x p p' a a' b c h0 h h' P r same o same' ends so =
     let opened : OpensPart a path p h h' = subst (λ (w : World). OpensPart w path p h h') same o in
@@ -47,9 +47,9 @@ between input path x p p' a a' b c h0 h h' P r same o same' ends so =
     }
 
 pub of_both : (input path x p : List ℕ) (a a' : World) (h0 h h' : Held) (P : List ℕ → List ℕ → Type 0)
-    → Opens a input x h0 h → a' ≡ a → Opens a' path p h h' → P x p → OfBoth input path a P
+    → OpensFile a input x h0 h → a' ≡ a → OpensFile a' path p h h' → P x p → OfBoth input path a P
 of_both input path x p a a' h0 h h' P r same o so =
-    let opened : Opens a path p h h' = subst (λ (w : World). Opens w path p h h') same o in
+    let opened : OpensFile a path p h h' = subst (λ (w : World). OpensFile w path p h h') same o in
     record {
       from = r.file;
       against = opened.file;
@@ -58,7 +58,7 @@ of_both input path x p a a' h0 h h' P r same o so =
       so = subst (λ (z : List ℕ). P (a.holds r.file) z) opened.held (subst (λ (z : List ℕ). P z p) r.held so);
     }
 
-pub of_file : (input x : List ℕ) (a : World) (h0 h : Held) (P : List ℕ → Type 0) → Opens a input x h0 h → P x
+pub of_file : (input x : List ℕ) (a : World) (h0 h : Held) (P : List ℕ → Type 0) → OpensFile a input x h0 h → P x
     → OfFile input a P
 of_file input x a h0 h P r so =
     record { from = r.file; there = r.there; so = subst P r.held so }
@@ -71,8 +71,8 @@ others_written path p p' a a' b c h h' same o same' ends paths =
     (subst (λ (w : World). Ends h'.part p' w c) (same' ∙ same) ends) (paths ∙ ap (λ (w : World). w.at) (same' ∙ same))
 
 -- and the input holds what it held
-pub input_kept : (input path x p p' : List ℕ) (a a' b c : World) (h0 h h' : Held) → Opens a input x h0 h → a' ≡ a
-    → OpensPart a' path p h h' → b ≡ a' → Ends h'.part p' b c → Keeps input a c
+pub input_kept : (input path x p p' : List ℕ) (a a' b c : World) (h0 h h' : Held) → OpensFile a input x h0 h → a' ≡ a
+    → OpensPart a' path p h h' → b ≡ a' → Ends h'.part p' b c → KeepsFile input a c
 input_kept input path x p p' a a' b c h0 h h' r same o same' ends =
     keeps_read input path x p p' a c h0 h h' r (subst (λ (w : World). OpensPart w path p h h') same o)
     (subst (λ (w : World). Ends h'.part p' w c) (same' ∙ same) ends)

@@ -3,7 +3,7 @@
 ghost use Rattle.std.specs.Prelude.{◌≡◌, ◌+◌, [], None, IsTrue, OnOk, IfErr};
 ghost use Rattle.abt_refusals.specs.Paths.{path_in, path_of};
 ghost use Rattle.abt_disk.specs.InPlace.{SparesOthers};
-ghost use Rattle.abt_disk.specs.World.{Keeps};
+ghost use Rattle.abt_disk.specs.World.{KeepsFile};
 ghost use Rattle.abt_output.specs.Shows.{Shows};
 ghost use Rattle.flash_bodies.specs.Flashing.{FlashesFile, Lays, RefusesFlash};
 
@@ -34,7 +34,7 @@ pub fn flash_file<'a, D: Disk>(
         (Shows report.old report.new)) }
     // whatever comes, PARTITION alone may hold anything else, and IN holds what it held
     ensures others { IsTrue D.tells → SparesOthers (path_of partition.entry) (D.world disk.old) (D.world disk.new) }
-    ensures input { IsTrue D.tells → Keeps (path_in input.entry) (D.world disk.old) (D.world disk.new) }
+    ensures input { IsTrue D.tells → KeepsFile (path_in input.entry) (D.world disk.old) (D.world disk.new) }
     // it is refused for the first fault that IN has, for want of room, or for a fault of files or devices
     ensures refused { IsTrue D.tells → IfErr result (λ refusal. RefusesFlash refusal.fault (path_in input.entry)
         (path_of partition.entry) (D.world disk.old) (D.world disk.new)) }

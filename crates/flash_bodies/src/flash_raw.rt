@@ -3,7 +3,7 @@
 ghost use Rattle.std.specs.Prelude.{◌≡◌, ◌+◌, [], None, IsTrue, OnOk, IfErr};
 ghost use Rattle.abt_refusals.specs.Paths.{path_of};
 ghost use Rattle.abt_disk.specs.InPlace.{SparesOthers};
-ghost use Rattle.abt_disk.specs.World.{Keeps};
+ghost use Rattle.abt_disk.specs.World.{KeepsFile};
 ghost use Rattle.abt_output.specs.Shows.{Shows};
 ghost use Rattle.flash_bodies.specs.FlashingRaw.{FlashesRawFile, LaysRaw, RefusesFlashRaw};
 
@@ -35,7 +35,7 @@ pub fn flash_raw_file<'a, D: Disk>(
         (Shows report.old report.new)) }
     // whatever comes, PARTITION alone may hold anything else, and IN holds what it held
     ensures others { IsTrue D.tells → SparesOthers (path_of partition.entry) (D.world disk.old) (D.world disk.new) }
-    ensures input { IsTrue D.tells → Keeps (path_of input.entry) (D.world disk.old) (D.world disk.new) }
+    ensures input { IsTrue D.tells → KeepsFile (path_of input.entry) (D.world disk.old) (D.world disk.new) }
     // it is refused for its blocks, for want of room, or for a fault of files or devices
     ensures refused { IsTrue D.tells → IfErr result (λ refusal. RefusesFlashRaw refusal.fault size (path_of input.entry)
         (path_of partition.entry) (D.world disk.old) (D.world disk.new)) }

@@ -4,7 +4,7 @@ ghost use Rattle.std.specs.Prelude.{◌≡◌, ◌++◌, [], None, OnOk, IfErr};
 ghost use Rattle.abt_refusals.specs.Paths.{path_in, path_of};
 ghost use Rattle.abt_disk.specs.InPlace.{SparesOthers};
 ghost use Rattle.abt_disk.specs.Memory.{held_of, world_of};
-ghost use Rattle.abt_disk.specs.World.{Keeps};
+ghost use Rattle.abt_disk.specs.World.{KeepsFile};
 ghost use Rattle.abt_output.specs.Shows.{Shows};
 ghost use Rattle.flash_bodies.specs.Files.{OfFile};
 ghost use Rattle.flash_bodies.specs.Flashing.{FlashesFile, RefusesFlash};
@@ -33,7 +33,7 @@ pub fn flash_in_memory<'a>(
     ensures done { OnOk result (FlashesFile (path_in input.entry) (path_of partition.entry) (world_of disk.old)
         (world_of disk.new) (held_of disk.old).syncs (held_of disk.new).syncs (Shows report.old report.new)) }
     ensures others { SparesOthers (path_of partition.entry) (world_of disk.old) (world_of disk.new) }
-    ensures input { Keeps (path_in input.entry) (world_of disk.old) (world_of disk.new) }
+    ensures input { KeepsFile (path_in input.entry) (world_of disk.old) (world_of disk.new) }
     ensures refused { IfErr result (λ refusal. RefusesFlash refusal.fault (path_in input.entry)
         (path_of partition.entry) (world_of disk.old) (world_of disk.new)) }
 {
@@ -55,7 +55,7 @@ pub fn flash_raw_in_memory<'a>(
     ensures done { OnOk result (FlashesRawFile size (path_of input.entry) (path_of partition.entry) (world_of disk.old)
         (world_of disk.new) (held_of disk.old).syncs (held_of disk.new).syncs (Shows report.old report.new)) }
     ensures others { SparesOthers (path_of partition.entry) (world_of disk.old) (world_of disk.new) }
-    ensures input { Keeps (path_of input.entry) (world_of disk.old) (world_of disk.new) }
+    ensures input { KeepsFile (path_of input.entry) (world_of disk.old) (world_of disk.new) }
     ensures refused { IfErr result (λ refusal. RefusesFlashRaw refusal.fault size (path_of input.entry)
         (path_of partition.entry) (world_of disk.old) (world_of disk.new)) }
 {

@@ -10,10 +10,10 @@ use Rattle.abt_sparsify.specs.Sparsify.{SparsifyCause}
 use Rattle.abt_sparsify.specs.declared.count.Written.{Written}
 use Rattle.abt_placed.specs.Unfinished.{IsNoImage}
 use Rattle.abt_placed.proofs.Refusing.{refused, unfinished_by}
-use Rattle.abt_disk.specs.Images.{IsTorn, Leaves}
+use Rattle.abt_disk.specs.Images.{HasNoFront, Leaves}
 use Rattle.abt_disk.specs.World.{World, Ends}
 use Rattle.sparse_rules.specs.Blocks.{IsBlockSize, most_of}
-use Rattle.image_bodies.specs.Sparsing.{HoldsNone, IsOfDevices, IsWritten, HoldsWritten, LeavesNoPart}
+use Rattle.image_bodies.specs.Sparsing.{HoldsNone, IsOfPieceDevices, IsWritten, HoldsWritten, LeavesNoPart}
 
 -- nothing stood there before
 pub broken : (old new : List ℕ) → old ≡ [] → (new ≡ old) ⊎ IsNoImage (drop (length old) new) → HoldsNone new
@@ -36,7 +36,7 @@ written size most x old new a empty is counts more whole =
 
 -- the block size is one that the image has
 pub outside : (e : PieceFault) (b long : ℕ) (tells : Bool) (r r' w w' : ℕ) → IsTrue tells → IsBlockSize b
-    → long ≤ (2 ^ 32 - 1) * b → SparsifyCause e b long tells r r' w w' → IsOfDevices e
+    → long ≤ (2 ^ 32 - 1) * b → SparsifyCause e b long tells r r' w w' → IsOfPieceDevices e
 outside (pieces.Read f) b long tells r r' w w' t sized few cause = tt
 outside (pieces.Write f) b long tells r r' w w' t sized few cause = tt
 outside pieces.SourceChanged b long tells r r' w w' t sized few cause = absurd (false≢true (sym cause ∙ t))
@@ -44,7 +44,7 @@ outside pieces.TooLarge b long tells r r' w w' t sized few cause = absurd (omega
 outside (pieces.BadBlock n) b long tells r r' w w' t sized few cause = absurd (cause.1 sized)
 outside (pieces.LimitTooSmall n) b long tells r r' w w' t sized few cause = absurd cause
 
-pub torn : (x : List ℕ) → IsTorn x → HoldsNone x
+pub torn : (x : List ℕ) → HasNoFront x → HoldsNone x
 torn x (inl few) = inl few
 torn x (inr zero) = inr (refused x (unfinished_by 1 x (omega arith) zero))
 

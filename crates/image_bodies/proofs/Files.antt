@@ -6,7 +6,7 @@ use Rattle.abt_runs.specs.declared.part.RunFault.{RunFault}
 use Rattle.abt_runs.specs.Raw.{Refused}
 use Rattle.abt_sparsify.specs.declared.count.Written.{Written}
 use Rattle.abt_disk.specs.Images.{EmptiesAt}
-use Rattle.abt_disk.specs.World.{World, Held, Spares, Opens, Creates, OnlyAt, untouched, in_output, SparesRest, Keeps, reading, beginning, ended}
+use Rattle.abt_disk.specs.World.{World, Held, Spares, OpensFile, Creates, OnlyAt, untouched, in_output, SparesRest, KeepsFile, reading, creating, ended}
 use Rattle.abt_disk.proofs.Files.{spares_trans}
 use Rattle.abt_disk.proofs.Worlds.{apart}
 use Rattle.sparse_rules.specs.Blocks.{IsBlockSize}
@@ -25,7 +25,7 @@ after : (path : List ℕ) (h h' : Held) (a b c : World) (made : Creates path h h
 after path h h' a b c made rest = subst (λ k. SparesRest k.output b c) made.begins rest
 
 -- the output may be opened
-pub none_open : (input bytes : List ℕ) (h h' : Held) (a : World) → Opens a input bytes h h' → h.output ≡ None
+pub none_open : (input bytes : List ℕ) (h h' : Held) (a : World) → OpensFile a input bytes h h' → h.output ≡ None
     → h'.output ≡ None
 none_open input bytes h h' a opened none = ap (λ k. k.output) opened.taken ∙ none
 
@@ -47,7 +47,7 @@ part_emptied input output size a b c same empties = λ file at. elim (empties fi
 
 -- it was begun, and could not be brought to its end
 pub part_left : (input output bytes : List ℕ) (size n : ℕ) (h h' h'' : Held) (a b c d : World) → n ≡ size
-    → Opens a input bytes h h' → Creates output h' h'' b c → SparesRest h''.output c d
+    → OpensFile a input bytes h h' → Creates output h' h'' b c → SparesRest h''.output c d
     → LeavesNoPart n bytes h''.output d → HoldsNoPart input output size a d
 part_left input output bytes size n h h' h'' a b c d sized opened made rest left = λ file at.
     let t : Spares made.file c d = after output h' h'' b c d made rest in
@@ -66,7 +66,7 @@ part_left input output bytes size n h h' h'' a b c d sized opened made rest left
 
 -- it was brought to its end
 pub part_whole : (input output bytes : List ℕ) (size n : ℕ) (x : Written) (h h' h'' : Held) (a b c d : World)
-    → n ≡ size → Opens a input bytes h h' → Creates output h' h'' b c → HoldsWritten n bytes x h''.output c d
+    → n ≡ size → OpensFile a input bytes h h' → Creates output h' h'' b c → HoldsWritten n bytes x h''.output c d
     → HoldsNoPart input output size a d
 part_whole input output bytes size n x h h' h'' a b c d sized opened made has = λ file at.
     let so : HoldsWritten size bytes x h''.output c d = subst (λ k. HoldsWritten k bytes x h''.output c d) sized has in
@@ -82,7 +82,7 @@ part_whole input output bytes size n x h h' h'' a b c d sized opened made has = 
 -- ---- why it is refused
 
 pub no_blocks : (path bytes : List ℕ) (size long : ℕ) (h h' : Held) (a b : World) (f : RunFault)
-    (told : SparseCommandFault) → Opens a path bytes h h' → b ≡ a → long ≡ length bytes → Refused f size long
+    (told : SparseCommandFault) → OpensFile a path bytes h h' → b ≡ a → long ≡ length bytes → Refused f size long
     → told ≡ faults.Run f → RefusesRaw path size a b told
 no_blocks path bytes size long h h' a b f told opened same is refused told_is =
     subst (λ k. RefusesRaw path size a b k) (sym told_is) (record {
@@ -104,7 +104,7 @@ refuses path size a b (faults.Host f) h = tt
 -- ---- all is done
 
 pub sparsifies : (input output bytes : List ℕ) (size n : ℕ) (x : Written) (h h' h'' : Held) (a b c d : World)
-    (shows : List ℕ → Type 0) → n ≡ size → IsBlockSize size → Opens a input bytes h h' → b ≡ a
+    (shows : List ℕ → Type 0) → n ≡ size → IsBlockSize size → OpensFile a input bytes h h' → b ≡ a
     → Creates output h' h'' b c → HoldsWritten n bytes x h''.output c d
     → shows (text_of (lines.Sparse x.blocks x.chunks x.bytes) ++ (10 ∷ []))
     → SparsifiesFile input output size a d shows

@@ -62,19 +62,19 @@ pub record HasNoBlocks (path : List ℕ) (size : ℕ) (old new : World) (fault :
   pub untouched : new ≡ old
 
 -- a device failed
-abbrev pub IsOfDevices : PieceFault → Type 0
-IsOfDevices (pieces.Read f) = Unit {0}
-IsOfDevices (pieces.Write f) = Unit {0}
-IsOfDevices pieces.SourceChanged = ⊥
-IsOfDevices pieces.TooLarge = ⊥
-IsOfDevices (pieces.BadBlock n) = ⊥
-IsOfDevices (pieces.LimitTooSmall n) = ⊥
+abbrev pub IsOfPieceDevices : PieceFault → Type 0
+IsOfPieceDevices (pieces.Read f) = Unit {0}
+IsOfPieceDevices (pieces.Write f) = Unit {0}
+IsOfPieceDevices pieces.SourceChanged = ⊥
+IsOfPieceDevices pieces.TooLarge = ⊥
+IsOfPieceDevices (pieces.BadBlock n) = ⊥
+IsOfPieceDevices (pieces.LimitTooSmall n) = ⊥
 
 -- a fault of the devices or of files
 abbrev pub IsOutside : SparseCommandFault → Type 0
 IsOutside (faults.Sparse f) = ⊥
 IsOutside (faults.Run f) = ⊥
-IsOutside (faults.Piece f) = IsOfDevices f
+IsOutside (faults.Piece f) = IsOfPieceDevices f
 IsOutside (faults.Flash f) = ⊥
 IsOutside (faults.Verify f) = ⊥
 IsOutside (faults.OtherBlocks image) = ⊥
@@ -83,7 +83,7 @@ IsOutside (faults.Host f) = Unit {0}
 -- the block size is none that the file at this path has, which is told before anything is touched; or a device failed
 abbrev pub RefusesRaw : List ℕ → ℕ → World → World → SparseCommandFault → Type 0
 RefusesRaw path size old new (faults.Run f) = HasNoBlocks path size old new f
-RefusesRaw path size old new (faults.Piece f) = IsOfDevices f
+RefusesRaw path size old new (faults.Piece f) = IsOfPieceDevices f
 RefusesRaw path size old new (faults.Host f) = Unit {0}
 RefusesRaw path size old new (faults.Sparse f) = ⊥
 RefusesRaw path size old new (faults.Flash f) = ⊥

@@ -3,7 +3,7 @@
 ghost use Rattle.std.specs.Prelude.{◌≡◌, ◌+◌, None, IsTrue, IfErr, OnOk, if◌then◌else◌};
 ghost use Rattle.abt_disk.specs.Images.{is_over};
 ghost use Rattle.abt_disk.specs.Memory.{held_of, world_of};
-ghost use Rattle.abt_disk.specs.World.{IsReading, OnlyAt, Keeps};
+ghost use Rattle.abt_disk.specs.World.{IsReading, OnlyAt, KeepsFile};
 ghost use Rattle.abt_output.specs.Shows.{Shows};
 ghost use Rattle.abt_refusals.specs.Paths.{path_of, path_out};
 ghost use Rattle.image_bodies.specs.Sparsing.{SparsifiesFile, HoldsNoPart, RefusesRaw};
@@ -32,7 +32,7 @@ pub fn sparse_in_memory<'a>(
         ≡ (held_of disk.old).syncs + (if (held_of disk.old).is_synced then 1 else 0)) }
     ensures closed { (held_of disk.new).output ≡ None }
     ensures others { OnlyAt (held_of disk.old).read (path_out output.entry) (world_of disk.old) (world_of disk.new) }
-    ensures input { Keeps (path_of input.entry) (world_of disk.old) (world_of disk.new) }
+    ensures input { KeepsFile (path_of input.entry) (world_of disk.old) (world_of disk.new) }
     ensures whole { IsTrue (is_over (path_out output.entry)) → HoldsNoPart (path_of input.entry)
         (path_out output.entry) block (world_of disk.old) (world_of disk.new) }
     ensures refused { IfErr result (λ refusal. RefusesRaw (path_of input.entry) block (world_of disk.old)

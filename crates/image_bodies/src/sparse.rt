@@ -1,7 +1,7 @@
 //! The body of the command `sparse`.
 
 ghost use Rattle.std.specs.Prelude.{◌≡◌, ◌+◌, ◌++◌, ◌∷◌, [], None, IsTrue, IfErr, OnOk, if◌then◌else◌};
-ghost use Rattle.abt_disk.specs.World.{IsReading, OnlyAt, Keeps};
+ghost use Rattle.abt_disk.specs.World.{IsReading, OnlyAt, KeepsFile};
 ghost use Rattle.abt_output.specs.Shows.{Shows};
 ghost use Rattle.abt_refusals.specs.Paths.{path_of, path_out};
 ghost use Rattle.sparse_rules.specs.Lines.{text_of};
@@ -39,7 +39,7 @@ pub fn sparse_file<'a, D: Disk>(
     ensures others { IsTrue D.tells → OnlyAt (D.held disk.old).read (path_out output.entry) (D.world disk.old)
         (D.world disk.new) }
     ensures closed { IsTrue D.tells → (D.held disk.new).output ≡ None }
-    ensures input { IsTrue D.tells → Keeps (path_of input.entry) (D.world disk.old) (D.world disk.new) }
+    ensures input { IsTrue D.tells → KeepsFile (path_of input.entry) (D.world disk.old) (D.world disk.new) }
     ensures whole { IsTrue D.tells → IsTrue (D.is_over (path_out output.entry)) → HoldsNoPart (path_of input.entry)
         (path_out output.entry) block (D.world disk.old) (D.world disk.new) }
     // it is refused for a block size that IN hasn't, before anything is touched, or for a fault of files or devices

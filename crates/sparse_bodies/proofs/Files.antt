@@ -9,7 +9,7 @@ use Rattle.abt_chunks.specs.declared.progress.Expanded.{Expanded}
 use Rattle.abt_sparse.specs.declared.fault.SparseFault.{SparseFault}
 use Rattle.abt_chunks.specs.Expanding.{UnlessDevice}
 use Rattle.abt_chunks.specs.Whole.{Expansion, Refusal}
-use Rattle.abt_disk.specs.World.{World, Held, Spares, Opens, Creates, Ends}
+use Rattle.abt_disk.specs.World.{World, Held, Spares, OpensFile, Creates, Ends}
 use Rattle.abt_disk.proofs.Files.{spares_trans}
 use Rattle.abt_disk.proofs.Worlds.{apart}
 use Rattle.sparse_rules.specs.declared.lines.Line.TheVariants as lines
@@ -19,7 +19,7 @@ use Rattle.sparse_rules.specs.declared.fault.SparseCommandFault.TheVariants as f
 use Rattle.sparse_bodies.specs.Expanding.{ExpandsFile, Says, RefusesFile, HasFault, FromHost}
 
 -- a fault that is told is the image's own
-pub refuses_sparse : (path x old new : List ℕ) (h h' : Held) (a : World) (f : SparseFault) → Opens a path x h h'
+pub refuses_sparse : (path x old new : List ℕ) (h h' : Held) (a : World) (f : SparseFault) → OpensFile a path x h h'
     → UnlessDevice f (Refusal f old new x) → UnlessDevice f (HasFault path a f)
 refuses_sparse path x old new h h' a f opened says =
     unless_map f (Refusal f old new x) (HasFault path a f) (λ r. record {
@@ -29,7 +29,7 @@ refuses_sparse path x old new h h' a f opened says =
       fails = subst (λ z. Fails z f r.given) opened.held r.fails;
     }) says
 
-own : (path x old new : List ℕ) (h h' : Held) (a : World) (f : SparseCommandFault) → Opens a path x h h'
+own : (path x old new : List ℕ) (h h' : Held) (a : World) (f : SparseCommandFault) → OpensFile a path x h h'
     → Says (Err f) x old new → RefusesFile path a f
 own path x old new h h' a (faults.Sparse f) opened says = refuses_sparse path x old new h h' a f opened says
 own path x old new h h' a (faults.Run f) opened says = absurd says
@@ -41,7 +41,7 @@ own path x old new h h' a (faults.Host f) opened says = absurd says
 
 -- an image that was read whole, and whose expansion an output holds that was brought to its end
 pub expands : (input path bytes x y rest : List ℕ) (h h' h'' : Held) (a a' b c : World) (e : Expanded)
-    (shows : List ℕ → Type 0) → Opens a input x h h' → a' ≡ a → Creates path h' h'' a' b
+    (shows : List ℕ → Type 0) → OpensFile a input x h h' → a' ≡ a → Creates path h' h'' a' b
     → Ends h''.output bytes b c → y ≡ [] → Expansion e y bytes x rest
     → shows (text_of (lines.Expanded e.blocks e.bytes) ++ (10 ∷ [])) → ExpandsFile input path a c shows
 expands input path bytes x y rest h h' h'' a a' b c e shows opened same made ends empty whole shown =
@@ -68,7 +68,7 @@ of_host : (path : List ℕ) (a : World) (r : SparseCommandFault) → FromHost r 
 of_host path a r made = subst (λ f. RefusesFile path a f) (sym made.1) tt
 
 pub refuses : (path x old new : List ℕ) (h h' : Held) (a : World) (answer : Result Expanded SparseCommandFault)
-    (r : SparseCommandFault) → Opens a path x h h' → Says answer x old new → (IsOk answer → FromHost r)
+    (r : SparseCommandFault) → OpensFile a path x h h' → Says answer x old new → (IsOk answer → FromHost r)
     → IfErr answer (λ f. r ≡ f) → RefusesFile path a r
 refuses path x old new h h' a (Ok e) r opened says files told = of_host path a r (files refl)
 refuses path x old new h h' a (Err f) r opened says files told =

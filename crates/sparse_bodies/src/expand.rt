@@ -2,7 +2,7 @@
 
 ghost use Rattle.std.specs.Prelude.{◌≡◌, ◌+◌, ◌++◌, [], ◌∷◌, None, IsTrue, IfErr, OnOk, if◌then◌else◌};
 ghost use Rattle.abt_refusals.specs.Paths.{path_in, path_out};
-ghost use Rattle.abt_disk.specs.World.{IsReading, OnlyAt, Keeps};
+ghost use Rattle.abt_disk.specs.World.{IsReading, OnlyAt, KeepsFile};
 ghost use Rattle.abt_output.specs.Shows.{Shows};
 ghost use Rattle.sparse_rules.specs.Lines.{text_of};
 ghost use Rattle.sparse_bodies.specs.Expanding.{Says, ExpandsFile, RefusesFile};
@@ -35,7 +35,7 @@ pub fn expand_one<'a, D: Disk>(
     // whatever the outcome, OUT alone may hold anything else, IN holds what it held, and no output is left open
     ensures others { IsTrue D.tells → OnlyAt (D.held disk.old).read (path_out output.entry) (D.world disk.old)
         (D.world disk.new) }
-    ensures input { IsTrue D.tells → Keeps (path_in input.entry) (D.world disk.old) (D.world disk.new) }
+    ensures input { IsTrue D.tells → KeepsFile (path_in input.entry) (D.world disk.old) (D.world disk.new) }
     ensures closed { IsTrue D.tells → (D.held disk.new).output ≡ None }
     // it is refused for a fault that IN has, or for one of files or devices
     ensures refused { IsTrue D.tells → IfErr result (λ refusal. RefusesFile (path_in input.entry) (D.world disk.old)

@@ -3,7 +3,7 @@
 ghost use Rattle.std.specs.Prelude.{◌≡◌, ◌+◌, None, OnOk, IfErr, if◌then◌else◌};
 ghost use Rattle.abt_refusals.specs.Paths.{path_in, path_out};
 ghost use Rattle.abt_disk.specs.Memory.{world_of, held_of};
-ghost use Rattle.abt_disk.specs.World.{IsReading, OnlyAt, Keeps};
+ghost use Rattle.abt_disk.specs.World.{IsReading, OnlyAt, KeepsFile};
 ghost use Rattle.abt_output.specs.Shows.{Shows};
 ghost use Rattle.sparse_bodies.specs.Expanding.{ExpandsFile, RefusesFile};
 
@@ -29,7 +29,7 @@ pub fn expand_in_memory<'a>(
     ensures synced { OnOk result ((held_of disk.new).syncs
         ≡ (held_of disk.old).syncs + (if (held_of disk.old).is_synced then 1 else 0)) }
     ensures others { OnlyAt (held_of disk.old).read (path_out output.entry) (world_of disk.old) (world_of disk.new) }
-    ensures input { Keeps (path_in input.entry) (world_of disk.old) (world_of disk.new) }
+    ensures input { KeepsFile (path_in input.entry) (world_of disk.old) (world_of disk.new) }
     ensures closed { (held_of disk.new).output ≡ None }
     ensures refused { IfErr result (λ refusal. RefusesFile (path_in input.entry) (world_of disk.old) refusal.fault) }
 {
