@@ -1,5 +1,5 @@
 //! What the commands of sparse images go by: the faults that they are refused for, the lines that they print, the names
-//! of the files of pieces, which blocks and pieces a raw image has, and flashing it straight to a partition.
+//! of the files of pieces, and which blocks and pieces a raw image has.
 //!
 //! | file | has |
 //! |---|---|
@@ -7,12 +7,10 @@
 //! | `lines.rt` | what a command prints of what was done |
 //! | `places.rt`, `piece_names.rt` | the files that the words name, and the names of those of pieces |
 //! | `blocks.rt`, `pieces.rt` | which blocks and which pieces a raw image has, or why it has none |
-//! | `flash_raw.rt` | each block of a raw image to a partition |
 #![tactic(auto)]
 
 mod blocks;
 mod fault;
-mod flash_raw;
 mod lines;
 mod piece_names;
 mod pieces;
@@ -20,7 +18,6 @@ mod places;
 
 pub use blocks::{Blocks, blocks_of};
 pub use fault::{SparseCommandFault, SparseRefusal};
-pub use flash_raw::flash_blocks;
 pub use lines::{LeftOver, Line};
 pub use piece_names::is_piece_name;
 pub use pieces::{PiecesOf, raw_pieces};
