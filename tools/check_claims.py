@@ -29,7 +29,7 @@ DOCUMENTS = ("README.md", "CONTRIBUTING.md", "CHANGELOG.md", "docs/*.md")
 # What these do is called by the program alone, and most of it only in its own crate.
 OF_THE_PROGRAM = (
     "abt_buffers", "abt_values", "abt_words", "abt_refusals", "abt_disk", "abt_output", "abt_host", "sparse_rules",
-    "sparse_bodies", "sparse_commands", "boot_rules", "boot_commands", "abootimg",
+    "sparse_bodies", "flash_bodies", "sparse_commands", "boot_rules", "boot_commands", "abootimg",
 )
 
 
