@@ -24,7 +24,7 @@ import subprocess
 import sys
 
 HERE = os.path.dirname(os.path.dirname(os.path.abspath(__file__)))
-MOST_LINES = 850
+MOST_LINES = 900
 DOCUMENTS = ("README.md", "CONTRIBUTING.md", "CHANGELOG.md", "docs/*.md")
 # What these do is called by the program alone, and most of it only in its own crate.
 OF_THE_PROGRAM = (
