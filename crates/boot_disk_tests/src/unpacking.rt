@@ -1,5 +1,9 @@
 //! `unpack` over a disk in memory.
 
+ghost use Rattle.std.specs.Prelude.{IfOk};
+ghost use Rattle.abt_disk.specs.Memory.{held_of};
+ghost use Rattle.abt_disk.specs.World.{IsReading};
+
 use abt_disk::{Countdown, Faults, MemoryDisk, MemoryFile, MemoryPath};
 use abt_io::{Meter, Window};
 use abt_output::Report;
@@ -42,7 +46,9 @@ fn path(alloc: Global, name: &str, file: u64) -> Result<MemoryPath, AllocError> 
 }
 
 /// A disk with the image as IN, and these further paths. File 0 is what IN leads to, file 1 is an empty one.
-fn disk(alloc: Global, links: &[(&str, u64)], faults: Faults) -> Result<MemoryDisk, AllocError> {
+fn disk(alloc: Global, links: &[(&str, u64)], faults: Faults) -> Result<MemoryDisk, AllocError>
+    ensures { IfOk result (λ disk. IsReading (held_of disk)) }
+{
     let mut paths = Vec::new(alloc);
     paths.push(path(alloc, "in", 0)?)?;
     for (name, file) in links.iter() {
@@ -59,11 +65,9 @@ fn disk(alloc: Global, links: &[(&str, u64)], faults: Faults) -> Result<MemoryDi
 }
 
 /// Whether unpacking IN over this disk, of which nothing is open yet, answers Ok.
-fn is_unpacked(
-    rt: HostRuntime,
-    disk: &mut MemoryDisk,
-    with_words: bool,
-) -> Result<bool, AllocError> {
+fn is_unpacked(rt: HostRuntime, disk: &mut MemoryDisk, with_words: bool) -> Result<bool, AllocError>
+    requires { IsReading (held_of disk.old) }
+{
     let mut report = Report::new(rt);
     let mut w = Box::new(rt.alloc(), Window::new())?;
     let mut m = Meter::new();
