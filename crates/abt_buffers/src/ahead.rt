@@ -1,15 +1,16 @@
 //! A source that is read ahead: of small reads, as those of headers, one call of the system brings many.
 
-ghost use Rattle.std.specs.Prelude.{◌≡◌, ◌≤◌, ◌+◌, [], false, length, IfErr};
+ghost use Rattle.std.specs.Prelude.{◌≡◌, ◌≤◌, ◌+◌, [], false, length, IfOk, IfErr};
 ghost use Rattle.std.proofs.lemmas.Bool.{false≢true};
 ghost use Rattle.abt_io.specs.Count.{count_of};
 
 use crate::ahead_file::AheadFile;
-use abt_io::{DeviceFault, Source, Tally};
+use abt_io::{DeviceFault, FileSource, Source, Tally};
 use std::alloc::{AllocError, Global};
 use std::fs::File;
 use std::io::ErrorKind;
 use std::os::unix::fs::FileExt;
+use std::rc::Rc;
 
 /// How many bytes are read at once where reads follow one another.
 const ROOM: usize = 4096;
@@ -160,45 +161,77 @@ pub(crate) fn read_at(file: &File, at: u64, out: &mut [u8]) -> Result<usize, Dev
 /// A file or a block device that gives what a `FileSource` gives. A read of at most 256 bytes asks for up to 4 KiB, and
 /// what is held of them answers the reads behind it.
 #[derive(Drop)]
-pub struct AheadSource<'a> {
-    from: &'a AheadFile,
+pub struct AheadSource {
+    from: Rc<AheadFile>,
+    alloc: Global,
+    // What is held, once a read may be answered from it.
     ahead: Option<Ahead>,
     reads: Tally,
     given: Tally,
     faults: Tally,
 }
 
-impl<'a> AheadSource<'a> {
-    /// Nothing is held. Where there is no memory to hold anything, each read is made as it is asked for.
-    pub fn new(alloc: Global, from: &'a AheadFile) -> AheadSource<'a>
-        ensures { result.from.now ≡ from.now }
+impl AheadSource {
+    /// Nothing is held.
+    pub fn new(alloc: Global, file: FileSource) -> Result<AheadSource, AllocError>
+        ensures file { IfOk result (λ source. source.from.value.source ≡ file) }
+        ensures clean { IfOk result (λ source. source.faults.number ≡ 0) }
     {
-        AheadSource {
-            from,
-            ahead: Ahead::new(alloc),
-            reads: Tally::new(),
-            given: Tally::new(),
-            faults: Tally::new(),
+        match Rc::new(alloc, AheadFile::new(file)) {
+            Ok(from) => Ok(AheadSource {
+                from,
+                alloc,
+                ahead: None,
+                reads: Tally::new(),
+                given: Tally::new(),
+                faults: Tally::new(),
+            }),
+            Err(_) => Err(AllocError),
         }
+    }
+
+    /// Its file.
+    pub fn file(&self) -> &AheadFile
+        ensures { result.now ≡ self.now.from.value }
+    {
+        self.from.as_ref()
+    }
+
+    /// Its file, for what goes through a spool.
+    pub fn shared(&self) -> Result<Rc<AheadFile>, AllocError>
+        ensures { IfOk result (λ file. file.value ≡ self.now.from.value) }
+    {
+        self.from.clone()
     }
 
     /// A piece begins: what is held of the file is read again before it is given.
     pub fn forget(&self) {
-        self.from.forget();
+        self.file().forget();
+    }
+
+    /// As it began: nothing is held, and it has no memory for that until it is read again.
+    pub fn rest(&mut self)
+        ensures file { self.new.from.value ≡ self.old.from.value }
+        ensures reads { self.new.reads ≡ self.old.reads }
+        ensures given { self.new.given ≡ self.old.given }
+        ensures faults { self.new.faults ≡ self.old.faults }
+    {
+        self.ahead = None;
+        self.forget();
     }
 
     /// How long the file is now, if that is less than what was given of it from memory since the piece began.
     pub fn shorter(&self) -> Option<u64> {
-        self.from.shorter()
+        self.file().shorter()
     }
 }
 
-impl Source for AheadSource<'_> {
+impl Source for AheadSource {
     ghost tells = { false };
 
     ghost content = { λ _. [] };
 
-    ghost size = { λ s. s.from.now.source.size };
+    ghost size = { λ s. s.from.value.source.size };
 
     ghost reads = { λ s. s.reads.number };
 
@@ -211,16 +244,16 @@ impl Source for AheadSource<'_> {
     ghost are_bytes = { λ _ t. absurd (false≢true t) };
 
     fn length(&self) -> u64 {
-        self.from.source.length()
+        self.file().source.length()
     }
 
     fn read_at(&mut self, at: u64, out: &mut [u8]) -> Result<usize, DeviceFault> {
         self.reads.add(1);
-        let from = self.from;
+        let from = self.from.as_ref();
         let Some(file) = &from.source.file else {
             return Ok(0);
         };
-        if given_of(&mut self.ahead, from, file, at, out) {
+        if given_of(&mut self.ahead, self.alloc, from, file, at, out) {
             let n = out.len();
             self.given.add(n as u64);
             return Ok(n);
@@ -238,14 +271,22 @@ impl Source for AheadSource<'_> {
     }
 }
 
-// Gives the bytes at a place from what is held of a file, where all of them are.
+// Gives the bytes at a place from what is held of a file, where all of them are. The first few that are asked for have
+// memory made to hold any; where there is none, each read is made as it is asked for.
 fn given_of(
     ahead: &mut Option<Ahead>,
+    alloc: Global,
     from: &AheadFile,
     file: &File,
     at: u64,
     out: &mut [u8],
 ) -> bool {
+    if out.is_empty() || out.len() > MOST {
+        return false;
+    }
+    if ahead.is_none() {
+        *ahead = Ahead::new(alloc);
+    }
     let Some(ahead) = ahead else {
         return false;
     };

@@ -14,6 +14,7 @@ use crate::behind::Behind;
 use abt_io::{DeviceFault, FileSpool, Input, Output, Overwrite, Spool};
 use std::alloc::Global;
 use std::fs::File;
+use std::rc::Rc;
 
 /// A spool that takes and gives what a `FileSpool` does, and holds up to 64 KiB of what it took: they are written where
 /// no more have room, where it is read, and by `settle`. Where that fails, it is the read that fails, or the write that
@@ -24,11 +25,11 @@ use std::fs::File;
 /// then stands behind what it takes is cut off before bytes are laid over those four, before it is read, and by `settle`.
 /// So this is for who lays a magic number last: a file that has one has nothing of before behind it.
 ///
-/// What it is given comes from a file that is read ahead. It gives nothing of it back where that file is shorter then.
+/// What it is given may come from a file that is read ahead. It gives nothing of it back where that file is shorter then.
 #[derive(Drop)]
-pub struct GatheringSpool<'a> {
+pub struct GatheringSpool {
     pub spool: FileSpool,
-    from: &'a AheadFile,
+    from: Option<Rc<AheadFile>>,
     is_from_short: bool,
     ahead: Option<Ahead>,
     behind: Behind,
@@ -37,10 +38,15 @@ pub struct GatheringSpool<'a> {
     ghost whole: { behind.sent.state.bytes ++ behind.held.items ≡ since_cut spool.log.state },
 }
 
-impl<'a> GatheringSpool<'a> {
+impl GatheringSpool {
     /// A spool of at most `capacity` bytes, over a file that is empty. Nothing is held yet. Where there is no memory to
     /// hold anything, each call is one of the file.
-    pub fn new(alloc: Global, file: File, capacity: u64, from: &'a AheadFile) -> GatheringSpool<'a>
+    pub fn new(
+        alloc: Global,
+        file: File,
+        capacity: u64,
+        from: Option<Rc<AheadFile>>,
+    ) -> GatheringSpool
         ensures capacity { result.spool.capacity ≡ capacity }
         ensures log { result.spool.log.state ≡ nothing_logged }
         ensures lost { result.behind.is_lost ≡ false }
@@ -61,9 +67,9 @@ impl<'a> GatheringSpool<'a> {
         alloc: Global,
         file: File,
         capacity: u64,
-        from: &'a AheadFile,
+        from: Option<Rc<AheadFile>>,
         stands: u64,
-    ) -> GatheringSpool<'a>
+    ) -> GatheringSpool
         ensures capacity { result.spool.capacity ≡ capacity }
         ensures log { result.spool.log.state ≡ nothing_logged }
         ensures stale { result.behind.stale ≡ stands }
@@ -107,7 +113,7 @@ impl<'a> GatheringSpool<'a> {
         ensures failed { IfErr result (λ e. e ≡ DeviceFault.Failed) }
     {
         self.behind.settle(&self.spool.file, self.spool.used)?;
-        if self.spool.seen == 0 && self.from.shorter().is_some() {
+        if self.spool.seen == 0 && is_shorter(&self.from) {
             self.is_from_short = true;
             return Err(DeviceFault::Failed);
         }
@@ -120,7 +126,7 @@ impl<'a> GatheringSpool<'a> {
     }
 }
 
-impl Input for GatheringSpool<'_> {
+impl Input for GatheringSpool {
     ghost tells = { false };
 
     ghost remaining = { λ _. [] };
@@ -165,7 +171,7 @@ impl Input for GatheringSpool<'_> {
     }
 }
 
-impl Output for GatheringSpool<'_> {
+impl Output for GatheringSpool {
     ghost written = { λ s. s.spool.log.state.bytes };
 
     ghost is_full = { λ s. not (nat_lt s.spool.used s.spool.capacity) };
@@ -218,7 +224,7 @@ impl Output for GatheringSpool<'_> {
     }
 }
 
-impl Overwrite for GatheringSpool<'_> {
+impl Overwrite for GatheringSpool {
     fn position(&self) -> u64 {
         self.spool.position()
     }
@@ -249,7 +255,7 @@ impl Overwrite for GatheringSpool<'_> {
     }
 }
 
-impl Spool for GatheringSpool<'_> {
+impl Spool for GatheringSpool {
     ghost size = { λ s. s.spool.capacity };
 
     ghost gone = { λ s. last_cut s.spool.log.state.cuts + s.spool.seen };
@@ -282,7 +288,9 @@ impl Spool for GatheringSpool<'_> {
             return Err(DeviceFault::Failed);
         }
         forget(&mut self.ahead);
-        self.from.forget();
+        if let Some(from) = &self.from {
+            from.as_ref().forget();
+        }
         if self.is_keeping {
             cleared(spool, &mut self.behind)?;
         } else {
@@ -322,6 +330,14 @@ fn cleared(spool: &mut FileSpool, behind: &mut Behind) -> Result<(), DeviceFault
             spool.clear_faults.add(1);
             Err(fault)
         }
+    }
+}
+
+// Whether a file from which all comes is shorter than what was given of it from memory.
+fn is_shorter(from: &Option<Rc<AheadFile>>) -> bool {
+    match from {
+        Some(from) => from.as_ref().shorter().is_some(),
+        None => false,
     }
 }
 

@@ -1,4 +1,2 @@
 pub mod Closings
-pub mod Files
-pub mod Images
 pub mod Worlds

@@ -3,7 +3,12 @@ use Rattle.std.proofs.Common.{◌≡◌, ◌≢◌, ℕ, ◌+◌, List, [], ◌�
 use Rattle.std.specs.Prelude.{Contains, unwrap_or, true, if◌then◌else◌}
 use Rattle.std.proofs.lemmas.List.Elements.{Contains-append_left, Contains-push}
 use Rattle.abt_disk.specs.World.{World, Held, Spares, OpensFile, Creates, OnlyAt, untouched, in_output, Ends, SparesRest, KeepsFile, ended}
-use Rattle.abt_disk.proofs.Files.{spares_trans}
+
+pub spares_trans : (f : ℕ) (a b c : World) → Spares f a b → Spares f b c → Spares f a c
+spares_trans f a b c s t = record {
+  paths = λ p g h. t.paths p g (s.paths p g h);
+  files = λ g n. t.files g n ∙ s.files g n;
+}
 
 -- what is not among the files that were read when the output was created, was not among fewer
 pub fewer : (read read' : List ℕ) (f : ℕ) (path : List ℕ) (old new : World) → read' ≡ read ++ (f ∷ [])
@@ -46,7 +51,7 @@ kept_behind path input bytes h h' a b c opened same only =
 
 -- an input and an output were opened, and the output brought to its end: it was synced if outputs are
 pub synced_behind : (path input bytes : List ℕ) (h h' h'' new : Held) (w a b : World) → OpensFile w input bytes h h'
-    → Creates path h' h'' a b → new ≡ ended true h'' → new.syncs ≡ h.syncs + (if h.is_synced then 1 else 0)
-synced_behind path input bytes h h' h'' new w a b opened made done =
+    → Creates path h' h'' a b → (n : ℕ) → new ≡ ended true n h'' → new.syncs ≡ h.syncs + (if h.is_synced then 1 else 0)
+synced_behind path input bytes h h' h'' new w a b opened made n done =
     ap (λ k. k.syncs) done ∙ ap (λ k. k.syncs + (if k.is_synced then 1 else 0)) made.begins
     ∙ ap (λ k. k.syncs + (if k.is_synced then 1 else 0)) opened.taken

@@ -1,8 +1,8 @@
 -- A file that is written in place: it was there, is opened, and is closed.
 use Rattle.std.specs.Prelude.{◌≡◌, ℕ, ◌+◌, List, [], ◌∷◌, length, Option, Some, None, Bool, false, Contains, nat_lt}
-use Rattle.std.specs.Prelude.{if◌then◌else◌}
+use Rattle.std.specs.Prelude.{if◌then◌else◌, replicate}
 use Rattle.abt_io.specs.Moment.{Past}
-use Rattle.abt_disk.specs.World.{World, Held}
+use Rattle.abt_disk.specs.World.{World, Held, Spares}
 
 -- this file more is written, in place
 abbrev pub in_place : ℕ → Held → Held
@@ -25,9 +25,24 @@ is_settled_in (r ∷ rs) synced = false
 abbrev pub is_settled : Past → Bool
 is_settled past = is_settled_in past.pending past.synced
 
--- it is closed; one sync more, where it was synced behind its last byte
-abbrev pub closed_part : Past → Held → Held
-closed_part past h = record h { part = None; syncs = h.syncs + (if is_settled past then 1 else 0) }
+-- it is closed, and has failed so often; one sync more, where it was synced behind its last byte
+abbrev pub closed_part : Past → ℕ → Held → Held
+closed_part past failures h = record h {
+  part = None;
+  syncs = h.syncs + (if is_settled past then 1 else 0);
+  failed = h.failed + failures;
+}
+
+-- the file at this path was created or emptied, and is so many zeros, to be written in place: none that is read or was
+-- begun, and all others are as before
+pub record MakesZeros (n : ℕ) (path : List ℕ) (held held' : Held) (old new : World) : Type 0 where
+  pub file : ℕ
+  pub begins : held' ≡ in_place file held
+  pub there : new.at path ≡ Some file
+  pub free : ¬ Contains held.read file
+  pub fresh : ¬ Contains held.begun file
+  pub holds : new.holds file ≡ replicate n 0
+  pub spares : Spares file old new
 
 -- these are as many bytes as the file holds
 abbrev pub IsAsLong : Option ℕ → List ℕ → World → Type 0

@@ -1,4 +1,4 @@
 pub mod Images
 pub mod InPlace
-pub mod Memory
+pub mod Spools
 pub mod World

@@ -1,5 +1,6 @@
 -- The files of a disk, which of them are open, and what the calls of a run leave of them.
-use Rattle.std.specs.Prelude.{◌≡◌, ◌≢◌, ℕ, ◌+◌, List, [], ◌∷◌, ◌++◌, Option, Some, None, Bool, Contains, ◌&&◌}
+use Rattle.std.specs.Prelude.{◌≡◌, ◌≢◌, ◌<◌, ℕ, ◌+◌, List, [], ◌∷◌, ◌++◌, Option, Some, None, Bool, true, false}
+use Rattle.std.specs.Prelude.{Contains, ◌&&◌}
 use Rattle.std.specs.Prelude.{if◌then◌else◌}
 
 -- which file each path leads to, by a number, and what each file holds
@@ -9,7 +10,7 @@ pub record World : Type 0 where
 
 -- What was opened: the files that are read; those that were created or opened to be written, the newest first; the
 -- output that is open, the file that is written in place, and the one that pieces go through; whether outputs are
--- synced at their end, and how often one was.
+-- synced at their end, and how often one was; how often a call was refused, or a device failed that was given back.
 pub record Held : Type 0 where
   pub read : List ℕ
   pub begun : List ℕ
@@ -18,11 +19,29 @@ pub record Held : Type 0 where
   pub spool : Option ℕ
   pub is_synced : Bool
   pub syncs : ℕ
+  pub failed : ℕ
 
 -- nothing was opened to be written yet
 pub record IsReading (h : Held) : Type 0 where
   pub begun : h.begun ≡ []
   pub output : h.output ≡ None
+
+-- 1 where a call was refused
+abbrev pub unless : Bool → ℕ
+unless true = 0
+unless false = 1
+
+-- a call was refused, or a device failed, so many times more
+abbrev pub failing : ℕ → Held → Held
+failing n h = record h { failed = h.failed + n }
+
+-- in this run a call was refused, or a device failed
+abbrev pub HasFailed : Held → Held → Type 0
+HasFailed old new = old.failed < new.failed
+
+-- none was, and none did
+abbrev pub HasNotFailed : Held → Held → Type 0
+HasNotFailed old new = new.failed ≡ old.failed
 
 -- this file more is read
 abbrev pub reading : ℕ → Held → Held
@@ -32,13 +51,18 @@ reading file h = record h { read = h.read ++ (file ∷ []) }
 abbrev pub creating : ℕ → Held → Held
 creating file h = record h { begun = file ∷ h.begun; output = Some file }
 
--- the output that was open is closed, and synced where it was brought to its end and outputs are
-abbrev pub ended : Bool → Held → Held
-ended is_done h = record h { output = None; syncs = h.syncs + (if is_done && h.is_synced then 1 else 0) }
+-- the output that was open is closed, and synced where it was brought to its end and outputs are; so much has failed
+abbrev pub ended : Bool → ℕ → Held → Held
+ended is_done failures h = record h {
+  output = None;
+  syncs = h.syncs + (if is_done && h.is_synced then 1 else 0);
+  failed = h.failed + failures;
+}
 
--- it is closed, unfinished
-abbrev pub given_up : Held → Held
-given_up h = record h { output = None }
+-- 1 where the end was refused of what was done before
+abbrev pub unended : Bool → Bool → ℕ
+unended true is_done = unless is_done
+unended false is_done = 0
 
 -- every path leads where it led, and no file but this one holds anything else
 pub record Spares (file : ℕ) (old new : World) : Type 0 where

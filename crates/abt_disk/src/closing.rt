@@ -20,7 +20,8 @@ pub fn closed<'a, D: Disk, T: Drop, F: Told + Drop>(
     ensures ended { IsTrue D.tells → Ends (D.held disk.old).part (D.Part.content part) (D.world disk.old)
         (D.world disk.new) }
     ensures paths { IsTrue D.tells → (D.world disk.new).at ≡ (D.world disk.old).at }
-    ensures closed { IsTrue D.tells → D.held disk.new ≡ closed_part (D.Part.past part) (D.held disk.old) }
+    ensures closed { IsTrue D.tells → D.held disk.new ≡ closed_part (D.Part.past part) (D.Part.put_faults part)
+        (D.held disk.old) }
     ensures rest { IsTrue D.tells → SparesRest (D.held disk.old).part (D.world disk.old) (D.world disk.new) }
 {
     let is_on_output = disk.close(part);

@@ -1,16 +1,18 @@
 //! What a command asks of the system, and what contracts know of it.
 
-ghost use Rattle.std.specs.Prelude.{◌≡◌, ℕ, List, [], None, Bool, IsTrue, IfOk, OnOk, OnErr, is_ok};
+ghost use Rattle.std.specs.Prelude.{◌≡◌, ◌+◌, ℕ, List, [], None, Bool, IsTrue, IfOk, IfErr, OnOk, OnErr, is_ok, is_some};
+ghost use Rattle.std.specs.Prelude.{string_bytes, replicate, false};
 ghost use Rattle.abt_io.specs.Moment.{no_past};
 ghost use Rattle.abt_refusals.specs.Paths.{path_in, path_of, path_out};
 ghost use Rattle.abt_disk.specs.Images.{is_file, OfImage, Leaves, EmptiesAt};
-ghost use Rattle.abt_disk.specs.InPlace.{OpensPart, IsAsLong, closed_part};
+ghost use Rattle.abt_disk.specs.InPlace.{OpensPart, MakesZeros, IsAsLong, closed_part};
+ghost use Rattle.abt_disk.specs.Spools.{OpensSpool, closed_spool, behind_clear};
 ghost use Rattle.abt_disk.specs.World.{World, Held, OpensFile, Creates, OnlyAt, Ends, SparesRest, IsFree, ended};
-ghost use Rattle.abt_disk.specs.World.{given_up};
+ghost use Rattle.abt_disk.specs.World.{failing, unless};
 
-use crate::{ImageTo, Late};
-use abt_io::{Input, Output, Partition, Source};
-use abt_refusals::{HostRefusal, Place};
+use crate::{ImageTo, Lasting, Late};
+use abt_io::{DeviceFault, Input, Output, Overwrite, Partition, Source, Spool};
+use abt_refusals::{HostFault, HostRefusal, Place};
 
 /// A device that knows why its last call failed.
 pub trait Reasons {
@@ -27,7 +29,8 @@ pub trait Measured {
 /// The files of a run. All that is read is opened before anything is written, and at most one output is open.
 ///
 /// A clause under `IsTrue tells` speaks of what files hold, and binds only a disk that tells it. What was opened is
-/// given back: an output by `finish` or `give_up`; what is only read is let go.
+/// given back: an output by `finish` or `give_up`, what was read by `let_go` or `let_go_source`. So a disk counts what
+/// has failed: each call of it that was refused, and each fault of a device.
 pub trait Disk {
     /// What is read forward.
     type From: Input + Reasons + Measured + Drop;
@@ -36,13 +39,16 @@ pub trait Disk {
     type Onto: Output + Reasons + Drop;
 
     /// What is read at any place.
-    type At: Source + Drop;
+    type At: Source + Lasting + Drop;
 
     /// What is written in place.
     type Part: Partition + Drop;
 
     /// A regular file that an image goes to, which is written over.
     type Image: Late + Reasons + Drop;
+
+    /// What pieces go through.
+    type Through: Spool + Overwrite + Drop;
 
     /// It tells what its files hold.
     ghost tells: { Bool };
@@ -61,7 +67,8 @@ pub trait Disk {
         requires first { IsTrue tells → (held self.old).begun ≡ [] }
         ensures opened { IsTrue tells → IfOk result (λ from. OpensFile (world self.old) (path_in place.entry)
             (Self.From.remaining from) (held self.old) (held self.new)) }
-        ensures kept { IsTrue tells → OnErr result (held self.new ≡ held self.old) }
+        ensures clean { IsTrue tells → IfOk result (λ from. Self.From.read_faults from ≡ 0) }
+        ensures kept { IsTrue tells → OnErr result (held self.new ≡ failing 1 (held self.old)) }
         ensures world { IsTrue tells → world self.new ≡ world self.old };
 
     /// Opens what is read at any place. `-` is a file of that name.
@@ -69,7 +76,43 @@ pub trait Disk {
         requires first { IsTrue tells → (held self.old).begun ≡ [] }
         ensures opened { IsTrue tells → IfOk result (λ at. OpensFile (world self.old) (path_of place.entry)
             (Self.At.content at) (held self.old) (held self.new)) }
-        ensures kept { IsTrue tells → OnErr result (held self.new ≡ held self.old) }
+        ensures clean { IsTrue tells → IfOk result (λ at. Self.At.read_faults at ≡ 0) }
+        ensures kept { IsTrue tells → OnErr result (held self.new ≡ failing 1 (held self.old)) }
+        ensures world { IsTrue tells → world self.new ≡ world self.old };
+
+    /// Opens the same, of which small reads may be answered from what was read before: so it is to be asked whether the
+    /// file has become shorter.
+    fn ahead<'a>(&mut self, place: Place<'a>) -> Result<Self::At, HostRefusal<'a>>
+        requires first { IsTrue tells → (held self.old).begun ≡ [] }
+        ensures opened { IsTrue tells → IfOk result (λ at. OpensFile (world self.old) (path_of place.entry)
+            (Self.At.content at) (held self.old) (held self.new)) }
+        ensures clean { IsTrue tells → IfOk result (λ at. Self.At.read_faults at ≡ 0) }
+        ensures kept { IsTrue tells → OnErr result (held self.new ≡ failing 1 (held self.old)) }
+        ensures world { IsTrue tells → world self.new ≡ world self.old };
+
+    /// What is open, to be read a second time beside the first.
+    fn again<'a>(&mut self, at: &Self::At, place: Place<'a>) -> Result<Self::At, HostRefusal<'a>>
+        ensures content { IsTrue tells → IfOk result (λ again. Self.At.content again ≡ Self.At.content at.now) }
+        ensures clean { IsTrue tells → IfOk result (λ again. Self.At.read_faults again ≡ 0) }
+        ensures held { IsTrue tells → held self.new ≡ failing (unless (is_ok result)) (held self.old) }
+        ensures world { IsTrue tells → world self.new ≡ world self.old };
+
+    /// The text of a file, which is UTF-8 and at most 1 MiB. `-` is standard input.
+    fn text<'a>(&mut self, place: Place<'a>) -> Result<String, HostRefusal<'a>>
+        requires first { IsTrue tells → (held self.old).begun ≡ [] }
+        ensures opened { IsTrue tells → IfOk result (λ text. OpensFile (world self.old) (path_in place.entry)
+            (string_bytes text) (held self.old) (held self.new)) }
+        ensures kept { IsTrue tells → OnErr result (held self.new ≡ failing 1 (held self.old)) }
+        ensures world { IsTrue tells → world self.new ≡ world self.old };
+
+    /// Lets go what was read forward.
+    fn let_go(&mut self, from: Self::From)
+        ensures held { IsTrue tells → held self.new ≡ failing (Self.From.read_faults from) (held self.old) }
+        ensures world { IsTrue tells → world self.new ≡ world self.old };
+
+    /// Lets go what was read at any place.
+    fn let_go_source(&mut self, at: Self::At)
+        ensures held { IsTrue tells → held self.new ≡ failing (Self.At.read_faults at) (held self.old) }
         ensures world { IsTrue tells → world self.new ≡ world self.old };
 
     /// Opens a file that is there, to be written in place.
@@ -78,7 +121,8 @@ pub trait Disk {
         ensures opened { IsTrue tells → IfOk result (λ part. OpensPart (world self.old) (path_of place.entry)
             (Self.Part.content part) (held self.old) (held self.new)) }
         ensures past { IsTrue tells → IfOk result (λ part. Self.Part.past part ≡ no_past) }
-        ensures kept { IsTrue tells → OnErr result (held self.new ≡ held self.old) }
+        ensures clean { IsTrue tells → IfOk result (λ part. Self.Part.put_faults part ≡ 0) }
+        ensures kept { IsTrue tells → OnErr result (held self.new ≡ failing 1 (held self.old)) }
         ensures world { IsTrue tells → world self.new ≡ world self.old };
 
     /// Closes the file that is open in place. It holds what the partition holds, which is as long as it was. Answers
@@ -88,20 +132,76 @@ pub trait Disk {
         ensures ended { IsTrue tells → Ends (held self.old).part (Self.Part.content part) (world self.old)
             (world self.new) }
         ensures paths { IsTrue tells → (world self.new).at ≡ (world self.old).at }
-        ensures closed { IsTrue tells → held self.new ≡ closed_part (Self.Part.past part) (held self.old) }
+        ensures closed { IsTrue tells → held self.new ≡ closed_part (Self.Part.past part)
+            (Self.Part.put_faults part) (held self.old) }
         ensures rest { IsTrue tells → SparesRest (held self.old).part (world self.old) (world self.new) };
 
+    /// Creates or empties a regular file, and makes it so many zeros, to be written in place. Nothing else will do.
+    fn zeros<'a>(&mut self, place: Place<'a>, bytes: u64) -> Result<Self::Part, HostRefusal<'a>>
+        requires one { IsTrue tells → (held self.old).part ≡ None }
+        ensures made { IsTrue tells → OnOk result (MakesZeros bytes (path_of place.entry) (held self.old)
+            (held self.new) (world self.old) (world self.new)) }
+        ensures zeros { IsTrue tells → IfOk result (λ part. Self.Part.content part ≡ replicate bytes 0) }
+        ensures past { IsTrue tells → IfOk result (λ part. Self.Part.past part ≡ no_past) }
+        ensures clean { IsTrue tells → IfOk result (λ part. Self.Part.put_faults part ≡ 0) }
+        ensures kept { IsTrue tells → OnErr result (held self.new ≡ failing 1 (held self.old)) }
+        ensures only { IsTrue tells → OnErr result (OnlyAt (held self.old).read (path_of place.entry)
+            (world self.old) (world self.new)) };
+
+    /// Creates or empties the file that pieces of so many bytes go through, which is read again. All that goes through it
+    /// comes from a source: it is not given back where that has become shorter. Where the file is `keeping` its pages, it
+    /// begins with four zeros and may have anything behind them, until the first byte is read.
+    fn spool<'a>(
+        &mut self,
+        place: Place<'a>,
+        limit: u32,
+        keeping: bool,
+        from: &Self::At,
+    ) -> Result<Self::Through, HostRefusal<'a>>
+        requires one { IsTrue tells → (held self.old).spool ≡ None }
+        ensures capacity { IfOk result (λ through. Self.Through.Spool.size through ≡ limit) }
+        ensures empty { IsTrue tells → IfOk result (λ through. Self.Through.Output.written through ≡ []) }
+        ensures uncut { IsTrue tells → IfOk result (λ through. Self.Through.Spool.cuts through ≡ []) }
+        ensures clean { IsTrue tells → IfOk result (λ through. Self.Through.Output.write_faults through
+            + (Self.Through.Input.read_faults through + Self.Through.Spool.clear_faults through) ≡ 0) }
+        ensures opened { IsTrue tells → OnOk result (OpensSpool (path_of place.entry) (held self.old) (held self.new)
+            (world self.old) (world self.new)) }
+        ensures kept { IsTrue tells → OnErr result (held self.new ≡ failing 1 (held self.old)) }
+        ensures only { IsTrue tells → OnErr result (OnlyAt (held self.old).read (path_of place.entry)
+            (world self.old) (world self.new)) };
+
+    /// Closes the file that pieces went through, which holds what it took since it was cleared last. Refused where a
+    /// byte of that could not be written. Answers whether it was not given back since its source had become shorter.
+    fn close_spool(&mut self, through: Self::Through) -> Result<bool, DeviceFault>
+        ensures long { IsTrue tells → IfOk result (λ is_short. is_short ≡ false) }
+        ensures failed { IfErr result (λ fault. fault ≡ DeviceFault.Failed) }
+        ensures ended { IsTrue tells → OnOk result (Ends (held self.old).spool (behind_clear
+            (Self.Through.Spool.cuts through) (Self.Through.Output.written through)) (world self.old)
+            (world self.new)) }
+        ensures closed { IsTrue tells → held self.new ≡ closed_spool (unless (is_ok result)
+            + (Self.Through.Output.write_faults through + (Self.Through.Input.read_faults through
+            + Self.Through.Spool.clear_faults through))) (held self.old) }
+        ensures rest { IsTrue tells → SparesRest (held self.old).spool (world self.old) (world self.new) };
+
+    /// Whether a file is there.
+    fn is_there<'a>(&self, place: Place<'a>) -> Result<bool, HostRefusal<'a>>
+        ensures there { IsTrue tells → IfOk result (λ is. is ≡ is_some ((world self.now).at (path_of place.entry))) }
+        ensures memory { IfErr result (λ refusal. refusal.fault ≡ HostFault.Memory) };
+
     /// Refuses a path that is going to be written where it leads to a file that is read, or that was begun.
-    fn refuse_taken<'a>(&self, place: Place<'a>) -> Result<(), HostRefusal<'a>>
-        ensures { IsTrue tells → OnOk result (IsFree (path_of place.entry) (held self.now) (world self.now)) };
+    fn refuse_taken<'a>(&mut self, place: Place<'a>) -> Result<(), HostRefusal<'a>>
+        ensures free { IsTrue tells → OnOk result (IsFree (path_of place.entry) (held self.old) (world self.old)) }
+        ensures held { IsTrue tells → held self.new ≡ failing (unless (is_ok result)) (held self.old) }
+        ensures world { IsTrue tells → world self.new ≡ world self.old };
 
     /// Creates or empties a file. `-` is a file of that name.
     fn plain<'a>(&mut self, place: Place<'a>) -> Result<Self::Onto, HostRefusal<'a>>
         requires one { IsTrue tells → (held self.old).output ≡ None }
         ensures empty { IfOk result (λ onto. Self.Onto.written onto ≡ []) }
+        ensures clean { IsTrue tells → IfOk result (λ onto. Self.Onto.write_faults onto ≡ 0) }
         ensures created { IsTrue tells → OnOk result (Creates (path_of place.entry) (held self.old) (held self.new)
             (world self.old) (world self.new)) }
-        ensures kept { IsTrue tells → OnErr result (held self.new ≡ held self.old) }
+        ensures kept { IsTrue tells → OnErr result (held self.new ≡ failing 1 (held self.old)) }
         ensures only { IsTrue tells → OnErr result (OnlyAt (held self.old).read (path_of place.entry)
             (world self.old) (world self.new)) };
 
@@ -109,24 +209,29 @@ pub trait Disk {
     fn raw<'a>(&mut self, place: Place<'a>) -> Result<Self::Onto, HostRefusal<'a>>
         requires one { IsTrue tells → (held self.old).output ≡ None }
         ensures empty { IfOk result (λ onto. Self.Onto.written onto ≡ []) }
+        ensures clean { IsTrue tells → IfOk result (λ onto. Self.Onto.write_faults onto ≡ 0) }
         ensures created { IsTrue tells → OnOk result (Creates (path_out place.entry) (held self.old) (held self.new)
             (world self.old) (world self.new)) }
-        ensures kept { IsTrue tells → OnErr result (held self.new ≡ held self.old) }
+        ensures kept { IsTrue tells → OnErr result (held self.new ≡ failing 1 (held self.old)) }
         ensures only { IsTrue tells → OnErr result (OnlyAt (held self.old).read (path_out place.entry)
             (world self.old) (world self.new)) };
 
-    /// Creates or empties the file of an image that has a magic. `-` is standard output.
+    /// Creates or empties the file of an image that has a magic. `-` is standard output. Where it is gathered, a file may
+    /// hold much of what it took until its end, so that is for who waits for nobody meanwhile.
     fn image<'a>(
         &mut self,
         place: Place<'a>,
+        is_gathered: bool,
     ) -> Result<ImageTo<Self::Image, Self::Onto>, HostRefusal<'a>>
         requires one { IsTrue tells → (held self.old).output ≡ None }
         ensures empty { IfOk result (OfImage (λ file. Self.Image.Output.written file ≡ [])
             (λ onto. Self.Onto.written onto ≡ [])) }
+        ensures clean { IsTrue tells → IfOk result (OfImage (λ file. Self.Image.Output.write_faults file ≡ 0)
+            (λ onto. Self.Onto.write_faults onto ≡ 0)) }
         ensures kind { IsTrue tells → IfOk result (λ image. is_file image ≡ is_over (path_out place.entry)) }
         ensures created { IsTrue tells → OnOk result (Creates (path_out place.entry) (held self.old) (held self.new)
             (world self.old) (world self.new)) }
-        ensures kept { IsTrue tells → OnErr result (held self.new ≡ held self.old) }
+        ensures kept { IsTrue tells → OnErr result (held self.new ≡ failing 1 (held self.old)) }
         ensures only { IsTrue tells → OnErr result (OnlyAt (held self.old).read (path_out place.entry)
             (world self.old) (world self.new)) }
         ensures empties { IsTrue tells → OnErr result (EmptiesAt (path_out place.entry) (world self.old)
@@ -137,12 +242,13 @@ pub trait Disk {
     fn finish<'a>(&mut self, onto: Self::Onto, place: Place<'a>) -> Result<bool, HostRefusal<'a>>
         ensures ended { IsTrue tells → OnOk result (Ends (held self.old).output (Self.Onto.written onto)
             (world self.old) (world self.new)) }
-        ensures closed { IsTrue tells → held self.new ≡ ended (is_ok result) (held self.old) }
+        ensures closed { IsTrue tells → held self.new ≡ ended (is_ok result)
+            (unless (is_ok result) + Self.Onto.write_faults onto) (held self.old) }
         ensures rest { IsTrue tells → SparesRest (held self.old).output (world self.old) (world self.new) };
 
     /// Lets the output go that is open, where the work before failed.
     fn give_up(&mut self, onto: Self::Onto)
-        ensures closed { IsTrue tells → held self.new ≡ given_up (held self.old) }
+        ensures closed { IsTrue tells → held self.new ≡ ended false (Self.Onto.write_faults onto) (held self.old) }
         ensures rest { IsTrue tells → SparesRest (held self.old).output (world self.old) (world self.new) };
 
     /// Brings the image that is open to its end, as `finish` does. Where that cannot be done, its file holds all the
@@ -156,7 +262,8 @@ pub trait Disk {
             (world self.old) (world self.new)) }
         ensures left { IsTrue tells → OnErr result (Leaves (held self.old).output (Self.Image.Output.written image)
             (world self.new)) }
-        ensures closed { IsTrue tells → held self.new ≡ ended (is_ok result) (held self.old) }
+        ensures closed { IsTrue tells → held self.new ≡ ended (is_ok result)
+            (unless (is_ok result) + Self.Image.Output.write_faults image) (held self.old) }
         ensures rest { IsTrue tells → SparesRest (held self.old).output (world self.old) (world self.new) };
 
     /// Lets the image go that is open, where the work before failed. Its file holds what was written, or nothing at its
@@ -164,7 +271,8 @@ pub trait Disk {
     fn give_up_image(&mut self, image: Self::Image)
         ensures left { IsTrue tells → Leaves (held self.old).output (Self.Image.Output.written image)
             (world self.new) }
-        ensures closed { IsTrue tells → held self.new ≡ given_up (held self.old) }
+        ensures closed { IsTrue tells → held self.new ≡ ended false (Self.Image.Output.write_faults image)
+            (held self.old) }
         ensures rest { IsTrue tells → SparesRest (held self.old).output (world self.old) (world self.new) };
 
     /// What it opens to be read tells its bytes.
@@ -174,4 +282,7 @@ pub trait Disk {
 
     /// What it opens to be written in place does.
     ghost part_told: { IsTrue tells → IsTrue Self.Part.tells };
+
+    /// And what pieces go through.
+    ghost through_told: { IsTrue tells → IsTrue Self.Through.Input.tells };
 }

@@ -1,7 +1,7 @@
 //! What a call answered, once its output is at its end.
 
-ghost use Rattle.std.specs.Prelude.{◌≡◌, IsTrue, IsOk, IfOk, IfErr, OnOk, Ok, is_ok};
-ghost use Rattle.abt_disk.specs.World.{Ends, SparesRest, ended};
+ghost use Rattle.std.specs.Prelude.{◌≡◌, ◌+◌, IsTrue, IsOk, IfOk, IfErr, OnOk, Ok, is_ok};
+ghost use Rattle.abt_disk.specs.World.{Ends, SparesRest, ended, unended};
 ghost use Rattle.abt_refusals.specs.declared.refusal.HostFault.{HostFault};
 
 use crate::{Disk, Reasons};
@@ -19,7 +19,8 @@ pub fn ended<'a, D: Disk, T: Drop, F: Told + From<HostFault> + Drop>(
     ensures done { IfOk result (λ end. answer ≡ Ok end.0) }
     ensures ended { IsTrue D.tells → OnOk result (Ends (D.held disk.old).output (D.Onto.written onto)
         (D.world disk.old) (D.world disk.new)) }
-    ensures closed { IsTrue D.tells → D.held disk.new ≡ ended (is_ok result) (D.held disk.old) }
+    ensures closed { IsTrue D.tells → D.held disk.new ≡ ended (is_ok result)
+        (unended (is_ok answer) (is_ok result) + D.Onto.write_faults onto) (D.held disk.old) }
     ensures rest { IsTrue D.tells → SparesRest (D.held disk.old).output (D.world disk.old) (D.world disk.new) }
     ensures told { IfErr answer (λ fault. IfErr result (λ refusal. refusal.fault ≡ fault)) }
     ensures host { IsOk answer → IfErr result (λ refusal. (fault : HostFault) × F.from_gives fault refusal.fault) }

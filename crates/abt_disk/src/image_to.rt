@@ -1,6 +1,6 @@
 //! Where an image goes that has a magic.
 
-ghost use Rattle.std.specs.Prelude.{◌≡◌, IfErr};
+ghost use Rattle.std.specs.Prelude.{◌≡◌, ◌<◌, ◌≤◌, IfErr, OnOk, OnErr};
 
 use abt_io::{DeviceFault, Overwrite};
 
@@ -18,5 +18,8 @@ pub trait Late: Overwrite {
     /// Has all written that it took. Where that cannot be done, a write is refused that came before the call at hand.
     fn settle(&mut self) -> Result<(), DeviceFault>
         ensures kept { Self.written self.new ≡ Self.written self.old }
+        ensures faults { Self.write_faults self.old ≤ Self.write_faults self.new }
+        ensures cause { OnErr result (Self.write_faults self.old < Self.write_faults self.new) }
+        ensures clean { OnOk result (Self.write_faults self.new ≡ Self.write_faults self.old) }
         ensures failed { IfErr result (λ e. e ≡ DeviceFault.Failed) };
 }

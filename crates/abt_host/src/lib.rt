@@ -9,29 +9,23 @@
 //! | `identity.rt`, `taken.rt`, `streams.rt` | which file it is; the files that no output may be; where reports go |
 //! | `opening.rt` | one file that is opened: how, and what it has to be |
 //! | `reading.rt`, `writing.rt` | all that is read, and then all that is written |
-//! | `host.rt` | the files of the system as a disk |
 //! | `input_file.rt` | what is read forward: a file or standard input; a file is passed over by its place |
-//! | `watched.rt` | devices whose bytes are counted for the progress line |
 //! | `answering.rt` | the exit status, and what standard error tells |
 #![tactic(auto)]
 
 mod answering;
-mod host;
 mod identity;
 mod input_file;
 mod opening;
 mod reading;
 mod streams;
 mod taken;
-mod watched;
 mod writing;
 
 pub use answering::{DONE, REFUSED, USAGE, answer};
-pub use host::Host;
 pub use identity::{Identity, identity_at};
 pub use input_file::{InputFile, Passing};
 pub use reading::Reading;
 pub use streams::Streams;
 pub use taken::Taken;
-pub use watched::Watched;
 pub use writing::Writing;

@@ -23,7 +23,7 @@ use std::io;
 pub struct Writing {
     pub rt: HostRuntime,
     pub alloc: Global,
-    pub(crate) reading: Reading,
+    pub reading: Reading,
     // Data goes to where standard output goes: then no report does.
     is_data_on_output: bool,
 }
@@ -65,23 +65,10 @@ impl Writing {
         self.buffered(place, sink, found.identity.holds_data)
     }
 
-    /// Creates or empties the file of an image that has a magic. `-` is standard output.
-    pub fn image<'a>(&mut self, place: Place<'a>) -> Result<ImageOutput, HostRefusal<'a>>
-        ensures writes { OnOk result (WritesOne self.old self.new) }
-    {
-        self.image_of(place, false)
-    }
-
-    /// The same. A regular file holds up to 64 KiB of what it took, which are written together where no more have room
-    /// and at its end, so this is for who waits for nobody meanwhile.
-    pub fn gathered_image<'a>(&mut self, place: Place<'a>) -> Result<ImageOutput, HostRefusal<'a>>
-        ensures writes { OnOk result (WritesOne self.old self.new) }
-        ensures blank { IfOk result IsBlank }
-    {
-        self.image_of(place, true)
-    }
-
-    fn image_of<'a>(
+    /// Creates or empties the file of an image that has a magic. `-` is standard output. Where it is gathered, a regular
+    /// file holds up to 64 KiB of what it took, which are written together where no more have room and at its end: that is
+    /// for who waits for nobody meanwhile.
+    pub fn image<'a>(
         &mut self,
         place: Place<'a>,
         is_gathered: bool,
@@ -179,7 +166,9 @@ impl Writing {
     }
 
     /// Whether something is there.
-    pub fn is_there<'a>(&self, place: Place<'a>) -> Result<bool, HostRefusal<'a>> {
+    pub fn is_there<'a>(&self, place: Place<'a>) -> Result<bool, HostRefusal<'a>>
+        ensures { IfErr result (λ refusal. refusal.fault ≡ HostFault.Memory) }
+    {
         match place.path(self.alloc) {
             Ok(path) => Ok(identity_at(self.rt, path.as_str()).is_some()),
             Err(_) => Err(HostRefusal::memory()),

@@ -59,6 +59,7 @@ impl Gathered {
     pub(crate) fn settle(&mut self) -> Result<(), DeviceFault>
         ensures none { OnOk result (IsSettled self.new.writer) }
         ensures kept { given self.new.writer ≡ given self.old.writer }
+        ensures faults { self.new.faults ≡ self.old.faults }
         ensures failed { IfErr result (λ e. e ≡ DeviceFault.Failed) }
     {
         self.writer.get_mut().settle()

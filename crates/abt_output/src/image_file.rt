@@ -7,7 +7,7 @@ ghost use Rattle.abt_output.specs.Given.{given};
 use crate::output_file::{Finished, OutputFile};
 use abt_disk::{Late, Reasons};
 use abt_io::{DeviceFault, Output, Overwrite};
-use abt_refusals::{HostFault, HostRefusal, Place};
+use abt_refusals::{HostRefusal, Place};
 
 /// A regular file that is written from its front on, and over what was written.
 #[derive(Drop)]
@@ -41,10 +41,6 @@ impl ImageFile {
     /// Sends what it took together, where the work before failed.
     pub fn give_up(self) {
         self.output.give_up()
-    }
-
-    pub(crate) fn refused<'a>(&self, place: Place<'a>) -> HostRefusal<'a> {
-        HostRefusal::at(HostFault::Write, place, self.why()).begun(place)
     }
 }
 
@@ -88,7 +84,13 @@ impl Overwrite for ImageFile {
 
 impl Late for ImageFile {
     fn settle(&mut self) -> Result<(), DeviceFault> {
-        self.output.settle()
+        match self.output.settle() {
+            Ok(()) => Ok(()),
+            Err(fault) => {
+                self.output.to.faults.add(1);
+                Err(fault)
+            }
+        }
     }
 }
 

@@ -7,11 +7,10 @@
 //! | `target.rt`, `sink.rt` | where bytes go, with holes for zeros, or held back; all that was given there |
 //! | `gathered.rt` | small writes that go out together |
 //! | `output_file.rt`, `image_file.rt` | an output, and one that has a magic, brought to their end |
-//! | `ending.rt` | what a call answered, once its output is at its end |
 //! | `progress.rt`, `report.rt` | how far a command is, and what it prints |
+//! | `watched.rt` | devices whose bytes are counted for the progress line |
 #![tactic(auto)]
 
-mod ending;
 mod gathered;
 mod image_file;
 mod output_file;
@@ -19,11 +18,12 @@ mod progress;
 mod report;
 mod sink;
 mod target;
+mod watched;
 
-pub use ending::{ended, ended_file, ended_front};
 pub use gathered::Gathered;
 pub use image_file::ImageFile;
-pub use output_file::{Finished, ImageOutput, OutputFile, finish_front};
+pub use output_file::{Finished, ImageOutput, OutputFile};
 pub use progress::Progress;
 pub use report::Report;
 pub use sink::Sink;
+pub use watched::Watched;

@@ -3,13 +3,12 @@
 ghost use Rattle.std.specs.Prelude.{◌≡◌, [], false, IfErr, IfOk, OnOk};
 ghost use Rattle.abt_output.specs.Given.{given, IsSettled};
 ghost use Rattle.abt_io.specs.Frame.{nothing_logged};
-ghost use Rattle.abt_io.specs.Over.{with_front};
 
 use crate::gathered::Gathered;
 use crate::image_file::ImageFile;
 use crate::sink::Sink;
 use abt_disk::Reasons;
-use abt_io::{DeviceFault, FilePartition, FrontLast, Log, Meter, Output};
+use abt_io::{DeviceFault, FilePartition, FrontLast, Log, Output};
 use abt_refusals::{HostFault, HostRefusal, Place};
 use std::alloc::Global;
 use std::io::BufWriter;
@@ -83,6 +82,7 @@ impl OutputFile {
     pub fn settle(&mut self) -> Result<(), DeviceFault>
         ensures none { OnOk result (IsSettled self.new.to.writer) }
         ensures kept { given self.new.to.writer ≡ given self.old.to.writer }
+        ensures faults { self.new.to.faults ≡ self.old.to.faults }
         ensures failed { IfErr result (λ e. e ≡ DeviceFault.Failed) }
     {
         self.to.settle()
@@ -141,24 +141,4 @@ pub enum ImageOutput {
     File(FrontLast<ImageFile>),
     /// A pipe, a device or standard output, which is written from its front on.
     Stream(OutputFile),
-}
-
-/// Brings an image to its end: its magic is laid.
-pub fn finish_front<'a>(
-    image: FrontLast<ImageFile>,
-    place: Place<'a>,
-    m: &mut Meter,
-) -> Result<Finished, HostRefusal<'a>>
-    ensures { IfOk result (λ finished. finished.sent.state.bytes ≡
-        with_front image.front image.kept (given image.output.output.to.writer)) }
-{
-    let mut image = image;
-    match image.finish(m) {
-        Ok(()) => image.output.finish(place),
-        Err(_) => {
-            let refused = image.output.refused(place);
-            image.output.give_up();
-            Err(refused)
-        }
-    }
 }

@@ -4,7 +4,6 @@ ghost use Rattle.std.specs.Prelude.{OnOk, IfSome};
 ghost use Rattle.std.specs.Fmt.{with_newline};
 ghost use Rattle.abt_output.specs.Shows.{Shows};
 
-use crate::output_file::Finished;
 use crate::progress::Progress;
 use crate::sink::Sink;
 use abt_io::{DeviceFault, ToWrite};
@@ -33,17 +32,7 @@ impl Report {
         }
     }
 
-    /// Prints a line of an output that is at its end: to standard output, or to standard error where data goes to
-    /// standard output.
-    pub fn line_of<'a, D: fmt::Display + Drop>(
-        &mut self,
-        output: Finished,
-        line: D,
-    ) -> Result<(), HostRefusal<'a>> {
-        self.line_beside(output.is_data_on_output(), line)
-    }
-
-    /// The same, where it is known whether data goes to where standard output goes.
+    /// Prints a line: to standard output, or to standard error where data goes to where standard output goes.
     pub fn line_beside<'a, D: fmt::Display + Drop>(
         &mut self,
         is_data_on_output: bool,

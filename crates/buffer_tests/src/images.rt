@@ -91,8 +91,8 @@ fn a_gathered_image_has_the_bytes_of_one_that_is_not(rt: HostRuntime) {
         let mut writing = writing(rt);
         let alone = Place::new("OUT", "alone.tmp");
         let together = Place::new("OUT", "together.tmp");
-        let one = writing.image(alone).ok();
-        let other = writing.gathered_image(together).ok();
+        let one = writing.image(alone, false).ok();
+        let other = writing.image(together, true).ok();
         let mut one = file(one.expect(&rt, "opens")).expect(&rt, "is a file");
         let mut other = file(other.expect(&rt, "opens")).expect(&rt, "is a file");
         let text = text.as_slice();

@@ -10,11 +10,14 @@
 //! | `sources.rt` | a source that is read ahead, and a `FileSource` |
 //! | `spools.rt` | a spool that gathers, and a `FileSpool` |
 //! | `images.rt` | the file of an image that is gathered, and one that is not |
+//! | `host_sources.rt` | what the program's disk opens plainly, and ahead |
 //! | `broken_off.rt` | what both leave of a file that can be no longer |
 #![tactic(auto)]
 
 #[cfg(test)]
 mod broken_off;
+#[cfg(test)]
+mod host_sources;
 #[cfg(test)]
 mod images;
 #[cfg(test)]

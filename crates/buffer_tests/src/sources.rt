@@ -1,8 +1,9 @@
 //! A source that is read ahead gives what a `FileSource` gives.
 
 use crate::made::{Random, bytes, part};
-use abt_buffers::{AheadFile, AheadSource};
+use abt_buffers::AheadSource;
 use abt_io::{DeviceFault, FileSource, Source};
+use std::alloc::Global;
 use std::fs;
 use std::fs::{File, OpenOptions};
 
@@ -29,6 +30,11 @@ fn answered<S: Source>(
     source.read_at(at, &mut out[..ask])
 }
 
+/// The same file, read ahead.
+fn ahead(alloc: Global, source: FileSource) -> Option<AheadSource> {
+    AheadSource::new(alloc, source).ok()
+}
+
 /// Where the next read is: behind the last one mostly, a little before or behind that, at a place read before, or
 /// anywhere, also behind the end.
 fn place(random: &mut Random, behind: u64, before: u64, size: u64) -> u64 {
@@ -50,8 +56,7 @@ fn a_source_that_is_read_ahead_gives_what_a_file_gives(rt: HostRuntime) {
         let other = File::open(&rt, "ahead.tmp").expect(&rt, "opens");
         let mut one = FileSource::new(one).expect(&rt, "has a length");
         let other = FileSource::new(other).expect(&rt, "has a length");
-        let other = AheadFile::new(other);
-        let mut other = AheadSource::new(rt.alloc(), &other);
+        let mut other = ahead(rt.alloc(), other).expect(&rt, "there is memory");
         assert!(rt; one.length() == *size as u64);
         assert!(rt; other.length() == *size as u64);
         let mut random = Random::new(seed as u64);
@@ -80,8 +85,8 @@ fn a_source_that_is_read_ahead_gives_what_a_file_gives(rt: HostRuntime) {
 #[test]
 fn a_source_without_a_file_gives_nothing(rt: HostRuntime) {
     let mut out = [0; MOST];
-    let file = AheadFile::new(FileSource::empty());
-    let mut source = AheadSource::new(rt.alloc(), &file);
+    let source = ahead(rt.alloc(), FileSource::empty());
+    let mut source = source.expect(&rt, "there is memory");
     assert!(rt; source.length() == 0);
     assert!(rt; answered(&mut source, 0, 12, &mut out) == Ok(0));
 }
@@ -96,8 +101,8 @@ fn a_read_that_fails_is_told(rt: HostRuntime) {
         size: 100_000,
         ..FileSource::empty()
     };
-    let file = AheadFile::new(source);
-    let mut source = AheadSource::new(rt.alloc(), &file);
+    let source = ahead(rt.alloc(), source);
+    let mut source = source.expect(&rt, "there is memory");
     assert!(rt; answered(&mut source, 0, 12, &mut out) == Err(DeviceFault::Failed));
     assert!(rt; answered(&mut source, 0, 12, &mut out) == Err(DeviceFault::Failed));
     assert!(rt; answered(&mut source, 0, 300, &mut out) == Err(DeviceFault::Failed));
@@ -114,8 +119,11 @@ fn a_file_that_got_shorter_is_told(rt: HostRuntime) {
         .open(&rt, "short.tmp")
         .expect(&rt, "opens");
     let read = File::open(&rt, "short.tmp").expect(&rt, "opens");
-    let from = AheadFile::new(FileSource::new(read).expect(&rt, "has a length"));
-    let mut source = AheadSource::new(rt.alloc(), &from);
+    let source = ahead(
+        rt.alloc(),
+        FileSource::new(read).expect(&rt, "has a length"),
+    );
+    let mut source = source.expect(&rt, "there is memory");
     assert!(rt; source.shorter() == None);
     assert!(rt; answered(&mut source, 100, 12, &mut out) == Ok(12));
     assert!(rt; answered(&mut source, 112, 12, &mut out) == Ok(12));
@@ -128,4 +136,28 @@ fn a_file_that_got_shorter_is_told(rt: HostRuntime) {
     assert!(rt; source.shorter() == None);
     assert!(rt; answered(&mut source, 112, 12, &mut out) == Ok(11));
     assert!(rt; source.shorter() == None);
+}
+
+/// What rests holds nothing any more, and is shorter than nothing that it gave before.
+#[test]
+fn a_source_that_rests_is_as_it_began(rt: HostRuntime) {
+    let mut out = [0; MOST];
+    fs::write(&rt, "rest.tmp", "of before").expect(&rt, "is written");
+    let read = File::open(&rt, "rest.tmp").expect(&rt, "opens");
+    let source = ahead(
+        rt.alloc(),
+        FileSource::new(read).expect(&rt, "has a length"),
+    );
+    let mut source = source.expect(&rt, "there is memory");
+    assert!(rt; answered(&mut source, 0, 2, &mut out) == Ok(2));
+    fs::write(&rt, "rest.tmp", "after").expect(&rt, "is written");
+    assert!(rt; answered(&mut source, 0, 2, &mut out) == Ok(2));
+    assert!(rt; part(&out, 0, 2) == b"of".as_slice());
+    fs::write(&rt, "rest.tmp", "").expect(&rt, "is written");
+    assert!(rt; source.shorter() == Some(0));
+    source.rest();
+    assert!(rt; source.shorter() == None);
+    fs::write(&rt, "rest.tmp", "after").expect(&rt, "is written");
+    assert!(rt; answered(&mut source, 0, 2, &mut out) == Ok(2));
+    assert!(rt; part(&out, 0, 2) == b"af".as_slice());
 }

@@ -1,7 +1,7 @@
 //! A spool that gathers takes and gives what a `FileSpool` does, and has the same in its file once it is read or settled.
 
 use crate::made::{Random, bytes, part};
-use abt_buffers::{AheadFile, AheadSource, GatheringSpool};
+use abt_buffers::{AheadSource, GatheringSpool};
 use abt_io::{DeviceFault, FileSource, FileSpool, Input, Output, Overwrite, Source, Spool, WINDOW};
 use std::alloc::{Alloc, Global};
 use std::fs;
@@ -72,17 +72,11 @@ fn laid_over<S: Spool + Overwrite>(
 }
 
 /// A spool over a file that is empty, which may keep its pages.
-fn gathering<'a>(
-    alloc: Global,
-    file: File,
-    capacity: usize,
-    from: &'a AheadFile,
-    is_keeping: bool,
-) -> GatheringSpool<'a> {
+fn gathering(alloc: Global, file: File, capacity: usize, is_keeping: bool) -> GatheringSpool {
     if is_keeping {
-        GatheringSpool::keeping(alloc, file, capacity as u64, from, 0)
+        GatheringSpool::keeping(alloc, file, capacity as u64, None, 0)
     } else {
-        GatheringSpool::new(alloc, file, capacity as u64, from)
+        GatheringSpool::new(alloc, file, capacity as u64, None)
     }
 }
 
@@ -91,10 +85,9 @@ fn a_spool_that_gathers_does_what_a_file_does(rt: HostRuntime) {
     let text = bytes(rt.alloc(), 100_000);
     for (seed, capacity) in CAPACITIES.iter().chain(CAPACITIES.iter()).enumerate() {
         let mut one = FileSpool::new(opened(&rt, "one.tmp"), *capacity as u64);
-        let from = AheadFile::new(FileSource::empty());
         let file = opened(&rt, "other.tmp");
         let is_keeping = seed >= CAPACITIES.len();
-        let mut other = gathering(rt.alloc(), file, *capacity, &from, is_keeping);
+        let mut other = gathering(rt.alloc(), file, *capacity, is_keeping);
         let mut random = Random::new(seed as u64);
         let mut want = bytes(rt.alloc(), WINDOW);
         let mut have = bytes(rt.alloc(), WINDOW);
@@ -141,8 +134,7 @@ fn a_spool_that_gathers_does_what_a_file_does(rt: HostRuntime) {
 #[test]
 fn a_spool_that_gathers_is_written_late(rt: HostRuntime) {
     let mut out = [0u8; 3];
-    let from = AheadFile::new(FileSource::empty());
-    let mut spool = GatheringSpool::new(rt.alloc(), opened(&rt, "late.tmp"), 65_536, &from);
+    let mut spool = GatheringSpool::new(rt.alloc(), opened(&rt, "late.tmp"), 65_536, None);
     fs::write(&rt, "abc.tmp", "abc").expect(&rt, "is written");
     fs::write(&rt, "empty.tmp", "").expect(&rt, "is written");
     assert!(rt; called(&mut spool, 0, b"abc", &mut []) == Ok(3));
@@ -152,7 +144,7 @@ fn a_spool_that_gathers_is_written_late(rt: HostRuntime) {
     assert!(rt; same(&rt, "late.tmp", "abc.tmp"));
     let many = bytes(rt.alloc(), 16_384);
     fs::write(&rt, "many.tmp", many.as_slice()).expect(&rt, "is written");
-    let mut spool = GatheringSpool::new(rt.alloc(), opened(&rt, "late.tmp"), 65_536, &from);
+    let mut spool = GatheringSpool::new(rt.alloc(), opened(&rt, "late.tmp"), 65_536, None);
     assert!(rt; called(&mut spool, 0, many.as_slice(), &mut []) == Ok(16_384));
     assert!(rt; same(&rt, "late.tmp", "many.tmp"));
 }
@@ -161,8 +153,7 @@ fn a_spool_that_gathers_is_written_late(rt: HostRuntime) {
 /// clear nowhere.
 #[test]
 fn what_a_spool_holds_is_laid_over(rt: HostRuntime) {
-    let from = AheadFile::new(FileSource::empty());
-    let mut spool = GatheringSpool::new(rt.alloc(), opened(&rt, "late.tmp"), 65_536, &from);
+    let mut spool = GatheringSpool::new(rt.alloc(), opened(&rt, "late.tmp"), 65_536, None);
     fs::write(&rt, "empty.tmp", "").expect(&rt, "is written");
     fs::write(&rt, "laid.tmp", "ABCD..yz").expect(&rt, "is written");
     assert!(rt; called(&mut spool, 0, b"........", &mut []) == Ok(8));
@@ -181,14 +172,13 @@ fn what_a_spool_holds_is_laid_over(rt: HostRuntime) {
 #[test]
 fn a_spool_keeps_its_pages_until_its_magic_is_laid(rt: HostRuntime) {
     let mut out = [0u8; 8];
-    let from = AheadFile::new(FileSource::empty());
     fs::write(&rt, "kept.tmp", "of before").expect(&rt, "is written");
     fs::write(&rt, "blank.tmp", "\0\0\0\0efore").expect(&rt, "is written");
     fs::write(&rt, "laid.tmp", "ABCD..yz").expect(&rt, "is written");
     fs::write(&rt, "cleared.tmp", "\0\0\0\0..yz").expect(&rt, "is written");
     fs::write(&rt, "few.tmp", "..").expect(&rt, "is written");
     let file = opened_as_it_is(&rt, "kept.tmp");
-    let mut spool = GatheringSpool::keeping(rt.alloc(), file, 65_536, &from, 9);
+    let mut spool = GatheringSpool::keeping(rt.alloc(), file, 65_536, None, 9);
     assert!(rt; called(&mut spool, 9, b"", &mut []) == Ok(0));
     assert!(rt; called(&mut spool, 0, b"........", &mut []) == Ok(8));
     assert!(rt; same(&rt, "kept.tmp", "blank.tmp"));
@@ -205,11 +195,10 @@ fn a_spool_keeps_its_pages_until_its_magic_is_laid(rt: HostRuntime) {
 /// What such a spool took is all of its file once it is settled, also where that is nothing.
 #[test]
 fn a_spool_that_is_settled_has_nothing_of_before(rt: HostRuntime) {
-    let from = AheadFile::new(FileSource::empty());
     fs::write(&rt, "kept.tmp", "of before").expect(&rt, "is written");
     fs::write(&rt, "empty.tmp", "").expect(&rt, "is written");
     let file = opened_as_it_is(&rt, "kept.tmp");
-    let mut spool = GatheringSpool::keeping(rt.alloc(), file, 65_536, &from, 9);
+    let mut spool = GatheringSpool::keeping(rt.alloc(), file, 65_536, None, 9);
     assert!(rt; spool.settle() == Ok(()));
     assert!(rt; same(&rt, "kept.tmp", "empty.tmp"));
 }
@@ -219,10 +208,9 @@ fn a_spool_that_is_settled_has_nothing_of_before(rt: HostRuntime) {
 #[test]
 fn a_gathered_write_that_fails_is_told_later(rt: HostRuntime) {
     let mut out = [0u8; 2];
-    let from = AheadFile::new(FileSource::empty());
     fs::write(&rt, "unwritten.tmp", "....").expect(&rt, "is written");
     let file = File::open(&rt, "unwritten.tmp").expect(&rt, "opens");
-    let mut spool = GatheringSpool::new(rt.alloc(), file, 65_536, &from);
+    let mut spool = GatheringSpool::new(rt.alloc(), file, 65_536, None);
     assert!(rt; called(&mut spool, 0, b"ab", &mut []) == Ok(2));
     assert!(rt; called(&mut spool, 6, b"", &mut out) == Err(DeviceFault::Failed));
     assert!(rt; spool.settle() == Err(DeviceFault::Failed));
@@ -241,9 +229,12 @@ fn a_spool_is_not_read_where_its_source_got_shorter(rt: HostRuntime) {
     fs::write(&rt, "from.tmp", bytes(rt.alloc(), 9000).as_slice()).expect(&rt, "is written");
     let file = opened_as_it_is(&rt, "from.tmp");
     let read = File::open(&rt, "from.tmp").expect(&rt, "opens");
-    let from = AheadFile::new(FileSource::new(read).expect(&rt, "has a length"));
-    let mut source = AheadSource::new(rt.alloc(), &from);
-    let mut spool = GatheringSpool::new(rt.alloc(), opened(&rt, "through.tmp"), 65_536, &from);
+    let from = FileSource::new(read).expect(&rt, "has a length");
+    let source = AheadSource::new(rt.alloc(), from);
+    let mut source = source.ok().expect(&rt, "there is memory");
+    let from = source.shared().ok();
+    let mut spool = GatheringSpool::new(rt.alloc(), opened(&rt, "through.tmp"), 65_536, from);
+    assert!(rt; !spool.is_from_short());
     assert!(rt; called(&mut spool, 9, b"", &mut []) == Ok(0));
     assert!(rt; source.read_at(100, &mut out) == Ok(12));
     assert!(rt; called(&mut spool, 0, &out, &mut []) == Ok(12));

@@ -1,5 +1,0 @@
-use Rattle.abt_disk.proofs.Files.{only_at}
-use Rattle.abt_disk.proofs.memory.MemoryDiskDisk.raw.Goals as goal
-
-pub returns-in-Err-clause-only : goal.returns-in-Err-clause-only
-returns-in-Err-clause-only c = λ _. only_at _ _ _ _ _ c.in-Ok.ensures c.in-Err.ensures.only

@@ -1,0 +1,11 @@
+-- A source that is opened plainly, or read ahead.
+use Rattle.std.specs.Prelude.{ℕ}
+use Rattle.abt_io.specs.declared.files.FileSource.{FileSource}
+use Rattle.abt_buffers.specs.declared.ahead.AheadSource.{AheadSource}
+use Rattle.host_disk.specs.declared.source.HostSource.{HostSource}
+use Rattle.host_disk.specs.declared.source.HostSource.TheVariants.{Plain, Ahead}
+
+-- a count of the one or of the other
+abbrev pub number_of : (FileSource → ℕ) → (AheadSource → ℕ) → HostSource → ℕ
+number_of plain ahead (Plain source) = plain source
+number_of plain ahead (Ahead source) = ahead source

@@ -1,0 +1,111 @@
+//! What a disk in memory opens to be written over.
+
+ghost use Rattle.std.specs.Prelude.{◌≡◌, ◌≤◌, ◌+◌, false, length};
+ghost use Rattle.abt_disk.specs.Images.{HasNoFront};
+ghost use Rattle.abt_io.specs.Moment.{put_at};
+
+use crate::{Countdown, Failures};
+use abt_disk::{Late, Reasons};
+use abt_io::{DeviceFault, Output, Overwrite, Tally};
+
+/// Bytes that were written, and that can be written over. A write fails where there is no memory for it.
+#[derive(Drop)]
+pub struct MemoryImage {
+    pub bytes: Vec<u8>,
+    pub calls: Tally,
+    pub failed: Failures,
+    faults: Countdown,
+}
+
+impl MemoryImage {
+    /// These bytes, where a write may fail.
+    pub fn new(bytes: Vec<u8>, faults: Countdown) -> MemoryImage
+        ensures bytes { result.bytes ≡ bytes }
+        ensures clean { result.failed.tally.number ≡ 0 }
+    {
+        MemoryImage {
+            bytes,
+            calls: Tally::new(),
+            failed: Failures::none(),
+            faults,
+        }
+    }
+}
+
+impl Output for MemoryImage {
+    ghost written = { λ o. o.bytes.items };
+
+    ghost is_full = { λ _. false };
+
+    ghost writes = { λ o. o.calls.number };
+
+    ghost write_faults = { λ o. o.failed.tally.number };
+
+    ghost full_faults = { λ _. 0 };
+
+    fn write(&mut self, bytes: &[u8]) -> Result<usize, DeviceFault> {
+        self.calls.add(1);
+        if self.faults.is_over() {
+            self.failed.add();
+            return Err(DeviceFault::Failed);
+        }
+        match self.bytes.extend_from_slice(bytes) {
+            Ok(()) => Ok(bytes.len()),
+            Err(_) => {
+                self.failed.add();
+                Err(DeviceFault::Failed)
+            }
+        }
+    }
+}
+
+impl Overwrite for MemoryImage {
+    fn position(&self) -> u64 {
+        self.bytes.len() as u64
+    }
+
+    fn write_over(&mut self, at: u64, bytes: &[u8]) -> Result<usize, DeviceFault> {
+        self.calls.add(1);
+        if self.faults.is_over() {
+            self.failed.add();
+            return Err(DeviceFault::Failed);
+        }
+        put_part(self.bytes.as_mut_slice(), at as usize, bytes);
+        Ok(bytes.len())
+    }
+}
+
+impl Late for MemoryImage {
+    fn settle(&mut self) -> Result<(), DeviceFault> {
+        if self.faults.is_over() {
+            self.failed.add();
+            return Err(DeviceFault::Failed);
+        }
+        Ok(())
+    }
+}
+
+impl Reasons for MemoryImage {
+    fn why(&self) -> Option<i32> {
+        None
+    }
+}
+
+// Writes bytes at a place.
+fn put_part(into: &mut [u8], from: usize, bytes: &[u8])
+    requires { from + length bytes.now ≤ length into.old }
+    ensures { into.new ≡ put_at into.old from bytes.now }
+{
+    into[from..from + bytes.len()].copy_from_slice(bytes);
+}
+
+// The same bytes without the first.
+pub(crate) fn torn(bytes: Vec<u8>) -> Vec<u8>
+    ensures { HasNoFront result.items }
+{
+    let mut bytes = bytes;
+    if !bytes.is_empty() {
+        bytes[0] = 0;
+    }
+    bytes
+}

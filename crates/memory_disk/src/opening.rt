@@ -1,0 +1,121 @@
+//! How a disk in memory opens what is read.
+
+ghost use Rattle.std.specs.Prelude.{◌≡◌, string_bytes, IfOk, OnErr};
+ghost use Rattle.abt_refusals.specs.Paths.{path_in, path_of};
+ghost use Rattle.abt_disk.specs.World.{OpensFile};
+ghost use Rattle.memory_disk.specs.Memory.{world_of, held_of};
+
+use crate::{MemoryDisk, MemoryInput, MemorySource};
+use abt_refusals::{HostFault, HostRefusal, Place};
+
+// How long a text may be.
+const TEXT: usize = 1 << 20;
+
+impl MemoryDisk {
+    // Opens what is read forward.
+    pub(crate) fn input_at<'a>(&mut self, place: Place<'a>) -> Result<MemoryInput, HostRefusal<'a>>
+        ensures opened { IfOk result (λ from. OpensFile (world_of self.old) (path_in place.entry) from.bytes.items
+            (held_of self.old) (held_of self.new)) }
+        ensures position { IfOk result (λ from. from.position ≡ 0) }
+        ensures clean { IfOk result (λ from. from.failed.tally.number ≡ 0) }
+        ensures kept { OnErr result (held_of self.new ≡ held_of self.old) }
+        ensures world { world_of self.new ≡ world_of self.old }
+    {
+        if self.faults.calls.is_over() {
+            return Err(HostRefusal::at(HostFault::CannotOpen, place, None));
+        }
+        let Ok(path) = place.path_read(self.alloc) else {
+            return Err(HostRefusal::memory());
+        };
+        let Some(file) = self.file_at(path.as_str()) else {
+            return Err(HostRefusal::at(HostFault::CannotOpen, place, None));
+        };
+        let Ok(bytes) = self.copy_of(file) else {
+            return Err(HostRefusal::memory());
+        };
+        match self.read.push(file) {
+            Ok(()) => Ok(MemoryInput::new(bytes, self.faults.reads)),
+            Err(_) => Err(HostRefusal::memory()),
+        }
+    }
+
+    // Opens what is read at any place.
+    pub(crate) fn source_at<'a>(
+        &mut self,
+        place: Place<'a>,
+    ) -> Result<MemorySource, HostRefusal<'a>>
+        ensures opened { IfOk result (λ at. OpensFile (world_of self.old) (path_of place.entry) at.bytes.items
+            (held_of self.old) (held_of self.new)) }
+        ensures clean { IfOk result (λ at. at.failed.tally.number ≡ 0) }
+        ensures kept { OnErr result (held_of self.new ≡ held_of self.old) }
+        ensures world { world_of self.new ≡ world_of self.old }
+    {
+        if self.faults.calls.is_over() {
+            return Err(HostRefusal::at(HostFault::CannotOpen, place, None));
+        }
+        let Ok(path) = place.path(self.alloc) else {
+            return Err(HostRefusal::memory());
+        };
+        let Some(file) = self.file_at(path.as_str()) else {
+            return Err(HostRefusal::at(HostFault::CannotOpen, place, None));
+        };
+        let Ok(bytes) = self.copy_of(file) else {
+            return Err(HostRefusal::memory());
+        };
+        match self.read.push(file) {
+            Ok(()) => Ok(MemorySource::new(bytes, self.faults.reads)),
+            Err(_) => Err(HostRefusal::memory()),
+        }
+    }
+
+    // What is open, once more.
+    pub(crate) fn again_at<'a>(
+        &mut self,
+        at: &MemorySource,
+        place: Place<'a>,
+    ) -> Result<MemorySource, HostRefusal<'a>>
+        ensures content { IfOk result (λ again. again.bytes.items ≡ at.now.bytes.items) }
+        ensures clean { IfOk result (λ again. again.failed.tally.number ≡ 0) }
+        ensures held { held_of self.new ≡ held_of self.old }
+        ensures world { world_of self.new ≡ world_of self.old }
+    {
+        if self.faults.calls.is_over() {
+            return Err(HostRefusal::at(HostFault::CannotOpen, place, None));
+        }
+        match Vec::from_slice(self.alloc, at.bytes.as_slice()) {
+            Ok(bytes) => Ok(MemorySource::new(bytes, self.faults.reads)),
+            Err(_) => Err(HostRefusal::memory()),
+        }
+    }
+
+    // The text of a file.
+    pub(crate) fn text_at<'a>(&mut self, place: Place<'a>) -> Result<String, HostRefusal<'a>>
+        ensures opened { IfOk result (λ text. OpensFile (world_of self.old) (path_in place.entry) (string_bytes text)
+            (held_of self.old) (held_of self.new)) }
+        ensures kept { OnErr result (held_of self.new ≡ held_of self.old) }
+        ensures world { world_of self.new ≡ world_of self.old }
+    {
+        if self.faults.calls.is_over() {
+            return Err(HostRefusal::at(HostFault::CannotOpen, place, None));
+        }
+        let Ok(path) = place.path_read(self.alloc) else {
+            return Err(HostRefusal::memory());
+        };
+        let Some(file) = self.file_at(path.as_str()) else {
+            return Err(HostRefusal::at(HostFault::CannotOpen, place, None));
+        };
+        let Ok(bytes) = self.copy_of(file) else {
+            return Err(HostRefusal::memory());
+        };
+        if bytes.len() > TEXT {
+            return Err(HostRefusal::at(HostFault::TooLong, place, None));
+        }
+        let Ok(text) = String::from_utf8(bytes) else {
+            return Err(HostRefusal::at(HostFault::NotText, place, None));
+        };
+        match self.read.push(file) {
+            Ok(()) => Ok(text),
+            Err(_) => Err(HostRefusal::memory()),
+        }
+    }
+}
