@@ -1,7 +1,9 @@
 //! What was given for each row of a command's table.
 
-ghost use Rattle.std.specs.Prelude.{◌≡◌, IfOk, IfErr};
+ghost use Rattle.std.specs.Prelude.{◌≡◌, ◌++◌, IfOk, IfErr, OnOk, map, option_map, unwrap_or, nat_lt, Some, None};
+ghost use Rattle.std.specs.Prelude.{if◌then◌else◌};
 ghost use Rattle.abt_values.specs.NumberWord.{IsRead};
+ghost use Rattle.abt_words.specs.Asked.{answer_named, flag_named, number_named, word_named, words_named};
 ghost use Rattle.abt_words.specs.Refused.{TellsNoNumber};
 
 use crate::fault::WordsFault;
@@ -14,8 +16,7 @@ use std::alloc::{AllocError, Global};
 /// A word that was given, or that a row has where none is.
 #[derive(Clone, Copy)]
 pub(crate) struct Answer<'a> {
-    /// The row's name.
-    pub name: &'static str,
+    pub row: &'static Row,
     pub word: &'a str,
     /// The number that the word writes, where the row is one of numbers, else 0.
     pub number: u64,
@@ -29,16 +30,13 @@ impl<'a> Answer<'a> {
         word: &'a str,
         is_verbose: bool,
     ) -> Result<Answer<'a>, WordsFault>
+        ensures row { IfOk result (λ answer. answer.row.now ≡ row.now) }
         ensures word { IfOk result (λ answer. answer.word.now ≡ word.now) }
         ensures number { IfOk result (λ answer. IsRead row.now.value word.now answer.number) }
         ensures refused { IfErr result (TellsNoNumber row.now.value word.now is_verbose) }
     {
         match number_in(row.value, word) {
-            Some(number) => Ok(Answer {
-                name: row.name,
-                word,
-                number,
-            }),
+            Some(number) => Ok(Answer { row, word, number }),
             None => Err(WordsFault::BadNumber {
                 word: String::from_str(alloc, word)?,
                 is_number: number_word(word).is_some(),
@@ -51,7 +49,7 @@ impl<'a> Answer<'a> {
 /// The answers of a command, in the order of its table.
 #[derive(Drop)]
 pub(crate) struct Answers<'a> {
-    all: Vec<Answer<'a>>,
+    pub all: Vec<Answer<'a>>,
     /// Whether a refusal is to have its second line.
     pub is_verbose: bool,
 }
@@ -104,9 +102,11 @@ impl<'a> Answers<'a> {
     }
 
     /// The first answer of this name.
-    pub(crate) fn find(&self, name: &str) -> Option<Answer<'a>> {
+    pub(crate) fn find(&self, name: &str) -> Option<Answer<'a>>
+        ensures { result ≡ answer_named name.now self.now.all.items }
+    {
         for answer in &self.all {
-            if answer.name == name {
+            if answer.row.name == name {
                 return Some(*answer);
             }
         }
@@ -114,22 +114,34 @@ impl<'a> Answers<'a> {
     }
 
     /// The first word of this name.
-    pub(crate) fn word(&self, name: &str) -> Option<&'a str> {
+    pub(crate) fn word(&self, name: &str) -> Option<&'a str>
+        ensures { option_map (λ word. word.now) result ≡ option_map (λ a. a.word.now) (answer_named name.now
+            self.now.all.items) }
+    {
         Some(self.find(name)?.word)
     }
 
     /// The same of a word that a parse always finds.
-    pub(crate) fn given_word(&self, name: &str) -> &'a str {
+    pub(crate) fn given_word(&self, name: &str) -> &'a str
+        ensures { result.now ≡ word_named name.now self.now.all.items }
+    {
         self.word(name).unwrap_or("")
     }
 
     /// The number of this name.
-    pub(crate) fn number(&self, name: &str) -> Option<u32> {
-        u32::try_from(self.find(name)?.number).ok()
+    pub(crate) fn number(&self, name: &str) -> Option<u32>
+        ensures { result ≡ number_named name.now self.now.all.items }
+    {
+        match self.find(name) {
+            Some(answer) => narrow(answer.number),
+            None => None,
+        }
     }
 
     /// The same of a number that a parse always finds.
-    pub(crate) fn given_number(&self, name: &str) -> u32 {
+    pub(crate) fn given_number(&self, name: &str) -> u32
+        ensures { result ≡ unwrap_or (number_named name.now self.now.all.items) 0 }
+    {
         self.number(name).unwrap_or(0)
     }
 
@@ -148,21 +160,30 @@ impl<'a> Answers<'a> {
     }
 
     /// Whether this flag was given.
-    pub(crate) fn flag(&self, name: &str) -> bool {
-        self.word(name) == Some("true")
+    pub(crate) fn flag(&self, name: &str) -> bool
+        ensures { result ≡ flag_named name.now self.now.all.items }
+    {
+        self.given_word(name) == "true"
     }
 
     /// Every word of this name, behind those that are there already.
-    pub(crate) fn push_words(
-        &self,
-        name: &str,
-        words: &mut Vec<&'a str>,
-    ) -> Result<(), AllocError> {
+    pub(crate) fn push_words(&self, name: &str, words: &mut Vec<&'a str>) -> Result<(), AllocError>
+        ensures { OnOk result (map (λ s. s.now) words.new.items ≡ map (λ s. s.now) words.old.items
+            ++ words_named name.now self.now.all.items) }
+    {
         for answer in &self.all {
-            if answer.name == name {
-                words.push(answer.word)?;
+            if answer.row.name != name {
+                continue;
             }
+            words.push(answer.word)?;
         }
         Ok(())
     }
+}
+
+// A number of 32 bits.
+fn narrow(number: u64) -> Option<u32>
+    ensures { result ≡ (if nat_lt number 4294967296 then Some number else None) }
+{
+    u32::try_from(number).ok()
 }

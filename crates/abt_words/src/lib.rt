@@ -9,6 +9,7 @@ mod order;
 mod parser;
 mod reading;
 mod rows;
+mod spelling;
 mod table;
 
 pub use completions::Shell;

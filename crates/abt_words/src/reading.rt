@@ -1,24 +1,37 @@
 //! Reading the words: what the answers to a command's rows ask for.
 
+ghost use Rattle.std.specs.Prelude.{◌≡◌, List, IfOk, map, codes};
+ghost use Rattle.abt_words.specs.Asked.{Asks, AsksBoot, AsksPack, AsksPieces, AsksSparse, flag_named};
+ghost use Rattle.abt_words.specs.Spelled.{AreSpelled};
+ghost use Rattle.abt_words.specs.declared.answers.Answer.{Answer};
+
 use crate::answers::Answers;
 use crate::completions::Shell;
 use crate::fault::WordsFault;
 use crate::order::{BootTask, Given, Order, PackOrder, Pieces, SparseTask, Task};
 use crate::parser::program;
 use crate::rows::{CommandRow, Work};
+use crate::spelling::are_spelled;
 use crate::table::{commands, options};
 use clap::error::ErrorKind;
 use std::alloc::{AllocError, Global};
 use std::convert::AsStr;
 
-/// Reads the words, of which the first is the program's name.
-pub fn order_of<'a, S: AsStr>(alloc: Global, words: &'a [S]) -> Result<Order<'a>, WordsFault> {
+/// Reads the words, of which the first is the program's name. How clap reads them is not trusted: each answer is found
+/// again among the words.
+pub fn order_of<'a, S: AsStr>(alloc: Global, words: &'a [S]) -> Result<Order<'a>, WordsFault>
+    ensures { IfOk result (λ order. (all : List Answer) × AreSpelled (map S.text words.now) all × Asks all order.task ×
+        (order.is_synced ≡ flag_named (codes "sync") all)) }
+{
     let mut found = program(alloc)?.try_get_matches_from(words)?;
     let is_verbose = found.get_flag("verbose");
     let is_quiet = found.get_flag("quiet");
     if let Some((name, found)) = found.remove_subcommand() {
         if let Some(command) = command_named(name) {
             let answers = Answers::new(alloc, command, &found, is_verbose)?;
+            if !are_spelled(alloc, words, answers.all.as_slice())? {
+                return Err(misread(alloc)?);
+            }
             return Ok(Order {
                 command: command.name,
                 task: task_for(alloc, command.work, &answers)?,
@@ -36,6 +49,12 @@ fn no_command(alloc: Global) -> Result<WordsFault, AllocError> {
     Ok(WordsFault::Usage(error))
 }
 
+// The words were read as others: which no parser does that is right.
+fn misread(alloc: Global) -> Result<WordsFault, AllocError> {
+    let error = program(alloc)?.error(ErrorKind::InvalidValue, "the words were read as others")?;
+    Ok(WordsFault::Usage(error))
+}
+
 fn command_named(name: &str) -> Option<&'static CommandRow> {
     for command in commands() {
         if command.name == name {
@@ -45,7 +64,9 @@ fn command_named(name: &str) -> Option<&'static CommandRow> {
     None
 }
 
-fn task_for<'a>(alloc: Global, work: Work, answers: &Answers<'a>) -> Result<Task<'a>, AllocError> {
+fn task_for<'a>(alloc: Global, work: Work, answers: &Answers<'a>) -> Result<Task<'a>, AllocError>
+    ensures { IfOk result (Asks answers.now.all.items) }
+{
     match work {
         Work::Expand => expand(alloc, answers),
         Work::Pack => pack(alloc, answers),
@@ -63,20 +84,26 @@ fn task_for<'a>(alloc: Global, work: Work, answers: &Answers<'a>) -> Result<Task
 
 // ---- sparse images
 
-fn expand<'a>(alloc: Global, answers: &Answers<'a>) -> Result<Task<'a>, AllocError> {
+fn expand<'a>(alloc: Global, answers: &Answers<'a>) -> Result<Task<'a>, AllocError>
+    ensures { IfOk result (Asks answers.now.all.items) }
+{
     let mut inputs = Vec::new(alloc);
     answers.push_words("IN", &mut inputs)?;
     let output = answers.given_word("OUT");
     Ok(Task::Sparse(SparseTask::Expand { inputs, output }))
 }
 
-fn list<'a>(answers: &Answers<'a>) -> SparseTask<'a> {
+fn list<'a>(answers: &Answers<'a>) -> SparseTask<'a>
+    ensures { AsksSparse answers.now.all.items result }
+{
     SparseTask::List {
         input: answers.given_word("IN"),
     }
 }
 
-fn make_sparse<'a>(answers: &Answers<'a>) -> SparseTask<'a> {
+fn make_sparse<'a>(answers: &Answers<'a>) -> SparseTask<'a>
+    ensures { AsksSparse answers.now.all.items result }
+{
     SparseTask::Sparse {
         input: answers.given_word("IN"),
         output: answers.given_word("OUT"),
@@ -84,7 +111,9 @@ fn make_sparse<'a>(answers: &Answers<'a>) -> SparseTask<'a> {
     }
 }
 
-fn cut<'a>(answers: &Answers<'a>) -> SparseTask<'a> {
+fn cut<'a>(answers: &Answers<'a>) -> SparseTask<'a>
+    ensures { AsksSparse answers.now.all.items result }
+{
     SparseTask::Cut {
         input: answers.given_word("IN"),
         limit: answers.given_number("LIMIT"),
@@ -93,7 +122,9 @@ fn cut<'a>(answers: &Answers<'a>) -> SparseTask<'a> {
     }
 }
 
-fn flash<'a>(answers: &Answers<'a>) -> SparseTask<'a> {
+fn flash<'a>(answers: &Answers<'a>) -> SparseTask<'a>
+    ensures { AsksSparse answers.now.all.items result }
+{
     SparseTask::Flash {
         input: answers.given_word("IN"),
         partition: answers.given_word("PARTITION"),
@@ -102,7 +133,9 @@ fn flash<'a>(answers: &Answers<'a>) -> SparseTask<'a> {
     }
 }
 
-fn pieces_for<'a>(answers: &Answers<'a>) -> Option<Pieces<'a>> {
+fn pieces_for<'a>(answers: &Answers<'a>) -> Option<Pieces<'a>>
+    ensures { AsksPieces answers.now.all.items result }
+{
     let spool = answers.word("SPOOL")?;
     Some(Pieces {
         limit: answers.given_number("LIMIT"),
@@ -111,7 +144,9 @@ fn pieces_for<'a>(answers: &Answers<'a>) -> Option<Pieces<'a>> {
     })
 }
 
-fn verify<'a>(answers: &Answers<'a>) -> SparseTask<'a> {
+fn verify<'a>(answers: &Answers<'a>) -> SparseTask<'a>
+    ensures { AsksSparse answers.now.all.items result }
+{
     SparseTask::Verify {
         input: answers.given_word("IN"),
         partition: answers.given_word("PARTITION"),
@@ -121,18 +156,24 @@ fn verify<'a>(answers: &Answers<'a>) -> SparseTask<'a> {
 
 // ---- boot images
 
-fn pack<'a>(alloc: Global, answers: &Answers<'a>) -> Result<Task<'a>, AllocError> {
+fn pack<'a>(alloc: Global, answers: &Answers<'a>) -> Result<Task<'a>, AllocError>
+    ensures { IfOk result (Asks answers.now.all.items) }
+{
     let order = pack_order(alloc, answers)?;
     Ok(Task::Boot(BootTask::Pack(order)))
 }
 
-fn repack<'a>(alloc: Global, answers: &Answers<'a>) -> Result<Task<'a>, AllocError> {
+fn repack<'a>(alloc: Global, answers: &Answers<'a>) -> Result<Task<'a>, AllocError>
+    ensures { IfOk result (Asks answers.now.all.items) }
+{
     let input = answers.given_word("IN");
     let order = pack_order(alloc, answers)?;
     Ok(Task::Boot(BootTask::Repack { input, order }))
 }
 
-fn unpack<'a>(answers: &Answers<'a>) -> BootTask<'a> {
+fn unpack<'a>(answers: &Answers<'a>) -> BootTask<'a>
+    ensures { AsksBoot answers.now.all.items result }
+{
     BootTask::Unpack {
         input: answers.given_word("IN"),
         folder: answers.given_word("DIR"),
@@ -140,7 +181,9 @@ fn unpack<'a>(answers: &Answers<'a>) -> BootTask<'a> {
     }
 }
 
-fn info<'a>(answers: &Answers<'a>) -> BootTask<'a> {
+fn info<'a>(answers: &Answers<'a>) -> BootTask<'a>
+    ensures { AsksBoot answers.now.all.items result }
+{
     BootTask::Info {
         input: answers.given_word("IN"),
         with_check: answers.flag("check"),
@@ -148,7 +191,9 @@ fn info<'a>(answers: &Answers<'a>) -> BootTask<'a> {
     }
 }
 
-fn pack_order<'a>(alloc: Global, answers: &Answers<'a>) -> Result<PackOrder<'a>, AllocError> {
+fn pack_order<'a>(alloc: Global, answers: &Answers<'a>) -> Result<PackOrder<'a>, AllocError>
+    ensures { IfOk result (AsksPack answers.now.all.items) }
+{
     let mut board_ids = Vec::new(alloc);
     answers.push_words("board-id", &mut board_ids)?;
     let mut fragments = Vec::new(alloc);

@@ -1,0 +1,94 @@
+-- What the answers to the rows of a command's table ask for.
+use Rattle.std.specs.Prelude.{◌≡◌, ℕ, ◌++◌, List, [], Bool, false, Option, Some, None, map, codes, bytes_eq, is_some}
+use Rattle.std.specs.Prelude.{unwrap_or}
+use Rattle.std.specs.Prelude.{if◌then◌else◌, nat_lt}
+use Rattle.std.specs.List.{filter, find}
+use Rattle.abt_words.specs.declared.answers.Answer.{Answer}
+use Rattle.abt_words.specs.declared.order.Order.{Order}
+use Rattle.abt_words.specs.declared.order.Task.{Task}
+use Rattle.abt_words.specs.declared.order.Task.TheVariants as tasks
+use Rattle.abt_words.specs.declared.order.SparseTask.{SparseTask}
+use Rattle.abt_words.specs.declared.order.SparseTask.TheVariants as sparse
+use Rattle.abt_words.specs.declared.order.BootTask.{BootTask}
+use Rattle.abt_words.specs.declared.order.BootTask.TheVariants as boot
+use Rattle.abt_words.specs.declared.order.Pieces.{Pieces}
+use Rattle.abt_words.specs.declared.order.PackOrder.{PackOrder}
+
+-- whether it answers the row of this name
+abbrev pub is_named : List ℕ → Answer → Bool
+is_named name a = bytes_eq a.row.now.name.now name
+
+-- its word, and its number where that has 32 bits
+abbrev pub answer_word : Option Answer → List ℕ
+answer_word None = []
+answer_word (Some a) = a.word.now
+
+abbrev pub narrow_number : Option Answer → Option ℕ
+narrow_number None = None
+narrow_number (Some a) = if nat_lt a.number 4294967296 then Some a.number else None
+
+-- the first answer of this name, its word and its number
+abbrev pub answer_named : List ℕ → List Answer → Option Answer
+answer_named name all = find (is_named name) all
+
+abbrev pub word_named : List ℕ → List Answer → List ℕ
+word_named name all = answer_word (answer_named name all)
+
+abbrev pub number_named : List ℕ → List Answer → Option ℕ
+number_named name all = narrow_number (answer_named name all)
+
+-- whether the flag of this name was given
+abbrev pub flag_named : List ℕ → List Answer → Bool
+flag_named name all = bytes_eq (word_named name all) (codes "true")
+
+-- the words of all answers of this name, in order
+abbrev pub words_named : List ℕ → List Answer → List (List ℕ)
+words_named name all = map (λ a. a.word.now) (filter (is_named name) all)
+
+-- ---- what they ask for
+
+-- LIMIT, SPOOL and --from; without SPOOL the image is flashed whole
+abbrev pub AsksPieces : List Answer → Option Pieces → Type 0
+AsksPieces all None = is_some (answer_named (codes "SPOOL") all) ≡ false
+AsksPieces all (Some p) = (p.limit ≡ unwrap_or (number_named (codes "LIMIT") all) 0)
+    × (p.spool.now ≡ word_named (codes "SPOOL") all) × (p.from ≡ unwrap_or (number_named (codes "from") all) 1)
+
+abbrev pub AsksSparse : List Answer → SparseTask → Type 0
+AsksSparse all (sparse.Expand inputs output) = (map (λ s. s.now) inputs.items ≡ words_named (codes "IN") all)
+    × (output.now ≡ word_named (codes "OUT") all)
+AsksSparse all (sparse.List input) = input.now ≡ word_named (codes "IN") all
+AsksSparse all (sparse.Sparse input output block) = (input.now ≡ word_named (codes "IN") all)
+    × (output.now ≡ word_named (codes "OUT") all) × (block ≡ unwrap_or (number_named (codes "block") all) 0)
+AsksSparse all (sparse.Cut input limit prefix raw) = (input.now ≡ word_named (codes "IN") all)
+    × (limit ≡ unwrap_or (number_named (codes "LIMIT") all) 0) × (prefix.now ≡ word_named (codes "PREFIX") all)
+    × (raw ≡ number_named (codes "raw") all)
+AsksSparse all (sparse.Flash input partition raw pieces) = (input.now ≡ word_named (codes "IN") all)
+    × (partition.now ≡ word_named (codes "PARTITION") all) × (raw ≡ number_named (codes "raw") all)
+    × AsksPieces all pieces
+AsksSparse all (sparse.Verify input partition raw) = (input.now ≡ word_named (codes "IN") all)
+    × (partition.now ≡ word_named (codes "PARTITION") all) × (raw ≡ number_named (codes "raw") all)
+
+-- OUT, the kind and the version, and the ramdisk fragments: those of --fragment, then those behind OUT
+pub record AsksPack (all : List Answer) (order : PackOrder) : Type 0 where
+  pub output : order.output.now ≡ word_named (codes "OUT") all
+  pub vendor : order.is_vendor ≡ flag_named (codes "vendor") all
+  pub version : order.version ≡ unwrap_or (number_named (codes "version") all) 0
+  pub page : order.page ≡ number_named (codes "page") all
+  pub board_ids : map (λ s. s.now) order.board_ids.items ≡ words_named (codes "board-id") all
+  pub fragments : map (λ s. s.now) order.fragments.items
+      ≡ words_named (codes "fragment") all ++ words_named (codes "FRAGMENT") all
+  pub trailing : order.keeps_trailing ≡ flag_named (codes "keep-trailing") all
+  pub escaped : order.is_escaped ≡ flag_named (codes "escaped") all
+
+abbrev pub AsksBoot : List Answer → BootTask → Type 0
+AsksBoot all (boot.Pack order) = AsksPack all order
+AsksBoot all (boot.Repack input order) = (input.now ≡ word_named (codes "IN") all) × AsksPack all order
+AsksBoot all (boot.Unpack input folder with_words) = (input.now ≡ word_named (codes "IN") all)
+    × (folder.now ≡ word_named (codes "DIR") all) × (with_words ≡ flag_named (codes "words") all)
+AsksBoot all (boot.Info input with_check with_hex) = (input.now ≡ word_named (codes "IN") all)
+    × (with_check ≡ flag_named (codes "check") all) × (with_hex ≡ flag_named (codes "hex") all)
+
+abbrev pub Asks : List Answer → Task → Type 0
+Asks all (tasks.Sparse task) = AsksSparse all task
+Asks all (tasks.Boot task) = AsksBoot all task
+Asks all (tasks.Completions shell) = Unit {0}

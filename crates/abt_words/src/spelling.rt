@@ -1,0 +1,162 @@
+//! Whether the answers stand among the words, so that nothing rests on how these were read.
+
+ghost use Rattle.std.specs.Prelude.{◌≡◌, [], ◌∷◌, IfOk, IfSome, IsTrue, Contains, ◌++◌, codes, drop, map};
+ghost use Rattle.std.specs.List.{All};
+ghost use Rattle.abt_values.specs.NumberWord.{IsRead};
+ghost use Rattle.abt_words.specs.Spelled.{AreSpelled, IsSaid, SaysValue, Stands, is_word, left_of, placed_words};
+ghost use Rattle.abt_words.specs.Spelled.{struck};
+
+use crate::answers::Answer;
+use abt_values::{Place, number_in};
+use std::alloc::{AllocError, Global};
+use std::convert::AsStr;
+
+/// Whether each of these answers stands among the words, and its number is the one that its word writes.
+pub(crate) fn are_spelled<S: AsStr>(
+    alloc: Global,
+    words: &[S],
+    answers: &[Answer<'_>],
+) -> Result<bool, AllocError>
+    ensures { IfOk result (λ are. IsTrue are → AreSpelled (map S.text words.now) answers.now) }
+{
+    let placed = placed_in(alloc, answers)?;
+    Ok(are_in_turn(words, placed.as_slice()) && stand(words, answers))
+}
+
+// The words that answer rows by their place.
+fn placed_in<'a>(alloc: Global, answers: &[Answer<'a>]) -> Result<Vec<&'a str>, AllocError>
+    ensures { IfOk result (λ placed. map (λ s. s.now) placed.items ≡ placed_words answers.now) }
+{
+    let mut placed = Vec::new(alloc);
+    for answer in answers {
+        if !is_placed(answer.row.place) {
+            continue;
+        }
+        placed.push(answer.word)?;
+    }
+    Ok(placed)
+}
+
+fn is_placed(place: Place) -> bool
+    ensures { result ≡ is_word place }
+{
+    match place {
+        Place::Word | Place::Words | Place::LastWords => true,
+        Place::Option | Place::Options | Place::Flag | Place::ShortFlag(_) => false,
+    }
+}
+
+// Whether these stand among the words in turn.
+fn are_in_turn<S: AsStr>(words: &[S], placed: &[&str]) -> bool
+    ensures { IsTrue result → left_of (map (λ s. s.now) placed.now) (map S.text words.now) ≡ [] }
+{
+    let mut left = placed;
+    for word in words {
+        left = behind(left, word.as_str());
+    }
+    left.is_empty()
+}
+
+// These, without the first where it is this word.
+fn behind<'b, 'a>(left: &'b [&'a str], word: &str) -> &'b [&'a str]
+    ensures { map (λ s. s.now) result.now ≡ struck (map (λ s. s.now) left.now) word.now }
+{
+    if !left.is_empty() && left[0] == word {
+        &left[1..]
+    } else {
+        left
+    }
+}
+
+// Whether each of these stands there.
+fn stand<S: AsStr>(words: &[S], answers: &[Answer<'_>]) -> bool
+    ensures { IsTrue result → All (Stands (map S.text words.now)) answers.now }
+{
+    for answer in answers {
+        if !is_said(words, answer) || !is_read(answer) {
+            return false;
+        }
+    }
+    true
+}
+
+// Whether its number is the one that its word writes.
+fn is_read(answer: &Answer<'_>) -> bool
+    ensures { IsTrue result → IsRead answer.now.row.now.value answer.now.word.now answer.now.number }
+{
+    number_in(answer.row.value, answer.word) == Some(answer.number)
+}
+
+// Whether an option or a flag is said.
+fn is_said<S: AsStr>(words: &[S], answer: &Answer<'_>) -> bool
+    ensures { IsTrue result → IsSaid (map S.text words.now) answer.now }
+{
+    let row = answer.row;
+    match row.place {
+        Place::Word | Place::Words | Place::LastWords | Place::ShortFlag(_) => true,
+        Place::Option | Place::Options => {
+            row.default == Some(answer.word) || says_value(words, row.name, answer.word)
+        }
+        Place::Flag => answer.word != "true" || says_flag(words, row.name),
+    }
+}
+
+// Whether an option has this value.
+fn says_value<S: AsStr>(words: &[S], name: &str, value: &str) -> bool
+    ensures { IsTrue result → SaysValue name.now value.now (map S.text words.now) }
+{
+    for i in 0..words.len() {
+        if says_value_at(words, i, name, value) {
+            return true;
+        }
+    }
+    false
+}
+
+// Whether it has it by the word at a place.
+fn says_value_at<S: AsStr>(words: &[S], at: usize, name: &str, value: &str) -> bool
+    ensures { IsTrue result → SaysValue name.now value.now (drop at (map S.text words.now)) }
+{
+    if at >= words.len() {
+        return false;
+    }
+    let Some(rest) = behind_name(words[at].as_str(), name) else {
+        return false;
+    };
+    if let Some(said) = value_in(rest) {
+        return said == value;
+    }
+    if rest != "" {
+        return false;
+    }
+    if at + 1 >= words.len() {
+        return false;
+    }
+    words[at + 1].as_str() == value
+}
+
+// What stands behind the `=` in `=VALUE`.
+fn value_in<'a>(rest: &'a str) -> Option<&'a str>
+    ensures { IfSome result (λ said. rest.now ≡ 61 ∷ said.now) }
+{
+    rest.strip_prefix("=")
+}
+
+// Whether this flag is one of the words.
+fn says_flag<S: AsStr>(words: &[S], name: &str) -> bool
+    ensures { IsTrue result → Contains (map S.text words.now) (codes "--" ++ name.now) }
+{
+    for word in words {
+        if behind_name(word.as_str(), name) == Some("") {
+            return true;
+        }
+    }
+    false
+}
+
+// What stands behind `--NAME` in a word.
+fn behind_name<'a>(word: &'a str, name: &str) -> Option<&'a str>
+    ensures { IfSome result (λ rest. word.now ≡ (codes "--" ++ (name.now ++ rest.now))) }
+{
+    word.strip_prefix("--")?.strip_prefix(name)
+}
