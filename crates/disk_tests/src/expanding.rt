@@ -1,12 +1,12 @@
 //! The command `expand`.
 
 use crate::made::{Listed, disk, holds};
-use abt_disk::{Countdown, Faults, MemoryDisk};
 use abt_io::{Meter, Window};
 use abt_output::Report;
 use abt_refusals::{HostFault, Place};
 use abt_sparse::SparseFault;
-use sparse_bodies::expand_in_memory;
+use memory_disk::{Countdown, Faults, MemoryDisk};
+use sparse_bodies::expand_one;
 use sparse_rules::SparseCommandFault;
 use test_data::vectors::THREE_KINDS;
 
@@ -28,7 +28,7 @@ fn expanded(
     let output = Place::new("OUT", output);
     let mut w = Window::new();
     let mut m = Meter::new();
-    let answer = expand_in_memory(&mut disk, &mut report, input, output, &mut w, &mut m);
+    let answer = expand_one(&mut disk, &mut report, input, output, &mut w, &mut m);
     let answer = match answer {
         Ok(()) => Ok(()),
         Err(refusal) => Err(refusal.fault),

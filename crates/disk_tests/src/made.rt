@@ -1,10 +1,10 @@
 //! A disk of some paths and files, and what it holds.
 
 ghost use Rattle.std.specs.Prelude.{◌≡◌, IfSome, None};
-ghost use Rattle.abt_disk.specs.Memory.{held_of};
+ghost use Rattle.memory_disk.specs.Memory.{held_of};
 ghost use Rattle.abt_disk.specs.World.{IsReading};
 
-use abt_disk::{Faults, MemoryDisk, MemoryFile, MemoryPath};
+use memory_disk::{Faults, MemoryDisk, MemoryFile, MemoryPath};
 use std::alloc::Global;
 
 /// A path, and the number of the file that it leads to.
@@ -20,6 +20,7 @@ pub(crate) fn disk(
 ) -> Option<MemoryDisk>
     ensures reading { IfSome result (λ disk. IsReading (held_of disk)) }
     ensures part { IfSome result (λ disk. (held_of disk).part ≡ None) }
+    ensures spool { IfSome result (λ disk. (held_of disk).spool ≡ None) }
 {
     let mut listed = Vec::new(alloc);
     for (name, file) in paths {

@@ -1,16 +1,16 @@
 //! `sparse` over a disk in memory: once as it should go, with each call failing once, and where two paths are one file.
 
 ghost use Rattle.std.specs.Prelude.{IfSome};
-ghost use Rattle.abt_disk.specs.Memory.{held_of};
+ghost use Rattle.memory_disk.specs.Memory.{held_of};
 ghost use Rattle.abt_disk.specs.World.{IsReading};
 
 use crate::made;
 use crate::made::{Listed, holds};
-use abt_disk::{Countdown, Faults, MemoryDisk};
 use abt_io::{Meter, Window};
 use abt_output::Report;
 use abt_refusals::Place;
-use image_bodies::sparse_in_memory;
+use image_bodies::sparse_file;
+use memory_disk::{Countdown, Faults, MemoryDisk};
 use std::alloc::Global;
 
 // Three blocks of 8 bytes: two of words that are equal, and one of others.
@@ -52,7 +52,7 @@ fn run(rt: HostRuntime, disk: &mut MemoryDisk, output: &str, block: u32) -> bool
     let mut m = Meter::new();
     let input = Place::new("IN", "in");
     let output = Place::new("OUT", output);
-    sparse_in_memory(disk, &mut report, input, output, block, w, &mut m).is_ok()
+    sparse_file(disk, &mut report, input, output, block, w, &mut m).is_ok()
 }
 
 #[test]

@@ -1,3 +1,8 @@
+pub mod Causes
+pub mod Closed
+pub mod Crossing
+pub mod Deliveries
+pub mod Ended
 pub mod Laid
 pub mod Listings
 pub mod Refusals

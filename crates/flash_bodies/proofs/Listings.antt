@@ -4,6 +4,7 @@ use Rattle.std.specs.Prelude.{Option, Some, None, Result, Ok, Err, OnOk, IfErr, 
 use Rattle.abt_io.specs.Bytes.{AreBytes}
 use Rattle.abt_sparse.specs.declared.fault.SparseFault.{SparseFault}
 use Rattle.abt_sparse.specs.declared.fault.SparseFault.TheVariants.{Magic}
+use Rattle.abt_sparse.specs.declared.fault.SparseFault.TheVariants as of_sparse
 use Rattle.abt_sparse.specs.Chunk.{Header, Chunk}
 use Rattle.abt_sparse.specs.Fails.{Fails, IsOutcome, Spells, no_image, bad_header, cut_header, bad_chunk, too_few}
 use Rattle.abt_sparse.specs.Reading.{Outcome, Image, Fault, outcome}
@@ -13,8 +14,9 @@ use Rattle.abt_chunks.specs.Listing.{Listing, infos, listing_of}
 use Rattle.abt_chunks.specs.Expanding.{UnlessDevice}
 use Rattle.abt_chunks.proofs.Finishing.{unless_map}
 use Rattle.abt_chunks.proofs.ListingLaws.{listings_right}
-use Rattle.sparse_texts.specs.Listed.{Listed, Refuses, chunk_line, header_line}
+use Rattle.sparse_texts.specs.Listed.{Listed, ReadTold, Refuses, WriteTold, chunk_line, header_line}
 use Rattle.flash_bodies.specs.Listing.{IsListed, IsUnlisted}
+use Rattle.flash_bodies.proofs.Causes.{unlisted_for}
 
 -- an image and its listing
 pub record ListedAs (x rest : List ℕ) (header : Header) (shown : List ChunkInfo) : Type 0 where
@@ -89,9 +91,14 @@ listed_whole (Ok u) x y P bytes l =
     }
 listed_whole (Err f) x y P bytes l = tt
 
-pub unlisted : {X : Type 0} (r : Result X SparseFault) (x : List ℕ) (P : List ℕ → Type 0) → AreBytes x
-    → IfErr r (λ f. UnlessDevice f (Refuses (listing_of x) f P)) → IfErr r (λ f. IsUnlisted f x)
-unlisted (Ok u) x P bytes h = tt
-unlisted (Err f) x P bytes h =
-    unless_map f (Refuses (listing_of x) f P) ((given : List (Option ℕ)) × Fails x f given)
-    (λ r. fault_listed x f bytes r.ending) h
+pub unlisted : (r : Result (Unit {0}) SparseFault) (x : List ℕ) (n n' w w' : ℕ) (P : List ℕ → Type 0) → AreBytes x
+    → IfErr r (λ f. UnlessDevice f (Refuses (listing_of x) f P)) → ReadTold r n n' → IfErr r (λ f. WriteTold f w w')
+    → IfErr r (λ f. IsUnlisted (n < n') (w < w') f x)
+unlisted (Ok u) x n n' w w' P bytes h read write = tt
+unlisted (Err f) x n n' w w' P bytes h read write =
+    unlisted_for f n n' w w' x (unless_map f (Refuses (listing_of x) f P) ((given : List (Option ℕ)) × Fails x f given)
+    (λ r. fault_listed x f bytes r.ending) h) read write
+
+pub read_clean : (r : Result (Unit {0}) SparseFault) (n n' : ℕ) → ReadTold r n n' → OnOk r (n' ≡ n)
+read_clean (Ok u) n n' told = told
+read_clean (Err f) n n' told = tt

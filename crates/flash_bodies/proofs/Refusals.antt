@@ -1,77 +1,194 @@
 -- A fault that a call answered is one that the command may be refused for.
-use Rattle.std.proofs.Common.{◌≡◌, ℕ, List, sym, subst}
-use Rattle.std.specs.Prelude.{Result, Ok, Err, OnOk}
-use Rattle.abt_disk.specs.World.{World}
-use Rattle.flash_bodies.specs.Files.{Between, OfBoth}
-use Rattle.flash_bodies.specs.Flashing.{IsFlashed, IsUnflashed, Lays, RefusesFlash}
-use Rattle.flash_bodies.specs.FlashingRaw.{IsFlashedRaw, IsUnflashedRaw, LaysRaw, RefusesFlashRaw}
+use Rattle.std.proofs.Common.{◌≡◌, ◌<◌, ◌⊎◌, inl, inr, ℕ, List, sym, subst}
+use Rattle.std.specs.Prelude.{Result, Ok, Err, OnOk, IfErr, IsErrAnd}
+use Rattle.abt_refusals.specs.declared.refusal.HostFault.{HostFault}
+use Rattle.abt_disk.specs.World.{World, Held, HasFailed}
+use Rattle.abt_flash.specs.declared.fault.FlashFault.{FlashFault}
+use Rattle.abt_flash.specs.declared.fault.FlashFault.TheVariants as flashes
+use Rattle.abt_runs.specs.declared.part.RunFault.{RunFault}
+use Rattle.abt_runs.specs.declared.part.RunFault.TheVariants as of_runs
+use Rattle.abt_verify.specs.declared.fault.VerifyFault.{VerifyFault}
+use Rattle.abt_verify.specs.declared.fault.VerifyFault.TheVariants as verifies
+use Rattle.abt_sparse.specs.declared.fault.SparseFault.{SparseFault}
+use Rattle.abt_sparse.specs.declared.fault.SparseFault.TheVariants as of_sparse
+use Rattle.flash_bodies.specs.Files.{Between, OfBoth, OfFile}
+use Rattle.flash_bodies.specs.Listing.{IsUnlisted, RefusesList}
+use Rattle.flash_bodies.specs.Flashing.{FlashesUntold, IsFlashed, IsUnflashed, Lays, RefusesFlash}
+use Rattle.flash_bodies.specs.FlashingRaw.{FlashesRawUntold, IsFlashedRaw, IsUnflashedRaw, IsUnlaid, IsUnopened, LaysRaw, RefusesFlashRaw}
 use Rattle.flash_bodies.specs.Verifying.{Finds, FindsRaw, IsNotThere, IsNotThereRaw, RefusesVerify, RefusesVerifyRaw}
 use Rattle.sparse_rules.specs.declared.fault.SparseCommandFault.{SparseCommandFault}
 use Rattle.sparse_rules.specs.declared.fault.SparseCommandFault.TheVariants as faults
 
-flash_own : (f : SparseCommandFault) (input path x p p' : List ℕ) (a c : World)
-    → ((P : List ℕ → List ℕ → List ℕ → Type 0) → P x p p' → Between input path a c P) → Lays (Err f) x p p'
-    → RefusesFlash f input path a c
-flash_own (faults.Flash f) input path x p p' a c with_files lays = with_files (IsUnflashed f) lays
-flash_own (faults.Sparse f) input path x p p' a c with_files lays = absurd lays
-flash_own (faults.Run f) input path x p p' a c with_files lays = absurd lays
-flash_own (faults.Piece f) input path x p p' a c with_files lays = absurd lays
-flash_own (faults.Verify f) input path x p p' a c with_files lays = absurd lays
-flash_own (faults.OtherBlocks image) input path x p p' a c with_files lays = absurd lays
-flash_own (faults.Host f) input path x p p' a c with_files lays = absurd lays
+-- ---- of a device: where that its count rose says that something has failed
 
-pub refuses_flash : (answer : Result ℕ SparseCommandFault) (f : SparseCommandFault) (input path x p p' : List ℕ) (a c : World)
-    → answer ≡ Err f → ((P : List ℕ → List ℕ → List ℕ → Type 0) → P x p p' → Between input path a c P)
-    → Lays answer x p p' → RefusesFlash f input path a c
-refuses_flash answer f input path x p p' a c is with_files lays =
-    flash_own f input path x p p' a c with_files (subst (λ r. Lays r x p p') is lays)
+unflashed_for : (f : FlashFault) (F G : Type 0) (x p p' : List ℕ) → (F → G) → IsUnflashed F f x p p' → IsUnflashed G f x p p'
+unflashed_for (flashes.Sparse f) F G x p p' go is = is
+unflashed_for (flashes.PartitionTooSmall n) F G x p p' go is = is
+unflashed_for (flashes.Read d) F G x p p' go is = go is
+unflashed_for (flashes.Write d) F G x p p' go is = go is
+unflashed_for (flashes.Sync d) F G x p p' go is = go is
+unflashed_for flashes.TooLarge F G x p p' go is = absurd is
+unflashed_for flashes.SourceChanged F G x p p' go is = absurd is
+unflashed_for (flashes.BadBlock n) F G x p p' go is = absurd is
+unflashed_for (flashes.LimitTooSmall n) F G x p p' go is = absurd is
+unflashed_for (flashes.Stopped n c) F G x p p' go is = absurd is
+unflashed_for (flashes.NoSuchPiece n) F G x p p' go is = absurd is
 
-raw_own : (f : SparseCommandFault) (b : ℕ) (input path x p p' : List ℕ) (a c : World)
-    → ((P : List ℕ → List ℕ → List ℕ → Type 0) → P x p p' → Between input path a c P) → LaysRaw (Err f) b x p p'
-    → RefusesFlashRaw f b input path a c
-raw_own (faults.Flash f) b input path x p p' a c with_files lays = with_files (IsUnflashedRaw (faults.Flash f) b) lays
-raw_own (faults.Run f) b input path x p p' a c with_files lays = with_files (IsUnflashedRaw (faults.Run f) b) lays
-raw_own (faults.Sparse f) b input path x p p' a c with_files lays = absurd lays
-raw_own (faults.Piece f) b input path x p p' a c with_files lays = absurd lays
-raw_own (faults.Verify f) b input path x p p' a c with_files lays = absurd lays
-raw_own (faults.OtherBlocks image) b input path x p p' a c with_files lays = absurd lays
-raw_own (faults.Host f) b input path x p p' a c with_files lays = absurd lays
+unlaid_for : (f : FlashFault) (F G : Type 0) (b : ℕ) (x p p' : List ℕ) → (F → G) → IsUnlaid F f b x p p' → IsUnlaid G f b x p p'
+unlaid_for (flashes.Sparse f) F G b x p p' go is = absurd is
+unlaid_for (flashes.PartitionTooSmall n) F G b x p p' go is = is
+unlaid_for (flashes.Read d) F G b x p p' go is = absurd is
+unlaid_for (flashes.Write d) F G b x p p' go is = go is
+unlaid_for (flashes.Sync d) F G b x p p' go is = go is
+unlaid_for flashes.TooLarge F G b x p p' go is = absurd is
+unlaid_for flashes.SourceChanged F G b x p p' go is = absurd is
+unlaid_for (flashes.BadBlock n) F G b x p p' go is = absurd is
+unlaid_for (flashes.LimitTooSmall n) F G b x p p' go is = absurd is
+unlaid_for (flashes.Stopped n c) F G b x p p' go is = absurd is
+unlaid_for (flashes.NoSuchPiece n) F G b x p p' go is = absurd is
 
-pub refuses_raw : (answer : Result ℕ SparseCommandFault) (f : SparseCommandFault) (b : ℕ) (input path x p p' : List ℕ)
-    (a c : World) → answer ≡ Err f → ((P : List ℕ → List ℕ → List ℕ → Type 0) → P x p p' → Between input path a c P)
-    → LaysRaw answer b x p p' → RefusesFlashRaw f b input path a c
-refuses_raw answer f b input path x p p' a c is with_files lays =
-    raw_own f b input path x p p' a c with_files (subst (λ r. LaysRaw r b x p p') is lays)
+unopened_for : (f : RunFault) (F G : Type 0) (b : ℕ) (x p p' : List ℕ) → (F → G) → IsUnopened F f b x p p'
+    → IsUnopened G f b x p p'
+unopened_for (of_runs.Read d) F G b x p p' go is = go is
+unopened_for (of_runs.Sparse f) F G b x p p' go is = is
+unopened_for of_runs.TooLarge F G b x p p' go is = is
+unopened_for of_runs.SourceChanged F G b x p p' go is = is
+unopened_for (of_runs.BadBlock n) F G b x p p' go is = is
 
-pub refuses_verify : (f : SparseCommandFault) (input path x p : List ℕ) (a : World)
-    → ((P : List ℕ → List ℕ → Type 0) → P x p → OfBoth input path a P) → Finds (Err f) x p → RefusesVerify f input path a
-refuses_verify (faults.Verify f) input path x p a with_files finds = with_files (IsNotThere f) finds
-refuses_verify (faults.Flash f) input path x p a with_files finds = absurd finds
-refuses_verify (faults.Sparse f) input path x p a with_files finds = absurd finds
-refuses_verify (faults.Run f) input path x p a with_files finds = absurd finds
-refuses_verify (faults.Piece f) input path x p a with_files finds = absurd finds
-refuses_verify (faults.OtherBlocks image) input path x p a with_files finds = absurd finds
-refuses_verify (faults.Host f) input path x p a with_files finds = absurd finds
+not_there_for : (f : VerifyFault) (F G : Type 0) (x p : List ℕ) → (F → G) → IsNotThere F f x p → IsNotThere G f x p
+not_there_for (verifies.Sparse f) F G x p go is = is
+not_there_for (verifies.Differs n) F G x p go is = is
+not_there_for (verifies.Read d) F G x p go is = go is
+not_there_for (verifies.PartitionRead d) F G x p go is = go is
+not_there_for verifies.SourceChanged F G x p go is = absurd is
+not_there_for (verifies.BadBlock n) F G x p go is = absurd is
 
-pub refuses_verify_raw : (f : SparseCommandFault) (b : ℕ) (input path x p : List ℕ) (a : World)
-    → ((P : List ℕ → List ℕ → Type 0) → P x p → OfBoth input path a P) → FindsRaw (Err f) b x p
-    → RefusesVerifyRaw f b input path a
-refuses_verify_raw (faults.Verify f) b input path x p a with_files finds = with_files (IsNotThereRaw f b) finds
-refuses_verify_raw (faults.Flash f) b input path x p a with_files finds = absurd finds
-refuses_verify_raw (faults.Sparse f) b input path x p a with_files finds = absurd finds
-refuses_verify_raw (faults.Run f) b input path x p a with_files finds = absurd finds
-refuses_verify_raw (faults.Piece f) b input path x p a with_files finds = absurd finds
-refuses_verify_raw (faults.OtherBlocks image) b input path x p a with_files finds = absurd finds
-refuses_verify_raw (faults.Host f) b input path x p a with_files finds = absurd finds
+not_there_raw_for : (f : VerifyFault) (F G : Type 0) (b : ℕ) (x p : List ℕ) → (F → G) → IsNotThereRaw F f b x p
+    → IsNotThereRaw G f b x p
+not_there_raw_for (verifies.Sparse f) F G b x p go is = absurd is
+not_there_raw_for (verifies.Differs n) F G b x p go is = is
+not_there_raw_for (verifies.Read d) F G b x p go is = go is
+not_there_raw_for (verifies.PartitionRead d) F G b x p go is = go is
+not_there_raw_for verifies.SourceChanged F G b x p go is = absurd is
+not_there_raw_for (verifies.BadBlock n) F G b x p go is = is
 
--- what was answered is so
-pub is_flashed : (answer : Result ℕ SparseCommandFault) (n : ℕ) (x p p' : List ℕ) → answer ≡ Ok n → Lays answer x p p'
-    → IsFlashed n x p p'
-is_flashed answer n x p p' is lays = subst (λ r. Lays r x p p') is lays
+-- ---- of a command
 
-pub is_flashed_raw : (answer : Result ℕ SparseCommandFault) (n b : ℕ) (x p p' : List ℕ) → answer ≡ Ok n
-    → LaysRaw answer b x p p' → IsFlashedRaw n b x p p'
-is_flashed_raw answer n b x p p' is lays = subst (λ r. LaysRaw r b x p p') is lays
+flash_own : (f : SparseCommandFault) (F : Type 0) (input path x p p' : List ℕ) (a c : World) (h h' : Held)
+    → (F → HasFailed h h') → ((P : List ℕ → List ℕ → List ℕ → Type 0) → P x p p' → Between input path a c P)
+    → Lays F (Err f) x p p' → RefusesFlash f input path a c h h'
+flash_own (faults.Flash f) F input path x p p' a c h h' go with_files lays =
+    with_files (IsUnflashed (HasFailed h h') f) (unflashed_for f F (HasFailed h h') x p p' go lays)
+flash_own (faults.Sparse f) F input path x p p' a c h h' go with_files lays = absurd lays
+flash_own (faults.Run f) F input path x p p' a c h h' go with_files lays = absurd lays
+flash_own (faults.Piece f) F input path x p p' a c h h' go with_files lays = absurd lays
+flash_own (faults.Verify f) F input path x p p' a c h h' go with_files lays = absurd lays
+flash_own (faults.OtherBlocks image) F input path x p p' a c h h' go with_files lays = absurd lays
+flash_own (faults.Host f) F input path x p p' a c h h' go with_files lays = absurd lays
+
+pub refuses_flash : (answer : Result ℕ SparseCommandFault) (f : SparseCommandFault) (F : Type 0) (input path x p p' : List ℕ)
+    (a c : World) (h h' : Held) → answer ≡ Err f → (F → HasFailed h h')
+    → ((P : List ℕ → List ℕ → List ℕ → Type 0) → P x p p' → Between input path a c P)
+    → Lays F answer x p p' → RefusesFlash f input path a c h h'
+refuses_flash answer f F input path x p p' a c h h' is go with_files lays =
+    flash_own f F input path x p p' a c h h' go with_files (subst (λ r. Lays F r x p p') is lays)
+
+raw_own : (f : SparseCommandFault) (F : Type 0) (b : ℕ) (input path x p p' : List ℕ) (a c : World) (h h' : Held)
+    → (F → HasFailed h h') → ((P : List ℕ → List ℕ → List ℕ → Type 0) → P x p p' → Between input path a c P)
+    → LaysRaw F (Err f) b x p p' → RefusesFlashRaw f b input path a c h h'
+raw_own (faults.Flash f) F b input path x p p' a c h h' go with_files lays =
+    with_files (IsUnflashedRaw (HasFailed h h') (faults.Flash f) b) (unlaid_for f F (HasFailed h h') b x p p' go lays)
+raw_own (faults.Run f) F b input path x p p' a c h h' go with_files lays =
+    with_files (IsUnflashedRaw (HasFailed h h') (faults.Run f) b) (unopened_for f F (HasFailed h h') b x p p' go lays)
+raw_own (faults.Sparse f) F b input path x p p' a c h h' go with_files lays = absurd lays
+raw_own (faults.Piece f) F b input path x p p' a c h h' go with_files lays = absurd lays
+raw_own (faults.Verify f) F b input path x p p' a c h h' go with_files lays = absurd lays
+raw_own (faults.OtherBlocks image) F b input path x p p' a c h h' go with_files lays = absurd lays
+raw_own (faults.Host f) F b input path x p p' a c h h' go with_files lays = absurd lays
+
+pub refuses_raw : (answer : Result ℕ SparseCommandFault) (f : SparseCommandFault) (F : Type 0) (b : ℕ)
+    (input path x p p' : List ℕ) (a c : World) (h h' : Held) → answer ≡ Err f → (F → HasFailed h h')
+    → ((P : List ℕ → List ℕ → List ℕ → Type 0) → P x p p' → Between input path a c P)
+    → LaysRaw F answer b x p p' → RefusesFlashRaw f b input path a c h h'
+refuses_raw answer f F b input path x p p' a c h h' is go with_files lays =
+    raw_own f F b input path x p p' a c h h' go with_files (subst (λ r. LaysRaw F r b x p p') is lays)
+
+pub refuses_verify : (f : SparseCommandFault) (F : Type 0) (input path x p : List ℕ) (a : World) (h h' : Held)
+    → (F → HasFailed h h') → ((P : List ℕ → List ℕ → Type 0) → P x p → OfBoth input path a P)
+    → Finds F (Err f) x p → RefusesVerify f input path a h h'
+refuses_verify (faults.Verify f) F input path x p a h h' go with_files finds =
+    with_files (IsNotThere (HasFailed h h') f) (not_there_for f F (HasFailed h h') x p go finds)
+refuses_verify (faults.Flash f) F input path x p a h h' go with_files finds = absurd finds
+refuses_verify (faults.Sparse f) F input path x p a h h' go with_files finds = absurd finds
+refuses_verify (faults.Run f) F input path x p a h h' go with_files finds = absurd finds
+refuses_verify (faults.Piece f) F input path x p a h h' go with_files finds = absurd finds
+refuses_verify (faults.OtherBlocks image) F input path x p a h h' go with_files finds = absurd finds
+refuses_verify (faults.Host f) F input path x p a h h' go with_files finds = absurd finds
+
+pub refuses_verify_raw : (f : SparseCommandFault) (F : Type 0) (b : ℕ) (input path x p : List ℕ) (a : World) (h h' : Held)
+    → (F → HasFailed h h') → ((P : List ℕ → List ℕ → Type 0) → P x p → OfBoth input path a P)
+    → FindsRaw F (Err f) b x p → RefusesVerifyRaw f b input path a h h'
+refuses_verify_raw (faults.Verify f) F b input path x p a h h' go with_files finds =
+    with_files (IsNotThereRaw (HasFailed h h') f b) (not_there_raw_for f F (HasFailed h h') b x p go finds)
+refuses_verify_raw (faults.Flash f) F b input path x p a h h' go with_files finds = absurd finds
+refuses_verify_raw (faults.Sparse f) F b input path x p a h h' go with_files finds = absurd finds
+refuses_verify_raw (faults.Run f) F b input path x p a h h' go with_files finds = absurd finds
+refuses_verify_raw (faults.Piece f) F b input path x p a h h' go with_files finds = absurd finds
+refuses_verify_raw (faults.OtherBlocks image) F b input path x p a h h' go with_files finds = absurd finds
+refuses_verify_raw (faults.Host f) F b input path x p a h h' go with_files finds = absurd finds
+
+-- the fault of the refusal is the one that the call answered
+pub verify_refusal : (e f : SparseCommandFault) (F : Type 0) (input path x p : List ℕ) (a : World) (h h' : Held) → e ≡ f
+    → (F → HasFailed h h') → ((P : List ℕ → List ℕ → Type 0) → P x p → OfBoth input path a P)
+    → Finds F (Err f) x p → RefusesVerify e input path a h h'
+verify_refusal e f F input path x p a h h' is go with_files finds =
+    subst (λ (z : SparseCommandFault). RefusesVerify z input path a h h') (sym is)
+    (refuses_verify f F input path x p a h h' go with_files finds)
+
+pub verify_raw_refusal : (e f : SparseCommandFault) (F : Type 0) (b : ℕ) (input path x p : List ℕ) (a : World) (h h' : Held)
+    → e ≡ f → (F → HasFailed h h') → ((P : List ℕ → List ℕ → Type 0) → P x p → OfBoth input path a P)
+    → FindsRaw F (Err f) b x p → RefusesVerifyRaw e b input path a h h'
+verify_raw_refusal e f F b input path x p a h h' is go with_files finds =
+    subst (λ (z : SparseCommandFault). RefusesVerifyRaw z b input path a h h') (sym is)
+    (refuses_verify_raw f F b input path x p a h h' go with_files finds)
+
+unlisted_for : (f : SparseFault) (F G W : Type 0) (x : List ℕ) → (F → G) → IsUnlisted F W f x → IsUnlisted G W f x
+unlisted_for (of_sparse.Read d) F G W x go is = go is
+unlisted_for (of_sparse.Write d) F G W x go is = is
+unlisted_for f F G W x go is = is
+
+pub list_refusal : (e : SparseCommandFault) (f : SparseFault) (F W : Type 0) (input x : List ℕ) (a : World) (h h' : Held)
+    → e ≡ faults.Sparse f → (F → HasFailed h h') → ((P : List ℕ → Type 0) → P x → OfFile input a P) → IsUnlisted F W f x
+    → RefusesList e input a h h' W
+list_refusal e f F W input x a h h' is go with_file listed =
+    subst (λ (z : SparseCommandFault). RefusesList z input a h h' W) (sym is)
+    (with_file (IsUnlisted (HasFailed h h') W f) (unlisted_for f F (HasFailed h h') W x go listed))
+
+-- all was done, and then the line was refused
+pub handed_on : {X R : Type 0} (answer : Result X R) (P Q : R → Type 0) → ((r : R) → P r → Q r) → IsErrAnd answer P
+    → IfErr answer Q
+handed_on (Ok x) P Q go is = tt
+handed_on (Err r) P Q go is = go r is
+
+pub flash_untold : (e : SparseCommandFault) (host : HostFault) (input path : List ℕ) (a c : World) (h h' : Held)
+    → e ≡ faults.Host host → FlashesUntold input path a c h h' → RefusesFlash e input path a c h h'
+flash_untold e host input path a c h h' is done =
+    subst (λ (z : SparseCommandFault). RefusesFlash z input path a c h h') (sym is) (inr done)
+
+pub raw_untold : (e : SparseCommandFault) (host : HostFault) (b : ℕ) (input path : List ℕ) (a c : World) (h h' : Held)
+    → e ≡ faults.Host host → FlashesRawUntold b input path a c h h' → RefusesFlashRaw e b input path a c h h'
+raw_untold e host b input path a c h h' is done =
+    subst (λ (z : SparseCommandFault). RefusesFlashRaw z b input path a c h h') (sym is) (inr done)
+
+-- ---- what was answered is so
+
+pub is_flashed : (answer : Result ℕ SparseCommandFault) (n : ℕ) (F : Type 0) (x p p' : List ℕ) → answer ≡ Ok n
+    → Lays F answer x p p' → IsFlashed n x p p'
+is_flashed answer n F x p p' is lays = subst (λ r. Lays F r x p p') is lays
+
+pub is_flashed_raw : (answer : Result ℕ SparseCommandFault) (n b : ℕ) (F : Type 0) (x p p' : List ℕ) → answer ≡ Ok n
+    → LaysRaw F answer b x p p' → IsFlashedRaw n b x p p'
+is_flashed_raw answer n b F x p p' is lays = subst (λ r. LaysRaw F r b x p p') is lays
 
 pub on_ok : (answer : Result ℕ SparseCommandFault) (n : ℕ) (P : Type 0) → answer ≡ Ok n → OnOk answer P → P
 on_ok answer n P is so = subst (λ r. OnOk r P) is so

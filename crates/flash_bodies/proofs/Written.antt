@@ -1,18 +1,19 @@
 -- What opening, flashing and closing leave together.
-use Rattle.std.proofs.Common.{◌≡◌, ◌≢◌, ℕ, ◌+◌, List, [], ◌∷◌, ◌++◌, Bool, true, false, length, Some, refl, sym, ◌∙◌, ap, subst}
+use Rattle.std.proofs.Common.{◌≡◌, ◌≢◌, ℕ, ◌+◌, ◌<◌, arith, List, [], ◌∷◌, ◌++◌, Bool, true, false, length, Option, Some, refl, sym, ◌∙◌, ap, subst}
 use Rattle.std.specs.Prelude.{Result, Ok, Err, if◌then◌else◌}
 use Rattle.abt_io.specs.Moment.{Past, no_past}
 use Rattle.abt_disk.specs.InPlace.{OpensPart, IsAsLong, SparesOthers, closed_part, in_place, is_settled, is_settled_in}
-use Rattle.abt_disk.specs.World.{World, Held, Spares, OpensFile, Ends, KeepsFile, reading}
+use Rattle.abt_disk.specs.World.{World, Held, HasFailed, HasNotFailed, Spares, OpensFile, Ends, KeepsFile, failing, reading}
 use Rattle.abt_disk.proofs.Closings.{ends_in, apart_from, others_spared, keeps_read}
 use Rattle.flash_bodies.specs.Files.{Between, OfBoth, OfFile}
 
 -- a partition is handed back as long as it was
-pub as_long : (path p p' : List ℕ) (a b : World) (h h' : Held) → OpensPart a path p h h' → b ≡ a → length p' ≡ length p
-    → IsAsLong h'.part p' b
-as_long path p p' a b h h' o same long =
-    subst (λ (g : Held). IsAsLong g.part p' b) (sym o.taken)
-    (long ∙ ap length o.held ∙ ap (λ (w : World). length (w.holds o.file)) (sym same))
+pub as_long : (path p p' : List ℕ) (a b c : World) (h h' h'' : Held) (n : ℕ) → OpensPart a path p h h' → b ≡ a
+    → h'' ≡ failing n h' → c ≡ b → length p' ≡ length p → IsAsLong h''.part p' c
+as_long path p p' a b c h h' h'' n o same gone same' long =
+    subst (λ (q : Option ℕ). IsAsLong q p' c) (sym (ap (λ (k : Held). k.part) gone))
+    (subst (λ (g : Held). IsAsLong g.part p' c) (sym o.taken)
+    (long ∙ ap length o.held ∙ ap (λ (w : World). length (w.holds o.file)) (sym (same' ∙ same))))
 
 -- one sync, behind the last byte
 pub settled_once : (past past' : Past) → past ≡ no_past → past'.synced ≡ past.synced + 1 → past'.pending ≡ []
@@ -21,13 +22,7 @@ settled_once past past' fresh one empty =
     ap (λ (l : List (ℕ × ℕ)). is_settled_in l past'.synced) empty
     ∙ ap (is_settled_in []) (one ∙ ap (λ (q : Past). q.synced + 1) fresh)
 
--- one sync more, of a file that was opened, and closed
-pub synced_once : (input path x p : List ℕ) (a b : World) (h0 h h' h'' : Held) (past : Past) → OpensFile a input x h0 h
-    → OpensPart b path p h h' → h'' ≡ closed_part past h' → is_settled past ≡ true → h''.syncs ≡ h0.syncs + 1
-synced_once input path x p a b h0 h h' h'' past r o c settled =
-    ap (λ (k : Held). k.syncs) c ∙ ap (λ (t : Bool). h'.syncs + (if t then 1 else 0)) settled
-    ∙ ap (λ (k : Held). k.syncs + 1) o.taken ∙ ap (λ (k : Held). k.syncs + 1) r.taken
-
+-- the files that were read and written
 pub between : (input path x p p' : List ℕ) (a a' b c : World) (h0 h h' : Held) (P : List ℕ → List ℕ → List ℕ → Type 0)
     → OpensFile a input x h0 h → a' ≡ a → OpensPart a' path p h h' → b ≡ a' → Ends h'.part p' b c → P x p p'
     → Between input path a c P
@@ -76,3 +71,90 @@ pub input_kept : (input path x p p' : List ℕ) (a a' b c : World) (h0 h h' : He
 input_kept input path x p p' a a' b c h0 h h' r same o same' ends =
     keeps_read input path x p p' a c h0 h h' r (subst (λ (w : World). OpensPart w path p h h') same o)
     (subst (λ (w : World). Ends h'.part p' w c) (same' ∙ same) ends)
+
+-- ---- an input was opened, and a partition; the one was let go, and the other closed
+
+pub record Ran (input path x p p' : List ℕ) (old new : World) (h h' : Held) (faults : ℕ) (past : Past) : Type 1 where
+  pub with_files : (P : List ℕ → List ℕ → List ℕ → Type 0) → P x p p' → Between input path old new P
+  pub others : SparesOthers path old new
+  pub kept : KeepsFile input old new
+  pub failed : h'.failed ≡ h.failed + faults
+  pub synced : is_settled past ≡ true → h'.syncs ≡ h.syncs + 1
+
+synced_more : (h h' h'' h3 h4 : Held) (f g n k : ℕ) (past : Past) → h' ≡ reading f h → h'' ≡ in_place g h' → h3 ≡ failing n h''
+    → h4 ≡ closed_part past k h3 → is_settled past ≡ true → h4.syncs ≡ h.syncs + 1
+synced_more h h' h'' h3 h4 f g n k past r o l c settled =
+    ap (λ (q : Held). q.syncs) c ∙ ap (λ (t : Bool). h3.syncs + (if t then 1 else 0)) settled
+    ∙ ap (λ (q : Held). q.syncs + 1) l ∙ ap (λ (q : Held). q.syncs + 1) o ∙ ap (λ (q : Held). q.syncs + 1) r
+
+failed_more : (h h' h'' h3 h4 : Held) (f g n k : ℕ) (past : Past) → h' ≡ reading f h → h'' ≡ in_place g h' → h3 ≡ failing n h''
+    → h4 ≡ closed_part past k h3 → h4.failed ≡ h.failed + (n + k)
+failed_more h h' h'' h3 h4 f g n k past r o l c =
+    let one : h'.failed ≡ h.failed = ap (λ (q : Held). q.failed) r in
+    let two : h''.failed ≡ h'.failed = ap (λ (q : Held). q.failed) o in
+    let three : h3.failed ≡ h''.failed + n = ap (λ (q : Held). q.failed) l in
+    let four : h4.failed ≡ h3.failed + k = ap (λ (q : Held). q.failed) c in
+    omega (arith, one, two, three, four)
+
+pub ran : (input path x p p' : List ℕ) (a a' a'' b c : World) (h0 h h' h3 h4 : Held) (n k : ℕ) (past : Past)
+    → OpensFile a input x h0 h → a' ≡ a → OpensPart a' path p h h' → a'' ≡ a' → h3 ≡ failing n h' → b ≡ a''
+    → Ends h3.part p' b c → c.at ≡ b.at → h4 ≡ closed_part past k h3 → Ran input path x p p' a c h0 h4 (n + k) past
+ran input path x p p' a a' a'' b c h0 h h' h3 h4 n k past r same o same' l same'' ends paths closed =
+    let ended : Ends h'.part p' b c = subst (λ (q : Option ℕ). Ends q p' b c) (ap (λ (q : Held). q.part) l) ends in
+    record {
+      with_files = λ P so. between input path x p p' a a' b c h0 h h' P r same o (same'' ∙ same') ended so;
+      others = others_written path p p' a a' b c h h' same o (same'' ∙ same') ended paths;
+      kept = input_kept input path x p p' a a' b c h0 h h' r same o (same'' ∙ same') ended;
+      failed = failed_more h0 h h' h3 h4 r.file o.file n k past r.taken o.taken l closed;
+      synced = λ settled. synced_more h0 h h' h3 h4 r.file o.file n k past r.taken o.taken l closed settled;
+    }
+
+-- so many faults more are one, where a count rose from none; and none, where it did not
+pub ran_failed : (input path x p p' : List ℕ) (old new : World) (h h' : Held) (r t r' t' : ℕ) (past : Past)
+    → Ran input path x p p' old new h h' (r' + t') past → r ≡ 0 → t ≡ 0 → r + t < r' + t' → HasFailed h h'
+ran_failed input path x p p' old new h h' r t r' t' past all none none' rose =
+    let more : h'.failed ≡ h.failed + (r' + t') = all.failed in omega (arith, more, none, none', rose)
+
+pub ran_clean : (input path x p p' : List ℕ) (old new : World) (h h' : Held) (r t r' t' : ℕ) (past : Past)
+    → Ran input path x p p' old new h h' (r' + t') past → r ≡ 0 → t ≡ 0 → r' + t' ≡ r + t → HasNotFailed h h'
+ran_clean input path x p p' old new h h' r t r' t' past all none none' same =
+    let more : h'.failed ≡ h.failed + (r' + t') = all.failed in omega (arith, more, none, none', same)
+
+-- two files were opened to be read, and let go
+pub failed_two : (h h' h'' h3 h4 : Held) (f g n k : ℕ) → h' ≡ reading f h → h'' ≡ reading g h' → h3 ≡ failing n h''
+    → h4 ≡ failing k h3 → h4.failed ≡ h.failed + (n + k)
+failed_two h h' h'' h3 h4 f g n k r o l c =
+    let one : h'.failed ≡ h.failed = ap (λ (q : Held). q.failed) r in
+    let two : h''.failed ≡ h'.failed = ap (λ (q : Held). q.failed) o in
+    let three : h3.failed ≡ h''.failed + n = ap (λ (q : Held). q.failed) l in
+    let four : h4.failed ≡ h3.failed + k = ap (λ (q : Held). q.failed) c in
+    omega (arith, one, two, three, four)
+
+-- one was
+pub failed_one : (h h' h'' : Held) (f n : ℕ) → h' ≡ reading f h → h'' ≡ failing n h' → h''.failed ≡ h.failed + n
+failed_one h h' h'' f n r l =
+    let one : h'.failed ≡ h.failed = ap (λ (q : Held). q.failed) r in
+    let two : h''.failed ≡ h'.failed + n = ap (λ (q : Held). q.failed) l in
+    omega (arith, one, two)
+
+-- a call was refused at once, or behind one that had opened a file
+pub refused_first : (h h' : Held) → h' ≡ failing 1 h → HasFailed h h'
+refused_first h h' now =
+    let one : h'.failed ≡ h.failed + 1 = ap (λ (q : Held). q.failed) now in
+    omega (arith, one)
+
+pub refused_second : (h h' h'' : Held) (f : ℕ) → h' ≡ reading f h → h'' ≡ failing 1 h' → HasFailed h h''
+refused_second h h' h'' f r now =
+    let one : h'.failed ≡ h.failed = ap (λ (q : Held). q.failed) r in
+    let two : h''.failed ≡ h'.failed + 1 = ap (λ (q : Held). q.failed) now in
+    omega (arith, one, two)
+
+pub rose_one : (h h' h'' : Held) (f n r : ℕ) → h' ≡ reading f h → h'' ≡ failing n h' → r ≡ 0 → r < n → HasFailed h h''
+rose_one h h' h'' f n r opened gone none rose =
+    let more : h''.failed ≡ h.failed + n = failed_one h h' h'' f n opened gone in omega (arith, more, none, rose)
+
+pub rose_two : (h h' h'' h3 h4 : Held) (f g n k r t : ℕ) → h' ≡ reading f h → h'' ≡ reading g h' → h3 ≡ failing n h''
+    → h4 ≡ failing k h3 → r ≡ 0 → t ≡ 0 → r + t < n + k → HasFailed h h4
+rose_two h h' h'' h3 h4 f g n k r t opened opened' gone gone' none none' rose =
+    let more : h4.failed ≡ h.failed + (n + k) = failed_two h h' h'' h3 h4 f g n k opened opened' gone gone' in
+    omega (arith, more, none, none', rose)

@@ -1,5 +1,5 @@
 -- What the command `flash` of a sparse image leaves of files, and what it prints.
-use Rattle.std.specs.Prelude.{◌≡◌, ℕ, ◌+◌, ◌*◌, ◌≤◌, ◌<◌, List, [], ◌∷◌, ◌++◌, length, Option, Result, Ok, Err}
+use Rattle.std.specs.Prelude.{◌≡◌, ℕ, ◌+◌, ◌*◌, ◌≤◌, ◌<◌, ◌⊎◌, List, [], ◌∷◌, ◌++◌, length, Option, Result, Ok, Err}
 use Rattle.abt_sparse.specs.declared.fault.SparseFault.{SparseFault}
 use Rattle.abt_sparse.specs.Chunk.{Header, Chunk, classed}
 use Rattle.abt_sparse.specs.Fails.{Fails, Spells, SpellsHeader}
@@ -7,7 +7,7 @@ use Rattle.abt_sparse.specs.Pieces.{flashed}
 use Rattle.abt_pieces.specs.Contents.{written_in}
 use Rattle.abt_flash.specs.declared.fault.FlashFault.{FlashFault}
 use Rattle.abt_flash.specs.declared.fault.FlashFault.TheVariants as flashes
-use Rattle.abt_disk.specs.World.{World}
+use Rattle.abt_disk.specs.World.{World, Held, HasFailed}
 use Rattle.sparse_rules.specs.declared.fault.SparseCommandFault.{SparseCommandFault}
 use Rattle.sparse_rules.specs.declared.fault.SparseCommandFault.TheVariants as faults
 use Rattle.sparse_rules.specs.declared.lines.Line.TheVariants as lines
@@ -41,14 +41,14 @@ pub record HasNoRoom (need : ℕ) (x p p' : List ℕ) : Type 0 where
   pub short : length p < need
   pub kept : p' ≡ p
 
--- why it is not flashed: the first fault of x, no room, or a device's
-abbrev pub IsUnflashed : FlashFault → List ℕ → List ℕ → List ℕ → Type 0
-IsUnflashed (flashes.Sparse f) x p p' = IsFlashedUpTo f x p p'
-IsUnflashed (flashes.PartitionTooSmall need) x p p' = HasNoRoom need x p p'
-IsUnflashed (flashes.Read d) x p p' = Unit {0}
-IsUnflashed (flashes.Write d) x p p' = Unit {0}
-IsUnflashed (flashes.Sync d) x p p' = Unit {0}
-IsUnflashed f x p p' = ⊥
+-- why it is not flashed: the first fault of x, no room, or a device's, where one has failed
+abbrev pub IsUnflashed : Type 0 → FlashFault → List ℕ → List ℕ → List ℕ → Type 0
+IsUnflashed failed (flashes.Sparse f) x p p' = IsFlashedUpTo f x p p'
+IsUnflashed failed (flashes.PartitionTooSmall need) x p p' = HasNoRoom need x p p'
+IsUnflashed failed (flashes.Read d) x p p' = failed
+IsUnflashed failed (flashes.Write d) x p p' = failed
+IsUnflashed failed (flashes.Sync d) x p p' = failed
+IsUnflashed failed f x p p' = ⊥
 
 -- ---- of files
 
@@ -61,14 +61,21 @@ pub record FlashesFile (input partition : List ℕ) (old new : World) (syncs syn
   pub synced : syncs' ≡ syncs + 1
   pub shown : shows (text_of (lines.Blocks blocks) ++ (10 ∷ []))
 
--- why the command is refused: for what the files hold, or for a fault of files
-abbrev pub RefusesFlash : SparseCommandFault → List ℕ → List ℕ → World → World → Type 0
-RefusesFlash (faults.Flash f) input partition old new = Between input partition old new (IsUnflashed f)
-RefusesFlash (faults.Host f) input partition old new = Unit {0}
-RefusesFlash f input partition old new = ⊥
+-- all was done, but its line was not printed
+abbrev pub FlashesUntold : List ℕ → List ℕ → World → World → Held → Held → Type 0
+FlashesUntold input partition old new held held' =
+    FlashesFile input partition old new held.syncs held'.syncs (λ line. Unit {0})
+
+-- why the command is refused: for what the files hold; or a file or a device has failed, or the report
+abbrev pub RefusesFlash : SparseCommandFault → List ℕ → List ℕ → World → World → Held → Held → Type 0
+RefusesFlash (faults.Flash f) input partition old new held held' =
+    Between input partition old new (IsUnflashed (HasFailed held held') f)
+RefusesFlash (faults.Host f) input partition old new held held' =
+    HasFailed held held' ⊎ FlashesUntold input partition old new held held'
+RefusesFlash f input partition old new held held' = ⊥
 
 -- what the call answers of x, over what held p and holds p' then
-abbrev pub Lays : Result ℕ SparseCommandFault → List ℕ → List ℕ → List ℕ → Type 0
-Lays (Ok n) x p p' = IsFlashed n x p p'
-Lays (Err (faults.Flash f)) x p p' = IsUnflashed f x p p'
-Lays (Err f) x p p' = ⊥
+abbrev pub Lays : Type 0 → Result ℕ SparseCommandFault → List ℕ → List ℕ → List ℕ → Type 0
+Lays failed (Ok n) x p p' = IsFlashed n x p p'
+Lays failed (Err (faults.Flash f)) x p p' = IsUnflashed failed f x p p'
+Lays failed (Err f) x p p' = ⊥

@@ -1,5 +1,5 @@
 -- What the command `flash --raw` leaves of files, and what it prints.
-use Rattle.std.specs.Prelude.{◌≡◌, ℕ, ◌+◌, ◌*◌, ◌≤◌, ◌<◌, List, [], ◌∷◌, ◌++◌, length, Result, Ok, Err}
+use Rattle.std.specs.Prelude.{◌≡◌, ℕ, ◌+◌, ◌*◌, ◌≤◌, ◌<◌, ◌⊎◌, List, [], ◌∷◌, ◌++◌, length, Result, Ok, Err}
 use Rattle.abt_io.specs.Moment.{put_at}
 use Rattle.abt_sparse.specs.Block.{filled_to}
 use Rattle.abt_runs.specs.Raw.{Refused}
@@ -8,7 +8,7 @@ use Rattle.abt_runs.specs.declared.part.RunFault.TheVariants as of_runs
 use Rattle.abt_flash.specs.Raw.{IsFilled}
 use Rattle.abt_flash.specs.declared.fault.FlashFault.{FlashFault}
 use Rattle.abt_flash.specs.declared.fault.FlashFault.TheVariants as flashes
-use Rattle.abt_disk.specs.World.{World}
+use Rattle.abt_disk.specs.World.{World, Held, HasFailed}
 use Rattle.sparse_rules.specs.declared.fault.SparseCommandFault.{SparseCommandFault}
 use Rattle.sparse_rules.specs.declared.fault.SparseCommandFault.TheVariants as faults
 use Rattle.sparse_rules.specs.declared.lines.Line.TheVariants as lines
@@ -32,27 +32,27 @@ pub record HasNoRoomRaw (need b : ℕ) (x p p' : List ℕ) : Type 0 where
   pub short : length p < need
   pub kept : p' ≡ p
 
--- it has no such blocks, or more than can be, and nothing was written; or a device failed
-abbrev pub IsUnopened : RunFault → ℕ → List ℕ → List ℕ → List ℕ → Type 0
-IsUnopened (of_runs.Read d) b x p p' = Unit {0}
-IsUnopened f b x p p' = Refused f b (length x) × (p' ≡ p)
+-- it has no such blocks, or more than can be, and nothing was written; or a device has failed
+abbrev pub IsUnopened : Type 0 → RunFault → ℕ → List ℕ → List ℕ → List ℕ → Type 0
+IsUnopened failed (of_runs.Read d) b x p p' = failed
+IsUnopened failed f b x p p' = Refused f b (length x) × (p' ≡ p)
 
--- there is no room, or a device failed
-abbrev pub IsUnlaid : FlashFault → ℕ → List ℕ → List ℕ → List ℕ → Type 0
-IsUnlaid (flashes.PartitionTooSmall need) b x p p' = HasNoRoomRaw need b x p p'
-IsUnlaid (flashes.Write d) b x p p' = Unit {0}
-IsUnlaid (flashes.Sync d) b x p p' = Unit {0}
-IsUnlaid f b x p p' = ⊥
+-- there is no room, or a device has failed
+abbrev pub IsUnlaid : Type 0 → FlashFault → ℕ → List ℕ → List ℕ → List ℕ → Type 0
+IsUnlaid failed (flashes.PartitionTooSmall need) b x p p' = HasNoRoomRaw need b x p p'
+IsUnlaid failed (flashes.Write d) b x p p' = failed
+IsUnlaid failed (flashes.Sync d) b x p p' = failed
+IsUnlaid failed f b x p p' = ⊥
 
 -- what the call answers of x, over what held p and holds p' then
-abbrev pub IsUnflashedRaw : SparseCommandFault → ℕ → List ℕ → List ℕ → List ℕ → Type 0
-IsUnflashedRaw (faults.Run f) b x p p' = IsUnopened f b x p p'
-IsUnflashedRaw (faults.Flash f) b x p p' = IsUnlaid f b x p p'
-IsUnflashedRaw f b x p p' = ⊥
+abbrev pub IsUnflashedRaw : Type 0 → SparseCommandFault → ℕ → List ℕ → List ℕ → List ℕ → Type 0
+IsUnflashedRaw failed (faults.Run f) b x p p' = IsUnopened failed f b x p p'
+IsUnflashedRaw failed (faults.Flash f) b x p p' = IsUnlaid failed f b x p p'
+IsUnflashedRaw failed f b x p p' = ⊥
 
-abbrev pub LaysRaw : Result ℕ SparseCommandFault → ℕ → List ℕ → List ℕ → List ℕ → Type 0
-LaysRaw (Ok n) b x p p' = IsFlashedRaw n b x p p'
-LaysRaw (Err f) b x p p' = IsUnflashedRaw f b x p p'
+abbrev pub LaysRaw : Type 0 → Result ℕ SparseCommandFault → ℕ → List ℕ → List ℕ → List ℕ → Type 0
+LaysRaw failed (Ok n) b x p p' = IsFlashedRaw n b x p p'
+LaysRaw failed (Err f) b x p p' = IsUnflashedRaw failed f b x p p'
 
 -- ---- of files
 
@@ -65,7 +65,14 @@ pub record FlashesRawFile (size : ℕ) (input partition : List ℕ) (old new : W
   pub synced : syncs' ≡ syncs + 1
   pub shown : shows (text_of (lines.Blocks blocks) ++ (10 ∷ []))
 
--- why the command is refused: for what the files hold, or for a fault of files
-abbrev pub RefusesFlashRaw : SparseCommandFault → ℕ → List ℕ → List ℕ → World → World → Type 0
-RefusesFlashRaw (faults.Host f) size input partition old new = Unit {0}
-RefusesFlashRaw f size input partition old new = Between input partition old new (IsUnflashedRaw f size)
+-- all was done, but its line was not printed
+abbrev pub FlashesRawUntold : ℕ → List ℕ → List ℕ → World → World → Held → Held → Type 0
+FlashesRawUntold size input partition old new held held' =
+    FlashesRawFile size input partition old new held.syncs held'.syncs (λ line. Unit {0})
+
+-- why the command is refused: for what the files hold; or a file or a device has failed, or the report
+abbrev pub RefusesFlashRaw : SparseCommandFault → ℕ → List ℕ → List ℕ → World → World → Held → Held → Type 0
+RefusesFlashRaw (faults.Host f) size input partition old new held held' =
+    HasFailed held held' ⊎ FlashesRawUntold size input partition old new held held'
+RefusesFlashRaw f size input partition old new held held' =
+    Between input partition old new (IsUnflashedRaw (HasFailed held held') f size)

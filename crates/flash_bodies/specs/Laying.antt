@@ -7,11 +7,11 @@ use Rattle.sparse_rules.specs.declared.fault.SparseCommandFault.TheVariants as f
 use Rattle.abt_io.specs.declared.copying.CopyFault.{CopyFault}
 use Rattle.abt_io.specs.declared.copying.CopyFault.TheVariants as copies
 
--- a fault of a device; a source gives fewer bytes than it has said only where it doesn't tell them
-abbrev pub IsOfDevices : Bool → CopyFault → Type 0
-IsOfDevices tells (copies.Read d) = Unit {0}
-IsOfDevices tells (copies.Write d) = Unit {0}
-IsOfDevices tells copies.Changed = tells ≡ false
+-- a device has failed; a source gives fewer bytes than it has said only where it doesn't tell them
+abbrev pub IsOfDevices : Bool → Type 0 → CopyFault → Type 0
+IsOfDevices tells failed (copies.Read d) = failed
+IsOfDevices tells failed (copies.Write d) = failed
+IsOfDevices tells failed copies.Changed = tells ≡ false
 
 -- what is told of it
 abbrev pub unlaid : CopyFault → SparseCommandFault

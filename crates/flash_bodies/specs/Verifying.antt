@@ -1,5 +1,5 @@
 -- What the command `verify` says of files, which it leaves as they are.
-use Rattle.std.specs.Prelude.{◌≡◌, ℕ, List, [], ◌∷◌, ◌++◌, length, true, Result, Ok, Err}
+use Rattle.std.specs.Prelude.{◌≡◌, ℕ, List, [], ◌∷◌, ◌++◌, ◌⊎◌, length, true, Result, Ok, Err}
 use Rattle.std.specs.Int.{div_ceil}
 use Rattle.abt_sparse.specs.Block.{cells}
 use Rattle.abt_sparse.specs.Chunk.{Header, Chunk, classed}
@@ -10,7 +10,7 @@ use Rattle.abt_verify.specs.Standing.{FirstDiffers, Stands, held_in}
 use Rattle.abt_verify.specs.Verifying.{Different, Refused}
 use Rattle.abt_verify.specs.declared.fault.VerifyFault.{VerifyFault}
 use Rattle.abt_verify.specs.declared.fault.VerifyFault.TheVariants as verifies
-use Rattle.abt_disk.specs.World.{World}
+use Rattle.abt_disk.specs.World.{World, Held, HasFailed}
 use Rattle.sparse_rules.specs.declared.fault.SparseCommandFault.{SparseCommandFault}
 use Rattle.sparse_rules.specs.declared.fault.SparseCommandFault.TheVariants as faults
 use Rattle.sparse_rules.specs.declared.lines.Line.TheVariants as lines
@@ -28,19 +28,19 @@ pub record IsThere (n : ℕ) (x p : List ℕ) : Type 0 where
   pub stands : Stands p (cells header.blk_sz (classed chunks))
   pub blocks : n ≡ held_in (classed chunks)
 
--- the first fault of x, behind what stands; the first byte that differs; or a device's
-abbrev pub IsNotThere : VerifyFault → List ℕ → List ℕ → Type 0
-IsNotThere (verifies.Sparse f) x p = Refused true f p x
-IsNotThere (verifies.Differs n) x p = Different true n p x
-IsNotThere (verifies.Read d) x p = Unit {0}
-IsNotThere (verifies.PartitionRead d) x p = Unit {0}
-IsNotThere f x p = ⊥
+-- the first fault of x, behind what stands; the first byte that differs; or a device has failed
+abbrev pub IsNotThere : Type 0 → VerifyFault → List ℕ → List ℕ → Type 0
+IsNotThere failed (verifies.Sparse f) x p = Refused true f p x
+IsNotThere failed (verifies.Differs n) x p = Different true n p x
+IsNotThere failed (verifies.Read d) x p = failed
+IsNotThere failed (verifies.PartitionRead d) x p = failed
+IsNotThere failed f x p = ⊥
 
 -- what the call answers
-abbrev pub Finds : Result ℕ SparseCommandFault → List ℕ → List ℕ → Type 0
-Finds (Ok n) x p = IsThere n x p
-Finds (Err (faults.Verify f)) x p = IsNotThere f x p
-Finds (Err f) x p = ⊥
+abbrev pub Finds : Type 0 → Result ℕ SparseCommandFault → List ℕ → List ℕ → Type 0
+Finds failed (Ok n) x p = IsThere n x p
+Finds failed (Err (faults.Verify f)) x p = IsNotThere failed f x p
+Finds failed (Err f) x p = ⊥
 
 -- ---- a raw image x of blocks of b bytes, and a partition that holds p
 
@@ -50,19 +50,19 @@ pub record IsThereRaw (n b : ℕ) (x p : List ℕ) : Type 0 where
   pub stands : Stands p (somes x)
   pub blocks : n ≡ div_ceil (length x) b
 
--- no image has such blocks; the first byte that differs; or a device's
-abbrev pub IsNotThereRaw : VerifyFault → ℕ → List ℕ → List ℕ → Type 0
-IsNotThereRaw (verifies.BadBlock n) b x p = (n ≡ b) × ¬ IsRawBlock b
-IsNotThereRaw (verifies.Differs n) b x p = FirstDiffers p (somes x) n
-IsNotThereRaw (verifies.Read d) b x p = Unit {0}
-IsNotThereRaw (verifies.PartitionRead d) b x p = Unit {0}
-IsNotThereRaw f b x p = ⊥
+-- no image has such blocks; the first byte that differs; or a device has failed
+abbrev pub IsNotThereRaw : Type 0 → VerifyFault → ℕ → List ℕ → List ℕ → Type 0
+IsNotThereRaw failed (verifies.BadBlock n) b x p = (n ≡ b) × ¬ IsRawBlock b
+IsNotThereRaw failed (verifies.Differs n) b x p = FirstDiffers p (somes x) n
+IsNotThereRaw failed (verifies.Read d) b x p = failed
+IsNotThereRaw failed (verifies.PartitionRead d) b x p = failed
+IsNotThereRaw failed f b x p = ⊥
 
 -- what the call answers
-abbrev pub FindsRaw : Result ℕ SparseCommandFault → ℕ → List ℕ → List ℕ → Type 0
-FindsRaw (Ok n) b x p = IsThereRaw n b x p
-FindsRaw (Err (faults.Verify f)) b x p = IsNotThereRaw f b x p
-FindsRaw (Err f) b x p = ⊥
+abbrev pub FindsRaw : Type 0 → Result ℕ SparseCommandFault → ℕ → List ℕ → List ℕ → Type 0
+FindsRaw failed (Ok n) b x p = IsThereRaw n b x p
+FindsRaw failed (Err (faults.Verify f)) b x p = IsNotThereRaw failed f b x p
+FindsRaw failed (Err f) b x p = ⊥
 
 -- ---- of files
 
@@ -77,13 +77,18 @@ pub record VerifiesRawFile (size : ℕ) (input partition : List ℕ) (world : Wo
   pub both : OfBoth input partition world (IsThereRaw blocks size)
   pub shown : shows (text_of (lines.Blocks blocks) ++ (10 ∷ []))
 
--- why the command is refused: for what both files hold, or for a fault of files
-abbrev pub RefusesVerify : SparseCommandFault → List ℕ → List ℕ → World → Type 0
-RefusesVerify (faults.Verify f) input partition world = OfBoth input partition world (IsNotThere f)
-RefusesVerify (faults.Host f) input partition world = Unit {0}
-RefusesVerify f input partition world = ⊥
+-- why the command is refused: for what both files hold; or a file or a device has failed, or all was compared, but its
+-- line was not printed
+abbrev pub RefusesVerify : SparseCommandFault → List ℕ → List ℕ → World → Held → Held → Type 0
+RefusesVerify (faults.Verify f) input partition world held held' =
+    OfBoth input partition world (IsNotThere (HasFailed held held') f)
+RefusesVerify (faults.Host f) input partition world held held' =
+    HasFailed held held' ⊎ VerifiesFile input partition world (λ line. Unit {0})
+RefusesVerify f input partition world held held' = ⊥
 
-abbrev pub RefusesVerifyRaw : SparseCommandFault → ℕ → List ℕ → List ℕ → World → Type 0
-RefusesVerifyRaw (faults.Verify f) size input partition world = OfBoth input partition world (IsNotThereRaw f size)
-RefusesVerifyRaw (faults.Host f) size input partition world = Unit {0}
-RefusesVerifyRaw f size input partition world = ⊥
+abbrev pub RefusesVerifyRaw : SparseCommandFault → ℕ → List ℕ → List ℕ → World → Held → Held → Type 0
+RefusesVerifyRaw (faults.Verify f) size input partition world held held' =
+    OfBoth input partition world (IsNotThereRaw (HasFailed held held') f size)
+RefusesVerifyRaw (faults.Host f) size input partition world held held' =
+    HasFailed held held' ⊎ VerifiesRawFile size input partition world (λ line. Unit {0})
+RefusesVerifyRaw f size input partition world held held' = ⊥

@@ -1,6 +1,6 @@
 //! Each block of a raw image to a partition.
 
-ghost use Rattle.std.specs.Prelude.{◌≡◌, ◌≤◌, ◌+◌, ◌*◌, [], IsTrue, OnOk, IfOk};
+ghost use Rattle.std.specs.Prelude.{◌≡◌, ◌≤◌, ◌<◌, ◌+◌, ◌*◌, [], IsTrue, OnOk, IfOk};
 ghost use Rattle.abt_flash.specs.Raw.{IsFilled};
 ghost use Rattle.flash_bodies.specs.FlashingRaw.{LaysRaw};
 ghost use Rattle.flash_bodies.specs.Laying.{unlaid};
@@ -24,8 +24,11 @@ pub(crate) fn flash_blocks<S: Source, P: Partition>(
     ensures filled { IfOk result (λ blocks. IsFilled blocks size (S.size source.old)) }
     ensures room { IfOk result (λ blocks. blocks * size ≤ P.size onto.old) }
     // what the partition holds, or why not
-    ensures lays { IsTrue S.tells → IsTrue P.tells →
-        LaysRaw result size (S.content source.old) (P.content onto.old) (P.content onto.new) }
+    ensures lays { IsTrue S.tells → IsTrue P.tells → LaysRaw
+        (S.read_faults source.old + P.put_faults onto.old < S.read_faults source.new + P.put_faults onto.new) result
+        size (S.content source.old) (P.content onto.old) (P.content onto.new) }
+    ensures clean { OnOk result
+        (S.read_faults source.new + P.put_faults onto.new ≡ S.read_faults source.old + P.put_faults onto.old) }
     ensures synced { OnOk result ((P.past onto.new).synced ≡ (P.past onto.old).synced + 1) }
     ensures settled { IsTrue P.tells → OnOk result ((P.past onto.new).pending ≡ []) }
     ensures size { P.size onto.new ≡ P.size onto.old }

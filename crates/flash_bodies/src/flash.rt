@@ -1,17 +1,17 @@
 //! The command `flash` of a sparse image that goes straight to a partition.
 
-ghost use Rattle.std.specs.Prelude.{◌≡◌, ◌+◌, [], None, IsTrue, OnOk, IfErr};
+ghost use Rattle.std.specs.Prelude.{◌≡◌, ◌+◌, ◌<◌, [], None, IsTrue, OnOk, IfErr};
 ghost use Rattle.abt_refusals.specs.Paths.{path_in, path_of};
 ghost use Rattle.abt_disk.specs.InPlace.{SparesOthers};
-ghost use Rattle.abt_disk.specs.World.{KeepsFile};
+ghost use Rattle.abt_disk.specs.World.{HasNotFailed, KeepsFile};
 ghost use Rattle.abt_output.specs.Shows.{Shows};
 ghost use Rattle.flash_bodies.specs.Flashing.{FlashesFile, Lays, RefusesFlash};
 
+use crate::carried::Carried;
 use abt_disk::{Disk, Measured, Reasons, closed};
 use abt_flash::flash;
-use abt_host::Watched;
 use abt_io::{Input, Meter, Partition, Window};
-use abt_output::{Progress, Report};
+use abt_output::Report;
 use abt_refusals::{Place, Sides};
 use sparse_rules::{Line, SparseCommandFault, SparseRefusal};
 
@@ -35,17 +35,23 @@ pub fn flash_file<'a, D: Disk>(
     // whatever comes, PARTITION alone may hold anything else, and IN holds what it held
     ensures others { IsTrue D.tells → SparesOthers (path_of partition.entry) (D.world disk.old) (D.world disk.new) }
     ensures input { IsTrue D.tells → KeepsFile (path_in input.entry) (D.world disk.old) (D.world disk.new) }
-    // it is refused for the first fault that IN has, for want of room, or for a fault of files or devices
+    // it is refused for the first fault that IN has, for want of room, or where a file, a device or the report failed
     ensures refused { IsTrue D.tells → IfErr result (λ refusal. RefusesFlash refusal.fault (path_in input.entry)
-        (path_of partition.entry) (D.world disk.old) (D.world disk.new)) }
+        (path_of partition.entry) (D.world disk.old) (D.world disk.new) (D.held disk.old) (D.held disk.new)) }
+    ensures clean { IsTrue D.tells → OnOk result (HasNotFailed (D.held disk.old) (D.held disk.new)) }
 {
-    let mut from = disk.input(input)?;
+    let from = disk.input(input)?;
     report.progress.expect_if(from.known_length());
     let mut onto = disk.partition(partition)?;
-    let answer = flashed(&mut from, &mut onto, &mut report.progress, w, m);
-    let sides = Sides::none()
-        .reading(input, from.why())
-        .writing(partition, None);
+    let mut carried = Carried {
+        device: from,
+        progress: &mut report.progress,
+    };
+    let answer = flashed(&mut carried, &mut onto, w, m);
+    let Carried { device: from, .. } = carried;
+    let why = from.why();
+    disk.let_go(from);
+    let sides = Sides::none().reading(input, why).writing(partition, None);
     let (blocks, is_on_output) = match closed(disk, answer, onto, sides) {
         Ok(end) => end,
         Err(refusal) => return Err(refusal),
@@ -56,20 +62,21 @@ pub fn flash_file<'a, D: Disk>(
 
 // How many blocks were flashed.
 fn flashed<I: Input, P: Partition>(
-    from: &mut I,
+    from: &mut Carried<'_, I>,
     onto: &mut P,
-    progress: &mut Progress,
     w: &mut Window,
     m: &mut Meter,
 ) -> Result<u32, SparseCommandFault>
-    ensures lays { IsTrue I.tells → IsTrue P.tells →
-        Lays result (I.remaining from.old) (P.content onto.old) (P.content onto.new) }
+    ensures lays { IsTrue I.tells → IsTrue P.tells → Lays
+        (I.read_faults from.old.device + P.put_faults onto.old < I.read_faults from.new.device + P.put_faults onto.new)
+        result (I.remaining from.old.device) (P.content onto.old) (P.content onto.new) }
+    ensures clean { OnOk result (I.read_faults from.new.device + P.put_faults onto.new
+        ≡ I.read_faults from.old.device + P.put_faults onto.old) }
     ensures synced { OnOk result ((P.past onto.new).synced ≡ (P.past onto.old).synced + 1) }
     ensures settled { IsTrue P.tells → OnOk result ((P.past onto.new).pending ≡ []) }
     ensures size { P.size onto.new ≡ P.size onto.old }
 {
-    let mut watched = Watched::over(from, progress);
-    match flash(&mut watched, onto, w, m) {
+    match flash(from, onto, w, m) {
         Ok(flashed) => Ok(flashed.blocks),
         Err(fault) => Err(SparseCommandFault::Flash(fault)),
     }

@@ -1,17 +1,17 @@
 //! The command `flash` of a raw image that goes straight to a partition.
 
-ghost use Rattle.std.specs.Prelude.{◌≡◌, ◌+◌, [], None, IsTrue, OnOk, IfErr};
+ghost use Rattle.std.specs.Prelude.{◌≡◌, [], None, IsTrue, OnOk, IfErr};
 ghost use Rattle.abt_refusals.specs.Paths.{path_of};
 ghost use Rattle.abt_disk.specs.InPlace.{SparesOthers};
-ghost use Rattle.abt_disk.specs.World.{KeepsFile};
+ghost use Rattle.abt_disk.specs.World.{HasNotFailed, KeepsFile};
 ghost use Rattle.abt_output.specs.Shows.{Shows};
-ghost use Rattle.flash_bodies.specs.FlashingRaw.{FlashesRawFile, LaysRaw, RefusesFlashRaw};
+ghost use Rattle.flash_bodies.specs.FlashingRaw.{FlashesRawFile, RefusesFlashRaw};
 
 use crate::blocks::flash_blocks;
+use crate::carried::Carried;
 use abt_disk::{Disk, closed};
-use abt_host::Watched;
-use abt_io::{Meter, Partition, Source, Window};
-use abt_output::{Progress, Report};
+use abt_io::{Meter, Source, Window};
+use abt_output::Report;
 use abt_refusals::{Place, Sides};
 use sparse_rules::{Line, SparseCommandFault, SparseRefusal};
 
@@ -36,14 +36,21 @@ pub fn flash_raw_file<'a, D: Disk>(
     // whatever comes, PARTITION alone may hold anything else, and IN holds what it held
     ensures others { IsTrue D.tells → SparesOthers (path_of partition.entry) (D.world disk.old) (D.world disk.new) }
     ensures input { IsTrue D.tells → KeepsFile (path_of input.entry) (D.world disk.old) (D.world disk.new) }
-    // it is refused for its blocks, for want of room, or for a fault of files or devices
+    // it is refused for its blocks, for want of room, or where a file, a device or the report failed
     ensures refused { IsTrue D.tells → IfErr result (λ refusal. RefusesFlashRaw refusal.fault size (path_of input.entry)
-        (path_of partition.entry) (D.world disk.old) (D.world disk.new)) }
+        (path_of partition.entry) (D.world disk.old) (D.world disk.new) (D.held disk.old) (D.held disk.new)) }
+    ensures clean { IsTrue D.tells → OnOk result (HasNotFailed (D.held disk.old) (D.held disk.new)) }
 {
-    let mut source = disk.source(input)?;
+    let source = disk.source(input)?;
     report.progress.expect(source.length(), 1);
     let mut onto = disk.partition(partition)?;
-    let answer = flashed(&mut source, size, &mut onto, &mut report.progress, w, m);
+    let mut carried = Carried {
+        device: source,
+        progress: &mut report.progress,
+    };
+    let answer = flash_blocks(&mut carried, size, &mut onto, w, m);
+    let Carried { device: source, .. } = carried;
+    disk.let_go_source(source);
     let sides = Sides::none().reading(input, None).writing(partition, None);
     let (blocks, is_on_output) = match closed(disk, answer, onto, sides) {
         Ok(end) => end,
@@ -51,23 +58,4 @@ pub fn flash_raw_file<'a, D: Disk>(
     };
     report.line_beside(is_on_output, Line::Blocks(blocks as u64))?;
     Ok(())
-}
-
-// How many blocks were flashed.
-fn flashed<S: Source, P: Partition>(
-    source: &mut S,
-    size: u32,
-    onto: &mut P,
-    progress: &mut Progress,
-    w: &mut Window,
-    m: &mut Meter,
-) -> Result<u32, SparseCommandFault>
-    ensures lays { IsTrue S.tells → IsTrue P.tells →
-        LaysRaw result size (S.content source.old) (P.content onto.old) (P.content onto.new) }
-    ensures synced { OnOk result ((P.past onto.new).synced ≡ (P.past onto.old).synced + 1) }
-    ensures settled { IsTrue P.tells → OnOk result ((P.past onto.new).pending ≡ []) }
-    ensures size { P.size onto.new ≡ P.size onto.old }
-{
-    let mut watched = Watched::over(source, progress);
-    flash_blocks(&mut watched, size, onto, w, m)
 }

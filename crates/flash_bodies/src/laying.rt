@@ -24,7 +24,10 @@ pub(crate) fn lay_filled<S: Source, P: Partition>(
         ≡ put_at (P.content onto.old) 0 (filled_to need (S.content source.old))) }
     ensures synced { (P.past onto.new).synced ≡ (P.past onto.old).synced }
     ensures size { P.size onto.new ≡ P.size onto.old }
-    ensures refused { IfErr result (λ fault. IsOfDevices S.tells fault) }
+    ensures refused { IfErr result (λ fault. IsOfDevices S.tells (S.read_faults source.old + P.put_faults onto.old
+        < S.read_faults source.new + P.put_faults onto.new) fault) }
+    ensures clean { OnOk result
+        (S.read_faults source.new + P.put_faults onto.new ≡ S.read_faults source.old + P.put_faults onto.old) }
 {
     let held = source.length();
     lay_source(source, held, onto, w, m)?;
@@ -50,7 +53,10 @@ fn lay_source<S: Source, P: Partition>(
         ≡ put_at (P.content onto.old) 0 (S.content source.old)) }
     ensures synced { (P.past onto.new).synced ≡ (P.past onto.old).synced }
     ensures size { P.size onto.new ≡ P.size onto.old }
-    ensures refused { IfErr result (λ fault. IsOfDevices S.tells fault) }
+    ensures refused { IfErr result (λ fault. IsOfDevices S.tells (S.read_faults source.old + P.put_faults onto.old
+        < S.read_faults source.new + P.put_faults onto.new) fault) }
+    ensures clean { OnOk result
+        (S.read_faults source.new + P.put_faults onto.new ≡ S.read_faults source.old + P.put_faults onto.old) }
 {
     let mut at = 0;
     while at < held {
@@ -84,7 +90,10 @@ fn lay_step<S: Source, P: Partition>(
     ensures content { IsTrue S.tells → S.content source.new ≡ S.content source.old }
     ensures synced { (P.past onto.new).synced ≡ (P.past onto.old).synced }
     ensures size { P.size onto.new ≡ P.size onto.old }
-    ensures refused { IfErr result (λ fault. IsOfDevices S.tells fault) }
+    ensures refused { IfErr result (λ fault. IsOfDevices S.tells (S.read_faults source.old + P.put_faults onto.old
+        < S.read_faults source.new + P.put_faults onto.new) fault) }
+    ensures clean { OnOk result
+        (S.read_faults source.new + P.put_faults onto.new ≡ S.read_faults source.old + P.put_faults onto.old) }
 {
     match source.read_at(at, w.part_mut(0, ask)) {
         Ok(got) => {

@@ -1,4 +1,4 @@
-//! The commands `flash`, straight to a partition, `verify` and `list`, over any disk.
+//! The commands `flash`, straight to a partition or in pieces, `verify` and `list`, over any disk.
 //!
 //! Each says what it leaves of files, whatever comes, and what it prints. At a disk that tells what its files hold, as
 //! `MemoryDisk`, every clause speaks; the program's own disk tells nothing.
@@ -7,23 +7,32 @@
 //! |---|---|
 //! | `flash.rt`, `flash_raw.rt` | an image straight to a partition, sparse or raw |
 //! | `blocks.rt`, `laying.rt` | each block of a raw image to a partition; a source over its front |
+//! | `pieces.rt`, `through.rt` | an image in pieces, and the file that they go through, which is closed behind them |
+//! | `delivering.rt` | the pieces, by the engine |
+//! | `carried.rt` | what is read, held together with how far the command is |
 //! | `verify.rt` | whether an image stands on a partition |
 //! | `list.rt` | the header and the chunks of a sparse image |
 //! | `in_memory.rt` | the same commands at a disk in memory |
 #![tactic(auto)]
 
 mod blocks;
+mod carried;
+mod delivering;
 mod flash;
 mod flash_raw;
 mod in_memory;
 mod laying;
 mod list;
+mod pieces;
+mod through;
 mod verify;
 
 pub use flash::flash_file;
 pub use flash_raw::flash_raw_file;
 pub use in_memory::{
-    flash_in_memory, flash_raw_in_memory, list_in_memory, verify_in_memory, verify_raw_in_memory,
+    flash_in_memory, flash_pieces_in_memory, flash_raw_in_memory, list_in_memory, verify_in_memory,
+    verify_raw_in_memory,
 };
 pub use list::list_file;
+pub use pieces::flash_pieces_file;
 pub use verify::{verify_file, verify_raw_file};

@@ -1,7 +1,8 @@
 //! The command `list`: the header and the chunks of a sparse image.
 
-ghost use Rattle.std.specs.Prelude.{◌≡◌, ◌++◌, [], IsTrue, OnOk, IfErr};
+ghost use Rattle.std.specs.Prelude.{◌≡◌, ◌<◌, ◌++◌, [], IsTrue, OnOk, IfErr};
 ghost use Rattle.abt_refusals.specs.Paths.{path_in};
+ghost use Rattle.abt_disk.specs.World.{HasNotFailed};
 ghost use Rattle.flash_bodies.specs.Files.{OfFile};
 ghost use Rattle.flash_bodies.specs.Listing.{IsListed, IsUnlisted, RefusesList};
 
@@ -28,16 +29,21 @@ pub fn list_file<'a, D: Disk>(
         IsListed x (λ text. report.new.out.log.state.bytes ≡ report.old.out.log.state.bytes ++ text))) }
     // every file stays as it is
     ensures world { IsTrue D.tells → D.world disk.new ≡ D.world disk.old }
-    // it is refused for the first fault that IN has, or for one of files or devices
+    // it is refused for the first fault that IN has, or where its file failed, or the report
     ensures refused { IsTrue D.tells → IfErr result (λ refusal. RefusesList refusal.fault (path_in input.entry)
-        (D.world disk.old)) }
+        (D.world disk.old) (D.held disk.old) (D.held disk.new)
+        (report.old.out.faults.number < report.new.out.faults.number)) }
+    ensures clean { IsTrue D.tells → OnOk result (HasNotFailed (D.held disk.old) (D.held disk.new)) }
 {
     let mut from = disk.input(input)?;
-    match listed(&mut from, &mut report.out, w, m) {
+    let answer = listed(&mut from, &mut report.out, w, m);
+    let why = from.why();
+    disk.let_go(from);
+    match answer {
         Ok(()) => Ok(()),
         Err(fault) => {
             let sides = Sides::none()
-                .reading(input, from.why())
+                .reading(input, why)
                 .printing(report.out.writer.why);
             Err(sides.refuse(SparseCommandFault::Sparse(fault)))
         }
@@ -53,7 +59,10 @@ fn listed<I: Input, O: Output>(
 ) -> Result<(), SparseFault>
     ensures listed { IsTrue I.tells → OnOk result (IsListed (I.remaining from.old) (λ text.
         O.written out.new ≡ O.written out.old ++ text)) }
-    ensures refused { IsTrue I.tells → IfErr result (λ fault. IsUnlisted fault (I.remaining from.old)) }
+    ensures refused { IsTrue I.tells → IfErr result (λ fault. IsUnlisted
+        (I.read_faults from.old < I.read_faults from.new) (O.write_faults out.old < O.write_faults out.new) fault
+        (I.remaining from.old)) }
+    ensures clean { OnOk result (I.read_faults from.new ≡ I.read_faults from.old) }
 {
     report_list(from, out, w, m)
 }

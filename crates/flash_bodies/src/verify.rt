@@ -1,15 +1,16 @@
 //! The command `verify`: whether an image stands on a partition.
 
-ghost use Rattle.std.specs.Prelude.{◌≡◌, [], IsTrue, OnOk, IfErr};
+ghost use Rattle.std.specs.Prelude.{◌≡◌, ◌<◌, ◌+◌, [], IsTrue, OnOk, IfErr};
 ghost use Rattle.abt_refusals.specs.Paths.{path_in, path_of};
+ghost use Rattle.abt_disk.specs.World.{HasNotFailed};
 ghost use Rattle.abt_output.specs.Shows.{Shows};
 ghost use Rattle.flash_bodies.specs.Verifying.{Finds, FindsRaw, RefusesVerify, RefusesVerifyRaw, VerifiesFile};
 ghost use Rattle.flash_bodies.specs.Verifying.{VerifiesRawFile};
 
+use crate::carried::Carried;
 use abt_disk::{Disk, Measured, Reasons};
-use abt_host::Watched;
 use abt_io::{Input, Meter, Source, Window};
-use abt_output::{Progress, Report};
+use abt_output::Report;
 use abt_refusals::{Place, Sides};
 use abt_verify::{verify, verify_raw};
 use sparse_rules::{Line, SparseCommandFault, SparseRefusal};
@@ -31,19 +32,27 @@ pub fn verify_file<'a, D: Disk>(
         (D.world disk.old) (Shows report.old report.new)) }
     // every file stays as it is
     ensures world { IsTrue D.tells → D.world disk.new ≡ D.world disk.old }
-    // it is refused for the first byte that differs or the first fault that IN has, or for one of files or devices
+    // it is refused for the first byte that differs or the first fault that IN has, or where a file or the report failed
     ensures refused { IsTrue D.tells → IfErr result (λ refusal. RefusesVerify refusal.fault (path_in input.entry)
-        (path_of partition.entry) (D.world disk.old)) }
+        (path_of partition.entry) (D.world disk.old) (D.held disk.old) (D.held disk.new)) }
+    ensures clean { IsTrue D.tells → OnOk result (HasNotFailed (D.held disk.old) (D.held disk.new)) }
 {
-    let mut from = disk.input(input)?;
+    let from = disk.input(input)?;
     report.progress.expect_if(from.known_length());
     let mut against = disk.source(partition)?;
-    let blocks = match compared(&mut from, &mut against, &mut report.progress, w, m) {
+    let mut carried = Carried {
+        device: from,
+        progress: &mut report.progress,
+    };
+    let answer = compared(&mut carried, &mut against, w, m);
+    let Carried { device: from, .. } = carried;
+    let why = from.why();
+    disk.let_go(from);
+    disk.let_go_source(against);
+    let blocks = match answer {
         Ok(blocks) => blocks,
         Err(fault) => {
-            let sides = Sides::none()
-                .reading(input, from.why())
-                .writing(partition, None);
+            let sides = Sides::none().reading(input, why).writing(partition, None);
             return Err(sides.refuse(fault));
         }
     };
@@ -69,14 +78,23 @@ pub fn verify_raw_file<'a, D: Disk>(
         (D.world disk.old) (Shows report.old report.new)) }
     // every file stays as it is
     ensures world { IsTrue D.tells → D.world disk.new ≡ D.world disk.old }
-    // it is refused for the first byte that differs, for the size of blocks, or for a fault of files or devices
+    // it is refused for the first byte that differs, for the size of blocks, or where a file or the report failed
     ensures refused { IsTrue D.tells → IfErr result (λ refusal. RefusesVerifyRaw refusal.fault size
-        (path_of input.entry) (path_of partition.entry) (D.world disk.old)) }
+        (path_of input.entry) (path_of partition.entry) (D.world disk.old) (D.held disk.old) (D.held disk.new)) }
+    ensures clean { IsTrue D.tells → OnOk result (HasNotFailed (D.held disk.old) (D.held disk.new)) }
 {
-    let mut source = disk.source(input)?;
+    let source = disk.source(input)?;
     report.progress.expect(source.length(), 1);
     let mut against = disk.source(partition)?;
-    let blocks = match compared_raw(&mut source, size, &mut against, &mut report.progress, w, m) {
+    let mut carried = Carried {
+        device: source,
+        progress: &mut report.progress,
+    };
+    let answer = compared_raw(&mut carried, size, &mut against, w, m);
+    let Carried { device: source, .. } = carried;
+    disk.let_go_source(source);
+    disk.let_go_source(against);
+    let blocks = match answer {
         Ok(blocks) => blocks,
         Err(fault) => {
             let sides = Sides::none().reading(input, None).writing(partition, None);
@@ -90,33 +108,37 @@ pub fn verify_raw_file<'a, D: Disk>(
 // How many blocks were compared. (What the engine promises of costs is left behind here, so that no exit above is proved
 // with it.)
 fn compared<I: Input, S: Source>(
-    from: &mut I,
+    from: &mut Carried<'_, I>,
     against: &mut S,
-    progress: &mut Progress,
     w: &mut Window,
     m: &mut Meter,
 ) -> Result<u64, SparseCommandFault>
-    ensures { IsTrue I.tells → IsTrue S.tells → Finds result (I.remaining from.old) (S.content against.old) }
+    ensures finds { IsTrue I.tells → IsTrue S.tells → Finds
+        (I.read_faults from.old.device + S.read_faults against.old < I.read_faults from.new.device
+        + S.read_faults against.new) result (I.remaining from.old.device) (S.content against.old) }
+    ensures clean { OnOk result (I.read_faults from.new.device + S.read_faults against.new
+        ≡ I.read_faults from.old.device + S.read_faults against.old) }
 {
-    let mut watched = Watched::over(from, progress);
-    match verify(&mut watched, against, w, m) {
+    match verify(from, against, w, m) {
         Ok(verified) => Ok(verified.blocks),
         Err(fault) => Err(SparseCommandFault::Verify(fault)),
     }
 }
 
 fn compared_raw<S: Source, A: Source>(
-    source: &mut S,
+    source: &mut Carried<'_, S>,
     size: u32,
     against: &mut A,
-    progress: &mut Progress,
     w: &mut Window,
     m: &mut Meter,
 ) -> Result<u64, SparseCommandFault>
-    ensures { IsTrue S.tells → IsTrue A.tells → FindsRaw result size (S.content source.old) (A.content against.old) }
+    ensures finds { IsTrue S.tells → IsTrue A.tells → FindsRaw
+        (S.read_faults source.old.device + A.read_faults against.old < S.read_faults source.new.device
+        + A.read_faults against.new) result size (S.content source.old.device) (A.content against.old) }
+    ensures clean { OnOk result (S.read_faults source.new.device + A.read_faults against.new
+        ≡ S.read_faults source.old.device + A.read_faults against.old) }
 {
-    let mut watched = Watched::over(source, progress);
-    match verify_raw(&mut watched, size, against, w, m) {
+    match verify_raw(source, size, against, w, m) {
         Ok(verified) => Ok(verified.blocks),
         Err(fault) => Err(SparseCommandFault::Verify(fault)),
     }

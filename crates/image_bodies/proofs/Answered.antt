@@ -1,5 +1,6 @@
 -- What the engine's answers mean for the file that an image goes to.
-use Rattle.std.proofs.Common.{inl, inr, arith, ◌⊎◌, ◌+◌, ◌-◌, ◌*◌, ◌^◌, ◌≡◌, ℕ, ◌<◌, ◌≤◌, List, [], ◌++◌, length, drop, Option, Some, None, Bool, true, false, refl, sym, ◌∙◌, ap, subst}
+use Rattle.std.proofs.Common.{inl, inr, arith, ◌⊎◌, ◌+◌, ◌-◌, ◌*◌, ◌^◌, ◌≡◌, ℕ, ◌<◌, ◌≤◌, List, [], ◌++◌, length, drop}
+use Rattle.std.proofs.Common.{Option, Some, None, Bool, true, false, refl, sym, ◌∙◌, ap, subst}
 use Rattle.std.specs.Prelude.{IsTrue}
 use Rattle.std.proofs.lemmas.Bool.{false≢true}
 use Rattle.abt_sparse.specs.Block.{classify}

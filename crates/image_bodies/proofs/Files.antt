@@ -1,20 +1,25 @@
 -- What opening, creating and ending leave together.
-use Rattle.std.proofs.Common.{inl, inr, arith, ◌⊎◌, ◌+◌, ◌≡◌, ◌≢◌, ◌<◌, ℕ, List, [], ◌∷◌, ◌++◌, length, Option, Some, None, Bool, true, refl, sym, ◌∙◌, ap, subst}
+use Rattle.std.proofs.Common.{inl, inr, arith, ◌⊎◌, ◌+◌, ◌≡◌, ◌≢◌, ◌<◌, ℕ, List, [], ◌∷◌, ◌++◌, length, Option, Some}
+use Rattle.std.proofs.Common.{None, Bool, true, refl, sym, ◌∙◌, ap, subst}
 use Rattle.std.specs.Prelude.{Contains, unwrap_or, IsTrue, if◌then◌else◌, ◌&&◌}
 use Rattle.std.proofs.lemmas.List.Elements.{Contains-append_left, Contains-push}
 use Rattle.abt_runs.specs.declared.part.RunFault.{RunFault}
 use Rattle.abt_runs.specs.Raw.{Refused}
 use Rattle.abt_sparsify.specs.declared.count.Written.{Written}
 use Rattle.abt_disk.specs.Images.{EmptiesAt}
-use Rattle.abt_disk.specs.World.{World, Held, Spares, OpensFile, Creates, OnlyAt, untouched, in_output, SparesRest, KeepsFile, reading, creating, ended}
-use Rattle.abt_disk.proofs.Files.{spares_trans}
+use Rattle.abt_disk.specs.World.{World, Held, Spares, OpensFile, Creates, OnlyAt, untouched, in_output, SparesRest}
+use Rattle.abt_disk.specs.World.{KeepsFile, HasFailed, reading, creating, ended}
+use Rattle.abt_disk.proofs.Worlds.{spares_trans}
 use Rattle.abt_disk.proofs.Worlds.{apart}
+use Rattle.abt_refusals.specs.declared.refusal.HostFault.{HostFault}
 use Rattle.sparse_rules.specs.Blocks.{IsBlockSize}
 use Rattle.sparse_rules.specs.Lines.{text_of}
 use Rattle.sparse_rules.specs.declared.lines.Line.TheVariants as lines
 use Rattle.sparse_rules.specs.declared.fault.SparseCommandFault.{SparseCommandFault}
 use Rattle.sparse_rules.specs.declared.fault.SparseCommandFault.TheVariants as faults
-use Rattle.image_bodies.specs.Sparsing.{SparsifiesFile, HoldsNoPart, HoldsImage, HasNoBlocks, IsOutside, RefusesRaw, IsWritten, HoldsWritten, LeavesNoPart, HoldsNone, image_of_raw, blocks_of_raw, chunks_of_raw}
+use Rattle.image_bodies.specs.Sparsing.{SparsifiesFile, HoldsNoPart, HoldsImage, HasNoBlocks, IsOutside, RefusesRaw}
+use Rattle.image_bodies.specs.Sparsing.{IsWritten, HoldsWritten, LeavesNoPart, HoldsNone, image_of_raw, blocks_of_raw}
+use Rattle.image_bodies.specs.Sparsing.{chunks_of_raw}
 
 one : (o : Option ℕ) (f g : ℕ) → o ≡ Some f → o ≡ Some g → f ≡ g
 one o f g a b = ap (λ p. unwrap_or p 0) (sym a ∙ b)
@@ -81,25 +86,32 @@ part_whole input output bytes size n x h h' h'' a b c d sized opened made has = 
 
 -- ---- why it is refused
 
-pub no_blocks : (path bytes : List ℕ) (size long : ℕ) (h h' : Held) (a b : World) (f : RunFault)
-    (told : SparseCommandFault) → OpensFile a path bytes h h' → b ≡ a → long ≡ length bytes → Refused f size long
-    → told ≡ faults.Run f → RefusesRaw path size a b told
-no_blocks path bytes size long h h' a b f told opened same is refused told_is =
-    subst (λ k. RefusesRaw path size a b k) (sym told_is) (record {
+pub no_blocks : (path bytes : List ℕ) (size long : ℕ) (h h' k k' : Held) (a b : World) (f : RunFault)
+    (told : SparseCommandFault) (Done : Type 0) → OpensFile a path bytes h h' → b ≡ a → long ≡ length bytes
+    → Refused f size long → told ≡ faults.Run f → RefusesRaw path size a b k k' Done told
+no_blocks path bytes size long h h' k k' a b f told Done opened same is refused told_is =
+    subst (λ e. RefusesRaw path size a b k k' Done e) (sym told_is) (record {
       file = opened.file;
       there = opened.there;
       fails = subst (λ n. Refused f size n) (is ∙ ap length opened.held) refused;
       untouched = same;
     })
 
-pub refuses : (path : List ℕ) (size : ℕ) (a b : World) (f : SparseCommandFault) → IsOutside f → RefusesRaw path size a b f
-refuses path size a b (faults.Sparse f) h = absurd h
-refuses path size a b (faults.Run f) h = absurd h
-refuses path size a b (faults.Piece f) h = h
-refuses path size a b (faults.Flash f) h = absurd h
-refuses path size a b (faults.Verify f) h = absurd h
-refuses path size a b (faults.OtherBlocks image) h = absurd h
-refuses path size a b (faults.Host f) h = tt
+pub refuses : (path : List ℕ) (size : ℕ) (a b : World) (h h' : Held) (Done : Type 0) (f : SparseCommandFault)
+    → IsOutside f → HasFailed h h' → RefusesRaw path size a b h h' Done f
+refuses path size a b h h' Done (faults.Sparse f) is failed = absurd is
+refuses path size a b h h' Done (faults.Run f) is failed = absurd is
+refuses path size a b h h' Done (faults.Piece f) is failed = (is, failed)
+refuses path size a b h h' Done (faults.Flash f) is failed = absurd is
+refuses path size a b h h' Done (faults.Verify f) is failed = absurd is
+refuses path size a b h h' Done (faults.OtherBlocks image) is failed = absurd is
+refuses path size a b h h' Done (faults.Host f) is failed = inl failed
+
+-- a call of the disk was refused, or only the line
+pub refuses_host : (path : List ℕ) (size : ℕ) (a b : World) (h h' : Held) (Done : Type 0) (f : SparseCommandFault)
+    (k : HostFault) → f ≡ faults.Host k → HasFailed h h' ⊎ Done → RefusesRaw path size a b h h' Done f
+refuses_host path size a b h h' Done f k told why =
+    subst (λ e. RefusesRaw path size a b h h' Done e) (sym told) why
 
 -- ---- all is done
 
@@ -109,7 +121,8 @@ pub sparsifies : (input output bytes : List ℕ) (size n : ℕ) (x : Written) (h
     → shows (text_of (lines.Sparse x.blocks x.chunks x.bytes) ++ (10 ∷ []))
     → SparsifiesFile input output size a d shows
 sparsifies input output bytes size n x h h' h'' a b c d shows sized_as good opened same made has shown =
-    let so : HoldsWritten size bytes x h''.output c d = subst (λ k. HoldsWritten k bytes x h''.output c d) sized_as has in
+    let so : HoldsWritten size bytes x h''.output c d = subst (λ k. HoldsWritten k bytes x h''.output c d) sized_as has
+    in
     let it : IsWritten size bytes x (d.holds made.file) × Spares made.file c d
     = subst (λ k. HoldsWritten size bytes x k.output c d) made.begins so in
     let spared : Spares made.file a c = subst (λ w. Spares made.file w c) same made.spares in
@@ -117,7 +130,8 @@ sparsifies input output bytes size n x h h' h'' a b c d shows sized_as good open
     = subst (λ n. shows (text_of (lines.Sparse n x.chunks x.bytes) ++ (10 ∷ []))) it.0.blocks shown in
     let two : shows (text_of (lines.Sparse (blocks_of_raw size bytes) (chunks_of_raw size bytes) x.bytes) ++ (10 ∷ []))
     = subst (λ n. shows (text_of (lines.Sparse (blocks_of_raw size bytes) n x.bytes) ++ (10 ∷ []))) it.0.chunks one_ in
-    let three : shows (text_of (lines.Sparse (blocks_of_raw size bytes) (chunks_of_raw size bytes) (length (d.holds made.file)))
+    let three : shows (text_of (lines.Sparse (blocks_of_raw size bytes) (chunks_of_raw size bytes) (length (d.holds
+    made.file)))
     ++ (10 ∷ []))
     = subst (λ n. shows (text_of (lines.Sparse (blocks_of_raw size bytes) (chunks_of_raw size bytes) n) ++ (10 ∷ [])))
     it.0.long two in

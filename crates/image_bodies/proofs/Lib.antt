@@ -1,2 +1,9 @@
 pub mod Answered
+pub mod Beside
+pub mod Counted
+pub mod Cuts
 pub mod Files
+pub mod Nexts
+pub mod Opened
+pub mod Unders
+pub mod Wholes

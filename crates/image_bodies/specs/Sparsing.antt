@@ -1,5 +1,6 @@
 -- What the command `sparse` leaves of files, and what it prints.
-use Rattle.std.specs.Prelude.{◌≡◌, ◌≢◌, ◌<◌, ◌⊎◌, ℕ, List, [], ◌∷◌, ◌++◌, Option, Some, None, length}
+use Rattle.std.specs.Prelude.{◌≡◌, ◌≢◌, ◌<◌, ◌≤◌, ◌⊎◌, ℕ, List, [], ◌∷◌, ◌++◌, Option, Some, None, length, Bool, false}
+use Rattle.std.specs.Prelude.{IsTrue}
 use Rattle.abt_sparse.specs.Block.{classify}
 use Rattle.abt_sparse.specs.Chunk.{chunks_of, spelling}
 use Rattle.abt_runs.specs.declared.part.RunFault.{RunFault}
@@ -8,7 +9,7 @@ use Rattle.abt_pieces.specs.declared.fault.PieceFault.{PieceFault}
 use Rattle.abt_pieces.specs.declared.fault.PieceFault.TheVariants as pieces
 use Rattle.abt_placed.specs.Unfinished.{IsNoImage}
 use Rattle.abt_sparsify.specs.declared.count.Written.{Written}
-use Rattle.abt_disk.specs.World.{World, Spares}
+use Rattle.abt_disk.specs.World.{World, Held, Spares, HasFailed, ended}
 use Rattle.sparse_rules.specs.Blocks.{IsBlockSize, most_of}
 use Rattle.sparse_rules.specs.Lines.{text_of}
 use Rattle.sparse_rules.specs.declared.fault.SparseCommandFault.{SparseCommandFault}
@@ -80,15 +81,33 @@ IsOutside (faults.Verify f) = ⊥
 IsOutside (faults.OtherBlocks image) = ⊥
 IsOutside (faults.Host f) = Unit {0}
 
--- the block size is none that the file at this path has, which is told before anything is touched; or a device failed
-abbrev pub RefusesRaw : List ℕ → ℕ → World → World → SparseCommandFault → Type 0
-RefusesRaw path size old new (faults.Run f) = HasNoBlocks path size old new f
-RefusesRaw path size old new (faults.Piece f) = IsOfPieceDevices f
-RefusesRaw path size old new (faults.Host f) = Unit {0}
-RefusesRaw path size old new (faults.Sparse f) = ⊥
-RefusesRaw path size old new (faults.Flash f) = ⊥
-RefusesRaw path size old new (faults.Verify f) = ⊥
-RefusesRaw path size old new (faults.OtherBlocks image) = ⊥
+-- the block size is none that the file at this path has, which is told before anything is touched; or a device failed;
+-- or a call of the disk did, or all was done and the line could not be printed
+abbrev pub RefusesRaw : List ℕ → ℕ → World → World → Held → Held → Type 0 → SparseCommandFault → Type 0
+RefusesRaw path size old new held held' Done (faults.Run f) = HasNoBlocks path size old new f
+RefusesRaw path size old new held held' Done (faults.Piece f) = IsOfPieceDevices f × HasFailed held held'
+RefusesRaw path size old new held held' Done (faults.Host f) = HasFailed held held' ⊎ Done
+RefusesRaw path size old new held held' Done (faults.Sparse f) = ⊥
+RefusesRaw path size old new held held' Done (faults.Flash f) = ⊥
+RefusesRaw path size old new held held' Done (faults.Verify f) = ⊥
+RefusesRaw path size old new held held' Done (faults.OtherBlocks image) = ⊥
+
+-- a line that could not be printed
+abbrev pub unprinted : List ℕ → Type 0
+unprinted line = Unit {0}
+
+-- the output that was open is closed: it was brought to its end exactly where nothing has failed
+pub record ClosesOutput (is_done : Bool) (old new : Held) : Type 0 where
+  pub failures : ℕ
+  pub closed : new ≡ ended is_done failures old
+  pub clean : IsTrue is_done → failures ≡ 0
+  pub cause : is_done ≡ false → 0 < failures
+
+-- the output that was open was let go, which had failed so often, or more often in the end
+pub record GivesUp (faults : ℕ) (old new : Held) : Type 0 where
+  pub failures : ℕ
+  pub closed : new ≡ ended false failures old
+  pub least : faults ≤ failures
 
 -- these are the numbers of the sparse image of these bytes, and behind nothing it was written
 pub record IsWritten (size : ℕ) (x : List ℕ) (a : Written) (bytes : List ℕ) : Type 0 where

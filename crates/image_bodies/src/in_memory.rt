@@ -1,18 +1,21 @@
-//! The command over a disk in memory, which tells what its files hold: no clause is left that says nothing.
+//! The commands over a disk in memory, which tells what its files hold: no clause is left that says nothing.
 
 ghost use Rattle.std.specs.Prelude.{◌≡◌, ◌+◌, None, IsTrue, IfErr, OnOk, if◌then◌else◌};
 ghost use Rattle.abt_disk.specs.Images.{is_over};
-ghost use Rattle.abt_disk.specs.Memory.{held_of, world_of};
-ghost use Rattle.abt_disk.specs.World.{IsReading, OnlyAt, KeepsFile};
+ghost use Rattle.memory_disk.specs.Memory.{held_of, world_of};
+ghost use Rattle.abt_disk.specs.World.{IsReading, OnlyAt, KeepsFile, HasNotFailed};
 ghost use Rattle.abt_output.specs.Shows.{Shows};
 ghost use Rattle.abt_refusals.specs.Paths.{path_of, path_out};
-ghost use Rattle.image_bodies.specs.Sparsing.{SparsifiesFile, HoldsNoPart, RefusesRaw};
+ghost use Rattle.image_bodies.specs.Sparsing.{SparsifiesFile, HoldsNoPart, RefusesRaw, unprinted};
+ghost use Rattle.image_bodies.specs.Cutting.{CutsFile, IsPiecePath, RefusesCut, ShowsLast};
+ghost use Rattle.image_bodies.specs.Under.{OnlyUnder};
 
+use crate::cut::{Cutting, cut_file};
 use crate::sparse::sparse_file;
-use abt_disk::MemoryDisk;
 use abt_io::{Meter, Window};
 use abt_output::Report;
 use abt_refusals::Place;
+use memory_disk::MemoryDisk;
 use sparse_rules::SparseRefusal;
 
 /// Writes the sparse image of a raw one to another file of a disk in memory.
@@ -36,7 +39,32 @@ pub fn sparse_in_memory<'a>(
     ensures whole { IsTrue (is_over (path_out output.entry)) → HoldsNoPart (path_of input.entry)
         (path_out output.entry) block (world_of disk.old) (world_of disk.new) }
     ensures refused { IfErr result (λ refusal. RefusesRaw (path_of input.entry) block (world_of disk.old)
-        (world_of disk.new) refusal.fault) }
+        (world_of disk.new) (held_of disk.old) (held_of disk.new) (SparsifiesFile (path_of input.entry)
+        (path_out output.entry) block (world_of disk.old) (world_of disk.new) unprinted) refusal.fault) }
+    ensures clean { OnOk result (HasNotFailed (held_of disk.old) (held_of disk.new)) }
 {
     sparse_file(disk, report, input, output, block, w, m)
+}
+
+/// Writes each piece of an image to a file of a disk in memory.
+pub fn cut_in_memory<'a>(
+    disk: &mut MemoryDisk,
+    report: &mut Report,
+    order: Cutting<'a>,
+    w: &mut Window,
+    m: &mut Meter,
+) -> Result<(), SparseRefusal<'a>>
+    requires { IsReading (held_of disk.old) }
+    ensures done { OnOk result (CutsFile order.entry.raw order.entry.limit (path_of order.entry.input) order.entry.prefix.now
+        (held_of disk.old) (held_of disk.new) (world_of disk.old) (world_of disk.new)
+        (ShowsLast report.new)) }
+    ensures only { OnlyUnder (IsPiecePath order.entry.prefix.now) (held_of disk.old).read (held_of disk.new).begun
+        (world_of disk.old) (world_of disk.new) }
+    ensures input { KeepsFile (path_of order.entry.input) (world_of disk.old) (world_of disk.new) }
+    ensures closed { (held_of disk.new).output ≡ None }
+    ensures refused { IfErr result (λ refusal. RefusesCut order.entry.raw order.entry.limit (path_of order.entry.input)
+        order.entry.prefix.now refusal.fault (held_of disk.old) (held_of disk.new) (world_of disk.old) (world_of disk.new)) }
+    ensures clean { OnOk result (HasNotFailed (held_of disk.old) (held_of disk.new)) }
+{
+    cut_file(disk, report, order, w, m)
 }

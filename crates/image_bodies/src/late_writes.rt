@@ -1,9 +1,9 @@
 //! What is told of a command that stopped, where its file is written late.
 
-ghost use Rattle.std.specs.Prelude.{◌≡◌, IsTrue, IfErr, IfOk, OnOk};
+ghost use Rattle.std.specs.Prelude.{◌≡◌, ◌≤◌, false, IsTrue, IfErr, IfOk, OnOk};
 ghost use Rattle.abt_disk.specs.Images.{Leaves};
-ghost use Rattle.abt_disk.specs.World.{SparesRest, given_up};
-ghost use Rattle.image_bodies.specs.Sparsing.{IsOutside};
+ghost use Rattle.abt_disk.specs.World.{SparesRest};
+ghost use Rattle.image_bodies.specs.Sparsing.{IsOutside, GivesUp};
 
 use abt_disk::{Disk, Late, Reasons};
 use abt_io::DeviceFault;
@@ -20,7 +20,8 @@ pub(crate) fn stopped<'a, D: Disk>(
     sides: Sides<'a>,
 ) -> SparseRefusal<'a>
     ensures left { IsTrue D.tells → Leaves (D.held disk.old).output (D.Image.Output.written image) (D.world disk.new) }
-    ensures closed { IsTrue D.tells → D.held disk.new ≡ given_up (D.held disk.old) }
+    ensures closed { IsTrue D.tells → GivesUp (D.Image.Output.write_faults image) (D.held disk.old)
+        (D.held disk.new) }
     ensures rest { IsTrue D.tells → SparesRest (D.held disk.old).output (D.world disk.old) (D.world disk.new) }
     ensures outside { IsOutside fault → IsOutside result.fault }
 {

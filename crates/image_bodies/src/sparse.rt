@@ -1,11 +1,11 @@
 //! The body of the command `sparse`.
 
 ghost use Rattle.std.specs.Prelude.{◌≡◌, ◌+◌, ◌++◌, ◌∷◌, [], None, IsTrue, IfErr, OnOk, if◌then◌else◌};
-ghost use Rattle.abt_disk.specs.World.{IsReading, OnlyAt, KeepsFile};
+ghost use Rattle.abt_disk.specs.World.{IsReading, OnlyAt, KeepsFile, HasNotFailed};
 ghost use Rattle.abt_output.specs.Shows.{Shows};
 ghost use Rattle.abt_refusals.specs.Paths.{path_of, path_out};
 ghost use Rattle.sparse_rules.specs.Lines.{text_of};
-ghost use Rattle.image_bodies.specs.Sparsing.{SparsifiesFile, HoldsNoPart, RefusesRaw};
+ghost use Rattle.image_bodies.specs.Sparsing.{SparsifiesFile, HoldsNoPart, RefusesRaw, unprinted};
 
 use crate::writing::write_whole;
 use abt_disk::Disk;
@@ -42,21 +42,25 @@ pub fn sparse_file<'a, D: Disk>(
     ensures input { IsTrue D.tells → KeepsFile (path_of input.entry) (D.world disk.old) (D.world disk.new) }
     ensures whole { IsTrue D.tells → IsTrue (D.is_over (path_out output.entry)) → HoldsNoPart (path_of input.entry)
         (path_out output.entry) block (D.world disk.old) (D.world disk.new) }
-    // it is refused for a block size that IN hasn't, before anything is touched, or for a fault of files or devices
+    // it is refused for a block size that IN hasn't, before anything is touched, or for a fault of files or devices that
+    // came, or where all is done and can't be told; and else nothing has failed
     ensures refused { IsTrue D.tells → IfErr result (λ refusal. RefusesRaw (path_of input.entry) block
-        (D.world disk.old) (D.world disk.new) refusal.fault) }
+        (D.world disk.old) (D.world disk.new) (D.held disk.old) (D.held disk.new)
+        (SparsifiesFile (path_of input.entry) (path_out output.entry) block (D.world disk.old) (D.world disk.new)
+        unprinted) refusal.fault) }
+    ensures clean { IsTrue D.tells → OnOk result (HasNotFailed (D.held disk.old) (D.held disk.new)) }
 {
-    let mut source = disk.source(input)?;
+    let source = disk.source(input)?;
     let sides = Sides::none().reading(input, None);
     let blocks = match blocks_of(&source, block) {
         Ok(blocks) => blocks,
         Err(fault) => return Err(sides.refuse(SparseCommandFault::Run(fault))),
     };
     report.progress.expect(source.length(), 1);
-    let image = disk.image(output)?;
+    let image = disk.image(output, true)?;
     let (written, is_on_output) = match write_whole(
         disk,
-        &mut source,
+        source,
         blocks,
         image,
         output,

@@ -2,10 +2,11 @@
 
 ghost use Rattle.std.specs.Prelude.{◌≡◌, ◌≤◌, ◌-◌, ◌*◌, ◌^◌, [], IsTrue, IfOk, IfErr, OnErr, is_ok};
 ghost use Rattle.abt_disk.specs.Images.{OfImage, is_file};
-ghost use Rattle.abt_disk.specs.World.{SparesRest, ended};
-ghost use Rattle.image_bodies.specs.Sparsing.{HoldsWritten, LeavesNoPart, IsOutside};
+ghost use Rattle.abt_disk.specs.World.{SparesRest};
+ghost use Rattle.image_bodies.specs.Sparsing.{HoldsWritten, LeavesNoPart, IsOutside, ClosesOutput};
 ghost use Rattle.sparse_rules.specs.Blocks.{IsBlockSize, most_of};
 
+use crate::carried::Carried;
 use crate::late_writes::stopped;
 use crate::laying::{lay_image, write_image};
 use abt_disk::{Disk, ImageTo, Reasons, ended};
@@ -23,7 +24,7 @@ const PASSES: u64 = 3;
 /// is where standard output goes.
 pub(crate) fn write_whole<'a, D: Disk>(
     disk: &mut D,
-    source: &mut D::At,
+    source: D::At,
     blocks: Blocks,
     image: ImageTo<D::Image, D::Onto>,
     output: Place<'a>,
@@ -34,14 +35,17 @@ pub(crate) fn write_whole<'a, D: Disk>(
 ) -> Result<(Written, bool), SparseRefusal<'a>>
     requires sized { IsBlockSize blocks.size }
     requires most { blocks.most ≡ most_of blocks.size }
-    requires few { D.At.size source.old ≤ (2 ^ 32 - 1) * blocks.size }
+    requires few { D.At.size source ≤ (2 ^ 32 - 1) * blocks.size }
     requires empty { OfImage (λ file. D.Image.Output.written file ≡ []) (λ onto. D.Onto.written onto ≡ []) image }
-    ensures holds { IsTrue D.tells → IfOk result (λ end. HoldsWritten blocks.size (D.At.content source.old) end.0
+    requires read { IsTrue D.tells → D.At.read_faults source ≡ 0 }
+    requires clean { IsTrue D.tells → OfImage (λ file. D.Image.Output.write_faults file ≡ 0)
+        (λ onto. D.Onto.write_faults onto ≡ 0) image }
+    ensures holds { IsTrue D.tells → IfOk result (λ end. HoldsWritten blocks.size (D.At.content source) end.0
         (D.held disk.old).output (D.world disk.old) (D.world disk.new)) }
-    ensures closed { IsTrue D.tells → D.held disk.new ≡ ended (is_ok result) (D.held disk.old) }
+    ensures closed { IsTrue D.tells → ClosesOutput (is_ok result) (D.held disk.old) (D.held disk.new) }
     ensures rest { IsTrue D.tells → SparesRest (D.held disk.old).output (D.world disk.old) (D.world disk.new) }
     ensures broken { IsTrue D.tells → IsTrue (is_file image) → OnErr result (LeavesNoPart blocks.size
-        (D.At.content source.old) (D.held disk.old).output (D.world disk.new)) }
+        (D.At.content source) (D.held disk.old).output (D.world disk.new)) }
     ensures outside { IsTrue D.tells → IfErr result (λ refusal. IsOutside refusal.fault) }
 {
     match image {
@@ -58,7 +62,7 @@ pub(crate) fn write_whole<'a, D: Disk>(
 // The same to a file that is written over.
 fn write_over<'a, D: Disk>(
     disk: &mut D,
-    source: &mut D::At,
+    source: D::At,
     blocks: Blocks,
     image: D::Image,
     output: Place<'a>,
@@ -69,18 +73,27 @@ fn write_over<'a, D: Disk>(
 ) -> Result<(Written, bool), SparseRefusal<'a>>
     requires sized { IsBlockSize blocks.size }
     requires most { blocks.most ≡ most_of blocks.size }
-    requires few { D.At.size source.old ≤ (2 ^ 32 - 1) * blocks.size }
+    requires few { D.At.size source ≤ (2 ^ 32 - 1) * blocks.size }
     requires empty { D.Image.Output.written image ≡ [] }
-    ensures holds { IsTrue D.tells → IfOk result (λ end. HoldsWritten blocks.size (D.At.content source.old) end.0
+    requires read { IsTrue D.tells → D.At.read_faults source ≡ 0 }
+    requires clean { IsTrue D.tells → D.Image.Output.write_faults image ≡ 0 }
+    ensures holds { IsTrue D.tells → IfOk result (λ end. HoldsWritten blocks.size (D.At.content source) end.0
         (D.held disk.old).output (D.world disk.old) (D.world disk.new)) }
-    ensures closed { IsTrue D.tells → D.held disk.new ≡ ended (is_ok result) (D.held disk.old) }
+    ensures closed { IsTrue D.tells → ClosesOutput (is_ok result) (D.held disk.old) (D.held disk.new) }
     ensures rest { IsTrue D.tells → SparesRest (D.held disk.old).output (D.world disk.old) (D.world disk.new) }
-    ensures broken { IsTrue D.tells → OnErr result (LeavesNoPart blocks.size (D.At.content source.old)
+    ensures broken { IsTrue D.tells → OnErr result (LeavesNoPart blocks.size (D.At.content source)
         (D.held disk.old).output (D.world disk.new)) }
     ensures outside { IsTrue D.tells → IfErr result (λ refusal. IsOutside refusal.fault) }
 {
+    let mut carried = Carried {
+        device: source,
+        progress,
+    };
     let mut image = image;
-    match lay_image(source, blocks, &mut image, progress, w, m) {
+    let answer = lay_image(&mut carried, blocks, &mut image, w, m);
+    let Carried { device: source, .. } = carried;
+    disk.let_go_source(source);
+    match answer {
         Ok(written) => match disk.finish_image(image, output) {
             Ok(is_on_output) => Ok((written, is_on_output)),
             Err(refusal) => Err(refusal.into()),
@@ -92,7 +105,7 @@ fn write_over<'a, D: Disk>(
 // The same to what is written from its front on.
 fn write_through<'a, D: Disk>(
     disk: &mut D,
-    source: &mut D::At,
+    source: D::At,
     blocks: Blocks,
     onto: D::Onto,
     output: Place<'a>,
@@ -103,15 +116,23 @@ fn write_through<'a, D: Disk>(
 ) -> Result<(Written, bool), SparseRefusal<'a>>
     requires sized { IsBlockSize blocks.size }
     requires most { blocks.most ≡ most_of blocks.size }
-    requires few { D.At.size source.old ≤ (2 ^ 32 - 1) * blocks.size }
+    requires few { D.At.size source ≤ (2 ^ 32 - 1) * blocks.size }
     requires empty { D.Onto.written onto ≡ [] }
-    ensures holds { IsTrue D.tells → IfOk result (λ end. HoldsWritten blocks.size (D.At.content source.old) end.0
+    requires read { IsTrue D.tells → D.At.read_faults source ≡ 0 }
+    requires clean { IsTrue D.tells → D.Onto.write_faults onto ≡ 0 }
+    ensures holds { IsTrue D.tells → IfOk result (λ end. HoldsWritten blocks.size (D.At.content source) end.0
         (D.held disk.old).output (D.world disk.old) (D.world disk.new)) }
-    ensures closed { IsTrue D.tells → D.held disk.new ≡ ended (is_ok result) (D.held disk.old) }
+    ensures closed { IsTrue D.tells → ClosesOutput (is_ok result) (D.held disk.old) (D.held disk.new) }
     ensures rest { IsTrue D.tells → SparesRest (D.held disk.old).output (D.world disk.old) (D.world disk.new) }
     ensures outside { IsTrue D.tells → IfErr result (λ refusal. IsOutside refusal.fault) }
 {
+    let mut carried = Carried {
+        device: source,
+        progress,
+    };
     let mut onto = onto;
-    let answer = write_image(source, blocks, &mut onto, progress, w, m);
+    let answer = write_image(&mut carried, blocks, &mut onto, w, m);
+    let Carried { device: source, .. } = carried;
+    disk.let_go_source(source);
     ended(disk, answer, onto, output, sides)
 }

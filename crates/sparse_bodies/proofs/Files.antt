@@ -1,43 +1,46 @@
 -- What opening, creating and ending leave together.
-use Rattle.std.proofs.Common.{◌≡◌, ◌≢◌, ℕ, ◌*◌, List, [], ◌∷◌, ◌++◌, Some, refl, sym, ◌∙◌, ap, subst}
-use Rattle.std.specs.Prelude.{Result, Ok, Err, IsOk, IfErr}
+use Rattle.std.proofs.Common.{inl, inr, arith, ◌≡◌, ◌<◌, ℕ, ◌+◌, Bool, true, false, List, [], ◌∷◌, ◌++◌}
+use Rattle.std.proofs.Common.{refl, sym, ◌∙◌, ap, subst}
+use Rattle.std.specs.Prelude.{Result, Ok, Err, IsOk, IfErr, IsErrAnd, is_ok, if◌then◌else◌}
+use Rattle.std.proofs.lemmas.Bool.{false≢true}
 use Rattle.abt_sparse.specs.Block.{expansion}
 use Rattle.abt_sparse.specs.Chunk.{classed}
 use Rattle.abt_sparse.specs.Fails.{Fails, Spells}
-use Rattle.abt_chunks.proofs.Finishing.{unless_map}
 use Rattle.abt_chunks.specs.declared.progress.Expanded.{Expanded}
 use Rattle.abt_sparse.specs.declared.fault.SparseFault.{SparseFault}
-use Rattle.abt_chunks.specs.Expanding.{UnlessDevice}
+use Rattle.abt_sparse.specs.declared.fault.SparseFault.TheVariants as of_sparse
+use Rattle.abt_chunks.specs.Cause.{Clean}
+use Rattle.abt_chunks.specs.Expanding.{Rises, UnlessDevice}
 use Rattle.abt_chunks.specs.Whole.{Expansion, Refusal}
-use Rattle.abt_disk.specs.World.{World, Held, Spares, OpensFile, Creates, Ends}
-use Rattle.abt_disk.proofs.Files.{spares_trans}
+use Rattle.abt_disk.specs.World.{World, Held, Spares, OpensFile, Creates, Ends, SparesRest, HasFailed, HasNotFailed}
+use Rattle.abt_disk.specs.World.{failing, ended, unended}
+use Rattle.abt_disk.proofs.Worlds.{spares_trans}
 use Rattle.abt_disk.proofs.Worlds.{apart}
 use Rattle.sparse_rules.specs.declared.lines.Line.TheVariants as lines
 use Rattle.sparse_rules.specs.Lines.{text_of}
 use Rattle.sparse_rules.specs.declared.fault.SparseCommandFault.{SparseCommandFault}
 use Rattle.sparse_rules.specs.declared.fault.SparseCommandFault.TheVariants as faults
-use Rattle.sparse_bodies.specs.Expanding.{ExpandsFile, Says, RefusesFile, HasFault, FromHost}
+use Rattle.sparse_bodies.specs.Expanding.{Blames, ExpandsFile, Says, RefusesFile, HasFault, FromHost, OfDevice}
 
--- a fault that is told is the image's own
-pub refuses_sparse : (path x old new : List ℕ) (h h' : Held) (a : World) (f : SparseFault) → OpensFile a path x h h'
-    → UnlessDevice f (Refusal f old new x) → UnlessDevice f (HasFault path a f)
-refuses_sparse path x old new h h' a f opened says =
-    unless_map f (Refusal f old new x) (HasFault path a f) (λ r. record {
-      file = opened.file;
-      there = opened.there;
-      given = r.given;
-      fails = subst (λ z. Fails z f r.given) opened.held r.fails;
-    }) says
+-- ---- what was read is let go before the output is at its end
 
-own : (path x old new : List ℕ) (h h' : Held) (a : World) (f : SparseCommandFault) → OpensFile a path x h h'
-    → Says (Err f) x old new → RefusesFile path a f
-own path x old new h h' a (faults.Sparse f) opened says = refuses_sparse path x old new h h' a f opened says
-own path x old new h h' a (faults.Run f) opened says = absurd says
-own path x old new h h' a (faults.Piece f) opened says = absurd says
-own path x old new h h' a (faults.Flash f) opened says = absurd says
-own path x old new h h' a (faults.Verify f) opened says = absurd says
-own path x old new h h' a (faults.OtherBlocks f) opened says = absurd says
-own path x old new h h' a (faults.Host f) opened says = absurd says
+pub rest_behind : (n : ℕ) (h h' : Held) (a b c : World) → h' ≡ failing n h → b ≡ a → SparesRest h'.output b c
+    → SparesRest h.output a c
+rest_behind n h h' a b c gone same rest =
+    subst (λ w. SparesRest h.output w c) same (subst (λ k. SparesRest k.output b c) gone rest)
+
+pub ends_behind : (bytes : List ℕ) (n : ℕ) (h h' : Held) (a b c : World) → h' ≡ failing n h → b ≡ a
+    → Ends h'.output bytes b c → Ends h.output bytes a c
+ends_behind bytes n h h' a b c gone same ends =
+    subst (λ w. Ends h.output bytes w c) same (subst (λ k. Ends k.output bytes b c) gone ends)
+
+pub synced_once : (input path bytes : List ℕ) (h h1 h2 h3 h4 : Held) (w a b : World) (r n : ℕ)
+    → OpensFile w input bytes h h1 → Creates path h1 h2 a b → h3 ≡ failing r h2 → h4 ≡ ended true n h3
+    → h4.syncs ≡ h.syncs + (if h.is_synced then 1 else 0)
+synced_once input path bytes h h1 h2 h3 h4 w a b r n opened made gone closed =
+    ap (λ k. k.syncs) closed ∙ ap (λ k. k.syncs + (if k.is_synced then 1 else 0)) gone
+    ∙ ap (λ k. k.syncs + (if k.is_synced then 1 else 0)) made.begins
+    ∙ ap (λ k. k.syncs + (if k.is_synced then 1 else 0)) opened.taken
 
 -- an image that was read whole, and whose expansion an output holds that was brought to its end
 pub expands : (input path bytes x y rest : List ℕ) (h h' h'' : Held) (a a' b c : World) (e : Expanded)
@@ -45,7 +48,8 @@ pub expands : (input path bytes x y rest : List ℕ) (h h' h'' : Held) (a a' b c
     → Ends h''.output bytes b c → y ≡ [] → Expansion e y bytes x rest
     → shows (text_of (lines.Expanded e.blocks e.bytes) ++ (10 ∷ [])) → ExpandsFile input path a c shows
 expands input path bytes x y rest h h' h'' a a' b c e shows opened same made ends empty whole shown =
-    let after : (c.holds made.file ≡ bytes) × Spares made.file b c = subst (λ k. Ends k.output bytes b c) made.begins ends in
+    let after : (c.holds made.file ≡ bytes) × Spares made.file b c
+    = subst (λ k. Ends k.output bytes b c) made.begins ends in
     let spared : Spares made.file a b = subst (λ w. Spares made.file w b) same made.spares in
     record {
       from = opened.file;
@@ -63,13 +67,100 @@ expands input path bytes x y rest h h' h'' a a' b c e shows opened same made end
           (subst (λ n. shows (text_of (lines.Expanded n e.bytes) ++ (10 ∷ []))) whole.blocks shown);
     }
 
--- a fault that is made of one of files
-of_host : (path : List ℕ) (a : World) (r : SparseCommandFault) → FromHost r → RefusesFile path a r
-of_host path a r made = subst (λ f. RefusesFile path a f) (sym made.1) tt
+-- ---- what has failed
 
-pub refuses : (path x old new : List ℕ) (h h' : Held) (a : World) (answer : Result Expanded SparseCommandFault)
-    (r : SparseCommandFault) → OpensFile a path x h h' → Says answer x old new → (IsOk answer → FromHost r)
-    → IfErr answer (λ f. r ≡ f) → RefusesFile path a r
-refuses path x old new h h' a (Ok e) r opened says files told = of_host path a r (files refl)
-refuses path x old new h h' a (Err f) r opened says files told =
-    subst (λ q. RefusesFile path a q) (sym told) (own path x old new h h' a f opened says)
+-- an input and an output were opened; the input was let go, the output closed; so much has failed since
+pub failed_behind : (input path bytes : List ℕ) (h h1 h2 h3 h4 : Held) (w a b : World) (r n : ℕ) (done : Bool)
+    → OpensFile w input bytes h h1 → Creates path h1 h2 a b → h3 ≡ failing r h2 → h4 ≡ ended done n h3
+    → h4.failed ≡ h.failed + (r + n)
+failed_behind input path bytes h h1 h2 h3 h4 w a b r n done opened made gone closed =
+    let first : h1.failed ≡ h.failed = ap (λ k. k.failed) opened.taken in
+    let second : h2.failed ≡ h1.failed = ap (λ k. k.failed) made.begins in
+    let third : h3.failed ≡ h2.failed + r = ap (λ k. k.failed) gone in
+    let last : h4.failed ≡ h3.failed + n = ap (λ k. k.failed) closed in
+    omega (arith, first, second, third, last)
+
+-- a fault of what IN's file holds, or a device failed and its count rose
+pub of_image : (f : SparseFault) (risen failed : Type 0) (P Q : Type 0) → (risen → failed) → (P → Q)
+    → OfDevice f risen (Unit {0}) → UnlessDevice f P → OfDevice f failed Q
+of_image (of_sparse.Read d) risen failed P Q up go rose is = up rose
+of_image (of_sparse.Write d) risen failed P Q up go rose is = up rose
+of_image f risen failed P Q up go rose is = go is
+
+own : (input path x old new : List ℕ) (h h1 k : Held) (a c : World) (f : SparseCommandFault) (r0 r w w' : ℕ)
+    → OpensFile a input x h h1 → r0 ≡ 0 → w ≡ 0 → k.failed ≡ h.failed + (r + w')
+    → Says (Err f) x old new → Blames (Err f) r0 r w w' → RefusesFile f input path a c h k
+own input path x old new h h1 k a c (faults.Sparse f) r0 r w w' opened first none count says blames =
+    of_image f (r0 + w < r + w') (HasFailed h k) (Refusal f old new x) (HasFault input a f)
+    (λ rose. omega (arith, first, none, count, rose))
+    (λ refusal. record {
+      file = opened.file;
+      there = opened.there;
+      given = refusal.given;
+      fails = subst (λ z. Fails z f refusal.given) opened.held refusal.fails;
+    }) blames says
+own input path x old new h h1 k a c (faults.Run f) r0 r w w' opened first none count says blames = absurd says
+own input path x old new h h1 k a c (faults.Piece f) r0 r w w' opened first none count says blames = absurd says
+own input path x old new h h1 k a c (faults.Flash f) r0 r w w' opened first none count says blames = absurd says
+own input path x old new h h1 k a c (faults.Verify f) r0 r w w' opened first none count says blames = absurd says
+own input path x old new h h1 k a c (faults.OtherBlocks f) r0 r w w' opened first none count says blames = absurd says
+own input path x old new h h1 k a c (faults.Host f) r0 r w w' opened first none count says blames = absurd says
+
+-- a fault of files, behind which something has failed
+pub of_failed : (input path : List ℕ) (a c : World) (h k : Held) (r : SparseCommandFault) → FromHost r → HasFailed h k
+    → RefusesFile r input path a c h k
+of_failed input path a c h k r made failed =
+    subst (λ f. RefusesFile f input path a c h k) (sym made.1) (inl failed)
+
+-- or all was done, but the line could not be printed
+pub of_unprinted : (input path : List ℕ) (a c : World) (h k : Held) (r : SparseCommandFault) → FromHost r
+    → ExpandsFile input path a c (λ _. Unit {0}) → RefusesFile r input path a c h k
+of_unprinted input path a c h k r made done =
+    subst (λ f. RefusesFile f input path a c h k) (sym made.1) (inr done)
+
+-- the call was refused, or the end of the output was
+pub refuses : (input path x old new : List ℕ) (h h1 k : Held) (a c : World)
+    (answer : Result Expanded SparseCommandFault) (told : SparseCommandFault)
+    (r0 r w w' : ℕ) → OpensFile a input x h h1 → r0 ≡ 0 → w ≡ 0
+    → k.failed ≡ h.failed + (r + (unended (is_ok answer) false + w')) → Says answer x old new
+    → Blames answer r0 r w w' → (IsOk answer → FromHost told) → IfErr answer (λ f. told ≡ f)
+    → RefusesFile told input path a c h k
+refuses input path x old new h h1 k a c (Ok e) told r0 r w w' opened first none count says blames files is =
+    of_failed input path a c h k told (files refl) (omega (arith, count))
+refuses input path x old new h h1 k a c (Err f) told r0 r w w' opened first none count says blames files is =
+    let so : k.failed ≡ h.failed + (r + w') = omega (arith, count) in
+    subst (λ q. RefusesFile q input path a c h k) (sym is)
+    (own input path x old new h h1 k a c f r0 r w w' opened first none so says blames)
+
+-- it was done, and then nothing has failed
+pub clean_behind : (answer : Result Expanded SparseCommandFault) (e : Expanded) (h k : Held) (r0 r w w' : ℕ)
+    → answer ≡ Ok e → Blames answer r0 r w w' → r0 ≡ 0 → w ≡ 0
+    → k.failed ≡ h.failed + (r + (unended (is_ok answer) true + w')) → HasNotFailed h k
+clean_behind (Ok x) e h k r0 r w w' is blames first none count = omega (arith, blames.0, blames.1, first, none, count)
+clean_behind (Err f) e h k r0 r w w' is blames first none count = absurd (false≢true (ap is_ok is))
+
+-- a call was refused
+pub failed_first : (h k : Held) → k ≡ failing 1 h → HasFailed h k
+failed_first h k refused =
+    let up : k.failed ≡ h.failed + 1 = ap (λ q. q.failed) refused in
+    omega (arith, up)
+
+pub failed_second : (input bytes : List ℕ) (w : World) (h h1 k : Held) → OpensFile w input bytes h h1 → k ≡ failing 1 h1
+    → HasFailed h k
+failed_second input bytes w h h1 k opened refused =
+    let first : h1.failed ≡ h.failed = ap (λ q. q.failed) opened.taken in
+    let up : k.failed ≡ h1.failed + 1 = ap (λ q. q.failed) refused in
+    omega (arith, first, up)
+
+-- what `?` hands on is made of a fault of files
+pub handed_on : {X R : Type 0} (answer : Result X R) (P Q : R → Type 0) → ((r : R) → P r → Q r) → IsErrAnd answer P
+    → IfErr answer Q
+handed_on (Ok x) P Q go is = tt
+handed_on (Err r) P Q go is = go r is
+
+-- the engine blames a device whose count rose
+pub of_rising : (f : SparseFault) (r0 r r' w w' : ℕ) → r ≡ r0 → Rises {X = Expanded} (Err f) r r' w w'
+    → Clean {X = Expanded} (Err f) r r' w w' → OfDevice f (r0 + w < r' + w') (Unit {0})
+of_rising (of_sparse.Read d) r0 r r' w w' same rise clean = omega (arith, same, rise, clean)
+of_rising (of_sparse.Write d) r0 r r' w w' same rise clean = omega (arith, same, rise, clean)
+of_rising f r0 r r' w w' same rise clean = tt

@@ -1,1 +1,5 @@
 pub mod Files
+pub mod Lays
+pub mod Lists
+pub mod Opens
+pub mod Overlays

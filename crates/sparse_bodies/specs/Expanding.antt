@@ -1,13 +1,14 @@
 -- What the command `expand` leaves of files, and what it prints.
-use Rattle.std.specs.Prelude.{◌≡◌, ◌≢◌, ℕ, ◌*◌, List, [], ◌∷◌, ◌++◌, Option, Some, Result, Ok, Err}
+use Rattle.std.specs.Prelude.{◌≡◌, ◌≢◌, ◌⊎◌, ℕ, ◌+◌, ◌*◌, ◌<◌, List, [], ◌∷◌, ◌++◌, Option, Some, Result, Ok, Err}
 use Rattle.abt_sparse.specs.declared.fault.SparseFault.{SparseFault}
+use Rattle.abt_sparse.specs.declared.fault.SparseFault.TheVariants as of_sparse
 use Rattle.abt_sparse.specs.Block.{expansion}
 use Rattle.abt_sparse.specs.Chunk.{Header, Chunk, classed}
 use Rattle.abt_sparse.specs.Fails.{Fails, Spells}
 use Rattle.abt_chunks.specs.declared.progress.Expanded.{Expanded}
 use Rattle.abt_chunks.specs.Expanding.{UnlessDevice}
 use Rattle.abt_chunks.specs.Whole.{Expansion, Refusal}
-use Rattle.abt_disk.specs.World.{World, Spares}
+use Rattle.abt_disk.specs.World.{World, Held, Spares, HasFailed}
 use Rattle.abt_refusals.specs.declared.refusal.HostFault.{HostFault}
 use Rattle.sparse_rules.specs.declared.fault.SparseCommandFault.{SparseCommandFault}
 use Rattle.sparse_rules.specs.declared.fault.SparseCommandFault.TheVariants as faults
@@ -36,15 +37,17 @@ pub record HasFault (path : List ℕ) (world : World) (f : SparseFault) : Type 0
   pub given : List (Option ℕ)
   pub fails : Fails (world.holds file) f given
 
--- a fault of what the file at this path holds, or of files or devices
-abbrev pub RefusesFile : List ℕ → World → SparseCommandFault → Type 0
-RefusesFile path world (faults.Sparse f) = UnlessDevice f (HasFault path world f)
-RefusesFile path world (faults.Run f) = ⊥
-RefusesFile path world (faults.Piece f) = ⊥
-RefusesFile path world (faults.Flash f) = ⊥
-RefusesFile path world (faults.Verify f) = ⊥
-RefusesFile path world (faults.OtherBlocks image) = ⊥
-RefusesFile path world (faults.Host f) = Unit {0}
+-- where a device failed, so much is so, and of any other fault so much
+abbrev pub OfDevice : SparseFault → Type 0 → Type 0 → Type 0
+OfDevice (of_sparse.Read d) failed P = failed
+OfDevice (of_sparse.Write d) failed P = failed
+OfDevice f failed P = P
+
+-- how often devices failed: the input's faults went from r to r', the output's from w to w'
+abbrev pub Blames : Result Expanded SparseCommandFault → ℕ → ℕ → ℕ → ℕ → Type 0
+Blames (Ok e) r r' w w' = (r' ≡ r) × (w' ≡ w)
+Blames (Err (faults.Sparse f)) r r' w w' = OfDevice f (r + w < r' + w') (Unit {0})
+Blames (Err f) r r' w w' = Unit {0}
 
 -- The file at one path held an image, the one at the other holds its expansion and nothing else, no other file has
 -- changed, and the line that was printed has the image's numbers.
@@ -61,3 +64,11 @@ pub record ExpandsFile (input output : List ℕ) (old new : World) (shows : List
   pub holds : new.holds onto ≡ expansion header.blk_sz (classed chunks)
   pub spares : Spares onto old new
   pub shown : shows (text_of (lines.Expanded header.total_blks (header.total_blks * header.blk_sz)) ++ (10 ∷ []))
+
+-- why it is refused: for a fault of what IN's file holds; because a device or the system failed; or all was done, and
+-- only the line could not be printed
+abbrev pub RefusesFile : SparseCommandFault → List ℕ → List ℕ → World → World → Held → Held → Type 0
+RefusesFile (faults.Sparse f) input output old new held held' = OfDevice f (HasFailed held held') (HasFault input old f)
+RefusesFile (faults.Host f) input output old new held held' =
+    HasFailed held held' ⊎ ExpandsFile input output old new (λ _. Unit {0})
+RefusesFile f input output old new held held' = ⊥

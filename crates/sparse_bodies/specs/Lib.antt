@@ -1,1 +1,3 @@
 pub mod Expanding
+pub mod Overlaying
+pub mod Steps

@@ -2,16 +2,16 @@
 
 ghost use Rattle.std.specs.Prelude.{◌≡◌, ◌+◌, ◌++◌, [], ◌∷◌, None, IsTrue, IfErr, OnOk, if◌then◌else◌};
 ghost use Rattle.abt_refusals.specs.Paths.{path_in, path_out};
-ghost use Rattle.abt_disk.specs.World.{IsReading, OnlyAt, KeepsFile};
+ghost use Rattle.abt_disk.specs.World.{IsReading, OnlyAt, KeepsFile, HasNotFailed};
 ghost use Rattle.abt_output.specs.Shows.{Shows};
 ghost use Rattle.sparse_rules.specs.Lines.{text_of};
-ghost use Rattle.sparse_bodies.specs.Expanding.{Says, ExpandsFile, RefusesFile};
+ghost use Rattle.sparse_bodies.specs.Expanding.{Blames, Says, ExpandsFile, RefusesFile};
 
+use crate::carried::Carried;
 use abt_chunks::{Expanded, expand};
 use abt_disk::{Disk, Measured, Reasons, ended};
-use abt_host::Watched;
 use abt_io::{Input, Meter, Output, Window};
-use abt_output::{Progress, Report};
+use abt_output::Report;
 use abt_refusals::{HostRefusal, Place, Sides};
 use sparse_rules::{Line, SparseCommandFault, SparseRefusal};
 
@@ -37,20 +37,27 @@ pub fn expand_one<'a, D: Disk>(
         (D.world disk.new) }
     ensures input { IsTrue D.tells → KeepsFile (path_in input.entry) (D.world disk.old) (D.world disk.new) }
     ensures closed { IsTrue D.tells → (D.held disk.new).output ≡ None }
-    // it is refused for a fault that IN has, or for one of files or devices
-    ensures refused { IsTrue D.tells → IfErr result (λ refusal. RefusesFile (path_in input.entry) (D.world disk.old)
-        refusal.fault) }
+    // it is done only where nothing failed
+    ensures clean { IsTrue D.tells → OnOk result (HasNotFailed (D.held disk.old) (D.held disk.new)) }
+    // it is refused for a fault that IN has, or where a device or the system failed
+    ensures refused { IsTrue D.tells → IfErr result (λ refusal. RefusesFile refusal.fault (path_in input.entry)
+        (path_out output.entry) (D.world disk.old) (D.world disk.new) (D.held disk.old) (D.held disk.new)) }
 {
-    let mut from = disk.input(input)?;
+    let from = disk.input(input)?;
     report.progress.expect_if(from.known_length());
     let mut onto = disk.raw(output)?;
-    let answer = expanded(&mut from, &mut onto, &mut report.progress, w, m);
+    let mut carried = Carried {
+        device: from,
+        progress: &mut report.progress,
+    };
+    let answer = expanded(&mut carried, &mut onto, w, m);
+    let Carried { device: from, .. } = carried;
     let sides = Sides::none().reading(input, from.why());
+    disk.let_go(from);
     let (expanded, is_on_output) = match ended(disk, answer, onto, output, sides) {
         Ok(end) => end,
         Err(refusal) => return Err(refusal),
     };
-    drop(from);
     match printed(expanded, is_on_output, report) {
         Ok(()) => Ok(()),
         Err(refusal) => Err(refusal.into()),
@@ -59,7 +66,7 @@ pub fn expand_one<'a, D: Disk>(
 
 // Its text takes more of the stack than all else here, and none of it while the image is written.
 #[inline(never)]
-fn printed<'a>(
+pub(crate) fn printed<'a>(
     expanded: Expanded,
     is_on_output: bool,
     report: &mut Report,
@@ -72,16 +79,17 @@ fn printed<'a>(
 }
 
 fn expanded<I: Input, O: Output>(
-    from: &mut I,
+    from: &mut Carried<'_, I>,
     onto: &mut O,
-    progress: &mut Progress,
     w: &mut Window,
     m: &mut Meter,
 ) -> Result<Expanded, SparseCommandFault>
-    ensures { IsTrue I.tells → Says result (I.remaining from.old) (O.written onto.old) (O.written onto.new) }
+    ensures says { IsTrue I.tells → Says result (I.remaining from.old.device) (O.written onto.old)
+        (O.written onto.new) }
+    ensures blames { Blames result (I.read_faults from.old.device) (I.read_faults from.new.device)
+        (O.write_faults onto.old) (O.write_faults onto.new) }
 {
-    let mut watched = Watched::over(from, progress);
-    match expand(&mut watched, onto, w, m) {
+    match expand(from, onto, w, m) {
         Ok(expanded) => Ok(expanded),
         Err(fault) => Err(SparseCommandFault::Sparse(fault)),
     }

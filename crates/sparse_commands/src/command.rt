@@ -1,10 +1,8 @@
 //! What is to be done with a sparse image, and the command that does it.
 
-use crate::cut::{Cutting, cut_file};
-use crate::expand::expand_files;
-use crate::flash::flash_pieces;
-use crate::host_commands::{flash_straight, list_file, verify_image};
-use crate::sparse::sparse_file;
+use crate::host_commands::{
+    cut_image, expand_files, flash_pieces, flash_straight, list_file, sparse_file, verify_image,
+};
 use abt_host::Reading;
 use abt_io::{Meter, Window};
 use abt_output::Report;
@@ -34,15 +32,7 @@ pub fn sparse_command<'a>(
             limit,
             prefix,
             raw,
-        } => {
-            let order = Cutting {
-                input,
-                limit,
-                prefix,
-                raw,
-            };
-            cut_file(reading, report, order, w, m)
-        }
+        } => cut_image(reading, report, input, limit, prefix, raw, w, m),
         SparseTask::Flash {
             input,
             partition,

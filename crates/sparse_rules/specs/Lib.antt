@@ -1,4 +1,5 @@
 pub mod Blocks
 pub mod Fault
+pub mod ImagePath
 pub mod Lines
 pub mod PieceNames

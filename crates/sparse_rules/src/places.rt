@@ -1,12 +1,21 @@
 //! The files that the words name: an image that is read at any place, and those of pieces.
 
-ghost use Rattle.std.specs.Prelude.{◌≡◌, ◌<◌, ◌+◌, Some};
+ghost use Rattle.std.specs.Prelude.{◌≡◌, ◌<◌, ◌+◌, None, Some};
+ghost use Rattle.abt_refusals.specs.Paths.{path_of};
+ghost use Rattle.sparse_rules.specs.ImagePath.{image_path};
 
 use abt_refusals::Place;
 
 /// An image that is read at any place: `-` is standard input, which will do only where it is a file.
-pub fn image_place<'a>(input: &'a str) -> Place<'a> {
-    Place::new("IN", if input == "-" { "/dev/stdin" } else { input })
+pub fn image_place<'a>(input: &'a str) -> Place<'a>
+    ensures { path_of result ≡ image_path input.now }
+{
+    Place {
+        role: "IN",
+        folder: None,
+        name: if input == "-" { "/dev/stdin" } else { input },
+        number: None,
+    }
 }
 
 /// The files of pieces, in turn: `PREFIX.1`, `PREFIX.2` and so on.
@@ -30,6 +39,7 @@ impl<'a> PieceFiles<'a> {
     pub fn next(&mut self) -> Place<'a>
         ensures name { result.name ≡ self.old.prefix }
         ensures number { result.number ≡ Some self.new.count }
+        ensures folder { result.folder ≡ None }
         ensures counted { self.old.count < 4294967295 → self.new.count ≡ self.old.count + 1 }
         ensures begins { self.new.prefix ≡ self.old.prefix }
     {

@@ -1,53 +1,115 @@
+use Rattle.std.proofs.Common.{arith, ap, ◌≡◌, length}
 use Rattle.flash_bodies.specs.FlashingRaw.{IsFlashedRaw}
-use Rattle.flash_bodies.proofs.Refusals.{is_flashed_raw, on_ok, refuses_raw}
-use Rattle.flash_bodies.proofs.Written.{between, input_kept, others_written, settled_once, synced_once}
+use Rattle.flash_bodies.proofs.Refusals.{raw_untold, handed_on, is_flashed_raw, on_ok, refuses_raw}
+use Rattle.flash_bodies.proofs.Written.{as_long, ran, ran_clean, ran_failed, settled_once}
 use Rattle.flash_bodies.proofs.flash_raw.flash_raw_file.Goals as goal
 
 pub returns-in-Err-clause-input : goal.returns-in-Err-clause-input
 returns-in-Err-clause-input g c = λ t.
-    input_kept _ _ _ _ _ _ _ _ _ _ _ _ (c.in_ok-source.ensures.opened t) (c.in_ok-source.ensures.world t)
-    (c.in_ok-onto.ensures.opened t) (c.in_ok-onto.ensures.world t) (c.closed.ensures.ended t)
+    (ran _ _ _ _ _ _ _ _ _ _ _ _ _ _ _ _ _ (g.D.Part.Partition.past c.flash_blocks-answer.new.onto)
+    (c.in_ok-source.ensures.opened t) (c.in_ok-source.ensures.world t)
+    (c.in_ok-onto.ensures.opened t) (c.in_ok-onto.ensures.world t) (c.let_go_source.ensures.held t) (c.let_go_source.ensures.world t)
+    (c.closed.ensures.ended t) (c.closed.ensures.paths t) (c.closed.ensures.closed t)).kept
 
-pub returns-in-Err-clause-refused : goal.returns-in-Err-clause-refused
-returns-in-Err-clause-refused g c = λ t.
-    refuses_raw c.flashed-answer.result c.in-Err.refusal.fault c.args.size _ _ _ _ _ _ _ c.in-Err.ensures.told
-    (λ P so. between _ _ _ _ _ _ _ _ _ _ _ _ P (c.in_ok-source.ensures.opened t) (c.in_ok-source.ensures.world t)
-    (c.in_ok-onto.ensures.opened t) (c.in_ok-onto.ensures.world t) (c.closed.ensures.ended t) so)
-    (c.flashed-answer.ensures.lays (g.met.D.Disk.source_told t) (g.met.D.Disk.part_told t))
+pub returns-in-Err-clause-others : goal.returns-in-Err-clause-others
+returns-in-Err-clause-others g c = λ t.
+    (ran _ _ _ _ _ _ _ _ _ _ _ _ _ _ _ _ _ (g.D.Part.Partition.past c.flash_blocks-answer.new.onto)
+    (c.in_ok-source.ensures.opened t) (c.in_ok-source.ensures.world t)
+    (c.in_ok-onto.ensures.opened t) (c.in_ok-onto.ensures.world t) (c.let_go_source.ensures.held t) (c.let_go_source.ensures.world t)
+    (c.closed.ensures.ended t) (c.closed.ensures.paths t) (c.closed.ensures.closed t)).others
 
 pub returns-in_err-line_beside-clause-input : goal.returns-in_err-line_beside-clause-input
 returns-in_err-line_beside-clause-input g c = λ t.
-    input_kept _ _ _ _ _ _ _ _ _ _ _ _ (c.in_ok-source.ensures.opened t) (c.in_ok-source.ensures.world t)
-    (c.in_ok-onto.ensures.opened t) (c.in_ok-onto.ensures.world t) (c.closed.ensures.ended t)
-
-pub returns-clause-input : goal.returns-clause-input
-returns-clause-input g c = λ t.
-    input_kept _ _ _ _ _ _ _ _ _ _ _ _ (c.in_ok-source.ensures.opened t) (c.in_ok-source.ensures.world t)
-    (c.in_ok-onto.ensures.opened t) (c.in_ok-onto.ensures.world t) (c.closed.ensures.ended t)
-
-pub returns-clause-done : goal.returns-clause-done
-returns-clause-done g c = λ t.
-    let f = c.flashed-answer.ensures in
-    let done = c.in-Ok.ensures.done in
-    record {
-      blocks = c.in-Ok.end.0;
-      flashed = between _ _ _ _ _ _ _ _ _ _ _ _ (IsFlashedRaw c.in-Ok.end.0 c.args.size) (c.in_ok-source.ensures.opened t)
-          (c.in_ok-source.ensures.world t) (c.in_ok-onto.ensures.opened t) (c.in_ok-onto.ensures.world t)
-          (c.closed.ensures.ended t)
-          (is_flashed_raw c.flashed-answer.result c.in-Ok.end.0 c.args.size _ _ _ done (f.lays (g.met.D.Disk.source_told t) (g.met.D.Disk.part_told t)));
-      synced = synced_once _ _ _ _ _ _ _ _ _ _ (g.D.Part.Partition.past c.flashed-answer.new.onto) (c.in_ok-source.ensures.opened t) (c.in_ok-onto.ensures.opened t)
-          (c.closed.ensures.closed t)
-          (settled_once (g.D.Part.Partition.past c.in_ok-onto.onto) (g.D.Part.Partition.past c.flashed-answer.new.onto) (c.in_ok-onto.ensures.past t) (on_ok c.flashed-answer.result c.in-Ok.end.0 _ done f.synced)
-          (on_ok c.flashed-answer.result c.in-Ok.end.0 _ done (f.settled (g.met.D.Disk.part_told t))));
-      shown = c.in_ok-line_beside.ensures;
-    }
+    (ran _ _ _ _ _ _ _ _ _ _ _ _ _ _ _ _ _ (g.D.Part.Partition.past c.flash_blocks-answer.new.onto)
+    (c.in_ok-source.ensures.opened t) (c.in_ok-source.ensures.world t)
+    (c.in_ok-onto.ensures.opened t) (c.in_ok-onto.ensures.world t) (c.let_go_source.ensures.held t) (c.let_go_source.ensures.world t)
+    (c.closed.ensures.ended t) (c.closed.ensures.paths t) (c.closed.ensures.closed t)).kept
 
 pub returns-in_err-line_beside-clause-others : goal.returns-in_err-line_beside-clause-others
 returns-in_err-line_beside-clause-others g c = λ t.
-    others_written _ _ _ _ _ _ _ _ _ (c.in_ok-source.ensures.world t) (c.in_ok-onto.ensures.opened t)
-    (c.in_ok-onto.ensures.world t) (c.closed.ensures.ended t) (c.closed.ensures.paths t)
+    (ran _ _ _ _ _ _ _ _ _ _ _ _ _ _ _ _ _ (g.D.Part.Partition.past c.flash_blocks-answer.new.onto)
+    (c.in_ok-source.ensures.opened t) (c.in_ok-source.ensures.world t)
+    (c.in_ok-onto.ensures.opened t) (c.in_ok-onto.ensures.world t) (c.let_go_source.ensures.held t) (c.let_go_source.ensures.world t)
+    (c.closed.ensures.ended t) (c.closed.ensures.paths t) (c.closed.ensures.closed t)).others
+
+pub returns-clause-input : goal.returns-clause-input
+returns-clause-input g c = λ t.
+    (ran _ _ _ _ _ _ _ _ _ _ _ _ _ _ _ _ _ (g.D.Part.Partition.past c.flash_blocks-answer.new.onto)
+    (c.in_ok-source.ensures.opened t) (c.in_ok-source.ensures.world t)
+    (c.in_ok-onto.ensures.opened t) (c.in_ok-onto.ensures.world t) (c.let_go_source.ensures.held t) (c.let_go_source.ensures.world t)
+    (c.closed.ensures.ended t) (c.closed.ensures.paths t) (c.closed.ensures.closed t)).kept
 
 pub returns-clause-others : goal.returns-clause-others
 returns-clause-others g c = λ t.
-    others_written _ _ _ _ _ _ _ _ _ (c.in_ok-source.ensures.world t) (c.in_ok-onto.ensures.opened t)
-    (c.in_ok-onto.ensures.world t) (c.closed.ensures.ended t) (c.closed.ensures.paths t)
+    (ran _ _ _ _ _ _ _ _ _ _ _ _ _ _ _ _ _ (g.D.Part.Partition.past c.flash_blocks-answer.new.onto)
+    (c.in_ok-source.ensures.opened t) (c.in_ok-source.ensures.world t)
+    (c.in_ok-onto.ensures.opened t) (c.in_ok-onto.ensures.world t) (c.let_go_source.ensures.held t) (c.let_go_source.ensures.world t)
+    (c.closed.ensures.ended t) (c.closed.ensures.paths t) (c.closed.ensures.closed t)).others
+
+pub returns-in-Err-clause-refused : goal.returns-in-Err-clause-refused
+returns-in-Err-clause-refused g c = λ t.
+    let all = ran _ _ _ _ _ _ _ _ _ _ _ _ _ _ _ _ _ (g.D.Part.Partition.past c.flash_blocks-answer.new.onto)
+    (c.in_ok-source.ensures.opened t) (c.in_ok-source.ensures.world t)
+    (c.in_ok-onto.ensures.opened t) (c.in_ok-onto.ensures.world t) (c.let_go_source.ensures.held t) (c.let_go_source.ensures.world t)
+    (c.closed.ensures.ended t) (c.closed.ensures.paths t) (c.closed.ensures.closed t) in
+    refuses_raw c.flash_blocks-answer.result c.in-Err.refusal.fault _ c.args.size _ _ _ _ _ _ _ _ _ c.in-Err.ensures.told
+    (ran_failed _ _ _ _ _ _ _ _ _ _ _ _ _ _ all (c.in_ok-source.ensures.clean t) (c.in_ok-onto.ensures.clean t)) all.with_files
+    (c.flash_blocks-answer.ensures.lays (g.met.D.Disk.source_told t) (g.met.D.Disk.part_told t))
+
+pub returns-clause-clean : goal.returns-clause-clean
+returns-clause-clean g c = λ t.
+    let all = ran _ _ _ _ _ _ _ _ _ _ _ _ _ _ _ _ _ (g.D.Part.Partition.past c.flash_blocks-answer.new.onto)
+    (c.in_ok-source.ensures.opened t) (c.in_ok-source.ensures.world t)
+    (c.in_ok-onto.ensures.opened t) (c.in_ok-onto.ensures.world t) (c.let_go_source.ensures.held t) (c.let_go_source.ensures.world t)
+    (c.closed.ensures.ended t) (c.closed.ensures.paths t) (c.closed.ensures.closed t) in
+    ran_clean _ _ _ _ _ _ _ _ _ _ _ _ _ _ all (c.in_ok-source.ensures.clean t) (c.in_ok-onto.ensures.clean t)
+    (on_ok c.flash_blocks-answer.result c.in-Ok.end.0 _ c.in-Ok.ensures.done c.flash_blocks-answer.ensures.clean)
+
+pub returns-clause-done : goal.returns-clause-done
+returns-clause-done g c = λ t.
+    let f = c.flash_blocks-answer.ensures in
+    let done = c.in-Ok.ensures.done in
+    let all = ran _ _ _ _ _ _ _ _ _ _ _ _ _ _ _ _ _ (g.D.Part.Partition.past c.flash_blocks-answer.new.onto)
+    (c.in_ok-source.ensures.opened t) (c.in_ok-source.ensures.world t)
+    (c.in_ok-onto.ensures.opened t) (c.in_ok-onto.ensures.world t) (c.let_go_source.ensures.held t) (c.let_go_source.ensures.world t)
+    (c.closed.ensures.ended t) (c.closed.ensures.paths t) (c.closed.ensures.closed t) in
+    record {
+      blocks = c.in-Ok.end.0;
+      flashed = all.with_files (IsFlashedRaw c.in-Ok.end.0 c.args.size) (is_flashed_raw c.flash_blocks-answer.result c.in-Ok.end.0 c.args.size _ _ _ _ done
+          (f.lays (g.met.D.Disk.source_told t) (g.met.D.Disk.part_told t)));
+      synced = all.synced (settled_once (g.D.Part.Partition.past c.in_ok-onto.onto)
+          (g.D.Part.Partition.past c.flash_blocks-answer.new.onto) (c.in_ok-onto.ensures.past t)
+          (on_ok c.flash_blocks-answer.result c.in-Ok.end.0 _ done f.synced)
+          (on_ok c.flash_blocks-answer.result c.in-Ok.end.0 _ done (f.settled (g.met.D.Disk.part_told t))));
+      shown = c.in_ok-line_beside.ensures;
+    }
+
+pub returns-in_err-line_beside-clause-refused : goal.returns-in_err-line_beside-clause-refused
+returns-in_err-line_beside-clause-refused g c = λ t.
+    let f = c.flash_blocks-answer.ensures in
+    let done = c.in-Ok.ensures.done in
+    let all = ran _ _ _ _ _ _ _ _ _ _ _ _ _ _ _ _ _ (g.D.Part.Partition.past c.flash_blocks-answer.new.onto)
+    (c.in_ok-source.ensures.opened t) (c.in_ok-source.ensures.world t)
+    (c.in_ok-onto.ensures.opened t) (c.in_ok-onto.ensures.world t) (c.let_go_source.ensures.held t) (c.let_go_source.ensures.world t)
+    (c.closed.ensures.ended t) (c.closed.ensures.paths t) (c.closed.ensures.closed t) in
+    handed_on c.from_residual-in_err-line_beside.result _ _ (λ r made. raw_untold r.fault _ c.args.size _ _ _ _ _ _ made (record {
+      blocks = c.in-Ok.end.0;
+      flashed = all.with_files (IsFlashedRaw c.in-Ok.end.0 c.args.size) (is_flashed_raw c.flash_blocks-answer.result c.in-Ok.end.0 c.args.size _ _ _ _ done
+          (f.lays (g.met.D.Disk.source_told t) (g.met.D.Disk.part_told t)));
+      synced = all.synced (settled_once (g.D.Part.Partition.past c.in_ok-onto.onto)
+          (g.D.Part.Partition.past c.flash_blocks-answer.new.onto) (c.in_ok-onto.ensures.past t)
+          (on_ok c.flash_blocks-answer.result c.in-Ok.end.0 _ done f.synced)
+          (on_ok c.flash_blocks-answer.result c.in-Ok.end.0 _ done (f.settled (g.met.D.Disk.part_told t))));
+      shown = tt;
+    }))
+    c.from_residual-in_err-line_beside.ensures.1
+
+pub closed-requires : goal.closed-requires
+closed-requires g c = record {
+  long = λ t.
+      let one = g.met.D.Part.Source.sized c.flash_blocks-answer.new.onto (g.met.D.Disk.part_told t) in
+      let two = g.met.D.Part.Source.sized c.in_ok-onto.onto (g.met.D.Disk.part_told t) in
+      let size = c.flash_blocks-answer.ensures.size in
+      as_long _ _ _ _ _ _ _ _ _ _ (c.in_ok-onto.ensures.opened t) (c.in_ok-onto.ensures.world t)
+      (c.let_go_source.ensures.held t) (c.let_go_source.ensures.world t) (omega (arith, one, two, size));
+}

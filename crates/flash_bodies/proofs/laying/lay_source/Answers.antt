@@ -10,9 +10,16 @@ loop-at-preserved g c =
       within = omega (arith, e.some, c.min-ask.ensures);
       size = e.size ∙ i.size;
       synced = e.synced ∙ i.synced;
+      clean = e.clean ∙ i.clean;
       content = λ t. e.content t ∙ i.content t;
       laid = λ s p.
           let room : length (g.S.Source.content c.args.source.now) ≤ length (g.P.Source.content c.args.onto.now) = omega (arith, c.requires.all, c.requires.room, g.met.S.Source.sized c.args.source.now s, g.met.P.Source.sized c.args.onto.now p) in
           laid_more _ _ _ (g.S.Source.content c.args.source.now) c.loop-at.at c.in-Ok.got _ (i.laid s p)
           (rw (i.content s) at (e.laid s p)) (omega (arith, i.within, c.requires.all, g.met.S.Source.sized c.args.source.now s)) room refl;
     }
+
+pub returns-in-Err-clause-refused : goal.returns-in-Err-clause-refused
+returns-in-Err-clause-refused g c = rw c.loop-at.invariant.clean at c.in-Err.ensures.refused
+
+pub returns-clause-clean : goal.returns-clause-clean
+returns-clause-clean g c = c.loop-at.invariant.clean

@@ -1,11 +1,11 @@
-use Rattle.std.proofs.Common.{subst, sym}
-use Rattle.abt_refusals.specs.Paths.{path_in}
-use Rattle.flash_bodies.specs.Listing.{IsUnlisted, RefusesList}
-use Rattle.flash_bodies.proofs.Written.{of_file}
+use Rattle.flash_bodies.proofs.Refusals.{list_refusal}
+use Rattle.flash_bodies.proofs.Written.{of_file, rose_one}
 use Rattle.flash_bodies.proofs.list.list_file.Goals as goal
 
-pub returns-clause-refused : goal.returns-clause-refused
-returns-clause-refused g c = λ t.
-    subst (λ r. RefusesList r (path_in c.args.input) (g.D.Disk.world c.args.disk.now)) (sym c.refuse.ensures)
-    (of_file _ _ _ _ _ (IsUnlisted c.in-Err.fault) (c.in_ok-from.ensures.opened t)
-    (c.in-Err.ensures.refused (g.met.D.Disk.told t)))
+pub returns-in-Err-clause-refused : goal.returns-in-Err-clause-refused
+returns-in-Err-clause-refused g c = λ t.
+    let r = c.in_ok-from.ensures.opened t in
+    list_refusal _ c.in-Err.fault _ _ _ _ _ _ _ c.refuse.ensures
+    (rose_one _ _ _ _ _ _ r.taken (c.let_go.ensures.held t) (c.in_ok-from.ensures.clean t))
+    (λ P so. of_file _ _ _ _ _ P r so)
+    (rw c.in-Err.is at c.listed-answer.ensures.refused (g.met.D.Disk.told t))

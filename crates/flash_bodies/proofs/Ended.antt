@@ -1,0 +1,150 @@
+-- What a delivery that was counted says of the command.
+use Rattle.std.proofs.Common.{◌≡◌, ◌<◌, ◌+◌, ℕ, List, [], ◌∷◌, ◌++◌, Option, Some, refl, sym, ◌∙◌, ap, subst, arith}
+use Rattle.std.proofs.Common.{inr}
+use Rattle.std.specs.Prelude.{Result, Ok, Err, IfOk, OnOk, true}
+use Rattle.std.proofs.lemmas.Bool.{lt-ltb}
+use Rattle.abt_io.specs.Moment.{Past, no_past}
+use Rattle.abt_disk.specs.InPlace.{is_settled, is_settled_in}
+use Rattle.abt_disk.specs.World.{World, Held, HasFailed, HasNotFailed}
+use Rattle.abt_flash.specs.declared.answer.Delivered.{Delivered}
+use Rattle.abt_flash.specs.declared.fault.FlashFault.{FlashFault}
+use Rattle.sparse_rules.specs.declared.fault.SparseCommandFault.{SparseCommandFault}
+use Rattle.sparse_rules.specs.declared.fault.SparseCommandFault.TheVariants as faults
+use Rattle.flash_bodies.specs.Files.{OfFile}
+use Rattle.abt_refusals.specs.declared.refusal.HostFault.{HostFault}
+use Rattle.sparse_rules.specs.declared.lines.Line.TheVariants as lines
+use Rattle.sparse_rules.specs.Lines.{text_of}
+use Rattle.flash_bodies.specs.InPieces.{Across, Delivers, FlashesPieces, FlashesPiecesUntold, IsDelivered, IsUncuttable}
+use Rattle.flash_bodies.specs.InPieces.{IsUndelivered, RefusesPieces}
+use Rattle.flash_bodies.specs.Through.{count_delivered}
+use Rattle.flash_bodies.proofs.Closed.{undelivered_for}
+use Rattle.flash_bodies.proofs.Crossing.{Crossed}
+
+abbrev IsCount : Result ℕ SparseCommandFault → Type 0
+IsCount (Ok n) = Unit {0}
+IsCount (Err f) = ⊥
+
+abbrev IsFault : Result ℕ SparseCommandFault → Type 0
+IsFault (Ok n) = ⊥
+IsFault (Err f) = Unit {0}
+
+abbrev count_or : ℕ → Result ℕ SparseCommandFault → ℕ
+count_or d (Ok n) = n
+count_or d (Err f) = d
+
+abbrev fault_in : SparseCommandFault → Result ℕ SparseCommandFault → SparseCommandFault
+fault_in d (Ok n) = d
+fault_in d (Err f) = f
+
+pub refuses_pieces : (r : Result Delivered FlashFault) (f : SparseCommandFault) (G : Type 0) (raw : Option ℕ) (limit
+    before : ℕ)
+    (input path spool x p p' : List ℕ) (a c : World) (h h' : Held) → count_delivered r ≡ Err f → (G → HasFailed h h')
+    → ((P : List ℕ → List ℕ → List ℕ → Type 0) → P x p p' → Across input path spool a c P)
+    → Delivers G raw r limit before x p p' → RefusesPieces f raw limit before input path spool a c h h'
+refuses_pieces (Ok d) f G raw limit before input path spool x p p' a c h h' is go across delivers =
+    absurd (subst IsCount is tt)
+refuses_pieces (Err fault) f G raw limit before input path spool x p p' a c h h' is go across delivers =
+    subst (λ (e : SparseCommandFault). RefusesPieces e raw limit before input path spool a c h h')
+    (ap (fault_in (faults.Flash fault)) is)
+    (across (IsUndelivered (HasFailed h h') raw fault limit before)
+    (undelivered_for G (HasFailed h h') raw fault limit before x p p' go delivers))
+
+pub pieces_done : (r : Result Delivered FlashFault) (n : ℕ) (G : Type 0) (raw : Option ℕ) (limit before : ℕ) (x p p' :
+    List ℕ)
+    → count_delivered r ≡ Ok n → Delivers G raw r limit before x p p' → IsDelivered raw limit before n x p p'
+pieces_done (Ok d) n G raw limit before x p p' is delivers =
+    subst (λ (k : ℕ). IsDelivered raw limit before k x p p') (ap (count_or d.pieces) is) delivers
+pieces_done (Err fault) n G raw limit before x p p' is delivers = absurd (subst IsFault is tt)
+
+pub when_done : (r : Result Delivered FlashFault) (n : ℕ) (P : Type 0) → count_delivered r ≡ Ok n → OnOk r P → P
+when_done (Ok d) n P is so = so
+when_done (Err fault) n P is so = absurd (subst IsFault is tt)
+
+-- at least one sync, behind the last byte
+settled_by : (past past' : Past) (n : ℕ) → past ≡ no_past → past'.synced ≡ past.synced + n → 0 < n → past'.pending ≡ []
+    → is_settled past' ≡ true
+settled_by past past' n fresh more one none =
+    let was : past.synced ≡ 0 = ap (λ (q : Past). q.synced) fresh in
+    ap (λ (l : List (ℕ × ℕ)). is_settled_in l past'.synced) none
+    ∙ lt-ltb 0 past'.synced (omega (arith, more, one, was))
+
+pub settled_pieces : (r : Result Delivered FlashFault) (n : ℕ) (past past' : Past) → count_delivered r ≡ Ok n
+    → past ≡ no_past
+    → IfOk r (λ d. 0 < d.pieces) → IfOk r (λ d. past'.synced ≡ past.synced + d.pieces) → OnOk r (past'.pending ≡ [])
+    → is_settled past' ≡ true
+settled_pieces (Ok d) n past past' is fresh some synced none = settled_by past past' d.pieces fresh synced some none
+settled_pieces (Err fault) n past past' is fresh some synced none = absurd (subst IsFault is tt)
+
+-- a raw image that can't be cut so
+pub refuses_uncuttable : (f : SparseCommandFault) (raw : Option ℕ) (limit before : ℕ) (input path spool x : List ℕ) (a
+    c : World)
+    (h h' : Held) → c ≡ a → ((P : List ℕ → Type 0) → P x → OfFile input a P) → IsUncuttable raw f limit x
+    → RefusesPieces f raw limit before input path spool a c h h'
+refuses_uncuttable (faults.Run f) raw limit before input path spool x a c h h' same file is =
+    (file (IsUncuttable raw (faults.Run f) limit) is, same)
+refuses_uncuttable (faults.Piece f) raw limit before input path spool x a c h h' same file is =
+    (file (IsUncuttable raw (faults.Piece f) limit) is, same)
+refuses_uncuttable (faults.Flash f) raw limit before input path spool x a c h h' same file is = absurd is.2
+refuses_uncuttable (faults.Sparse f) raw limit before input path spool x a c h h' same file is = absurd is.2
+refuses_uncuttable (faults.Verify f) raw limit before input path spool x a c h h' same file is = absurd is.2
+refuses_uncuttable (faults.OtherBlocks i) raw limit before input path spool x a c h h' same file is = absurd is.2
+refuses_uncuttable (faults.Host f) raw limit before input path spool x a c h h' same file is = absurd is.2
+
+-- ---- what has failed
+
+pub none_of : (r p w : ℕ) → r ≡ 0 → p ≡ 0 → w ≡ 0 → r + p + w ≡ 0
+none_of r p w one two three = omega (arith, one, two, three)
+
+has_failed_across : (h h3 h4 h' : Held) (n : ℕ) → h3.failed ≡ h.failed → h'.failed ≡ h4.failed + n
+    → h3.failed < h4.failed + n → HasFailed h h'
+has_failed_across h h3 h4 h' n began ended more = omega (arith, began, ended, more)
+
+none_failed_across : (h h3 h4 h' : Held) (n : ℕ) → h3.failed ≡ h.failed → h'.failed ≡ h4.failed + n
+    → h4.failed + n ≡ h3.failed → HasNotFailed h h'
+none_failed_across h h3 h4 h' n began ended same = omega (arith, began, ended, same)
+
+pub clean_across : (r : Result Delivered FlashFault) (n none s t : ℕ) (input path spool x p p' : List ℕ) (a c : World)
+    (h h3 h4 h' : Held) (past : Past) → Crossed input path spool x p p' a c h h3 h4 h' (s + t) past
+    → count_delivered r ≡ Ok n
+    → none ≡ 0 → OnOk r (none ≡ 0 → h4.failed + (s + t) ≡ h3.failed) → HasNotFailed h h'
+clean_across r n none s t input path spool x p p' a c h h3 h4 h' past all is clean same =
+    none_failed_across h h3 h4 h' (s + t) all.began all.failed
+    (when_done r n (none ≡ 0 → h4.failed + (s + t) ≡ h3.failed) is same clean)
+
+pub refuses_across : (r : Result Delivered FlashFault) (f : SparseCommandFault) (none s t : ℕ) (raw : Option ℕ)
+    (limit before before' : ℕ) (input path spool x p p' : List ℕ) (a c : World) (h h3 h4 h' : Held) (past : Past)
+    → Crossed input path spool x p p' a c h h3 h4 h' (s + t) past → count_delivered r ≡ Err f → none ≡ 0
+    → before' ≡ before → Delivers (none ≡ 0 → h3.failed < h4.failed + (s + t)) raw r limit before' x p p'
+    → RefusesPieces f raw limit before input path spool a c h h'
+refuses_across r f none s t raw limit before before' input path spool x p p' a c h h3 h4 h' past all is clean same
+    delivers =
+    let go : (none ≡ 0 → h3.failed < h4.failed + (s + t)) → HasFailed h h' =
+    λ more. has_failed_across h h3 h4 h' (s + t) all.began all.failed (more clean) in
+    refuses_pieces r f (none ≡ 0 → h3.failed < h4.failed + (s + t)) raw limit before input path spool x p p' a c h h'
+    is go
+    all.across (subst (λ (k : ℕ). Delivers (none ≡ 0 → h3.failed < h4.failed + (s + t)) raw r limit k x p p') same
+    delivers)
+
+pub done_across : (r : Result Delivered FlashFault) (n : ℕ) (G : Type 0) (raw : Option ℕ) (limit before before' : ℕ)
+    (input path spool x p p' : List ℕ) (a c : World) (h h3 h4 h' : Held) (faults : ℕ) (past past' : Past)
+    (shows : List ℕ → Type 0) → Crossed input path spool x p p' a c h h3 h4 h' faults past' → count_delivered r ≡ Ok n
+    → past ≡ no_past → IfOk r (λ d. 0 < d.pieces) → IfOk r (λ d. past'.synced ≡ past.synced + d.pieces)
+    → OnOk r (past'.pending ≡ []) → before' ≡ before → Delivers G raw r limit before' x p p'
+    → shows (text_of (lines.Pieces n) ++ (10 ∷ [])) → FlashesPieces raw limit before input path spool a c h h' shows
+done_across r n G raw limit before before' input path spool x p p' a c h h3 h4 h' faults past past' shows all is fresh
+    some synced settled same delivers shown =
+    record {
+      pieces = n;
+      delivered = all.across (IsDelivered raw limit before n) (pieces_done r n G raw limit before x p p' is
+          (subst (λ (k : ℕ). Delivers G raw r limit k x p p') same delivers));
+      synced = all.synced (settled_pieces r n past past' is fresh some synced settled);
+      shown = shown;
+    }
+
+-- all was done, but the line
+pub pieces_untold : (e : SparseCommandFault) (host : HostFault) (raw : Option ℕ) (limit before : ℕ)
+    (input path spool : List ℕ) (a c : World) (h h' : Held) → e ≡ faults.Host host
+    → FlashesPiecesUntold raw limit before input path spool a c h h'
+    → RefusesPieces e raw limit before input path spool a c h h'
+pieces_untold e host raw limit before input path spool a c h h' is done =
+    subst (λ (z : SparseCommandFault). RefusesPieces z raw limit before input path spool a c h h') (sym is) (inr done)

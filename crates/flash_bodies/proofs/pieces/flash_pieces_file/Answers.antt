@@ -1,0 +1,155 @@
+use Rattle.std.proofs.Common.{ap, sym, ◌∙◌, ◌≡◌, ◌-◌, arith}
+use Rattle.std.specs.Prelude.{max}
+use Rattle.abt_io.specs.Moment.{Past}
+use Rattle.flash_bodies.proofs.Crossing.{as_long_across, crossed, only_both, only_kept}
+use Rattle.flash_bodies.proofs.Ended.{clean_across, done_across, none_of, pieces_untold, refuses_across}
+use Rattle.flash_bodies.proofs.Ended.{refuses_uncuttable}
+use Rattle.flash_bodies.proofs.Refusals.{handed_on}
+use Rattle.flash_bodies.proofs.Written.{of_file}
+use Rattle.flash_bodies.proofs.pieces.flash_pieces_file.Goals as goal
+
+pub returns-in-Err-closed-clause-input : goal.returns-in-Err-closed-clause-input
+returns-in-Err-closed-clause-input g c = λ t.
+    (crossed _ _ _ _ _ _ _ _ _ _ _ _ _ _ _ _ _ _ _ _ _ _
+    (g.D.Part.Partition.past c.delivered_through-answer.new.onto) (c.in_ok-source.ensures.opened t)
+    (c.in_ok-source.ensures.world t) (c.in_ok-onto.ensures.opened t) (c.in_ok-onto.ensures.world t)
+    (c.in_ok-through.ensures.opened t) (c.delivered_through-answer.ensures.closed t)
+    (c.delivered_through-answer.ensures.rest t) (c.let_go_source.ensures.held t) (c.let_go_source.ensures.world t)
+    (c.closed.ensures.ended t) (c.closed.ensures.paths t) (c.closed.ensures.closed t)).kept
+
+pub returns-in-Err-closed-clause-others : goal.returns-in-Err-closed-clause-others
+returns-in-Err-closed-clause-others g c = λ t.
+    (crossed _ _ _ _ _ _ _ _ _ _ _ _ _ _ _ _ _ _ _ _ _ _
+    (g.D.Part.Partition.past c.delivered_through-answer.new.onto) (c.in_ok-source.ensures.opened t)
+    (c.in_ok-source.ensures.world t) (c.in_ok-onto.ensures.opened t) (c.in_ok-onto.ensures.world t)
+    (c.in_ok-through.ensures.opened t) (c.delivered_through-answer.ensures.closed t)
+    (c.delivered_through-answer.ensures.rest t) (c.let_go_source.ensures.held t) (c.let_go_source.ensures.world t)
+    (c.closed.ensures.ended t) (c.closed.ensures.paths t) (c.closed.ensures.closed t)).others
+
+pub returns-in_err-line_beside-clause-input : goal.returns-in_err-line_beside-clause-input
+returns-in_err-line_beside-clause-input g c = λ t.
+    (crossed _ _ _ _ _ _ _ _ _ _ _ _ _ _ _ _ _ _ _ _ _ _
+    (g.D.Part.Partition.past c.delivered_through-answer.new.onto) (c.in_ok-source.ensures.opened t)
+    (c.in_ok-source.ensures.world t) (c.in_ok-onto.ensures.opened t) (c.in_ok-onto.ensures.world t)
+    (c.in_ok-through.ensures.opened t) (c.delivered_through-answer.ensures.closed t)
+    (c.delivered_through-answer.ensures.rest t) (c.let_go_source.ensures.held t) (c.let_go_source.ensures.world t)
+    (c.closed.ensures.ended t) (c.closed.ensures.paths t) (c.closed.ensures.closed t)).kept
+
+pub returns-in_err-line_beside-clause-others : goal.returns-in_err-line_beside-clause-others
+returns-in_err-line_beside-clause-others g c = λ t.
+    (crossed _ _ _ _ _ _ _ _ _ _ _ _ _ _ _ _ _ _ _ _ _ _
+    (g.D.Part.Partition.past c.delivered_through-answer.new.onto) (c.in_ok-source.ensures.opened t)
+    (c.in_ok-source.ensures.world t) (c.in_ok-onto.ensures.opened t) (c.in_ok-onto.ensures.world t)
+    (c.in_ok-through.ensures.opened t) (c.delivered_through-answer.ensures.closed t)
+    (c.delivered_through-answer.ensures.rest t) (c.let_go_source.ensures.held t) (c.let_go_source.ensures.world t)
+    (c.closed.ensures.ended t) (c.closed.ensures.paths t) (c.closed.ensures.closed t)).others
+
+pub returns-clause-input : goal.returns-clause-input
+returns-clause-input g c = λ t.
+    (crossed _ _ _ _ _ _ _ _ _ _ _ _ _ _ _ _ _ _ _ _ _ _
+    (g.D.Part.Partition.past c.delivered_through-answer.new.onto) (c.in_ok-source.ensures.opened t)
+    (c.in_ok-source.ensures.world t) (c.in_ok-onto.ensures.opened t) (c.in_ok-onto.ensures.world t)
+    (c.in_ok-through.ensures.opened t) (c.delivered_through-answer.ensures.closed t)
+    (c.delivered_through-answer.ensures.rest t) (c.let_go_source.ensures.held t) (c.let_go_source.ensures.world t)
+    (c.closed.ensures.ended t) (c.closed.ensures.paths t) (c.closed.ensures.closed t)).kept
+
+pub returns-clause-others : goal.returns-clause-others
+returns-clause-others g c = λ t.
+    (crossed _ _ _ _ _ _ _ _ _ _ _ _ _ _ _ _ _ _ _ _ _ _
+    (g.D.Part.Partition.past c.delivered_through-answer.new.onto) (c.in_ok-source.ensures.opened t)
+    (c.in_ok-source.ensures.world t) (c.in_ok-onto.ensures.opened t) (c.in_ok-onto.ensures.world t)
+    (c.in_ok-through.ensures.opened t) (c.delivered_through-answer.ensures.closed t)
+    (c.delivered_through-answer.ensures.rest t) (c.let_go_source.ensures.held t) (c.let_go_source.ensures.world t)
+    (c.closed.ensures.ended t) (c.closed.ensures.paths t) (c.closed.ensures.closed t)).others
+
+pub returns-in_err-through-clause-others : goal.returns-in_err-through-clause-others
+returns-in_err-through-clause-others g c = λ t.
+    only_both _ _ _ _ _ _ (c.in_ok-onto.ensures.world t ∙ c.in_ok-source.ensures.world t)
+    (c.in_err-through.ensures.only t)
+
+pub returns-in_err-through-clause-input : goal.returns-in_err-through-clause-input
+returns-in_err-through-clause-input g c = λ t.
+    only_kept _ _ _ _ _ _ _ _ _ _ _ _ (c.in_ok-source.ensures.opened t) (c.in_ok-source.ensures.world t)
+    (c.in_ok-onto.ensures.opened t) (c.in_ok-onto.ensures.world t) (c.in_err-through.ensures.only t)
+
+pub returns-in-Err-clause-refused : goal.returns-in-Err-clause-refused
+returns-in-Err-clause-refused g c = λ t.
+    rw c.refuse.ensures (refuses_uncuttable c.in-Err.fault c.args.raw c.args.limit _ _ _ _ _ _ _ _ _
+    (c.in_ok-onto.ensures.world t ∙ c.in_ok-source.ensures.world t)
+    (λ P so. of_file _ _ _ _ _ P (c.in_ok-source.ensures.opened t) so) (c.in-Err.ensures (g.met.D.Disk.source_told t)))
+
+pub returns-in-Err-closed-clause-refused : goal.returns-in-Err-closed-clause-refused
+returns-in-Err-closed-clause-refused g c = λ t.
+    let most = c.max-from.ensures in
+    let same : c.max-from.result - 1 ≡ max 1 c.args.from - 1 = omega (arith, most) in
+    let all = crossed _ _ _ _ _ _ _ _ _ _ _ _ _ _ _ _ _ _ _ _ _ _
+    (g.D.Part.Partition.past c.delivered_through-answer.new.onto) (c.in_ok-source.ensures.opened t)
+    (c.in_ok-source.ensures.world t) (c.in_ok-onto.ensures.opened t) (c.in_ok-onto.ensures.world t)
+    (c.in_ok-through.ensures.opened t) (c.delivered_through-answer.ensures.closed t)
+    (c.delivered_through-answer.ensures.rest t) (c.let_go_source.ensures.held t) (c.let_go_source.ensures.world t)
+    (c.closed.ensures.ended t) (c.closed.ensures.paths t) (c.closed.ensures.closed t) in
+    refuses_across c.delivered_through-answer.result c.in-Err-closed.refusal.fault _ _ _ c.args.raw c.args.limit _ _
+    _ _ _ _ _ _ _ _ _ _ _ _ _ all (sym c.counted.ensures ∙ c.in-Err-closed.ensures.told)
+    (none_of _ _ _ (c.in_ok-source.ensures.clean t) (c.in_ok-onto.ensures.clean t) (c.in_ok-through.ensures.clean t))
+    same (c.delivered_through-answer.ensures.delivers t (ap (λ (q : Past). q.pending) (c.in_ok-onto.ensures.past t)))
+
+pub returns-clause-clean : goal.returns-clause-clean
+returns-clause-clean g c = λ t.
+    let all = crossed _ _ _ _ _ _ _ _ _ _ _ _ _ _ _ _ _ _ _ _ _ _
+    (g.D.Part.Partition.past c.delivered_through-answer.new.onto) (c.in_ok-source.ensures.opened t)
+    (c.in_ok-source.ensures.world t) (c.in_ok-onto.ensures.opened t) (c.in_ok-onto.ensures.world t)
+    (c.in_ok-through.ensures.opened t) (c.delivered_through-answer.ensures.closed t)
+    (c.delivered_through-answer.ensures.rest t) (c.let_go_source.ensures.held t) (c.let_go_source.ensures.world t)
+    (c.closed.ensures.ended t) (c.closed.ensures.paths t) (c.closed.ensures.closed t) in
+    clean_across c.delivered_through-answer.result c.in-Ok.end.0 _ _ _ _ _ _ _ _ _ _ _ _ _ _ _ _ all
+    (sym c.counted.ensures ∙ c.in-Ok.ensures.done)
+    (none_of _ _ _ (c.in_ok-source.ensures.clean t) (c.in_ok-onto.ensures.clean t) (c.in_ok-through.ensures.clean t))
+    (c.delivered_through-answer.ensures.clean t)
+
+pub returns-clause-done : goal.returns-clause-done
+returns-clause-done g c = λ t.
+    let most = c.max-from.ensures in
+    let same : c.max-from.result - 1 ≡ max 1 c.args.from - 1 = omega (arith, most) in
+    let d = c.delivered_through-answer.ensures in
+    let all = crossed _ _ _ _ _ _ _ _ _ _ _ _ _ _ _ _ _ _ _ _ _ _
+    (g.D.Part.Partition.past c.delivered_through-answer.new.onto) (c.in_ok-source.ensures.opened t)
+    (c.in_ok-source.ensures.world t) (c.in_ok-onto.ensures.opened t) (c.in_ok-onto.ensures.world t)
+    (c.in_ok-through.ensures.opened t) (c.delivered_through-answer.ensures.closed t)
+    (c.delivered_through-answer.ensures.rest t) (c.let_go_source.ensures.held t) (c.let_go_source.ensures.world t)
+    (c.closed.ensures.ended t) (c.closed.ensures.paths t) (c.closed.ensures.closed t) in
+    done_across c.delivered_through-answer.result c.in-Ok.end.0 _ c.args.raw c.args.limit _ _ _ _ _ _ _ _ _ _ _ _ _ _ _
+    (g.D.Part.Partition.past c.in_ok-onto.onto) (g.D.Part.Partition.past c.delivered_through-answer.new.onto) _ all
+    (sym c.counted.ensures ∙ c.in-Ok.ensures.done) (c.in_ok-onto.ensures.past t) d.some d.synced (d.settled t)
+    same (d.delivers t (ap (λ (q : Past). q.pending) (c.in_ok-onto.ensures.past t))) c.in_ok-line_beside.ensures
+
+pub returns-in_err-line_beside-clause-refused : goal.returns-in_err-line_beside-clause-refused
+returns-in_err-line_beside-clause-refused g c = λ t.
+    let most = c.max-from.ensures in
+    let same : c.max-from.result - 1 ≡ max 1 c.args.from - 1 = omega (arith, most) in
+    let d = c.delivered_through-answer.ensures in
+    let all = crossed _ _ _ _ _ _ _ _ _ _ _ _ _ _ _ _ _ _ _ _ _ _
+    (g.D.Part.Partition.past c.delivered_through-answer.new.onto) (c.in_ok-source.ensures.opened t)
+    (c.in_ok-source.ensures.world t) (c.in_ok-onto.ensures.opened t) (c.in_ok-onto.ensures.world t)
+    (c.in_ok-through.ensures.opened t) (c.delivered_through-answer.ensures.closed t)
+    (c.delivered_through-answer.ensures.rest t) (c.let_go_source.ensures.held t) (c.let_go_source.ensures.world t)
+    (c.closed.ensures.ended t) (c.closed.ensures.paths t) (c.closed.ensures.closed t) in
+    handed_on c.from_residual-in_err-line_beside.result _ _ (λ r made. pieces_untold r.fault _ c.args.raw c.args.limit _
+    _ _ _ _ _ _ _ made (done_across c.delivered_through-answer.result c.in-Ok.end.0 _ c.args.raw c.args.limit _ _ _ _ _
+    _ _ _ _ _ _ _ _ _ _
+    (g.D.Part.Partition.past c.in_ok-onto.onto) (g.D.Part.Partition.past c.delivered_through-answer.new.onto) _ all
+    (sym c.counted.ensures ∙ c.in-Ok.ensures.done) (c.in_ok-onto.ensures.past t) d.some d.synced (d.settled t)
+    same (d.delivers t (ap (λ (q : Past). q.pending) (c.in_ok-onto.ensures.past t))) tt))
+    c.from_residual-in_err-line_beside.ensures.1
+
+pub closed-requires : goal.closed-requires
+closed-requires g c = record {
+  long = λ t.
+      let one = g.met.D.Part.Source.sized c.delivered_through-answer.new.onto (g.met.D.Disk.part_told t) in
+      let two = g.met.D.Part.Source.sized c.in_ok-onto.onto (g.met.D.Disk.part_told t) in
+      let size = c.delivered_through-answer.ensures.size in
+      as_long_across _ _ _ _ _ _ _ _ _ _ _ _ _ _ _ _ _ _ _ (c.in_ok-source.ensures.opened t)
+      (c.in_ok-source.ensures.world t) (c.in_ok-onto.ensures.opened t) (c.in_ok-onto.ensures.world t)
+      (c.in_ok-through.ensures.opened t) (c.delivered_through-answer.ensures.closed t)
+      (c.delivered_through-answer.ensures.rest t) (c.let_go_source.ensures.held t) (c.let_go_source.ensures.world t)
+      (omega (arith, one, two, size));
+}

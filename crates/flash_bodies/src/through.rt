@@ -1,0 +1,87 @@
+//! The pieces of an image to a partition, through a file that is closed behind them.
+
+ghost use Rattle.std.specs.Prelude.{◌≡◌, ◌≤◌, ◌<◌, ◌+◌, ◌-◌, [], IfErr, IfOk, IsTrue, OnOk, Some, None, false};
+ghost use Rattle.abt_disk.specs.World.{SparesRest};
+ghost use Rattle.abt_flash.specs.declared.fault.Cause.{Cause};
+ghost use Rattle.flash_bodies.specs.InPieces.{Delivers};
+ghost use Rattle.flash_bodies.specs.Through.{ClosesSpool, told};
+
+use crate::carried::Carried;
+use crate::delivering::delivered;
+use abt_disk::Disk;
+use abt_flash::{Cause, Delivered, FlashFault};
+use abt_io::{DeviceFault, Meter, Window};
+
+/// Flashes the pieces from this one on. All that they went through is in its file then.
+pub(crate) fn delivered_through<D: Disk>(
+    disk: &mut D,
+    source: &mut Carried<'_, D::At>,
+    raw: Option<u32>,
+    limit: u32,
+    from: u32,
+    through: D::Through,
+    onto: &mut D::Part,
+    w: &mut Window,
+    m: &mut Meter,
+) -> Result<Delivered, FlashFault>
+    requires some { 1 ≤ from }
+    requires capacity { limit ≤ D.Through.Spool.size through }
+    // what the partition holds, or why not: a device's fault where one has failed of devices that had not yet
+    ensures delivers { IsTrue D.tells → (D.Part.past onto.old).pending ≡ [] → Delivers
+        (D.At.read_faults source.old.device + D.Part.put_faults onto.old + (D.Through.Output.write_faults through
+        + (D.Through.Input.read_faults through + D.Through.Spool.clear_faults through)) ≡ 0
+        → (D.held disk.old).failed < (D.held disk.new).failed + (D.At.read_faults source.new.device
+        + D.Part.put_faults onto.new)) raw result limit (from - 1) (D.At.content source.old.device)
+        (D.Part.content onto.old) (D.Part.content onto.new) }
+    ensures some { IfOk result (λ d. 0 < d.pieces) }
+    ensures synced { IfOk result (λ d. (D.Part.past onto.new).synced ≡ (D.Part.past onto.old).synced + d.pieces) }
+    ensures settled { IsTrue D.tells → OnOk result ((D.Part.past onto.new).pending ≡ []) }
+    ensures size { D.Part.size onto.new ≡ D.Part.size onto.old }
+    ensures clean { IsTrue D.tells → OnOk result (D.At.read_faults source.old.device + D.Part.put_faults onto.old
+        + (D.Through.Output.write_faults through + (D.Through.Input.read_faults through
+        + D.Through.Spool.clear_faults through)) ≡ 0 → (D.held disk.new).failed + (D.At.read_faults source.new.device
+        + D.Part.put_faults onto.new) ≡ (D.held disk.old).failed) }
+    // and of the disk
+    ensures closed { IsTrue D.tells → ClosesSpool (D.held disk.old) (D.held disk.new) }
+    ensures rest { IsTrue D.tells → SparesRest (D.held disk.old).spool (D.world disk.old) (D.world disk.new) }
+{
+    let mut through = through;
+    let answer = delivered(source, raw, limit, from, &mut through, onto, w, m);
+    let cause = late(disk.close_spool(through));
+    told_of(answer, from, cause)
+}
+
+// Why what was delivered is not so: the spool was closed behind it, and refused to be read where IN was shorter.
+fn late(closed: Result<bool, DeviceFault>) -> Option<Cause>
+    ensures settled { IfErr closed (λ fault. result ≡ Some (Cause.SpoolWrite fault)) }
+    ensures shorter { IfOk closed (λ is_short. IsTrue is_short → result ≡ Some Cause.SourceChanged) }
+    ensures none { IfOk closed (λ is_short. is_short ≡ false → result ≡ None) }
+{
+    match closed {
+        Err(fault) => Some(Cause::SpoolWrite(fault)),
+        Ok(true) => Some(Cause::SourceChanged),
+        Ok(false) => None,
+    }
+}
+
+// What is told of pieces from this one on, where there is a cause that came before what stopped them. A piece whose
+// bytes could not all be written to the spool stopped for that, since whatever else stopped it came later.
+fn told_of(
+    delivered: Result<Delivered, FlashFault>,
+    from: u32,
+    late: Option<Cause>,
+) -> Result<Delivered, FlashFault>
+    ensures { result ≡ told delivered from late }
+{
+    let Some(cause) = late else {
+        return delivered;
+    };
+    match delivered {
+        Err(FlashFault::Stopped { piece, .. }) => Err(FlashFault::Stopped { piece, cause }),
+        Err(fault) => Err(fault),
+        Ok(delivered) => Err(FlashFault::Stopped {
+            piece: from.saturating_sub(1).saturating_add(delivered.pieces),
+            cause,
+        }),
+    }
+}

@@ -1,0 +1,125 @@
+-- What is cut, as it was opened.
+use Rattle.std.proofs.Common.{inl, inr, arith, ◌⊎◌, ◌+◌, ◌≡◌, ℕ, ◌<◌, ◌≤◌, List, [], Some, None, refl, sym, ◌∙◌, ap}
+use Rattle.std.proofs.Common.{subst, length}
+use Rattle.std.specs.Prelude.{IfErr, OnOk, Result, Ok, Err, Option}
+use Rattle.abt_sparse.specs.declared.fault.SparseFault.{SparseFault}
+use Rattle.abt_sparse.specs.Block.{Block, classify}
+use Rattle.abt_sparse.specs.Chunk.{Header, Chunk, classed}
+use Rattle.abt_sparse.specs.Fails.{Fails, IsOutcome, Spells}
+use Rattle.abt_sparse.specs.Pieces.{pieces}
+use Rattle.abt_sparse.specs.Reading.{Outcome, Image, Fault, outcome}
+use Rattle.abt_sparse.proofs.Exactly.{is_so}
+use Rattle.abt_runs.specs.Raw.{Refused}
+use Rattle.abt_runs.specs.Sparse.{SparseOpened, blocks_in, sparse_list}
+use Rattle.abt_runs.specs.Verdict.{Refuses}
+use Rattle.abt_runs.specs.declared.part.RunFault.{RunFault}
+use Rattle.abt_runs.specs.declared.part.RunFault.TheVariants as of_runs
+use Rattle.abt_pieces.specs.declared.fault.PieceFault.{PieceFault}
+use Rattle.abt_disk.specs.World.{World, Held, HasFailed}
+use Rattle.sparse_rules.specs.Blocks.{IsBlockSize, IsUncut}
+use Rattle.sparse_rules.specs.declared.fault.SparseCommandFault.{SparseCommandFault}
+use Rattle.sparse_rules.specs.declared.fault.SparseCommandFault.TheVariants as faults
+use Rattle.image_bodies.specs.Cutting.{CutsAll, CutsImage, CutsSoFar, IsImageOf, IsSparseOf, IsTooSmall, IsUncutSparse}
+use Rattle.image_bodies.specs.Cutting.{StopsCut, StopsImage, no_cut, no_room, stopped, unread}
+
+pub if_err : {X E : Type 0} (r : Result X E) (P Q : E → Type 0) → ((e : E) → P e → Q e) → IfErr r P → IfErr r Q
+if_err (Ok x) P Q go is = tt
+if_err (Err e) P Q go is = go e is
+
+-- an image of these blocks was cut, or not
+pub cut_of : {X E : Type 0} (r : Result X E) (raw : Option ℕ) (size size' limit limit' : ℕ) (l l' : List Block)
+    (prefix x : List ℕ) (h h' : Held) (a b : World) (shows : List ℕ → Type 0) → IsImageOf raw size l x
+    → 64 + size ≤ limit
+    → size' ≡ size → limit' ≡ limit → l' ≡ l → OnOk r (CutsAll prefix (pieces limit' size' l') h h' a b shows)
+    → OnOk r (CutsImage raw limit prefix x h h' a b shows)
+cut_of (Err e) raw size size' limit limit' l l' prefix x h h' a b shows image granted sized limited listed all = tt
+cut_of (Ok y) raw size size' limit limit' l l' prefix x h h' a b shows image granted sized limited listed all = record {
+  size = size;
+  blocks = l;
+  image = image;
+  granted = granted;
+  all = subst (λ (n : ℕ). CutsAll prefix (pieces n size l) h h' a b shows) limited
+      (subst (λ (n : ℕ). CutsAll prefix (pieces limit' n l) h h' a b shows) sized
+      (subst (λ (k : List Block). CutsAll prefix (pieces limit' size' k) h h' a b shows) listed all));
+}
+
+pub stop_of : (fault : SparseCommandFault) (raw : Option ℕ) (size size' limit limit' : ℕ) (l l' : List Block)
+    (prefix x : List ℕ) (h h' : Held) (a b : World) (Failed Same : Type 0) → IsImageOf raw size l x
+    → size' ≡ size → limit' ≡ limit → l' ≡ l
+    → StopsCut fault Failed (λ n. CutsSoFar prefix (pieces limit' size' l') n h h' a b)
+    → StopsImage raw limit x fault Failed Same (λ ps n. CutsSoFar prefix ps n h h' a b)
+stop_of fault raw size size' limit limit' l l' prefix x h h' a b Failed Same image sized limited listed why =
+    stopped size l image
+    (subst (λ (n : ℕ). StopsCut fault Failed (λ k. CutsSoFar prefix (pieces n size l) k h h' a b)) limited
+    (subst (λ (n : ℕ). StopsCut fault Failed (λ k. CutsSoFar prefix (pieces limit' n l) k h h' a b)) sized
+    (subst (λ (m : List Block). StopsCut fault Failed (λ k. CutsSoFar prefix (pieces limit' size' m) k h h' a b))
+    listed why)))
+
+-- ---- a raw one
+
+pub raw_image : (size : ℕ) (x : List ℕ) → IsBlockSize size → IsImageOf (Some size) size (classify size x) x
+raw_image size x sized = (refl, sized, refl)
+
+pub raw_uncut : (fault told : SparseCommandFault) (size long limit : ℕ) (x : List ℕ) (Failed Same : Type 0)
+    (Cut : List (List ℕ) → ℕ → Type 0) → told ≡ fault → long ≡ length x → IsUncut fault size long limit → Same
+    → StopsImage (Some size) limit x told Failed Same Cut
+raw_uncut (faults.Run f) told size long limit x Failed Same Cut is sized why same =
+    no_cut f is (subst (λ (n : ℕ). Refused f size n) sized why) same
+raw_uncut (faults.Piece f) told size long limit x Failed Same Cut is sized why same =
+    no_room size refl (is ∙ ap faults.Piece why.0) why.1 same
+raw_uncut (faults.Sparse f) told size long limit x Failed Same Cut is sized why same = absurd why
+raw_uncut (faults.Flash f) told size long limit x Failed Same Cut is sized why same = absurd why
+raw_uncut (faults.Verify f) told size long limit x Failed Same Cut is sized why same = absurd why
+raw_uncut (faults.OtherBlocks i) told size long limit x Failed Same Cut is sized why same = absurd why
+raw_uncut (faults.Host f) told size long limit x Failed Same Cut is sized why same = absurd why
+
+-- ---- a sparse one
+
+spelled_by : (x : List ℕ) (header : Header) (chunks : List Chunk) (rest : List ℕ) → IsOutcome x (outcome x)
+    → outcome x ≡ Image header chunks rest → Spells x header chunks rest
+spelled_by x header chunks rest is same = subst (λ o. IsOutcome x o) same is
+
+pub sparse_image : (header : Header) (long image : ℕ) (x : List ℕ) → IsOutcome x (outcome x)
+    → SparseOpened header long image x → IsImageOf None header.blk_sz (sparse_list x) x
+sparse_image header long image x is o = record {
+  header = header;
+  chunks = o.chunks;
+  rest = o.rest;
+  spelled = spelled_by x header o.chunks o.rest is o.is_image;
+  sized = refl;
+  holds = ap blocks_in o.is_image;
+}
+
+fails_by : (x : List ℕ) (f : SparseFault) (o : Outcome) → IsOutcome x o → Refuses (of_runs.Sparse f) o
+    → (given : List (Option ℕ)) × Fails x f given
+fails_by x f (Fault g cells) is same = (cells, subst (λ e. Fails x e cells) (sym same) is)
+fails_by x f (Image h cs rest) is refused = absurd refused
+
+pub sparse_uncut : (fault told : SparseCommandFault) (limit : ℕ) (x : List ℕ) (r r' : ℕ) (Failed Same : Type 0)
+    (Cut : List (List ℕ) → ℕ → Type 0) → IsOutcome x (outcome x) → told ≡ fault → IsUncutSparse fault limit x r r'
+    → (r < r' → Failed) → Same → StopsImage None limit x told Failed Same Cut
+sparse_uncut (faults.Run (of_runs.Sparse f)) told limit x r r' Failed Same Cut all is why fails same =
+    no_cut (of_runs.Sparse f) is (fails_by x f (outcome x) all why) same
+sparse_uncut (faults.Run (of_runs.Read d)) told limit x r r' Failed Same Cut all is why fails same =
+    unread (of_runs.Read d) is (fails why)
+sparse_uncut (faults.Run of_runs.TooLarge) told limit x r r' Failed Same Cut all is why fails same = absurd why
+sparse_uncut (faults.Run of_runs.SourceChanged) told limit x r r' Failed Same Cut all is why fails same = absurd why
+sparse_uncut (faults.Run (of_runs.BadBlock n)) told limit x r r' Failed Same Cut all is why fails same = absurd why
+sparse_uncut (faults.Piece f) told limit x r r' Failed Same Cut all is why fails same =
+    no_room why.header.blk_sz (
+      classed why.chunks,
+      record {
+        header = why.header;
+        chunks = why.chunks;
+        rest = why.rest;
+        spelled = spelled_by x why.header why.chunks why.rest all why.is_image;
+        sized = refl;
+        holds = refl;
+      },
+    )
+    (is ∙ ap faults.Piece why.told) why.short same
+sparse_uncut (faults.Sparse f) told limit x r r' Failed Same Cut all is why fails same = absurd why
+sparse_uncut (faults.Flash f) told limit x r r' Failed Same Cut all is why fails same = absurd why
+sparse_uncut (faults.Verify f) told limit x r r' Failed Same Cut all is why fails same = absurd why
+sparse_uncut (faults.OtherBlocks i) told limit x r r' Failed Same Cut all is why fails same = absurd why
+sparse_uncut (faults.Host f) told limit x r r' Failed Same Cut all is why fails same = absurd why

@@ -1,0 +1,231 @@
+-- All of a run that cuts an image, from the image's opening on.
+use Rattle.std.proofs.Common.{inl, inr, arith, ◌⊎◌, ◌+◌, ◌*◌, ◌≡◌, ◌≢◌, ℕ, ◌<◌, ◌≤◌, List, [], ◌∷◌, ◌++◌, Some, None}
+use Rattle.std.proofs.Common.{Bool, true, false, refl, sym, ◌∙◌, ap, subst, length}
+use Rattle.std.specs.Prelude.{IsTrue, IsOk, IfOk, IfErr, OnOk, OnErr, Result, Ok, Err, Option, unwrap_or, is_some}
+use Rattle.std.specs.Prelude.{Contains, if◌then◌else◌}
+use Rattle.std.proofs.lemmas.Bool.{false≢true}
+use Rattle.std.proofs.lemmas.List.Elements.{Contains-push, Contains-append_cases}
+use Rattle.abt_sparse.specs.Block.{Block, classify}
+use Rattle.abt_sparse.specs.Pieces.{pieces}
+use Rattle.abt_pieces.specs.Turn.{HasAt}
+use Rattle.abt_refusals.specs.declared.refusal.HostFault.{HostFault}
+use Rattle.abt_refusals.specs.declared.refusal.HostFault.TheVariants as hosts
+use Rattle.abt_disk.specs.World.{World, Held, OpensFile, KeepsFile, HasFailed, HasNotFailed, failing, reading}
+use Rattle.sparse_rules.specs.Lines.{text_of}
+use Rattle.sparse_rules.specs.declared.lines.Line.TheVariants as lines
+use Rattle.sparse_rules.specs.declared.fault.SparseCommandFault.{SparseCommandFault}
+use Rattle.sparse_rules.specs.declared.fault.SparseCommandFault.TheVariants as faults
+use Rattle.image_bodies.specs.Sparsing.{IsOutside}
+use Rattle.image_bodies.specs.Cutting.{AreApart, CutsAll, CutsFile, CutsImage, CutsSoFar, FirstStand, IsImageOf}
+use Rattle.image_bodies.specs.Cutting.{IsPiecePath, OnlyFails, PieceStands, PiecesStand, RefusesCut, StopsCut}
+use Rattle.image_bodies.specs.Cutting.{StopsImage, failed, no_cut, no_memory, no_room, opened, piece_path, stopped}
+use Rattle.image_bodies.specs.Cutting.{unopened, unread, untold}
+use Rattle.image_bodies.specs.Under.{GoesUnder, IsMade, OnlyUnder}
+use Rattle.image_bodies.proofs.Unders.{goes_none, goes_then, kept_behind, only_behind}
+
+-- ---- once what was read is let go
+
+made_past : (h h' : Held) (a b : World) (path bytes : List ℕ) (n : ℕ) → h' ≡ failing n h → b ≡ a
+    → IsMade h a path bytes → IsMade h' b path bytes
+made_past h h' a b path bytes n later same made = record {
+  file = made.file;
+  there = ap (λ w. w.at path) same ∙ made.there;
+  holds = ap (λ w. w.holds made.file) same ∙ made.holds;
+  listed = subst (λ k. Contains k.begun made.file) (sym later) made.listed;
+}
+
+pub cuts_past : (prefix : List ℕ) (ps : List (List ℕ)) (n r : ℕ) (h h' h'' : Held) (a b c : World) → h'' ≡ failing r h'
+    → c ≡ b → CutsSoFar prefix ps n h h' a b → CutsSoFar prefix ps n h h'' a c
+cuts_past prefix ps n r h h' h'' a b c later same cuts = record {
+  goes = goes_then (IsPiecePath prefix) h h' h'' a b c cuts.goes (goes_none (IsPiecePath prefix) h' h'' b c r later
+      same);
+  stand = λ j below.
+      let s = cuts.stand j below in
+      record {
+        bytes = s.bytes;
+        is_next = s.is_next;
+        made = made_past h' h'' b c (piece_path prefix (j + 1)) s.bytes r later same s.made;
+      };
+  apart = subst (λ w. AreApart prefix n w) (sym same) cuts.apart;
+  closed = ap (λ k. k.output) later ∙ cuts.closed;
+  is_synced = ap (λ k. k.is_synced) later ∙ cuts.is_synced;
+  synced = ap (λ k. k.syncs) later ∙ cuts.synced;
+}
+
+pub stops_past : (fault : SparseCommandFault) (prefix : List ℕ) (ps : List (List ℕ)) (r r' : ℕ) (h h' h'' : Held)
+    (a b c : World) → r ≡ 0 → h'' ≡ failing r' h' → c ≡ b
+    → StopsCut fault (h.failed + r < h'.failed + r') (λ n. CutsSoFar prefix ps n h h' a b)
+    → StopsCut fault (HasFailed h h'') (λ n. CutsSoFar prefix ps n h h'' a c)
+stops_past fault prefix ps r r' h h' h'' a b c none later same (failed outside more) =
+    failed outside (omega (arith, none, more, ap (λ k. k.failed) later))
+stops_past fault prefix ps r r' h h' h'' a b c none later same (untold f told n some cuts) =
+    untold f told n some (cuts_past prefix ps n r' h h' h'' a b c later same cuts)
+stops_past fault prefix ps r r' h h' h'' a b c none later same (no_memory told) = no_memory told
+
+-- a call of the disk was refused, or memory was
+pub stops_host : (fault : SparseCommandFault) (k : HostFault) (Failed : Type 0) (Cut : ℕ → Type 0)
+    → fault ≡ faults.Host k
+    → (k ≡ hosts.Memory) ⊎ Failed → StopsCut fault Failed Cut
+stops_host fault k Failed Cut told (inl memory) = no_memory (told ∙ ap faults.Host memory)
+stops_host fault k Failed Cut told (inr why) = failed (subst IsOutside (sym told) tt) why
+
+-- ---- the files of a run
+
+-- the image is none of the files that were begun
+beside_read : (prefix : List ℕ) (ps : List (List ℕ)) (n from : ℕ) (h h' : Held) (a b : World) → h.begun ≡ []
+    → Contains h.read from → CutsSoFar prefix ps n h h' a b → (j f : ℕ) → j < n
+    → b.at (piece_path prefix (j + 1)) ≡ Some f → f ≢ from
+beside_read prefix ps n from h h' a b none listed cuts j f below at is =
+    let s = cuts.stand j below in
+    let same : s.made.file ≡ from = ap (λ o. unwrap_or o 0) (sym s.made.there ∙ at) ∙ is in
+    elim (cuts.goes.opened s.made.file s.made.listed) [
+      | inl before ↦ elim (Contains-append_cases [] [] s.made.file (subst (λ l. Contains l s.made.file) none before)) [
+        | inl y ↦ omega (arith, y.1)
+        | inr y ↦ omega (arith, y.1)
+      ]
+      | inr there ↦ there.free (subst (λ g. Contains h.read g) (sym same) listed)
+    ]
+
+-- behind the opening of the image
+pub first_stand : (prefix path bytes : List ℕ) (ps : List (List ℕ)) (n : ℕ) (h h' h'' : Held) (a b c : World)
+    → h.begun ≡ [] → (o : OpensFile a path bytes h h') → CutsSoFar prefix ps n h' h'' b c
+    → FirstStand prefix o.file h h'' c ps n
+first_stand prefix path bytes ps n h h' h'' a b c none o cuts = record {
+  stand = cuts.stand;
+  apart = cuts.apart;
+  beside = beside_read prefix ps n o.file h' h'' b c (ap (λ k. k.begun) o.taken ∙ none)
+      (subst (λ k. Contains k.read o.file) (sym o.taken) (Contains-push h.read o.file)) cuts;
+  synced = cuts.synced ∙ ap (λ k. k.syncs + n * (if k.is_synced then 1 else 0)) o.taken;
+}
+
+pub cuts_file : (raw : Option ℕ) (limit : ℕ) (input prefix bytes : List ℕ) (h h' h'' : Held) (a b c : World)
+    (shows : List ℕ → Type 0) → h.begun ≡ [] → OpensFile a input bytes h h'
+    → CutsImage raw limit prefix bytes h' h'' b c shows → CutsFile raw limit input prefix h h'' a c shows
+cuts_file raw limit input prefix bytes h h' h'' a b c shows none o i = record {
+  from = o.file;
+  there = o.there;
+  size = i.size;
+  blocks = i.blocks;
+  image = subst (λ x. IsImageOf raw i.size i.blocks x) o.held i.image;
+  granted = i.granted;
+  count = i.all.count;
+  all = i.all.all;
+  first = first_stand prefix input bytes (pieces limit i.size i.blocks) i.all.count h h' h'' a b c none o i.all.cuts;
+  shown = i.all.shown;
+}
+
+stops_file : (fault : SparseCommandFault) (prefix path bytes : List ℕ) (ps : List (List ℕ)) (h h' h'' : Held)
+    (a b c : World) → h.begun ≡ [] → (o : OpensFile a path bytes h h')
+    → StopsCut fault (HasFailed h' h'') (λ n. CutsSoFar prefix ps n h' h'' b c)
+    → StopsCut fault (HasFailed h h'') (FirstStand prefix o.file h h'' c ps)
+stops_file fault prefix path bytes ps h h' h'' a b c none o (failed outside more) =
+    failed outside (omega (arith, more, ap (λ k. k.failed) o.taken))
+stops_file fault prefix path bytes ps h h' h'' a b c none o (untold f told n some cuts) =
+    untold f told n some (first_stand prefix path bytes ps n h h' h'' a b c none o cuts)
+stops_file fault prefix path bytes ps h h' h'' a b c none o (no_memory told) = no_memory told
+
+image_file : (raw : Option ℕ) (limit : ℕ) (x : List ℕ) (fault : SparseCommandFault) (prefix path bytes : List ℕ)
+    (h h' h'' : Held) (a b c : World) → h.begun ≡ [] → (o : OpensFile a path bytes h h') → b ≡ a
+    → StopsImage raw limit x fault (HasFailed h' h'') (c ≡ b) (λ ps n. CutsSoFar prefix ps n h' h'' b c)
+    → StopsImage raw limit x fault (HasFailed h h'') (c ≡ a) (FirstStand prefix o.file h h'' c)
+image_file raw limit x fault prefix path bytes h h' h'' a b c none o same (no_cut f told why still) =
+    no_cut f told why (still ∙ same)
+image_file raw limit x fault prefix path bytes h h' h'' a b c none o same (unread f told more) =
+    unread f told (omega (arith, more, ap (λ k. k.failed) o.taken))
+image_file raw limit x fault prefix path bytes h h' h'' a b c none o same (no_room size blocks told short still) =
+    no_room size blocks told short (still ∙ same)
+image_file raw limit x fault prefix path bytes h h' h'' a b c none o same (stopped size blocks image why) =
+    stopped size blocks image
+    (stops_file fault prefix path bytes (pieces limit size blocks) h h' h'' a b c none o why)
+
+pub refuses_file : (raw : Option ℕ) (limit : ℕ) (input prefix bytes : List ℕ) (fault : SparseCommandFault)
+    (h h' h'' : Held) (a b c : World) → h.begun ≡ [] → OpensFile a input bytes h h' → b ≡ a
+    → StopsImage raw limit bytes fault (HasFailed h' h'') (c ≡ b) (λ ps n. CutsSoFar prefix ps n h' h'' b c)
+    → RefusesCut raw limit input prefix fault h h'' a c
+refuses_file raw limit input prefix bytes fault h h' h'' a b c none o same why =
+    opened o.file o.there
+    (subst (λ x. StopsImage raw limit x fault (HasFailed h h'') (c ≡ a) (FirstStand prefix o.file h h'' c)) o.held
+    (image_file raw limit bytes fault prefix input bytes h h' h'' a b c none o same why))
+
+pub keeps_input : (prefix path bytes : List ℕ) (h h' h'' : Held) (a b c : World) → OpensFile a path bytes h h' → b ≡ a
+    → GoesUnder (IsPiecePath prefix) h' h'' b c → KeepsFile path a c
+keeps_input prefix path bytes h h' h'' a b c o same goes = λ f there.
+    let is : o.file ≡ f = ap (λ p. unwrap_or p 0) (sym o.there ∙ there) in
+    subst (λ g. c.holds g ≡ a.holds g) is (kept_behind (IsPiecePath prefix) path bytes h h' h'' a b c o same goes)
+
+pub clean_file : (path bytes : List ℕ) (h h' h'' : Held) (a : World) → OpensFile a path bytes h h' → HasNotFailed h' h''
+    → HasNotFailed h h''
+clean_file path bytes h h' h'' a o clean = omega (arith, clean, ap (λ k. k.failed) o.taken)
+
+-- the image could not be opened
+pub refuses_unopened : (raw : Option ℕ) (limit : ℕ) (input prefix : List ℕ) (fault : SparseCommandFault) (k : HostFault)
+    (h h' : Held) (a c : World) → fault ≡ faults.Host k → h' ≡ failing 1 h → c ≡ a
+    → RefusesCut raw limit input prefix fault h h' a c
+refuses_unopened raw limit input prefix fault k h h' a c told now same =
+    unopened k told (omega (arith, ap (λ q. q.failed) now)) same
+
+-- ---- of calls that may be refused
+
+pub only_one_fails : (h h' : Held) → h' ≡ failing 1 h → OnlyFails h h'
+only_one_fails h h' now = record { failures = 1; same = now }
+
+-- what is not there is not noted
+pub not_there : (o : Option ℕ) → true ≡ is_some o → o ≡ None → ⊥
+not_there o is none = false≢true (sym (is ∙ ap is_some none))
+
+-- ---- between the opening of the image and its end
+
+pub goes_fails : (P : List ℕ → Type 0) (h h' : Held) (a b : World) → OnlyFails h h' → b ≡ a → GoesUnder P h h' a b
+goes_fails P h h' a b fails same = goes_none P h h' a b fails.failures fails.same same
+
+pub goes_between : (P : List ℕ → Type 0) (r : ℕ) (h h1 h2 h3 : Held) (a a1 b c : World) → h1 ≡ h → a1 ≡ a
+    → GoesUnder P h1 h2 a1 b → h3 ≡ failing r h2 → c ≡ b → GoesUnder P h h3 a c
+goes_between P r h h1 h2 h3 a a1 b c held world goes later same =
+    goes_then P h h2 h3 a b c
+    (subst (λ (k : Held). GoesUnder P k h2 a b) held (subst (λ (w : World). GoesUnder P h1 h2 w b) world goes))
+    (goes_none P h2 h3 b c r later same)
+
+pub cuts_between : (prefix : List ℕ) (ps : List (List ℕ)) (n r : ℕ) (h h1 h2 h3 : Held) (a a1 b c : World) → h1 ≡ h
+    → a1 ≡ a → CutsSoFar prefix ps n h1 h2 a1 b → h3 ≡ failing r h2 → c ≡ b → CutsSoFar prefix ps n h h3 a c
+cuts_between prefix ps n r h h1 h2 h3 a a1 b c held world cuts later same =
+    cuts_past prefix ps n r h h2 h3 a b c later same
+    (subst (λ (k : Held). CutsSoFar prefix ps n k h2 a b) held
+    (subst (λ (w : World). CutsSoFar prefix ps n h1 h2 w b) world cuts))
+
+pub stops_between : (fault : SparseCommandFault) (prefix : List ℕ) (ps : List (List ℕ)) (r r' : ℕ) (h h1 h2 h3 : Held)
+    (a a1 b c : World) → h1 ≡ h → a1 ≡ a → r ≡ 0
+    → StopsCut fault (h1.failed + r < h2.failed + r') (λ n. CutsSoFar prefix ps n h1 h2 a1 b) → h3 ≡ failing r' h2
+    → c ≡ b
+    → StopsCut fault (HasFailed h h3) (λ n. CutsSoFar prefix ps n h h3 a c)
+stops_between fault prefix ps r r' h h1 h2 h3 a a1 b c held world none (failed outside more) later same =
+    failed outside (omega (arith, none, more, ap (λ k. k.failed) held, ap (λ k. k.failed) later))
+stops_between fault prefix ps r r' h h1 h2 h3 a a1 b c held world none (untold f told n some cuts) later same =
+    untold f told n some (cuts_between prefix ps n r' h h1 h2 h3 a a1 b c held world cuts later same)
+stops_between fault prefix ps r r' h h1 h2 h3 a a1 b c held world none (no_memory told) later same = no_memory told
+
+pub clean_between : (r r' : ℕ) (h h1 h2 h3 : Held) → h1 ≡ h → r ≡ 0 → h2.failed + r' ≡ h1.failed + r
+    → h3 ≡ failing r' h2
+    → HasNotFailed h h3
+clean_between r r' h h1 h2 h3 held none clean later =
+    omega (arith, none, clean, ap (λ k. k.failed) held, ap (λ k. k.failed) later)
+
+-- ---- from the answer of the call
+
+pub cuts_file_as : {X E : Type 0} (r : Result X E) (raw raw' : Option ℕ) (limit : ℕ) (input prefix bytes : List ℕ)
+    (h h' h'' : Held) (a b c : World) (shows : List ℕ → Type 0) → raw ≡ raw' → h.begun ≡ []
+    → OpensFile a input bytes h h'
+    → OnOk r (CutsImage raw' limit prefix bytes h' h'' b c shows)
+    → OnOk r (CutsFile raw limit input prefix h h'' a c shows)
+cuts_file_as (Err e) raw raw' limit input prefix bytes h h' h'' a b c shows same none o i = tt
+cuts_file_as (Ok x) raw raw' limit input prefix bytes h h' h'' a b c shows same none o i =
+    cuts_file raw limit input prefix bytes h h' h'' a b c shows none o
+    (subst (λ (k : Option ℕ). CutsImage k limit prefix bytes h' h'' b c shows) (sym same) i)
+
+pub refuses_file_as : (raw raw' : Option ℕ) (limit : ℕ) (input prefix bytes : List ℕ) (fault : SparseCommandFault)
+    (h h' h'' : Held) (a b c : World) → raw ≡ raw' → h.begun ≡ [] → OpensFile a input bytes h h' → b ≡ a
+    → StopsImage raw' limit bytes fault (HasFailed h' h'') (c ≡ b) (λ ps n. CutsSoFar prefix ps n h' h'' b c)
+    → RefusesCut raw limit input prefix fault h h'' a c
+refuses_file_as raw raw' limit input prefix bytes fault h h' h'' a b c same none o still why =
+    refuses_file raw limit input prefix bytes fault h h' h'' a b c none o still
+    (subst (λ (k : Option ℕ). StopsImage k limit bytes fault (HasFailed h' h'') (c ≡ b)
+    (λ ps n. CutsSoFar prefix ps n h' h'' b c)) (sym same) why)

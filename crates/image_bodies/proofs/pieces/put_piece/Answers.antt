@@ -1,0 +1,58 @@
+use Rattle.std.proofs.Common.{refl, arith}
+use Rattle.image_bodies.proofs.Beside.{adds_piece, cause_piece, clean_piece, goes_piece, none_open}
+use Rattle.image_bodies.proofs.Unders.{goes_refused}
+use Rattle.image_bodies.proofs.pieces.put_piece.Goals as goal
+
+pub returns-in_err-image-clause-only : goal.returns-in_err-image-clause-only
+returns-in_err-image-clause-only g c = λ t.
+    goes_refused _ _ _ _ _ _ 1 refl (c.in_err-image.ensures.kept t) (c.in_err-image.ensures.only t)
+
+pub returns-in-File-clause-adds : goal.returns-in-File-clause-adds
+returns-in-File-clause-adds g c = λ t.
+    let told = g.met.D.Disk.source_told t in
+    adds_piece _ _ _ _ _ _ _ _ _ _ _ _ (c.in_ok-image.ensures.created t)
+    (rw (c.forget.ensures.content told) at (c.put_in_file.ensures.holds t)) (c.put_in_file.ensures.closed t)
+    (c.put_in_file.ensures.rest t)
+
+pub returns-in-File-clause-only : goal.returns-in-File-clause-only
+returns-in-File-clause-only g c = λ t.
+    goes_piece _ _ _ _ _ _ _ _ _ _ (c.in_ok-image.ensures.created t) (c.put_in_file.ensures.closed t)
+    (c.put_in_file.ensures.rest t)
+
+pub returns-in-File-clause-closed : goal.returns-in-File-clause-closed
+returns-in-File-clause-closed g c = λ t. none_open _ _ _ _ _ (c.put_in_file.ensures.closed t)
+
+pub returns-in-File-clause-clean : goal.returns-in-File-clause-clean
+returns-in-File-clause-clean g c = λ t.
+    clean_piece _ _ _ _ _ _ _ _ _ (c.in_ok-image.ensures.created t)
+    (rw c.forget.ensures.faults at (c.put_in_file.ensures.closed t))
+
+pub returns-in-File-clause-cause : goal.returns-in-File-clause-cause
+returns-in-File-clause-cause g c = λ t.
+    cause_piece _ _ _ _ _ _ _ _ _ (c.in_ok-image.ensures.created t)
+    (rw c.forget.ensures.faults at (c.put_in_file.ensures.closed t))
+
+pub returns-in-Stream-clause-adds : goal.returns-in-Stream-clause-adds
+returns-in-Stream-clause-adds g c = λ t.
+    let told = g.met.D.Disk.source_told t in
+    adds_piece _ _ _ _ _ _ _ _ _ _ _ _ (c.in_ok-image.ensures.created t)
+    (rw (c.forget.ensures.content told) at (c.put_in_stream.ensures.holds t)) (c.put_in_stream.ensures.closed t)
+    (c.put_in_stream.ensures.rest t)
+
+pub returns-in-Stream-clause-only : goal.returns-in-Stream-clause-only
+returns-in-Stream-clause-only g c = λ t.
+    goes_piece _ _ _ _ _ _ _ _ _ _ (c.in_ok-image.ensures.created t) (c.put_in_stream.ensures.closed t)
+    (c.put_in_stream.ensures.rest t)
+
+pub returns-in-Stream-clause-closed : goal.returns-in-Stream-clause-closed
+returns-in-Stream-clause-closed g c = λ t. none_open _ _ _ _ _ (c.put_in_stream.ensures.closed t)
+
+pub returns-in-Stream-clause-clean : goal.returns-in-Stream-clause-clean
+returns-in-Stream-clause-clean g c = λ t.
+    clean_piece _ _ _ _ _ _ _ _ _ (c.in_ok-image.ensures.created t)
+    (rw c.forget.ensures.faults at (c.put_in_stream.ensures.closed t))
+
+pub returns-in-Stream-clause-cause : goal.returns-in-Stream-clause-cause
+returns-in-Stream-clause-cause g c = λ t.
+    cause_piece _ _ _ _ _ _ _ _ _ (c.in_ok-image.ensures.created t)
+    (rw c.forget.ensures.faults at (c.put_in_stream.ensures.closed t))

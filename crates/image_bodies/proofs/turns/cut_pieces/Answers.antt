@@ -1,0 +1,53 @@
+use Rattle.std.proofs.Common.{◌≡◌, ◌+◌, None, sym, subst}
+use Rattle.image_bodies.specs.Cutting.{IsPiecePath, piece_path, untold}
+use Rattle.image_bodies.proofs.Wholes.{cuts_between, goes_between, stops_between}
+use Rattle.image_bodies.proofs.turns.cut_pieces.Goals as goal
+
+pub returns-in-Err-answer-clause-only : goal.returns-in-Err-answer-clause-only
+returns-in-Err-answer-clause-only g c = λ t.
+    goes_between (IsPiecePath c.args.prefix.now) _ _ _ _ _ _ _ _ _ (c.in-Ok.ensures.held t)
+    (c.refuse_image_as_piece.ensures.world t) (c.write_pieces-source.ensures.only t) (c.let_go_source.ensures.held t)
+    (c.let_go_source.ensures.world t)
+
+pub returns-in-Ok-tell_all-clause-only : goal.returns-in-Ok-tell_all-clause-only
+returns-in-Ok-tell_all-clause-only g c = λ t.
+    goes_between (IsPiecePath c.args.prefix.now) _ _ _ _ _ _ _ _ _ (c.in-Ok.ensures.held t)
+    (c.refuse_image_as_piece.ensures.world t) (c.write_pieces-source.ensures.only t) (c.let_go_source.ensures.held t)
+    (c.let_go_source.ensures.world t)
+
+pub returns-in-Err-tell_all-clause-only : goal.returns-in-Err-tell_all-clause-only
+returns-in-Err-tell_all-clause-only g c = λ t.
+    goes_between (IsPiecePath c.args.prefix.now) _ _ _ _ _ _ _ _ _ (c.in-Ok.ensures.held t)
+    (c.refuse_image_as_piece.ensures.world t) (c.write_pieces-source.ensures.only t) (c.let_go_source.ensures.held t)
+    (c.let_go_source.ensures.world t)
+
+pub returns-in-Err-answer-clause-refused : goal.returns-in-Err-answer-clause-refused
+returns-in-Err-answer-clause-refused g c = λ t.
+    stops_between c.in-Err-answer.refusal.fault c.args.prefix.now _ _ _ _ _ _ _ _ _ _ _ (c.in-Ok.ensures.held t)
+    (c.refuse_image_as_piece.ensures.world t) (c.requires.clean t)
+    (rw c.in-Err-answer.is at (c.write_pieces-source.ensures.refused t)) (c.let_go_source.ensures.held t)
+    (c.let_go_source.ensures.world t)
+
+pub returns-in-Ok-tell_all-clause-done : goal.returns-in-Ok-tell_all-clause-done
+returns-in-Ok-tell_all-clause-done g c = λ t. record {
+  count = c.in-Ok-answer.files.count;
+  all = rw c.in-Ok-answer.is at (c.write_pieces-source.ensures.all t);
+  cuts = (cuts_between c.args.prefix.now _ c.in-Ok-answer.files.count _ _ _ _ _ _ _ _ _ (c.in-Ok.ensures.held t)
+      (c.refuse_image_as_piece.ensures.world t) (rw c.in-Ok-answer.is at (c.write_pieces-source.ensures.done t))
+      (c.let_go_source.ensures.held t) (c.let_go_source.ensures.world t));
+  shown = λ few none. (
+    c.write_pieces-source.new.report,
+    c.in-Ok-tell_all.ensures.shown t few
+        (subst (λ p. (g.D.Disk.world c.let_go_source.new.self).at (piece_path p (c.in-Ok-answer.files.count + 1)) ≡
+        None)
+        (sym (rw c.in-Ok-answer.is at c.write_pieces-source.ensures.prefix)) none),
+  );
+}
+
+pub returns-in-Err-tell_all-clause-refused : goal.returns-in-Err-tell_all-clause-refused
+returns-in-Err-tell_all-clause-refused g c = λ t.
+    untold c.in-Err-tell_all.refusal.fault c.into-in-Err-tell_all.ensures c.in-Ok-answer.files.count
+    (rw c.in-Ok-answer.is at c.write_pieces-source.ensures.some) (cuts_between c.args.prefix.now _
+    c.in-Ok-answer.files.count _ _ _ _ _ _ _ _ _ (c.in-Ok.ensures.held t)
+    (c.refuse_image_as_piece.ensures.world t) (rw c.in-Ok-answer.is at (c.write_pieces-source.ensures.done t))
+    (c.let_go_source.ensures.held t) (c.let_go_source.ensures.world t))

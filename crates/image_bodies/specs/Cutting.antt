@@ -1,0 +1,223 @@
+-- What the command `cut` leaves of files, and what it prints.
+use Rattle.std.specs.Prelude.{◌≡◌, ◌≢◌, ◌<◌, ◌≤◌, ◌⊎◌, ◌+◌, ◌*◌, ℕ, List, [], ◌∷◌, ◌++◌, length, Option, Some, None}
+use Rattle.std.specs.Prelude.{Bool, true, false}
+use Rattle.std.specs.Prelude.{Contains, if◌then◌else◌}
+use Rattle.abt_sparse.specs.declared.fault.SparseFault.{SparseFault}
+use Rattle.abt_sparse.specs.Block.{Block, classify}
+use Rattle.abt_sparse.specs.Chunk.{Header, Chunk, classed}
+use Rattle.abt_sparse.specs.Fails.{Fails, Spells}
+use Rattle.abt_sparse.specs.Pieces.{pieces}
+use Rattle.abt_sparse.specs.Reading.{Image, outcome}
+use Rattle.abt_runs.specs.Raw.{Refused}
+use Rattle.abt_runs.specs.Verdict.{Refuses}
+use Rattle.abt_runs.specs.declared.part.RunFault.{RunFault}
+use Rattle.abt_runs.specs.declared.part.RunFault.TheVariants as of_runs
+use Rattle.abt_pieces.specs.Turn.{HasAt}
+use Rattle.abt_pieces.specs.declared.fault.PieceFault.{PieceFault}
+use Rattle.abt_pieces.specs.declared.fault.PieceFault.TheVariants as of_pieces
+use Rattle.abt_refusals.specs.Paths.{numbered}
+use Rattle.abt_refusals.specs.declared.refusal.HostFault.{HostFault}
+use Rattle.abt_refusals.specs.declared.refusal.HostFault.TheVariants as hosts
+use Rattle.abt_disk.specs.World.{World, Held, Ends, Spares, HasFailed, ended, failing}
+use Rattle.sparse_rules.specs.Blocks.{IsBlockSize}
+use Rattle.sparse_rules.specs.Lines.{text_of}
+use Rattle.sparse_rules.specs.declared.fault.SparseCommandFault.{SparseCommandFault}
+use Rattle.sparse_rules.specs.declared.fault.SparseCommandFault.TheVariants as faults
+use Rattle.sparse_rules.specs.declared.lines.Line.TheVariants as lines
+use Rattle.abt_output.specs.Shows.{Shows}
+use Rattle.abt_output.specs.declared.report.Report.{Report}
+use Rattle.image_bodies.specs.Sparsing.{IsOutside}
+use Rattle.image_bodies.specs.Under.{GoesUnder, IsMade, KeepsMade}
+
+-- ---- what is cut
+
+-- a sparse image of these blocks of so many bytes stands at the front of x
+pub record IsSparseOf (size : ℕ) (blocks : List Block) (x : List ℕ) : Type 0 where
+  pub header : Header
+  pub chunks : List Chunk
+  pub rest : List ℕ
+  pub spelled : Spells x header chunks rest
+  pub sized : size ≡ header.blk_sz
+  pub holds : blocks ≡ classed chunks
+
+-- x is an image of these blocks of so many bytes: a sparse one, or a raw one in such blocks
+abbrev pub IsImageOf : Option ℕ → ℕ → List Block → List ℕ → Type 0
+IsImageOf None size blocks x = IsSparseOf size blocks x
+IsImageOf (Some n) size blocks x = (size ≡ n) × IsBlockSize n × (blocks ≡ classify n x)
+
+-- the pieces of an image of these blocks of so many bytes, for a limit
+abbrev pub cut_into : ℕ → ℕ → List Block → List (List ℕ)
+cut_into limit size blocks = pieces limit size blocks
+
+-- these bytes went out last
+abbrev pub ShowsLast : Report → List ℕ → Type 0
+ShowsLast new told = (before : Report) × Shows before new told
+
+-- ---- the files of pieces
+
+-- the path of piece n, from 1 on
+abbrev pub piece_path : List ℕ → ℕ → List ℕ
+piece_path prefix n = numbered prefix (Some n)
+
+abbrev pub IsPiecePath : List ℕ → List ℕ → Type 0
+IsPiecePath prefix path = (n : ℕ) × (path ≡ piece_path prefix n)
+
+-- of these pieces the one behind j others was begun, and stands whole under its name
+pub record PieceStands (prefix : List ℕ) (ps : List (List ℕ)) (j : ℕ) (held : Held) (world : World) : Type 0 where
+  pub bytes : List ℕ
+  pub is_next : HasAt ps j bytes
+  pub made : IsMade held world (piece_path prefix (j + 1)) bytes
+
+-- so do the first n
+abbrev pub PiecesStand : List ℕ → List (List ℕ) → ℕ → Held → World → Type 0
+PiecesStand prefix ps n held world = (j : ℕ) → j < n → PieceStands prefix ps j held world
+
+-- no two of the first n have one file
+abbrev pub AreApart : List ℕ → ℕ → World → Type 0
+AreApart prefix n world = (i j f : ℕ) → i < j → j < n → world.at (piece_path prefix (i + 1)) ≡ Some f
+    → world.at (piece_path prefix (j + 1)) ≡ Some f → ⊥
+
+-- From one moment of a run to another: the first n pieces stand, in files of their own, each synced where that is
+-- wanted. Nothing but files of pieces was changed, and no output is open.
+pub record CutsSoFar (prefix : List ℕ) (ps : List (List ℕ)) (n : ℕ) (held held' : Held) (old new : World) : Type 0 where
+  pub goes : GoesUnder (IsPiecePath prefix) held held' old new
+  pub stand : PiecesStand prefix ps n held' new
+  pub apart : AreApart prefix n new
+  pub closed : held'.output ≡ None
+  pub is_synced : held'.is_synced ≡ held.is_synced
+  pub synced : held'.syncs ≡ held.syncs + n * (if held.is_synced then 1 else 0)
+
+-- all of them stand, and the last line that was printed has their number, where none of an older cut is left to be noted
+pub record CutsAll (prefix : List ℕ) (ps : List (List ℕ)) (held held' : Held) (old new : World)
+    (shows : List ℕ → Type 0) : Type 0 where
+  pub count : ℕ
+  pub all : count ≡ length ps
+  pub cuts : CutsSoFar prefix ps count held held' old new
+  pub shown : count < 4294967295 → new.at (piece_path prefix (count + 1)) ≡ None
+      → shows (text_of (lines.Pieces count) ++ (10 ∷ []))
+
+-- ---- one piece
+
+-- the output that was open holds the piece behind so many others, and all other files are as before
+pub record HoldsPiece (ps : List (List ℕ)) (made : ℕ) (output : Option ℕ) (old new : World) : Type 0 where
+  pub bytes : List ℕ
+  pub is_next : HasAt ps made bytes
+  pub ends : Ends output bytes old new
+
+-- the output that was open is closed, beside what is read: all was brought to its end exactly where nothing has failed
+pub record ClosesBeside (is_done : Bool) (reads reads' : ℕ) (old new : Held) : Type 0 where
+  pub failures : ℕ
+  pub closed : new ≡ ended is_done failures old
+  pub clean : is_done ≡ true → reads' + failures ≡ reads
+  pub cause : is_done ≡ false → reads < reads' + failures
+
+-- the next piece stands under its name, in a file that was not begun before
+pub record AddsPiece (ps : List (List ℕ)) (made : ℕ) (path : List ℕ) (held held' : Held)
+    (old new : World) : Type 0 where
+  pub bytes : List ℕ
+  pub is_next : HasAt ps made bytes
+  pub written : IsMade held' new path bytes
+  pub keeps : KeepsMade held held' old new
+  pub fresh : (f : ℕ) → new.at path ≡ Some f → ¬ Contains held.begun f
+  pub is_synced : held'.is_synced ≡ held.is_synced
+  pub synced : held'.syncs ≡ held.syncs + (if held.is_synced then 1 else 0)
+
+-- ---- why it is refused
+
+-- Why not all pieces are cut, or told: a device has failed, or a call of the disk; or the first n of them stand, and a
+-- line could not be printed; or memory was refused where a file was looked for.
+pub data StopsCut (fault : SparseCommandFault) (Failed : Type 0) (Cut : ℕ → Type 0) : Type 0 where
+  failed : IsOutside fault → Failed → StopsCut fault Failed Cut
+  untold : (f : HostFault) → fault ≡ faults.Host f → (n : ℕ) → 0 < n → Cut n → StopsCut fault Failed Cut
+  no_memory : fault ≡ faults.Host hosts.Memory → StopsCut fault Failed Cut
+
+-- the first fault that x has as an image: of a sparse one, or for its blocks
+abbrev pub HasNoCut : Option ℕ → RunFault → List ℕ → Type 0
+HasNoCut None (of_runs.Sparse f) x = (given : List (Option ℕ)) × Fails x f given
+HasNoCut None f x = ⊥
+HasNoCut (Some size) f x = Refused f size (length x)
+
+-- the blocks of x have so many bytes
+abbrev pub HasBlocksOf : Option ℕ → ℕ → List ℕ → Type 0
+HasBlocksOf None size x = (blocks : List Block) × IsSparseOf size blocks x
+HasBlocksOf (Some n) size x = size ≡ n
+
+-- Why the image x is not cut: it is none, or the limit has no room for one of its blocks, and nothing was changed; or
+-- it could not be read; or its pieces are not all cut, or told.
+pub data StopsImage (raw : Option ℕ) (limit : ℕ) (x : List ℕ) (fault : SparseCommandFault) (Failed Same : Type 0)
+    (Cut : List (List ℕ) → ℕ → Type 0) : Type 0 where
+  no_cut : (f : RunFault) → fault ≡ faults.Run f → HasNoCut raw f x → Same
+      → StopsImage raw limit x fault Failed Same Cut
+  unread : (f : RunFault) → fault ≡ faults.Run f → Failed → StopsImage raw limit x fault Failed Same Cut
+  no_room : (size : ℕ) → HasBlocksOf raw size x → fault ≡ faults.Piece (of_pieces.LimitTooSmall (64 + size))
+      → limit < 64 + size → Same → StopsImage raw limit x fault Failed Same Cut
+  stopped : (size : ℕ) (blocks : List Block) → IsImageOf raw size blocks x
+      → StopsCut fault Failed (Cut (pieces limit size blocks)) → StopsImage raw limit x fault Failed Same Cut
+
+-- the limit has no room for one block of the image at the front of x
+pub record IsTooSmall (fault : PieceFault) (limit : ℕ) (x : List ℕ) : Type 0 where
+  pub header : Header
+  pub chunks : List Chunk
+  pub rest : List ℕ
+  pub is_image : outcome x ≡ Image header chunks rest
+  pub told : fault ≡ of_pieces.LimitTooSmall (64 + header.blk_sz)
+  pub short : limit < 64 + header.blk_sz
+
+-- calls were refused, and nothing else has changed
+pub record OnlyFails (old new : Held) : Type 0 where
+  pub failures : ℕ
+  pub same : new ≡ failing failures old
+
+-- why the pieces of a sparse image x can't be cut
+abbrev pub IsUncutSparse : SparseCommandFault → ℕ → List ℕ → ℕ → ℕ → Type 0
+IsUncutSparse (faults.Run (of_runs.Sparse f)) limit x reads reads' = Refuses (of_runs.Sparse f) (outcome x)
+IsUncutSparse (faults.Run (of_runs.Read d)) limit x reads reads' = reads < reads'
+IsUncutSparse (faults.Run f) limit x reads reads' = ⊥
+IsUncutSparse (faults.Piece f) limit x reads reads' = IsTooSmall f limit x
+IsUncutSparse f limit x reads reads' = ⊥
+
+-- ---- an image and its pieces
+
+-- x is an image of these blocks, and all its pieces stand
+pub record CutsImage (raw : Option ℕ) (limit : ℕ) (prefix x : List ℕ) (held held' : Held) (old new : World)
+    (shows : List ℕ → Type 0) : Type 0 where
+  pub size : ℕ
+  pub blocks : List Block
+  pub image : IsImageOf raw size blocks x
+  pub granted : 64 + size ≤ limit
+  pub all : CutsAll prefix (pieces limit size blocks) held held' old new shows
+
+-- ---- of files
+
+-- The first n pieces stand, each under its name, in a file that is none of the others and not the image's, synced where
+-- that is wanted.
+pub record FirstStand (prefix : List ℕ) (from : ℕ) (held held' : Held) (new : World) (ps : List (List ℕ)) (n : ℕ)
+    : Type 0 where
+  pub stand : PiecesStand prefix ps n held' new
+  pub apart : AreApart prefix n new
+  pub beside : (j f : ℕ) → j < n → new.at (piece_path prefix (j + 1)) ≡ Some f → f ≢ from
+  pub synced : held'.syncs ≡ held.syncs + n * (if held.is_synced then 1 else 0)
+
+-- The file at one path held an image, and all its pieces stand. The last line that was printed has their number, where
+-- none of an older cut is left to be noted.
+pub record CutsFile (raw : Option ℕ) (limit : ℕ) (input prefix : List ℕ) (held held' : Held) (old new : World)
+    (shows : List ℕ → Type 0) : Type 0 where
+  pub from : ℕ
+  pub there : old.at input ≡ Some from
+  pub size : ℕ
+  pub blocks : List Block
+  pub image : IsImageOf raw size blocks (old.holds from)
+  pub granted : 64 + size ≤ limit
+  pub count : ℕ
+  pub all : count ≡ length (pieces limit size blocks)
+  pub first : FirstStand prefix from held held' new (pieces limit size blocks) count
+  pub shown : count < 4294967295 → new.at (piece_path prefix (count + 1)) ≡ None
+      → shows (text_of (lines.Pieces count) ++ (10 ∷ []))
+
+-- why the command is refused: the file could not be opened, before anything was changed; or for what it holds
+pub data RefusesCut (raw : Option ℕ) (limit : ℕ) (input prefix : List ℕ) (fault : SparseCommandFault)
+    (held held' : Held) (old new : World) : Type 0 where
+  unopened : (f : HostFault) → fault ≡ faults.Host f → HasFailed held held' → new ≡ old
+      → RefusesCut raw limit input prefix fault held held' old new
+  opened : (from : ℕ) → old.at input ≡ Some from → StopsImage raw limit (old.holds from) fault (HasFailed held held')
+      (new ≡ old) (FirstStand prefix from held held' new) → RefusesCut raw limit input prefix fault held held' old new

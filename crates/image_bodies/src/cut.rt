@@ -1,0 +1,192 @@
+//! The command `cut`: an image in pieces for a download limit, each into a file of its own.
+
+ghost use Rattle.std.specs.Prelude.{◌≡◌, ◌<◌, ◌≤◌, ◌+◌, [], None, Some, IsTrue, IfOk, IfErr, OnOk};
+ghost use Rattle.abt_disk.specs.World.{HasFailed, HasNotFailed, IsReading, KeepsFile};
+ghost use Rattle.abt_pieces.specs.Cutter.{ToldCutter};
+ghost use Rattle.abt_pieces.specs.declared.stage.Stage.{Stage};
+ghost use Rattle.abt_refusals.specs.Paths.{path_of};
+ghost use Rattle.abt_runs.specs.Sparse.{SparseOpened, SparsePlace, blocks_together, sparse_list};
+ghost use Rattle.abt_sparse.specs.View.{view};
+ghost use Rattle.image_bodies.specs.Cutting.{IsUncutSparse, ShowsLast};
+ghost use Rattle.image_bodies.specs.Cutting.{CutsFile, CutsImage, CutsSoFar, IsPiecePath, RefusesCut, StopsImage};
+ghost use Rattle.image_bodies.specs.Under.{GoesUnder, OnlyUnder};
+
+use crate::turns::cut_pieces;
+use abt_disk::{Disk, Lasting};
+use abt_io::{Meter, Source, Window};
+use abt_output::Report;
+use abt_refusals::{Place, Sides};
+use abt_runs::{RunFault, SparseRuns};
+use abt_sparse::SparseFault;
+use sparse_rules::{PiecesOf, SparseCommandFault, SparseRefusal, raw_pieces};
+
+// How often a raw image is read whose pieces get each header before what it tells of, as a pipe and a device do: to plan a
+// piece, to find each run whole, and to copy it.
+const RAW_PASSES: u64 = 3;
+
+/// What to cut, and into which files.
+#[derive(Clone, Copy, Drop)]
+pub struct Cutting<'a> {
+    /// The image.
+    pub input: Place<'a>,
+    /// How many bytes a piece has at most.
+    pub limit: u32,
+    /// What the paths of the pieces begin with: they are `PREFIX.1`, `PREFIX.2` and so on.
+    pub prefix: &'a str,
+    /// How many bytes a block of a raw image has; of a sparse image, nothing.
+    pub raw: Option<u32>,
+}
+
+/// Writes each piece of an image to a file of its own, and prints what they are.
+///
+/// A piece's file is opened when its turn comes, and its line is printed when all of it is in the file. Pieces and
+/// lines before a fault stand. Where the image is one of the files that are there for pieces, nothing is written. The
+/// next piece of an older cut is named, since it is no piece of this one.
+#[inline(never)]
+pub fn cut_file<'a, D: Disk>(
+    disk: &mut D,
+    report: &mut Report,
+    order: Cutting<'a>,
+    w: &mut Window,
+    m: &mut Meter,
+) -> Result<(), SparseRefusal<'a>>
+    requires first { IsTrue D.tells → IsReading (D.held disk.old) }
+    // each piece of the image that IN holds stands under its name, in a file of its own
+    ensures done { IsTrue D.tells → OnOk result (CutsFile order.entry.raw order.entry.limit (path_of order.entry.input)
+        order.entry.prefix.now (D.held disk.old) (D.held disk.new) (D.world disk.old) (D.world disk.new)
+        (ShowsLast report.new)) }
+    // whatever comes, only such files were created or changed, IN holds what it held, and no output is open
+    ensures only { IsTrue D.tells → OnlyUnder (IsPiecePath order.entry.prefix.now) (D.held disk.old).read
+        (D.held disk.new).begun (D.world disk.old) (D.world disk.new) }
+    ensures input { IsTrue D.tells → KeepsFile (path_of order.entry.input) (D.world disk.old) (D.world disk.new) }
+    ensures closed { IsTrue D.tells → (D.held disk.new).output ≡ None }
+    // it is refused for what IN holds, for the limit, or for a fault of files or devices that came; else none did
+    ensures refused { IsTrue D.tells → IfErr result (λ refusal. RefusesCut order.entry.raw order.entry.limit
+        (path_of order.entry.input) order.entry.prefix.now refusal.fault (D.held disk.old) (D.held disk.new)
+        (D.world disk.old) (D.world disk.new)) }
+    ensures clean { IsTrue D.tells → OnOk result (HasNotFailed (D.held disk.old) (D.held disk.new)) }
+{
+    let source = match disk.ahead(order.input) {
+        Ok(source) => source,
+        Err(refusal) => return Err(refusal.into()),
+    };
+    report.progress.expect(source.length(), 1);
+    match order.raw {
+        Some(size) => cut_raw(disk, report, source, order, size, w, m),
+        None => cut_sparse(disk, report, source, order, w, m),
+    }
+}
+
+// The same of a raw image that is open, in blocks of so many bytes.
+fn cut_raw<'a, D: Disk>(
+    disk: &mut D,
+    report: &mut Report,
+    source: D::At,
+    order: Cutting<'a>,
+    size: u32,
+    w: &mut Window,
+    m: &mut Meter,
+) -> Result<(), SparseRefusal<'a>>
+    requires one { IsTrue D.tells → (D.held disk.old).output ≡ None }
+    requires clean { IsTrue D.tells → D.At.read_faults source ≡ 0 }
+    ensures done { IsTrue D.tells → OnOk result (CutsImage (Some size) order.entry.limit order.entry.prefix.now (D.At.content source)
+        (D.held disk.old) (D.held disk.new) (D.world disk.old) (D.world disk.new) (ShowsLast report.new)) }
+    ensures only { IsTrue D.tells → GoesUnder (IsPiecePath order.entry.prefix.now) (D.held disk.old) (D.held disk.new)
+        (D.world disk.old) (D.world disk.new) }
+    ensures closed { IsTrue D.tells → (D.held disk.new).output ≡ None }
+    ensures refused { IsTrue D.tells → IfErr result (λ refusal. StopsImage (Some size) order.entry.limit (D.At.content source)
+        refusal.fault (HasFailed (D.held disk.old) (D.held disk.new)) (D.world disk.new ≡ D.world disk.old)
+        (λ ps n. CutsSoFar order.entry.prefix.now ps n (D.held disk.old) (D.held disk.new) (D.world disk.old)
+        (D.world disk.new))) }
+    ensures clean { IsTrue D.tells → OnOk result (HasNotFailed (D.held disk.old) (D.held disk.new)) }
+{
+    match raw_pieces(&source, size, order.limit) {
+        Ok(pieces) => cut_pieces(
+            disk,
+            report,
+            source,
+            pieces,
+            order.input,
+            order.prefix,
+            RAW_PASSES,
+            w,
+            m,
+        ),
+        Err(fault) => Err(Sides::none().reading(order.input, None).refuse(fault)),
+    }
+}
+
+// The same of a sparse image that is open.
+fn cut_sparse<'a, D: Disk>(
+    disk: &mut D,
+    report: &mut Report,
+    source: D::At,
+    order: Cutting<'a>,
+    w: &mut Window,
+    m: &mut Meter,
+) -> Result<(), SparseRefusal<'a>>
+    requires one { IsTrue D.tells → (D.held disk.old).output ≡ None }
+    requires clean { IsTrue D.tells → D.At.read_faults source ≡ 0 }
+    ensures done { IsTrue D.tells → OnOk result (CutsImage None order.entry.limit order.entry.prefix.now (D.At.content source)
+        (D.held disk.old) (D.held disk.new) (D.world disk.old) (D.world disk.new) (ShowsLast report.new)) }
+    ensures only { IsTrue D.tells → GoesUnder (IsPiecePath order.entry.prefix.now) (D.held disk.old) (D.held disk.new)
+        (D.world disk.old) (D.world disk.new) }
+    ensures closed { IsTrue D.tells → (D.held disk.new).output ≡ None }
+    ensures refused { IsTrue D.tells → IfErr result (λ refusal. StopsImage None order.entry.limit (D.At.content source)
+        refusal.fault (HasFailed (D.held disk.old) (D.held disk.new)) (D.world disk.new ≡ D.world disk.old)
+        (λ ps n. CutsSoFar order.entry.prefix.now ps n (D.held disk.old) (D.held disk.new) (D.world disk.old)
+        (D.world disk.new))) }
+    ensures clean { IsTrue D.tells → OnOk result (HasNotFailed (D.held disk.old) (D.held disk.new)) }
+{
+    let mut source = source;
+    match sparse_pieces(&mut source, order.limit, w, m) {
+        Ok(pieces) => cut_pieces(
+            disk,
+            report,
+            source,
+            pieces,
+            order.input,
+            order.prefix,
+            1,
+            w,
+            m,
+        ),
+        Err(fault) => {
+            disk.let_go_source(source);
+            Err(Sides::none().reading(order.input, None).refuse(fault))
+        }
+    }
+}
+
+// The pieces of a sparse image, all of whose chunks are checked. It ends too soon where its file is shorter then than
+// what was given of it.
+fn sparse_pieces<S: Lasting>(
+    source: &mut S,
+    limit: u32,
+    w: &mut Window,
+    m: &mut Meter,
+) -> Result<PiecesOf<SparseRuns>, SparseCommandFault>
+    ensures content { IsTrue S.tells → S.content source.new ≡ S.content source.old }
+    ensures begins { IfOk result (λ pieces. (pieces.cutter.made ≡ 0) × (pieces.cutter.stage ≡ Stage.Between)) }
+    ensures limit { IfOk result (λ pieces. pieces.cutter.limit ≡ limit) }
+    ensures granted { IfOk result (λ pieces. 64 + pieces.cutter.runs.header.blk_sz ≤ limit) }
+    ensures opened { IsTrue S.tells → IfOk result (λ pieces. SparseOpened (view pieces.cutter.runs.header)
+        pieces.cutter.runs.length pieces.cutter.runs.image (S.content source.old)) }
+    ensures told { IsTrue S.tells → IfOk result (λ pieces. ToldCutter (SparsePlace (view pieces.cutter.runs.header)
+        (S.content source.old)) (blocks_together (view pieces.cutter.runs.header) (S.content source.old))
+        pieces.cutter.runs.header.blk_sz (sparse_list (S.content source.old)) pieces.cutter.limit pieces.cutter.made
+        pieces.cutter.start pieces.cutter.stage) }
+    ensures refused { IsTrue S.tells → IfErr result (λ fault. IsUncutSparse fault limit (S.content source.old)
+        (S.read_faults source.old) (S.read_faults source.new)) }
+    ensures clean { OnOk result (S.read_faults source.new ≡ S.read_faults source.old) }
+{
+    let runs = match SparseRuns::open(source, w, m) {
+        Ok(runs) => runs,
+        Err(fault) => return Err(SparseCommandFault::Run(fault)),
+    };
+    if let Some(at) = source.shorter() {
+        let fault = SparseFault::Truncated { at };
+        return Err(SparseCommandFault::Run(RunFault::Sparse(fault)));
+    }
+    PiecesOf::open(runs, limit)
+}

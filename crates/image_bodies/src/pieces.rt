@@ -1,0 +1,197 @@
+//! One piece of an image, to a file of its own.
+
+ghost use Rattle.std.specs.Prelude.{◌≡◌, ◌<◌, ◌+◌, [], None, length, IsTrue, IfOk, IfErr, OnOk, OnErr, is_ok};
+ghost use Rattle.abt_disk.specs.World.{SparesRest};
+ghost use Rattle.abt_pieces.specs.Cutter.{ToldCutter};
+ghost use Rattle.abt_pieces.specs.NextPiece.{IsNext, SameCutter};
+ghost use Rattle.abt_pieces.specs.declared.stage.Stage.{Stage};
+ghost use Rattle.abt_refusals.specs.Paths.{path_out};
+ghost use Rattle.image_bodies.specs.Cutting.{AddsPiece, ClosesBeside, HoldsPiece, cut_into};
+ghost use Rattle.image_bodies.specs.Sparsing.{IsOutside, GivesUp};
+ghost use Rattle.image_bodies.specs.Under.{GoesUnder};
+
+use crate::carried::Carried;
+use crate::late_writes::stopped;
+use crate::next_piece::{LaysPieces, write_next};
+use abt_disk::{Disk, ImageTo, Lasting, Reasons, ended};
+use abt_io::{Meter, Window};
+use abt_output::Progress;
+use abt_pieces::Piece;
+use abt_refusals::{HostFault, HostRefusal, Place, Sides};
+use abt_runs::BlockRuns;
+use sparse_rules::{PiecesOf, SparseCommandFault, SparseRefusal};
+
+/// Writes the next piece to a file, which is created or emptied, and brings that to its end. What it is, and whether it
+/// is where standard output goes. A pipe or a device has the image read so many times.
+pub(crate) fn put_piece<'a, D: Disk, B: BlockRuns + LaysPieces + Drop>(
+    disk: &mut D,
+    pieces: &mut PiecesOf<B>,
+    source: &mut Carried<'_, D::At>,
+    place: Place<'a>,
+    sides: Sides<'a>,
+    passes: u64,
+    w: &mut Window,
+    m: &mut Meter,
+) -> Result<(Piece, bool), SparseRefusal<'a>>
+    requires one { IsTrue D.tells → (D.held disk.old).output ≡ None }
+    requires between { pieces.old.cutter.stage ≡ Stage.Between }
+    requires opened { IsTrue D.At.tells → B.opened pieces.old.cutter.runs (D.At.content source.old.device) }
+    requires told { IsTrue D.At.tells → ToldCutter (B.place pieces.old.cutter.runs (D.At.content source.old.device))
+        (B.together pieces.old.cutter.runs (D.At.content source.old.device)) (B.size pieces.old.cutter.runs)
+        (B.list pieces.old.cutter.runs (D.At.content source.old.device)) pieces.old.cutter.limit pieces.old.cutter.made
+        pieces.old.cutter.start pieces.old.cutter.stage }
+    // its file is a new one, and holds it
+    ensures adds { IsTrue D.tells → OnOk result (AddsPiece (cut_into pieces.old.cutter.limit
+        (B.size pieces.old.cutter.runs) (B.list pieces.old.cutter.runs (D.At.content source.old.device)))
+        pieces.old.cutter.made (path_out place.entry) (D.held disk.old) (D.held disk.new) (D.world disk.old)
+        (D.world disk.new)) }
+    ensures piece { IfOk result (λ end. IsNext (B.count pieces.old.cutter.runs) pieces.old.cutter.limit
+        pieces.old.cutter.start.block pieces.new.cutter.start.block pieces.old.cutter.made pieces.new.cutter.made
+        pieces.new.cutter.stage end.0) }
+    // whatever comes, no other file was changed, and none is open
+    ensures only { IsTrue D.tells → GoesUnder (λ path. path ≡ path_out place.entry) (D.held disk.old)
+        (D.held disk.new) (D.world disk.old) (D.world disk.new) }
+    ensures closed { IsTrue D.tells → (D.held disk.new).output ≡ None }
+    ensures cutter { SameCutter pieces.old.cutter.runs pieces.new.cutter.runs pieces.old.cutter.limit
+        pieces.new.cutter.limit pieces.new.cutter.stage }
+    ensures content { IsTrue D.At.tells → D.At.content source.new.device ≡ D.At.content source.old.device }
+    ensures told { IsTrue D.At.tells → ToldCutter (B.place pieces.old.cutter.runs (D.At.content source.old.device))
+        (B.together pieces.old.cutter.runs (D.At.content source.old.device)) (B.size pieces.old.cutter.runs)
+        (B.list pieces.old.cutter.runs (D.At.content source.old.device)) pieces.new.cutter.limit pieces.new.cutter.made
+        pieces.new.cutter.start pieces.new.cutter.stage }
+    // it is refused where something has failed
+    ensures outside { IsTrue D.tells → IfErr result (λ refusal. IsOutside refusal.fault) }
+    ensures clean { IsTrue D.tells → OnOk result ((D.held disk.new).failed + D.At.read_faults source.new.device
+        ≡ (D.held disk.old).failed + D.At.read_faults source.old.device) }
+    ensures cause { IsTrue D.tells → OnErr result ((D.held disk.old).failed + D.At.read_faults source.old.device
+        < (D.held disk.new).failed + D.At.read_faults source.new.device) }
+{
+    let image = disk.image(place, true)?;
+    repeat_first(
+        source.progress,
+        place.number.unwrap_or(1),
+        times(&image, passes),
+    );
+    source.device.forget();
+    match image {
+        ImageTo::File(file) => put_in_file(disk, pieces, source, file, place, sides, w, m),
+        ImageTo::Stream(onto) => put_in_stream(disk, pieces, source, onto, place, sides, w, m),
+    }
+}
+
+// Before the first piece it is told how often all is read.
+fn repeat_first(progress: &mut Progress, number: u32, times: u64) {
+    if number == 1 {
+        progress.repeat(times);
+    }
+}
+
+// How often the image is read.
+fn times<F, S>(image: &ImageTo<F, S>, passes: u64) -> u64 {
+    match image {
+        ImageTo::File(_) => 1,
+        ImageTo::Stream(_) => passes,
+    }
+}
+
+// Writes the next piece to a file that is written over.
+fn put_in_file<'a, D: Disk, B: BlockRuns + LaysPieces + Drop>(
+    disk: &mut D,
+    pieces: &mut PiecesOf<B>,
+    source: &mut Carried<'_, D::At>,
+    image: D::Image,
+    place: Place<'a>,
+    sides: Sides<'a>,
+    w: &mut Window,
+    m: &mut Meter,
+) -> Result<(Piece, bool), SparseRefusal<'a>>
+    requires empty { D.Image.Output.written image ≡ [] }
+    requires clean { IsTrue D.tells → D.Image.Output.write_faults image ≡ 0 }
+    requires between { pieces.old.cutter.stage ≡ Stage.Between }
+    requires opened { IsTrue D.At.tells → B.opened pieces.old.cutter.runs (D.At.content source.old.device) }
+    requires told { IsTrue D.At.tells → ToldCutter (B.place pieces.old.cutter.runs (D.At.content source.old.device))
+        (B.together pieces.old.cutter.runs (D.At.content source.old.device)) (B.size pieces.old.cutter.runs)
+        (B.list pieces.old.cutter.runs (D.At.content source.old.device)) pieces.old.cutter.limit pieces.old.cutter.made
+        pieces.old.cutter.start pieces.old.cutter.stage }
+    ensures holds { IsTrue D.tells → OnOk result (HoldsPiece (cut_into pieces.old.cutter.limit
+        (B.size pieces.old.cutter.runs) (B.list pieces.old.cutter.runs (D.At.content source.old.device)))
+        pieces.old.cutter.made (D.held disk.old).output (D.world disk.old) (D.world disk.new)) }
+    ensures piece { IfOk result (λ end. IsNext (B.count pieces.old.cutter.runs) pieces.old.cutter.limit
+        pieces.old.cutter.start.block pieces.new.cutter.start.block pieces.old.cutter.made pieces.new.cutter.made
+        pieces.new.cutter.stage end.0) }
+    ensures closed { IsTrue D.tells → ClosesBeside (is_ok result) (D.At.read_faults source.old.device)
+        (D.At.read_faults source.new.device) (D.held disk.old) (D.held disk.new) }
+    ensures rest { IsTrue D.tells → SparesRest (D.held disk.old).output (D.world disk.old) (D.world disk.new) }
+    ensures cutter { SameCutter pieces.old.cutter.runs pieces.new.cutter.runs pieces.old.cutter.limit
+        pieces.new.cutter.limit pieces.new.cutter.stage }
+    ensures content { IsTrue D.At.tells → D.At.content source.new.device ≡ D.At.content source.old.device }
+    ensures told { IsTrue D.At.tells → ToldCutter (B.place pieces.old.cutter.runs (D.At.content source.old.device))
+        (B.together pieces.old.cutter.runs (D.At.content source.old.device)) (B.size pieces.old.cutter.runs)
+        (B.list pieces.old.cutter.runs (D.At.content source.old.device)) pieces.new.cutter.limit pieces.new.cutter.made
+        pieces.new.cutter.start pieces.new.cutter.stage }
+    ensures outside { IsTrue D.tells → IfErr result (λ refusal. IsOutside refusal.fault) }
+{
+    let (image, answer) = B::lay_next(&mut pieces.cutter, source, image, w, m);
+    match answer {
+        Ok(piece) => match disk.finish_image(image, place) {
+            Ok(is_on_output) => Ok((piece, is_on_output)),
+            Err(refusal) => Err(refusal.into()),
+        },
+        Err(SparseCommandFault::Host(_)) => Err(unended(disk, image, place)),
+        Err(fault) => Err(stopped(disk, fault, image, place, sides)),
+    }
+}
+
+// The same to what is written from its front on.
+fn put_in_stream<'a, D: Disk, B: BlockRuns + LaysPieces + Drop>(
+    disk: &mut D,
+    pieces: &mut PiecesOf<B>,
+    source: &mut Carried<'_, D::At>,
+    onto: D::Onto,
+    place: Place<'a>,
+    sides: Sides<'a>,
+    w: &mut Window,
+    m: &mut Meter,
+) -> Result<(Piece, bool), SparseRefusal<'a>>
+    requires empty { D.Onto.written onto ≡ [] }
+    requires clean { IsTrue D.tells → D.Onto.write_faults onto ≡ 0 }
+    requires between { pieces.old.cutter.stage ≡ Stage.Between }
+    requires opened { IsTrue D.At.tells → B.opened pieces.old.cutter.runs (D.At.content source.old.device) }
+    requires told { IsTrue D.At.tells → ToldCutter (B.place pieces.old.cutter.runs (D.At.content source.old.device))
+        (B.together pieces.old.cutter.runs (D.At.content source.old.device)) (B.size pieces.old.cutter.runs)
+        (B.list pieces.old.cutter.runs (D.At.content source.old.device)) pieces.old.cutter.limit pieces.old.cutter.made
+        pieces.old.cutter.start pieces.old.cutter.stage }
+    ensures holds { IsTrue D.tells → OnOk result (HoldsPiece (cut_into pieces.old.cutter.limit
+        (B.size pieces.old.cutter.runs) (B.list pieces.old.cutter.runs (D.At.content source.old.device)))
+        pieces.old.cutter.made (D.held disk.old).output (D.world disk.old) (D.world disk.new)) }
+    ensures piece { IfOk result (λ end. IsNext (B.count pieces.old.cutter.runs) pieces.old.cutter.limit
+        pieces.old.cutter.start.block pieces.new.cutter.start.block pieces.old.cutter.made pieces.new.cutter.made
+        pieces.new.cutter.stage end.0) }
+    ensures closed { IsTrue D.tells → ClosesBeside (is_ok result) (D.At.read_faults source.old.device)
+        (D.At.read_faults source.new.device) (D.held disk.old) (D.held disk.new) }
+    ensures rest { IsTrue D.tells → SparesRest (D.held disk.old).output (D.world disk.old) (D.world disk.new) }
+    ensures cutter { SameCutter pieces.old.cutter.runs pieces.new.cutter.runs pieces.old.cutter.limit
+        pieces.new.cutter.limit pieces.new.cutter.stage }
+    ensures content { IsTrue D.At.tells → D.At.content source.new.device ≡ D.At.content source.old.device }
+    ensures told { IsTrue D.At.tells → ToldCutter (B.place pieces.old.cutter.runs (D.At.content source.old.device))
+        (B.together pieces.old.cutter.runs (D.At.content source.old.device)) (B.size pieces.old.cutter.runs)
+        (B.list pieces.old.cutter.runs (D.At.content source.old.device)) pieces.new.cutter.limit pieces.new.cutter.made
+        pieces.new.cutter.start pieces.new.cutter.stage }
+    ensures outside { IsTrue D.tells → IfErr result (λ refusal. IsOutside refusal.fault) }
+{
+    let mut onto = onto;
+    let answer = write_next(&mut pieces.cutter, source, &mut onto, w, m);
+    ended(disk, answer, onto, place, sides)
+}
+
+// Lets an image go whose magic could not be laid.
+fn unended<'a, D: Disk>(disk: &mut D, image: D::Image, place: Place<'a>) -> SparseRefusal<'a>
+    ensures closed { IsTrue D.tells → GivesUp (D.Image.Output.write_faults image) (D.held disk.old)
+        (D.held disk.new) }
+    ensures rest { IsTrue D.tells → SparesRest (D.held disk.old).output (D.world disk.old) (D.world disk.new) }
+    ensures outside { IsOutside result.fault }
+{
+    let refused = HostRefusal::at(HostFault::Write, place, image.why()).begun(place);
+    disk.give_up_image(image);
+    refused.into()
+}

@@ -1,0 +1,190 @@
+//! The images that are laid over one another: all are opened, and their shapes compared, before anything is written.
+
+ghost use Rattle.std.specs.Prelude.{◌≡◌, ◌+◌, [], IsTrue, IfOk, IfErr, OnOk, map, min};
+ghost use Rattle.std.specs.List.{AllByRecursion};
+ghost use Rattle.abt_refusals.specs.Paths.{path_of};
+ghost use Rattle.abt_disk.specs.World.{OpensFile};
+ghost use Rattle.sparse_rules.specs.ImagePath.{image_path};
+ghost use Rattle.sparse_bodies.specs.Overlaying.{IsImageOf};
+ghost use Rattle.sparse_bodies.specs.Steps.{AreOpened, OpensNext, IsShapeOf, is_same_shape};
+ghost use Rattle.sparse_bodies.specs.Steps.{IsNotAllOpened, IsNotNext, IsNotOpened, IsNotRead};
+
+use abt_disk::{Disk, Lasting};
+use abt_io::{Meter, Source, Window};
+use abt_output::Progress;
+use abt_refusals::{HostFault, Place, Sides};
+use abt_runs::{RunFault, SparseRuns};
+use abt_sparse::SparseFault;
+use sparse_rules::{SparseCommandFault, SparseRefusal, image_place};
+use std::alloc::Global;
+use std::collections::VecDeque;
+
+/// How many blocks an image has, and how many bytes each.
+#[derive(Clone, Copy, Drop)]
+pub struct Shape {
+    pub blocks: u32,
+    pub block: u32,
+}
+
+/// An image that was opened, and where.
+#[derive(Drop)]
+pub struct Kept<'a, S> {
+    pub source: S,
+    pub place: Place<'a>,
+}
+
+/// The images that were opened so far, and how many there were.
+#[derive(Drop)]
+pub struct Opened<'a, S> {
+    pub kept: VecDeque<Kept<'a, S>>,
+    pub shape: Option<Shape>,
+    pub count: u32,
+}
+
+/// Opens all images, which have to be of one shape.
+pub(crate) fn open_all<'a, D: Disk>(
+    disk: &mut D,
+    progress: &mut Progress,
+    inputs: &[&'a str],
+    alloc: Global,
+    w: &mut Window,
+    m: &mut Meter,
+) -> Result<Opened<'a, D::At>, SparseRefusal<'a>>
+    requires first { IsTrue D.tells → (D.held disk.old).begun ≡ [] }
+    // what was opened are these files, which hold images of this shape
+    ensures opened { IsTrue D.tells → IfOk result (λ all. AreOpened (D.world disk.old)
+        (map (λ word. image_path word.now) inputs.now) (map (λ kept. D.At.content kept.source) all.kept.items)
+        (D.held disk.old) (D.held disk.new)) }
+    ensures shape { IsTrue D.tells → IfOk result (λ all. IsShapeOf all.shape
+        (map (λ kept. D.At.content kept.source) all.kept.items)) }
+    ensures clean { IsTrue D.tells → IfOk result (λ all.
+        AllByRecursion (λ kept. D.At.read_faults kept.source ≡ 0) all.kept.items) }
+    // nothing is written
+    ensures world { IsTrue D.tells → D.world disk.new ≡ D.world disk.old }
+    ensures part { IsTrue D.tells → (D.held disk.new).part ≡ (D.held disk.old).part }
+    ensures refused { IsTrue D.tells → IfErr result (λ refusal. IsNotAllOpened refusal.fault
+        (map (λ word. image_path word.now) inputs.now) (D.world disk.old) (D.held disk.old) (D.held disk.new)) }
+{
+    let mut all = Opened {
+        kept: VecDeque::new(alloc),
+        shape: None,
+        count: 0,
+    };
+    for input in inputs {
+        m.tick();
+        match open_next(disk, progress, image_place(input), &mut all, w, m) {
+            Ok(()) => {}
+            Err(refusal) => return Err(refusal),
+        }
+    }
+    Ok(all)
+}
+
+// One image more.
+fn open_next<'a, D: Disk>(
+    disk: &mut D,
+    progress: &mut Progress,
+    place: Place<'a>,
+    all: &mut Opened<'a, D::At>,
+    w: &mut Window,
+    m: &mut Meter,
+) -> Result<(), SparseRefusal<'a>>
+    requires first { IsTrue D.tells → (D.held disk.old).begun ≡ [] }
+    ensures count { all.new.count ≡ min (all.old.count + 1) 4294967295 }
+    ensures opened { IsTrue D.tells → OnOk result (OpensNext (D.world disk.old) (path_of place.entry)
+        (map (λ kept. D.At.content kept.source) all.old.kept.items)
+        (map (λ kept. D.At.content kept.source) all.new.kept.items) (D.held disk.old) (D.held disk.new)) }
+    ensures shape { IsTrue D.tells → OnOk result (
+        IsShapeOf all.old.shape (map (λ kept. D.At.content kept.source) all.old.kept.items) →
+        IsShapeOf all.new.shape (map (λ kept. D.At.content kept.source) all.new.kept.items)) }
+    ensures clean { IsTrue D.tells → OnOk result (
+        AllByRecursion (λ kept. D.At.read_faults kept.source ≡ 0) all.old.kept.items →
+        AllByRecursion (λ kept. D.At.read_faults kept.source ≡ 0) all.new.kept.items) }
+    ensures world { IsTrue D.tells → D.world disk.new ≡ D.world disk.old }
+    ensures part { IsTrue D.tells → (D.held disk.new).part ≡ (D.held disk.old).part }
+    ensures refused { IsTrue D.tells → IfErr result (λ refusal. IsNotNext refusal.fault all.old.shape all.new.count
+        (path_of place.entry) (D.world disk.old) (D.held disk.old) (D.held disk.new)) }
+{
+    all.count = all.count.saturating_add(1);
+    let (source, own) = match open_one(disk, progress, place, w, m) {
+        Ok(opened) => opened,
+        Err(refusal) => return Err(refusal),
+    };
+    if !is_same(all.shape, own) {
+        let sides = Sides::none().reading(place, None);
+        return Err(sides.refuse(SparseCommandFault::OtherBlocks { image: all.count }));
+    }
+    all.shape = Some(own);
+    match all.kept.push_back(Kept { source, place }) {
+        Ok(()) => Ok(()),
+        Err(_) => Err(SparseRefusal::of(SparseCommandFault::Host(HostFault::Memory))),
+    }
+}
+
+// Whether an image has the blocks of the first, if there was one.
+fn is_same(first: Option<Shape>, own: Shape) -> bool
+    ensures { result ≡ is_same_shape first own }
+{
+    match first {
+        Some(first) => first.blocks == own.blocks && first.block == own.block,
+        None => true,
+    }
+}
+
+// An image, all of whose chunks are checked, and its shape.
+fn open_one<'a, D: Disk>(
+    disk: &mut D,
+    progress: &mut Progress,
+    place: Place<'a>,
+    w: &mut Window,
+    m: &mut Meter,
+) -> Result<(D::At, Shape), SparseRefusal<'a>>
+    requires first { IsTrue D.tells → (D.held disk.old).begun ≡ [] }
+    ensures opened { IsTrue D.tells → IfOk result (λ one. OpensFile (D.world disk.old) (path_of place.entry)
+        (D.At.content one.0) (D.held disk.old) (D.held disk.new)) }
+    ensures image { IsTrue D.tells → IfOk result (λ one. IsImageOf one.1.blocks one.1.block (D.At.content one.0)) }
+    ensures clean { IsTrue D.tells → IfOk result (λ one. D.At.read_faults one.0 ≡ 0) }
+    ensures world { IsTrue D.tells → D.world disk.new ≡ D.world disk.old }
+    ensures part { IsTrue D.tells → (D.held disk.new).part ≡ (D.held disk.old).part }
+    ensures refused { IsTrue D.tells → IfErr result (λ refusal. IsNotOpened refusal.fault (path_of place.entry)
+        (D.world disk.old) (D.held disk.old) (D.held disk.new)) }
+{
+    let mut source = disk.ahead(place)?;
+    progress.expect(source.length(), 1);
+    match shape_of(&mut source, w, m) {
+        Ok(shape) => {
+            source.rest();
+            Ok((source, shape))
+        }
+        Err(fault) => {
+            disk.let_go_source(source);
+            let sides = Sides::none().reading(place, None);
+            Err(sides.refuse(fault))
+        }
+    }
+}
+
+// The image ends too soon where its file is shorter then than what was given of it.
+fn shape_of<S: Source + Lasting>(
+    source: &mut S,
+    w: &mut Window,
+    m: &mut Meter,
+) -> Result<Shape, SparseCommandFault>
+    ensures image { IsTrue S.tells → IfOk result (λ shape. IsImageOf shape.blocks shape.block (S.content source.old)) }
+    ensures content { IsTrue S.tells → S.content source.new ≡ S.content source.old }
+    ensures clean { OnOk result (S.read_faults source.new ≡ S.read_faults source.old) }
+    ensures refused { IsTrue S.tells → IfErr result (λ fault. IsNotRead fault (S.content source.old)
+        (S.read_faults source.old) (S.read_faults source.new)) }
+{
+    let runs = match SparseRuns::open(source, w, m) {
+        Ok(runs) => runs,
+        Err(fault) => return Err(SparseCommandFault::Run(fault)),
+    };
+    match source.shorter() {
+        Some(at) => Err(SparseCommandFault::Run(RunFault::Sparse(SparseFault::Truncated { at }))),
+        None => Ok(Shape {
+            blocks: runs.header.total_blks,
+            block: runs.header.blk_sz,
+        }),
+    }
+}

@@ -1,0 +1,90 @@
+//! The command `expand` of several images, as the pieces of a cut are: they are laid over one another.
+
+ghost use Rattle.std.specs.Prelude.{◌≡◌, ◌+◌, None, IsTrue, IfErr, OnOk, map};
+ghost use Rattle.std.specs.List.{AllByRecursion};
+ghost use Rattle.abt_refusals.specs.Paths.{path_of};
+ghost use Rattle.abt_disk.specs.World.{IsReading, OnlyAt, KeepsFile, HasNotFailed};
+ghost use Rattle.abt_output.specs.Shows.{Shows};
+ghost use Rattle.sparse_rules.specs.ImagePath.{image_path};
+ghost use Rattle.sparse_bodies.specs.Overlaying.{OverlaysFiles, RefusesOverlay, once_if_any};
+ghost use Rattle.sparse_bodies.specs.Steps.{whole_of_shape};
+
+use crate::expand::printed;
+use crate::laying::lay_all;
+use crate::opening::{Opened, Shape, open_all};
+use abt_chunks::Expanded;
+use abt_disk::Disk;
+use abt_io::{Meter, Window};
+use abt_output::Report;
+use abt_refusals::Place;
+use sparse_rules::SparseRefusal;
+use std::alloc::Global;
+
+/// Lays images over one another in their order: a file of zeros, to which each is flashed in turn. Prints what it has.
+///
+/// All are read, and their shapes compared, before OUT is created or emptied.
+#[inline(never)]
+pub fn expand_several<'a, D: Disk>(
+    disk: &mut D,
+    report: &mut Report,
+    inputs: &[&'a str],
+    output: Place<'a>,
+    alloc: Global,
+    w: &mut Window,
+    m: &mut Meter,
+) -> Result<(), SparseRefusal<'a>>
+    requires first { IsTrue D.tells → IsReading (D.held disk.old) }
+    requires one { IsTrue D.tells → (D.held disk.old).part ≡ None }
+    // OUT holds the images that the INs hold, one laid over the other; what was printed tells of it
+    ensures done { IsTrue D.tells → OnOk result (OverlaysFiles (map (λ word. image_path word.now) inputs.now)
+        (path_of output.entry) (D.world disk.old) (D.world disk.new) (Shows report.old report.new)) }
+    // where there is an IN, OUT was synced behind its last byte
+    ensures synced { IsTrue D.tells → OnOk result ((D.held disk.new).syncs
+        ≡ (D.held disk.old).syncs + once_if_any (map (λ word. image_path word.now) inputs.now)) }
+    // whatever the outcome, OUT alone may hold anything else, each IN holds what it held, and no file is left open
+    ensures others { IsTrue D.tells → OnlyAt (D.held disk.old).read (path_of output.entry) (D.world disk.old)
+        (D.world disk.new) }
+    ensures inputs { IsTrue D.tells → AllByRecursion (λ path. KeepsFile path (D.world disk.old) (D.world disk.new))
+        (map (λ word. image_path word.now) inputs.now) }
+    ensures closed { IsTrue D.tells → (D.held disk.new).part ≡ None }
+    // it is done only where nothing failed
+    ensures clean { IsTrue D.tells → OnOk result (HasNotFailed (D.held disk.old) (D.held disk.new)) }
+    // it is refused for what the INs hold, or where a device or the system failed
+    ensures refused { IsTrue D.tells → IfErr result (λ refusal. RefusesOverlay refusal.fault
+        (map (λ word. image_path word.now) inputs.now) (path_of output.entry) (D.world disk.old) (D.world disk.new)
+        (D.held disk.old) (D.held disk.new)) }
+{
+    let all = match open_all(disk, &mut report.progress, inputs, alloc, w, m) {
+        Ok(all) => all,
+        Err(refusal) => return Err(refusal),
+    };
+    let Opened { kept, shape, .. } = all;
+    let Expanded { blocks, bytes } = whole_of(shape);
+    let mut zeros = disk.zeros(output, bytes)?;
+    let answer = lay_all(disk, &mut report.progress, kept, &mut zeros, output, w, m);
+    let is_on_output = disk.close(zeros);
+    match answer {
+        Ok(()) => {}
+        Err(refusal) => return Err(refusal),
+    }
+    match printed(Expanded { blocks, bytes }, is_on_output, report) {
+        Ok(()) => Ok(()),
+        Err(refusal) => Err(refusal.into()),
+    }
+}
+
+// How long the images are that have this shape. Where there is none, they have no blocks.
+fn whole_of(shape: Option<Shape>) -> Expanded
+    ensures { result ≡ whole_of_shape shape }
+{
+    match shape {
+        Some(shape) => Expanded {
+            blocks: shape.blocks,
+            bytes: shape.blocks as u64 * shape.block as u64,
+        },
+        None => Expanded {
+            blocks: 0,
+            bytes: 0,
+        },
+    }
+}
