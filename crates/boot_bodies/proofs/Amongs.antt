@@ -5,13 +5,14 @@ use Rattle.std.proofs.lemmas.Bool.{cases_eq}
 use Rattle.std.proofs.lemmas.List.Elements.{Contains-append_left, Contains-append_right, Contains-append_cases}
 use Rattle.std.proofs.lemmas.List.Elements.{Contains-push, Contains-push_cases}
 use Rattle.abt_disk.specs.World.{World, Held, OpensFile, Creates, OnlyAt, untouched, in_output, Spares, Ends, SparesRest}
-use Rattle.abt_disk.specs.World.{reading, creating, ended}
+use Rattle.abt_disk.specs.World.{reading, creating, ended, failing}
 use Rattle.boot_bodies.specs.Among.{FileHolds, IsAmong, OnlyAmong, GoesAmong, KeepsDone, IsDone}
 
 -- ---- that nothing else was changed
 
-pub goes_none : (P : List ℕ → Type 0) (h h' : Held) (a b : World) → h' ≡ h → b ≡ a → GoesAmong P h h' a b
-goes_none P h h' a b same_held same = record {
+pub goes_none : (P : List ℕ → Type 0) (h h' : Held) (a b : World) (n : ℕ) → h' ≡ failing n h → b ≡ a
+    → GoesAmong P h h' a b
+goes_none P h h' a b n same_held same = record {
   read = ap (λ k. k.read) same_held;
   leads = λ p f there. subst (λ w. w.at p ≡ Some f) (sym same) there;
   files = λ f. inl (ap (λ w. w.holds f) same);
@@ -74,10 +75,10 @@ file_or P read path file old new f named there free spares (inl same) =
     inr (one_among P read path file new f named there free same)
 
 -- of an opening that was refused
-pub goes_refused : (P : List ℕ → Type 0) (path : List ℕ) (h h' : Held) (a b : World) → P path → h' ≡ h
-    → OnlyAt h.read path a b → GoesAmong P h h' a b
-goes_refused P path h h' a b named same_held (untouched same) = goes_none P h h' a b same_held same
-goes_refused P path h h' a b named same_held (in_output file there free spares) = record {
+pub goes_refused : (P : List ℕ → Type 0) (path : List ℕ) (h h' : Held) (a b : World) (n : ℕ) → P path
+    → h' ≡ failing n h → OnlyAt h.read path a b → GoesAmong P h h' a b
+goes_refused P path h h' a b n named same_held (untouched same) = goes_none P h h' a b n same_held same
+goes_refused P path h h' a b n named same_held (in_output file there free spares) = record {
   read = ap (λ k. k.read) same_held;
   leads = spares.paths;
   files = λ f. file_or P h.read path file a b f named there free spares (cases_eq f file);
@@ -107,14 +108,14 @@ first_or file f files listed = elim (Contains-append_cases (file ∷ []) files f
   | inr rest ↦ inl rest
 ]
 
-begun_now : (path : List ℕ) (h h' h'' : Held) (b : Bool) (old new : World) (made : Creates path h h' old new)
-    → h'' ≡ ended b h' → h''.begun ≡ made.file ∷ h.begun
-begun_now path h h' h'' b old new made closed = ap (λ k. k.begun) closed ∙ ap (λ k. k.begun) made.begins
+begun_now : (path : List ℕ) (h h' h'' : Held) (b : Bool) (n : ℕ) (old new : World) (made : Creates path h h' old new)
+    → h'' ≡ ended b n h' → h''.begun ≡ made.file ∷ h.begun
+begun_now path h h' h'' b n old new made closed = ap (λ k. k.begun) closed ∙ ap (λ k. k.begun) made.begins
 
 -- an output that was created, and then brought to its end or let go
-pub goes_written : (P : List ℕ → Type 0) (path : List ℕ) (b : Bool) (h h' h'' : Held) (u v w : World) → P path
-    → Creates path h h' u v → h'' ≡ ended b h' → SparesRest h'.output v w → GoesAmong P h h'' u w
-goes_written P path b h h' h'' u v w named made closed rest =
+pub goes_written : (P : List ℕ → Type 0) (path : List ℕ) (b : Bool) (n : ℕ) (h h' h'' : Held) (u v w : World) → P path
+    → Creates path h h' u v → h'' ≡ ended b n h' → SparesRest h'.output v w → GoesAmong P h h'' u w
+goes_written P path b n h h' h'' u v w named made closed rest =
     let after = spared path h h' u v w made rest in
     let there = after.paths path made.file made.there in
     record {
@@ -123,42 +124,43 @@ goes_written P path b h h' h'' u v w named made closed rest =
       files = λ f. file_or P h.read path made.file u w f named there made.free
           (spares_then made.file u v w made.spares after) (cases_eq f made.file);
       opened = λ f listed. elim (first_or made.file f h.begun
-          (subst (λ l. Contains l f) (begun_now path h h' h'' b u v made closed) listed)) [
+          (subst (λ l. Contains l f) (begun_now path h h' h'' b n u v made closed) listed)) [
             | inl before ↦ inl before
             | inr same ↦ inr (one_among P h.read path made.file w f named there made.free same)
           ];
     }
 
-pub keeps_written : (path : List ℕ) (b : Bool) (h h' h'' : Held) (u v w : World) → Creates path h h' u v
-    → h'' ≡ ended b h' → SparesRest h'.output v w → KeepsDone h h'' u w
-keeps_written path b h h' h'' u v w made closed rest =
+pub keeps_written : (path : List ℕ) (b : Bool) (n : ℕ) (h h' h'' : Held) (u v w : World) → Creates path h h' u v
+    → h'' ≡ ended b n h' → SparesRest h'.output v w → KeepsDone h h'' u w
+keeps_written path b n h h' h'' u v w made closed rest =
     let after = spared path h h' u v w made rest in
     let both = spares_then made.file u v w made.spares after in
     record {
       closed = ap (λ k. k.output) closed;
       leads = both.paths;
       holds = λ f listed. both.files f (λ same. made.fresh (subst (λ g. Contains h.begun g) same listed));
-      listed = λ f listed. subst (λ l. Contains l f) (sym (begun_now path h h' h'' b u v made closed))
+      listed = λ f listed. subst (λ l. Contains l f) (sym (begun_now path h h' h'' b n u v made closed))
           (Contains-append_right (made.file ∷ []) h.begun f listed);
     }
 
-pub done_written : (path bytes : List ℕ) (b : Bool) (h h' h'' : Held) (u v w : World) → Creates path h h' u v
-    → h'' ≡ ended b h' → Ends h'.output bytes v w → IsDone h'' w path bytes
-done_written path bytes b h h' h'' u v w made closed ends =
+pub done_written : (path bytes : List ℕ) (b : Bool) (n : ℕ) (h h' h'' : Held) (u v w : World) → Creates path h h' u v
+    → h'' ≡ ended b n h' → Ends h'.output bytes v w → IsDone h'' w path bytes
+done_written path bytes b n h h' h'' u v w made closed ends =
     let now : (w.holds made.file ≡ bytes) × Spares made.file v w =
     subst (λ o. Ends o bytes v w) (open_is path h h' u v made) ends in
     record {
       file = made.file;
       there = now.1.paths path made.file made.there;
       holds = now.0;
-      listed = subst (λ l. Contains l made.file) (sym (begun_now path h h' h'' b u v made closed))
+      listed = subst (λ l. Contains l made.file) (sym (begun_now path h h' h'' b n u v made closed))
           (Contains-append_left (made.file ∷ []) h.begun made.file (Contains-push [] made.file));
     }
 
 -- ---- what is done stays done
 
-pub keeps_none : (h h' : Held) (a b : World) → h.output ≡ None → h' ≡ h → b ≡ a → KeepsDone h h' a b
-keeps_none h h' a b closed same_held same = record {
+pub keeps_none : (h h' : Held) (a b : World) (n : ℕ) → h.output ≡ None → h' ≡ failing n h → b ≡ a
+    → KeepsDone h h' a b
+keeps_none h h' a b n closed same_held same = record {
   closed = ap (λ k. k.output) same_held ∙ closed;
   leads = λ p f there. subst (λ w. w.at p ≡ Some f) (sym same) there;
   holds = λ f listed. ap (λ w. w.holds f) same;
@@ -222,9 +224,9 @@ only_behind P path bytes h h' h'' a b c none opens same goes = record {
           (Contains-append_left h.read (opens.file ∷ []) f listed));
     }
 
-pub only_none : (P : List ℕ → Type 0) (h h' : Held) (a b : World) → h.begun ≡ [] → h' ≡ h → b ≡ a
+pub only_none : (P : List ℕ → Type 0) (h h' : Held) (a b : World) (n : ℕ) → h.begun ≡ [] → h' ≡ failing n h → b ≡ a
     → OnlyAmong P h.read h'.begun a b
-only_none P h h' a b none same_held same = record {
+only_none P h h' a b n none same_held same = record {
   leads = λ p f there. subst (λ w. w.at p ≡ Some f) (sym same) there;
   files = λ f. inl (ap (λ w. w.holds f) same);
   opened = λ f listed. absurd (none_listed f h'.begun (ap (λ k. k.begun) same_held ∙ none) listed);

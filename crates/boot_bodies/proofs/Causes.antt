@@ -1,85 +1,175 @@
 -- Which faults a call answers over an image that stays as it was.
-use Rattle.std.proofs.Common.{◌≡◌, ℕ, ◌<◌, List, Some, Result, Ok, Err, sym, subst}
-use Rattle.std.specs.Prelude.{IfErr, IsOk, OnOk}
+use Rattle.std.proofs.Common.{◌≡◌, ◌⊎◌, inl, inr, ℕ, ◌+◌, ◌<◌, ◌≤◌, List, Some, Result, Ok, Err, refl, sym, subst, arith}
+use Rattle.std.specs.Prelude.{IfErr, IfOk, IsOk, OnOk}
 use Rattle.abt_refusals.specs.declared.refusal.HostFault.{HostFault}
 use Rattle.std.proofs.lemmas.Bool.{false≢true}
 use Rattle.abt_disk.specs.World.{World, Held, OpensFile}
 use Rattle.abt_sections.specs.declared.fault.SectionFault.{SectionFault}
 use Rattle.abt_sections.specs.declared.fault.SectionFault.TheVariants as sections
-use Rattle.abt_sections.specs.Cause.{MoveCause}
+use Rattle.abt_sections.specs.Cause.{MoveCause, OpenCause, ReadCause}
 use Rattle.abt_sections.specs.Open.{RefusedAs}
 use Rattle.boot_rules.specs.declared.fault.BootCommandFault.{BootCommandFault}
 use Rattle.boot_rules.specs.declared.fault.BootCommandFault.TheVariants as faults
-use Rattle.boot_texts.specs.Info.{PrintCause}
-use Rattle.boot_bodies.specs.Faults.{IsFaultOf, IsAnswerOf, IsRefusalOf, RefusesImage}
+use Rattle.boot_texts.specs.Info.{PrintCause, ReadTold, WriteTold}
+use Rattle.boot_bodies.specs.Faults.{IsFaultOf, IsAnswerOf, IsRefusalOf, IsRefusedOver, RefusesImage}
+
+-- ---- faults of the engine's calls
 
 pub moved : (f : SectionFault) (r r' w w' : ℕ) (x : List ℕ) (changed : Type 0) → MoveCause f r r' w w' changed
-    → ¬ changed → IsFaultOf x f
-moved (sections.Read f) r r' w w' x changed cause same = tt
-moved (sections.Write f) r r' w w' x changed cause same = tt
-moved sections.SourceChanged r r' w w' x changed cause same = absurd (same cause)
-moved (sections.Header f) r r' w w' x changed cause same = absurd cause
-moved (sections.Entry i) r r' w w' x changed cause same = absurd cause
-moved sections.Name r r' w w' x changed cause same = absurd cause
-moved sections.CommandLine r r' w w' x changed cause same = absurd cause
-moved (sections.SectionTruncated s) r r' w w' x changed cause same = absurd cause
-moved (sections.SectionTooLarge s) r r' w w' x changed cause same = absurd cause
+    → ¬ changed → r ≤ r' → w ≤ w' → IsFaultOf x (r + w < r' + w') f
+moved (sections.Read f) r r' w w' x changed cause same reads writes = omega (arith, cause, writes)
+moved (sections.Write f) r r' w w' x changed cause same reads writes = omega (arith, cause, reads)
+moved sections.SourceChanged r r' w w' x changed cause same reads writes = absurd (same cause)
+moved (sections.Header f) r r' w w' x changed cause same reads writes = absurd cause
+moved (sections.Entry i) r r' w w' x changed cause same reads writes = absurd cause
+moved sections.Name r r' w w' x changed cause same reads writes = absurd cause
+moved sections.CommandLine r r' w w' x changed cause same reads writes = absurd cause
+moved (sections.SectionTruncated s) r r' w w' x changed cause same reads writes = absurd cause
+moved (sections.SectionTooLarge s) r r' w w' x changed cause same reads writes = absurd cause
 
-pub printed : (f : SectionFault) (r r' : ℕ) (x : List ℕ) → PrintCause f r r' → IsFaultOf x f
-printed (sections.Read f) r r' x cause = tt
-printed (sections.Write f) r r' x cause = tt
-printed sections.SourceChanged r r' x cause = absurd cause
-printed (sections.Header f) r r' x cause = absurd cause
-printed (sections.Entry i) r r' x cause = absurd cause
-printed sections.Name r r' x cause = absurd cause
-printed sections.CommandLine r r' x cause = absurd cause
-printed (sections.SectionTruncated s) r r' x cause = absurd cause
-printed (sections.SectionTooLarge s) r r' x cause = absurd cause
+pub fault_more : (x : List ℕ) (P Q : Type 0) (f : SectionFault) → (P → Q) → IsFaultOf x P f → IsFaultOf x Q f
+fault_more x P Q (sections.Read f) more fault = more fault
+fault_more x P Q (sections.Write f) more fault = more fault
+fault_more x P Q sections.SourceChanged more fault = absurd fault
+fault_more x P Q (sections.Header f) more fault = fault
+fault_more x P Q (sections.Entry i) more fault = fault
+fault_more x P Q sections.Name more fault = absurd fault
+fault_more x P Q sections.CommandLine more fault = absurd fault
+fault_more x P Q (sections.SectionTruncated s) more fault = fault
+fault_more x P Q (sections.SectionTooLarge s) more fault = absurd fault
 
-pub opened : (f : SectionFault) (x : List ℕ) → RefusedAs x f → IsFaultOf x f
-opened (sections.Read f) x refused = tt
-opened (sections.Write f) x refused = tt
-opened sections.SourceChanged x refused = absurd refused
-opened (sections.Header f) x refused = refused
-opened (sections.Entry i) x refused = refused
-opened sections.Name x refused = absurd refused
-opened sections.CommandLine x refused = absurd refused
-opened (sections.SectionTruncated s) x refused = refused
-opened (sections.SectionTooLarge s) x refused = absurd refused
+-- of reading alone, before an output is written
+pub read_first : (f : SectionFault) (r r' w : ℕ) (x : List ℕ) (changed : Type 0) → ReadCause f r r' changed
+    → ¬ changed → r ≤ r' → IsFaultOf x (r + w < r' + w) f
+read_first f r r' w x changed cause same reads =
+    fault_more x (r + 0 < r' + 0) (r + w < r' + w) f (λ h. omega (arith, h))
+    (moved f r r' 0 0 x changed cause same reads (omega arith))
 
-of_files : {X : Type 0} (answer : X) (x : List ℕ) (fault : BootCommandFault)
-    → IsAnswerOf {X = X} (Ok answer) fault → IsRefusalOf x fault
-of_files answer x (faults.Host f) told = tt
-of_files answer x (faults.Section f) told = absurd told
-of_files answer x (faults.OptionNotCarried name) told = absurd told
-of_files answer x (faults.BadFragment word) told = absurd told
-of_files answer x (faults.BadNumber word) told = absurd told
-of_files answer x (faults.BadBoardId word) told = absurd told
-of_files answer x faults.CheckFailed told = absurd told
+-- of moving, behind a read that succeeded
+pub moved_behind : (f : SectionFault) (r q r' w w' : ℕ) (x : List ℕ) (changed : Type 0) → q ≡ r
+    → MoveCause f q r' w w' changed → ¬ changed → q ≤ r' → w ≤ w' → IsFaultOf x (r + w < r' + w') f
+moved_behind f r q r' w w' x changed clean cause same reads writes =
+    fault_more x (q + w < r' + w') (r + w < r' + w') f (λ h. omega (arith, h, clean))
+    (moved f q r' w w' x changed cause same reads writes)
 
--- a fault that is told is one of the bytes
-pub told_is : (answer : Result ℕ SectionFault) (x : List ℕ) (fault : BootCommandFault) → IsAnswerOf answer fault
-    → IfErr answer (IsFaultOf x) → IsRefusalOf x fault
-told_is (Ok n) x fault told own = of_files n x fault told
-told_is (Err f) x fault told own = subst (λ g. IsRefusalOf x g) (sym told) own
+pub printed : (X : Type 0) (f : SectionFault) (r r' w w' : ℕ) (x : List ℕ) → PrintCause f r r'
+    → ReadTold {X = X} (Err f) r r' → WriteTold f w w' → IsFaultOf x (r + w < r' + w') f
+printed X (sections.Read f) r r' w w' x cause reads writes = omega (arith, cause, writes)
+printed X (sections.Write f) r r' w w' x cause reads writes = omega (arith, reads, writes)
+printed X sections.SourceChanged r r' w w' x cause reads writes = absurd cause
+printed X (sections.Header f) r r' w w' x cause reads writes = absurd cause
+printed X (sections.Entry i) r r' w w' x cause reads writes = absurd cause
+printed X sections.Name r r' w w' x cause reads writes = absurd cause
+printed X sections.CommandLine r r' w w' x cause reads writes = absurd cause
+printed X (sections.SectionTruncated s) r r' w w' x cause reads writes = absurd cause
+printed X (sections.SectionTooLarge s) r r' w w' x cause reads writes = absurd cause
+
+pub opened : (f : SectionFault) (x : List ℕ) (r r' : ℕ) (changed : Type 0) → OpenCause f r r' changed → RefusedAs x f
+    → IsFaultOf x (r < r') f
+opened (sections.Read f) x r r' changed cause refused = cause
+opened (sections.Write f) x r r' changed cause refused = absurd refused
+opened sections.SourceChanged x r r' changed cause refused = absurd refused
+opened (sections.Header f) x r r' changed cause refused = refused
+opened (sections.Entry i) x r r' changed cause refused = refused
+opened sections.Name x r r' changed cause refused = absurd refused
+opened sections.CommandLine x r r' changed cause refused = absurd refused
+opened (sections.SectionTruncated s) x r r' changed cause refused = refused
+opened (sections.SectionTooLarge s) x r r' changed cause refused = absurd refused
+
+-- ---- refusals
+
+pub refusal_more : (x : List ℕ) (P Q U V : Type 0) (fault : BootCommandFault) → (P → Q) → (U → V)
+    → IsRefusalOf x P U fault → IsRefusalOf x Q V fault
+refusal_more x P Q U V (faults.Host f) more stands (inl failed) = inl (more failed)
+refusal_more x P Q U V (faults.Host f) more stands (inr unprinted) = inr (stands unprinted)
+refusal_more x P Q U V (faults.Section f) more stands refuses = fault_more x P Q f more refuses
+refusal_more x P Q U V (faults.OptionNotCarried name) more stands refuses = absurd refuses
+refusal_more x P Q U V (faults.BadFragment word) more stands refuses = absurd refuses
+refusal_more x P Q U V (faults.BadNumber word) more stands refuses = absurd refuses
+refusal_more x P Q U V (faults.BadBoardId word) more stands refuses = absurd refuses
+refusal_more x P Q U V faults.CheckFailed more stands refuses = absurd refuses
+
+of_files : {X : Type 0} (answer : X) (x : List ℕ) (P U Q V : Type 0) (fault : BootCommandFault) → (P → Q) → (U → V)
+    → IsAnswerOf {X = X} (Ok answer) P U fault → IsRefusalOf x Q V fault
+of_files answer x P U Q V (faults.Host f) more stands (inl failed) = inl (more failed)
+of_files answer x P U Q V (faults.Host f) more stands (inr unprinted) = inr (stands unprinted)
+of_files answer x P U Q V (faults.Section f) more stands told = absurd told
+of_files answer x P U Q V (faults.OptionNotCarried name) more stands told = absurd told
+of_files answer x P U Q V (faults.BadFragment word) more stands told = absurd told
+of_files answer x P U Q V (faults.BadNumber word) more stands told = absurd told
+of_files answer x P U Q V (faults.BadBoardId word) more stands told = absurd told
+of_files answer x P U Q V faults.CheckFailed more stands told = absurd told
+
+-- a fault that is told is one of the bytes, or of a device that failed
+pub told_is : (answer : Result ℕ SectionFault) (x : List ℕ) (P U E Q V : Type 0) (fault : BootCommandFault)
+    → IsAnswerOf answer P U fault → IfErr answer (IsFaultOf x E) → (IsOk answer → P → Q) → (E → Q) → (IsOk answer → U → V)
+    → IsRefusalOf x Q V fault
+told_is (Ok n) x P U E Q V fault told own more late stands = of_files n x P U Q V fault (more refl) (stands refl) told
+told_is (Err f) x P U E Q V fault told own more late stands =
+    subst (λ g. IsRefusalOf x Q V g) (sym told) (fault_more x E Q f late own)
+
+pub told_so : (answer : Result ℕ SectionFault) (x : List ℕ) (P U E Q V : Type 0) (fault : BootCommandFault)
+    → IsAnswerOf answer P U fault → IfErr answer (IsFaultOf x E) → (IsOk answer → P → Q) → (E → Q) → (IsOk answer → U → V)
+    → IsRefusedOver x Q V fault
+told_so answer x P U E Q V fault told own more late stands = record {
+  refuses = told_is answer x P U E Q V fault told own more late stands;
+}
+
+-- over an image that stayed as it was
+pub refused_more : (x y : List ℕ) (P Q U V : Type 0) (fault : BootCommandFault) → y ≡ x → IsRefusedOver y P U fault
+    → (P → Q) → (U → V) → IsRefusedOver x Q V fault
+refused_more x y P Q U V fault same refused more stands = record {
+  refuses = refusal_more x P Q U V fault more stands
+      (subst (λ z. IsRefusalOf z P U fault) same refused.refuses);
+}
 
 -- and so of the file that they were opened from
-pub refuses_file : (path bytes : List ℕ) (held held' : Held) (world : World) (fault : BootCommandFault)
-    → OpensFile world path bytes held held' → IsRefusalOf bytes fault → RefusesImage path world fault
-refuses_file path bytes held held' world (faults.Host f) opens refuses = tt
-refuses_file path bytes held held' world (faults.Section f) opens refuses =
-    (opens.file, opens.there, subst (λ x. IsFaultOf x f) opens.held refuses)
-refuses_file path bytes held held' world (faults.OptionNotCarried name) opens refuses = absurd refuses
-refuses_file path bytes held held' world (faults.BadFragment word) opens refuses = absurd refuses
-refuses_file path bytes held held' world (faults.BadNumber word) opens refuses = absurd refuses
-refuses_file path bytes held held' world (faults.BadBoardId word) opens refuses = absurd refuses
-refuses_file path bytes held held' world faults.CheckFailed opens refuses = absurd refuses
+file_refuses : (path bytes : List ℕ) (held held' : Held) (world : World) (P U Q V : Type 0)
+    (fault : BootCommandFault) → OpensFile world path bytes held held' → (P → Q) → (U → V)
+    → IsRefusalOf bytes P U fault → RefusesImage path world Q V fault
+file_refuses path bytes held held' world P U Q V (faults.Host f) opens more stands (inl failed) = inl (more failed)
+file_refuses path bytes held held' world P U Q V (faults.Host f) opens more stands (inr unprinted) =
+    inr (stands unprinted)
+file_refuses path bytes held held' world P U Q V (faults.Section f) opens more stands refuses =
+    (opens.file, opens.there, subst (λ x. IsFaultOf x Q f) opens.held (fault_more bytes P Q f more refuses))
+file_refuses path bytes held held' world P U Q V (faults.OptionNotCarried name) opens more stands refuses = absurd refuses
+file_refuses path bytes held held' world P U Q V (faults.BadFragment word) opens more stands refuses = absurd refuses
+file_refuses path bytes held held' world P U Q V (faults.BadNumber word) opens more stands refuses = absurd refuses
+file_refuses path bytes held held' world P U Q V (faults.BadBoardId word) opens more stands refuses = absurd refuses
+file_refuses path bytes held held' world P U Q V faults.CheckFailed opens more stands refuses = absurd refuses
+
+pub refuses_file : (path bytes : List ℕ) (held held' : Held) (world : World) (P U Q V : Type 0)
+    (fault : BootCommandFault) → OpensFile world path bytes held held' → IsRefusedOver bytes P U fault → (P → Q) → (U → V)
+    → RefusesImage path world Q V fault
+refuses_file path bytes held held' world P U Q V fault opens refused more stands =
+    file_refuses path bytes held held' world P U Q V fault opens more stands refused.refuses
 
 -- of files alone
-pub host_refuses : (x : List ℕ) (fault : BootCommandFault) (host : HostFault) → fault ≡ faults.Host host → IsRefusalOf x fault
-host_refuses x fault host same = subst (λ f. IsRefusalOf x f) (sym same) tt
+pub host_refuses : (x : List ℕ) (P U : Type 0) (fault : BootCommandFault) (host : HostFault) → fault ≡ faults.Host host
+    → P → IsRefusalOf x P U fault
+host_refuses x P U fault host same failed = subst (λ f. IsRefusalOf x P U f) (sym same) (inl failed)
+
+pub host_image : (path : List ℕ) (world : World) (P U : Type 0) (fault : BootCommandFault) (host : HostFault)
+    → fault ≡ faults.Host host → P → RefusesImage path world P U fault
+host_image path world P U fault host same failed = subst (λ f. RefusesImage path world P U f) (sym same) (inl failed)
 
 -- what holds where a call answered Ok
 pub ok_gives : {X E : Type 0} (answer : Result X E) (P : Type 0) → IsOk answer → OnOk answer P → P
 ok_gives (Ok x) P done given = given
 ok_gives (Err e) P done given = absurd (false≢true done)
+
+-- of two counts that both stay
+pub sum_stays : (a a' b b' : ℕ) → (a' ≡ a) × (b' ≡ b) → a' + b' ≡ a + b
+sum_stays a a' b b' same = omega (arith, same.0, same.1)
+
+pub sum_behind : (a q a' b b' : ℕ) → q ≡ a → (a' ≡ q) × (b' ≡ b) → a' + b' ≡ a + b
+sum_behind a q a' b b' clean same = omega (arith, clean, same.0, same.1)
+
+-- of the engine alone
+pub section_refused : (x : List ℕ) (P U : Type 0) (fault : BootCommandFault) (f : SectionFault)
+    → fault ≡ faults.Section f → IsFaultOf x P f → IsRefusedOver x P U fault
+section_refused x P U fault f same own = record { refuses = subst (λ g. IsRefusalOf x P U g) (sym same) own }
+
+pub host_refused : (x : List ℕ) (P U : Type 0) (fault : BootCommandFault) (host : HostFault) → fault ≡ faults.Host host
+    → P → IsRefusedOver x P U fault
+host_refused x P U fault host same failed = record { refuses = host_refuses x P U fault host same failed }

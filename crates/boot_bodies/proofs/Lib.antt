@@ -1,4 +1,6 @@
 pub mod Amongs
 pub mod Causes
+pub mod Counts
 pub mod Loops
+pub mod Shown
 pub mod Wholes

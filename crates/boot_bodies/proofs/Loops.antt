@@ -1,13 +1,14 @@
 -- One part more, and all of them.
-use Rattle.std.proofs.Common.{◌≡◌, ◌⊎◌, inl, inr, ℕ, ◌+◌, ◌<◌, Bool, IsTrue, List, [], ◌++◌, Some, length, sym, ◌∙◌, ap, subst, below_more}
+use Rattle.std.proofs.Common.{◌≡◌, ◌⊎◌, inl, inr, ℕ, ◌+◌, ◌<◌, Bool, IsTrue, List, [], ◌++◌, Some, length, sym, ◌∙◌, ap, subst, below_more, arith}
 use Rattle.std.specs.Prelude.{slice_index_or}
 use Rattle.abt_headers.specs.declared.sections.Place.{Place}
-use Rattle.abt_disk.specs.World.{World, Held, Creates, Ends, ended}
+use Rattle.abt_disk.specs.World.{World, Held, Creates, Ends, ended, failing}
 use Rattle.abt_sections.specs.Header.{Header, places_of, fragment_count, fragment_of}
 use Rattle.abt_sections.specs.Layout.{part_of}
 use Rattle.boot_rules.specs.declared.part_names.Part.TheVariants as parts
 use Rattle.boot_bodies.specs.Among.{GoesAmong, IsAmong, IsDone, KeepsDone}
 use Rattle.boot_bodies.specs.Unpacking.{FragmentsDone, SectionsDone, WordsDone, path_of_part, section_part}
+use Rattle.boot_bodies.specs.Unpacking.{PartsBegun, up_to_section, up_to_fragment, up_to_words}
 use Rattle.boot_bodies.specs.Unpacking.{IsFragmentPath, IsPartPath, IsSectionPath, of_section, of_fragment, of_words}
 use Rattle.std.proofs.lemmas.List.{get_or_default}
 use Rattle.boot_bodies.proofs.Amongs.{done_later, done_written}
@@ -78,6 +79,39 @@ fragments_more folder header x y n h h' a b same kept done next =
     (fragments_later folder header x n h h' a b kept done)
     (subst (λ z. IsDone h' b (path_of_part folder (parts.Fragment n)) (fragment_of z header n)) same next)
 
+pub no_sections : (folder : List ℕ) (header : Header) (x : List ℕ) (h : Held) (w : World) → SectionsDone folder header x 0 h w
+no_sections folder header x h w = λ k below. absurd (omega (arith, below))
+
+pub no_fragments : (folder : List ℕ) (header : Header) (x : List ℕ) (h : Held) (w : World)
+    → FragmentsDone folder header x 0 h w
+no_fragments folder header x h w = λ k below. absurd (omega (arith, below))
+
+-- what stands does so where only a count has risen
+done_failing : (path bytes : List ℕ) (h : Held) (n : ℕ) (w : World) → IsDone h w path bytes → IsDone (failing n h) w path bytes
+done_failing path bytes h n w done = record {
+  file = done.file;
+  there = done.there;
+  holds = done.holds;
+  listed = done.listed;
+}
+
+pub begun_failing : (folder : List ℕ) (with_words : Bool) (header : Header) (x : List ℕ) (h : Held) (n : ℕ) (w : World)
+    → PartsBegun folder with_words header x h w → PartsBegun folder with_words header x (failing n h) w
+begun_failing folder with_words header x h n w (up_to_section i below sections) =
+    up_to_section i below (λ k under p found. done_failing _ _ h n w (sections k under p found))
+begun_failing folder with_words header x h n w (up_to_fragment i below sections fragments) =
+    up_to_fragment i below (λ k under p found. done_failing _ _ h n w (sections k under p found))
+    (λ k under. done_failing _ _ h n w (fragments k under))
+begun_failing folder with_words header x h n w (up_to_words wanted sections fragments words) =
+    up_to_words wanted (λ k under p found. done_failing _ _ h n w (sections k under p found))
+    (λ k under. done_failing _ _ h n w (fragments k under)) (done_failing _ _ h n w words)
+
+pub begun_later : (folder : List ℕ) (with_words : Bool) (header : Header) (x : List ℕ) (h k : Held) (n : ℕ) (c d : World)
+    → k ≡ failing n h → d ≡ c → PartsBegun folder with_words header x h c → PartsBegun folder with_words header x k d
+begun_later folder with_words header x h k n c d let_go same begun =
+    subst (λ w. PartsBegun folder with_words header x k w) (sym same)
+    (subst (λ q. PartsBegun folder with_words header x q c) (sym let_go) (begun_failing folder with_words header x h n c begun))
+
 -- ---- one section
 
 -- a section does not depend on what is taken where there is none
@@ -101,11 +135,11 @@ pub fragment_named : (folder : List ℕ) (header : Header) (i : ℕ) (path : Lis
 fragment_named folder header i path there is_path = record { index = i; there = there; is_path = is_path }
 
 -- an output that was created empty, written, and brought to its end
-pub part_done : (path path' before after bytes : List ℕ) (b : Bool) (h h' h'' : Held) (u v w : World) → path ≡ path'
-    → before ≡ [] → after ≡ before ++ bytes → Creates path h h' u v → h'' ≡ ended b h' → Ends h'.output after v w
+pub part_done : (path path' before after bytes : List ℕ) (b : Bool) (n : ℕ) (h h' h'' : Held) (u v w : World) → path ≡ path'
+    → before ≡ [] → after ≡ before ++ bytes → Creates path h h' u v → h'' ≡ ended b n h' → Ends h'.output after v w
     → IsDone h'' w path' bytes
-part_done path path' before after bytes b h h' h'' u v w is_path empty written made closed ends =
-    let done = done_written path after b h h' h'' u v w made closed ends in
+part_done path path' before after bytes b n h h' h'' u v w is_path empty written made closed ends =
+    let done = done_written path after b n h h' h'' u v w made closed ends in
     subst (λ q. IsDone h'' w q bytes) is_path
     (subst (λ x. IsDone h'' w path x) (written ∙ ap (λ x. x ++ bytes) empty) done)
 

@@ -1,7 +1,7 @@
 -- What a whole run leaves, behind the image that it opened.
-use Rattle.std.proofs.Common.{◌≡◌, ℕ, Bool, IsTrue, List, [], Some, length, refl, sym, ◌∙◌, ap, subst}
+use Rattle.std.proofs.Common.{◌≡◌, ℕ, ◌+◌, Bool, IsTrue, List, [], Some, length, refl, sym, ◌∙◌, ap, subst, arith}
 use Rattle.std.specs.Prelude.{unwrap_or}
-use Rattle.abt_disk.specs.World.{World, Held, OpensFile, KeepsFile}
+use Rattle.abt_disk.specs.World.{World, Held, OpensFile, KeepsFile, failing}
 use Rattle.abt_sections.specs.Header.{Header, view_of, places_of, fragment_count, fragment_of}
 use Rattle.abt_sections.specs.declared.image.Image.{Image}
 use Rattle.abt_sections.specs.Layout.{part_of}
@@ -10,16 +10,18 @@ use Rattle.boot_rules.specs.declared.part_names.Part.TheVariants as parts
 use Rattle.boot_texts.specs.Words.{image_words, words_text}
 use Rattle.boot_bodies.specs.Among.{GoesAmong, OnlyAmong, FileHolds}
 use Rattle.boot_bodies.specs.Unpacking.{FragmentsDone, SectionsDone, WordsDone, path_of_part, section_part}
-use Rattle.boot_bodies.specs.Unpacking.{IsPartOf, IsPartPath, Unpacks}
-use Rattle.boot_bodies.proofs.Amongs.{goes_none, kept_behind, only_behind, stands}
+use Rattle.boot_bodies.specs.Unpacking.{IsPartOf, IsPartPath, PartsBegun, PartsStand, SyncsMore, SyncsParts, Unpacks, part_total}
+use Rattle.boot_bodies.specs.Lines.{told_parts}
+use Rattle.boot_bodies.proofs.Amongs.{goes_none, goes_then, kept_behind, only_behind, stands}
 use Rattle.boot_bodies.proofs.Loops.{goes_more}
 
 pub unpacks : (path folder x : List ℕ) (with_words : Bool) (header : Header) (h h' h'' : Held) (a c : World)
-    → OpensFile a path x h h' → HasImage x header
+    (shows : List (List ℕ) → Type 0) → OpensFile a path x h h' → HasImage x header
     → SectionsDone folder header x (length (places_of header)) h'' c
     → FragmentsDone folder header x (fragment_count header) h'' c
-    → (IsTrue with_words → WordsDone folder header x h'' c) → Unpacks path folder with_words a c
-unpacks path folder x with_words header h h' h'' a c opens image sections fragments words = record {
+    → (IsTrue with_words → WordsDone folder header x h'' c)
+    → ((n : ℕ) × shows (told_parts x header with_words n)) → Unpacks path folder with_words a c shows
+unpacks path folder x with_words header h h' h'' a c shows opens image sections fragments words shown = record {
   from = opens.file;
   there = opens.there;
   header = header;
@@ -32,6 +34,29 @@ unpacks path folder x with_words header h h' h'' a c opens image sections fragme
   words = λ wanted.
       subst (λ z. FileHolds c (path_of_part folder parts.Words) (words_text (image_words folder z header))) opens.held
       (stands h'' c _ _ (words wanted));
+  shown = (shown.0, subst (λ z. shows (told_parts z header with_words shown.0)) opens.held shown.1);
+}
+
+pub syncs_parts : (path x : List ℕ) (with_words : Bool) (header : Header) (h h' h'' : Held) (a : World)
+    → OpensFile a path x h h' → HasImage x header → SyncsMore (part_total with_words header) h h''
+    → SyncsParts path with_words a h h''
+syncs_parts path x with_words header h h' h'' a opens image syncs = record {
+  from = opens.file;
+  there = opens.there;
+  header = header;
+  image = subst (λ z. HasImage z header) opens.held image;
+  syncs = syncs;
+}
+
+pub parts_stand : (path folder x : List ℕ) (with_words : Bool) (header : Header) (h h' h'' : Held) (a c : World)
+    → OpensFile a path x h h' → HasImage x header → PartsBegun folder with_words header x h'' c
+    → PartsStand path folder with_words a h'' c
+parts_stand path folder x with_words header h h' h'' a c opens image begun = record {
+  from = opens.file;
+  there = opens.there;
+  header = header;
+  image = subst (λ z. HasImage z header) opens.held image;
+  begun = subst (λ z. PartsBegun folder with_words header z h'' c) opens.held begun;
 }
 
 goes_part : (path folder x : List ℕ) (with_words : Bool) (header : Header) (h h' h'' : Held) (a b c : World)
@@ -54,10 +79,10 @@ only_parts path folder x with_words header h h' h'' a b c none opens same image 
     only_behind _ path x h h' h'' a b c none opens same
     (goes_part path folder x with_words header h h' h'' a b c opens image goes)
 
-pub only_opened : (P : List ℕ → Type 0) (path x : List ℕ) (h h' : Held) (a b : World) → h.begun ≡ []
-    → OpensFile a path x h h' → b ≡ a → OnlyAmong P h.read h'.begun a b
-only_opened P path x h h' a b none opens same =
-    only_behind P path x h h' h' a b b none opens same (goes_none P h' h' b b refl refl)
+pub only_opened : (P : List ℕ → Type 0) (path x : List ℕ) (h h' h'' : Held) (a b : World) (n : ℕ) → h.begun ≡ []
+    → OpensFile a path x h h' → b ≡ a → h'' ≡ failing n h' → OnlyAmong P h.read h''.begun a b
+only_opened P path x h h' h'' a b n none opens same let_go =
+    only_behind P path x h h' h'' a b b none opens same (goes_none P h' h'' b b n let_go refl)
 
 pub keeps_opened : (P : List ℕ → Type 0) (path bytes : List ℕ) (h h' h'' : Held) (a b c : World)
     → OpensFile a path bytes h h' → b ≡ a → GoesAmong P h' h'' b c → KeepsFile path a c
@@ -76,3 +101,30 @@ has_as x y image same opened = subst (λ z. HasImage z (view_of image.header)) (
 
 pub opened_as : (x y : List ℕ) (image : Image) → y ≡ x → IsOpened x image → IsOpened y image
 opened_as x y image same opened = subst (λ z. IsOpened z image) (sym same) opened
+
+-- two counts of what failed are one
+pub twice : (h h' h'' : Held) (m n : ℕ) → h' ≡ failing m h → h'' ≡ failing n h' → h'' ≡ failing (m + n) h
+twice h h' h'' m n first next =
+    let sum : h.failed + m + n ≡ h.failed + (m + n) = omega arith in
+    next ∙ ap (λ k. failing n k) first ∙ ap (λ f. record h { failed = f }) sum
+
+-- whatever was done behind a file that was opened, before it was let go
+within : (P : List ℕ → Type 0) (h' g h'' k : Held) (b c d : World) (m n : ℕ) → g ≡ failing m h' → GoesAmong P g h'' b c
+    → k ≡ failing n h'' → d ≡ c → GoesAmong P h' k b d
+within P h' g h'' k b c d m n taken goes let_go same =
+    goes_then P h' h'' k b c d (goes_then P h' g h'' b b c (goes_none P h' g b b m taken refl) goes)
+    (goes_none P h'' k c d n let_go same)
+
+pub only_let_go : (path folder x : List ℕ) (with_words : Bool) (header : Header) (h h' g h'' k : Held) (a b c d : World)
+    (m n : ℕ) → h.begun ≡ [] → OpensFile a path x h h' → b ≡ a → HasImage x header → g ≡ failing m h'
+    → GoesAmong (IsPartPath folder with_words header) g h'' b c → k ≡ failing n h'' → d ≡ c
+    → OnlyAmong (IsPartOf path folder with_words a) h.read k.begun a d
+only_let_go path folder x with_words header h h' g h'' k a b c d m n none opens same image taken goes let_go still =
+    only_parts path folder x with_words header h h' k a b d none opens same image
+    (within _ h' g h'' k b c d m n taken goes let_go still)
+
+pub keeps_let_go : (P : List ℕ → Type 0) (path x : List ℕ) (h h' g h'' k : Held) (a b c d : World) (m n : ℕ)
+    → OpensFile a path x h h' → b ≡ a → g ≡ failing m h' → GoesAmong P g h'' b c → k ≡ failing n h'' → d ≡ c
+    → KeepsFile path a d
+keeps_let_go P path x h h' g h'' k a b c d m n opens same taken goes let_go still =
+    keeps_opened P path x h h' k a b d opens same (within P h' g h'' k b c d m n taken goes let_go still)

@@ -1,51 +1,64 @@
 -- Why a command over a boot image is refused that was opened from a file.
-use Rattle.std.specs.Prelude.{◌≡◌, ℕ, List, Some, Result, Ok, Err}
+use Rattle.std.specs.Prelude.{◌≡◌, ◌<◌, ◌+◌, ◌⊎◌, ℕ, List, Some, Result, Ok, Err}
 use Rattle.abt_sections.specs.declared.fault.SectionFault.{SectionFault}
 use Rattle.abt_sections.specs.declared.fault.SectionFault.TheVariants as sections
 use Rattle.abt_sections.specs.Open.{RefusedAs}
-use Rattle.abt_disk.specs.World.{World}
+use Rattle.abt_disk.specs.World.{World, Held}
 use Rattle.boot_rules.specs.declared.fault.BootCommandFault.{BootCommandFault}
 use Rattle.boot_rules.specs.declared.fault.BootCommandFault.TheVariants as faults
 
--- a device failed, or the bytes x have this fault
-abbrev pub IsFaultOf : List ℕ → SectionFault → Type 0
-IsFaultOf x (sections.Read f) = Unit {0}
-IsFaultOf x (sections.Write f) = Unit {0}
-IsFaultOf x sections.SourceChanged = ⊥
-IsFaultOf x (sections.Header f) = RefusedAs x (sections.Header f)
-IsFaultOf x (sections.Entry i) = RefusedAs x (sections.Entry i)
-IsFaultOf x sections.Name = ⊥
-IsFaultOf x sections.CommandLine = ⊥
-IsFaultOf x (sections.SectionTruncated s) = RefusedAs x (sections.SectionTruncated s)
-IsFaultOf x (sections.SectionTooLarge s) = ⊥
+-- from one moment to another a call of the disk failed, or a read of the source, whose faults are counted too
+pub record SomeFailed (held : Held) (reads : ℕ) (held' : Held) (reads' : ℕ) : Type 0 where
+  pub rises : held.failed + reads < held'.failed + reads'
 
--- a fault of files or devices, or one that the bytes x have
-abbrev pub IsRefusalOf : List ℕ → BootCommandFault → Type 0
-IsRefusalOf x (faults.Host f) = Unit {0}
-IsRefusalOf x (faults.Section f) = IsFaultOf x f
-IsRefusalOf x (faults.OptionNotCarried name) = ⊥
-IsRefusalOf x (faults.BadFragment word) = ⊥
-IsRefusalOf x (faults.BadNumber word) = ⊥
-IsRefusalOf x (faults.BadBoardId word) = ⊥
-IsRefusalOf x faults.CheckFailed = ⊥
+-- and none did
+pub record NoMoreFailed (held : Held) (reads : ℕ) (held' : Held) (reads' : ℕ) : Type 0 where
+  pub stays : held'.failed + reads' ≡ held.failed + reads
 
--- a fault of files or devices, or one of what the file at this path holds
-abbrev pub RefusesImage : List ℕ → World → BootCommandFault → Type 0
-RefusesImage path world (faults.Host f) = Unit {0}
-RefusesImage path world (faults.Section f) = (file : ℕ) × (world.at path ≡ Some file) × IsFaultOf (world.holds file) f
-RefusesImage path world (faults.OptionNotCarried name) = ⊥
-RefusesImage path world (faults.BadFragment word) = ⊥
-RefusesImage path world (faults.BadNumber word) = ⊥
-RefusesImage path world (faults.BadBoardId word) = ⊥
-RefusesImage path world faults.CheckFailed = ⊥
+-- the bytes x have this fault, or a device has, which failed
+abbrev pub IsFaultOf : List ℕ → Type 0 → SectionFault → Type 0
+IsFaultOf x failed (sections.Read f) = failed
+IsFaultOf x failed (sections.Write f) = failed
+IsFaultOf x failed sections.SourceChanged = ⊥
+IsFaultOf x failed (sections.Header f) = RefusedAs x (sections.Header f)
+IsFaultOf x failed (sections.Entry i) = RefusedAs x (sections.Entry i)
+IsFaultOf x failed sections.Name = ⊥
+IsFaultOf x failed sections.CommandLine = ⊥
+IsFaultOf x failed (sections.SectionTruncated s) = RefusedAs x (sections.SectionTruncated s)
+IsFaultOf x failed (sections.SectionTooLarge s) = ⊥
 
--- what a call is refused for that answered so, where it was not files that failed
-abbrev pub IsAnswerOf : {X : Type 0} → Result X SectionFault → BootCommandFault → Type 0
-IsAnswerOf (Ok x) (faults.Host f) = Unit {0}
-IsAnswerOf (Ok x) (faults.Section f) = ⊥
-IsAnswerOf (Ok x) (faults.OptionNotCarried name) = ⊥
-IsAnswerOf (Ok x) (faults.BadFragment word) = ⊥
-IsAnswerOf (Ok x) (faults.BadNumber word) = ⊥
-IsAnswerOf (Ok x) (faults.BadBoardId word) = ⊥
-IsAnswerOf (Ok x) faults.CheckFailed = ⊥
-IsAnswerOf (Err e) fault = fault ≡ faults.Section e
+-- such a fault; or one of files, of which one failed, or nothing but a line that could not be printed
+abbrev pub IsRefusalOf : List ℕ → Type 0 → Type 0 → BootCommandFault → Type 0
+IsRefusalOf x failed unprinted (faults.Host f) = failed ⊎ unprinted
+IsRefusalOf x failed unprinted (faults.Section f) = IsFaultOf x failed f
+IsRefusalOf x failed unprinted (faults.OptionNotCarried name) = ⊥
+IsRefusalOf x failed unprinted (faults.BadFragment word) = ⊥
+IsRefusalOf x failed unprinted (faults.BadNumber word) = ⊥
+IsRefusalOf x failed unprinted (faults.BadBoardId word) = ⊥
+IsRefusalOf x failed unprinted faults.CheckFailed = ⊥
+
+-- a refusal on the way
+pub record IsRefusedOver (x : List ℕ) (failed unprinted : Type 0) (fault : BootCommandFault) : Type 0 where
+  pub refuses : IsRefusalOf x failed unprinted fault
+
+-- the same of what the file at this path holds
+abbrev pub RefusesImage : List ℕ → World → Type 0 → Type 0 → BootCommandFault → Type 0
+RefusesImage path world failed unprinted (faults.Host f) = failed ⊎ unprinted
+RefusesImage path world failed unprinted (faults.Section f) =
+    (file : ℕ) × (world.at path ≡ Some file) × IsFaultOf (world.holds file) failed f
+RefusesImage path world failed unprinted (faults.OptionNotCarried name) = ⊥
+RefusesImage path world failed unprinted (faults.BadFragment word) = ⊥
+RefusesImage path world failed unprinted (faults.BadNumber word) = ⊥
+RefusesImage path world failed unprinted (faults.BadBoardId word) = ⊥
+RefusesImage path world failed unprinted faults.CheckFailed = ⊥
+
+-- what a call is refused for that answered so: its own fault, or else one of files, as above
+abbrev pub IsAnswerOf : {X : Type 0} → Result X SectionFault → Type 0 → Type 0 → BootCommandFault → Type 0
+IsAnswerOf (Ok x) failed unprinted (faults.Host f) = failed ⊎ unprinted
+IsAnswerOf (Ok x) failed unprinted (faults.Section f) = ⊥
+IsAnswerOf (Ok x) failed unprinted (faults.OptionNotCarried name) = ⊥
+IsAnswerOf (Ok x) failed unprinted (faults.BadFragment word) = ⊥
+IsAnswerOf (Ok x) failed unprinted (faults.BadNumber word) = ⊥
+IsAnswerOf (Ok x) failed unprinted (faults.BadBoardId word) = ⊥
+IsAnswerOf (Ok x) failed unprinted faults.CheckFailed = ⊥
+IsAnswerOf (Err e) failed unprinted fault = fault ≡ faults.Section e

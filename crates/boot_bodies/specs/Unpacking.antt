@@ -1,5 +1,6 @@
 -- What the command `unpack` leaves of files.
-use Rattle.std.specs.Prelude.{◌≡◌, ◌<◌, ℕ, Bool, IsTrue, List, Option, Some, None, length, codes, slice_index_or}
+use Rattle.std.specs.Prelude.{◌≡◌, ◌<◌, ℕ, ◌+◌, Bool, IsTrue, if◌then◌else◌, List, Option, Some, None, length, codes}
+use Rattle.std.specs.Prelude.{slice_index_or}
 use Rattle.abt_headers.specs.declared.sections.Place.{Place}
 use Rattle.abt_headers.specs.Places.{section_name}
 use Rattle.abt_sections.specs.Header.{Header, places_of, fragment_count, fragment_of}
@@ -11,6 +12,7 @@ use Rattle.boot_rules.specs.declared.part_names.Part.{Part}
 use Rattle.boot_rules.specs.declared.part_names.Part.TheVariants as parts
 use Rattle.boot_texts.specs.Words.{words_text, image_words}
 use Rattle.boot_bodies.specs.Among.{FileHolds, IsDone}
+use Rattle.boot_bodies.specs.Lines.{told_parts}
 
 -- the name of a part's file, and the number that stands behind it
 abbrev pub part_name : Part → List ℕ
@@ -81,12 +83,29 @@ abbrev pub WordsDone : List ℕ → Header → List ℕ → Held → World → T
 WordsDone folder h x held world =
     IsDone held world (path_of_part folder parts.Words) (words_text (image_words folder x h))
 
+-- so many outputs more were synced, where outputs are
+pub record SyncsMore (n : ℕ) (old new : Held) : Type 0 where
+  pub wanted : new.is_synced ≡ old.is_synced
+  pub added : new.syncs ≡ old.syncs + (if old.is_synced then n else 0)
+
+-- the first parts of an image x are in their files: one at least
+pub data PartsBegun (folder : List ℕ) (with_words : Bool) (h : Header) (x : List ℕ) (held : Held) (world : World)
+    : Type 0 where
+  up_to_section : (i : ℕ) → i < length (places_of h) → SectionsDone folder h x (i + 1) held world
+      → PartsBegun folder with_words h x held world
+  up_to_fragment : (i : ℕ) → i < fragment_count h → SectionsDone folder h x (length (places_of h)) held world
+      → FragmentsDone folder h x (i + 1) held world → PartsBegun folder with_words h x held world
+  up_to_words : IsTrue with_words → SectionsDone folder h x (length (places_of h)) held world
+      → FragmentsDone folder h x (fragment_count h) held world → WordsDone folder h x held world
+      → PartsBegun folder with_words h x held world
+
 -- ---- all of it
 
 -- The file at a path held a boot image or a vendor boot image. In the folder there is a file for each of its sections
 -- and one for each of its ramdisk fragments, under its name, which holds exactly its bytes, and, where they are wanted,
--- one that holds the words that pack it again.
-pub record Unpacks (input folder : List ℕ) (with_words : Bool) (old new : World) : Type 0 where
+-- one that holds the words that pack it again. A line was printed of each.
+pub record Unpacks (input folder : List ℕ) (with_words : Bool) (old new : World) (shows : List (List ℕ) → Type 0)
+    : Type 0 where
   pub from : ℕ
   pub there : old.at input ≡ Some from
   pub header : Header
@@ -97,3 +116,25 @@ pub record Unpacks (input folder : List ℕ) (with_words : Bool) (old new : Worl
       → FileHolds new (path_of_part folder (parts.Fragment i)) (fragment_of (old.holds from) header i)
   pub words : IsTrue with_words
       → FileHolds new (path_of_part folder parts.Words) (words_text (image_words folder (old.holds from) header))
+  pub shown : (bytes : ℕ) × shows (told_parts (old.holds from) header with_words bytes)
+
+-- how many parts an image has
+abbrev pub part_total : Bool → Header → ℕ
+part_total with_words h = length (places_of h) + fragment_count h + (if with_words then 1 else 0)
+
+-- each part of the image that the file at a path holds was synced, where outputs are
+pub record SyncsParts (input : List ℕ) (with_words : Bool) (world : World) (old new : Held) : Type 0 where
+  pub from : ℕ
+  pub there : world.at input ≡ Some from
+  pub header : Header
+  pub image : HasImage (world.holds from) header
+  pub syncs : SyncsMore (part_total with_words header) old new
+
+-- the first parts of it are in their files, where a line could not be printed
+pub record PartsStand (input folder : List ℕ) (with_words : Bool) (old : World) (held : Held) (new : World)
+    : Type 0 where
+  pub from : ℕ
+  pub there : old.at input ≡ Some from
+  pub header : Header
+  pub image : HasImage (old.holds from) header
+  pub begun : PartsBegun folder with_words header (old.holds from) held new

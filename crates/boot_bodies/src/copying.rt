@@ -1,8 +1,8 @@
 //! The bytes of a part, from the image to an output.
 
-ghost use Rattle.std.specs.Prelude.{◌≡◌, ◌<◌, ◌++◌, IsTrue, IfErr, OnOk, length, slice_index_or};
+ghost use Rattle.std.specs.Prelude.{◌≡◌, ◌<◌, ◌+◌, ◌++◌, IsTrue, IfOk, IfErr, OnOk, length, slice_index_or};
 ghost use Rattle.abt_headers.specs.declared.sections.Place.{Place};
-ghost use Rattle.abt_sections.specs.Header.{fragment_count, fragment_of, places_of, view_of};
+ghost use Rattle.abt_sections.specs.Header.{entry_of, fragment_count, fragment_of, places_of, view_of};
 ghost use Rattle.abt_sections.specs.Layout.{part_of};
 ghost use Rattle.abt_sections.specs.Open.{IsOpened};
 ghost use Rattle.boot_bodies.specs.Faults.{IsFaultOf};
@@ -28,8 +28,13 @@ pub(crate) fn copy_section<S: Source, O: Output>(
     ensures content { IsTrue S.tells → OnOk result (S.content source.new.device ≡ S.content source.old.device) }
     ensures written { (p : Place) → p ≡ slice_index_or (places_of (view_of image.now.header)) i p → IsTrue S.tells →
         OnOk result (O.written onto.new ≡ O.written onto.old ++ part_of (S.content source.old.device) p) }
+    ensures count { (p : Place) → p ≡ slice_index_or (places_of (view_of image.now.header)) i p →
+        IfOk result (λ bytes. bytes ≡ p.size) }
     ensures refused { IsTrue S.tells → IsOpened (S.content source.old.device) image.now →
-        IfErr result (IsFaultOf (S.content source.old.device)) }
+        IfErr result (IsFaultOf (S.content source.old.device) (S.read_faults source.old.device + O.write_faults onto.old
+        < S.read_faults source.new.device + O.write_faults onto.new)) }
+    ensures clean { OnOk result (S.read_faults source.new.device + O.write_faults onto.new
+        ≡ S.read_faults source.old.device + O.write_faults onto.old) }
 {
     source.progress = *progress;
     let answer = unpack(image, i, source, onto, w, m);
@@ -54,8 +59,13 @@ pub(crate) fn copy_fragment<S: Source, O: Output>(
     ensures content { IsTrue S.tells → OnOk result (S.content source.new.device ≡ S.content source.old.device) }
     ensures written { IsTrue S.tells → OnOk result (O.written onto.new ≡ O.written onto.old
         ++ fragment_of (S.content source.old.device) (view_of image.now.header) index) }
+    ensures count { IsTrue S.tells → IfOk result (λ bytes. bytes
+        ≡ (entry_of (S.content source.old.device) (view_of image.now.header) index).ramdisk_size) }
     ensures refused { IsTrue S.tells → IsOpened (S.content source.old.device) image.now →
-        IfErr result (IsFaultOf (S.content source.old.device)) }
+        IfErr result (IsFaultOf (S.content source.old.device) (S.read_faults source.old.device + O.write_faults onto.old
+        < S.read_faults source.new.device + O.write_faults onto.new)) }
+    ensures clean { OnOk result (S.read_faults source.new.device + O.write_faults onto.new
+        ≡ S.read_faults source.old.device + O.write_faults onto.old) }
 {
     let entry = match fragment(image, index, &mut source.device, w, m) {
         Ok(entry) => entry,
@@ -80,10 +90,14 @@ pub(crate) fn copy_words<S: Source, O: Output>(
     w: &mut Window,
     m: &mut Meter,
 ) -> (O, Result<u64, SectionFault>)
+    ensures content { IsTrue S.tells → OnOk result.1 (S.content source.new ≡ S.content source.old) }
     ensures written { IsTrue S.tells → OnOk result.1 (O.written result.0 ≡ O.written onto
         ++ words_text (image_words folder.now (S.content source.old) (view_of image.now.header))) }
     ensures refused { IsTrue S.tells → IsOpened (S.content source.old) image.now →
-        IfErr result.1 (IsFaultOf (S.content source.old)) }
+        IfErr result.1 (IsFaultOf (S.content source.old) (S.read_faults source.old + O.write_faults onto
+        < S.read_faults source.new + O.write_faults result.0)) }
+    ensures clean { OnOk result.1 (S.read_faults source.new + O.write_faults result.0
+        ≡ S.read_faults source.old + O.write_faults onto) }
 {
     let before = progress.done;
     let mut carried = Carried {

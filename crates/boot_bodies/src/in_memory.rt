@@ -2,17 +2,18 @@
 
 ghost use Rattle.std.specs.Prelude.{OnOk, IfErr};
 ghost use Rattle.abt_refusals.specs.Paths.{path_of};
-ghost use Rattle.abt_disk.specs.Memory.{held_of, world_of};
-ghost use Rattle.abt_disk.specs.World.{IsReading, KeepsFile};
+ghost use Rattle.memory_disk.specs.Memory.{held_of, world_of};
+ghost use Rattle.abt_disk.specs.World.{HasFailed, HasNotFailed, IsReading, KeepsFile};
 ghost use Rattle.boot_bodies.specs.Among.{OnlyAmong};
 ghost use Rattle.boot_bodies.specs.Faults.{RefusesImage};
-ghost use Rattle.boot_bodies.specs.Unpacking.{IsPartOf, Unpacks};
+ghost use Rattle.boot_bodies.specs.Lines.{ShowsEach};
+ghost use Rattle.boot_bodies.specs.Unpacking.{IsPartOf, PartsStand, SyncsParts, Unpacks};
 
 use crate::unpack::{BootOutcome, unpack_file};
-use abt_disk::MemoryDisk;
 use abt_io::{Meter, Window};
 use abt_output::Report;
 use abt_refusals::Place;
+use memory_disk::MemoryDisk;
 
 /// Takes an image apart that a disk in memory holds.
 pub fn unpack_in_memory<'t, 'a>(
@@ -26,11 +27,16 @@ pub fn unpack_in_memory<'t, 'a>(
 ) -> BootOutcome<'t, 'a>
     requires { IsReading (held_of disk.old) }
     ensures done { OnOk result (Unpacks (path_of input.entry) folder.now with_words (world_of disk.old)
-        (world_of disk.new)) }
+        (world_of disk.new) (λ lines. ShowsEach lines report.old report.new)) }
+    ensures synced { OnOk result (SyncsParts (path_of input.entry) with_words (world_of disk.old) (held_of disk.old)
+        (held_of disk.new)) }
+    ensures clean { OnOk result (HasNotFailed (held_of disk.old) (held_of disk.new)) }
     ensures only { OnlyAmong (IsPartOf (path_of input.entry) folder.now with_words (world_of disk.old))
         (held_of disk.old).read (held_of disk.new).begun (world_of disk.old) (world_of disk.new) }
     ensures input { KeepsFile (path_of input.entry) (world_of disk.old) (world_of disk.new) }
-    ensures refused { IfErr result (λ refusal. RefusesImage (path_of input.entry) (world_of disk.old) refusal.fault) }
+    ensures refused { IfErr result (λ refusal. RefusesImage (path_of input.entry) (world_of disk.old)
+        (HasFailed (held_of disk.old) (held_of disk.new)) (PartsStand (path_of input.entry) folder.now with_words
+        (world_of disk.old) (held_of disk.new) (world_of disk.new)) refusal.fault) }
 {
     unpack_file(disk, report, input, folder, with_words, w, m)
 }

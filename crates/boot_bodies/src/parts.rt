@@ -1,12 +1,13 @@
 //! All parts of an image, one after another.
 
-ghost use Rattle.std.specs.Prelude.{◌≡◌, None, IsTrue, IfErr, OnOk, length};
+ghost use Rattle.std.specs.Prelude.{◌≡◌, ◌<◌, ◌+◌, ℕ, None, IsTrue, IfErr, OnOk, length, map};
 ghost use Rattle.abt_sections.specs.Header.{fragment_count, places_of, view_of};
 ghost use Rattle.abt_sections.specs.Open.{IsOpened};
 ghost use Rattle.boot_bodies.specs.Among.{GoesAmong, KeepsDone};
-ghost use Rattle.boot_bodies.specs.Faults.{IsRefusalOf};
-ghost use Rattle.boot_bodies.specs.Unpacking.{FragmentsDone, IsFragmentPath, IsPartPath, IsSectionPath, SectionsDone};
-ghost use Rattle.boot_bodies.specs.Unpacking.{WordsDone};
+ghost use Rattle.boot_bodies.specs.Faults.{IsRefusedOver, NoMoreFailed, SomeFailed};
+ghost use Rattle.boot_bodies.specs.Lines.{ShowsEach, told_fragments, told_parts, told_section};
+ghost use Rattle.boot_bodies.specs.Unpacking.{FragmentsDone, IsFragmentPath, IsPartPath, IsSectionPath, PartsBegun};
+ghost use Rattle.boot_bodies.specs.Unpacking.{SectionsDone, SyncsMore, WordsDone, part_total};
 
 use crate::carried::Carried;
 use crate::unpack::BootOutcome;
@@ -31,15 +32,27 @@ pub(crate) fn write_parts<'t, 'a, D: Disk>(
 ) -> BootOutcome<'t, 'a>
     requires one { IsTrue D.tells → (D.held disk.old).output ≡ None }
     ensures sections { IsTrue D.tells → OnOk result (SectionsDone folder.now (view_of image.now.header)
-        (D.At.content source.old.device) (length (places_of (view_of image.now.header))) (D.held disk.new) (D.world disk.new)) }
+        (D.At.content source.old.device) (length (places_of (view_of image.now.header))) (D.held disk.new) (D.world
+        disk.new)) }
     ensures fragments { IsTrue D.tells → OnOk result (FragmentsDone folder.now (view_of image.now.header)
-        (D.At.content source.old.device) (fragment_count (view_of image.now.header)) (D.held disk.new) (D.world disk.new)) }
+        (D.At.content source.old.device) (fragment_count (view_of image.now.header)) (D.held disk.new) (D.world
+        disk.new)) }
     ensures words { IsTrue D.tells → IsTrue with_words → OnOk result (WordsDone folder.now (view_of image.now.header)
         (D.At.content source.old.device) (D.held disk.new) (D.world disk.new)) }
     ensures only { IsTrue D.tells → GoesAmong (IsPartPath folder.now with_words (view_of image.now.header))
         (D.held disk.old) (D.held disk.new) (D.world disk.old) (D.world disk.new) }
-    ensures refused { IsTrue D.tells → IsOpened (D.At.content source.old.device) image.now →
-        IfErr result (λ refusal. IsRefusalOf (D.At.content source.old.device) refusal.fault) }
+    ensures shown { IsTrue D.tells → OnOk result ((bytes : ℕ) × ShowsEach (told_parts (D.At.content source.old.device)
+        (view_of image.now.header) with_words bytes) report.old report.new) }
+    ensures synced { IsTrue D.tells → OnOk result (SyncsMore (part_total with_words (view_of image.now.header))
+        (D.held disk.old) (D.held disk.new)) }
+    ensures clean { IsTrue D.tells → OnOk result (NoMoreFailed (D.held disk.old) (D.At.read_faults source.old.device)
+        (D.held disk.new) (D.At.read_faults source.new.device)) }
+    ensures refused { IsTrue D.tells → IsOpened (D.At.content source.old.device) image.now → IfErr result (λ refusal.
+        IsRefusedOver (D.At.content source.old.device) (SomeFailed (D.held disk.old) (D.At.read_faults
+        source.old.device)
+        (D.held disk.new) (D.At.read_faults source.new.device)) (PartsBegun folder.now with_words (view_of
+        image.now.header)
+        (D.At.content source.old.device) (D.held disk.new) (D.world disk.new)) refusal.fault) }
 {
     match write_sections(disk, image, source, input, folder, report, w, m) {
         Ok(()) => {}
@@ -71,13 +84,25 @@ fn write_sections<'t, 'a, D: Disk>(
     requires one { IsTrue D.tells → (D.held disk.old).output ≡ None }
     ensures content { IsTrue D.tells → OnOk result (D.At.content source.new.device ≡ D.At.content source.old.device) }
     ensures done { IsTrue D.tells → OnOk result (SectionsDone folder.now (view_of image.now.header)
-        (D.At.content source.old.device) (length (places_of (view_of image.now.header))) (D.held disk.new) (D.world disk.new)) }
+        (D.At.content source.old.device) (length (places_of (view_of image.now.header))) (D.held disk.new) (D.world
+        disk.new)) }
     ensures keeps { IsTrue D.tells → OnOk result (KeepsDone (D.held disk.old) (D.held disk.new) (D.world disk.old)
         (D.world disk.new)) }
     ensures only { IsTrue D.tells → GoesAmong (IsSectionPath folder.now (view_of image.now.header)) (D.held disk.old)
         (D.held disk.new) (D.world disk.old) (D.world disk.new) }
-    ensures refused { IsTrue D.tells → IsOpened (D.At.content source.old.device) image.now →
-        IfErr result (λ refusal. IsRefusalOf (D.At.content source.old.device) refusal.fault) }
+    ensures shown { OnOk result (ShowsEach (map told_section (places_of (view_of image.now.header))) report.old
+        report.new) }
+    ensures synced { IsTrue D.tells → OnOk result (SyncsMore (length (places_of (view_of image.now.header)))
+        (D.held disk.old) (D.held disk.new)) }
+    ensures clean { IsTrue D.tells → OnOk result (NoMoreFailed (D.held disk.old) (D.At.read_faults source.old.device)
+        (D.held disk.new) (D.At.read_faults source.new.device)) }
+    ensures refused { IsTrue D.tells → IsOpened (D.At.content source.old.device) image.now → IfErr result (λ refusal.
+        IsRefusedOver (D.At.content source.old.device) (SomeFailed (D.held disk.old) (D.At.read_faults
+        source.old.device)
+        (D.held disk.new) (D.At.read_faults source.new.device)) ((i : ℕ) × (i < length (places_of (view_of
+        image.now.header)))
+        × SectionsDone folder.now (view_of image.now.header) (D.At.content source.old.device) (i + 1) (D.held disk.new)
+        (D.world disk.new)) refusal.fault) }
 {
     for i in 0..sections(image) {
         match write_section(disk, image, i, source, input, folder, report, w, m) {
@@ -101,13 +126,26 @@ fn write_fragments<'t, 'a, D: Disk>(
     requires one { IsTrue D.tells → (D.held disk.old).output ≡ None }
     ensures content { IsTrue D.tells → OnOk result (D.At.content source.new.device ≡ D.At.content source.old.device) }
     ensures done { IsTrue D.tells → OnOk result (FragmentsDone folder.now (view_of image.now.header)
-        (D.At.content source.old.device) (fragment_count (view_of image.now.header)) (D.held disk.new) (D.world disk.new)) }
+        (D.At.content source.old.device) (fragment_count (view_of image.now.header)) (D.held disk.new) (D.world
+        disk.new)) }
     ensures keeps { IsTrue D.tells → OnOk result (KeepsDone (D.held disk.old) (D.held disk.new) (D.world disk.old)
         (D.world disk.new)) }
     ensures only { IsTrue D.tells → GoesAmong (IsFragmentPath folder.now (view_of image.now.header)) (D.held disk.old)
         (D.held disk.new) (D.world disk.old) (D.world disk.new) }
-    ensures refused { IsTrue D.tells → IsOpened (D.At.content source.old.device) image.now →
-        IfErr result (λ refusal. IsRefusalOf (D.At.content source.old.device) refusal.fault) }
+    ensures shown { IsTrue D.tells → OnOk result (ShowsEach (told_fragments (D.At.content source.old.device)
+        (view_of image.now.header) (fragment_count (view_of image.now.header))) report.old report.new) }
+    ensures synced { IsTrue D.tells → OnOk result (SyncsMore (fragment_count (view_of image.now.header))
+        (D.held disk.old) (D.held disk.new)) }
+    ensures clean { IsTrue D.tells → OnOk result (NoMoreFailed (D.held disk.old) (D.At.read_faults source.old.device)
+        (D.held disk.new) (D.At.read_faults source.new.device)) }
+    ensures refused { IsTrue D.tells → IsOpened (D.At.content source.old.device) image.now → IfErr result (λ refusal.
+        IsRefusedOver (D.At.content source.old.device) (SomeFailed (D.held disk.old) (D.At.read_faults
+        source.old.device)
+        (D.held disk.new) (D.At.read_faults source.new.device)) ((i : ℕ) × (i < fragment_count (view_of
+        image.now.header))
+        × FragmentsDone folder.now (view_of image.now.header) (D.At.content source.old.device) (i + 1)
+        (D.held disk.new) (D.world disk.new) × KeepsDone (D.held disk.old) (D.held disk.new) (D.world disk.old)
+        (D.world disk.new)) refusal.fault) }
 {
     for i in 0..fragments(image) {
         match write_fragment(disk, image, i, source, input, folder, report, w, m) {

@@ -1,11 +1,12 @@
 //! The command `unpack`: the sections and ramdisk fragments of an image, each into a file of its own.
 
-ghost use Rattle.std.specs.Prelude.{◌≡◌, IsTrue, IfErr, OnOk};
+ghost use Rattle.std.specs.Prelude.{◌≡◌, IsTrue, IfErr, OnOk, is_ok};
 ghost use Rattle.abt_refusals.specs.Paths.{path_of};
-ghost use Rattle.abt_disk.specs.World.{IsReading, KeepsFile};
+ghost use Rattle.abt_disk.specs.World.{HasFailed, HasNotFailed, IsReading, KeepsFile, failing, unless};
 ghost use Rattle.boot_bodies.specs.Among.{OnlyAmong};
 ghost use Rattle.boot_bodies.specs.Faults.{RefusesImage};
-ghost use Rattle.boot_bodies.specs.Unpacking.{IsPartOf, Unpacks};
+ghost use Rattle.boot_bodies.specs.Lines.{ShowsEach};
+ghost use Rattle.boot_bodies.specs.Unpacking.{IsPartOf, PartsStand, SyncsParts, Unpacks};
 
 use crate::carried::Carried;
 use crate::names::place_of;
@@ -35,25 +36,39 @@ pub fn unpack_file<'t, 'a, D: Disk>(
     m: &mut Meter,
 ) -> BootOutcome<'t, 'a>
     requires first { IsTrue D.tells → IsReading (D.held disk.old) }
-    // each part of the image that IN holds stands in the folder under its name
+    // each part of the image that IN holds stands in the folder under its name; a line was printed of each
     ensures done { IsTrue D.tells → OnOk result (Unpacks (path_of input.entry) folder.now with_words (D.world disk.old)
-        (D.world disk.new)) }
+        (D.world disk.new) (λ lines. ShowsEach lines report.old report.new)) }
+    // each was synced, where that is wanted, and no call failed
+    ensures synced { IsTrue D.tells → OnOk result (SyncsParts (path_of input.entry) with_words (D.world disk.old)
+        (D.held disk.old) (D.held disk.new)) }
+    ensures clean { IsTrue D.tells → OnOk result (HasNotFailed (D.held disk.old) (D.held disk.new)) }
     // whatever the outcome, only such files were created or changed, and IN holds what it held
     ensures only { IsTrue D.tells → OnlyAmong (IsPartOf (path_of input.entry) folder.now with_words (D.world disk.old))
         (D.held disk.old).read (D.held disk.new).begun (D.world disk.old) (D.world disk.new) }
     ensures input { IsTrue D.tells → KeepsFile (path_of input.entry) (D.world disk.old) (D.world disk.new) }
-    // it is refused for a fault that IN has, or for one of files or devices
+    // it is refused for a fault that IN has, or since a call failed; or a part is written, whose line was not printed
     ensures refused { IsTrue D.tells → IfErr result (λ refusal. RefusesImage (path_of input.entry) (D.world disk.old)
-        refusal.fault) }
+        (HasFailed (D.held disk.old) (D.held disk.new)) (PartsStand (path_of input.entry) folder.now with_words
+        (D.world disk.old) (D.held disk.new) (D.world disk.new)) refusal.fault) }
 {
-    let mut device = disk.source(input)?;
+    let mut device = match disk.source(input) {
+        Ok(device) => device,
+        Err(refusal) => return Err(refusal.into()),
+    };
     let image = match open(&mut device, w, m) {
         Ok(image) => image,
-        Err(fault) => return Err(not_opened(input, fault)),
+        Err(fault) => {
+            disk.let_go_source(device);
+            return Err(not_opened(input, fault));
+        }
     };
     match refuse_taken(disk, &image, folder, with_words) {
         Ok(()) => {}
-        Err(refusal) => return Err(refusal.into()),
+        Err(refusal) => {
+            disk.let_go_source(device);
+            return Err(refusal.into());
+        }
     }
     let progress = report.progress;
     let mut source = Carried { device, progress };
@@ -68,8 +83,14 @@ pub fn unpack_file<'t, 'a, D: Disk>(
         w,
         m,
     ) {
-        Ok(()) => Ok(()),
-        Err(refusal) => Err(refusal),
+        Ok(()) => {
+            disk.let_go_source(source.device);
+            Ok(())
+        }
+        Err(refusal) => {
+            disk.let_go_source(source.device);
+            Err(refusal)
+        }
     }
 }
 
@@ -81,15 +102,21 @@ fn not_opened<'t, 'a>(input: Place<'t>, fault: SectionFault) -> Refusal<'t, Boot
     sides.refuse(BootCommandFault::Section(fault))
 }
 
-// IsRefusalOf to write where the image is one of the files.
+// Refuses to write where the image is one of the files.
 fn refuse_taken<'t, D: Disk>(
-    disk: &D,
+    disk: &mut D,
     image: &Image,
     folder: &'t str,
     with_words: bool,
-) -> Result<(), HostRefusal<'t>> {
+) -> Result<(), HostRefusal<'t>>
+    ensures held { IsTrue D.tells → D.held disk.new ≡ failing (unless (is_ok result)) (D.held disk.old) }
+    ensures world { IsTrue D.tells → D.world disk.new ≡ D.world disk.old }
+{
     for i in 0..part_count(image, with_words) {
-        disk.refuse_taken(place_of(part_of(image, i), folder))?;
+        match disk.refuse_taken(place_of(part_of(image, i), folder)) {
+            Ok(()) => {}
+            Err(refusal) => return Err(refusal),
+        }
     }
     Ok(())
 }

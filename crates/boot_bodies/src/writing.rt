@@ -1,12 +1,16 @@
 //! One part of an image, to a file of its own.
 
-ghost use Rattle.std.specs.Prelude.{◌≡◌, ◌<◌, None, Ok, Err, Bool, MatchResult, IsTrue, IsOk, IfErr, OnOk, length};
+ghost use Rattle.std.specs.Prelude.{◌≡◌, ◌<◌, ◌≤◌, ◌+◌, None, Ok, Err, Bool, ℕ, true, MatchResult, IsTrue, IsOk};
+ghost use Rattle.std.specs.Prelude.{IfOk, IfErr, OnOk, length};
 ghost use Rattle.abt_disk.specs.World.{Ends, SparesRest, ended};
-ghost use Rattle.abt_sections.specs.Header.{fragment_count, fragment_of, places_of, view_of};
+ghost use Rattle.abt_output.specs.Shows.{Shows};
+ghost use Rattle.abt_sections.specs.Header.{entry_of, fragment_count, fragment_of, places_of, view_of};
 ghost use Rattle.abt_sections.specs.Open.{IsOpened};
 ghost use Rattle.boot_bodies.specs.Among.{GoesAmong, IsDone, KeepsDone};
-ghost use Rattle.boot_bodies.specs.Faults.{IsAnswerOf, IsRefusalOf};
-ghost use Rattle.boot_bodies.specs.Unpacking.{IsFragmentPath, IsSectionPath, SectionDone, WordsDone, path_of_part};
+ghost use Rattle.boot_bodies.specs.Faults.{IsAnswerOf, IsRefusedOver, NoMoreFailed, SomeFailed};
+ghost use Rattle.boot_bodies.specs.Lines.{ShowsSection, told_part};
+ghost use Rattle.boot_bodies.specs.Unpacking.{IsFragmentPath, IsSectionPath, SectionDone, SyncsMore, WordsDone};
+ghost use Rattle.boot_bodies.specs.Unpacking.{path_of_part};
 ghost use Rattle.boot_rules.specs.declared.part_names.Part.TheVariants as parts;
 
 use crate::carried::Carried;
@@ -42,12 +46,24 @@ pub(crate) fn write_section<'t, 'a, D: Disk>(
         (D.world disk.new)) }
     ensures only { IsTrue D.tells → GoesAmong (IsSectionPath folder.now (view_of image.now.header)) (D.held disk.old)
         (D.held disk.new) (D.world disk.old) (D.world disk.new) }
-    ensures refused { IsTrue D.tells → IsOpened (D.At.content source.old.device) image.now →
-        IfErr result (λ refusal. IsRefusalOf (D.At.content source.old.device) refusal.fault) }
+    ensures shown { OnOk result (ShowsSection (view_of image.now.header) i report.old report.new) }
+    ensures synced { IsTrue D.tells → OnOk result (SyncsMore 1 (D.held disk.old) (D.held disk.new)) }
+    ensures clean { IsTrue D.tells → OnOk result (NoMoreFailed (D.held disk.old) (D.At.read_faults source.old.device)
+        (D.held disk.new) (D.At.read_faults source.new.device)) }
+    ensures refused { IsTrue D.tells → IsOpened (D.At.content source.old.device) image.now → IfErr result (λ refusal.
+        IsRefusedOver (D.At.content source.old.device) (SomeFailed (D.held disk.old) (D.At.read_faults
+        source.old.device)
+        (D.held disk.new) (D.At.read_faults source.new.device)) (SectionDone folder.now (view_of image.now.header)
+        (D.At.content source.old.device) i (D.held disk.new) (D.world disk.new) × KeepsDone (D.held disk.old) (D.held
+        disk.new)
+        (D.world disk.old) (D.world disk.new)) refusal.fault) }
 {
     let part = Part::Section(section(image, i).kind);
     let place = place_of(part, folder);
-    let mut onto = disk.plain(place)?;
+    let mut onto = match disk.plain(place) {
+        Ok(onto) => onto,
+        Err(refusal) => return Err(refusal.into()),
+    };
     let answer = copy_section(image, i, source, &mut onto, &mut report.progress, w, m);
     match finish(disk, answer, onto, place, input, part, report) {
         Ok(()) => Ok(()),
@@ -77,12 +93,25 @@ pub(crate) fn write_fragment<'t, 'a, D: Disk>(
         (D.world disk.new)) }
     ensures only { IsTrue D.tells → GoesAmong (IsFragmentPath folder.now (view_of image.now.header)) (D.held disk.old)
         (D.held disk.new) (D.world disk.old) (D.world disk.new) }
-    ensures refused { IsTrue D.tells → IsOpened (D.At.content source.old.device) image.now →
-        IfErr result (λ refusal. IsRefusalOf (D.At.content source.old.device) refusal.fault) }
+    ensures shown { IsTrue D.tells → OnOk result (Shows report.old report.new (told_part (parts.Fragment index)
+        (entry_of (D.At.content source.old.device) (view_of image.now.header) index).ramdisk_size)) }
+    ensures synced { IsTrue D.tells → OnOk result (SyncsMore 1 (D.held disk.old) (D.held disk.new)) }
+    ensures clean { IsTrue D.tells → OnOk result (NoMoreFailed (D.held disk.old) (D.At.read_faults source.old.device)
+        (D.held disk.new) (D.At.read_faults source.new.device)) }
+    ensures refused { IsTrue D.tells → IsOpened (D.At.content source.old.device) image.now → IfErr result (λ refusal.
+        IsRefusedOver (D.At.content source.old.device) (SomeFailed (D.held disk.old) (D.At.read_faults
+        source.old.device)
+        (D.held disk.new) (D.At.read_faults source.new.device)) (IsDone (D.held disk.new) (D.world disk.new)
+        (path_of_part folder.now (parts.Fragment index)) (fragment_of (D.At.content source.old.device)
+        (view_of image.now.header) index) × KeepsDone (D.held disk.old) (D.held disk.new)
+        (D.world disk.old) (D.world disk.new)) refusal.fault) }
 {
     let part = Part::Fragment(index);
     let place = place_of(part, folder);
-    let mut onto = disk.plain(place)?;
+    let mut onto = match disk.plain(place) {
+        Ok(onto) => onto,
+        Err(refusal) => return Err(refusal.into()),
+    };
     let answer = copy_fragment(image, index, source, &mut onto, &mut report.progress, w, m);
     match finish(disk, answer, onto, place, input, part, report) {
         Ok(()) => Ok(()),
@@ -102,17 +131,30 @@ pub(crate) fn write_pack_words<'t, 'a, D: Disk>(
     m: &mut Meter,
 ) -> BootOutcome<'t, 'a>
     requires one { IsTrue D.tells → (D.held disk.old).output ≡ None }
+    ensures content { IsTrue D.tells → OnOk result (D.At.content source.new.device ≡ D.At.content source.old.device) }
     ensures done { IsTrue D.tells → OnOk result (WordsDone folder.now (view_of image.now.header)
         (D.At.content source.old.device) (D.held disk.new) (D.world disk.new)) }
     ensures keeps { IsTrue D.tells → OnOk result (KeepsDone (D.held disk.old) (D.held disk.new) (D.world disk.old)
         (D.world disk.new)) }
     ensures only { IsTrue D.tells → GoesAmong (λ path. path ≡ path_of_part folder.now parts.Words)
         (D.held disk.old) (D.held disk.new) (D.world disk.old) (D.world disk.new) }
-    ensures refused { IsTrue D.tells → IsOpened (D.At.content source.old.device) image.now →
-        IfErr result (λ refusal. IsRefusalOf (D.At.content source.old.device) refusal.fault) }
+    ensures shown { OnOk result ((bytes : ℕ) × Shows report.old report.new (told_part parts.Words bytes)) }
+    ensures synced { IsTrue D.tells → OnOk result (SyncsMore 1 (D.held disk.old) (D.held disk.new)) }
+    ensures clean { IsTrue D.tells → OnOk result (NoMoreFailed (D.held disk.old) (D.At.read_faults source.old.device)
+        (D.held disk.new) (D.At.read_faults source.new.device)) }
+    ensures refused { IsTrue D.tells → IsOpened (D.At.content source.old.device) image.now → IfErr result (λ refusal.
+        IsRefusedOver (D.At.content source.old.device) (SomeFailed (D.held disk.old) (D.At.read_faults
+        source.old.device)
+        (D.held disk.new) (D.At.read_faults source.new.device)) (WordsDone folder.now (view_of image.now.header)
+        (D.At.content source.old.device) (D.held disk.new) (D.world disk.new) × KeepsDone (D.held disk.old) (D.held
+        disk.new)
+        (D.world disk.old) (D.world disk.new)) refusal.fault) }
 {
     let place = place_of(Part::Words, folder);
-    let onto = disk.plain(place)?;
+    let onto = match disk.plain(place) {
+        Ok(onto) => onto,
+        Err(refusal) => return Err(refusal.into()),
+    };
     let progress = &mut report.progress;
     let (onto, answer) = copy_words(image, folder, &mut source.device, onto, progress, w, m);
     match finish(disk, answer, onto, place, input, Part::Words, report) {
@@ -134,17 +176,25 @@ fn finish<'t, 'a, D: Disk>(
     ensures done { OnOk result (IsOk answer) }
     ensures ended { IsTrue D.tells → OnOk result (Ends (D.held disk.old).output (D.Onto.written onto)
         (D.world disk.old) (D.world disk.new)) }
-    ensures closed { IsTrue D.tells → (b : Bool) × (D.held disk.new ≡ ended b (D.held disk.old)) }
+    ensures closed { IsTrue D.tells → (b : Bool) × (n : ℕ) × (D.held disk.new ≡ ended b n (D.held disk.old)) }
+    ensures clean { IsTrue D.tells → OnOk result (D.held disk.new
+        ≡ ended true (D.Onto.write_faults onto) (D.held disk.old)) }
+    ensures counts { IsTrue D.tells → (D.held disk.old).failed + D.Onto.write_faults onto ≤ (D.held disk.new).failed }
     ensures rest { IsTrue D.tells → SparesRest (D.held disk.old).output (D.world disk.old) (D.world disk.new) }
-    ensures told { IfErr result (λ refusal. IsAnswerOf answer refusal.fault) }
+    ensures shown { OnOk result (IfOk answer (λ bytes. Shows report.old report.new (told_part part bytes))) }
+    ensures told { IsTrue D.tells → IfErr result (λ refusal. IsAnswerOf answer
+        ((D.held disk.old).failed + D.Onto.write_faults onto < (D.held disk.new).failed)
+        (Ends (D.held disk.old).output (D.Onto.written onto) (D.world disk.old) (D.world disk.new)) refusal.fault) }
 {
     let sides = Sides::none().reading(input, None);
     let (bytes, is_on_output) = match ended(disk, of_answer(answer), onto, place, sides) {
         Ok(end) => end,
         Err(refusal) => return Err(refusal),
     };
-    report.line_beside(is_on_output, PartLine { part, bytes })?;
-    Ok(())
+    match report.line_beside(is_on_output, PartLine { part, bytes }) {
+        Ok(()) => Ok(()),
+        Err(refusal) => Err(refusal.into()),
+    }
 }
 
 // The fault of a section as one of a command.

@@ -1,16 +1,17 @@
 //! Which command over boot images it is.
 
-use crate::info::info_file;
 use crate::pack::pack_file;
 use crate::pack_order::command_of;
 use crate::repack::repack_file;
-use abt_host::{Host, Reading};
+use abt_host::Reading;
 use abt_io::{Meter, Window};
 use abt_output::Report;
 use abt_refusals::Place;
 use abt_words::BootTask;
 use boot_bodies::{BootOutcome, unpack_file};
 use boot_rules::PackCommand;
+use host_disk::Host;
+use info_bodies::info_file;
 use std::alloc::{AllocError, Global};
 
 /// A command over boot images, whose words are read.
@@ -79,8 +80,14 @@ pub fn boot_command<'t, 'a>(
     m: &mut Meter,
 ) -> BootOutcome<'t, 'a> {
     match &command.kind {
-        Kind::Pack(command) => pack_file(reading, report, command, w, m),
-        Kind::Repack { input, command } => repack_file(reading, report, input, command, w, m),
+        Kind::Pack(command) => {
+            let mut disk = Host::new(reading);
+            pack_file(&mut disk, report, command, w, m)
+        }
+        Kind::Repack { input, command } => {
+            let mut disk = Host::new(reading);
+            repack_file(&mut disk, report, input, command, w, m)
+        }
         Kind::Unpack {
             input,
             folder,
@@ -101,6 +108,10 @@ pub fn boot_command<'t, 'a>(
             input,
             with_check,
             with_hex,
-        } => info_file(reading, report, input, *with_check, *with_hex, w, m),
+        } => {
+            let mut disk = Host::new(reading);
+            let place = Place::new("IN", input);
+            info_file(&mut disk, report, place, *with_check, *with_hex, w, m)
+        }
     }
 }

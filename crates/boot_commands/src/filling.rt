@@ -4,21 +4,23 @@ ghost use Rattle.std.specs.Prelude.{◌≡◌, length};
 ghost use Rattle.boot_fields.specs.Kind.{version_of};
 ghost use Rattle.boot_rules.specs.Parts.{row_count};
 
+use crate::contents::Contents;
 use crate::parts::is_empty;
 use crate::ramdisks::Ramdisks;
 use abt_headers::Section;
 use abt_sections::BootSpec;
 use boot_fields::ImageKind;
-use boot_rules::{Contents, PackTexts, PartSource, counts_ramdisk, counts_second};
+use boot_rules::{PackTexts, PartSource, counts_ramdisk, counts_second};
+use host_disk::HostSource;
 
 /// An image of this kind, with these fields and parts, and what stands behind it.
 pub(crate) fn filled<'f, 't>(
     kind: ImageKind,
     fields: BootSpec<'f>,
     texts: &PackTexts<'_>,
-    parts: Vec<PartSource<'t>>,
+    parts: Vec<PartSource<'t, HostSource>>,
     ramdisks: Ramdisks<'t>,
-    trailing: PartSource<'t>,
+    trailing: PartSource<'t, HostSource>,
 ) -> Contents<'f, 't>
     requires versioned { fields.version ≡ version_of kind }
     requires counted { length parts.items ≡ row_count kind }
@@ -41,7 +43,7 @@ fn without_empty<'t>(
     fields: BootSpec<'t>,
     kind: ImageKind,
     texts: &PackTexts<'_>,
-    parts: &[PartSource<'_>],
+    parts: &[PartSource<'_, HostSource>],
 ) -> BootSpec<'t>
     ensures { result.version ≡ fields.entry.version }
 {

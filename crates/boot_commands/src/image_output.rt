@@ -1,72 +1,156 @@
 //! Writing an image that is packed, and what stands behind it.
 
-ghost use Rattle.std.specs.Prelude.{◌≡◌, IsTrue, MatchResult};
-ghost use Rattle.abt_sections.specs.Refusal.{IfRefused};
+ghost use Rattle.std.specs.Prelude.{◌≡◌, [], None, IsTrue, IfErr, OnOk, map};
+ghost use Rattle.abt_disk.specs.Images.{OfImage};
 ghost use Rattle.boot_rules.specs.Parts.{IsBoot};
-ghost use Rattle.boot_rules.specs.Refused.{refusal_of};
+ghost use Rattle.boot_rules.specs.Refused.{IsJudged, refusal_of};
 
+use crate::contents::Contents;
 use crate::lines::ImageLine;
-use abt_host::{Reading, Watched};
-use abt_io::{CopyFault, Meter, Output, Overwrite, Window, copy_range};
-use abt_output::{Finished, ImageOutput, Report, ended, ended_file, ended_front};
-use abt_refusals::{Place, Refusal, Sides};
-use abt_sections::{SectionFault, pack_boot, pack_boot_once};
+use abt_disk::{Disk, ImageTo, Reasons, ended};
+use abt_io::{CopyFault, FrontLast, Meter, Output, Overwrite, Window, copy_range};
+use abt_output::{ImageFile, OutputFile, Report, Watched};
+use abt_refusals::{HostFault, HostRefusal, Place, Refusal, Sides};
+use abt_sections::{SectionFault, pack_boot_once};
 use boot_bodies::BootOutcome;
 use boot_fields::ImageKind;
-use boot_rules::{BootCommandFault, Contents, PartSource, judge, pack_vendor_parts};
+use boot_rules::{BootCommandFault, PartSource, judge, pack_image};
+use host_disk::{Host, HostSource};
+use std::alloc::Global;
 
 /// Writes an image to a file, which is created or emptied, and prints how many bytes it has. `-` is standard output.
 ///
 /// What packing refuses of the fields and of the parts' sizes is refused before the file is opened.
 pub(crate) fn write_image<'t, 'a>(
-    reading: Reading,
+    disk: &mut Host,
     report: &mut Report,
+    alloc: Global,
     contents: Contents<'_, 't>,
     path: &'t str,
     w: &mut Window,
     m: &mut Meter,
 ) -> BootOutcome<'t, 'a>
-    ensures { IfRefused (refusal_of contents.entry.kind contents.entry.fields contents.entry.parts.items
-        contents.entry.sources.items)
-        (λ fault. MatchResult result (λ _. ⊥) (λ refusal. refusal.fault ≡ BootCommandFault.Section fault)) }
+    ensures accepted { OnOk result (refusal_of contents.entry.kind contents.entry.fields
+        (map (λ p. p.size) contents.entry.parts.items) (map (λ p. p.size) contents.entry.sources.items) ≡ None) }
 {
-    let mut contents = contents;
-    if let Err(fault) = judge(&mut contents, w, m) {
-        return Err(sides_of(&contents).refuse(BootCommandFault::Section(fault)));
+    match judged(alloc, &contents, w, m) {
+        Ok(()) => {}
+        Err(fault) => return Err(sides_of(&contents).refuse(fault)),
     }
     report.progress.expect(bytes_of(&contents), 1);
     let output = Place::new("OUT", path);
-    let image = reading.all_open().image(output)?;
-    let (bytes, finished) = write_to(image, output, report, &mut contents, w, m)?;
-    report.line_of(finished, ImageLine(bytes))?;
-    Ok(())
+    let image = match disk.image(output, false) {
+        Ok(image) => image,
+        Err(refusal) => return Err(refusal.into()),
+    };
+    let (bytes, is_on_output) = match write_to(disk, image, output, report, contents, w, m) {
+        Ok(end) => end,
+        Err(refusal) => return Err(refusal),
+    };
+    match report.line_beside(is_on_output, ImageLine(bytes)) {
+        Ok(()) => Ok(()),
+        Err(refusal) => Err(refusal.into()),
+    }
+}
+
+// What packing refuses of an image.
+fn judged<'a>(
+    alloc: Global,
+    contents: &Contents<'_, '_>,
+    w: &mut Window,
+    m: &mut Meter,
+) -> Result<(), BootCommandFault<'a>>
+    ensures accepted { OnOk result (refusal_of contents.now.kind contents.now.fields
+        (map (λ p. p.size) contents.now.parts.items) (map (λ p. p.size) contents.now.sources.items) ≡ None) }
+    ensures refused { IfErr result (IsJudged (refusal_of contents.now.kind contents.now.fields
+        (map (λ p. p.size) contents.now.parts.items) (map (λ p. p.size) contents.now.sources.items))) }
+{
+    let fields = &contents.fields;
+    let parts = contents.parts.as_slice();
+    let specs = contents.specs.as_slice();
+    let sources = contents.sources.as_slice();
+    match judge(alloc, contents.kind, fields, parts, specs, sources, w, m) {
+        Ok(None) => Ok(()),
+        Ok(Some(fault)) => Err(BootCommandFault::Section(fault)),
+        Err(_) => Err(BootCommandFault::Host(HostFault::Memory)),
+    }
 }
 
 // A boot image with nothing behind it is packed in one pass over its parts. In all others the magic is laid last.
 fn write_to<'t, 'a>(
-    image: ImageOutput,
+    disk: &mut Host,
+    image: ImageTo<ImageFile, OutputFile>,
     output: Place<'t>,
     report: &mut Report,
-    contents: &mut Contents<'_, 't>,
+    contents: Contents<'_, 't>,
     w: &mut Window,
     m: &mut Meter,
-) -> Result<(u64, Finished), Refusal<'t, BootCommandFault<'a>>> {
+) -> Result<(u64, bool), Refusal<'t, BootCommandFault<'a>>>
+    requires { OfImage (λ file. ⟦<ImageFile as Output>⟧.written file ≡ []) (λ onto. ⟦<OutputFile as Output>⟧.written onto
+        ≡ []) image }
+{
+    let mut contents = contents;
     match image {
-        ImageOutput::Stream(mut stream) => {
-            let answer = pack_contents(contents, &mut stream.to, report, w, m);
+        ImageTo::Stream(mut stream) => {
+            let answer = pack_contents(&mut contents, &mut stream, report, w, m);
             let answer = BootCommandFault::of_bytes(answer);
-            ended(answer, stream, output, sides_of(contents))
+            ended(disk, answer, stream, output, sides_of(&contents))
         }
-        ImageOutput::File(front) if is_read_once(contents) => {
-            let mut file = front.output;
-            let answer = pack_once(contents, &mut file, report, w, m);
-            let answer = BootCommandFault::of_bytes(answer);
-            ended_file(answer, file, output, sides_of(contents))
+        ImageTo::File(mut file) => {
+            if is_read_once(&contents) {
+                let answer = pack_once(&mut contents, &mut file, report, w, m);
+                ended_file(disk, answer, file, output, sides_of(&contents))
+            } else {
+                let mut front = FrontLast::new(file);
+                let answer = pack_contents(&mut contents, &mut front, report, w, m);
+                ended_front(disk, answer, front, output, sides_of(&contents), m)
+            }
         }
-        ImageOutput::File(mut front) => {
-            let answer = pack_contents(contents, &mut front, report, w, m);
-            let answer = BootCommandFault::of_bytes(answer);
-            ended_front(answer, front, output, sides_of(contents), m)
+    }
+}
+
+// What a call answered that wrote a file over, once that is at its end.
+fn ended_file<'t, 'a>(
+    disk: &mut Host,
+    answer: Result<u64, SectionFault>,
+    file: ImageFile,
+    output: Place<'t>,
+    sides: Sides<'t>,
+) -> Result<(u64, bool), Refusal<'t, BootCommandFault<'a>>> {
+    match answer {
+        Ok(bytes) => match disk.finish_image(file, output) {
+            Ok(is_on_output) => Ok((bytes, is_on_output)),
+            Err(refusal) => Err(refusal.into()),
+        },
+        Err(fault) => {
+            let sides = sides.begun(output, file.why());
+            disk.give_up_image(file);
+            Err(sides.refuse(BootCommandFault::Section(fault)))
+        }
+    }
+}
+
+// The same of a file whose magic is laid last.
+fn ended_front<'t, 'a>(
+    disk: &mut Host,
+    answer: Result<u64, SectionFault>,
+    front: FrontLast<ImageFile>,
+    output: Place<'t>,
+    sides: Sides<'t>,
+    m: &mut Meter,
+) -> Result<(u64, bool), Refusal<'t, BootCommandFault<'a>>> {
+    let mut front = front;
+    let bytes = match answer {
+        Ok(bytes) => bytes,
+        Err(fault) => return ended_file(disk, Err(fault), front.output, output, sides),
+    };
+    match front.finish(m) {
+        Ok(()) => ended_file(disk, Ok(bytes), front.output, output, sides),
+        Err(_) => {
+            let file = front.output;
+            let refused = HostRefusal::at(HostFault::Write, output, file.why()).begun(output);
+            disk.give_up_image(file);
+            Err(refused.into())
         }
     }
 }
@@ -109,17 +193,23 @@ fn pack_parts<O: Output>(
     w: &mut Window,
     m: &mut Meter,
 ) -> Result<u64, SectionFault> {
-    let packed = match contents.kind {
-        ImageKind::Boot(_) => {
-            let parts = contents.parts.as_mut_slice();
-            pack_boot(&contents.fields, parts, output, w, m)
-        }
-        ImageKind::Vendor(_) => pack_vendor_parts(contents, output, w, m),
-    };
-    match packed {
-        Ok(packed) => Ok(packed.bytes),
-        Err(fault) => Err(fault),
-    }
+    let parts = contents.parts.as_mut_slice();
+    let specs = contents.specs.as_slice();
+    let sources = contents.sources.as_mut_slice();
+    let mut nothing = PartSource::empty();
+    let fields = &contents.fields;
+    let kind = contents.kind;
+    pack_image(
+        kind,
+        fields,
+        parts,
+        specs,
+        sources,
+        &mut nothing,
+        output,
+        w,
+        m,
+    )
 }
 
 fn copy_behind<O: Output>(
@@ -146,7 +236,7 @@ fn bytes_of(contents: &Contents<'_, '_>) -> u64 {
         .saturating_add(contents.trailing.size)
 }
 
-fn sum_of(parts: &[PartSource<'_>]) -> u64 {
+fn sum_of(parts: &[PartSource<'_, HostSource>]) -> u64 {
     let mut bytes = 0u64;
     for part in parts {
         bytes = bytes.saturating_add(part.size);
@@ -176,7 +266,7 @@ fn sides_of<'t>(contents: &Contents<'_, 't>) -> Sides<'t> {
 }
 
 // The file of the first part whose reading failed.
-fn place_at_fault<'t>(parts: &[PartSource<'t>]) -> Option<Place<'t>> {
+fn place_at_fault<'t>(parts: &[PartSource<'t, HostSource>]) -> Option<Place<'t>> {
     for part in parts {
         if part.is_at_fault() && part.place.is_some() {
             return part.place;

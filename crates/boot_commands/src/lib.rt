@@ -6,18 +6,18 @@
 //! | file | has |
 //! |---|---|
 //! | `command.rt` | which command it is |
-//! | `info.rt`, `pack.rt`, `repack.rt` | the command of that name; the body of `unpack` stands in `boot_bodies` |
+//! | `pack.rt`, `repack.rt` | the command of that name; the others have bodies in `boot_bodies` and `info_bodies` |
 //! | `pack_order.rt` | what these two are told, as bytes |
 //! | `own.rt`, `own_fields.rt` | an image that is read, and the fields that it has |
 //! | `parts.rt`, `ramdisks.rt` | the parts and ramdisk fragments of one that is packed, each open to be read |
-//! | `filling.rt`, `image_output.rt` | all that it is written from, and writing it |
+//! | `contents.rt`, `filling.rt`, `image_output.rt` | all that it is written from, and writing it |
 //! | `lines.rt` | what is printed of what was done |
 #![tactic(auto)]
 
 mod command;
+mod contents;
 mod filling;
 mod image_output;
-mod info;
 mod lines;
 mod own;
 mod own_fields;

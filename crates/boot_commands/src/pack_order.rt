@@ -24,6 +24,7 @@ pub(crate) fn command_of<'a>(
     } = order;
     let texts = texts_of(alloc, &given, fragments.as_slice(), is_escaped)?;
     Ok(PackCommand {
+        alloc,
         output,
         is_vendor,
         version,

@@ -4,11 +4,13 @@ ghost use Rattle.std.specs.Prelude.{◌≡◌, length, IfOk};
 ghost use Rattle.boot_rules.specs.Parts.{row_count};
 
 use crate::own::{Own, own_part};
+use abt_disk::Disk;
 use abt_headers::Section;
-use abt_host::Reading;
 use abt_refusals::{HostFault, HostRefusal, Place};
 use boot_fields::ImageKind;
 use boot_rules::{PackTexts, PartSource};
+use host_disk::{Host, HostSource};
+use std::alloc::Global;
 
 /// A part: the option that gives it, and the section that it fills.
 pub(crate) struct PartRow {
@@ -80,7 +82,11 @@ pub(crate) fn rows_of(kind: ImageKind) -> &'static [PartRow]
 }
 
 /// Whether an image of this kind has no such part, or an empty one.
-pub(crate) fn is_empty(kind: ImageKind, parts: &[PartSource<'_>], section: Section) -> bool {
+pub(crate) fn is_empty(
+    kind: ImageKind,
+    parts: &[PartSource<'_, HostSource>],
+    section: Section,
+) -> bool {
     for (row, part) in rows_of(kind).iter().zip(parts.iter()) {
         if row.section == section {
             return part.size == 0;
@@ -91,18 +97,19 @@ pub(crate) fn is_empty(kind: ImageKind, parts: &[PartSource<'_>], section: Secti
 
 /// Opens the parts of an image of this kind: each is the file that was given, or else the image's own, or empty.
 pub(crate) fn open_parts<'t>(
-    reading: &mut Reading,
+    disk: &mut Host,
+    alloc: Global,
     kind: ImageKind,
     texts: &'t PackTexts<'_>,
     own: Option<&Own<'t>>,
-) -> Result<Vec<PartSource<'t>>, HostRefusal<'t>>
+) -> Result<Vec<PartSource<'t, HostSource>>, HostRefusal<'t>>
     ensures { IfOk result (λ parts. length parts.items ≡ row_count kind) }
 {
-    let mut parts = Vec::new(reading.alloc);
+    let mut parts = Vec::new(alloc);
     for row in rows_of(kind) {
         let part = match texts.find(row.option) {
-            Some(option) => open_file(reading, row.option, &*option.word, option.bytes.as_slice())?,
-            None => own_part(reading, own, row.section)?,
+            Some(option) => open_file(disk, row.option, &*option.word, option.bytes.as_slice())?,
+            None => own_part(disk, own, row.section)?,
         };
         if parts.push(part).is_err() {
             return Err(HostRefusal::memory());
@@ -113,15 +120,15 @@ pub(crate) fn open_parts<'t>(
 
 /// Opens a file whose path is these bytes, which a word writes.
 pub(crate) fn open_file<'t>(
-    reading: &mut Reading,
+    disk: &mut Host,
     role: &'static str,
     word: &'t str,
     path: &'t [u8],
-) -> Result<PartSource<'t>, HostRefusal<'t>> {
+) -> Result<PartSource<'t, HostSource>, HostRefusal<'t>> {
     match str::from_utf8(path) {
         Ok(path) => {
             let place = Place::new(role, path);
-            Ok(PartSource::whole(reading.source(place)?, place))
+            Ok(PartSource::whole(disk.source(place)?, place))
         }
         Err(_) => Err(HostRefusal::at(HostFault::CannotOpen, Place::new(role, word), None)),
     }

@@ -5,19 +5,19 @@ ghost use Rattle.std.specs.Prelude.{◌≡◌, length};
 use crate::own::Own;
 use crate::parts::open_file;
 use abt_headers::{RamdiskEntry, Section};
-use abt_host::Reading;
 use abt_io::{Meter, Window};
 use abt_refusals::{HostFault, HostRefusal, Refusal};
 use abt_sections::{FragmentSpec, fragment, fragments};
 use boot_findings::place_of;
 use boot_rules::{BootCommandFault, FragmentText, PackTexts, PartSource, set_board_ids};
+use host_disk::{Host, HostSource};
 use std::alloc::Global;
 
 /// The fragments of a vendor ramdisk, each with what it is read from.
 #[derive(Drop)]
 pub(crate) struct Ramdisks<'a> {
     pub specs: Vec<FragmentSpec>,
-    pub sources: Vec<PartSource<'a>>,
+    pub sources: Vec<PartSource<'a, HostSource>>,
     ghost paired: { length specs.items ≡ length sources.items },
 }
 
@@ -32,25 +32,27 @@ impl<'a> Ramdisks<'a> {
 
     /// Opens the files that were given, in order.
     pub(crate) fn open(
-        reading: &mut Reading,
+        disk: &mut Host,
+        alloc: Global,
         texts: &'a PackTexts<'_>,
     ) -> Result<Ramdisks<'a>, HostRefusal<'a>> {
-        let mut ramdisks = Ramdisks::new(reading.alloc);
+        let mut ramdisks = Ramdisks::new(alloc);
         for fragment in &texts.fragments {
-            ramdisks = ramdisks.with_file(reading, fragment)?;
+            ramdisks = ramdisks.with_file(disk, fragment)?;
         }
         Ok(ramdisks)
     }
 
     /// Those of an image, of which these are the entries of its table.
     pub(crate) fn of_image(
-        reading: &Reading,
+        disk: &mut Host,
+        alloc: Global,
         own: &Own<'a>,
         entries: &[RamdiskEntry],
     ) -> Result<Ramdisks<'a>, HostRefusal<'a>> {
-        let ramdisks = Ramdisks::new(reading.alloc);
+        let ramdisks = Ramdisks::new(alloc);
         match place_of(&own.image, Section::VendorRamdisk) {
-            Some(place) => ramdisks.with_entries(reading, own, place.at, entries),
+            Some(place) => ramdisks.with_entries(disk, own, place.at, entries),
             None => Ok(ramdisks),
         }
     }
@@ -58,14 +60,14 @@ impl<'a> Ramdisks<'a> {
     // These and those of an image whose vendor ramdisk begins here.
     fn with_entries(
         self,
-        reading: &Reading,
+        disk: &mut Host,
         own: &Own<'a>,
         front: u64,
         entries: &[RamdiskEntry],
     ) -> Result<Ramdisks<'a>, HostRefusal<'a>> {
         let mut ramdisks = self;
         for entry in entries {
-            ramdisks = ramdisks.with_entry(reading, own, front, entry)?;
+            ramdisks = ramdisks.with_entry(disk, own, front, entry)?;
         }
         Ok(ramdisks)
     }
@@ -73,27 +75,27 @@ impl<'a> Ramdisks<'a> {
     // These and the one of an entry.
     fn with_entry(
         self,
-        reading: &Reading,
+        disk: &mut Host,
         own: &Own<'a>,
         front: u64,
         entry: &RamdiskEntry,
     ) -> Result<Ramdisks<'a>, HostRefusal<'a>> {
         let at = front.saturating_add(entry.ramdisk_offset as u64);
-        let source = own.part(reading, at, entry.ramdisk_size as u64)?;
+        let source = own.part(disk, at, entry.ramdisk_size as u64)?;
         self.with(spec_of(entry), source)
     }
 
     // These and one that was given.
     fn with_file(
         self,
-        reading: &mut Reading,
+        disk: &mut Host,
         fragment: &'a FragmentText<'_>,
     ) -> Result<Ramdisks<'a>, HostRefusal<'a>> {
         let Some(spec) = fragment.spec else {
             return Ok(self);
         };
         let path = fragment.path.as_slice();
-        let source = open_file(reading, "FRAGMENT", &*fragment.word, path)?;
+        let source = open_file(disk, "FRAGMENT", &*fragment.word, path)?;
         self.with(spec, source)
     }
 
@@ -101,7 +103,7 @@ impl<'a> Ramdisks<'a> {
     fn with(
         self,
         spec: FragmentSpec,
-        source: PartSource<'a>,
+        source: PartSource<'a, HostSource>,
     ) -> Result<Ramdisks<'a>, HostRefusal<'a>> {
         let Ramdisks {
             mut specs,

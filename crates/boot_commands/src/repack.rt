@@ -3,6 +3,7 @@
 ghost use Rattle.std.specs.Prelude.{◌≡◌};
 ghost use Rattle.boot_fields.specs.Kind.{version_of};
 
+use crate::contents::Contents;
 use crate::filling::filled;
 use crate::image_output::write_image;
 use crate::lines::LeftOutNote;
@@ -11,7 +12,6 @@ use crate::own_fields::{own_cmdline, own_fields};
 use crate::parts::open_parts;
 use crate::ramdisks::{Ramdisks, entries_of};
 use abt_headers::{RamdiskEntry, Section};
-use abt_host::Reading;
 use abt_io::{Meter, Window};
 use abt_output::Report;
 use abt_refusals::{HostFault, HostRefusal, Place, Refusal, Sides};
@@ -19,9 +19,8 @@ use abt_sections::BootSpec;
 use boot_bodies::BootOutcome;
 use boot_fields::ImageKind;
 use boot_findings::{LeftOut, count_left_out, end_of, in_no_fragment, place_of};
-use boot_rules::{
-    BootCommandFault, Contents, PackCommand, PackTexts, PartSource, anew_of, with_given,
-};
+use boot_rules::{BootCommandFault, PackCommand, PackTexts, anew_of, with_given};
+use host_disk::Host;
 use std::alloc::Global;
 
 /// What an image that is packed again has, beside its sections.
@@ -38,21 +37,20 @@ struct Kept {
 /// The image and the parts are open before OUT is created or emptied. Bytes of the image that packing has no place for
 /// are counted on standard error.
 pub(crate) fn repack_file<'t, 'a>(
-    reading: Reading,
+    disk: &mut Host,
     report: &mut Report,
     input: &'t str,
     command: &'t PackCommand<'a>,
     w: &mut Window,
     m: &mut Meter,
 ) -> BootOutcome<'t, 'a> {
-    let mut reading = reading;
-    let mut own = open_own(&mut reading, Place::new("IN", input), w, m)?;
+    let mut own = open_own(disk, Place::new("IN", input), w, m)?;
     let kind = ImageKind::of_header(&own.image.header);
-    let kept = match judged(reading.alloc, &mut own, kind, command, w, m) {
+    let kept = match judged(command.alloc, &mut own, kind, command, w, m) {
         Ok(kept) => kept,
         Err(fault) => return Err(of_own(&own, fault)),
     };
-    write_again(reading, report, &own, kind, &kept, command, w, m)?;
+    write_again(disk, report, &own, kind, &kept, command, w, m)?;
     let left = kept.left;
     if !left.is_nothing() {
         report.note(LeftOutNote(left));
@@ -67,7 +65,7 @@ fn of_own<'t, 'a>(own: &Own<'t>, fault: BootCommandFault<'a>) -> Refusal<'t, Boo
 
 // Writes the image again, as it is told.
 fn write_again<'t, 'a>(
-    reading: Reading,
+    disk: &mut Host,
     report: &mut Report,
     own: &Own<'t>,
     kind: ImageKind,
@@ -81,9 +79,16 @@ fn write_again<'t, 'a>(
         Ok(fields) => fields,
         Err(fault) => return Err(of_own(own, fault)),
     };
-    let mut reading = reading;
-    let contents = contents_of(&mut reading, own, fields, kind, kept, command)?;
-    write_image(reading, report, contents, &*command.output, w, m)
+    let contents = contents_of(disk, own, fields, kind, kept, command)?;
+    write_image(
+        disk,
+        report,
+        command.alloc,
+        contents,
+        &*command.output,
+        w,
+        m,
+    )
 }
 
 // Judges the words by the image's kind, and counts what is left out of it.
@@ -174,7 +179,7 @@ fn gaps_of(
 
 // All that the image is written from: what was given, and else its own.
 fn contents_of<'t, 'f, 'a>(
-    reading: &mut Reading,
+    disk: &mut Host,
     own: &Own<'t>,
     fields: BootSpec<'f>,
     kind: ImageKind,
@@ -184,23 +189,24 @@ fn contents_of<'t, 'f, 'a>(
     requires { fields.version ≡ version_of kind }
 {
     let texts = &command.texts;
-    let ramdisks = ramdisks_of(reading, own, kept, texts)?;
-    let parts = open_parts(reading, kind, texts, Some(own))?;
+    let ramdisks = ramdisks_of(disk, command.alloc, own, kept, texts)?;
+    let parts = open_parts(disk, command.alloc, kind, texts, Some(own))?;
     let ramdisks = ramdisks.with_board_ids(command.board_ids.as_slice())?;
-    let trailing = trailing_of(reading, own, command.keeps_trailing)?;
+    let trailing = trailing_of(disk, own, command.keeps_trailing)?;
     Ok(filled(kind, fields, texts, parts, ramdisks, trailing))
 }
 
 // The fragments that were given, and else its own.
 fn ramdisks_of<'t>(
-    reading: &mut Reading,
+    disk: &mut Host,
+    alloc: Global,
     own: &Own<'t>,
     kept: &Kept,
     texts: &'t PackTexts<'_>,
 ) -> Result<Ramdisks<'t>, HostRefusal<'t>> {
     if texts.fragments.as_slice().is_empty() {
-        Ramdisks::of_image(reading, own, kept.entries.as_slice())
+        Ramdisks::of_image(disk, alloc, own, kept.entries.as_slice())
     } else {
-        Ramdisks::open(reading, texts)
+        Ramdisks::open(disk, alloc, texts)
     }
 }

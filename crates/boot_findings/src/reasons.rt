@@ -1,7 +1,8 @@
 //! Why a check answers no.
 
-ghost use Rattle.std.specs.Prelude.{◌<◌, ◌≤◌, ◌^◌, ◌↔◌, IfOk, IfSome, IsTrue, length};
-ghost use Rattle.boot_findings.specs.Reasons.{ReasonsAre};
+ghost use Rattle.std.specs.Prelude.{◌≡◌, ◌<◌, ◌≤◌, ◌^◌, ◌↔◌, IfOk, IfErr, OnOk, IfSome, IsTrue, length};
+ghost use Rattle.abt_sections.specs.Cause.{ReadCause};
+ghost use Rattle.boot_findings.specs.Reasons.{ReasonCause, ReasonsAre};
 
 use crate::places::{end_of, place_of};
 use crate::set_bytes::{first_set, zeros_in_front};
@@ -77,7 +78,10 @@ pub fn find_reasons<S: Source>(
     w: &mut Window,
     m: &mut Meter,
 ) -> Result<Findings, SectionFault>
-    ensures { IfOk result (λ found. ReasonsAre found verdict) }
+    ensures agree { IfOk result (λ found. ReasonsAre found verdict) }
+    ensures content { IsTrue S.tells → OnOk result (S.content source.new ≡ S.content source.old) }
+    ensures cause { IfErr result (λ f. ReasonCause f (S.read_faults source.old) (S.read_faults source.new)) }
+    ensures clean { OnOk result (S.read_faults source.new ≡ S.read_faults source.old) }
 {
     let padding = match first_unpadded(image, source, w, m) {
         Ok(place) => place.map(Reason::Byte),
@@ -117,19 +121,28 @@ fn first_unpadded<S: Source>(
     source: &mut S,
     w: &mut Window,
     m: &mut Meter,
-) -> Result<Option<u64>, SectionFault> {
+) -> Result<Option<u64>, SectionFault>
+    ensures content { IsTrue S.tells → OnOk result (S.content source.new ≡ S.content source.old) }
+    ensures cause { IfErr result (λ f. ReadCause f (S.read_faults source.old) (S.read_faults source.new)
+        (IsTrue S.tells → ⊥)) }
+    ensures clean { OnOk result (S.read_faults source.new ≡ S.read_faults source.old) }
+{
     let page = image.header.page_size();
     let mut end = image.header.size() as u64;
     for i in 0..sections(image) {
         m.tick();
         match first_set(source, end, pages(end, page) * page as u64, w, m) {
             Ok(None) => {}
-            found => return found,
+            Ok(Some(place)) => return Ok(Some(place)),
+            Err(fault) => return Err(fault),
         }
         let place = section(image, i);
         end = place.at + place.size as u64;
     }
-    first_set(source, end, pages(end, page) * page as u64, w, m)
+    match first_set(source, end, pages(end, page) * page as u64, w, m) {
+        Ok(found) => Ok(found),
+        Err(fault) => Err(fault),
+    }
 }
 
 // ---- header_size and recovery_dtbo_offset

@@ -105,6 +105,30 @@ fn count_in<S: Source>(
     Ok(Seen { came, set })
 }
 
+// How many bytes of an ask came and are zero, from the first on.
+fn zeros_at<S: Source>(
+    source: &mut S,
+    at: u64,
+    ask: usize,
+    w: &mut Window,
+    m: &mut Meter,
+) -> Result<usize, SectionFault>
+    requires room { ask ≤ 65536 }
+    requires below { at + ask < 2 ^ 64 }
+    ensures content { IsTrue S.tells → S.content source.new ≡ S.content source.old }
+    ensures few { IfOk result (λ zeros. zeros ≤ ask) }
+    ensures faults { S.read_faults source.old ≤ S.read_faults source.new }
+    ensures cause { IfErr result (λ f. ReadCause f (S.read_faults source.old) (S.read_faults source.new)
+        (IsTrue S.tells → ⊥)) }
+    ensures clean { OnOk result (S.read_faults source.new ≡ S.read_faults source.old) }
+{
+    let read = read_full_at(source, at, w.part_mut(0, ask), m);
+    if let Some(fault) = read.fault {
+        return Err(SectionFault::Read(fault));
+    }
+    Ok(zeros_in_front(w.part(0, read.count)))
+}
+
 /// The first byte from one place up to another that isn't there or isn't zero.
 pub(crate) fn first_set<S: Source>(
     source: &mut S,
@@ -112,17 +136,22 @@ pub(crate) fn first_set<S: Source>(
     end: u64,
     w: &mut Window,
     m: &mut Meter,
-) -> Result<Option<u64>, SectionFault> {
+) -> Result<Option<u64>, SectionFault>
+    ensures content { IsTrue S.tells → S.content source.new ≡ S.content source.old }
+    ensures faults { S.read_faults source.old ≤ S.read_faults source.new }
+    ensures cause { IfErr result (λ f. ReadCause f (S.read_faults source.old) (S.read_faults source.new)
+        (IsTrue S.tells → ⊥)) }
+    ensures clean { OnOk result (S.read_faults source.new ≡ S.read_faults source.old) }
+{
     let all = end.saturating_sub(from);
     let mut done = 0;
     while done < all {
         m.tick();
         let ask = (all - done).min(WINDOW as u64) as usize;
-        let read = read_full_at(source, from + done, w.part_mut(0, ask), m);
-        if let Some(fault) = read.fault {
-            return Err(SectionFault::Read(fault));
-        }
-        let zeros = zeros_in_front(w.part(0, read.count));
+        let zeros = match zeros_at(source, from + done, ask, w, m) {
+            Ok(zeros) => zeros,
+            Err(fault) => return Err(fault),
+        };
         if zeros < ask {
             return Ok(Some(from + done + zeros as u64));
         }

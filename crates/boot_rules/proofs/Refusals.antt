@@ -1,86 +1,101 @@
--- What packing refuses before it writes is no fault of a write.
-use Rattle.std.proofs.Common.{◌≡◌, ℕ, Bool, true, false, List, [], ◌∷◌, Option, Some, None, Result, Ok, Err, map, subst}
-use Rattle.std.specs.Prelude.{◌&&◌, ◌||◌, nat_lt, not, if◌then◌else◌, is_some}
+-- What packing refuses before it writes is no fault of moving bytes.
+use Rattle.std.proofs.Common.{◌≡◌, ℕ, Bool, true, false, List, [], ◌∷◌, Option, Some, None, Result, Ok, Err, map, refl, sym, subst, ◌∙◌, ap}
+use Rattle.std.specs.Prelude.{◌&&◌, ◌||◌, nat_lt, not, if◌then◌else◌, is_some, IfErr, OnOk}
 use Rattle.abt_headers.specs.declared.fault.HeaderFault.TheVariants as header
 use Rattle.abt_headers.specs.Page.{page_from}
 use Rattle.abt_headers.specs.declared.sections.Section.{Section}
-use Rattle.abt_io.specs.declared.device.DeviceFault.{DeviceFault}
+use Rattle.abt_sections.specs.Cause.{PackCause, MoveCause}
 use Rattle.abt_sections.specs.Fields.{BootFields, VendorFields, boot_fields, is_text}
 use Rattle.abt_sections.specs.Refusal.{IfRefused, boot_names, boot_refusal, or_else, pack_boot_refusal, pack_vendor_refusal, size_refusal, vendor_names, vendor_refusal}
 use Rattle.abt_sections.specs.declared.fault.SectionFault.{SectionFault}
 use Rattle.abt_sections.specs.declared.fault.SectionFault.TheVariants as faults
 use Rattle.abt_sections.specs.declared.spec.BootSpec.{BootSpec}
-use Rattle.boot_rules.specs.Refused.{refusal_of, size_of, vendor_fields_of, vendor_sizes}
-use Rattle.boot_rules.specs.declared.part_source.PartSource.{PartSource}
+use Rattle.boot_rules.specs.Refused.{refusal_of, IsOfMoving, IsRefusalOrMove, vendor_fields_of, vendor_sizes}
 use Rattle.boot_fields.specs.declared.image_kind.ImageKind.{ImageKind}
 use Rattle.boot_fields.specs.declared.image_kind.ImageKind.TheVariants.{Boot, Vendor}
 
-abbrev IsNoWrite : SectionFault → Type 0
-IsNoWrite (faults.Write d) = ⊥
-IsNoWrite _ = Unit {0}
+abbrev IsFixed : SectionFault → Type 0
+IsFixed f = IsOfMoving f → ⊥
 
-abbrev pub NoWrite : Option SectionFault → Type 0
-NoWrite None = Unit {0}
-NoWrite (Some f) = IsNoWrite f
+abbrev pub NoMoving : Option SectionFault → Type 0
+NoMoving None = Unit {0}
+NoMoving (Some f) = IsFixed f
 
-four : (a b c d : Bool) (f g h k : SectionFault) → IsNoWrite f → IsNoWrite g → IsNoWrite h → IsNoWrite k
-    → NoWrite (if a then Some f else if b then Some g else if c then Some h else if d then Some k else None)
+four : (a b c d : Bool) (f g h k : SectionFault) → IsFixed f → IsFixed g → IsFixed h → IsFixed k
+    → NoMoving (if a then Some f else if b then Some g else if c then Some h else if d then Some k else None)
 four true b c d f g h k p q r s = p
 four false true c d f g h k p q r s = q
 four false false true d f g h k p q r s = r
 four false false false true f g h k p q r s = s
 four false false false false f g h k p q r s = tt
 
-choice : (b : Bool) (f : SectionFault) (o : Option SectionFault) → IsNoWrite f → NoWrite o → NoWrite (if b then Some f else o)
+choice : (b : Bool) (f : SectionFault) (o : Option SectionFault) → IsFixed f → NoMoving o → NoMoving (if b then Some f else o)
 choice true f o p q = p
 choice false f o p q = q
 
-either : (o p : Option SectionFault) → NoWrite o → NoWrite p → NoWrite (or_else o p)
+either : (o p : Option SectionFault) → NoMoving o → NoMoving p → NoMoving (or_else o p)
 either None p a b = b
 either (Some f) p a b = a
 
-of_sizes : (names : List Section) (sizes : List ℕ) → NoWrite (size_refusal names sizes)
+of_sizes : (names : List Section) (sizes : List ℕ) → NoMoving (size_refusal names sizes)
 unfolding size_refusal
 of_sizes names [] = tt
 of_sizes [] (n ∷ sizes) = tt
-of_sizes (name ∷ names) (n ∷ sizes) = choice (nat_lt 4294967295 n) (faults.SectionTooLarge name) (size_refusal names sizes) tt (of_sizes names sizes)
+of_sizes (name ∷ names) (n ∷ sizes) = choice (nat_lt 4294967295 n) (faults.SectionTooLarge name) (size_refusal names sizes) (λ p. p) (of_sizes names sizes)
 
-of_boot : (s : BootFields) → NoWrite (boot_refusal s)
+of_boot : (s : BootFields) → NoMoving (boot_refusal s)
 unfolding boot_refusal
-of_boot s = four (nat_lt 4 s.version) (nat_lt s.version 3 && not (is_some (page_from s.page))) (nat_lt s.version 3 && not (is_text 15 s.name)) (not (is_text 1535 s.cmdline)) (faults.Header (header.Version s.version)) (faults.Header (header.PageSize s.page)) faults.Name faults.CommandLine tt tt tt tt
+of_boot s = four (nat_lt 4 s.version) (nat_lt s.version 3 && not (is_some (page_from s.page))) (nat_lt s.version 3 && not (is_text 15 s.name)) (not (is_text 1535 s.cmdline)) (faults.Header (header.Version s.version)) (faults.Header (header.PageSize s.page)) faults.Name faults.CommandLine (λ p. p) (λ p. p) (λ p. p) (λ p. p)
 
-of_vendor : (s : VendorFields) → NoWrite (vendor_refusal s)
+of_vendor : (s : VendorFields) → NoMoving (vendor_refusal s)
 unfolding vendor_refusal
-of_vendor s = four (nat_lt s.version 3 || nat_lt 4 s.version) (not (is_some (page_from s.page))) (not (is_text 15 s.name)) (not (is_text 2047 s.cmdline)) (faults.Header (header.Version s.version)) (faults.Header (header.PageSize s.page)) faults.Name faults.CommandLine tt tt tt tt
+of_vendor s = four (nat_lt s.version 3 || nat_lt 4 s.version) (not (is_some (page_from s.page))) (not (is_text 15 s.name)) (not (is_text 2047 s.cmdline)) (faults.Header (header.Version s.version)) (faults.Header (header.PageSize s.page)) faults.Name faults.CommandLine (λ p. p) (λ p. p) (λ p. p) (λ p. p)
 
-pub boot_no_write : (s : BootFields) (sizes : List ℕ) → NoWrite (pack_boot_refusal s sizes)
-boot_no_write s sizes = either (boot_refusal s) (size_refusal (boot_names s.version) sizes) (of_boot s) (of_sizes (boot_names s.version) sizes)
+pub refusal_fixed : (kind : ImageKind) (s : BootSpec) (parts ramdisks : List ℕ) → NoMoving (refusal_of kind s parts ramdisks)
+refusal_fixed (Boot n) s parts ramdisks =
+    either (boot_refusal (boot_fields s)) (size_refusal (boot_names s.version) parts) (of_boot (boot_fields s)) (of_sizes (boot_names s.version) parts)
+refusal_fixed (Vendor n) s parts ramdisks =
+    let sizes = vendor_sizes s.version parts ramdisks in
+    either (vendor_refusal (vendor_fields_of s)) (size_refusal vendor_names sizes) (of_vendor (vendor_fields_of s)) (of_sizes vendor_names sizes)
 
-pub vendor_no_write : (s : VendorFields) (sizes : List ℕ) → NoWrite (pack_vendor_refusal s sizes)
-vendor_no_write s sizes = either (vendor_refusal s) (size_refusal vendor_names sizes) (of_vendor s) (of_sizes vendor_names sizes)
+-- ---- what the packer answered that had no room
 
--- an answer that is Ok was refused for nothing
-pub when_ok : {X : Type 0} (P : SectionFault → Type 0) (r : Result X SectionFault) (x : X) (o : Option SectionFault)
-    → r ≡ Ok x → IfRefused o (λ f. r ≡ Err f) → IfRefused o P
-when_ok P r x None is h = tt
-when_ok P r x (Some f) is h = absurd (cc)
+-- it refused nothing of the fields and sizes
+pub no_refusal : {X Y : Type 0} (r : Result X SectionFault) (q : Result Y SectionFault) (o : Option SectionFault) → NoMoving o
+    → IfRefused o (λ f. r ≡ Err f) → OnOk q (IfErr r IsOfMoving) → OnOk q (o ≡ None)
+no_refusal r (Err f) o sound is moved = tt
+no_refusal r (Ok y) None sound is moved = refl
+no_refusal (Ok x) (Ok y) (Some f) sound is moved = absurd (cc)
+no_refusal (Err e) (Ok y) (Some f) sound is moved =
+    let same : e ≡ f = cc in
+    absurd (sound (subst IsOfMoving same moved))
 
--- and so was one that failed to write
-pub when_write : {X : Type 0} (P : SectionFault → Type 0) (r : Result X SectionFault) (d : DeviceFault) (o : Option SectionFault)
-    → NoWrite o → r ≡ Err (faults.Write d) → IfRefused o (λ f. r ≡ Err f) → IfRefused o P
-when_write P r d None sound is h = tt
-when_write P r d (Some f) sound is h =
-    let same : f ≡ faults.Write d = cc in
-    absurd (subst IsNoWrite same sound)
+fixed_is : (o : Option SectionFault) (f : SectionFault) → (IsOfMoving f → ⊥) → IsRefusalOrMove o f → o ≡ Some f
+fixed_is None f fixed is = absurd (fixed is)
+fixed_is (Some g) f fixed is = ap (λ k. Some k) (sym is)
 
--- the same fault, handed on
-pub when_err : {X Y : Type 0} (r : Result X SectionFault) (q : Result Y SectionFault) (fault : SectionFault) (o : Option SectionFault)
-    → r ≡ Err fault → q ≡ Err fault → IfRefused o (λ f. r ≡ Err f) → IfRefused o (λ f. q ≡ Err f)
-when_err r q fault None is too h = tt
-when_err r q fault (Some f) is too h =
-    let same : fault ≡ f = cc in
-    subst (λ (k : SectionFault). q ≡ Err k) same too
+-- it refused this of them
+pub a_refusal : {X Y : Type 0} (r : Result X SectionFault) (q : Result Y SectionFault) (o : Option SectionFault)
+    → IfErr r (IsRefusalOrMove o) → IfErr q (λ f. r ≡ Err f) → IfErr q (λ f. IsOfMoving f → ⊥) → IfErr q (λ f. o ≡ Some f)
+a_refusal r (Ok y) o only same fixed = tt
+a_refusal r (Err f) o only same fixed =
+    fixed_is o f fixed (subst (λ k. IfErr k (IsRefusalOrMove o)) same only)
 
-pub refusal_no_write : (kind : ImageKind) (s : BootSpec) (parts ramdisks : List PartSource) → NoWrite (refusal_of kind s parts ramdisks)
-refusal_no_write (Boot n) s parts ramdisks = boot_no_write (boot_fields s) (map size_of parts)
-refusal_no_write (Vendor n) s parts ramdisks = vendor_no_write (vendor_fields_of s) (vendor_sizes s.version parts ramdisks)
+-- what a call of the packer tells
+pub told_cause : (o : Option SectionFault) (f : SectionFault) (r r' w w' : ℕ) (ch : Type 0) → PackCause o f r r' w w' ch
+    → IsRefusalOrMove o f
+told_cause (Some g) f r r' w w' ch is = is
+told_cause None (faults.Read f) r r' w w' ch is = tt
+told_cause None (faults.Write f) r r' w w' ch is = tt
+told_cause None faults.SourceChanged r r' w w' ch is = tt
+told_cause None (faults.Header f) r r' w w' ch is = absurd is
+told_cause None (faults.Entry f) r r' w w' ch is = absurd is
+told_cause None faults.Name r r' w w' ch is = absurd is
+told_cause None faults.CommandLine r r' w w' ch is = absurd is
+told_cause None (faults.SectionTruncated f) r r' w w' ch is = absurd is
+told_cause None (faults.SectionTooLarge f) r r' w w' ch is = absurd is
+
+pub tells_cause : {X : Type 0} (q : Result X SectionFault) (o : Option SectionFault) (r r' w w' : ℕ) (ch : Type 0)
+    → IfErr q (λ f. PackCause o f r r' w w' ch) → IfErr q (IsRefusalOrMove o)
+tells_cause (Ok x) o r r' w w' ch is = tt
+tells_cause (Err f) o r r' w w' ch is = told_cause o f r r' w w' ch is

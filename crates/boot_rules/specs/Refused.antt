@@ -1,17 +1,18 @@
--- What packing refuses of the fields of an image and of the sizes of its parts.
-use Rattle.std.specs.Prelude.{ℕ, List, [], ◌∷◌, Option, None, length, map, ◌==◌, if◌then◌else◌}
-use Rattle.abt_sections.specs.Cause.{total}
+-- What packing refuses of the fields of an image and of the sizes of its parts, and what it writes of them.
+use Rattle.std.specs.Prelude.{◌≡◌, ℕ, List, [], ◌∷◌, Option, Some, None, length, sum, ◌==◌, if◌then◌else◌}
+use Rattle.abt_refusals.specs.declared.refusal.HostFault.TheVariants as hosts
+use Rattle.abt_sections.specs.BootCanon.{boot_canon}
 use Rattle.abt_sections.specs.Fields.{VendorFields, boot_fields}
 use Rattle.abt_sections.specs.Refusal.{pack_boot_refusal, pack_vendor_refusal}
-use Rattle.abt_sections.specs.VendorCanon.{vendor_sizes_for}
+use Rattle.abt_sections.specs.VendorCanon.{VendorParts, vendor_canon, vendor_parts, vendor_sizes_for}
 use Rattle.abt_sections.specs.declared.fault.SectionFault.{SectionFault}
+use Rattle.abt_sections.specs.declared.fault.SectionFault.TheVariants as faults
 use Rattle.abt_sections.specs.declared.spec.BootSpec.{BootSpec}
-use Rattle.boot_rules.specs.declared.part_source.PartSource.{PartSource}
+use Rattle.abt_sections.specs.declared.spec.FragmentSpec.{FragmentSpec}
 use Rattle.boot_fields.specs.declared.image_kind.ImageKind.{ImageKind}
 use Rattle.boot_fields.specs.declared.image_kind.ImageKind.TheVariants.{Boot, Vendor}
-
-abbrev pub size_of : PartSource → ℕ
-size_of part = part.size
+use Rattle.boot_rules.specs.declared.fault.BootCommandFault.{BootCommandFault}
+use Rattle.boot_rules.specs.declared.fault.BootCommandFault.TheVariants as commands
 
 -- the fields that a vendor boot image has
 abbrev pub vendor_fields_of : BootSpec → VendorFields
@@ -27,13 +28,50 @@ vendor_fields_of s = record {
 }
 
 -- in version 3 the parts are the ramdisk and the dtb, in version 4 the dtb and the bootconfig
-abbrev pub vendor_sizes : ℕ → List PartSource → List PartSource → List ℕ
+abbrev pub vendor_sizes : ℕ → List ℕ → List ℕ → List ℕ
 vendor_sizes version (a ∷ b ∷ parts) ramdisks =
-    if version == 3
-    then vendor_sizes_for (total size_of (a ∷ [])) (size_of b) 0 0
-    else vendor_sizes_for (total size_of ramdisks) (size_of a) (length ramdisks) (size_of b)
+    if version == 3 then vendor_sizes_for (sum (a ∷ [])) b 0 0 else vendor_sizes_for (sum ramdisks) a (length ramdisks) b
 vendor_sizes version parts ramdisks = []
 
-abbrev pub refusal_of : ImageKind → BootSpec → List PartSource → List PartSource → Option SectionFault
-refusal_of (Boot n) s parts ramdisks = pack_boot_refusal (boot_fields s) (map size_of parts)
+-- of parts and ramdisk fragments of these sizes
+abbrev pub refusal_of : ImageKind → BootSpec → List ℕ → List ℕ → Option SectionFault
+refusal_of (Boot n) s parts ramdisks = pack_boot_refusal (boot_fields s) parts
 refusal_of (Vendor n) s parts ramdisks = pack_vendor_refusal (vendor_fields_of s) (vendor_sizes s.version parts ramdisks)
+
+-- what a vendor boot image is packed from: version 3 has no fragments, and no bootconfig
+abbrev pub vendor_parts_of : ℕ → List (List ℕ) → List FragmentSpec → List (List ℕ) → VendorParts
+vendor_parts_of version (a ∷ b ∷ parts) specs ramdisks =
+    if version == 3 then vendor_parts [] (a ∷ []) b [] else vendor_parts specs ramdisks a b
+vendor_parts_of version parts specs ramdisks = vendor_parts [] [] [] []
+
+-- the image of a kind: of these fields and parts, and of these ramdisk fragments
+abbrev pub packed : ImageKind → BootSpec → List (List ℕ) → List FragmentSpec → List (List ℕ) → List ℕ
+packed (Boot n) s parts specs ramdisks = boot_canon (boot_fields s) parts
+packed (Vendor n) s parts specs ramdisks = vendor_canon (vendor_fields_of s) (vendor_parts_of s.version parts specs ramdisks)
+
+-- a fault of moving bytes, rather than of the fields and sizes
+abbrev pub IsOfMoving : SectionFault → Type 0
+IsOfMoving (faults.Read f) = Unit {0}
+IsOfMoving (faults.Write f) = Unit {0}
+IsOfMoving faults.SourceChanged = Unit {0}
+IsOfMoving (faults.Header f) = ⊥
+IsOfMoving (faults.Entry i) = ⊥
+IsOfMoving faults.Name = ⊥
+IsOfMoving faults.CommandLine = ⊥
+IsOfMoving (faults.SectionTruncated s) = ⊥
+IsOfMoving (faults.SectionTooLarge s) = ⊥
+
+-- it is the refusal that there is, or else one of moving bytes
+abbrev pub IsRefusalOrMove : Option SectionFault → SectionFault → Type 0
+IsRefusalOrMove None f = IsOfMoving f
+IsRefusalOrMove (Some g) f = f ≡ g
+
+-- why a judge refuses: what packing refuses, or no memory
+abbrev pub IsJudged : Option SectionFault → BootCommandFault → Type 0
+IsJudged o (commands.Host f) = f ≡ hosts.Memory
+IsJudged o (commands.Section f) = o ≡ Some f
+IsJudged o (commands.OptionNotCarried name) = ⊥
+IsJudged o (commands.BadFragment word) = ⊥
+IsJudged o (commands.BadNumber word) = ⊥
+IsJudged o (commands.BadBoardId word) = ⊥
+IsJudged o commands.CheckFailed = ⊥

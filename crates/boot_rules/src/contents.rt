@@ -1,117 +1,238 @@
-//! All that an image is written from, and what packing refuses of it.
+//! Packing the parts of an image of either kind, and what packing refuses of them.
 
-ghost use Rattle.std.specs.Prelude.{◌≡◌, ◌+◌, Err, IfOk, length};
+ghost use Rattle.std.specs.Prelude.{◌≡◌, ◌<◌, ◌≤◌, ◌+◌, ◌++◌, [], None, Some, Ok, Err, IsTrue, IfOk, IfErr, OnOk};
+ghost use Rattle.std.specs.Prelude.{length, map};
+ghost use Rattle.abt_sections.specs.Cause.{PackCause, total};
 ghost use Rattle.abt_sections.specs.Fields as vendor;
 ghost use Rattle.abt_sections.specs.Refusal.{IfRefused, pack_vendor_refusal};
+ghost use Rattle.abt_sections.specs.VendorCanon as canon;
 ghost use Rattle.boot_fields.specs.Kind.{version_of};
-ghost use Rattle.boot_rules.specs.Parts.{IsBoot, row_count};
-ghost use Rattle.boot_rules.specs.Refused.{refusal_of, vendor_sizes};
+ghost use Rattle.boot_rules.specs.Parts.{row_count};
+ghost use Rattle.boot_rules.specs.Refused.{IsOfMoving, IsRefusalOrMove, packed, refusal_of, vendor_fields_of, vendor_parts_of};
+ghost use Rattle.boot_rules.specs.Refused.{vendor_sizes};
 
+use crate::measure::Measure;
 use crate::pack_fields::vendor_fields;
-use crate::part_source::PartSource;
-use abt_io::{Meter, Output, SliceOutput, Window};
+use abt_io::{Meter, Output, SliceOutput, Source, Window};
 use abt_sections::{
-    BootSpec, FragmentSpec, Packed, SectionFault, VendorSpec, pack_boot_once, pack_vendor,
+    BootSpec, FragmentSpec, Packed, SectionFault, VendorSpec, pack_boot, pack_boot_once,
+    pack_vendor,
 };
 use boot_fields::ImageKind;
+use std::alloc::{AllocError, Global};
 
-/// All that an image is written from.
-#[derive(Drop)]
-pub struct Contents<'f, 't> {
-    pub kind: ImageKind,
-    pub fields: BootSpec<'f>,
-    pub parts: Vec<PartSource<'t>>,
-    /// The ramdisk fragments of a vendor boot image of version 4, and what each is read from.
-    pub specs: Vec<FragmentSpec>,
-    pub sources: Vec<PartSource<'t>>,
-    /// What stands behind the image.
-    pub trailing: PartSource<'t>,
-    pub ghost versioned: { fields.version ≡ version_of kind },
-    pub ghost counted: { length parts.items ≡ row_count kind },
-    pub ghost paired: { length specs.items ≡ length sources.items },
+/// What packing refuses of parts of these sizes, if anything. Asks the packer itself, with no bytes to read and no room
+/// to write to.
+pub fn judge<P: Source>(
+    alloc: Global,
+    kind: ImageKind,
+    fields: &BootSpec<'_>,
+    parts: &[P],
+    specs: &[FragmentSpec],
+    sources: &[P],
+    w: &mut Window,
+    m: &mut Meter,
+) -> Result<Option<SectionFault>, AllocError>
+    requires versioned { fields.now.version ≡ version_of kind }
+    requires counted { length parts.now ≡ row_count kind }
+    requires paired { length specs.now ≡ length sources.now }
+    ensures { IfOk result (λ refusal. refusal ≡ refusal_of kind fields.now (map P.size parts.now)
+        (map P.size sources.now)) }
+{
+    let mut part_sizes = measures(alloc, parts)?;
+    let mut sizes = measures(alloc, sources)?;
+    let measured = part_sizes.as_mut_slice();
+    let fragments = sizes.as_mut_slice();
+    match refused_of(kind, fields, measured, specs, fragments, w, m) {
+        Ok(()) => Ok(None),
+        Err(fault) => Ok(Some(fault)),
+    }
 }
 
-/// Asks the packer itself, with no room to write to. Where it refuses nothing it comes as far as its first write, and
-/// has read nothing.
-pub fn judge(
-    contents: &mut Contents<'_, '_>,
+// The sizes of these parts.
+fn measures<P: Source>(alloc: Global, parts: &[P]) -> Result<Vec<Measure>, AllocError>
+    ensures { IfOk result (λ sizes. map (λ s. s.size) sizes.items ≡ map P.size parts.now) }
+{
+    let mut sizes = Vec::new(alloc);
+    for part in parts {
+        sizes.push(Measure::new(part.length()))?;
+    }
+    Ok(sizes)
+}
+
+// What the packer refuses of parts of these sizes.
+fn refused_of(
+    kind: ImageKind,
+    fields: &BootSpec<'_>,
+    parts: &mut [Measure],
+    specs: &[FragmentSpec],
+    sources: &mut [Measure],
     w: &mut Window,
     m: &mut Meter,
 ) -> Result<(), SectionFault>
-    ensures refused { IfRefused (refusal_of contents.old.kind contents.old.fields contents.old.parts.items
-        contents.old.sources.items) (λ fault. result ≡ Err fault) }
+    requires versioned { fields.now.version ≡ version_of kind }
+    requires counted { length parts.old ≡ row_count kind }
+    requires paired { length specs.now ≡ length sources.old }
+    ensures accepted { OnOk result (refusal_of kind fields.now (map (λ s. s.size) parts.old)
+        (map (λ s. s.size) sources.old) ≡ None) }
+    ensures refused { IfErr result (λ f. refusal_of kind fields.now (map (λ s. s.size) parts.old)
+        (map (λ s. s.size) sources.old) ≡ Some f) }
 {
-    match without_room(contents, w, m) {
-        Ok(_) => Ok(()),
-        Err(SectionFault::Write(_)) => Ok(()),
-        Err(fault) => Err(fault),
-    }
+    judged(without_room(kind, fields, parts, specs, sources, w, m))
 }
 
 // What the packer answers that has no room to write to.
 fn without_room(
-    contents: &mut Contents<'_, '_>,
+    kind: ImageKind,
+    fields: &BootSpec<'_>,
+    parts: &mut [Measure],
+    specs: &[FragmentSpec],
+    sources: &mut [Measure],
     w: &mut Window,
     m: &mut Meter,
 ) -> Result<Packed, SectionFault>
-    ensures refused { IfRefused (refusal_of contents.old.kind contents.old.fields contents.old.parts.items
-        contents.old.sources.items) (λ fault. result ≡ Err fault) }
+    requires versioned { fields.now.version ≡ version_of kind }
+    requires counted { length parts.old ≡ row_count kind }
+    requires paired { length specs.now ≡ length sources.old }
+    ensures refused { IfRefused (refusal_of kind fields.now (map (λ s. s.size) parts.old)
+        (map (λ s. s.size) sources.old)) (λ f. result ≡ Err f) }
+    ensures only { IfErr result (IsRefusalOrMove (refusal_of kind fields.now (map (λ s. s.size) parts.old)
+        (map (λ s. s.size) sources.old))) }
 {
     let mut room = [0u8; 0];
     let mut nowhere = SliceOutput::new(&mut room);
-    match contents.kind {
-        ImageKind::Boot(_) => {
-            let parts = contents.parts.as_mut_slice();
-            pack_boot_once(&contents.fields, parts, &mut nowhere, w, m)
+    match kind {
+        ImageKind::Boot(_) => pack_boot_once(fields, parts, &mut nowhere, w, m),
+        ImageKind::Vendor(_) => {
+            let mut empty = Measure::new(0);
+            pack_vendor_parts(
+                fields,
+                parts,
+                specs,
+                sources,
+                &mut empty,
+                &mut nowhere,
+                w,
+                m,
+            )
         }
-        ImageKind::Vendor(_) => pack_vendor_parts(contents, &mut nowhere, w, m),
     }
 }
 
-/// Packs the parts that a vendor boot image has: of version 3 the ramdisk and the dtb, of version 4 the dtb and the
-/// bootconfig, beside its ramdisk fragments.
-pub fn pack_vendor_parts<O: Output>(
-    contents: &mut Contents<'_, '_>,
-    output: &mut O,
-    w: &mut Window,
-    m: &mut Meter,
-) -> Result<Packed, SectionFault>
-    requires { ¬ IsBoot contents.old.kind }
-    ensures refused { IfRefused (refusal_of contents.old.kind contents.old.fields contents.old.parts.items
-        contents.old.sources.items) (λ fault. result ≡ Err fault) }
-    ensures written { IfOk result (λ packed. length (O.written output.new)
-        ≡ length (O.written output.old) + packed.bytes) }
+// Without a fault of moving bytes, of which there are none.
+fn judged(answer: Result<Packed, SectionFault>) -> Result<(), SectionFault>
+    ensures same { IfErr result (λ fault. answer ≡ Err fault) }
+    ensures fixed { IfErr result (λ fault. IsOfMoving fault → ⊥) }
+    ensures moving { OnOk result (IfErr answer IsOfMoving) }
 {
-    let spec = vendor_fields(&contents.fields);
-    let parts = contents.parts.as_mut_slice();
-    let specs = contents.specs.as_slice();
-    let sources = contents.sources.as_mut_slice();
-    pack_vendor_of(&spec, parts, specs, sources, output, w, m)
+    match answer {
+        Ok(_) => Ok(()),
+        Err(SectionFault::Read(_)) => Ok(()),
+        Err(SectionFault::Write(_)) => Ok(()),
+        Err(SectionFault::SourceChanged) => Ok(()),
+        Err(SectionFault::Header(fault)) => Err(SectionFault::Header(fault)),
+        Err(SectionFault::Entry(index)) => Err(SectionFault::Entry(index)),
+        Err(SectionFault::Name) => Err(SectionFault::Name),
+        Err(SectionFault::CommandLine) => Err(SectionFault::CommandLine),
+        Err(SectionFault::SectionTruncated { section }) => Err(SectionFault::SectionTruncated {
+            section,
+        }),
+        Err(SectionFault::SectionTooLarge { section }) => Err(SectionFault::SectionTooLarge {
+            section,
+        }),
+    }
 }
 
-fn pack_vendor_of<'t, O: Output>(
-    spec: &VendorSpec<'_>,
-    parts: &mut [PartSource<'t>],
+/// Packs an image of either kind, and answers how many bytes it has. `empty` is a source without bytes.
+pub fn pack_image<P: Source, O: Output>(
+    kind: ImageKind,
+    fields: &BootSpec<'_>,
+    parts: &mut [P],
     specs: &[FragmentSpec],
-    sources: &mut [PartSource<'t>],
+    sources: &mut [P],
+    empty: &mut P,
+    output: &mut O,
+    w: &mut Window,
+    m: &mut Meter,
+) -> Result<u64, SectionFault>
+    requires versioned { fields.now.version ≡ version_of kind }
+    requires counted { length parts.old ≡ row_count kind }
+    requires paired { length specs.now ≡ length sources.old }
+    requires empty { P.size empty.old ≡ 0 }
+    ensures written { IsTrue P.tells → OnOk result (O.written output.new ≡ O.written output.old
+        ++ packed kind fields.now (map P.content parts.old) specs.now (map P.content sources.old)) }
+    ensures bytes { IfOk result (λ bytes. length (O.written output.new) ≡ length (O.written output.old) + bytes) }
+    ensures faults { total P.read_faults parts.old + total P.read_faults sources.old + P.read_faults empty.old
+        ≤ total P.read_faults parts.new + total P.read_faults sources.new + P.read_faults empty.new }
+    ensures cause { IfErr result (λ f. PackCause (refusal_of kind fields.now (map P.size parts.old)
+        (map P.size sources.old)) f
+        (total P.read_faults parts.old + total P.read_faults sources.old + P.read_faults empty.old)
+        (total P.read_faults parts.new + total P.read_faults sources.new + P.read_faults empty.new)
+        (O.write_faults output.old) (O.write_faults output.new) (IsTrue P.tells → ⊥)) }
+    ensures clean { OnOk result ((total P.read_faults parts.new + total P.read_faults sources.new
+        + P.read_faults empty.new ≡ total P.read_faults parts.old + total P.read_faults sources.old
+        + P.read_faults empty.old) × (O.write_faults output.new ≡ O.write_faults output.old)) }
+    ensures write_faults { O.write_faults output.old ≤ O.write_faults output.new }
+{
+    let answer = match kind {
+        ImageKind::Boot(_) => pack_boot(fields, parts, output, w, m),
+        ImageKind::Vendor(_) => pack_vendor_parts(
+            fields, parts, specs, sources, empty, output, w, m,
+        ),
+    };
+    match answer {
+        Ok(packed) => Ok(packed.bytes),
+        Err(fault) => Err(fault),
+    }
+}
+
+// Packs the parts that a vendor boot image has: of version 3 the ramdisk and the dtb, of version 4 the dtb and the
+// bootconfig, beside its ramdisk fragments.
+fn pack_vendor_parts<P: Source, O: Output>(
+    fields: &BootSpec<'_>,
+    parts: &mut [P],
+    specs: &[FragmentSpec],
+    sources: &mut [P],
+    empty: &mut P,
     output: &mut O,
     w: &mut Window,
     m: &mut Meter,
 ) -> Result<Packed, SectionFault>
-    requires parts { length parts.old ≡ 2 }
+    requires counted { length parts.old ≡ 2 }
     requires paired { length specs.now ≡ length sources.old }
-    ensures refused { IfRefused (pack_vendor_refusal (vendor.vendor_fields spec.now)
-        (vendor_sizes spec.now.version parts.old sources.old)) (λ fault. result ≡ Err fault) }
-    ensures written { IfOk result (λ packed. length (O.written output.new)
-        ≡ length (O.written output.old) + packed.bytes) }
+    requires empty { P.size empty.old ≡ 0 }
+    ensures refused { IfRefused (pack_vendor_refusal (vendor_fields_of fields.now) (vendor_sizes fields.now.version
+        (map P.size parts.old) (map P.size sources.old))) (λ fault. result ≡ Err fault) }
+    ensures written { IsTrue P.tells → OnOk result (O.written output.new ≡ O.written output.old
+        ++ canon.vendor_canon (vendor_fields_of fields.now) (vendor_parts_of fields.now.version
+        (map P.content parts.old) specs.now (map P.content sources.old))) }
+    ensures bytes { IfOk result (λ p. length (O.written output.new) ≡ length (O.written output.old) + p.bytes) }
+    ensures cause { IfErr result (λ f. PackCause (pack_vendor_refusal (vendor_fields_of fields.now)
+        (vendor_sizes fields.now.version (map P.size parts.old) (map P.size sources.old))) f
+        (total P.read_faults parts.old + total P.read_faults sources.old + P.read_faults empty.old)
+        (total P.read_faults parts.new + total P.read_faults sources.new + P.read_faults empty.new)
+        (O.write_faults output.old) (O.write_faults output.new) (IsTrue P.tells → ⊥)) }
+    ensures faults { total P.read_faults parts.old + total P.read_faults sources.old + P.read_faults empty.old
+        ≤ total P.read_faults parts.new + total P.read_faults sources.new + P.read_faults empty.new }
+    ensures clean { OnOk result ((total P.read_faults parts.new + total P.read_faults sources.new
+        + P.read_faults empty.new ≡ total P.read_faults parts.old + total P.read_faults sources.old
+        + P.read_faults empty.old) × (O.write_faults output.new ≡ O.write_faults output.old)) }
+    ensures write_faults { O.write_faults output.old ≤ O.write_faults output.new }
 {
+    let spec = vendor_fields(fields);
     let (first, second) = parts.split_at_mut(1);
     if spec.version == 3 {
-        let mut bootconfig = PartSource::empty();
-        let dtb = &mut second[0];
-        return pack_vendor(spec, &[], first, dtb, &mut bootconfig, output, w, m);
+        pack_vendor(&spec, &[], first, &mut second[0], empty, output, w, m)
+    } else {
+        pack_vendor(
+            &spec,
+            specs,
+            sources,
+            &mut first[0],
+            &mut second[0],
+            output,
+            w,
+            m,
+        )
     }
-    let dtb = &mut first[0];
-    let bootconfig = &mut second[0];
-    pack_vendor(spec, specs, sources, dtb, bootconfig, output, w, m)
 }

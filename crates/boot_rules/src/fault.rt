@@ -1,6 +1,6 @@
 //! Why a command over boot images is refused, and what a user is told of it.
 
-ghost use Rattle.std.specs.Prelude.{◌≡◌, ℕ, List};
+ghost use Rattle.std.specs.Prelude.{◌≡◌, ℕ, List, MatchResult, Ok, Err};
 ghost use Rattle.abt_text.specs.Printed.{Prints};
 ghost use Rattle.boot_rules.specs.Fault.{is_usage, number_of};
 ghost use Rattle.boot_rules.specs.declared.fault.BootCommandFault.TheVariants.{Host};
@@ -47,7 +47,9 @@ impl<'a> BootCommandFault<'a> {
     }
 
     /// What a call answered that wrote so many bytes, with its fault as one of a command.
-    pub fn of_bytes(answer: Result<u64, SectionFault>) -> Result<u64, BootCommandFault<'a>> {
+    pub fn of_bytes(answer: Result<u64, SectionFault>) -> Result<u64, BootCommandFault<'a>>
+        ensures { MatchResult answer (λ n. result ≡ Ok n) (λ f. result ≡ Err (BootCommandFault.Section f)) }
+    {
         match answer {
             Ok(bytes) => Ok(bytes),
             Err(fault) => Err(BootCommandFault::Section(fault)),

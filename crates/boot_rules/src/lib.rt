@@ -2,7 +2,7 @@
 //! written.
 //!
 //! What the layer above relies on: `with_given` answers the fields that were given, and the image's own for the others;
-//! `judge` refuses what packing refuses; `set_board_ids` sets the numbers that the words name, in order.
+//! `judge` refuses what packing refuses, and `pack_image` writes what `packed` says; `set_board_ids` sets the numbers that the words name, in order.
 //!
 //! | file | has |
 //! |---|---|
@@ -10,7 +10,8 @@
 //! | `pack_command.rt`, `pack_texts.rt` | what `pack` and `repack` are told |
 //! | `pack_fields.rt`, `loads.rt` | the fields that an image is packed from, and where its parts are loaded |
 //! | `board_ids.rt` | the board ids that words set |
-//! | `part_source.rt`, `contents.rt` | what a part is read from; all that an image is written from, and its judge |
+//! | `part_source.rt`, `measure.rt` | what a part is read from, and one of which only the size counts |
+//! | `contents.rt` | packing the parts of an image of either kind, and what packing refuses of them |
 //! | `anew.rt` | what an image that is packed again is given anew |
 //! | `part_names.rt` | the files that `unpack` writes |
 #![tactic(auto)]
@@ -20,6 +21,7 @@ mod board_ids;
 mod contents;
 mod fault;
 mod loads;
+mod measure;
 mod pack_command;
 mod pack_fields;
 mod pack_texts;
@@ -28,7 +30,7 @@ mod part_source;
 
 pub use anew::anew_of;
 pub use board_ids::set_board_ids;
-pub use contents::{Contents, judge, pack_vendor_parts};
+pub use contents::{judge, pack_image};
 pub use fault::BootCommandFault;
 pub use loads::{counts_ramdisk, counts_second};
 pub use pack_command::{PackCommand, judge_words};

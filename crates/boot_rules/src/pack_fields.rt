@@ -1,8 +1,9 @@
 //! The fields of an image that is packed: as they were given, and else those of another image, or empty.
 
-ghost use Rattle.std.specs.Prelude.{◌≡◌, IfOk, codes};
+ghost use Rattle.std.specs.Prelude.{◌≡◌, [], IfOk, IfErr, codes};
 ghost use Rattle.std.specs.Option.{unwrap_or};
 ghost use Rattle.abt_sections.specs.Fields as vendor;
+ghost use Rattle.boot_rules.specs.Fault.{IsOfWords};
 ghost use Rattle.boot_rules.specs.Refused.{vendor_fields_of};
 ghost use Rattle.boot_rules.specs.Texts.{IsChosen};
 ghost use Rattle.boot_fields.specs.Kind.{version_of};
@@ -15,7 +16,11 @@ use abt_sections::{BootSpec, VendorSpec};
 use boot_fields::{ImageKind, os_from_word};
 
 /// The fields of `pack` where nothing is given.
-pub fn no_fields() -> BootSpec<'static> {
+pub fn no_fields() -> BootSpec<'static>
+    ensures page { result.page ≡ 4096 }
+    ensures name { result.name.now ≡ [] }
+    ensures cmdline { result.cmdline.now ≡ [] }
+{
     BootSpec {
         version: 0,
         page: 4096,
@@ -43,6 +48,7 @@ pub fn with_given<'a, 't>(
         IsChosen texts.now.options.items (codes "name") own.entry.name.now fields.name.now) }
     ensures cmdline { IfOk result (λ fields.
         IsChosen texts.now.options.items (codes "cmdline") own.entry.cmdline.now fields.cmdline.now) }
+    ensures words { IfErr result IsOfWords }
 {
     let (addresses, os) = given_numbers(&own, texts)?;
     Ok(BootSpec {
@@ -63,7 +69,9 @@ pub fn with_given<'a, 't>(
 fn given_numbers<'a>(
     own: &BootSpec<'_>,
     texts: &PackTexts<'a>,
-) -> Result<(Addresses, OsVersion), BootCommandFault<'a>> {
+) -> Result<(Addresses, OsVersion), BootCommandFault<'a>>
+    ensures { IfErr result IsOfWords }
+{
     let own_addresses = [
         own.kernel_addr as u64,
         own.ramdisk_addr as u64,

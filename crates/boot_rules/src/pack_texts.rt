@@ -1,7 +1,8 @@
 //! What `pack` and `repack` are told, with the bytes that each word stands for.
 
-ghost use Rattle.std.specs.Prelude.{◌≡◌, ◌≢◌, [], None, IfSome, IsSome, IsTrue, OnOk, false};
+ghost use Rattle.std.specs.Prelude.{◌≡◌, ◌≢◌, [], None, IfErr, IfSome, IsSome, IsTrue, OnOk, false};
 ghost use Rattle.std.specs.List.{All};
+ghost use Rattle.boot_rules.specs.Fault.{IsOfWords};
 ghost use Rattle.boot_rules.specs.Texts.{HasNone, IsChosen, IsNamed};
 
 use crate::fault::BootCommandFault;
@@ -95,6 +96,7 @@ impl<'a> PackTexts<'a> {
     /// that is none, or any where the image has no fragments.
     pub fn check(&self, kind: ImageKind) -> Result<(), BootCommandFault<'a>>
         ensures fragments { OnOk result (All (λ fragment. IsSome fragment.spec) self.now.fragments.items) }
+        ensures words { IfErr result IsOfWords }
         ensures only { OnOk result (kind ≢ ImageKind.Vendor 4 → self.now.fragments.items ≡ []) }
     {
         for option in &self.options {

@@ -1,17 +1,19 @@
 //! What a part of an image is read from: a file, or a range of one.
 
-ghost use Rattle.std.specs.Prelude.{◌≡◌, [], false};
-ghost use Rattle.std.proofs.lemmas.Bool.{false≢true};
+ghost use Rattle.std.specs.Prelude.{◌≡◌, ◌<◌, ◌≤◌, ◌+◌, ◌^◌, Some, None, IsTrue, IfOk, IfErr, OnOk, OnErr};
+ghost use Rattle.std.specs.Prelude.{length, take, drop, option_map};
+ghost use Rattle.abt_io.specs.Count.{count_of};
+ghost use Rattle.boot_rules.specs.Ranges.{bytes_in, count_in, long_in};
+ghost use Rattle.boot_rules.specs.RangesLaws.{part_bytes, part_sized};
 
-use abt_io::{DeviceFault, FileSource, Source};
+use abt_disk::Lasting;
+use abt_io::{DeviceFault, Source, Tally};
 use abt_refusals::Place;
-use std::fs::File;
-use std::io::{Seek, SeekFrom};
 
-/// A range of a file, which tells nothing as the file doesn't.
+/// A range of a file, or no bytes. It tells what its file does.
 #[derive(Drop)]
-pub struct PartSource<'a> {
-    pub file: FileSource,
+pub struct PartSource<'a, S: Source + Lasting> {
+    pub file: Option<S>,
     /// Where it begins in the file.
     pub at: u64,
     /// How many bytes it has.
@@ -20,43 +22,63 @@ pub struct PartSource<'a> {
     pub place: Option<Place<'a>>,
     is_whole: bool,
     has_failed: bool,
+    calls: Tally,
+    pub ghost lies: { IsTrue S.tells → at + size ≤ long_in (option_map S.content file) },
+    pub ghost short: { IsTrue S.tells → long_in (option_map S.content file) < 2 ^ 64 },
+    pub ghost all: { IsTrue S.tells → IsTrue is_whole → long_in (option_map S.content file) ≤ size },
 }
 
-impl<'a> PartSource<'a> {
+impl<'a, S: Source + Lasting> PartSource<'a, S> {
     /// No bytes.
-    pub fn empty() -> PartSource<'a>
-        ensures { result.size ≡ 0 }
+    pub fn empty() -> PartSource<'a, S>
+        ensures size { result.size ≡ 0 }
+        ensures file { result.file ≡ None }
     {
         PartSource {
-            file: FileSource::empty(),
+            file: None,
             at: 0,
             size: 0,
             place: None,
             is_whole: false,
             has_failed: false,
+            calls: Tally::new(),
         }
     }
 
     /// All of a file.
-    pub fn whole(file: FileSource, place: Place<'a>) -> PartSource<'a> {
+    pub fn whole(file: S, place: Place<'a>) -> PartSource<'a, S>
+        ensures file { result.file ≡ Some file }
+        ensures at { result.at ≡ 0 }
+        ensures size { IsTrue S.tells → result.size ≡ length (S.content file) }
+    {
         let size = file.length();
         PartSource {
+            file: Some(file),
+            at: 0,
+            size,
+            place: Some(place),
             is_whole: true,
-            ..PartSource::range(file, place, 0, size)
+            has_failed: false,
+            calls: Tally::new(),
         }
     }
 
-    /// So many bytes of a file from a place on.
-    pub fn range(file: FileSource, place: Place<'a>, at: u64, size: u64) -> PartSource<'a>
-        ensures { result.size ≡ size }
+    /// So many bytes of a file from a place on, which it has.
+    pub fn range(file: S, place: Place<'a>, at: u64, size: u64) -> PartSource<'a, S>
+        requires { IsTrue S.tells → at + size ≤ length (S.content file) }
+        ensures file { result.file ≡ Some file }
+        ensures at { result.at ≡ at }
+        ensures size { result.size ≡ size }
     {
+        let _whole = file.length();
         PartSource {
-            file,
+            file: Some(file),
             at,
             size,
             place: Some(place),
             is_whole: false,
             has_failed: false,
+            calls: Tally::new(),
         }
     }
 
@@ -64,59 +86,93 @@ impl<'a> PartSource<'a> {
     pub fn is_at_fault(&self) -> bool {
         self.has_failed || self.size > u32::MAX as u64
     }
+}
 
-    // Takes the file's length once more, so that a file that grew is no longer as long as it was.
-    fn ask_length(&mut self)
-        ensures reads { self.new.file.reads ≡ self.old.file.reads }
-        ensures given { self.new.file.given ≡ self.old.file.given }
-        ensures faults { self.new.file.faults ≡ self.old.file.faults }
-    {
-        let length = length_now(&mut self.file.file);
-        self.has_failed = self.has_failed || length != self.size;
-        self.size = length;
+// Reads from a file that may be none.
+fn read_in<S: Source>(file: &mut Option<S>, at: u64, out: &mut [u8]) -> Result<usize, DeviceFault>
+    requires { length out.old ≤ 65536 }
+    ensures within { count_of result ≤ length out.new }
+    ensures bytes { IsTrue S.tells → take (count_of result) out.new
+        ≡ take (count_of result) (bytes_in (option_map S.content file.old) at (count_of result)) }
+    ensures content { IsTrue S.tells → option_map S.content file.new ≡ option_map S.content file.old }
+    ensures ended { IsTrue S.tells → IfOk result (λ n. n ≡ 0 → 0 < length out.new →
+        long_in (option_map S.content file.old) ≤ at) }
+    ensures counted { count_in (option_map S.given file.new) ≡ count_in (option_map S.given file.old) + count_of result }
+    ensures faults { count_in (option_map S.read_faults file.old) ≤ count_in (option_map S.read_faults file.new) }
+    ensures cause { OnErr result (count_in (option_map S.read_faults file.old)
+        < count_in (option_map S.read_faults file.new)) }
+    ensures clean { OnOk result (count_in (option_map S.read_faults file.new)
+        ≡ count_in (option_map S.read_faults file.old)) }
+    ensures failed { IfErr result (λ e. e ≡ DeviceFault.Failed) }
+{
+    match file {
+        Some(file) => file.read_at(at, out),
+        None => Ok(0),
     }
 }
 
-// How long a file is, or 0.
-fn length_now(file: &mut Option<File>) -> u64 {
+// How long a file is now, or 0.
+fn length_in<S: Source + Lasting>(file: &mut Option<S>) -> u64
+    ensures length { IsTrue S.tells → result ≡ long_in (option_map S.content file.old) }
+    ensures content { IsTrue S.tells → option_map S.content file.new ≡ option_map S.content file.old }
+    ensures given { option_map S.given file.new ≡ option_map S.given file.old }
+    ensures faults { option_map S.read_faults file.new ≡ option_map S.read_faults file.old }
+{
     match file {
-        Some(file) => file.seek(SeekFrom::End(0)).unwrap_or(0),
+        Some(file) => file.length_now(),
         None => 0,
     }
 }
 
-impl Source for PartSource<'_> {
-    ghost tells = { false };
+impl<S: Source + Lasting> Source for PartSource<'_, S> {
+    ghost tells = { S.tells };
 
-    ghost content = { λ _. [] };
+    ghost content = { λ p. bytes_in (option_map S.content p.file) p.at p.size };
 
-    ghost size = { λ s. s.size };
+    ghost size = { λ p. p.size };
 
-    ghost reads = { λ s. s.file.reads.number };
+    ghost reads = { λ p. p.calls.number };
 
-    ghost given = { λ s. s.file.given.number };
+    ghost given = { λ p. count_in (option_map S.given p.file) };
 
-    ghost read_faults = { λ s. s.file.faults.number };
+    ghost read_faults = { λ p. count_in (option_map S.read_faults p.file) };
 
-    ghost sized = { λ _ t. absurd (false≢true t) };
+    ghost sized = { λ p t. part_sized (option_map S.content p.file) p.at p.size (p.lies t) };
 
-    ghost are_bytes = { λ _ t. absurd (false≢true t) };
+    ghost are_bytes = { λ p t. part_bytes S.content p.file p.at p.size (λ s. S.are_bytes s t) };
 
     fn length(&self) -> u64 {
         self.size
     }
 
     fn read_at(&mut self, at: u64, out: &mut [u8]) -> Result<usize, DeviceFault> {
+        self.calls.add(1);
         let left = self.size.saturating_sub(at);
         let room = left.min(out.len() as u64) as usize;
-        let answer = self
-            .file
-            .read_at(self.at.saturating_add(at), &mut out[..room]);
+        let from = self.at.saturating_add(at);
+        let answer = read_in(&mut self.file, from, &mut out[..room]);
         let came = answer.unwrap_or(0);
         self.has_failed = self.has_failed || came == 0 && room > 0;
         if self.is_whole && came as u64 == left {
             self.ask_length();
         }
         answer
+    }
+}
+
+impl<S: Source + Lasting> PartSource<'_, S> {
+    // Takes the file's length once more, so that a file that grew is no longer as long as it was.
+    fn ask_length(&mut self)
+        requires { IsTrue self.old.is_whole }
+        ensures content { IsTrue S.tells → option_map S.content self.new.file ≡ option_map S.content self.old.file }
+        ensures at { self.new.at ≡ self.old.at }
+        ensures size { IsTrue S.tells → self.new.size ≡ self.old.size }
+        ensures calls { self.new.calls ≡ self.old.calls }
+        ensures given { option_map S.given self.new.file ≡ option_map S.given self.old.file }
+        ensures faults { option_map S.read_faults self.new.file ≡ option_map S.read_faults self.old.file }
+    {
+        let length = length_in(&mut self.file);
+        self.has_failed = self.has_failed || length != self.size;
+        self.size = length;
     }
 }

@@ -1,10 +1,10 @@
 -- Words printed one behind another.
-use Rattle.std.proofs.Common.{◌≡◌, ℕ, zero, suc, ◌+◌, ◌<◌, List, [], ◌∷◌, ◌++◌, Result, Ok, Err, OnOk, length, take, get_or, subst, sym, ap, ◌∙◌, arith, append_assoc, append-nil}
+use Rattle.std.proofs.Common.{◌≡◌, ℕ, zero, suc, ◌+◌, ◌<◌, List, [], ◌∷◌, ◌++◌, Result, Ok, Err, OnOk, length, take, get_or, flat_map, subst, sym, ap, ◌∙◌, arith, append_assoc, append-nil}
 use Rattle.std.proofs.lemmas.Grind.{flat_map-append}
 use Rattle.abt_text.specs.declared.text_output.Text.{Text}
-use Rattle.boot_texts.specs.Info.{line}
+use Rattle.boot_texts.specs.Info.{escaped, line}
 use Rattle.abt_text.specs.Printed.{Prints}
-use Rattle.boot_texts.specs.Words.{words_text, board_word, board_words}
+use Rattle.boot_texts.specs.Words.{words_text, board_word, board_words, text_of, text_over}
 use Rattle.abt_text.proofs.Printing.{both_printed}
 
 abbrev pub PrintsWords : {O : Type 0} → (O → List ℕ) → (O → ℕ) → Text O → Text O → List (List ℕ) → Type 0
@@ -19,6 +19,22 @@ module _ {O : Type 0} (written : O → List ℕ) (faults : O → ℕ) where
       → PrintsWords written faults s t a → OnOk r (PrintsWords written faults t u b) → OnOk r (PrintsWords written faults s u (a ++ b))
   then_words s t u a b (Ok x) p q = both_words s t u a b p q
   then_words s t u a b (Err e) p q = tt
+
+-- these words, and then those
+pub more_words : {O : Type 0} {written : O → List ℕ} {faults : O → ℕ} {s t u : Text O} (a b : List (List ℕ))
+    → PrintsWords written faults s t a → PrintsWords written faults t u b → PrintsWords written faults s u (a ++ b)
+more_words a b p q = both_words _ _ _ _ _ a b p q
+
+-- one word is a line
+pub one_word : (w : List ℕ) → line w ≡ words_text (w ∷ [])
+one_word w = sym (append-nil (line w))
+
+-- a text that two fields hold together
+pub then_text : (a b f r : List ℕ) → f ≡ text_of a → text_over a b ≡ text_of a ++ r
+    → flat_map escaped f ++ flat_map escaped r ≡ flat_map escaped (text_over a b)
+then_text a b f r front rest =
+    ap (λ z. flat_map escaped z ++ flat_map escaped r) front ∙ sym (flat_map-append escaped (text_of a) r)
+    ∙ ap (flat_map escaped) (sym rest)
 
 -- a board id as far as number k
 pub one_board : (i first : ℕ) (ns : List ℕ) (k : ℕ) → k < length ns → board_words i first (take k ns) ++ board_word i (first + k) (get_or ns k 0) ≡ board_words i first (take (suc k) ns)

@@ -1,6 +1,6 @@
 //! The words that pack an image again: what its header and its table say, each as an option of `pack`.
 
-ghost use Rattle.std.specs.Prelude.{◌≡◌, ◌≤◌, ◌++◌, ◌∷◌, [], Some, None, MatchOption, IsTrue, IfErr, IfSome, OnOk};
+ghost use Rattle.std.specs.Prelude.{◌≡◌, ◌++◌, ◌∷◌, [], ℕ, List, Some, None, MatchOption, IsTrue, IsSome, IfErr, OnOk};
 ghost use Rattle.std.specs.List.{flat_map};
 ghost use Rattle.abt_sections.specs.Check.{all_zero};
 ghost use Rattle.abt_sections.specs.Open.{IsOpened};
@@ -10,14 +10,14 @@ ghost use Rattle.abt_text.specs.Printed.{Prints};
 ghost use Rattle.boot_texts.specs.Words as words;
 
 use crate::word_lines::{
-    BoardOption, FlagWord, FragmentOption, NumberWord, OsOption, PartWord, TextWord,
+    put_board_word, put_flag_word, put_fragment_word, put_number_word, put_os_word, put_part_word,
+    put_text_word,
 };
 use abt_headers::{Place, RamdiskEntry, Section, VendorHeader};
 use abt_io::{Meter, Output, Source, Window};
 use abt_sections::{Image, ImageHeader, SectionFault, fragment, fragments, section, sections};
 use abt_text::Text;
 use boot_fields::{Address, TextField, address_of, front_text, os_version_of, text_field_of};
-use std::fmt;
 
 /// Writes the words, one a line, with which `pack` makes this image again from the files that `unpack` writes to a
 /// folder.
@@ -37,12 +37,16 @@ pub fn write_words<S: Source, O: Output>(
         (words.image_words folder.now (S.content source.old) (view_of image.now.header))) }
     ensures refused { IsTrue S.tells → IsOpened (S.content source.old) image.now →
         IfErr result (λ f. info.PrintCause f (S.read_faults source.old) (S.read_faults source.new)) }
+    ensures reads { info.ReadTold result (S.read_faults source.old) (S.read_faults source.new) }
+    ensures failed { IfErr result (λ f. info.WriteTold f (O.write_faults out.old) (O.write_faults out.new)) }
+    ensures clean { OnOk result (O.write_faults out.new ≡ O.write_faults out.old) }
 {
     let mut text = Text::new(out);
     let told = image_words(image, folder, source, &mut text, w, m);
-    match text.finish() {
-        Ok(()) => told,
-        Err(fault) => Err(SectionFault::Write(fault)),
+    match (text.finish(), told) {
+        (Ok(()), Ok(())) => Ok(()),
+        (Ok(()), Err(fault)) => Err(fault),
+        (Err(fault), _) => Err(SectionFault::Write(fault)),
     }
 }
 
@@ -59,74 +63,67 @@ fn image_words<S: Source, O: Output>(
         OnOk
         result (Prints O.written O.write_faults text.old text.new
         (words.words_text (words.image_words folder.now (S.content source.old) (view_of image.now.header)))) }
+    ensures prints { (done : List ℕ) × Prints O.written O.write_faults text.old text.new done }
+    ensures told { IfErr result (λ f. info.IsWrite f → IsSome text.new.fault) }
+    ensures reads { info.ReadTold result (S.read_faults source.old) (S.read_faults source.new) }
     ensures refused { IsTrue S.tells → IsOpened (S.content source.old) image.now →
         IfErr result (λ f. info.PrintCause f (S.read_faults source.old) (S.read_faults source.new)) }
 {
-    let header = &image.header;
-    kind_words(header, text)?;
-    section_words(image, folder, text, m)?;
-    address_words(header, text)?;
-    name_words(header, text)?;
-    cmdline_word(header, text)?;
-    os_words(header, text)?;
+    header_words(image, folder, text, m);
     fragment_words(image, folder, source, text, w, m)
 }
 
-fn kind_words<O: Output>(header: &ImageHeader, text: &mut Text<'_, O>) -> Result<(), SectionFault>
-    ensures lines { OnOk
-        result (Prints O.written O.write_faults text.old text.new (words.words_text (words.kind_words (view_of header.now)))) }
-    ensures refused { IfErr result info.IsWrite }
+// The words of all but the fragments.
+fn header_words<O: Output>(image: &Image, folder: &str, text: &mut Text<'_, O>, m: &mut Meter)
+    ensures { Prints O.written O.write_faults text.old text.new
+        (words.words_text (words.header_words folder.now (view_of image.now.header))) }
 {
-    print(text, FlagWord("escaped"))?;
+    let header = &image.header;
+    kind_words(header, text);
+    section_words(image, folder, text, m);
+    address_words(header, text);
+    name_words(header, text);
+    cmdline_word(header, text);
+    os_words(header, text);
+}
+
+fn kind_words<O: Output>(header: &ImageHeader, text: &mut Text<'_, O>)
+    ensures { Prints
+        O.written O.write_faults text.old text.new (words.words_text (words.kind_words (view_of header.now))) }
+{
+    put_flag_word("escaped", text);
     match header {
         ImageHeader::Boot(header) => {
-            print(text, NumberWord("version", header.version() as u64))?;
-            print(text, NumberWord("page", header.page_size() as u64))
+            put_number_word("version", header.version() as u64, text);
+            put_number_word("page", header.page_size() as u64, text);
         }
         ImageHeader::Vendor(header) => {
-            print(text, FlagWord("vendor"))?;
-            print(text, NumberWord("version", header.version() as u64))?;
-            print(text, NumberWord("page", header.page_size() as u64))
+            put_flag_word("vendor", text);
+            put_number_word("version", header.version() as u64, text);
+            put_number_word("page", header.page_size() as u64, text);
         }
     }
 }
 
-fn section_words<O: Output>(
-    image: &Image,
-    folder: &str,
-    text: &mut Text<'_, O>,
-    m: &mut Meter,
-) -> Result<(), SectionFault>
-    ensures lines { OnOk
-        result (Prints O.written O.write_faults text.old text.new
+fn section_words<O: Output>(image: &Image, folder: &str, text: &mut Text<'_, O>, m: &mut Meter)
+    ensures { Prints O.written O.write_faults text.old text.new
         (words.words_text (flat_map (words.section_words folder.now (words.has_table (view_of image.now.header)))
-        (places_of (view_of image.now.header))))) }
-    ensures refused { IfErr result info.IsWrite }
+        (places_of (view_of image.now.header)))) }
 {
     let table = has_table(&image.header);
     for i in 0..sections(image) {
         m.tick();
-        section_word(section(image, i), folder, table, text)?;
+        section_word(section(image, i), folder, table, text);
     }
-    Ok(())
 }
 
-fn section_word<O: Output>(
-    place: Place,
-    folder: &str,
-    table: bool,
-    text: &mut Text<'_, O>,
-) -> Result<(), SectionFault>
-    ensures lines { OnOk
-        result (Prints O.written O.write_faults text.old text.new (words.words_text (words.section_words folder.now table place))) }
-    ensures refused { IfErr result info.IsWrite }
+fn section_word<O: Output>(place: Place, folder: &str, table: bool, text: &mut Text<'_, O>)
+    ensures { Prints
+        O.written O.write_faults text.old text.new (words.words_text (words.section_words folder.now table place)) }
 {
     match section_option(table, place.kind) {
-        Some(name) => {
-            let file = place.kind.name();
-            print(text, PartWord { name, folder, file })
-        }
-        None => Ok(()),
+        Some(name) => put_part_word(name, folder, place.kind.name(), text),
+        None => {}
     }
 }
 
@@ -160,33 +157,24 @@ fn section_option(table: bool, section: Section) -> Option<&'static str>
     }
 }
 
-fn address_words<O: Output>(
-    header: &ImageHeader,
-    text: &mut Text<'_, O>,
-) -> Result<(), SectionFault>
-    ensures lines { OnOk
-        result (Prints O.written O.write_faults text.old text.new (words.words_text (words.address_words (view_of header.now)))) }
-    ensures refused { IfErr result info.IsWrite }
+fn address_words<O: Output>(header: &ImageHeader, text: &mut Text<'_, O>)
+    ensures { Prints
+        O.written O.write_faults text.old text.new (words.words_text (words.address_words (view_of header.now))) }
 {
-    address_word(header, Address::Kernel, text)?;
-    address_word(header, Address::Ramdisk, text)?;
-    address_word(header, Address::Second, text)?;
-    address_word(header, Address::Tags, text)?;
-    address_word(header, Address::Dtb, text)
+    address_word(header, Address::Kernel, text);
+    address_word(header, Address::Ramdisk, text);
+    address_word(header, Address::Second, text);
+    address_word(header, Address::Tags, text);
+    address_word(header, Address::Dtb, text);
 }
 
-fn address_word<O: Output>(
-    header: &ImageHeader,
-    which: Address,
-    text: &mut Text<'_, O>,
-) -> Result<(), SectionFault>
-    ensures lines { OnOk
-        result (Prints O.written O.write_faults text.old text.new (words.words_text (words.address_word (view_of header.now) which))) }
-    ensures refused { IfErr result info.IsWrite }
+fn address_word<O: Output>(header: &ImageHeader, which: Address, text: &mut Text<'_, O>)
+    ensures { Prints
+        O.written O.write_faults text.old text.new (words.words_text (words.address_word (view_of header.now) which)) }
 {
     match address_of(header, which) {
-        Some(address) => print(text, NumberWord(address_option(which), address)),
-        None => Ok(()),
+        Some(address) => put_number_word(address_option(which), address, text),
+        None => {}
     }
 }
 
@@ -202,40 +190,31 @@ fn address_option(which: Address) -> &'static str
     }
 }
 
-fn name_words<O: Output>(header: &ImageHeader, text: &mut Text<'_, O>) -> Result<(), SectionFault>
-    ensures lines { OnOk
-        result (Prints O.written O.write_faults text.old text.new (words.words_text (words.name_words (view_of header.now)))) }
-    ensures refused { IfErr result info.IsWrite }
+fn name_words<O: Output>(header: &ImageHeader, text: &mut Text<'_, O>)
+    ensures { Prints
+        O.written O.write_faults text.old text.new (words.words_text (words.name_words (view_of header.now))) }
 {
     match text_field_of(header, TextField::Name) {
-        Some(front) => {
-            let name = "name";
-            let back = &[];
-            print(text, TextWord { name, front, back })
-        }
-        None => Ok(()),
+        Some(name) => put_text_word("name", name, &[], text),
+        None => {}
     }
 }
 
-fn cmdline_word<O: Output>(header: &ImageHeader, text: &mut Text<'_, O>) -> Result<(), SectionFault>
-    ensures lines { OnOk
-        result (Prints O.written O.write_faults text.old text.new (words.words_text (words.cmdline_word (view_of header.now) ∷ []))) }
-    ensures refused { IfErr result info.IsWrite }
+fn cmdline_word<O: Output>(header: &ImageHeader, text: &mut Text<'_, O>)
+    ensures { Prints
+        O.written O.write_faults text.old text.new (words.words_text (words.cmdline_word (view_of header.now) ∷ [])) }
 {
-    let name = "cmdline";
     let front = text_field_of(header, TextField::Cmdline).unwrap_or(&[]);
     let back = text_field_of(header, TextField::Extra).unwrap_or(&[]);
-    print(text, TextWord { name, front, back })
+    put_text_word("cmdline", front, back, text);
 }
 
-fn os_words<O: Output>(header: &ImageHeader, text: &mut Text<'_, O>) -> Result<(), SectionFault>
-    ensures lines { OnOk
-        result (Prints O.written O.write_faults text.old text.new (words.words_text (words.os_words (view_of header.now)))) }
-    ensures refused { IfErr result info.IsWrite }
+fn os_words<O: Output>(header: &ImageHeader, text: &mut Text<'_, O>)
+    ensures { Prints O.written O.write_faults text.old text.new (words.words_text (words.os_words (view_of header.now))) }
 {
     match os_version_of(header) {
-        Some(os) => print(text, OsOption(os)),
-        None => Ok(()),
+        Some(os) => put_os_word(os, text),
+        None => {}
     }
 }
 
@@ -253,20 +232,23 @@ fn fragment_words<S: Source, O: Output>(
         result (Prints O.written O.write_faults text.old text.new
         (words.words_text (words.fragment_words folder.now (S.content source.old) (view_of image.now.header)
         (fragment_count (view_of image.now.header))))) }
-    ensures faults { S.read_faults source.old ≤ S.read_faults source.new }
+    ensures prints { (done : List ℕ) × Prints O.written O.write_faults text.old text.new done }
+    ensures told { IfErr result (λ f. info.IsWrite f → IsSome text.new.fault) }
+    ensures reads { info.ReadTold result (S.read_faults source.old) (S.read_faults source.new) }
     ensures refused { IsTrue S.tells → IsOpened (S.content source.old) image.now →
         IfErr result (λ f. info.PrintCause f (S.read_faults source.old) (S.read_faults source.new)) }
 {
     for i in 0..fragments(image) {
         m.tick();
+        match text.is_whole() {
+            Ok(()) => {}
+            Err(fault) => return Err(SectionFault::Write(fault)),
+        }
         let entry = match fragment(image, i, source, w, m) {
             Ok(entry) => entry,
             Err(fault) => return Err(fault),
         };
-        match entry_words(i, &entry, folder, text, m) {
-            Ok(()) => {}
-            Err(fault) => return Err(fault),
-        }
+        entry_words(i, &entry, folder, text, m);
     }
     Ok(())
 }
@@ -277,19 +259,13 @@ fn entry_words<O: Output>(
     folder: &str,
     text: &mut Text<'_, O>,
     m: &mut Meter,
-) -> Result<(), SectionFault>
-    ensures lines { OnOk
-        result (Prints O.written O.write_faults text.old text.new (words.words_text (words.entry_words folder.now index entry.now))) }
-    ensures refused { IfErr result info.IsWrite }
+)
+    ensures { Prints
+        O.written O.write_faults text.old text.new (words.words_text (words.entry_words folder.now index entry.now)) }
 {
-    let option = FragmentOption {
-        index,
-        kind: entry.ramdisk_type,
-        name: name_bytes(&entry.name),
-        folder,
-    };
-    print(text, option)?;
-    board_words(index, &entry.board_id, text, m)
+    let name = name_bytes(&entry.name);
+    put_fragment_word(index, entry.ramdisk_type, name, folder, text);
+    board_words(index, &entry.board_id, text, m);
 }
 
 // A name as far as it is not zero, or all of it where it is no text.
@@ -320,50 +296,22 @@ fn board_words<O: Output>(
     board_id: &[u32; 16],
     text: &mut Text<'_, O>,
     m: &mut Meter,
-) -> Result<(), SectionFault>
-    ensures lines { OnOk
-        result (Prints O.written O.write_faults text.old text.new (words.words_text (words.board_words fragment 0 board_id.now))) }
-    ensures refused { IfErr result info.IsWrite }
+)
+    ensures { Prints
+        O.written O.write_faults text.old text.new (words.words_text (words.board_words fragment 0 board_id.now)) }
 {
     for place in 0..16 {
         m.tick();
-        board_word(fragment, place, board_id[place as usize], text)?;
+        board_word(fragment, place, board_id[place as usize], text);
     }
-    Ok(())
 }
 
-fn board_word<O: Output>(
-    fragment: u32,
-    place: u32,
-    number: u32,
-    text: &mut Text<'_, O>,
-) -> Result<(), SectionFault>
-    ensures lines { OnOk
-        result (Prints O.written O.write_faults text.old text.new (words.words_text (words.board_word fragment place number))) }
-    ensures refused { IfErr result info.IsWrite }
+fn board_word<O: Output>(fragment: u32, place: u32, number: u32, text: &mut Text<'_, O>)
+    ensures { Prints
+        O.written O.write_faults text.old text.new (words.words_text (words.board_word fragment place number)) }
 {
     if number == 0 {
-        return Ok(());
+        return;
     }
-    let option = BoardOption {
-        fragment,
-        place,
-        number,
-    };
-    print(text, option)
-}
-
-// Prints one word and the end of its line, whose fault is a write's.
-fn print<O: Output, D: fmt::Display + Drop>(
-    text: &mut Text<'_, O>,
-    word: D,
-) -> Result<(), SectionFault>
-    ensures line { OnOk
-        result (IfSome (D.output word) (λ bs. Prints O.written O.write_faults text.old text.new (words.words_text (bs ∷ [])))) }
-    ensures refused { IfErr result info.IsWrite }
-{
-    match text.line(word) {
-        Ok(()) => Ok(()),
-        Err(fault) => Err(SectionFault::Write(fault)),
-    }
+    put_board_word(fragment, place, number, text);
 }

@@ -1,79 +1,64 @@
-//! The words that pack an image again, each with the text that it prints.
+//! The words that pack an image again, each as the line that it stands in.
 
-ghost use Rattle.std.specs.Prelude.{◌≡◌, ◌++◌, Some};
+ghost use Rattle.std.specs.Prelude.{◌≡◌, ◌++◌, ◌∷◌, []};
 ghost use Rattle.std.specs.List.{flat_map};
 ghost use Rattle.abt_headers.specs.Os.{os_parts};
+ghost use Rattle.abt_text.specs.Printed.{Prints};
 ghost use Rattle.boot_texts.specs.Info as info;
 ghost use Rattle.boot_texts.specs.Words as words;
 
-use crate::info_lines::is_plain;
-use abt_headers::OsVersion;
+use crate::info_lines::{put_byte, put_escaped, put_two_digits};
+use abt_headers::{OsParts, OsVersion};
+use abt_io::Output;
+use abt_text::Text;
 use boot_fields::front_text;
-use std::fmt;
 
-/// The word `--NAME`.
-#[derive(Clone, Copy, Drop)]
-pub struct FlagWord(pub &'static str);
-
-impl fmt::Display for FlagWord {
-    ghost output = { λ word. Some (words.flag_word word.0.now) };
-
-    fn fmt<W: fmt::Write>(&self, f: &mut fmt::Formatter<W>) -> fmt::Result {
-        let name = self.0;
-        write!(f, "--{name}")
-    }
+/// Adds the word `--NAME`.
+pub fn put_flag_word<O: Output>(name: &str, text: &mut Text<'_, O>)
+    ensures { Prints O.written O.write_faults text.old text.new (words.words_text (words.flag_word name.now ∷ [])) }
+{
+    text.word("--");
+    text.word(name);
+    text.end_line();
 }
 
-/// The word `--NAME=N` of a number.
-#[derive(Clone, Copy, Drop)]
-pub struct NumberWord(pub &'static str, pub u64);
-
-impl fmt::Display for NumberWord {
-    ghost output = { λ word. Some (words.number_word word.0.now word.1) };
-
-    fn fmt<W: fmt::Write>(&self, f: &mut fmt::Formatter<W>) -> fmt::Result {
-        let name = self.0;
-        let number = self.1;
-        write!(f, "--{name}={number}")
-    }
+/// Adds the word `--NAME=N` of a number.
+pub fn put_number_word<O: Output>(name: &str, number: u64, text: &mut Text<'_, O>)
+    ensures { Prints
+        O.written O.write_faults text.old text.new (words.words_text (words.number_word name.now number ∷ [])) }
+{
+    text.word("--");
+    text.word(name);
+    text.word("=");
+    text.number(number);
+    text.end_line();
 }
 
-/// The word `--NAME=FOLDER/FILE` of a part.
-#[derive(Clone, Copy, Drop)]
-pub struct PartWord<'a> {
-    pub name: &'static str,
-    pub folder: &'a str,
-    pub file: &'static str,
+/// Adds the word `--NAME=FOLDER/FILE` of a part.
+pub fn put_part_word<O: Output>(name: &str, folder: &str, file: &str, text: &mut Text<'_, O>)
+    ensures { Prints
+        O.written O.write_faults text.old text.new (words.words_text (words.part_word name.now folder.now file.now ∷ [])) }
+{
+    text.word("--");
+    text.word(name);
+    text.word("=");
+    put_escaped(folder.as_bytes(), text);
+    text.word("/");
+    text.word(file);
+    text.end_line();
 }
 
-impl fmt::Display for PartWord<'_> {
-    ghost output = { λ word. Some (words.part_word word.name.now word.folder.now word.file.now) };
-
-    fn fmt<W: fmt::Write>(&self, f: &mut fmt::Formatter<W>) -> fmt::Result {
-        let name = self.name;
-        let folder = EscapedText(self.folder.as_bytes());
-        let file = self.file;
-        write!(f, "--{name}={folder}/{file}")
-    }
-}
-
-/// The word `--NAME=TEXT` of a text that ends at the first zero byte of two fields.
-#[derive(Clone, Copy, Drop)]
-pub struct TextWord<'a> {
-    pub name: &'static str,
-    pub front: &'a [u8],
-    pub back: &'a [u8],
-}
-
-impl fmt::Display for TextWord<'_> {
-    ghost output = { λ word. Some (words.text_word word.name.now word.front.now word.back.now) };
-
-    fn fmt<W: fmt::Write>(&self, f: &mut fmt::Formatter<W>) -> fmt::Result {
-        let name = self.name;
-        let text = EscapedText(front_text(self.front));
-        let rest = EscapedText(rest_of_text(self.front, self.back));
-        write!(f, "--{name}={text}{rest}")
-    }
+/// Adds the word `--NAME=TEXT` of a text that ends at the first zero byte of two fields.
+pub fn put_text_word<O: Output>(name: &str, front: &[u8], back: &[u8], text: &mut Text<'_, O>)
+    ensures { Prints
+        O.written O.write_faults text.old text.new (words.words_text (words.text_word name.now front.now back.now ∷ [])) }
+{
+    text.word("--");
+    text.word(name);
+    text.word("=");
+    put_escaped(front_text(front), text);
+    put_escaped(rest_of_text(front, back), text);
+    text.end_line();
 }
 
 // What of a text stands in the second of two fields.
@@ -87,135 +72,88 @@ fn rest_of_text<'a>(front: &[u8], back: &'a [u8]) -> &'a [u8]
     }
 }
 
-/// The word `--os=A.B.C-YYYY-MM`, or `--os-number=N` where the month is none.
-#[derive(Clone, Copy, Drop)]
-pub struct OsOption(pub OsVersion);
+/// Adds the word `--os=A.B.C-YYYY-MM`, or `--os-number=N` where the month is none.
+pub fn put_os_word<O: Output>(os: OsVersion, text: &mut Text<'_, O>)
+    ensures { Prints O.written O.write_faults text.old text.new (words.words_text (words.os_option os.number ∷ [])) }
+{
+    let parts = os.parts();
+    let month = parts.month;
+    if month < 1 || month > 12 {
+        text.word("--os-number=");
+        text.number(os.raw() as u64);
+        text.end_line();
+        return;
+    }
+    text.word("--os=");
+    put_os_parts(parts, text);
+    text.end_line();
+}
 
-impl fmt::Display for OsOption {
-    ghost output = { λ word. Some (words.os_option word.0.number) };
+fn put_os_parts<O: Output>(parts: OsParts, text: &mut Text<'_, O>)
+    ensures { Prints O.written O.write_faults text.old text.new (words.os_text parts) }
+{
+    text.number(parts.a as u64);
+    text.word(".");
+    text.number(parts.b as u64);
+    text.word(".");
+    text.number(parts.c as u64);
+    text.word("-");
+    text.number(parts.year as u64);
+    text.word("-");
+    put_two_digits(parts.month, text);
+}
 
-    fn fmt<W: fmt::Write>(&self, f: &mut fmt::Formatter<W>) -> fmt::Result {
-        let parts = self.0.parts();
-        let a = parts.a;
-        let b = parts.b;
-        let c = parts.c;
-        let year = parts.year;
-        let month = parts.month;
-        if month < 1 || month > 12 {
-            let number = self.0.raw();
-            return write!(f, "--os-number={number}");
-        }
-        let tens = month / 10;
-        let ones = month % 10;
-        write!(f, "--os={a}.{b}.{c}-{year}-{tens}{ones}")
+/// Adds the word `--fragment=TYPE:NAME:FOLDER/fragment.I` of a ramdisk fragment.
+pub fn put_fragment_word<O: Output>(
+    index: u32,
+    kind: u32,
+    name: &[u8],
+    folder: &str,
+    text: &mut Text<'_, O>,
+)
+    ensures { Prints O.written O.write_faults text.old text.new
+        (words.words_text (words.fragment_option index kind name.now folder.now ∷ [])) }
+{
+    text.word("--fragment=");
+    text.number(kind as u64);
+    text.word(":");
+    put_escaped_name(name, text);
+    text.word(":");
+    put_escaped(folder.as_bytes(), text);
+    text.word("/fragment.");
+    text.number(index as u64);
+    text.end_line();
+}
+
+/// Adds the word `--board-id=I:K=N`: number K of the board id of fragment I is N.
+pub fn put_board_word<O: Output>(fragment: u32, place: u32, number: u32, text: &mut Text<'_, O>)
+    ensures { Prints O.written O.write_faults text.old text.new
+        (words.words_text (words.board_option fragment place number ∷ [])) }
+{
+    text.word("--board-id=");
+    text.number(fragment as u64);
+    text.word(":");
+    text.number(place as u64);
+    text.word("=");
+    text.number(number as u64);
+    text.end_line();
+}
+
+// Adds the bytes of a fragment's name, of which a colon is escaped too.
+fn put_escaped_name<O: Output>(name: &[u8], text: &mut Text<'_, O>)
+    ensures { Prints O.written O.write_faults text.old text.new (flat_map words.escaped_in_name name.now) }
+{
+    for byte in name {
+        put_byte_in_name(*byte, text);
     }
 }
 
-/// The word `--fragment=TYPE:NAME:FOLDER/fragment.I` of a ramdisk fragment.
-#[derive(Clone, Copy, Drop)]
-pub struct FragmentOption<'a> {
-    pub index: u32,
-    pub kind: u32,
-    pub name: &'a [u8],
-    pub folder: &'a str,
-}
-
-impl fmt::Display for FragmentOption<'_> {
-    ghost output = { λ word. Some (words.fragment_option word.index word.kind word.name.now word.folder.now) };
-
-    fn fmt<W: fmt::Write>(&self, f: &mut fmt::Formatter<W>) -> fmt::Result {
-        let index = self.index;
-        let kind = self.kind;
-        let name = EscapedName(self.name);
-        let folder = EscapedText(self.folder.as_bytes());
-        write!(f, "--fragment={kind}:{name}:{folder}/fragment.{index}")
+fn put_byte_in_name<O: Output>(byte: u8, text: &mut Text<'_, O>)
+    ensures { Prints O.written O.write_faults text.old text.new (words.escaped_in_name byte) }
+{
+    if byte == b':' {
+        text.word("\\x3a");
+        return;
     }
-}
-
-/// The word `--board-id=I:K=N`: number K of the board id of fragment I is N.
-#[derive(Clone, Copy, Drop)]
-pub struct BoardOption {
-    pub fragment: u32,
-    pub place: u32,
-    pub number: u32,
-}
-
-impl fmt::Display for BoardOption {
-    ghost output = { λ word. Some (words.board_option word.fragment word.place word.number) };
-
-    fn fmt<W: fmt::Write>(&self, f: &mut fmt::Formatter<W>) -> fmt::Result {
-        let fragment = self.fragment;
-        let place = self.place;
-        let number = self.number;
-        write!(f, "--board-id={fragment}:{place}={number}")
-    }
-}
-
-/// The bytes of a fragment's name, of which a colon is escaped too.
-#[derive(Clone, Copy, Drop)]
-struct EscapedName<'a>(&'a [u8]);
-
-impl fmt::Display for EscapedName<'_> {
-    ghost output = { λ text. Some (flat_map words.escaped_in_name text.0.now) };
-
-    fn fmt<W: fmt::Write>(&self, f: &mut fmt::Formatter<W>) -> fmt::Result {
-        for byte in self.0 {
-            write!(f, "{}", EscapedInName(*byte))?;
-        }
-        Ok(())
-    }
-}
-
-#[derive(Clone, Copy, Drop)]
-struct EscapedInName(u8);
-
-impl fmt::Display for EscapedInName {
-    ghost output = { λ byte. Some (words.escaped_in_name byte.0) };
-
-    fn fmt<W: fmt::Write>(&self, f: &mut fmt::Formatter<W>) -> fmt::Result {
-        let byte = self.0;
-        if byte == b':' {
-            return f.write_str("\\x3a");
-        }
-        let escaped = Escaped(byte);
-        write!(f, "{escaped}")
-    }
-}
-
-/// The bytes of a text, each as it is or escaped.
-#[derive(Clone, Copy, Drop)]
-pub struct EscapedText<'a>(pub &'a [u8]);
-
-impl fmt::Display for EscapedText<'_> {
-    ghost output = { λ text. Some (flat_map info.escaped text.0.now) };
-
-    fn fmt<W: fmt::Write>(&self, f: &mut fmt::Formatter<W>) -> fmt::Result {
-        for byte in self.0 {
-            write!(f, "{}", Escaped(*byte))?;
-        }
-        Ok(())
-    }
-}
-
-/// A byte of a text, as it is or as `\x` and two digits.
-#[derive(Clone, Copy, Drop)]
-pub struct Escaped(pub u8);
-
-impl fmt::Display for Escaped {
-    ghost output = { λ byte. Some (info.escaped byte.0) };
-
-    fn fmt<W: fmt::Write>(&self, f: &mut fmt::Formatter<W>) -> fmt::Result {
-        if is_plain(self.0) {
-            return f.write_char(char::from(self.0));
-        }
-        let mut digits = [0u8; 2];
-        match hex::encode_to_slice([self.0].as_slice(), &mut digits) {
-            Ok(()) => {}
-            Err(_) => return Err(fmt::Error),
-        }
-        match str::from_utf8(&digits) {
-            Ok(text) => write!(f, "\\x{text}"),
-            Err(_) => Err(fmt::Error),
-        }
-    }
+    put_byte(byte, text);
 }

@@ -4,6 +4,12 @@ use Rattle.boot_bodies.proofs.in_memory.unpack_in_memory.Goals as goal
 pub returns-clause-done : goal.returns-clause-done
 returns-clause-done c = c.unpack_file.ensures.done refl
 
+pub returns-clause-synced : goal.returns-clause-synced
+returns-clause-synced c = c.unpack_file.ensures.synced refl
+
+pub returns-clause-clean : goal.returns-clause-clean
+returns-clause-clean c = c.unpack_file.ensures.clean refl
+
 pub returns-clause-only : goal.returns-clause-only
 returns-clause-only c = c.unpack_file.ensures.only refl
 

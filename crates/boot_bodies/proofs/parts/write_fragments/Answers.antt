@@ -1,9 +1,22 @@
-use Rattle.std.proofs.Common.{◌∙◌, sym, subst, arith}
+use Rattle.std.proofs.Common.{◌∙◌, refl, sym, subst, arith, rules}
 use Rattle.abt_sections.specs.Open.{IsOpened}
-use Rattle.boot_bodies.specs.Faults.{IsRefusalOf}
-use Rattle.boot_bodies.proofs.Amongs.{goes_then, keeps_then}
-use Rattle.boot_bodies.proofs.Loops.{fragments_more}
+use Rattle.boot_bodies.proofs.Amongs.{goes_none, goes_then, keeps_none, keeps_then}
+use Rattle.boot_bodies.proofs.Causes.{refused_more}
+use Rattle.boot_bodies.proofs.Counts.{none_then, nothing_failed, same_failing, some_then, syncs_none, syncs_then}
+use Rattle.boot_bodies.proofs.Loops.{fragments_more, no_fragments}
+use Rattle.boot_bodies.proofs.Shown.{fragment_shown, silent}
 use Rattle.boot_bodies.proofs.parts.write_fragments.Goals as goal
+
+pub loop-i-init : goal.loop-i-init
+loop-i-init g c = λ t. (
+  refl,
+  goes_none _ _ _ _ _ 0 (same_failing _) refl,
+  keeps_none _ _ _ _ 0 (c.requires.one t) (same_failing _) refl,
+  no_fragments _ _ _ _ _,
+  syncs_none _ _ 0 (same_failing _),
+  nothing_failed _ _,
+  silent _,
+)
 
 pub loop-i-preserved : goal.loop-i-preserved
 loop-i-preserved g c = λ t.
@@ -12,6 +25,9 @@ loop-i-preserved g c = λ t.
       goes_then _ _ _ _ _ _ _ i.1 (c.in-Ok.ensures.only t),
       keeps_then _ _ _ _ _ _ i.2 (c.in-Ok.ensures.keeps t),
       fragments_more _ _ _ _ _ _ _ _ _ i.0 (c.in-Ok.ensures.keeps t) i.3 (c.in-Ok.ensures.done t),
+      syncs_then _ _ _ _ _ i.4 (c.in-Ok.ensures.synced t),
+      none_then _ _ _ _ _ _ i.5 (c.in-Ok.ensures.clean t),
+      fragment_shown _ _ _ _ _ _ _ i.0 i.6 (c.in-Ok.ensures.shown t),
     )
 
 pub returns-in-Err-clause-only : goal.returns-in-Err-clause-only
@@ -20,9 +36,16 @@ returns-in-Err-clause-only g c = λ t.
 
 pub returns-in-Err-clause-refused : goal.returns-in-Err-clause-refused
 returns-in-Err-clause-refused g c = λ t opened.
-    let same = (c.loop-i.invariant t).0 in
-    subst (λ x. IsRefusalOf x c.in-Err.refusal.fault) same
-    (c.in-Err.ensures.refused t (subst (λ x. IsOpened x c.args.image.now) (sym same) opened))
+    let i = c.loop-i.invariant t in
+    refused_more _ _ _ _ _ _ c.in-Err.refusal.fault i.0
+    (c.in-Err.ensures.refused t (subst (λ x. IsOpened x c.args.image.now) (sym i.0) opened))
+    (λ failed. some_then _ _ _ _ _ _ i.5 failed)
+    (λ stands. (
+      c.loop-i.i,
+      search (rules, arith),
+      fragments_more _ _ _ _ _ _ _ _ _ i.0 stands.1 i.3 stands.0,
+      keeps_then _ _ _ _ _ _ i.2 stands.1,
+    ))
 
 pub returns-clause-done : goal.returns-clause-done
 returns-clause-done g c = λ t k below.

@@ -1,15 +1,24 @@
-use Rattle.std.proofs.Common.{sym, subst, rules}
+use Rattle.std.proofs.Common.{◌∙◌, ◌+◌, refl, sym, subst, rules}
 use Rattle.abt_sections.specs.Header.{fragment_count, view_of}
 use Rattle.abt_sections.specs.Open.{IsOpened}
-use Rattle.boot_bodies.specs.Faults.{IsRefusalOf}
-use Rattle.boot_bodies.specs.Unpacking.{FragmentsDone}
+use Rattle.boot_bodies.specs.Unpacking.{FragmentsDone, WordsDone, up_to_fragment, up_to_section, up_to_words}
 use Rattle.boot_bodies.proofs.Amongs.{goes_then, keeps_then}
+use Rattle.boot_bodies.proofs.Causes.{refused_more}
+use Rattle.boot_bodies.proofs.Counts.{none_then, some_then, syncs_all, syncs_then, syncs_words}
 use Rattle.boot_bodies.proofs.Loops.{fragments_later, goes_fragment, goes_section, goes_words, sections_later}
+use Rattle.boot_bodies.proofs.Shown.{all_shown, all_but_words}
 use Rattle.boot_bodies.proofs.parts.write_parts.Goals as goal
 
+-- a section was refused
 pub returns-in-Err-clause-only : goal.returns-in-Err-clause-only
 returns-in-Err-clause-only g c = λ t. goes_section _ _ _ _ _ _ _ (c.in-Err.ensures.only t)
 
+pub returns-in-Err-clause-refused : goal.returns-in-Err-clause-refused
+returns-in-Err-clause-refused g c = λ t opened.
+    refused_more _ _ _ _ _ _ c.in-Err.refusal.fault refl (c.in-Err.ensures.refused t opened) (λ failed. failed)
+    (λ stands. up_to_section stands.0 stands.1 stands.2)
+
+-- a fragment was
 pub returns-in-Err-write_fragments-clause-only : goal.returns-in-Err-write_fragments-clause-only
 returns-in-Err-write_fragments-clause-only g c = λ t.
     goes_then _ _ _ _ _ _ _ (goes_section _ _ _ _ _ _ _ (c.in-Ok.ensures.only t))
@@ -18,9 +27,14 @@ returns-in-Err-write_fragments-clause-only g c = λ t.
 pub returns-in-Err-write_fragments-clause-refused : goal.returns-in-Err-write_fragments-clause-refused
 returns-in-Err-write_fragments-clause-refused g c = λ t opened.
     let same = c.in-Ok.ensures.content t in
-    subst (λ x. IsRefusalOf x c.in-Err-write_fragments.refusal.fault) same
+    refused_more _ _ _ _ _ _ c.in-Err-write_fragments.refusal.fault same
     (c.in-Err-write_fragments.ensures.refused t (subst (λ x. IsOpened x c.args.image.now) (sym same) opened))
+    (λ failed. some_then _ _ _ _ _ _ (c.in-Ok.ensures.clean t) failed)
+    (λ stands. up_to_fragment stands.0 stands.1 (sections_later _ _ _ _ _ _ _ _ stands.3 (c.in-Ok.ensures.done t))
+    (subst (λ x. FragmentsDone c.args.folder.now (view_of c.args.image.now.header) x (stands.0 + 1)
+    (g.D.Disk.held c.write_fragments.new.disk) (g.D.Disk.world c.write_fragments.new.disk)) same stands.2))
 
+-- no words were wanted
 pub returns-then-not-with_words-clause-sections : goal.returns-then-not-with_words-clause-sections
 returns-then-not-with_words-clause-sections g c = λ t.
     sections_later _ _ _ _ _ _ _ _ (c.in-Ok-write_fragments.ensures.keeps t) (c.in-Ok.ensures.done t)
@@ -30,6 +44,21 @@ returns-then-not-with_words-clause-only g c = λ t.
     goes_then _ _ _ _ _ _ _ (goes_section _ _ _ _ _ _ _ (c.in-Ok.ensures.only t))
     (goes_fragment _ _ _ _ _ _ _ (c.in-Ok-write_fragments.ensures.only t))
 
+pub returns-then-not-with_words-clause-shown : goal.returns-then-not-with_words-clause-shown
+returns-then-not-with_words-clause-shown g c = λ t.
+    all_but_words _ _ _ c.args.with_words _ _ _ (c.in-Ok.ensures.content t) (search (rules, c.if-not-with_words.true))
+    c.in-Ok.ensures.shown (c.in-Ok-write_fragments.ensures.shown t)
+
+pub returns-then-not-with_words-clause-synced : goal.returns-then-not-with_words-clause-synced
+returns-then-not-with_words-clause-synced g c = λ t.
+    syncs_all c.args.with_words _ _ _ _ (search (rules, c.if-not-with_words.true))
+    (syncs_then _ _ _ _ _ (c.in-Ok.ensures.synced t) (c.in-Ok-write_fragments.ensures.synced t))
+
+pub returns-then-not-with_words-clause-clean : goal.returns-then-not-with_words-clause-clean
+returns-then-not-with_words-clause-clean g c = λ t.
+    none_then _ _ _ _ _ _ (c.in-Ok.ensures.clean t) (c.in-Ok-write_fragments.ensures.clean t)
+
+-- the words were written too
 pub returns-in-Ok-write_pack_words-clause-sections : goal.returns-in-Ok-write_pack_words-clause-sections
 returns-in-Ok-write_pack_words-clause-sections g c = λ t.
     sections_later _ _ _ _ _ _ _ _
@@ -52,6 +81,24 @@ returns-in-Ok-write_pack_words-clause-only g c = λ t.
     (goes_words _ c.args.with_words _ _ _ _ _ (first_of (search (rules, c.if-not-with_words.false), cc))
     (c.in-Ok-write_pack_words.ensures.only t))
 
+pub returns-in-Ok-write_pack_words-clause-shown : goal.returns-in-Ok-write_pack_words-clause-shown
+returns-in-Ok-write_pack_words-clause-shown g c = λ t.
+    all_shown _ _ _ c.args.with_words _ _ _ _ (c.in-Ok.ensures.content t)
+    (first_of (search (rules, c.if-not-with_words.false), cc)) c.in-Ok.ensures.shown
+    (c.in-Ok-write_fragments.ensures.shown t) c.in-Ok-write_pack_words.ensures.shown
+
+pub returns-in-Ok-write_pack_words-clause-synced : goal.returns-in-Ok-write_pack_words-clause-synced
+returns-in-Ok-write_pack_words-clause-synced g c = λ t.
+    syncs_words c.args.with_words _ _ _ _ (first_of (search (rules, c.if-not-with_words.false), cc))
+    (syncs_then _ _ _ _ _ (syncs_then _ _ _ _ _ (c.in-Ok.ensures.synced t) (c.in-Ok-write_fragments.ensures.synced t))
+    (c.in-Ok-write_pack_words.ensures.synced t))
+
+pub returns-in-Ok-write_pack_words-clause-clean : goal.returns-in-Ok-write_pack_words-clause-clean
+returns-in-Ok-write_pack_words-clause-clean g c = λ t.
+    none_then _ _ _ _ _ _ (none_then _ _ _ _ _ _ (c.in-Ok.ensures.clean t) (c.in-Ok-write_fragments.ensures.clean t))
+    (c.in-Ok-write_pack_words.ensures.clean t)
+
+-- they were refused
 pub returns-in-Err-write_pack_words-clause-only : goal.returns-in-Err-write_pack_words-clause-only
 returns-in-Err-write_pack_words-clause-only g c = λ t.
     goes_then _ _ _ _ _ _ _
@@ -59,3 +106,21 @@ returns-in-Err-write_pack_words-clause-only g c = λ t.
     (goes_fragment _ _ _ _ _ _ _ (c.in-Ok-write_fragments.ensures.only t)))
     (goes_words _ c.args.with_words _ _ _ _ _ (first_of (search (rules, c.if-not-with_words.false), cc))
     (c.in-Err-write_pack_words.ensures.only t))
+
+pub returns-in-Err-write_pack_words-clause-refused : goal.returns-in-Err-write_pack_words-clause-refused
+returns-in-Err-write_pack_words-clause-refused g c = λ t opened.
+    let first = c.in-Ok.ensures.content t in
+    let same = c.in-Ok-write_fragments.ensures.content t ∙ first in
+    refused_more _ _ _ _ _ _ c.in-Err-write_pack_words.refusal.fault same
+    (c.in-Err-write_pack_words.ensures.refused t (subst (λ x. IsOpened x c.args.image.now) (sym same) opened))
+    (λ failed. some_then _ _ _ _ _ _
+    (none_then _ _ _ _ _ _ (c.in-Ok.ensures.clean t) (c.in-Ok-write_fragments.ensures.clean t)) failed)
+    (λ stands. up_to_words (first_of (search (rules, c.if-not-with_words.false), cc))
+    (sections_later _ _ _ _ _ _ _ _ (keeps_then _ _ _ _ _ _ (c.in-Ok-write_fragments.ensures.keeps t) stands.1)
+    (c.in-Ok.ensures.done t))
+    (fragments_later _ _ _ _ _ _ _ _ stands.1
+    (subst (λ x. FragmentsDone c.args.folder.now (view_of c.args.image.now.header) x
+    (fragment_count (view_of c.args.image.now.header)) (g.D.Disk.held c.write_fragments.new.disk)
+    (g.D.Disk.world c.write_fragments.new.disk)) first (c.in-Ok-write_fragments.ensures.done t)))
+    (subst (λ x. WordsDone c.args.folder.now (view_of c.args.image.now.header) x
+    (g.D.Disk.held c.write_pack_words.new.disk) (g.D.Disk.world c.write_pack_words.new.disk)) same stands.0))

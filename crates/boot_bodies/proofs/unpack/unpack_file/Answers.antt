@@ -1,75 +1,124 @@
-use Rattle.std.proofs.Common.{sym, subst}
-use Rattle.boot_bodies.specs.Faults.{IsRefusalOf}
+use Rattle.std.proofs.Common.{◌∙◌, sym, subst}
+use Rattle.abt_refusals.specs.Paths.{path_of}
+use Rattle.boot_bodies.specs.Lines.{ShowsEach}
+use Rattle.boot_bodies.specs.Unpacking.{Unpacks}
 use Rattle.boot_bodies.proofs.Amongs.{only_none}
-use Rattle.boot_bodies.proofs.Causes.{opened, refuses_file}
-use Rattle.boot_bodies.proofs.Wholes.{has_as, keeps_opened, keeps_same, only_opened, only_parts, opened_as, opens_as, unpacks}
+use Rattle.boot_bodies.proofs.Causes.{host_image, opened, refuses_file, section_refused}
+use Rattle.boot_bodies.proofs.Counts.{clean_within, failed_within, open_failed, source_failed, syncs_within, taken_failed}
+use Rattle.boot_bodies.proofs.Loops.{begun_later}
+use Rattle.boot_bodies.proofs.Wholes.{has_as, keeps_let_go, keeps_same, only_let_go, only_opened}
+use Rattle.boot_bodies.proofs.Wholes.{opened_as, opens_as, parts_stand, syncs_parts, twice, unpacks}
 use Rattle.boot_bodies.proofs.unpack.unpack_file.Goals as goal
 
-pub returns-in_err-device-clause-only : goal.returns-in_err-device-clause-only
-returns-in_err-device-clause-only g c = λ t.
-    only_none _ _ _ _ _ (c.requires.first t).begun (c.in_err-device.ensures.kept t) (c.in_err-device.ensures.world t)
-
-pub returns-in_err-device-clause-input : goal.returns-in_err-device-clause-input
-returns-in_err-device-clause-input g c = λ t. keeps_same _ _ _ (c.in_err-device.ensures.world t)
-
+-- IN could not be opened
 pub returns-in-Err-clause-only : goal.returns-in-Err-clause-only
 returns-in-Err-clause-only g c = λ t.
-    only_opened _ _ _ _ _ _ _ (c.requires.first t).begun (c.in_ok-device.ensures.opened t) (c.in_ok-device.ensures.world t)
+    only_none _ _ _ _ _ 1 (c.requires.first t).begun (c.in-Err.ensures.kept t) (c.in-Err.ensures.world t)
 
 pub returns-in-Err-clause-input : goal.returns-in-Err-clause-input
-returns-in-Err-clause-input g c = λ t. keeps_same _ _ _ (c.in_ok-device.ensures.world t)
+returns-in-Err-clause-input g c = λ t. keeps_same _ _ _ (c.in-Err.ensures.world t)
 
 pub returns-in-Err-clause-refused : goal.returns-in-Err-clause-refused
 returns-in-Err-clause-refused g c = λ t.
-    refuses_file _ _ _ _ _ _ (c.in_ok-device.ensures.opened t)
-    (subst (λ f. IsRefusalOf (g.D.At.Source.content c.in_ok-device.device) f) (sym c.not_opened.ensures)
-    (opened _ (g.D.At.Source.content c.in_ok-device.device) (c.in-Err.ensures.opens (g.met.D.Disk.source_told t))))
+    host_image (path_of c.args.input) (g.D.Disk.world c.args.disk.now) _ _ _ _ c.into.ensures (source_failed _ _ (c.in-Err.ensures.kept t))
 
+-- it is no image
+pub returns-in-Err-open-clause-only : goal.returns-in-Err-open-clause-only
+returns-in-Err-open-clause-only g c = λ t.
+    only_opened _ _ _ _ _ _ _ _ _ (c.requires.first t).begun (c.in-Ok.ensures.opened t)
+    (c.let_go_source.ensures.world t ∙ c.in-Ok.ensures.world t) (c.let_go_source.ensures.held t)
+
+pub returns-in-Err-open-clause-input : goal.returns-in-Err-open-clause-input
+returns-in-Err-open-clause-input g c = λ t.
+    keeps_same _ _ _ (c.let_go_source.ensures.world t ∙ c.in-Ok.ensures.world t)
+
+pub returns-in-Err-open-clause-refused : goal.returns-in-Err-open-clause-refused
+returns-in-Err-open-clause-refused g c = λ t.
+    let told = g.met.D.Disk.source_told t in
+    refuses_file _ _ _ _ _ _ _ _ _ _ (c.in-Ok.ensures.opened t)
+    (section_refused _ _ ⊥ _ _ c.not_opened.ensures
+    (opened c.in-Err-open.fault (g.D.At.Source.content c.in-Ok.device) _ _ _ c.in-Err-open.ensures.cause (c.in-Err-open.ensures.opens told)))
+    (λ failed. open_failed _ _ _ _ _ _ _ _ (c.in-Ok.ensures.opened t) (c.in-Ok.ensures.clean t)
+    (c.let_go_source.ensures.held t) failed)
+    (λ none. absurd none)
+
+-- it is one of the files
 pub returns-in-Err-refuse_taken-clause-only : goal.returns-in-Err-refuse_taken-clause-only
 returns-in-Err-refuse_taken-clause-only g c = λ t.
-    only_opened _ _ _ _ _ _ _ (c.requires.first t).begun (c.in_ok-device.ensures.opened t) (c.in_ok-device.ensures.world t)
+    only_opened _ _ _ _ _ _ _ _ _ (c.requires.first t).begun (c.in-Ok.ensures.opened t)
+    (c.let_go_source-in-Err-refuse_taken.ensures.world t ∙ c.in-Err-refuse_taken.ensures.world t ∙ c.in-Ok.ensures.world t)
+    (twice _ _ _ _ _ (c.in-Err-refuse_taken.ensures.held t) (c.let_go_source-in-Err-refuse_taken.ensures.held t))
 
 pub returns-in-Err-refuse_taken-clause-input : goal.returns-in-Err-refuse_taken-clause-input
-returns-in-Err-refuse_taken-clause-input g c = λ t. keeps_same _ _ _ (c.in_ok-device.ensures.world t)
+returns-in-Err-refuse_taken-clause-input g c = λ t.
+    keeps_same _ _ _ (c.let_go_source-in-Err-refuse_taken.ensures.world t ∙ c.in-Err-refuse_taken.ensures.world t
+    ∙ c.in-Ok.ensures.world t)
 
+pub returns-in-Err-refuse_taken-clause-refused : goal.returns-in-Err-refuse_taken-clause-refused
+returns-in-Err-refuse_taken-clause-refused g c = λ t.
+    host_image (path_of c.args.input) (g.D.Disk.world c.args.disk.now) _ _ _ _ c.into-in-Err-refuse_taken.ensures
+    (taken_failed _ _ _ _ _ _ _ _ (c.in-Ok.ensures.opened t) (c.in-Err-refuse_taken.ensures.held t)
+    (c.let_go_source-in-Err-refuse_taken.ensures.held t))
+
+-- all parts are written
 pub returns-in-Ok-write_parts-clause-done : goal.returns-in-Ok-write_parts-clause-done
 returns-in-Ok-write_parts-clause-done g c = λ t.
     let told = g.met.D.Disk.source_told t in
-    let same = c.in-Ok.ensures.content told in
-    unpacks _ _ _ _ _ _ _ _ _ _ (opens_as _ _ _ _ _ _ same (c.in_ok-device.ensures.opened t))
-    (has_as _ _ c.in-Ok.image same (c.in-Ok.ensures.opens told))
-    (c.in-Ok-write_parts.ensures.sections t) (c.in-Ok-write_parts.ensures.fragments t)
-    (c.in-Ok-write_parts.ensures.words t)
+    let same = c.in-Ok-open.ensures.content told in
+    subst (λ w. Unpacks (path_of c.args.input) c.args.folder.now c.args.with_words (g.D.Disk.world c.args.disk.now) w
+    (λ lines. ShowsEach lines c.args.report.now c.write_parts.new.report)) (sym (c.let_go_source-in-Ok-write_parts.ensures.world t))
+    (unpacks _ _ _ _ _ _ _ _ _ _ _ (opens_as _ _ _ _ _ _ same (c.in-Ok.ensures.opened t))
+    (has_as _ _ c.in-Ok-open.image same (c.in-Ok-open.ensures.opens told))
+    (c.in-Ok-write_parts.ensures.sections t) (c.in-Ok-write_parts.ensures.fragments t) (c.in-Ok-write_parts.ensures.words t) (c.in-Ok-write_parts.ensures.shown t))
+
+pub returns-in-Ok-write_parts-clause-synced : goal.returns-in-Ok-write_parts-clause-synced
+returns-in-Ok-write_parts-clause-synced g c = λ t.
+    let told = g.met.D.Disk.source_told t in
+    let same = c.in-Ok-open.ensures.content told in
+    syncs_parts _ _ _ _ _ _ _ _ (c.in-Ok.ensures.opened t) (c.in-Ok-open.ensures.opens told).has
+    (syncs_within _ _ _ _ _ _ _ _ _ _ (c.in-Ok.ensures.opened t) (c.in-Ok-refuse_taken.ensures.held t)
+    (c.in-Ok-write_parts.ensures.synced t) (c.let_go_source-in-Ok-write_parts.ensures.held t))
+
+pub returns-in-Ok-write_parts-clause-clean : goal.returns-in-Ok-write_parts-clause-clean
+returns-in-Ok-write_parts-clause-clean g c = λ t.
+    clean_within _ _ _ _ _ _ _ _ _ _ _ (c.in-Ok.ensures.opened t) (c.in-Ok.ensures.clean t) c.in-Ok-open.ensures.clean
+    (c.in-Ok-refuse_taken.ensures.held t) (c.in-Ok-write_parts.ensures.clean t) (c.let_go_source-in-Ok-write_parts.ensures.held t)
 
 pub returns-in-Ok-write_parts-clause-only : goal.returns-in-Ok-write_parts-clause-only
 returns-in-Ok-write_parts-clause-only g c = λ t.
     let told = g.met.D.Disk.source_told t in
-    let same = c.in-Ok.ensures.content told in
-    only_parts _ _ _ _ _ _ _ _ _ _ _ (c.requires.first t).begun
-    (opens_as _ _ _ _ _ _ same (c.in_ok-device.ensures.opened t)) (c.in_ok-device.ensures.world t)
-    (has_as _ _ c.in-Ok.image same (c.in-Ok.ensures.opens told)) (c.in-Ok-write_parts.ensures.only t)
+    only_let_go _ _ _ _ _ _ _ _ _ _ _ _ _ _ _ _ (c.requires.first t).begun (c.in-Ok.ensures.opened t)
+    (c.in-Ok-refuse_taken.ensures.world t ∙ c.in-Ok.ensures.world t) (c.in-Ok-open.ensures.opens told).has
+    (c.in-Ok-refuse_taken.ensures.held t) (c.in-Ok-write_parts.ensures.only t) (c.let_go_source-in-Ok-write_parts.ensures.held t) (c.let_go_source-in-Ok-write_parts.ensures.world t)
 
 pub returns-in-Ok-write_parts-clause-input : goal.returns-in-Ok-write_parts-clause-input
 returns-in-Ok-write_parts-clause-input g c = λ t.
-    keeps_opened _ _ _ _ _ _ _ _ _ (c.in_ok-device.ensures.opened t) (c.in_ok-device.ensures.world t)
-    (c.in-Ok-write_parts.ensures.only t)
+    keeps_let_go _ _ _ _ _ _ _ _ _ _ _ _ _ _ (c.in-Ok.ensures.opened t)
+    (c.in-Ok-refuse_taken.ensures.world t ∙ c.in-Ok.ensures.world t)
+    (c.in-Ok-refuse_taken.ensures.held t) (c.in-Ok-write_parts.ensures.only t) (c.let_go_source-in-Ok-write_parts.ensures.held t) (c.let_go_source-in-Ok-write_parts.ensures.world t)
 
-pub returns-clause-only : goal.returns-clause-only
-returns-clause-only g c = λ t.
+pub returns-in-Err-write_parts-clause-only : goal.returns-in-Err-write_parts-clause-only
+returns-in-Err-write_parts-clause-only g c = λ t.
     let told = g.met.D.Disk.source_told t in
-    let same = c.in-Ok.ensures.content told in
-    only_parts _ _ _ _ _ _ _ _ _ _ _ (c.requires.first t).begun
-    (opens_as _ _ _ _ _ _ same (c.in_ok-device.ensures.opened t)) (c.in_ok-device.ensures.world t)
-    (has_as _ _ c.in-Ok.image same (c.in-Ok.ensures.opens told)) (c.in-Err-write_parts.ensures.only t)
+    only_let_go _ _ _ _ _ _ _ _ _ _ _ _ _ _ _ _ (c.requires.first t).begun (c.in-Ok.ensures.opened t)
+    (c.in-Ok-refuse_taken.ensures.world t ∙ c.in-Ok.ensures.world t) (c.in-Ok-open.ensures.opens told).has
+    (c.in-Ok-refuse_taken.ensures.held t) (c.in-Err-write_parts.ensures.only t) (c.let_go_source-in-Err-write_parts.ensures.held t) (c.let_go_source-in-Err-write_parts.ensures.world t)
 
-pub returns-clause-input : goal.returns-clause-input
-returns-clause-input g c = λ t.
-    keeps_opened _ _ _ _ _ _ _ _ _ (c.in_ok-device.ensures.opened t) (c.in_ok-device.ensures.world t)
-    (c.in-Err-write_parts.ensures.only t)
+pub returns-in-Err-write_parts-clause-input : goal.returns-in-Err-write_parts-clause-input
+returns-in-Err-write_parts-clause-input g c = λ t.
+    keeps_let_go _ _ _ _ _ _ _ _ _ _ _ _ _ _ (c.in-Ok.ensures.opened t)
+    (c.in-Ok-refuse_taken.ensures.world t ∙ c.in-Ok.ensures.world t)
+    (c.in-Ok-refuse_taken.ensures.held t) (c.in-Err-write_parts.ensures.only t) (c.let_go_source-in-Err-write_parts.ensures.held t) (c.let_go_source-in-Err-write_parts.ensures.world t)
 
-pub returns-clause-refused : goal.returns-clause-refused
-returns-clause-refused g c = λ t.
+-- one was refused
+pub returns-in-Err-write_parts-clause-refused : goal.returns-in-Err-write_parts-clause-refused
+returns-in-Err-write_parts-clause-refused g c = λ t.
     let told = g.met.D.Disk.source_told t in
-    let same = c.in-Ok.ensures.content told in
-    refuses_file _ _ _ _ _ _ (opens_as _ _ _ _ _ _ same (c.in_ok-device.ensures.opened t))
-    (c.in-Err-write_parts.ensures.refused t (opened_as _ _ c.in-Ok.image same (c.in-Ok.ensures.opens told)))
+    let same = c.in-Ok-open.ensures.content told in
+    let opens = opens_as _ _ _ _ _ _ same (c.in-Ok.ensures.opened t) in
+    refuses_file _ _ _ _ _ _ _ _ _ _ opens
+    (c.in-Err-write_parts.ensures.refused t (opened_as _ _ c.in-Ok-open.image same (c.in-Ok-open.ensures.opens told)))
+    (λ failed. failed_within _ _ _ _ _ _ _ _ _ _ _ (c.in-Ok.ensures.opened t) (c.in-Ok.ensures.clean t)
+    c.in-Ok-open.ensures.clean (c.in-Ok-refuse_taken.ensures.held t) failed (c.let_go_source-in-Err-write_parts.ensures.held t))
+    (λ begun. parts_stand _ _ _ _ _ _ _ _ _ _ opens (has_as _ _ c.in-Ok-open.image same (c.in-Ok-open.ensures.opens told))
+    (begun_later _ _ _ _ _ _ _ _ _ (c.let_go_source-in-Err-write_parts.ensures.held t) (c.let_go_source-in-Err-write_parts.ensures.world t) begun))

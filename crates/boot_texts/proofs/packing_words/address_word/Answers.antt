@@ -3,5 +3,5 @@ use Rattle.abt_text.proofs.Printing.{as_text, printed_none}
 use Rattle.boot_texts.specs.Words.{address_option, number_word, words_if, words_text}
 use Rattle.boot_texts.proofs.packing_words.address_word.Goals as goal
 
-pub returns-in-None-clause-lines : goal.returns-in-None-clause-lines
-returns-in-None-clause-lines g c = as_text (ap (λ a. words_text (words_if (number_word (address_option c.args.which)) a)) (sym c.in-None.is ∙ c.address_of.ensures)) (printed_none _ _ _)
+pub returns-in-None : goal.returns-in-None
+returns-in-None g c = as_text (ap (λ a. words_text (words_if (number_word (address_option c.args.which)) a)) (sym c.in-None.is ∙ c.address_of.ensures)) (printed_none _ _ _)

@@ -1,4 +1,4 @@
-use Rattle.std.proofs.Common.{◌≡◌, ◌≤◌, IsTrue}
+use Rattle.std.proofs.Common.{◌≡◌, IsTrue, List, ℕ}
 use Rattle.abt_sections.specs.Header.{view_of}
 use Rattle.abt_text.specs.Printed.{Prints}
 use Rattle.boot_texts.specs.Words.{fragment_words, words_text}
@@ -8,7 +8,8 @@ abbrev pub invariant-loop-i : goal.invariant-loop-i
 invariant-loop-i g l =
     let content = g.S.Source.content in
     record {
-      faults : g.S.Source.read_faults l.initial.source ≤ g.S.Source.read_faults l.source;
+      faults : g.S.Source.read_faults l.source ≡ g.S.Source.read_faults l.initial.source;
+      prints : (done : List ℕ) × Prints g.O.Output.written g.O.Output.write_faults l.initial.text l.text done;
       lines : IsTrue g.S.Source.tells
           → (content l.source ≡ content l.initial.source)
           × Prints g.O.Output.written g.O.Output.write_faults l.initial.text l.text (words_text (fragment_words l.fn.folder (content l.initial.source) (view_of l.fn.image.header) l.i));

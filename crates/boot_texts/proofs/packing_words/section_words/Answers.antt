@@ -19,4 +19,4 @@ loop-i-preserved g c =
     let words = section_words folder (has_table h) in
     let more = ap (λ p. flat_map words (take i places) ++ words p) c.section.ensures.value ∙ one_more words places i c.section.result (search (rules, arith)) in
     as_text (sym (flat_map-append line (flat_map words (take i places)) (words c.section.result)) ∙ ap words_text more)
-    (c.loop-i.invariant ▸ as_text (ap (λ t. words_text (section_words folder t c.section.result)) c.has_table-table.ensures) c.in_ok-section_word.ensures.lines)
+    (c.loop-i.invariant ▸ as_text (ap (λ t. words_text (section_words folder t c.section.result)) c.has_table-table.ensures) c.section_word.ensures)

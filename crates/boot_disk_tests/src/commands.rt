@@ -1,0 +1,46 @@
+//! The commands over a disk in memory, as one call.
+
+ghost use Rattle.memory_disk.specs.Memory.{held_of};
+ghost use Rattle.abt_disk.specs.World.{IsReading};
+
+use abt_io::{Meter, Window};
+use abt_output::Report;
+use abt_refusals::Place;
+use boot_bodies::unpack_file;
+use info_bodies::info_file;
+use memory_disk::MemoryDisk;
+use std::alloc::AllocError;
+
+/// The commands.
+#[derive(Clone, Copy, Drop)]
+pub(crate) enum Command {
+    Unpack,
+    UnpackWords,
+    Info,
+    InfoHex,
+    InfoCheck,
+}
+
+/// Whether a command with IN over this disk, of which nothing is open yet, answers Ok.
+pub(crate) fn is_done(
+    rt: HostRuntime,
+    command: Command,
+    disk: &mut MemoryDisk,
+) -> Result<bool, AllocError>
+    requires { IsReading (held_of disk.old) }
+{
+    let mut report = Report::new(rt);
+    let mut w = Box::new(rt.alloc(), Window::new())?;
+    let w = &mut *w;
+    let mut m = Meter::new();
+    let m = &mut m;
+    let input = Place::new("IN", "in");
+    let report = &mut report;
+    Ok(match command {
+        Command::Unpack => unpack_file(disk, report, input, "parts", false, w, m).is_ok(),
+        Command::UnpackWords => unpack_file(disk, report, input, "parts", true, w, m).is_ok(),
+        Command::Info => info_file(disk, report, input, false, false, w, m).is_ok(),
+        Command::InfoHex => info_file(disk, report, input, false, true, w, m).is_ok(),
+        Command::InfoCheck => info_file(disk, report, input, true, false, w, m).is_ok(),
+    })
+}
