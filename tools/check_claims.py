@@ -5,7 +5,7 @@
 
 Of the tables of docs/CLAIMS.md:
   - each definition that is to be believed stands in the file of specs/ that is named, and all of them together have fewer than
-    700 lines, with the remarks above them;
+    1200 lines, with the remarks above them;
   - each claim's function is public (in a crate that only the program stands on it may be private), its contract has a
     clause of each name, the definitions are there, and so is each must-fail edit, in the function's crate or one below it;
     where a function names no edit, words say why;
@@ -24,13 +24,13 @@ import subprocess
 import sys
 
 HERE = os.path.dirname(os.path.dirname(os.path.abspath(__file__)))
-MOST_LINES = 900
+MOST_LINES = 1200
 DOCUMENTS = ("README.md", "CONTRIBUTING.md", "CHANGELOG.md", "docs/*.md")
 # What these do is called by the program alone, and most of it only in its own crate.
 OF_THE_PROGRAM = (
-    "abt_buffers", "abt_values", "abt_words", "abt_refusals", "abt_disk", "abt_output", "abt_host", "sparse_rules",
-    "sparse_bodies", "image_bodies", "flash_bodies", "sparse_commands", "boot_rules", "boot_bodies", "boot_commands",
-    "abootimg",
+    "abt_buffers", "abt_values", "abt_words", "abt_refusals", "abt_disk", "memory_disk", "abt_output", "abt_host",
+    "host_disk", "sparse_rules", "sparse_bodies", "image_bodies", "flash_bodies", "sparse_commands", "boot_rules",
+    "boot_bodies", "info_bodies", "boot_commands", "abootimg",
 )
 
 
