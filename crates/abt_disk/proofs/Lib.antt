@@ -1,2 +1,3 @@
+pub mod Amongs
 pub mod Closings
 pub mod Worlds

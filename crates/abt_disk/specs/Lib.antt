@@ -1,3 +1,4 @@
+pub mod Among
 pub mod Images
 pub mod InPlace
 pub mod Spools

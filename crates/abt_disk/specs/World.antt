@@ -108,3 +108,7 @@ SparesRest (Some file) old new = Spares file old new
 -- the file at this path, if one is there, holds what it held
 abbrev pub KeepsFile : List ℕ → World → World → Type 0
 KeepsFile path old new = (file : ℕ) → old.at path ≡ Some file → new.holds file ≡ old.holds file
+
+-- each file that was begun before holds what it held
+abbrev pub KeepsBegun : List ℕ → World → World → Type 0
+KeepsBegun begun old new = (file : ℕ) → Contains begun file → new.holds file ≡ old.holds file

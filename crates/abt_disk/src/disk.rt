@@ -8,7 +8,7 @@ ghost use Rattle.abt_disk.specs.Images.{is_file, OfImage, Leaves, EmptiesAt};
 ghost use Rattle.abt_disk.specs.InPlace.{OpensPart, MakesZeros, IsAsLong, closed_part};
 ghost use Rattle.abt_disk.specs.Spools.{OpensSpool, closed_spool, behind_clear};
 ghost use Rattle.abt_disk.specs.World.{World, Held, OpensFile, Creates, OnlyAt, Ends, SparesRest, IsFree, ended};
-ghost use Rattle.abt_disk.specs.World.{failing, unless};
+ghost use Rattle.abt_disk.specs.World.{KeepsBegun, failing, unless};
 
 use crate::{ImageTo, Lasting, Late};
 use abt_io::{DeviceFault, Input, Output, Overwrite, Partition, Source, Spool};
@@ -92,7 +92,7 @@ pub trait Disk {
 
     /// What is open, to be read a second time beside the first.
     fn again<'a>(&mut self, at: &Self::At, place: Place<'a>) -> Result<Self::At, HostRefusal<'a>>
-        ensures content { IsTrue tells → IfOk result (λ again. Self.At.content again ≡ Self.At.content at.now) }
+        ensures content { IsTrue Self.At.tells → IfOk result (λ again. Self.At.content again ≡ Self.At.content at.now) }
         ensures clean { IsTrue tells → IfOk result (λ again. Self.At.read_faults again ≡ 0) }
         ensures held { IsTrue tells → held self.new ≡ failing (unless (is_ok result)) (held self.old) }
         ensures world { IsTrue tells → world self.new ≡ world self.old };
@@ -146,7 +146,9 @@ pub trait Disk {
         ensures clean { IsTrue tells → IfOk result (λ part. Self.Part.put_faults part ≡ 0) }
         ensures kept { IsTrue tells → OnErr result (held self.new ≡ failing 1 (held self.old)) }
         ensures only { IsTrue tells → OnErr result (OnlyAt (held self.old).read (path_of place.entry)
-            (world self.old) (world self.new)) };
+            (world self.old) (world self.new)) }
+        ensures begun { IsTrue tells → OnErr result (KeepsBegun (held self.old).begun (world self.old)
+            (world self.new)) };
 
     /// Creates or empties the file that pieces of so many bytes go through, which is read again. All that goes through it
     /// comes from a source: it is not given back where that has become shorter. Where the file is `keeping` its pages, it
@@ -168,7 +170,9 @@ pub trait Disk {
             (world self.old) (world self.new)) }
         ensures kept { IsTrue tells → OnErr result (held self.new ≡ failing 1 (held self.old)) }
         ensures only { IsTrue tells → OnErr result (OnlyAt (held self.old).read (path_of place.entry)
-            (world self.old) (world self.new)) };
+            (world self.old) (world self.new)) }
+        ensures begun { IsTrue tells → OnErr result (KeepsBegun (held self.old).begun (world self.old)
+            (world self.new)) };
 
     /// Closes the file that pieces went through, which holds what it took since it was cleared last. Refused where a
     /// byte of that could not be written. Answers whether it was not given back since its source had become shorter.
@@ -203,7 +207,9 @@ pub trait Disk {
             (world self.old) (world self.new)) }
         ensures kept { IsTrue tells → OnErr result (held self.new ≡ failing 1 (held self.old)) }
         ensures only { IsTrue tells → OnErr result (OnlyAt (held self.old).read (path_of place.entry)
-            (world self.old) (world self.new)) };
+            (world self.old) (world self.new)) }
+        ensures begun { IsTrue tells → OnErr result (KeepsBegun (held self.old).begun (world self.old)
+            (world self.new)) };
 
     /// Creates or empties the file of a raw image. `-` is standard output.
     fn raw<'a>(&mut self, place: Place<'a>) -> Result<Self::Onto, HostRefusal<'a>>
@@ -214,7 +220,9 @@ pub trait Disk {
             (world self.old) (world self.new)) }
         ensures kept { IsTrue tells → OnErr result (held self.new ≡ failing 1 (held self.old)) }
         ensures only { IsTrue tells → OnErr result (OnlyAt (held self.old).read (path_out place.entry)
-            (world self.old) (world self.new)) };
+            (world self.old) (world self.new)) }
+        ensures begun { IsTrue tells → OnErr result (KeepsBegun (held self.old).begun (world self.old)
+            (world self.new)) };
 
     /// Creates or empties the file of an image that has a magic. `-` is standard output. Where it is gathered, a file may
     /// hold much of what it took until its end, so that is for who waits for nobody meanwhile.
@@ -234,6 +242,8 @@ pub trait Disk {
         ensures kept { IsTrue tells → OnErr result (held self.new ≡ failing 1 (held self.old)) }
         ensures only { IsTrue tells → OnErr result (OnlyAt (held self.old).read (path_out place.entry)
             (world self.old) (world self.new)) }
+        ensures begun { IsTrue tells → OnErr result (KeepsBegun (held self.old).begun (world self.old)
+            (world self.new)) }
         ensures empties { IsTrue tells → OnErr result (EmptiesAt (path_out place.entry) (world self.old)
             (world self.new)) };
 

@@ -1,3 +1,4 @@
 pub mod Access
+pub mod Answering
 pub mod Streams
 pub mod Taken

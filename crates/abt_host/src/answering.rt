@@ -1,6 +1,7 @@
 //! The exit status of an outcome, and what standard error tells of it.
 
 ghost use Rattle.std.specs.Prelude.{◌≡◌, IfErr, OnOk, if◌then◌else◌};
+ghost use Rattle.abt_host.specs.Answering.{PrintsNothing};
 
 use abt_output::Report;
 use abt_refusals::{Place, Refusal, Told};
@@ -26,9 +27,10 @@ pub fn answer<F: Told + Drop>(
     report: &mut Report,
 ) -> u8
     ensures done { OnOk outcome.entry (result ≡ 0) }
+    ensures quiet { OnOk outcome.entry (PrintsNothing report.old report.new) }
     ensures refused { IfErr outcome.entry (λ refusal. result ≡ (if F.wrong_words refusal.fault then 2 else 1)) }
 {
-    report.erase_progress();
+    report.progress.erase();
     let refusal = match outcome {
         Ok(()) => return DONE,
         Err(refusal) => refusal,

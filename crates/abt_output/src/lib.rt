@@ -8,9 +8,10 @@
 //! | `gathered.rt` | small writes that go out together |
 //! | `output_file.rt`, `image_file.rt` | an output, and one that has a magic, brought to their end |
 //! | `progress.rt`, `report.rt` | how far a command is, and what it prints |
-//! | `watched.rt` | devices whose bytes are counted for the progress line |
+//! | `carried.rt` | devices whose bytes are counted for the progress line |
 #![tactic(auto)]
 
+mod carried;
 mod gathered;
 mod image_file;
 mod output_file;
@@ -18,12 +19,11 @@ mod progress;
 mod report;
 mod sink;
 mod target;
-mod watched;
 
+pub use carried::Carried;
 pub use gathered::Gathered;
 pub use image_file::ImageFile;
 pub use output_file::{Finished, ImageOutput, OutputFile};
 pub use progress::Progress;
 pub use report::Report;
 pub use sink::Sink;
-pub use watched::Watched;

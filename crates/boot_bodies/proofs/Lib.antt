@@ -1,4 +1,3 @@
-pub mod Amongs
 pub mod Causes
 pub mod Counts
 pub mod Loops

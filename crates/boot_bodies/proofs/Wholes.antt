@@ -8,12 +8,13 @@ use Rattle.abt_sections.specs.Layout.{part_of}
 use Rattle.abt_sections.specs.Open.{HasImage, IsOpened}
 use Rattle.boot_rules.specs.declared.part_names.Part.TheVariants as parts
 use Rattle.boot_texts.specs.Words.{image_words, words_text}
-use Rattle.boot_bodies.specs.Among.{GoesAmong, OnlyAmong, FileHolds}
+use Rattle.abt_disk.specs.Among.{GoesAmong, OnlyAmong, FileHolds}
 use Rattle.boot_bodies.specs.Unpacking.{FragmentsDone, SectionsDone, WordsDone, path_of_part, section_part}
 use Rattle.boot_bodies.specs.Unpacking.{IsPartOf, IsPartPath, PartsBegun, PartsStand, SyncsMore, SyncsParts, Unpacks, part_total}
+use Rattle.boot_bodies.specs.Unpacking.{LeavesParts, PartsLeft, first_parts}
 use Rattle.boot_bodies.specs.Lines.{told_parts}
-use Rattle.boot_bodies.proofs.Amongs.{goes_none, goes_then, kept_behind, only_behind, stands}
-use Rattle.boot_bodies.proofs.Loops.{goes_more}
+use Rattle.abt_disk.proofs.Amongs.{among_behind, goes_more, goes_none, goes_then, kept_beside, stands}
+use Rattle.boot_bodies.proofs.Loops.{left_later}
 
 pub unpacks : (path folder x : List ℕ) (with_words : Bool) (header : Header) (h h' h'' : Held) (a c : World)
     (shows : List (List ℕ) → Type 0) → OpensFile a path x h h' → HasImage x header
@@ -76,19 +77,19 @@ pub only_parts : (path folder x : List ℕ) (with_words : Bool) (header : Header
     → GoesAmong (IsPartPath folder with_words header) h' h'' b c
     → OnlyAmong (IsPartOf path folder with_words a) h.read h''.begun a c
 only_parts path folder x with_words header h h' h'' a b c none opens same image goes =
-    only_behind _ path x h h' h'' a b c none opens same
+    among_behind _ path x h h' h'' a b c none opens same
     (goes_part path folder x with_words header h h' h'' a b c opens image goes)
 
 pub only_opened : (P : List ℕ → Type 0) (path x : List ℕ) (h h' h'' : Held) (a b : World) (n : ℕ) → h.begun ≡ []
     → OpensFile a path x h h' → b ≡ a → h'' ≡ failing n h' → OnlyAmong P h.read h''.begun a b
 only_opened P path x h h' h'' a b n none opens same let_go =
-    only_behind P path x h h' h'' a b b none opens same (goes_none P h' h'' b b n let_go refl)
+    among_behind P path x h h' h'' a b b none opens same (goes_none P h' h'' b b n let_go refl)
 
 pub keeps_opened : (P : List ℕ → Type 0) (path bytes : List ℕ) (h h' h'' : Held) (a b c : World)
     → OpensFile a path bytes h h' → b ≡ a → GoesAmong P h' h'' b c → KeepsFile path a c
 keeps_opened P path bytes h h' h'' a b c opens same goes = λ f there.
     let same_file : opens.file ≡ f = ap (λ o. unwrap_or o 0) (sym opens.there ∙ there) in
-    subst (λ g. c.holds g ≡ a.holds g) same_file (kept_behind P path bytes h h' h'' a b c opens same goes)
+    subst (λ g. c.holds g ≡ a.holds g) same_file (kept_beside P path bytes h h' h'' a b c opens same goes)
 
 pub keeps_same : (path : List ℕ) (a b : World) → b ≡ a → KeepsFile path a b
 keeps_same path a b same = λ f there. ap (λ w. w.holds f) same
@@ -128,3 +129,16 @@ pub keeps_let_go : (P : List ℕ → Type 0) (path x : List ℕ) (h h' g h'' k :
     → KeepsFile path a d
 keeps_let_go P path x h h' g h'' k a b c d m n opens same taken goes let_go still =
     keeps_opened P path x h h' k a b d opens same (within P h' g h'' k b c d m n taken goes let_go still)
+
+pub leaves_parts : (path folder x : List ℕ) (header : Header) (h h' g h'' k : Held) (a b c d : World) (m n : ℕ)
+    → h.begun ≡ [] → OpensFile a path x h h' → b ≡ a → HasImage x header → g ≡ failing m h'
+    → PartsLeft folder header x h'' c (λ named. GoesAmong named g h'' b c) → k ≡ failing n h'' → d ≡ c
+    → LeavesParts path folder h k a d
+leaves_parts path folder x header h h' g h'' k a b c d m n none opens same image taken left let_go still =
+    first_parts opens.file opens.there header (subst (λ z. HasImage z header) opens.held image)
+    (subst (λ z. PartsLeft folder header z k d (λ named. OnlyAmong named h.read k.begun a d)) opens.held
+    (left_later folder header x h'' k n c d (λ named. GoesAmong named g h'' b c)
+    (λ named. OnlyAmong named h.read k.begun a d)
+    (λ P goes. among_behind P path x h h' k a b d none opens same
+    (within P h' g h'' k b c d m n taken goes let_go still))
+    let_go still left))

@@ -1,4 +1,3 @@
-pub mod Among
 pub mod Faults
 pub mod Lines
 pub mod Unpacking

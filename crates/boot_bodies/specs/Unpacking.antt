@@ -1,5 +1,5 @@
 -- What the command `unpack` leaves of files.
-use Rattle.std.specs.Prelude.{◌≡◌, ◌<◌, ℕ, ◌+◌, Bool, IsTrue, if◌then◌else◌, List, Option, Some, None, length, codes}
+use Rattle.std.specs.Prelude.{◌≡◌, ◌<◌, ℕ, ◌+◌, Bool, true, false, IsTrue, if◌then◌else◌, List, Option, Some, None, length, codes}
 use Rattle.std.specs.Prelude.{slice_index_or}
 use Rattle.abt_headers.specs.declared.sections.Place.{Place}
 use Rattle.abt_headers.specs.Places.{section_name}
@@ -11,7 +11,7 @@ use Rattle.abt_disk.specs.World.{World, Held}
 use Rattle.boot_rules.specs.declared.part_names.Part.{Part}
 use Rattle.boot_rules.specs.declared.part_names.Part.TheVariants as parts
 use Rattle.boot_texts.specs.Words.{words_text, image_words}
-use Rattle.boot_bodies.specs.Among.{FileHolds, IsDone}
+use Rattle.abt_disk.specs.Among.{FileHolds, IsMade, OnlyAmong}
 use Rattle.boot_bodies.specs.Lines.{told_parts}
 
 -- the name of a part's file, and the number that stands behind it
@@ -33,25 +33,31 @@ path_of_part folder part = in_folder (Some folder) (numbered (part_name part) (p
 abbrev pub section_part : Place → Part
 section_part p = parts.Section p.kind
 
--- the path of one of the sections
-pub record IsSectionPath (folder : List ℕ) (h : Header) (path : List ℕ) : Type 0 where
+-- the path of one of the first m sections
+pub record IsSectionPath (folder : List ℕ) (h : Header) (m : ℕ) (path : List ℕ) : Type 0 where
   pub index : ℕ
   pub place : Place
+  pub below : index < m
   pub there : index < length (places_of h)
   pub found : place ≡ slice_index_or (places_of h) index place
   pub is_path : path ≡ path_of_part folder (section_part place)
 
--- of one of the fragments
-pub record IsFragmentPath (folder : List ℕ) (h : Header) (path : List ℕ) : Type 0 where
+-- of one of the first m fragments
+pub record IsFragmentPath (folder : List ℕ) (h : Header) (m : ℕ) (path : List ℕ) : Type 0 where
   pub index : ℕ
+  pub below : index < m
   pub there : index < fragment_count h
   pub is_path : path ≡ path_of_part folder (parts.Fragment index)
 
--- of one of them, or of the words where they are wanted
-pub data IsPartPath (folder : List ℕ) (with_words : Bool) (h : Header) (path : List ℕ) : Type 0 where
-  of_section : IsSectionPath folder h path → IsPartPath folder with_words h path
-  of_fragment : IsFragmentPath folder h path → IsPartPath folder with_words h path
-  of_words : IsTrue with_words → path ≡ path_of_part folder parts.Words → IsPartPath folder with_words h path
+-- of one of the first s sections or f fragments, or of the words where they are meant
+pub data IsFirstPath (folder : List ℕ) (h : Header) (s f : ℕ) (with_words : Bool) (path : List ℕ) : Type 0 where
+  of_section : IsSectionPath folder h s path → IsFirstPath folder h s f with_words path
+  of_fragment : IsFragmentPath folder h f path → IsFirstPath folder h s f with_words path
+  of_words : IsTrue with_words → path ≡ path_of_part folder parts.Words → IsFirstPath folder h s f with_words path
+
+-- of any part
+abbrev pub IsPartPath : List ℕ → Bool → Header → List ℕ → Type 0
+IsPartPath folder with_words h path = IsFirstPath folder h (length (places_of h)) (fragment_count h) with_words path
 
 -- the path of a part of the image that the file at another path holds
 pub record IsPartOf (input folder : List ℕ) (with_words : Bool) (world : World) (path : List ℕ) : Type 0 where
@@ -67,7 +73,7 @@ pub record IsPartOf (input folder : List ℕ) (with_words : Bool) (world : World
 abbrev pub SectionDone : List ℕ → Header → List ℕ → ℕ → Held → World → Type 0
 SectionDone folder h x i held world =
     (p : Place) → p ≡ slice_index_or (places_of h) i p
-    → IsDone held world (path_of_part folder (section_part p)) (part_of x p)
+    → IsMade held world (path_of_part folder (section_part p)) (part_of x p)
 
 -- the first n sections are
 abbrev pub SectionsDone : List ℕ → Header → List ℕ → ℕ → Held → World → Type 0
@@ -76,12 +82,12 @@ SectionsDone folder h x n held world = (k : ℕ) → k < n → SectionDone folde
 -- and the first n fragments
 abbrev pub FragmentsDone : List ℕ → Header → List ℕ → ℕ → Held → World → Type 0
 FragmentsDone folder h x n held world =
-    (k : ℕ) → k < n → IsDone held world (path_of_part folder (parts.Fragment k)) (fragment_of x h k)
+    (k : ℕ) → k < n → IsMade held world (path_of_part folder (parts.Fragment k)) (fragment_of x h k)
 
 -- and the words
 abbrev pub WordsDone : List ℕ → Header → List ℕ → Held → World → Type 0
 WordsDone folder h x held world =
-    IsDone held world (path_of_part folder parts.Words) (words_text (image_words folder x h))
+    IsMade held world (path_of_part folder parts.Words) (words_text (image_words folder x h))
 
 -- so many outputs more were synced, where outputs are
 pub record SyncsMore (n : ℕ) (old new : Held) : Type 0 where
@@ -98,6 +104,20 @@ pub data PartsBegun (folder : List ℕ) (with_words : Bool) (h : Header) (x : Li
   up_to_words : IsTrue with_words → SectionsDone folder h x (length (places_of h)) held world
       → FragmentsDone folder h x (fragment_count h) held world → WordsDone folder h x held world
       → PartsBegun folder with_words h x held world
+
+-- Where not all parts are written: those before the one at fault are in their files, and `Only` holds of the names of
+-- these files and of the next one.
+pub data PartsLeft (folder : List ℕ) (h : Header) (x : List ℕ) (held : Held) (world : World)
+    (Only : (List ℕ → Type 0) → Type 0) : Type 0 where
+  in_sections : (i : ℕ) → SectionsDone folder h x i held world → Only (IsFirstPath folder h (i + 1) 0 false)
+      → PartsLeft folder h x held world Only
+  in_fragments : (i : ℕ) → SectionsDone folder h x (length (places_of h)) held world
+      → FragmentsDone folder h x i held world → Only (IsFirstPath folder h (length (places_of h)) (i + 1) false)
+      → PartsLeft folder h x held world Only
+  in_words : SectionsDone folder h x (length (places_of h)) held world
+      → FragmentsDone folder h x (fragment_count h) held world
+      → Only (IsFirstPath folder h (length (places_of h)) (fragment_count h) true)
+      → PartsLeft folder h x held world Only
 
 -- ---- all of it
 
@@ -138,3 +158,11 @@ pub record PartsStand (input folder : List ℕ) (with_words : Bool) (old : World
   pub header : Header
   pub image : HasImage (old.holds from) header
   pub begun : PartsBegun folder with_words header (old.holds from) held new
+
+-- Nothing was changed; or the file at a path held an image, whose first parts are in their files, and no files but
+-- theirs and the next one's were created or changed.
+pub data LeavesParts (input folder : List ℕ) (held held' : Held) (old new : World) : Type 0 where
+  no_part : new ≡ old → LeavesParts input folder held held' old new
+  first_parts : (from : ℕ) → old.at input ≡ Some from → (header : Header) → HasImage (old.holds from) header
+      → PartsLeft folder header (old.holds from) held' new (λ named. OnlyAmong named held.read held'.begun old new)
+      → LeavesParts input folder held held' old new

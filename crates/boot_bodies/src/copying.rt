@@ -8,75 +8,80 @@ ghost use Rattle.abt_sections.specs.Open.{IsOpened};
 ghost use Rattle.boot_bodies.specs.Faults.{IsFaultOf};
 ghost use Rattle.boot_texts.specs.Words.{image_words, words_text};
 
-use crate::carried::Carried;
 use abt_io::{Meter, Output, Source, Window};
-use abt_output::Progress;
+use abt_output::{Carried, Progress};
 use abt_sections::{Image, SectionFault, fragment, section, unpack, unpack_fragment};
 use boot_texts::write_words;
 
-/// Writes section `i`, and answers how many bytes it has.
+/// Writes section `i`, and answers the output with how many bytes it has.
 pub(crate) fn copy_section<S: Source, O: Output>(
     image: &Image,
     i: usize,
-    source: &mut Carried<S>,
-    onto: &mut O,
+    source: &mut S,
+    onto: O,
     progress: &mut Progress,
     w: &mut Window,
     m: &mut Meter,
-) -> Result<u64, SectionFault>
+) -> (O, Result<u64, SectionFault>)
     requires { i < length (places_of (view_of image.now.header)) }
-    ensures content { IsTrue S.tells → OnOk result (S.content source.new.device ≡ S.content source.old.device) }
+    ensures content { IsTrue S.tells → OnOk result.1 (S.content source.new ≡ S.content source.old) }
     ensures written { (p : Place) → p ≡ slice_index_or (places_of (view_of image.now.header)) i p → IsTrue S.tells →
-        OnOk result (O.written onto.new ≡ O.written onto.old ++ part_of (S.content source.old.device) p) }
+        OnOk result.1 (O.written result.0 ≡ O.written onto ++ part_of (S.content source.old) p) }
     ensures count { (p : Place) → p ≡ slice_index_or (places_of (view_of image.now.header)) i p →
-        IfOk result (λ bytes. bytes ≡ p.size) }
-    ensures refused { IsTrue S.tells → IsOpened (S.content source.old.device) image.now →
-        IfErr result (IsFaultOf (S.content source.old.device) (S.read_faults source.old.device + O.write_faults onto.old
-        < S.read_faults source.new.device + O.write_faults onto.new)) }
-    ensures clean { OnOk result (S.read_faults source.new.device + O.write_faults onto.new
-        ≡ S.read_faults source.old.device + O.write_faults onto.old) }
+        IfOk result.1 (λ bytes. bytes ≡ p.size) }
+    ensures refused { IsTrue S.tells → IsOpened (S.content source.old) image.now →
+        IfErr result.1 (IsFaultOf (S.content source.old) (S.read_faults source.old + O.write_faults onto
+        < S.read_faults source.new + O.write_faults result.0)) }
+    ensures clean { OnOk result.1 (S.read_faults source.new + O.write_faults result.0
+        ≡ S.read_faults source.old + O.write_faults onto) }
 {
-    source.progress = *progress;
-    let answer = unpack(image, i, source, onto, w, m);
-    *progress = source.progress;
+    let mut carried = Carried {
+        device: onto,
+        progress,
+    };
+    let answer = unpack(image, i, source, &mut carried, w, m);
+    let Carried { device: onto, .. } = carried;
     match answer {
-        Ok(()) => Ok(section(image, i).size as u64),
-        Err(fault) => Err(fault),
+        Ok(()) => (onto, Ok(section(image, i).size as u64)),
+        Err(fault) => (onto, Err(fault)),
     }
 }
 
-/// Writes fragment `index`, and answers how many bytes it has.
+/// Writes fragment `index`, and answers the output with how many bytes it has.
 pub(crate) fn copy_fragment<S: Source, O: Output>(
     image: &Image,
     index: u32,
-    source: &mut Carried<S>,
-    onto: &mut O,
+    source: &mut S,
+    onto: O,
     progress: &mut Progress,
     w: &mut Window,
     m: &mut Meter,
-) -> Result<u64, SectionFault>
+) -> (O, Result<u64, SectionFault>)
     requires { index < fragment_count (view_of image.now.header) }
-    ensures content { IsTrue S.tells → OnOk result (S.content source.new.device ≡ S.content source.old.device) }
-    ensures written { IsTrue S.tells → OnOk result (O.written onto.new ≡ O.written onto.old
-        ++ fragment_of (S.content source.old.device) (view_of image.now.header) index) }
-    ensures count { IsTrue S.tells → IfOk result (λ bytes. bytes
-        ≡ (entry_of (S.content source.old.device) (view_of image.now.header) index).ramdisk_size) }
-    ensures refused { IsTrue S.tells → IsOpened (S.content source.old.device) image.now →
-        IfErr result (IsFaultOf (S.content source.old.device) (S.read_faults source.old.device + O.write_faults onto.old
-        < S.read_faults source.new.device + O.write_faults onto.new)) }
-    ensures clean { OnOk result (S.read_faults source.new.device + O.write_faults onto.new
-        ≡ S.read_faults source.old.device + O.write_faults onto.old) }
+    ensures content { IsTrue S.tells → OnOk result.1 (S.content source.new ≡ S.content source.old) }
+    ensures written { IsTrue S.tells → OnOk result.1 (O.written result.0 ≡ O.written onto
+        ++ fragment_of (S.content source.old) (view_of image.now.header) index) }
+    ensures count { IsTrue S.tells → IfOk result.1 (λ bytes. bytes
+        ≡ (entry_of (S.content source.old) (view_of image.now.header) index).ramdisk_size) }
+    ensures refused { IsTrue S.tells → IsOpened (S.content source.old) image.now →
+        IfErr result.1 (IsFaultOf (S.content source.old) (S.read_faults source.old + O.write_faults onto
+        < S.read_faults source.new + O.write_faults result.0)) }
+    ensures clean { OnOk result.1 (S.read_faults source.new + O.write_faults result.0
+        ≡ S.read_faults source.old + O.write_faults onto) }
 {
-    let entry = match fragment(image, index, &mut source.device, w, m) {
+    let entry = match fragment(image, index, source, w, m) {
         Ok(entry) => entry,
-        Err(fault) => return Err(fault),
+        Err(fault) => return (onto, Err(fault)),
     };
-    source.progress = *progress;
-    let answer = unpack_fragment(image, index, source, onto, w, m);
-    *progress = source.progress;
+    let mut carried = Carried {
+        device: onto,
+        progress,
+    };
+    let answer = unpack_fragment(image, index, source, &mut carried, w, m);
+    let Carried { device: onto, .. } = carried;
     match answer {
-        Ok(()) => Ok(entry.ramdisk_size as u64),
-        Err(fault) => Err(fault),
+        Ok(()) => (onto, Ok(entry.ramdisk_size as u64)),
+        Err(fault) => (onto, Err(fault)),
     }
 }
 
@@ -102,15 +107,15 @@ pub(crate) fn copy_words<S: Source, O: Output>(
     let before = progress.done;
     let mut carried = Carried {
         device: onto,
-        progress: *progress,
+        progress,
     };
     let answer = write_words(image, folder, source, &mut carried, w, m);
-    *progress = carried.progress;
+    let Carried {
+        device: onto,
+        progress,
+    } = carried;
     match answer {
-        Ok(()) => {
-            let bytes = progress.done.saturating_sub(before);
-            (carried.device, Ok(bytes))
-        }
-        Err(fault) => (carried.device, Err(fault)),
+        Ok(()) => (onto, Ok(progress.done.saturating_sub(before))),
+        Err(fault) => (onto, Err(fault)),
     }
 }

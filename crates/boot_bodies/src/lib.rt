@@ -8,13 +8,11 @@
 //! | `unpack.rt` | the command `unpack` |
 //! | `parts.rt` | all parts, one after another |
 //! | `writing.rt` | one part, to a file of its own |
-//! | `carried.rt` | a device with how far the command is |
 //! | `copying.rt` | the bytes of a part, from the image to an output |
 //! | `names.rt`, `lines.rt` | the file of a part, and what is printed of it |
 //! | `in_memory.rt` | the command over the disk in memory |
 #![tactic(auto)]
 
-mod carried;
 mod copying;
 mod in_memory;
 mod lines;

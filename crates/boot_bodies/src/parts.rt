@@ -1,15 +1,14 @@
 //! All parts of an image, one after another.
 
-ghost use Rattle.std.specs.Prelude.{◌≡◌, ◌<◌, ◌+◌, ℕ, None, IsTrue, IfErr, OnOk, length, map};
+ghost use Rattle.std.specs.Prelude.{◌≡◌, ◌<◌, ◌+◌, ℕ, None, IsTrue, IfErr, OnOk, OnErr, length, map};
 ghost use Rattle.abt_sections.specs.Header.{fragment_count, places_of, view_of};
 ghost use Rattle.abt_sections.specs.Open.{IsOpened};
-ghost use Rattle.boot_bodies.specs.Among.{GoesAmong, KeepsDone};
+ghost use Rattle.abt_disk.specs.Among.{GoesAmong, KeepsMade};
 ghost use Rattle.boot_bodies.specs.Faults.{IsRefusedOver, NoMoreFailed, SomeFailed};
 ghost use Rattle.boot_bodies.specs.Lines.{ShowsEach, told_fragments, told_parts, told_section};
 ghost use Rattle.boot_bodies.specs.Unpacking.{FragmentsDone, IsFragmentPath, IsPartPath, IsSectionPath, PartsBegun};
-ghost use Rattle.boot_bodies.specs.Unpacking.{SectionsDone, SyncsMore, WordsDone, part_total};
+ghost use Rattle.boot_bodies.specs.Unpacking.{PartsLeft, SectionsDone, SyncsMore, WordsDone, part_total};
 
-use crate::carried::Carried;
 use crate::unpack::BootOutcome;
 use crate::writing::{write_fragment, write_pack_words, write_section};
 use abt_disk::Disk;
@@ -22,7 +21,7 @@ use abt_sections::{Image, fragments, sections};
 pub(crate) fn write_parts<'t, 'a, D: Disk>(
     disk: &mut D,
     image: &Image,
-    source: &mut Carried<D::At>,
+    source: &mut D::At,
     input: Place<'t>,
     folder: &'t str,
     with_words: bool,
@@ -32,27 +31,29 @@ pub(crate) fn write_parts<'t, 'a, D: Disk>(
 ) -> BootOutcome<'t, 'a>
     requires one { IsTrue D.tells → (D.held disk.old).output ≡ None }
     ensures sections { IsTrue D.tells → OnOk result (SectionsDone folder.now (view_of image.now.header)
-        (D.At.content source.old.device) (length (places_of (view_of image.now.header))) (D.held disk.new) (D.world
+        (D.At.content source.old) (length (places_of (view_of image.now.header))) (D.held disk.new) (D.world
         disk.new)) }
     ensures fragments { IsTrue D.tells → OnOk result (FragmentsDone folder.now (view_of image.now.header)
-        (D.At.content source.old.device) (fragment_count (view_of image.now.header)) (D.held disk.new) (D.world
+        (D.At.content source.old) (fragment_count (view_of image.now.header)) (D.held disk.new) (D.world
         disk.new)) }
     ensures words { IsTrue D.tells → IsTrue with_words → OnOk result (WordsDone folder.now (view_of image.now.header)
-        (D.At.content source.old.device) (D.held disk.new) (D.world disk.new)) }
+        (D.At.content source.old) (D.held disk.new) (D.world disk.new)) }
     ensures only { IsTrue D.tells → GoesAmong (IsPartPath folder.now with_words (view_of image.now.header))
         (D.held disk.old) (D.held disk.new) (D.world disk.old) (D.world disk.new) }
-    ensures shown { IsTrue D.tells → OnOk result ((bytes : ℕ) × ShowsEach (told_parts (D.At.content source.old.device)
+    ensures stands { IsTrue D.tells → OnErr result (PartsLeft folder.now (view_of image.now.header)
+        (D.At.content source.old) (D.held disk.new) (D.world disk.new) (λ named. GoesAmong named (D.held disk.old)
+        (D.held disk.new) (D.world disk.old) (D.world disk.new))) }
+    ensures shown { IsTrue D.tells → OnOk result ((bytes : ℕ) × ShowsEach (told_parts (D.At.content source.old)
         (view_of image.now.header) with_words bytes) report.old report.new) }
     ensures synced { IsTrue D.tells → OnOk result (SyncsMore (part_total with_words (view_of image.now.header))
         (D.held disk.old) (D.held disk.new)) }
-    ensures clean { IsTrue D.tells → OnOk result (NoMoreFailed (D.held disk.old) (D.At.read_faults source.old.device)
-        (D.held disk.new) (D.At.read_faults source.new.device)) }
-    ensures refused { IsTrue D.tells → IsOpened (D.At.content source.old.device) image.now → IfErr result (λ refusal.
-        IsRefusedOver (D.At.content source.old.device) (SomeFailed (D.held disk.old) (D.At.read_faults
-        source.old.device)
-        (D.held disk.new) (D.At.read_faults source.new.device)) (PartsBegun folder.now with_words (view_of
+    ensures clean { IsTrue D.tells → OnOk result (NoMoreFailed (D.held disk.old) (D.At.read_faults source.old)
+        (D.held disk.new) (D.At.read_faults source.new)) }
+    ensures refused { IsTrue D.tells → IsOpened (D.At.content source.old) image.now → IfErr result (λ refusal.
+        IsRefusedOver (D.At.content source.old) (SomeFailed (D.held disk.old) (D.At.read_faults source.old)
+        (D.held disk.new) (D.At.read_faults source.new)) (PartsBegun folder.now with_words (view_of
         image.now.header)
-        (D.At.content source.old.device) (D.held disk.new) (D.world disk.new)) refusal.fault) }
+        (D.At.content source.old) (D.held disk.new) (D.world disk.new)) refusal.fault) }
 {
     match write_sections(disk, image, source, input, folder, report, w, m) {
         Ok(()) => {}
@@ -74,7 +75,7 @@ pub(crate) fn write_parts<'t, 'a, D: Disk>(
 fn write_sections<'t, 'a, D: Disk>(
     disk: &mut D,
     image: &Image,
-    source: &mut Carried<D::At>,
+    source: &mut D::At,
     input: Place<'t>,
     folder: &'t str,
     report: &mut Report,
@@ -82,26 +83,30 @@ fn write_sections<'t, 'a, D: Disk>(
     m: &mut Meter,
 ) -> BootOutcome<'t, 'a>
     requires one { IsTrue D.tells → (D.held disk.old).output ≡ None }
-    ensures content { IsTrue D.tells → OnOk result (D.At.content source.new.device ≡ D.At.content source.old.device) }
+    ensures content { IsTrue D.tells → OnOk result (D.At.content source.new ≡ D.At.content source.old) }
     ensures done { IsTrue D.tells → OnOk result (SectionsDone folder.now (view_of image.now.header)
-        (D.At.content source.old.device) (length (places_of (view_of image.now.header))) (D.held disk.new) (D.world
+        (D.At.content source.old) (length (places_of (view_of image.now.header))) (D.held disk.new) (D.world
         disk.new)) }
-    ensures keeps { IsTrue D.tells → OnOk result (KeepsDone (D.held disk.old) (D.held disk.new) (D.world disk.old)
+    ensures keeps { IsTrue D.tells → KeepsMade (D.held disk.old) (D.held disk.new) (D.world disk.old)
+        (D.world disk.new) }
+    ensures only { IsTrue D.tells → GoesAmong (IsSectionPath folder.now (view_of image.now.header)
+        (length (places_of (view_of image.now.header)))) (D.held disk.old) (D.held disk.new) (D.world disk.old)
+        (D.world disk.new) }
+    ensures stands { IsTrue D.tells → OnErr result ((i : ℕ) × SectionsDone folder.now (view_of image.now.header)
+        (D.At.content source.old) i (D.held disk.new) (D.world disk.new) × GoesAmong (IsSectionPath folder.now
+        (view_of image.now.header) (i + 1)) (D.held disk.old) (D.held disk.new) (D.world disk.old)
         (D.world disk.new)) }
-    ensures only { IsTrue D.tells → GoesAmong (IsSectionPath folder.now (view_of image.now.header)) (D.held disk.old)
-        (D.held disk.new) (D.world disk.old) (D.world disk.new) }
     ensures shown { OnOk result (ShowsEach (map told_section (places_of (view_of image.now.header))) report.old
         report.new) }
     ensures synced { IsTrue D.tells → OnOk result (SyncsMore (length (places_of (view_of image.now.header)))
         (D.held disk.old) (D.held disk.new)) }
-    ensures clean { IsTrue D.tells → OnOk result (NoMoreFailed (D.held disk.old) (D.At.read_faults source.old.device)
-        (D.held disk.new) (D.At.read_faults source.new.device)) }
-    ensures refused { IsTrue D.tells → IsOpened (D.At.content source.old.device) image.now → IfErr result (λ refusal.
-        IsRefusedOver (D.At.content source.old.device) (SomeFailed (D.held disk.old) (D.At.read_faults
-        source.old.device)
-        (D.held disk.new) (D.At.read_faults source.new.device)) ((i : ℕ) × (i < length (places_of (view_of
+    ensures clean { IsTrue D.tells → OnOk result (NoMoreFailed (D.held disk.old) (D.At.read_faults source.old)
+        (D.held disk.new) (D.At.read_faults source.new)) }
+    ensures refused { IsTrue D.tells → IsOpened (D.At.content source.old) image.now → IfErr result (λ refusal.
+        IsRefusedOver (D.At.content source.old) (SomeFailed (D.held disk.old) (D.At.read_faults source.old)
+        (D.held disk.new) (D.At.read_faults source.new)) ((i : ℕ) × (i < length (places_of (view_of
         image.now.header)))
-        × SectionsDone folder.now (view_of image.now.header) (D.At.content source.old.device) (i + 1) (D.held disk.new)
+        × SectionsDone folder.now (view_of image.now.header) (D.At.content source.old) (i + 1) (D.held disk.new)
         (D.world disk.new)) refusal.fault) }
 {
     for i in 0..sections(image) {
@@ -116,7 +121,7 @@ fn write_sections<'t, 'a, D: Disk>(
 fn write_fragments<'t, 'a, D: Disk>(
     disk: &mut D,
     image: &Image,
-    source: &mut Carried<D::At>,
+    source: &mut D::At,
     input: Place<'t>,
     folder: &'t str,
     report: &mut Report,
@@ -124,28 +129,31 @@ fn write_fragments<'t, 'a, D: Disk>(
     m: &mut Meter,
 ) -> BootOutcome<'t, 'a>
     requires one { IsTrue D.tells → (D.held disk.old).output ≡ None }
-    ensures content { IsTrue D.tells → OnOk result (D.At.content source.new.device ≡ D.At.content source.old.device) }
+    ensures content { IsTrue D.tells → OnOk result (D.At.content source.new ≡ D.At.content source.old) }
     ensures done { IsTrue D.tells → OnOk result (FragmentsDone folder.now (view_of image.now.header)
-        (D.At.content source.old.device) (fragment_count (view_of image.now.header)) (D.held disk.new) (D.world
+        (D.At.content source.old) (fragment_count (view_of image.now.header)) (D.held disk.new) (D.world
         disk.new)) }
-    ensures keeps { IsTrue D.tells → OnOk result (KeepsDone (D.held disk.old) (D.held disk.new) (D.world disk.old)
+    ensures keeps { IsTrue D.tells → KeepsMade (D.held disk.old) (D.held disk.new) (D.world disk.old)
+        (D.world disk.new) }
+    ensures only { IsTrue D.tells → GoesAmong (IsFragmentPath folder.now (view_of image.now.header)
+        (fragment_count (view_of image.now.header))) (D.held disk.old) (D.held disk.new) (D.world disk.old)
+        (D.world disk.new) }
+    ensures stands { IsTrue D.tells → OnErr result ((i : ℕ) × FragmentsDone folder.now (view_of image.now.header)
+        (D.At.content source.old) i (D.held disk.new) (D.world disk.new) × GoesAmong (IsFragmentPath folder.now
+        (view_of image.now.header) (i + 1)) (D.held disk.old) (D.held disk.new) (D.world disk.old)
         (D.world disk.new)) }
-    ensures only { IsTrue D.tells → GoesAmong (IsFragmentPath folder.now (view_of image.now.header)) (D.held disk.old)
-        (D.held disk.new) (D.world disk.old) (D.world disk.new) }
-    ensures shown { IsTrue D.tells → OnOk result (ShowsEach (told_fragments (D.At.content source.old.device)
+    ensures shown { IsTrue D.tells → OnOk result (ShowsEach (told_fragments (D.At.content source.old)
         (view_of image.now.header) (fragment_count (view_of image.now.header))) report.old report.new) }
     ensures synced { IsTrue D.tells → OnOk result (SyncsMore (fragment_count (view_of image.now.header))
         (D.held disk.old) (D.held disk.new)) }
-    ensures clean { IsTrue D.tells → OnOk result (NoMoreFailed (D.held disk.old) (D.At.read_faults source.old.device)
-        (D.held disk.new) (D.At.read_faults source.new.device)) }
-    ensures refused { IsTrue D.tells → IsOpened (D.At.content source.old.device) image.now → IfErr result (λ refusal.
-        IsRefusedOver (D.At.content source.old.device) (SomeFailed (D.held disk.old) (D.At.read_faults
-        source.old.device)
-        (D.held disk.new) (D.At.read_faults source.new.device)) ((i : ℕ) × (i < fragment_count (view_of
+    ensures clean { IsTrue D.tells → OnOk result (NoMoreFailed (D.held disk.old) (D.At.read_faults source.old)
+        (D.held disk.new) (D.At.read_faults source.new)) }
+    ensures refused { IsTrue D.tells → IsOpened (D.At.content source.old) image.now → IfErr result (λ refusal.
+        IsRefusedOver (D.At.content source.old) (SomeFailed (D.held disk.old) (D.At.read_faults source.old)
+        (D.held disk.new) (D.At.read_faults source.new)) ((i : ℕ) × (i < fragment_count (view_of
         image.now.header))
-        × FragmentsDone folder.now (view_of image.now.header) (D.At.content source.old.device) (i + 1)
-        (D.held disk.new) (D.world disk.new) × KeepsDone (D.held disk.old) (D.held disk.new) (D.world disk.old)
-        (D.world disk.new)) refusal.fault) }
+        × FragmentsDone folder.now (view_of image.now.header) (D.At.content source.old) (i + 1)
+        (D.held disk.new) (D.world disk.new)) refusal.fault) }
 {
     for i in 0..fragments(image) {
         match write_fragment(disk, image, i, source, input, folder, report, w, m) {

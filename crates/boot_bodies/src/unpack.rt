@@ -1,14 +1,13 @@
 //! The command `unpack`: the sections and ramdisk fragments of an image, each into a file of its own.
 
-ghost use Rattle.std.specs.Prelude.{◌≡◌, IsTrue, IfErr, OnOk, is_ok};
+ghost use Rattle.std.specs.Prelude.{◌≡◌, IsTrue, IfErr, OnOk, OnErr, is_ok};
 ghost use Rattle.abt_refusals.specs.Paths.{path_of};
 ghost use Rattle.abt_disk.specs.World.{HasFailed, HasNotFailed, IsReading, KeepsFile, failing, unless};
-ghost use Rattle.boot_bodies.specs.Among.{OnlyAmong};
+ghost use Rattle.abt_disk.specs.Among.{OnlyAmong};
 ghost use Rattle.boot_bodies.specs.Faults.{RefusesImage};
 ghost use Rattle.boot_bodies.specs.Lines.{ShowsEach};
-ghost use Rattle.boot_bodies.specs.Unpacking.{IsPartOf, PartsStand, SyncsParts, Unpacks};
+ghost use Rattle.boot_bodies.specs.Unpacking.{IsPartOf, LeavesParts, PartsStand, SyncsParts, Unpacks};
 
-use crate::carried::Carried;
 use crate::names::place_of;
 use crate::parts::write_parts;
 use abt_disk::Disk;
@@ -47,6 +46,9 @@ pub fn unpack_file<'t, 'a, D: Disk>(
     ensures only { IsTrue D.tells → OnlyAmong (IsPartOf (path_of input.entry) folder.now with_words (D.world disk.old))
         (D.held disk.old).read (D.held disk.new).begun (D.world disk.old) (D.world disk.new) }
     ensures input { IsTrue D.tells → KeepsFile (path_of input.entry) (D.world disk.old) (D.world disk.new) }
+    // where it is refused, the parts before the one at fault stand, and no file but theirs and its own was changed
+    ensures stands { IsTrue D.tells → OnErr result (LeavesParts (path_of input.entry) folder.now (D.held disk.old)
+        (D.held disk.new) (D.world disk.old) (D.world disk.new)) }
     // it is refused for a fault that IN has, or since a call failed; or a part is written, whose line was not printed
     ensures refused { IsTrue D.tells → IfErr result (λ refusal. RefusesImage (path_of input.entry) (D.world disk.old)
         (HasFailed (D.held disk.old) (D.held disk.new)) (PartsStand (path_of input.entry) folder.now with_words
@@ -70,12 +72,10 @@ pub fn unpack_file<'t, 'a, D: Disk>(
             return Err(refusal.into());
         }
     }
-    let progress = report.progress;
-    let mut source = Carried { device, progress };
     match write_parts(
         disk,
         &image,
-        &mut source,
+        &mut device,
         input,
         folder,
         with_words,
@@ -84,11 +84,11 @@ pub fn unpack_file<'t, 'a, D: Disk>(
         m,
     ) {
         Ok(()) => {
-            disk.let_go_source(source.device);
+            disk.let_go_source(device);
             Ok(())
         }
         Err(refusal) => {
-            disk.let_go_source(source.device);
+            disk.let_go_source(device);
             Err(refusal)
         }
     }

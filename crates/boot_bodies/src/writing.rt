@@ -6,14 +6,13 @@ ghost use Rattle.abt_disk.specs.World.{Ends, SparesRest, ended};
 ghost use Rattle.abt_output.specs.Shows.{Shows};
 ghost use Rattle.abt_sections.specs.Header.{entry_of, fragment_count, fragment_of, places_of, view_of};
 ghost use Rattle.abt_sections.specs.Open.{IsOpened};
-ghost use Rattle.boot_bodies.specs.Among.{GoesAmong, IsDone, KeepsDone};
+ghost use Rattle.abt_disk.specs.Among.{GoesAmong, IsMade, KeepsMade};
 ghost use Rattle.boot_bodies.specs.Faults.{IsAnswerOf, IsRefusedOver, NoMoreFailed, SomeFailed};
 ghost use Rattle.boot_bodies.specs.Lines.{ShowsSection, told_part};
 ghost use Rattle.boot_bodies.specs.Unpacking.{IsFragmentPath, IsSectionPath, SectionDone, SyncsMore, WordsDone};
 ghost use Rattle.boot_bodies.specs.Unpacking.{path_of_part};
 ghost use Rattle.boot_rules.specs.declared.part_names.Part.TheVariants as parts;
 
-use crate::carried::Carried;
 use crate::copying::{copy_fragment, copy_section, copy_words};
 use crate::lines::PartLine;
 use crate::names::place_of;
@@ -30,7 +29,7 @@ pub(crate) fn write_section<'t, 'a, D: Disk>(
     disk: &mut D,
     image: &Image,
     i: usize,
-    source: &mut Carried<D::At>,
+    source: &mut D::At,
     input: Place<'t>,
     folder: &'t str,
     report: &mut Report,
@@ -39,32 +38,30 @@ pub(crate) fn write_section<'t, 'a, D: Disk>(
 ) -> BootOutcome<'t, 'a>
     requires there { i < length (places_of (view_of image.now.header)) }
     requires one { IsTrue D.tells → (D.held disk.old).output ≡ None }
-    ensures content { IsTrue D.tells → OnOk result (D.At.content source.new.device ≡ D.At.content source.old.device) }
+    ensures content { IsTrue D.tells → OnOk result (D.At.content source.new ≡ D.At.content source.old) }
     ensures done { IsTrue D.tells → OnOk result (SectionDone folder.now (view_of image.now.header)
-        (D.At.content source.old.device) i (D.held disk.new) (D.world disk.new)) }
-    ensures keeps { IsTrue D.tells → OnOk result (KeepsDone (D.held disk.old) (D.held disk.new) (D.world disk.old)
-        (D.world disk.new)) }
-    ensures only { IsTrue D.tells → GoesAmong (IsSectionPath folder.now (view_of image.now.header)) (D.held disk.old)
-        (D.held disk.new) (D.world disk.old) (D.world disk.new) }
+        (D.At.content source.old) i (D.held disk.new) (D.world disk.new)) }
+    ensures keeps { IsTrue D.tells → KeepsMade (D.held disk.old) (D.held disk.new) (D.world disk.old)
+        (D.world disk.new) }
+    ensures only { IsTrue D.tells → GoesAmong (IsSectionPath folder.now (view_of image.now.header) (i + 1))
+        (D.held disk.old) (D.held disk.new) (D.world disk.old) (D.world disk.new) }
     ensures shown { OnOk result (ShowsSection (view_of image.now.header) i report.old report.new) }
     ensures synced { IsTrue D.tells → OnOk result (SyncsMore 1 (D.held disk.old) (D.held disk.new)) }
-    ensures clean { IsTrue D.tells → OnOk result (NoMoreFailed (D.held disk.old) (D.At.read_faults source.old.device)
-        (D.held disk.new) (D.At.read_faults source.new.device)) }
-    ensures refused { IsTrue D.tells → IsOpened (D.At.content source.old.device) image.now → IfErr result (λ refusal.
-        IsRefusedOver (D.At.content source.old.device) (SomeFailed (D.held disk.old) (D.At.read_faults
-        source.old.device)
-        (D.held disk.new) (D.At.read_faults source.new.device)) (SectionDone folder.now (view_of image.now.header)
-        (D.At.content source.old.device) i (D.held disk.new) (D.world disk.new) × KeepsDone (D.held disk.old) (D.held
-        disk.new)
-        (D.world disk.old) (D.world disk.new)) refusal.fault) }
+    ensures clean { IsTrue D.tells → OnOk result (NoMoreFailed (D.held disk.old) (D.At.read_faults source.old)
+        (D.held disk.new) (D.At.read_faults source.new)) }
+    ensures refused { IsTrue D.tells → IsOpened (D.At.content source.old) image.now → IfErr result (λ refusal.
+        IsRefusedOver (D.At.content source.old) (SomeFailed (D.held disk.old) (D.At.read_faults source.old)
+        (D.held disk.new) (D.At.read_faults source.new)) (SectionDone folder.now (view_of image.now.header)
+        (D.At.content source.old) i (D.held disk.new) (D.world disk.new)) refusal.fault) }
 {
     let part = Part::Section(section(image, i).kind);
     let place = place_of(part, folder);
-    let mut onto = match disk.plain(place) {
+    let onto = match disk.plain(place) {
         Ok(onto) => onto,
         Err(refusal) => return Err(refusal.into()),
     };
-    let answer = copy_section(image, i, source, &mut onto, &mut report.progress, w, m);
+    let progress = &mut report.progress;
+    let (onto, answer) = copy_section(image, i, source, onto, progress, w, m);
     match finish(disk, answer, onto, place, input, part, report) {
         Ok(()) => Ok(()),
         Err(refusal) => Err(refusal),
@@ -76,7 +73,7 @@ pub(crate) fn write_fragment<'t, 'a, D: Disk>(
     disk: &mut D,
     image: &Image,
     index: u32,
-    source: &mut Carried<D::At>,
+    source: &mut D::At,
     input: Place<'t>,
     folder: &'t str,
     report: &mut Report,
@@ -85,34 +82,33 @@ pub(crate) fn write_fragment<'t, 'a, D: Disk>(
 ) -> BootOutcome<'t, 'a>
     requires there { index < fragment_count (view_of image.now.header) }
     requires one { IsTrue D.tells → (D.held disk.old).output ≡ None }
-    ensures content { IsTrue D.tells → OnOk result (D.At.content source.new.device ≡ D.At.content source.old.device) }
-    ensures done { IsTrue D.tells → OnOk result (IsDone (D.held disk.new) (D.world disk.new)
+    ensures content { IsTrue D.tells → OnOk result (D.At.content source.new ≡ D.At.content source.old) }
+    ensures done { IsTrue D.tells → OnOk result (IsMade (D.held disk.new) (D.world disk.new)
         (path_of_part folder.now (parts.Fragment index))
-        (fragment_of (D.At.content source.old.device) (view_of image.now.header) index)) }
-    ensures keeps { IsTrue D.tells → OnOk result (KeepsDone (D.held disk.old) (D.held disk.new) (D.world disk.old)
-        (D.world disk.new)) }
-    ensures only { IsTrue D.tells → GoesAmong (IsFragmentPath folder.now (view_of image.now.header)) (D.held disk.old)
-        (D.held disk.new) (D.world disk.old) (D.world disk.new) }
+        (fragment_of (D.At.content source.old) (view_of image.now.header) index)) }
+    ensures keeps { IsTrue D.tells → KeepsMade (D.held disk.old) (D.held disk.new) (D.world disk.old)
+        (D.world disk.new) }
+    ensures only { IsTrue D.tells → GoesAmong (IsFragmentPath folder.now (view_of image.now.header) (index + 1))
+        (D.held disk.old) (D.held disk.new) (D.world disk.old) (D.world disk.new) }
     ensures shown { IsTrue D.tells → OnOk result (Shows report.old report.new (told_part (parts.Fragment index)
-        (entry_of (D.At.content source.old.device) (view_of image.now.header) index).ramdisk_size)) }
+        (entry_of (D.At.content source.old) (view_of image.now.header) index).ramdisk_size)) }
     ensures synced { IsTrue D.tells → OnOk result (SyncsMore 1 (D.held disk.old) (D.held disk.new)) }
-    ensures clean { IsTrue D.tells → OnOk result (NoMoreFailed (D.held disk.old) (D.At.read_faults source.old.device)
-        (D.held disk.new) (D.At.read_faults source.new.device)) }
-    ensures refused { IsTrue D.tells → IsOpened (D.At.content source.old.device) image.now → IfErr result (λ refusal.
-        IsRefusedOver (D.At.content source.old.device) (SomeFailed (D.held disk.old) (D.At.read_faults
-        source.old.device)
-        (D.held disk.new) (D.At.read_faults source.new.device)) (IsDone (D.held disk.new) (D.world disk.new)
-        (path_of_part folder.now (parts.Fragment index)) (fragment_of (D.At.content source.old.device)
-        (view_of image.now.header) index) × KeepsDone (D.held disk.old) (D.held disk.new)
-        (D.world disk.old) (D.world disk.new)) refusal.fault) }
+    ensures clean { IsTrue D.tells → OnOk result (NoMoreFailed (D.held disk.old) (D.At.read_faults source.old)
+        (D.held disk.new) (D.At.read_faults source.new)) }
+    ensures refused { IsTrue D.tells → IsOpened (D.At.content source.old) image.now → IfErr result (λ refusal.
+        IsRefusedOver (D.At.content source.old) (SomeFailed (D.held disk.old) (D.At.read_faults source.old)
+        (D.held disk.new) (D.At.read_faults source.new)) (IsMade (D.held disk.new) (D.world disk.new)
+        (path_of_part folder.now (parts.Fragment index)) (fragment_of (D.At.content source.old)
+        (view_of image.now.header) index)) refusal.fault) }
 {
     let part = Part::Fragment(index);
     let place = place_of(part, folder);
-    let mut onto = match disk.plain(place) {
+    let onto = match disk.plain(place) {
         Ok(onto) => onto,
         Err(refusal) => return Err(refusal.into()),
     };
-    let answer = copy_fragment(image, index, source, &mut onto, &mut report.progress, w, m);
+    let progress = &mut report.progress;
+    let (onto, answer) = copy_fragment(image, index, source, onto, progress, w, m);
     match finish(disk, answer, onto, place, input, part, report) {
         Ok(()) => Ok(()),
         Err(refusal) => Err(refusal),
@@ -123,7 +119,7 @@ pub(crate) fn write_fragment<'t, 'a, D: Disk>(
 pub(crate) fn write_pack_words<'t, 'a, D: Disk>(
     disk: &mut D,
     image: &Image,
-    source: &mut Carried<D::At>,
+    source: &mut D::At,
     input: Place<'t>,
     folder: &'t str,
     report: &mut Report,
@@ -131,24 +127,21 @@ pub(crate) fn write_pack_words<'t, 'a, D: Disk>(
     m: &mut Meter,
 ) -> BootOutcome<'t, 'a>
     requires one { IsTrue D.tells → (D.held disk.old).output ≡ None }
-    ensures content { IsTrue D.tells → OnOk result (D.At.content source.new.device ≡ D.At.content source.old.device) }
+    ensures content { IsTrue D.tells → OnOk result (D.At.content source.new ≡ D.At.content source.old) }
     ensures done { IsTrue D.tells → OnOk result (WordsDone folder.now (view_of image.now.header)
-        (D.At.content source.old.device) (D.held disk.new) (D.world disk.new)) }
-    ensures keeps { IsTrue D.tells → OnOk result (KeepsDone (D.held disk.old) (D.held disk.new) (D.world disk.old)
-        (D.world disk.new)) }
+        (D.At.content source.old) (D.held disk.new) (D.world disk.new)) }
+    ensures keeps { IsTrue D.tells → KeepsMade (D.held disk.old) (D.held disk.new) (D.world disk.old)
+        (D.world disk.new) }
     ensures only { IsTrue D.tells → GoesAmong (λ path. path ≡ path_of_part folder.now parts.Words)
         (D.held disk.old) (D.held disk.new) (D.world disk.old) (D.world disk.new) }
     ensures shown { OnOk result ((bytes : ℕ) × Shows report.old report.new (told_part parts.Words bytes)) }
     ensures synced { IsTrue D.tells → OnOk result (SyncsMore 1 (D.held disk.old) (D.held disk.new)) }
-    ensures clean { IsTrue D.tells → OnOk result (NoMoreFailed (D.held disk.old) (D.At.read_faults source.old.device)
-        (D.held disk.new) (D.At.read_faults source.new.device)) }
-    ensures refused { IsTrue D.tells → IsOpened (D.At.content source.old.device) image.now → IfErr result (λ refusal.
-        IsRefusedOver (D.At.content source.old.device) (SomeFailed (D.held disk.old) (D.At.read_faults
-        source.old.device)
-        (D.held disk.new) (D.At.read_faults source.new.device)) (WordsDone folder.now (view_of image.now.header)
-        (D.At.content source.old.device) (D.held disk.new) (D.world disk.new) × KeepsDone (D.held disk.old) (D.held
-        disk.new)
-        (D.world disk.old) (D.world disk.new)) refusal.fault) }
+    ensures clean { IsTrue D.tells → OnOk result (NoMoreFailed (D.held disk.old) (D.At.read_faults source.old)
+        (D.held disk.new) (D.At.read_faults source.new)) }
+    ensures refused { IsTrue D.tells → IsOpened (D.At.content source.old) image.now → IfErr result (λ refusal.
+        IsRefusedOver (D.At.content source.old) (SomeFailed (D.held disk.old) (D.At.read_faults source.old)
+        (D.held disk.new) (D.At.read_faults source.new)) (WordsDone folder.now (view_of image.now.header)
+        (D.At.content source.old) (D.held disk.new) (D.world disk.new)) refusal.fault) }
 {
     let place = place_of(Part::Words, folder);
     let onto = match disk.plain(place) {
@@ -156,7 +149,7 @@ pub(crate) fn write_pack_words<'t, 'a, D: Disk>(
         Err(refusal) => return Err(refusal.into()),
     };
     let progress = &mut report.progress;
-    let (onto, answer) = copy_words(image, folder, &mut source.device, onto, progress, w, m);
+    let (onto, answer) = copy_words(image, folder, source, onto, progress, w, m);
     match finish(disk, answer, onto, place, input, Part::Words, report) {
         Ok(()) => Ok(()),
         Err(refusal) => Err(refusal),

@@ -3,9 +3,9 @@
 ghost use Rattle.std.specs.Prelude.{◌≡◌, ◌≤◌, ◌<◌, ◌+◌, ◌-◌, [], IsTrue, OnOk, IfOk};
 ghost use Rattle.flash_bodies.specs.InPieces.{Delivers};
 
-use crate::carried::Carried;
 use abt_flash::{Delivered, FlashFault, resume, resume_raw_at};
 use abt_io::{Meter, Overwrite, Partition, Source, Spool, Window};
+use abt_output::Carried;
 
 /// Flashes the pieces from this one on, of a raw image in one pass over it.
 pub(crate) fn delivered<S: Source, L: Spool + Overwrite, P: Partition>(

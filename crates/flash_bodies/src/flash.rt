@@ -7,11 +7,10 @@ ghost use Rattle.abt_disk.specs.World.{HasNotFailed, KeepsFile};
 ghost use Rattle.abt_output.specs.Shows.{Shows};
 ghost use Rattle.flash_bodies.specs.Flashing.{FlashesFile, Lays, RefusesFlash};
 
-use crate::carried::Carried;
 use abt_disk::{Disk, Measured, Reasons, closed};
 use abt_flash::flash;
 use abt_io::{Input, Meter, Partition, Window};
-use abt_output::Report;
+use abt_output::{Carried, Report};
 use abt_refusals::{Place, Sides};
 use sparse_rules::{Line, SparseCommandFault, SparseRefusal};
 

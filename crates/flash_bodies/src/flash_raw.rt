@@ -8,10 +8,9 @@ ghost use Rattle.abt_output.specs.Shows.{Shows};
 ghost use Rattle.flash_bodies.specs.FlashingRaw.{FlashesRawFile, RefusesFlashRaw};
 
 use crate::blocks::flash_blocks;
-use crate::carried::Carried;
 use abt_disk::{Disk, closed};
 use abt_io::{Meter, Source, Window};
-use abt_output::Report;
+use abt_output::{Carried, Report};
 use abt_refusals::{Place, Sides};
 use sparse_rules::{Line, SparseCommandFault, SparseRefusal};
 

@@ -9,14 +9,12 @@
 //! | `blocks.rt`, `laying.rt` | each block of a raw image to a partition; a source over its front |
 //! | `pieces.rt`, `through.rt` | an image in pieces, and the file that they go through, which is closed behind them |
 //! | `delivering.rt` | the pieces, by the engine |
-//! | `carried.rt` | what is read, held together with how far the command is |
 //! | `verify.rt` | whether an image stands on a partition |
 //! | `list.rt` | the header and the chunks of a sparse image |
 //! | `in_memory.rt` | the same commands at a disk in memory |
 #![tactic(auto)]
 
 mod blocks;
-mod carried;
 mod delivering;
 mod flash;
 mod flash_raw;

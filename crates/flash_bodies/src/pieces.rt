@@ -7,12 +7,11 @@ ghost use Rattle.abt_output.specs.Shows.{Shows};
 ghost use Rattle.flash_bodies.specs.InPieces.{FlashesPieces, IsUncuttable, RefusesPieces, SparesBoth};
 ghost use Rattle.flash_bodies.specs.Through.{count_delivered};
 
-use crate::carried::Carried;
 use crate::through::delivered_through;
 use abt_disk::{Disk, closed};
 use abt_flash::{Delivered, FlashFault};
 use abt_io::{Meter, Source, Window};
-use abt_output::Report;
+use abt_output::{Carried, Report};
 use abt_refusals::{Place, Sides};
 use sparse_rules::{Line, SparseCommandFault, SparseRefusal, raw_pieces};
 

@@ -6,11 +6,11 @@ ghost use Rattle.abt_flash.specs.declared.fault.Cause.{Cause};
 ghost use Rattle.flash_bodies.specs.InPieces.{Delivers};
 ghost use Rattle.flash_bodies.specs.Through.{ClosesSpool, told};
 
-use crate::carried::Carried;
 use crate::delivering::delivered;
 use abt_disk::Disk;
 use abt_flash::{Cause, Delivered, FlashFault};
 use abt_io::{DeviceFault, Meter, Window};
+use abt_output::Carried;
 
 /// Flashes the pieces from this one on. All that they went through is in its file then.
 pub(crate) fn delivered_through<D: Disk>(

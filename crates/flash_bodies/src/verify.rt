@@ -7,10 +7,9 @@ ghost use Rattle.abt_output.specs.Shows.{Shows};
 ghost use Rattle.flash_bodies.specs.Verifying.{Finds, FindsRaw, RefusesVerify, RefusesVerifyRaw, VerifiesFile};
 ghost use Rattle.flash_bodies.specs.Verifying.{VerifiesRawFile};
 
-use crate::carried::Carried;
 use abt_disk::{Disk, Measured, Reasons};
 use abt_io::{Input, Meter, Source, Window};
-use abt_output::Report;
+use abt_output::{Carried, Report};
 use abt_refusals::{Place, Sides};
 use abt_verify::{verify, verify_raw};
 use sparse_rules::{Line, SparseCommandFault, SparseRefusal};

@@ -23,6 +23,11 @@ impl Host {
             writing: reading.all_open(),
         }
     }
+
+    /// Each output that is a file or a block device is going to be synced at its end.
+    pub fn sync_outputs(&mut self) {
+        self.writing.reading.sync_outputs();
+    }
 }
 
 impl Disk for Host {

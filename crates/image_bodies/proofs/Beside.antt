@@ -5,11 +5,12 @@ use Rattle.std.specs.Prelude.{IsTrue, IsOk, IfOk, IfErr, OnOk, OnErr, Result, Ok
 use Rattle.std.specs.Prelude.{if◌then◌else◌, ◌&&◌, Option}
 use Rattle.std.proofs.lemmas.Bool.{false≢true}
 use Rattle.abt_pieces.specs.Turn.{HasAt}
-use Rattle.abt_disk.specs.World.{World, Held, Creates, OnlyAt, Ends, Spares, SparesRest, ended, unended, failing}
+use Rattle.abt_disk.specs.World.{World, Held, Creates, OnlyAt, Ends, Spares, SparesRest, KeepsBegun, ended, unended}
+use Rattle.abt_disk.specs.World.{failing}
 use Rattle.image_bodies.specs.Sparsing.{GivesUp}
-use Rattle.image_bodies.specs.Cutting.{AddsPiece, ClosesBeside, HoldsPiece}
-use Rattle.image_bodies.specs.Under.{GoesUnder, IsMade, KeepsMade}
-use Rattle.image_bodies.proofs.Unders.{done_written, goes_refused, goes_written, keeps_written}
+use Rattle.image_bodies.specs.Cutting.{AddsNone, AddsPiece, ClosesBeside, HoldsPiece}
+use Rattle.abt_disk.specs.Among.{GoesAmong, IsMade, KeepsMade}
+use Rattle.abt_disk.proofs.Amongs.{made_written, goes_refused, goes_written, keeps_refused, keeps_written}
 
 -- ---- an output that is closed, beside what is read
 
@@ -79,7 +80,7 @@ pub adds_piece : {X E : Type 0} (result : Result X E) (path : List ℕ) (ps : Li
 adds_piece (Err e) path ps made r r' h h' h'' a b c created holds closes rest = tt
 adds_piece (Ok y) path ps made r r' h h' h'' a b c created holds closes rest =
     let done : IsMade h'' c path holds.bytes
-    = done_written path holds.bytes true closes.failures h h' h'' a b c created closes.closed holds.ends in
+    = made_written path holds.bytes true closes.failures h h' h'' a b c created closes.closed holds.ends in
     let keeps : KeepsMade h h'' a c = keeps_written path true closes.failures h h' h'' a b c created closes.closed rest
     in
     let after : Spares created.file b c
@@ -96,8 +97,32 @@ adds_piece (Ok y) path ps made r r' h h' h'' a b c created holds closes rest =
           ∙ ap (λ k. k.syncs + (if k.is_synced then 1 else 0)) created.begins;
     }
 
+pub adds_none : {X E : Type 0} (result : Result X E) (path : List ℕ) (r r' : ℕ) (h h' h'' : Held) (a b c : World)
+    → Creates path h h' a b → ClosesBeside (is_ok result) r r' h' h'' → SparesRest h'.output b c
+    → OnErr result (AddsNone h h'' a c)
+adds_none (Ok y) path r r' h h' h'' a b c created closes rest = tt
+adds_none (Err e) path r r' h h' h'' a b c created closes rest = record {
+  keeps = keeps_written path false closes.failures h h' h'' a b c created closes.closed rest;
+  is_synced = ap (λ k. k.is_synced) closes.closed ∙ ap (λ k. k.is_synced) created.begins;
+  synced = omega (arith, ap (λ k. k.syncs) closes.closed, ap (λ k. k.syncs) created.begins);
+}
+
+-- its output could not be opened
+pub adds_none_refused : (path : List ℕ) (h h' : Held) (a b : World) → h.output ≡ None → h' ≡ failing 1 h
+    → OnlyAt h.read path a b → KeepsBegun h.begun a b → AddsNone h h' a b
+adds_none_refused path h h' a b closed later only begun = record {
+  keeps = keeps_refused path h h' a b 1 closed later only begun;
+  is_synced = ap (λ k. k.is_synced) later;
+  synced = ap (λ k. k.syncs) later;
+}
+
+-- what is so of every refusal
+pub any_refused : {X E : Type 0} (r : Result X E) (P : Type 0) → P → OnErr r P
+any_refused (Ok x) P is = tt
+any_refused (Err e) P is = is
+
 pub goes_piece : (done : Bool) (path : List ℕ) (r r' : ℕ) (h h' h'' : Held) (a b c : World) → Creates path h h' a b
-    → ClosesBeside done r r' h' h'' → SparesRest h'.output b c → GoesUnder (λ p. p ≡ path) h h'' a c
+    → ClosesBeside done r r' h' h'' → SparesRest h'.output b c → GoesAmong (λ p. p ≡ path) h h'' a c
 goes_piece done path r r' h h' h'' a b c created closes rest =
     goes_written (λ p. p ≡ path) path done closes.failures h h' h'' a b c refl created closes.closed rest
 

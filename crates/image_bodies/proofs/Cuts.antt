@@ -17,17 +17,18 @@ use Rattle.abt_pieces.specs.declared.stage.Stage.TheVariants.{Between, Done}
 use Rattle.abt_refusals.specs.Paths.{path_out, path_of, is_standard, numbered, in_folder}
 use Rattle.abt_refusals.specs.declared.place.Place.{Place}
 use Rattle.abt_disk.specs.World.{World, Held}
-use Rattle.image_bodies.specs.Cutting.{AddsPiece, AreApart, CutsSoFar, IsPiecePath, PieceStands, PiecesStand}
+use Rattle.image_bodies.specs.Cutting.{AddsNone, AddsPiece, AreApart, CutsSoFar, IsFirstPath, IsPiecePath, PieceStands}
+use Rattle.image_bodies.specs.Cutting.{PiecesStand}
 use Rattle.image_bodies.specs.Cutting.{piece_path}
-use Rattle.image_bodies.specs.Under.{GoesUnder, IsMade, KeepsMade}
-use Rattle.image_bodies.proofs.Unders.{done_later, goes_more, goes_still, goes_then}
+use Rattle.abt_disk.specs.Among.{GoesAmong, IsMade, KeepsMade}
+use Rattle.abt_disk.proofs.Amongs.{made_later, goes_more, goes_still, goes_then}
 
 -- ---- nothing was cut yet
 
-pub cuts_none : (prefix : List ℕ) (ps : List (List ℕ)) (h : Held) (a : World) → h.output ≡ None
-    → CutsSoFar prefix ps 0 h h a a
-cuts_none prefix ps h a closed = record {
-  goes = goes_still (IsPiecePath prefix) h a;
+pub cuts_none : (prefix : List ℕ) (ps : List (List ℕ)) (m : ℕ) (h : Held) (a : World) → h.output ≡ None
+    → CutsSoFar prefix ps 0 m h h a a
+cuts_none prefix ps m h a closed = record {
+  goes = goes_still (IsFirstPath prefix m) h a;
   stand = λ j below. absurd (omega (arith, below));
   apart = λ i j f first next at. absurd (omega (arith, next));
   closed = closed;
@@ -47,7 +48,7 @@ stands_later prefix ps n h h' a b keeps stand j below =
     record {
       bytes = s.bytes;
       is_next = s.is_next;
-      made = done_later h h' a b (piece_path prefix (j + 1)) s.bytes keeps s.made;
+      made = made_later h h' a b (piece_path prefix (j + 1)) s.bytes keeps s.made;
     }
 
 -- what is at the path of a piece that stands is its file
@@ -75,17 +76,42 @@ apart_more prefix ps n h h' a b keeps stand apart fresh = λ i j f first next at
     fresh f at' (subst (λ g. Contains h.begun g) (file_of prefix ps i h h' a b f keeps s at) s.made.listed))
     j next i f first at at'
 
+apart_later : (prefix : List ℕ) (ps : List (List ℕ)) (n : ℕ) (h h' : Held) (a b : World) → KeepsMade h h' a b
+    → PiecesStand prefix ps n h a → AreApart prefix n a → AreApart prefix n b
+apart_later prefix ps n h h' a b keeps stand apart = λ i j f first next at at'.
+    let s = stand i (omega (arith, first, next)) in
+    let t = stand j next in
+    apart i j t.made.file first next
+    (s.made.there ∙ ap Some (file_of prefix ps i h h' a b f keeps s at ∙ sym (file_of prefix ps j h h' a b f keeps t
+    at')))
+    t.made.there
+
+-- of which the files are
+one_more : (prefix : List ℕ) (n : ℕ) (path : List ℕ) (h h' h'' : Held) (a b c : World)
+    → path ≡ piece_path prefix (n + 1) → GoesAmong (IsFirstPath prefix n) h h' a b
+    → GoesAmong (λ p. p ≡ path) h' h'' b c → GoesAmong (IsFirstPath prefix (n + 1)) h h'' a c
+one_more prefix n path h h' h'' a b c is_path first next =
+    goes_then (IsFirstPath prefix (n + 1)) h h' h'' a b c
+    (goes_more (IsFirstPath prefix n) (IsFirstPath prefix (n + 1)) h h' a b
+    (λ p is. record { index = is.index; below = omega (arith, is.below); is_path = is.is_path }) first)
+    (goes_more (λ p. p ≡ path) (IsFirstPath prefix (n + 1)) h' h'' b c
+    (λ p same. record { index = n; below = omega arith; is_path = same ∙ is_path }) next)
+
+pub cuts_only : (prefix : List ℕ) (ps : List (List ℕ)) (n m : ℕ) (h h' : Held) (a b : World)
+    → CutsSoFar prefix ps n m h h' a b → GoesAmong (IsPiecePath prefix) h h' a b
+cuts_only prefix ps n m h h' a b cuts =
+    goes_more (IsFirstPath prefix m) (IsPiecePath prefix) h h' a b (λ p is. (is.index + 1, is.is_path)) cuts.goes
+
 synced_more : (b : Bool) (s s' s'' n : ℕ) → s' ≡ s + n * (if b then 1 else 0) → s'' ≡ s' + (if b then 1 else 0)
     → s'' ≡ s + (n + 1) * (if b then 1 else 0)
 synced_more true s s' s'' n first next = omega (arith, first, next)
 synced_more false s s' s'' n first next = omega (arith, first, next)
 
 pub cuts_more : (prefix : List ℕ) (ps : List (List ℕ)) (n : ℕ) (path : List ℕ) (h h' h'' : Held) (a b c : World)
-    → path ≡ piece_path prefix (n + 1) → CutsSoFar prefix ps n h h' a b → AddsPiece ps n path h' h'' b c
-    → GoesUnder (λ p. p ≡ path) h' h'' b c → CutsSoFar prefix ps (n + 1) h h'' a c
+    → path ≡ piece_path prefix (n + 1) → CutsSoFar prefix ps n n h h' a b → AddsPiece ps n path h' h'' b c
+    → GoesAmong (λ p. p ≡ path) h' h'' b c → CutsSoFar prefix ps (n + 1) (n + 1) h h'' a c
 cuts_more prefix ps n path h h' h'' a b c is_path cuts adds goes = record {
-  goes = goes_then (IsPiecePath prefix) h h' h'' a b c cuts.goes
-      (goes_more (λ p. p ≡ path) (IsPiecePath prefix) h' h'' b c (λ p same. (n + 1, same ∙ is_path)) goes);
+  goes = one_more prefix n path h h' h'' a b c is_path cuts.goes goes;
   stand = below_more (λ j. PieceStands prefix ps j h'' c) n (stands_later prefix ps n h' h'' b c adds.keeps cuts.stand)
       (record {
         bytes = adds.bytes;
@@ -100,13 +126,18 @@ cuts_more prefix ps n path h h' h'' a b c is_path cuts adds goes = record {
       (subst (λ y. h''.syncs ≡ h'.syncs + (if y then 1 else 0)) cuts.is_synced adds.synced);
 }
 
--- whatever comes of it
-pub goes_piece_more : (prefix : List ℕ) (n : ℕ) (path : List ℕ) (h h' h'' : Held) (a b c : World)
-    → path ≡ piece_path prefix n → GoesUnder (IsPiecePath prefix) h h' a b → GoesUnder (λ p. p ≡ path) h' h'' b c
-    → GoesUnder (IsPiecePath prefix) h h'' a c
-goes_piece_more prefix n path h h' h'' a b c is_path first next =
-    goes_then (IsPiecePath prefix) h h' h'' a b c first
-    (goes_more (λ p. p ≡ path) (IsPiecePath prefix) h' h'' b c (λ p same. (n, same ∙ is_path)) next)
+-- it could not be written
+pub cuts_stop : (prefix : List ℕ) (ps : List (List ℕ)) (n : ℕ) (path : List ℕ) (h h' h'' : Held) (a b c : World)
+    → path ≡ piece_path prefix (n + 1) → CutsSoFar prefix ps n n h h' a b → AddsNone h' h'' b c
+    → GoesAmong (λ p. p ≡ path) h' h'' b c → CutsSoFar prefix ps n (n + 1) h h'' a c
+cuts_stop prefix ps n path h h' h'' a b c is_path cuts none goes = record {
+  goes = one_more prefix n path h h' h'' a b c is_path cuts.goes goes;
+  stand = stands_later prefix ps n h' h'' b c none.keeps cuts.stand;
+  apart = apart_later prefix ps n h' h'' b c none.keeps cuts.stand cuts.apart;
+  closed = none.keeps.closed;
+  is_synced = none.is_synced ∙ cuts.is_synced;
+  synced = none.synced ∙ cuts.synced;
+}
 
 -- ---- the path of a piece
 

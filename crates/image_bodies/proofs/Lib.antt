@@ -5,5 +5,4 @@ pub mod Cuts
 pub mod Files
 pub mod Nexts
 pub mod Opened
-pub mod Unders
 pub mod Wholes

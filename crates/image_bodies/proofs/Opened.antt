@@ -46,13 +46,13 @@ cut_of (Ok y) raw size size' limit limit' l l' prefix x h h' a b shows image gra
 pub stop_of : (fault : SparseCommandFault) (raw : Option ℕ) (size size' limit limit' : ℕ) (l l' : List Block)
     (prefix x : List ℕ) (h h' : Held) (a b : World) (Failed Same : Type 0) → IsImageOf raw size l x
     → size' ≡ size → limit' ≡ limit → l' ≡ l
-    → StopsCut fault Failed (λ n. CutsSoFar prefix (pieces limit' size' l') n h h' a b)
-    → StopsImage raw limit x fault Failed Same (λ ps n. CutsSoFar prefix ps n h h' a b)
+    → StopsCut fault Failed (λ n m. CutsSoFar prefix (pieces limit' size' l') n m h h' a b)
+    → StopsImage raw limit x fault Failed Same (λ ps n m. CutsSoFar prefix ps n m h h' a b)
 stop_of fault raw size size' limit limit' l l' prefix x h h' a b Failed Same image sized limited listed why =
     stopped size l image
-    (subst (λ (n : ℕ). StopsCut fault Failed (λ k. CutsSoFar prefix (pieces n size l) k h h' a b)) limited
-    (subst (λ (n : ℕ). StopsCut fault Failed (λ k. CutsSoFar prefix (pieces limit' n l) k h h' a b)) sized
-    (subst (λ (m : List Block). StopsCut fault Failed (λ k. CutsSoFar prefix (pieces limit' size' m) k h h' a b))
+    (subst (λ (n : ℕ). StopsCut fault Failed (λ k m. CutsSoFar prefix (pieces n size l) k m h h' a b)) limited
+    (subst (λ (n : ℕ). StopsCut fault Failed (λ k m. CutsSoFar prefix (pieces limit' n l) k m h h' a b)) sized
+    (subst (λ (bs : List Block). StopsCut fault Failed (λ k m. CutsSoFar prefix (pieces limit' size' bs) k m h h' a b))
     listed why)))
 
 -- ---- a raw one
@@ -61,7 +61,7 @@ pub raw_image : (size : ℕ) (x : List ℕ) → IsBlockSize size → IsImageOf (
 raw_image size x sized = (refl, sized, refl)
 
 pub raw_uncut : (fault told : SparseCommandFault) (size long limit : ℕ) (x : List ℕ) (Failed Same : Type 0)
-    (Cut : List (List ℕ) → ℕ → Type 0) → told ≡ fault → long ≡ length x → IsUncut fault size long limit → Same
+    (Cut : List (List ℕ) → ℕ → ℕ → Type 0) → told ≡ fault → long ≡ length x → IsUncut fault size long limit → Same
     → StopsImage (Some size) limit x told Failed Same Cut
 raw_uncut (faults.Run f) told size long limit x Failed Same Cut is sized why same =
     no_cut f is (subst (λ (n : ℕ). Refused f size n) sized why) same
@@ -96,12 +96,12 @@ fails_by x f (Fault g cells) is same = (cells, subst (λ e. Fails x e cells) (sy
 fails_by x f (Image h cs rest) is refused = absurd refused
 
 pub sparse_uncut : (fault told : SparseCommandFault) (limit : ℕ) (x : List ℕ) (r r' : ℕ) (Failed Same : Type 0)
-    (Cut : List (List ℕ) → ℕ → Type 0) → IsOutcome x (outcome x) → told ≡ fault → IsUncutSparse fault limit x r r'
+    (Cut : List (List ℕ) → ℕ → ℕ → Type 0) → IsOutcome x (outcome x) → told ≡ fault → IsUncutSparse fault limit x r r'
     → (r < r' → Failed) → Same → StopsImage None limit x told Failed Same Cut
 sparse_uncut (faults.Run (of_runs.Sparse f)) told limit x r r' Failed Same Cut all is why fails same =
     no_cut (of_runs.Sparse f) is (fails_by x f (outcome x) all why) same
 sparse_uncut (faults.Run (of_runs.Read d)) told limit x r r' Failed Same Cut all is why fails same =
-    unread (of_runs.Read d) is (fails why)
+    unread (of_runs.Read d) is (fails why) same
 sparse_uncut (faults.Run of_runs.TooLarge) told limit x r r' Failed Same Cut all is why fails same = absurd why
 sparse_uncut (faults.Run of_runs.SourceChanged) told limit x r r' Failed Same Cut all is why fails same = absurd why
 sparse_uncut (faults.Run (of_runs.BadBlock n)) told limit x r r' Failed Same Cut all is why fails same = absurd why

@@ -17,11 +17,13 @@ use Rattle.sparse_rules.specs.declared.fault.SparseCommandFault.{SparseCommandFa
 use Rattle.sparse_rules.specs.declared.fault.SparseCommandFault.TheVariants as faults
 use Rattle.image_bodies.specs.Sparsing.{IsOutside}
 use Rattle.image_bodies.specs.Cutting.{AreApart, CutsAll, CutsFile, CutsImage, CutsSoFar, FirstStand, IsImageOf}
-use Rattle.image_bodies.specs.Cutting.{IsPiecePath, OnlyFails, PieceStands, PiecesStand, RefusesCut, StopsCut}
+use Rattle.image_bodies.specs.Cutting.{IsFirstPath, IsPiecePath, OnlyFails, PieceStands, PiecesStand, RefusesCut}
+use Rattle.image_bodies.specs.Cutting.{StopsCut}
 use Rattle.image_bodies.specs.Cutting.{StopsImage, failed, no_cut, no_memory, no_room, opened, piece_path, stopped}
 use Rattle.image_bodies.specs.Cutting.{unopened, unread, untold}
-use Rattle.image_bodies.specs.Under.{GoesUnder, IsMade, OnlyUnder}
-use Rattle.image_bodies.proofs.Unders.{goes_none, goes_then, kept_behind, only_behind}
+use Rattle.abt_disk.specs.Among.{GoesAmong, IsMade, OnlyAmong}
+use Rattle.image_bodies.proofs.Cuts.{cuts_none}
+use Rattle.abt_disk.proofs.Amongs.{goes_none, goes_then, kept_beside, among_behind}
 
 -- ---- once what was read is let go
 
@@ -34,11 +36,11 @@ made_past h h' a b path bytes n later same made = record {
   listed = subst (λ k. Contains k.begun made.file) (sym later) made.listed;
 }
 
-pub cuts_past : (prefix : List ℕ) (ps : List (List ℕ)) (n r : ℕ) (h h' h'' : Held) (a b c : World) → h'' ≡ failing r h'
-    → c ≡ b → CutsSoFar prefix ps n h h' a b → CutsSoFar prefix ps n h h'' a c
-cuts_past prefix ps n r h h' h'' a b c later same cuts = record {
-  goes = goes_then (IsPiecePath prefix) h h' h'' a b c cuts.goes (goes_none (IsPiecePath prefix) h' h'' b c r later
-      same);
+pub cuts_past : (prefix : List ℕ) (ps : List (List ℕ)) (n m r : ℕ) (h h' h'' : Held) (a b c : World)
+    → h'' ≡ failing r h' → c ≡ b → CutsSoFar prefix ps n m h h' a b → CutsSoFar prefix ps n m h h'' a c
+cuts_past prefix ps n m r h h' h'' a b c later same cuts = record {
+  goes = goes_then (IsFirstPath prefix m) h h' h'' a b c cuts.goes
+      (goes_none (IsFirstPath prefix m) h' h'' b c r later same);
   stand = λ j below.
       let s = cuts.stand j below in
       record {
@@ -54,28 +56,35 @@ cuts_past prefix ps n r h h' h'' a b c later same cuts = record {
 
 pub stops_past : (fault : SparseCommandFault) (prefix : List ℕ) (ps : List (List ℕ)) (r r' : ℕ) (h h' h'' : Held)
     (a b c : World) → r ≡ 0 → h'' ≡ failing r' h' → c ≡ b
-    → StopsCut fault (h.failed + r < h'.failed + r') (λ n. CutsSoFar prefix ps n h h' a b)
-    → StopsCut fault (HasFailed h h'') (λ n. CutsSoFar prefix ps n h h'' a c)
-stops_past fault prefix ps r r' h h' h'' a b c none later same (failed outside more) =
-    failed outside (omega (arith, none, more, ap (λ k. k.failed) later))
+    → StopsCut fault (h.failed + r < h'.failed + r') (λ n m. CutsSoFar prefix ps n m h h' a b)
+    → StopsCut fault (HasFailed h h'') (λ n m. CutsSoFar prefix ps n m h h'' a c)
+stops_past fault prefix ps r r' h h' h'' a b c none later same (failed outside more n cuts) =
+    failed outside (omega (arith, none, more, ap (λ k. k.failed) later)) n
+    (cuts_past prefix ps n (n + 1) r' h h' h'' a b c later same cuts)
 stops_past fault prefix ps r r' h h' h'' a b c none later same (untold f told n some cuts) =
-    untold f told n some (cuts_past prefix ps n r' h h' h'' a b c later same cuts)
-stops_past fault prefix ps r r' h h' h'' a b c none later same (no_memory told) = no_memory told
+    untold f told n some (cuts_past prefix ps n n r' h h' h'' a b c later same cuts)
+stops_past fault prefix ps r r' h h' h'' a b c none later same (no_memory told cuts) =
+    no_memory told (cuts_past prefix ps 0 0 r' h h' h'' a b c later same cuts)
 
--- a call of the disk was refused, or memory was
-pub stops_host : (fault : SparseCommandFault) (k : HostFault) (Failed : Type 0) (Cut : ℕ → Type 0)
-    → fault ≡ faults.Host k
-    → (k ≡ hosts.Memory) ⊎ Failed → StopsCut fault Failed Cut
-stops_host fault k Failed Cut told (inl memory) = no_memory (told ∙ ap faults.Host memory)
-stops_host fault k Failed Cut told (inr why) = failed (subst IsOutside (sym told) tt) why
+-- a call of the disk was refused, or memory was, before the first piece
+pub stops_host : (fault : SparseCommandFault) (k : HostFault) (prefix : List ℕ) (ps : List (List ℕ)) (h h' : Held)
+    (a b : World) → h.output ≡ None → OnlyFails h h' → b ≡ a → fault ≡ faults.Host k
+    → (k ≡ hosts.Memory) ⊎ HasFailed h h'
+    → StopsCut fault (HasFailed h h') (λ n m. CutsSoFar prefix ps n m h h' a b)
+stops_host fault k prefix ps h h' a b closed fails same told (inl memory) =
+    no_memory (told ∙ ap faults.Host memory)
+    (cuts_past prefix ps 0 0 fails.failures h h h' a a b fails.same same (cuts_none prefix ps 0 h a closed))
+stops_host fault k prefix ps h h' a b closed fails same told (inr why) =
+    failed (subst IsOutside (sym told) tt) why 0
+    (cuts_past prefix ps 0 1 fails.failures h h h' a a b fails.same same (cuts_none prefix ps 1 h a closed))
 
 -- ---- the files of a run
 
 -- the image is none of the files that were begun
-beside_read : (prefix : List ℕ) (ps : List (List ℕ)) (n from : ℕ) (h h' : Held) (a b : World) → h.begun ≡ []
-    → Contains h.read from → CutsSoFar prefix ps n h h' a b → (j f : ℕ) → j < n
+beside_read : (prefix : List ℕ) (ps : List (List ℕ)) (n m from : ℕ) (h h' : Held) (a b : World) → h.begun ≡ []
+    → Contains h.read from → CutsSoFar prefix ps n m h h' a b → (j f : ℕ) → j < n
     → b.at (piece_path prefix (j + 1)) ≡ Some f → f ≢ from
-beside_read prefix ps n from h h' a b none listed cuts j f below at is =
+beside_read prefix ps n m from h h' a b none listed cuts j f below at is =
     let s = cuts.stand j below in
     let same : s.made.file ≡ from = ap (λ o. unwrap_or o 0) (sym s.made.there ∙ at) ∙ is in
     elim (cuts.goes.opened s.made.file s.made.listed) [
@@ -87,21 +96,22 @@ beside_read prefix ps n from h h' a b none listed cuts j f below at is =
     ]
 
 -- behind the opening of the image
-pub first_stand : (prefix path bytes : List ℕ) (ps : List (List ℕ)) (n : ℕ) (h h' h'' : Held) (a b c : World)
-    → h.begun ≡ [] → (o : OpensFile a path bytes h h') → CutsSoFar prefix ps n h' h'' b c
-    → FirstStand prefix o.file h h'' c ps n
-first_stand prefix path bytes ps n h h' h'' a b c none o cuts = record {
+pub first_stand : (prefix path bytes : List ℕ) (ps : List (List ℕ)) (n m : ℕ) (h h' h'' : Held) (a b c : World)
+    → h.begun ≡ [] → (o : OpensFile a path bytes h h') → b ≡ a → CutsSoFar prefix ps n m h' h'' b c
+    → FirstStand prefix o.file h h'' a c ps n m
+first_stand prefix path bytes ps n m h h' h'' a b c none o same cuts = record {
   stand = cuts.stand;
   apart = cuts.apart;
-  beside = beside_read prefix ps n o.file h' h'' b c (ap (λ k. k.begun) o.taken ∙ none)
+  beside = beside_read prefix ps n m o.file h' h'' b c (ap (λ k. k.begun) o.taken ∙ none)
       (subst (λ k. Contains k.read o.file) (sym o.taken) (Contains-push h.read o.file)) cuts;
   synced = cuts.synced ∙ ap (λ k. k.syncs + n * (if k.is_synced then 1 else 0)) o.taken;
+  only = among_behind (IsFirstPath prefix m) path bytes h h' h'' a b c none o same cuts.goes;
 }
 
 pub cuts_file : (raw : Option ℕ) (limit : ℕ) (input prefix bytes : List ℕ) (h h' h'' : Held) (a b c : World)
-    (shows : List ℕ → Type 0) → h.begun ≡ [] → OpensFile a input bytes h h'
+    (shows : List ℕ → Type 0) → h.begun ≡ [] → OpensFile a input bytes h h' → b ≡ a
     → CutsImage raw limit prefix bytes h' h'' b c shows → CutsFile raw limit input prefix h h'' a c shows
-cuts_file raw limit input prefix bytes h h' h'' a b c shows none o i = record {
+cuts_file raw limit input prefix bytes h h' h'' a b c shows none o same i = record {
   from = o.file;
   there = o.there;
   size = i.size;
@@ -110,48 +120,51 @@ cuts_file raw limit input prefix bytes h h' h'' a b c shows none o i = record {
   granted = i.granted;
   count = i.all.count;
   all = i.all.all;
-  first = first_stand prefix input bytes (pieces limit i.size i.blocks) i.all.count h h' h'' a b c none o i.all.cuts;
+  first = first_stand prefix input bytes (pieces limit i.size i.blocks) i.all.count i.all.count h h' h'' a b c none o
+      same i.all.cuts;
   shown = i.all.shown;
 }
 
 stops_file : (fault : SparseCommandFault) (prefix path bytes : List ℕ) (ps : List (List ℕ)) (h h' h'' : Held)
-    (a b c : World) → h.begun ≡ [] → (o : OpensFile a path bytes h h')
-    → StopsCut fault (HasFailed h' h'') (λ n. CutsSoFar prefix ps n h' h'' b c)
-    → StopsCut fault (HasFailed h h'') (FirstStand prefix o.file h h'' c ps)
-stops_file fault prefix path bytes ps h h' h'' a b c none o (failed outside more) =
-    failed outside (omega (arith, more, ap (λ k. k.failed) o.taken))
-stops_file fault prefix path bytes ps h h' h'' a b c none o (untold f told n some cuts) =
-    untold f told n some (first_stand prefix path bytes ps n h h' h'' a b c none o cuts)
-stops_file fault prefix path bytes ps h h' h'' a b c none o (no_memory told) = no_memory told
+    (a b c : World) → h.begun ≡ [] → (o : OpensFile a path bytes h h') → b ≡ a
+    → StopsCut fault (HasFailed h' h'') (λ n m. CutsSoFar prefix ps n m h' h'' b c)
+    → StopsCut fault (HasFailed h h'') (FirstStand prefix o.file h h'' a c ps)
+stops_file fault prefix path bytes ps h h' h'' a b c none o same (failed outside more n cuts) =
+    failed outside (omega (arith, more, ap (λ k. k.failed) o.taken)) n
+    (first_stand prefix path bytes ps n (n + 1) h h' h'' a b c none o same cuts)
+stops_file fault prefix path bytes ps h h' h'' a b c none o same (untold f told n some cuts) =
+    untold f told n some (first_stand prefix path bytes ps n n h h' h'' a b c none o same cuts)
+stops_file fault prefix path bytes ps h h' h'' a b c none o same (no_memory told cuts) =
+    no_memory told (first_stand prefix path bytes ps 0 0 h h' h'' a b c none o same cuts)
 
 image_file : (raw : Option ℕ) (limit : ℕ) (x : List ℕ) (fault : SparseCommandFault) (prefix path bytes : List ℕ)
     (h h' h'' : Held) (a b c : World) → h.begun ≡ [] → (o : OpensFile a path bytes h h') → b ≡ a
-    → StopsImage raw limit x fault (HasFailed h' h'') (c ≡ b) (λ ps n. CutsSoFar prefix ps n h' h'' b c)
-    → StopsImage raw limit x fault (HasFailed h h'') (c ≡ a) (FirstStand prefix o.file h h'' c)
+    → StopsImage raw limit x fault (HasFailed h' h'') (c ≡ b) (λ ps n m. CutsSoFar prefix ps n m h' h'' b c)
+    → StopsImage raw limit x fault (HasFailed h h'') (c ≡ a) (FirstStand prefix o.file h h'' a c)
 image_file raw limit x fault prefix path bytes h h' h'' a b c none o same (no_cut f told why still) =
     no_cut f told why (still ∙ same)
-image_file raw limit x fault prefix path bytes h h' h'' a b c none o same (unread f told more) =
-    unread f told (omega (arith, more, ap (λ k. k.failed) o.taken))
+image_file raw limit x fault prefix path bytes h h' h'' a b c none o same (unread f told more still) =
+    unread f told (omega (arith, more, ap (λ k. k.failed) o.taken)) (still ∙ same)
 image_file raw limit x fault prefix path bytes h h' h'' a b c none o same (no_room size blocks told short still) =
     no_room size blocks told short (still ∙ same)
 image_file raw limit x fault prefix path bytes h h' h'' a b c none o same (stopped size blocks image why) =
     stopped size blocks image
-    (stops_file fault prefix path bytes (pieces limit size blocks) h h' h'' a b c none o why)
+    (stops_file fault prefix path bytes (pieces limit size blocks) h h' h'' a b c none o same why)
 
 pub refuses_file : (raw : Option ℕ) (limit : ℕ) (input prefix bytes : List ℕ) (fault : SparseCommandFault)
     (h h' h'' : Held) (a b c : World) → h.begun ≡ [] → OpensFile a input bytes h h' → b ≡ a
-    → StopsImage raw limit bytes fault (HasFailed h' h'') (c ≡ b) (λ ps n. CutsSoFar prefix ps n h' h'' b c)
+    → StopsImage raw limit bytes fault (HasFailed h' h'') (c ≡ b) (λ ps n m. CutsSoFar prefix ps n m h' h'' b c)
     → RefusesCut raw limit input prefix fault h h'' a c
 refuses_file raw limit input prefix bytes fault h h' h'' a b c none o same why =
     opened o.file o.there
-    (subst (λ x. StopsImage raw limit x fault (HasFailed h h'') (c ≡ a) (FirstStand prefix o.file h h'' c)) o.held
+    (subst (λ x. StopsImage raw limit x fault (HasFailed h h'') (c ≡ a) (FirstStand prefix o.file h h'' a c)) o.held
     (image_file raw limit bytes fault prefix input bytes h h' h'' a b c none o same why))
 
 pub keeps_input : (prefix path bytes : List ℕ) (h h' h'' : Held) (a b c : World) → OpensFile a path bytes h h' → b ≡ a
-    → GoesUnder (IsPiecePath prefix) h' h'' b c → KeepsFile path a c
+    → GoesAmong (IsPiecePath prefix) h' h'' b c → KeepsFile path a c
 keeps_input prefix path bytes h h' h'' a b c o same goes = λ f there.
     let is : o.file ≡ f = ap (λ p. unwrap_or p 0) (sym o.there ∙ there) in
-    subst (λ g. c.holds g ≡ a.holds g) is (kept_behind (IsPiecePath prefix) path bytes h h' h'' a b c o same goes)
+    subst (λ g. c.holds g ≡ a.holds g) is (kept_beside (IsPiecePath prefix) path bytes h h' h'' a b c o same goes)
 
 pub clean_file : (path bytes : List ℕ) (h h' h'' : Held) (a : World) → OpensFile a path bytes h h' → HasNotFailed h' h''
     → HasNotFailed h h''
@@ -175,33 +188,35 @@ not_there o is none = false≢true (sym (is ∙ ap is_some none))
 
 -- ---- between the opening of the image and its end
 
-pub goes_fails : (P : List ℕ → Type 0) (h h' : Held) (a b : World) → OnlyFails h h' → b ≡ a → GoesUnder P h h' a b
+pub goes_fails : (P : List ℕ → Type 0) (h h' : Held) (a b : World) → OnlyFails h h' → b ≡ a → GoesAmong P h h' a b
 goes_fails P h h' a b fails same = goes_none P h h' a b fails.failures fails.same same
 
 pub goes_between : (P : List ℕ → Type 0) (r : ℕ) (h h1 h2 h3 : Held) (a a1 b c : World) → h1 ≡ h → a1 ≡ a
-    → GoesUnder P h1 h2 a1 b → h3 ≡ failing r h2 → c ≡ b → GoesUnder P h h3 a c
+    → GoesAmong P h1 h2 a1 b → h3 ≡ failing r h2 → c ≡ b → GoesAmong P h h3 a c
 goes_between P r h h1 h2 h3 a a1 b c held world goes later same =
     goes_then P h h2 h3 a b c
-    (subst (λ (k : Held). GoesUnder P k h2 a b) held (subst (λ (w : World). GoesUnder P h1 h2 w b) world goes))
+    (subst (λ (k : Held). GoesAmong P k h2 a b) held (subst (λ (w : World). GoesAmong P h1 h2 w b) world goes))
     (goes_none P h2 h3 b c r later same)
 
-pub cuts_between : (prefix : List ℕ) (ps : List (List ℕ)) (n r : ℕ) (h h1 h2 h3 : Held) (a a1 b c : World) → h1 ≡ h
-    → a1 ≡ a → CutsSoFar prefix ps n h1 h2 a1 b → h3 ≡ failing r h2 → c ≡ b → CutsSoFar prefix ps n h h3 a c
-cuts_between prefix ps n r h h1 h2 h3 a a1 b c held world cuts later same =
-    cuts_past prefix ps n r h h2 h3 a b c later same
-    (subst (λ (k : Held). CutsSoFar prefix ps n k h2 a b) held
-    (subst (λ (w : World). CutsSoFar prefix ps n h1 h2 w b) world cuts))
+pub cuts_between : (prefix : List ℕ) (ps : List (List ℕ)) (n m r : ℕ) (h h1 h2 h3 : Held) (a a1 b c : World) → h1 ≡ h
+    → a1 ≡ a → CutsSoFar prefix ps n m h1 h2 a1 b → h3 ≡ failing r h2 → c ≡ b → CutsSoFar prefix ps n m h h3 a c
+cuts_between prefix ps n m r h h1 h2 h3 a a1 b c held world cuts later same =
+    cuts_past prefix ps n m r h h2 h3 a b c later same
+    (subst (λ (k : Held). CutsSoFar prefix ps n m k h2 a b) held
+    (subst (λ (w : World). CutsSoFar prefix ps n m h1 h2 w b) world cuts))
 
 pub stops_between : (fault : SparseCommandFault) (prefix : List ℕ) (ps : List (List ℕ)) (r r' : ℕ) (h h1 h2 h3 : Held)
     (a a1 b c : World) → h1 ≡ h → a1 ≡ a → r ≡ 0
-    → StopsCut fault (h1.failed + r < h2.failed + r') (λ n. CutsSoFar prefix ps n h1 h2 a1 b) → h3 ≡ failing r' h2
+    → StopsCut fault (h1.failed + r < h2.failed + r') (λ n m. CutsSoFar prefix ps n m h1 h2 a1 b) → h3 ≡ failing r' h2
     → c ≡ b
-    → StopsCut fault (HasFailed h h3) (λ n. CutsSoFar prefix ps n h h3 a c)
-stops_between fault prefix ps r r' h h1 h2 h3 a a1 b c held world none (failed outside more) later same =
-    failed outside (omega (arith, none, more, ap (λ k. k.failed) held, ap (λ k. k.failed) later))
+    → StopsCut fault (HasFailed h h3) (λ n m. CutsSoFar prefix ps n m h h3 a c)
+stops_between fault prefix ps r r' h h1 h2 h3 a a1 b c held world none (failed outside more n cuts) later same =
+    failed outside (omega (arith, none, more, ap (λ k. k.failed) held, ap (λ k. k.failed) later)) n
+    (cuts_between prefix ps n (n + 1) r' h h1 h2 h3 a a1 b c held world cuts later same)
 stops_between fault prefix ps r r' h h1 h2 h3 a a1 b c held world none (untold f told n some cuts) later same =
-    untold f told n some (cuts_between prefix ps n r' h h1 h2 h3 a a1 b c held world cuts later same)
-stops_between fault prefix ps r r' h h1 h2 h3 a a1 b c held world none (no_memory told) later same = no_memory told
+    untold f told n some (cuts_between prefix ps n n r' h h1 h2 h3 a a1 b c held world cuts later same)
+stops_between fault prefix ps r r' h h1 h2 h3 a a1 b c held world none (no_memory told cuts) later same =
+    no_memory told (cuts_between prefix ps 0 0 r' h h1 h2 h3 a a1 b c held world cuts later same)
 
 pub clean_between : (r r' : ℕ) (h h1 h2 h3 : Held) → h1 ≡ h → r ≡ 0 → h2.failed + r' ≡ h1.failed + r
     → h3 ≡ failing r' h2
@@ -213,19 +228,19 @@ clean_between r r' h h1 h2 h3 held none clean later =
 
 pub cuts_file_as : {X E : Type 0} (r : Result X E) (raw raw' : Option ℕ) (limit : ℕ) (input prefix bytes : List ℕ)
     (h h' h'' : Held) (a b c : World) (shows : List ℕ → Type 0) → raw ≡ raw' → h.begun ≡ []
-    → OpensFile a input bytes h h'
+    → OpensFile a input bytes h h' → b ≡ a
     → OnOk r (CutsImage raw' limit prefix bytes h' h'' b c shows)
     → OnOk r (CutsFile raw limit input prefix h h'' a c shows)
-cuts_file_as (Err e) raw raw' limit input prefix bytes h h' h'' a b c shows same none o i = tt
-cuts_file_as (Ok x) raw raw' limit input prefix bytes h h' h'' a b c shows same none o i =
-    cuts_file raw limit input prefix bytes h h' h'' a b c shows none o
+cuts_file_as (Err e) raw raw' limit input prefix bytes h h' h'' a b c shows same none o still i = tt
+cuts_file_as (Ok x) raw raw' limit input prefix bytes h h' h'' a b c shows same none o still i =
+    cuts_file raw limit input prefix bytes h h' h'' a b c shows none o still
     (subst (λ (k : Option ℕ). CutsImage k limit prefix bytes h' h'' b c shows) (sym same) i)
 
 pub refuses_file_as : (raw raw' : Option ℕ) (limit : ℕ) (input prefix bytes : List ℕ) (fault : SparseCommandFault)
     (h h' h'' : Held) (a b c : World) → raw ≡ raw' → h.begun ≡ [] → OpensFile a input bytes h h' → b ≡ a
-    → StopsImage raw' limit bytes fault (HasFailed h' h'') (c ≡ b) (λ ps n. CutsSoFar prefix ps n h' h'' b c)
+    → StopsImage raw' limit bytes fault (HasFailed h' h'') (c ≡ b) (λ ps n m. CutsSoFar prefix ps n m h' h'' b c)
     → RefusesCut raw limit input prefix fault h h'' a c
 refuses_file_as raw raw' limit input prefix bytes fault h h' h'' a b c same none o still why =
     refuses_file raw limit input prefix bytes fault h h' h'' a b c none o still
     (subst (λ (k : Option ℕ). StopsImage k limit bytes fault (HasFailed h' h'') (c ≡ b)
-    (λ ps n. CutsSoFar prefix ps n h' h'' b c)) (sym same) why)
+    (λ ps n m. CutsSoFar prefix ps n m h' h'' b c)) (sym same) why)

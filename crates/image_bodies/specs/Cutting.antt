@@ -27,7 +27,7 @@ use Rattle.sparse_rules.specs.declared.lines.Line.TheVariants as lines
 use Rattle.abt_output.specs.Shows.{Shows}
 use Rattle.abt_output.specs.declared.report.Report.{Report}
 use Rattle.image_bodies.specs.Sparsing.{IsOutside}
-use Rattle.image_bodies.specs.Under.{GoesUnder, IsMade, KeepsMade}
+use Rattle.abt_disk.specs.Among.{GoesAmong, IsMade, KeepsMade, OnlyAmong}
 
 -- ---- what is cut
 
@@ -62,6 +62,12 @@ piece_path prefix n = numbered prefix (Some n)
 abbrev pub IsPiecePath : List ℕ → List ℕ → Type 0
 IsPiecePath prefix path = (n : ℕ) × (path ≡ piece_path prefix n)
 
+-- of one of the first m
+pub record IsFirstPath (prefix : List ℕ) (m : ℕ) (path : List ℕ) : Type 0 where
+  pub index : ℕ
+  pub below : index < m
+  pub is_path : path ≡ piece_path prefix (index + 1)
+
 -- of these pieces the one behind j others was begun, and stands whole under its name
 pub record PieceStands (prefix : List ℕ) (ps : List (List ℕ)) (j : ℕ) (held : Held) (world : World) : Type 0 where
   pub bytes : List ℕ
@@ -78,9 +84,10 @@ AreApart prefix n world = (i j f : ℕ) → i < j → j < n → world.at (piece_
     → world.at (piece_path prefix (j + 1)) ≡ Some f → ⊥
 
 -- From one moment of a run to another: the first n pieces stand, in files of their own, each synced where that is
--- wanted. Nothing but files of pieces was changed, and no output is open.
-pub record CutsSoFar (prefix : List ℕ) (ps : List (List ℕ)) (n : ℕ) (held held' : Held) (old new : World) : Type 0 where
-  pub goes : GoesUnder (IsPiecePath prefix) held held' old new
+-- wanted. Nothing but the files of the first m was changed, and no output is open.
+pub record CutsSoFar (prefix : List ℕ) (ps : List (List ℕ)) (n m : ℕ) (held held' : Held) (old new : World)
+    : Type 0 where
+  pub goes : GoesAmong (IsFirstPath prefix m) held held' old new
   pub stand : PiecesStand prefix ps n held' new
   pub apart : AreApart prefix n new
   pub closed : held'.output ≡ None
@@ -92,7 +99,7 @@ pub record CutsAll (prefix : List ℕ) (ps : List (List ℕ)) (held held' : Held
     (shows : List ℕ → Type 0) : Type 0 where
   pub count : ℕ
   pub all : count ≡ length ps
-  pub cuts : CutsSoFar prefix ps count held held' old new
+  pub cuts : CutsSoFar prefix ps count count held held' old new
   pub shown : count < 4294967295 → new.at (piece_path prefix (count + 1)) ≡ None
       → shows (text_of (lines.Pieces count) ++ (10 ∷ []))
 
@@ -122,14 +129,21 @@ pub record AddsPiece (ps : List (List ℕ)) (made : ℕ) (path : List ℕ) (held
   pub is_synced : held'.is_synced ≡ held.is_synced
   pub synced : held'.syncs ≡ held.syncs + (if held.is_synced then 1 else 0)
 
+-- it is not added: those that were begun before are as they were
+pub record AddsNone (held held' : Held) (old new : World) : Type 0 where
+  pub keeps : KeepsMade held held' old new
+  pub is_synced : held'.is_synced ≡ held.is_synced
+  pub synced : held'.syncs ≡ held.syncs
+
 -- ---- why it is refused
 
--- Why not all pieces are cut, or told: a device has failed, or a call of the disk; or the first n of them stand, and a
--- line could not be printed; or memory was refused where a file was looked for.
-pub data StopsCut (fault : SparseCommandFault) (Failed : Type 0) (Cut : ℕ → Type 0) : Type 0 where
-  failed : IsOutside fault → Failed → StopsCut fault Failed Cut
-  untold : (f : HostFault) → fault ≡ faults.Host f → (n : ℕ) → 0 < n → Cut n → StopsCut fault Failed Cut
-  no_memory : fault ≡ faults.Host hosts.Memory → StopsCut fault Failed Cut
+-- Why not all pieces are cut, or told, where `Cut n m` says that the first n of them stand, and that no files but those
+-- of the first m were changed: a device has failed, or a call of the disk, over the piece behind those that stand; or a
+-- line could not be printed; or memory was refused where a file was looked for, before the first piece.
+pub data StopsCut (fault : SparseCommandFault) (Failed : Type 0) (Cut : ℕ → ℕ → Type 0) : Type 0 where
+  failed : IsOutside fault → Failed → (n : ℕ) → Cut n (n + 1) → StopsCut fault Failed Cut
+  untold : (f : HostFault) → fault ≡ faults.Host f → (n : ℕ) → 0 < n → Cut n n → StopsCut fault Failed Cut
+  no_memory : fault ≡ faults.Host hosts.Memory → Cut 0 0 → StopsCut fault Failed Cut
 
 -- the first fault that x has as an image: of a sparse one, or for its blocks
 abbrev pub HasNoCut : Option ℕ → RunFault → List ℕ → Type 0
@@ -142,13 +156,13 @@ abbrev pub HasBlocksOf : Option ℕ → ℕ → List ℕ → Type 0
 HasBlocksOf None size x = (blocks : List Block) × IsSparseOf size blocks x
 HasBlocksOf (Some n) size x = size ≡ n
 
--- Why the image x is not cut: it is none, or the limit has no room for one of its blocks, and nothing was changed; or
--- it could not be read; or its pieces are not all cut, or told.
+-- Why the image x is not cut: it is none, or could not be read, or the limit has no room for one of its blocks, and
+-- nothing was changed; or its pieces are not all cut, or told.
 pub data StopsImage (raw : Option ℕ) (limit : ℕ) (x : List ℕ) (fault : SparseCommandFault) (Failed Same : Type 0)
-    (Cut : List (List ℕ) → ℕ → Type 0) : Type 0 where
+    (Cut : List (List ℕ) → ℕ → ℕ → Type 0) : Type 0 where
   no_cut : (f : RunFault) → fault ≡ faults.Run f → HasNoCut raw f x → Same
       → StopsImage raw limit x fault Failed Same Cut
-  unread : (f : RunFault) → fault ≡ faults.Run f → Failed → StopsImage raw limit x fault Failed Same Cut
+  unread : (f : RunFault) → fault ≡ faults.Run f → Failed → Same → StopsImage raw limit x fault Failed Same Cut
   no_room : (size : ℕ) → HasBlocksOf raw size x → fault ≡ faults.Piece (of_pieces.LimitTooSmall (64 + size))
       → limit < 64 + size → Same → StopsImage raw limit x fault Failed Same Cut
   stopped : (size : ℕ) (blocks : List Block) → IsImageOf raw size blocks x
@@ -190,13 +204,14 @@ pub record CutsImage (raw : Option ℕ) (limit : ℕ) (prefix x : List ℕ) (hel
 -- ---- of files
 
 -- The first n pieces stand, each under its name, in a file that is none of the others and not the image's, synced where
--- that is wanted.
-pub record FirstStand (prefix : List ℕ) (from : ℕ) (held held' : Held) (new : World) (ps : List (List ℕ)) (n : ℕ)
+-- that is wanted. Nothing but the files of the first m was created or changed.
+pub record FirstStand (prefix : List ℕ) (from : ℕ) (held held' : Held) (old new : World) (ps : List (List ℕ)) (n m : ℕ)
     : Type 0 where
   pub stand : PiecesStand prefix ps n held' new
   pub apart : AreApart prefix n new
   pub beside : (j f : ℕ) → j < n → new.at (piece_path prefix (j + 1)) ≡ Some f → f ≢ from
   pub synced : held'.syncs ≡ held.syncs + n * (if held.is_synced then 1 else 0)
+  pub only : OnlyAmong (IsFirstPath prefix m) held.read held'.begun old new
 
 -- The file at one path held an image, and all its pieces stand. The last line that was printed has their number, where
 -- none of an older cut is left to be noted.
@@ -210,7 +225,7 @@ pub record CutsFile (raw : Option ℕ) (limit : ℕ) (input prefix : List ℕ) (
   pub granted : 64 + size ≤ limit
   pub count : ℕ
   pub all : count ≡ length (pieces limit size blocks)
-  pub first : FirstStand prefix from held held' new (pieces limit size blocks) count
+  pub first : FirstStand prefix from held held' old new (pieces limit size blocks) count count
   pub shown : count < 4294967295 → new.at (piece_path prefix (count + 1)) ≡ None
       → shows (text_of (lines.Pieces count) ++ (10 ∷ []))
 
@@ -220,4 +235,5 @@ pub data RefusesCut (raw : Option ℕ) (limit : ℕ) (input prefix : List ℕ) (
   unopened : (f : HostFault) → fault ≡ faults.Host f → HasFailed held held' → new ≡ old
       → RefusesCut raw limit input prefix fault held held' old new
   opened : (from : ℕ) → old.at input ≡ Some from → StopsImage raw limit (old.holds from) fault (HasFailed held held')
-      (new ≡ old) (FirstStand prefix from held held' new) → RefusesCut raw limit input prefix fault held held' old new
+      (new ≡ old) (FirstStand prefix from held held' old new)
+      → RefusesCut raw limit input prefix fault held held' old new

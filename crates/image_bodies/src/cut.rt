@@ -9,7 +9,7 @@ ghost use Rattle.abt_runs.specs.Sparse.{SparseOpened, SparsePlace, blocks_togeth
 ghost use Rattle.abt_sparse.specs.View.{view};
 ghost use Rattle.image_bodies.specs.Cutting.{IsUncutSparse, ShowsLast};
 ghost use Rattle.image_bodies.specs.Cutting.{CutsFile, CutsImage, CutsSoFar, IsPiecePath, RefusesCut, StopsImage};
-ghost use Rattle.image_bodies.specs.Under.{GoesUnder, OnlyUnder};
+ghost use Rattle.abt_disk.specs.Among.{GoesAmong, OnlyAmong};
 
 use crate::turns::cut_pieces;
 use abt_disk::{Disk, Lasting};
@@ -56,7 +56,7 @@ pub fn cut_file<'a, D: Disk>(
         order.entry.prefix.now (D.held disk.old) (D.held disk.new) (D.world disk.old) (D.world disk.new)
         (ShowsLast report.new)) }
     // whatever comes, only such files were created or changed, IN holds what it held, and no output is open
-    ensures only { IsTrue D.tells → OnlyUnder (IsPiecePath order.entry.prefix.now) (D.held disk.old).read
+    ensures only { IsTrue D.tells → OnlyAmong (IsPiecePath order.entry.prefix.now) (D.held disk.old).read
         (D.held disk.new).begun (D.world disk.old) (D.world disk.new) }
     ensures input { IsTrue D.tells → KeepsFile (path_of order.entry.input) (D.world disk.old) (D.world disk.new) }
     ensures closed { IsTrue D.tells → (D.held disk.new).output ≡ None }
@@ -91,12 +91,12 @@ fn cut_raw<'a, D: Disk>(
     requires clean { IsTrue D.tells → D.At.read_faults source ≡ 0 }
     ensures done { IsTrue D.tells → OnOk result (CutsImage (Some size) order.entry.limit order.entry.prefix.now (D.At.content source)
         (D.held disk.old) (D.held disk.new) (D.world disk.old) (D.world disk.new) (ShowsLast report.new)) }
-    ensures only { IsTrue D.tells → GoesUnder (IsPiecePath order.entry.prefix.now) (D.held disk.old) (D.held disk.new)
+    ensures only { IsTrue D.tells → GoesAmong (IsPiecePath order.entry.prefix.now) (D.held disk.old) (D.held disk.new)
         (D.world disk.old) (D.world disk.new) }
     ensures closed { IsTrue D.tells → (D.held disk.new).output ≡ None }
     ensures refused { IsTrue D.tells → IfErr result (λ refusal. StopsImage (Some size) order.entry.limit (D.At.content source)
         refusal.fault (HasFailed (D.held disk.old) (D.held disk.new)) (D.world disk.new ≡ D.world disk.old)
-        (λ ps n. CutsSoFar order.entry.prefix.now ps n (D.held disk.old) (D.held disk.new) (D.world disk.old)
+        (λ ps n m. CutsSoFar order.entry.prefix.now ps n m (D.held disk.old) (D.held disk.new) (D.world disk.old)
         (D.world disk.new))) }
     ensures clean { IsTrue D.tells → OnOk result (HasNotFailed (D.held disk.old) (D.held disk.new)) }
 {
@@ -129,12 +129,12 @@ fn cut_sparse<'a, D: Disk>(
     requires clean { IsTrue D.tells → D.At.read_faults source ≡ 0 }
     ensures done { IsTrue D.tells → OnOk result (CutsImage None order.entry.limit order.entry.prefix.now (D.At.content source)
         (D.held disk.old) (D.held disk.new) (D.world disk.old) (D.world disk.new) (ShowsLast report.new)) }
-    ensures only { IsTrue D.tells → GoesUnder (IsPiecePath order.entry.prefix.now) (D.held disk.old) (D.held disk.new)
+    ensures only { IsTrue D.tells → GoesAmong (IsPiecePath order.entry.prefix.now) (D.held disk.old) (D.held disk.new)
         (D.world disk.old) (D.world disk.new) }
     ensures closed { IsTrue D.tells → (D.held disk.new).output ≡ None }
     ensures refused { IsTrue D.tells → IfErr result (λ refusal. StopsImage None order.entry.limit (D.At.content source)
         refusal.fault (HasFailed (D.held disk.old) (D.held disk.new)) (D.world disk.new ≡ D.world disk.old)
-        (λ ps n. CutsSoFar order.entry.prefix.now ps n (D.held disk.old) (D.held disk.new) (D.world disk.old)
+        (λ ps n m. CutsSoFar order.entry.prefix.now ps n m (D.held disk.old) (D.held disk.new) (D.world disk.old)
         (D.world disk.new))) }
     ensures clean { IsTrue D.tells → OnOk result (HasNotFailed (D.held disk.old) (D.held disk.new)) }
 {

@@ -8,7 +8,7 @@ ghost use Rattle.abt_output.specs.Shows.{Shows};
 ghost use Rattle.abt_refusals.specs.Paths.{path_of, path_out};
 ghost use Rattle.image_bodies.specs.Sparsing.{SparsifiesFile, HoldsNoPart, RefusesRaw, unprinted};
 ghost use Rattle.image_bodies.specs.Cutting.{CutsFile, IsPiecePath, RefusesCut, ShowsLast};
-ghost use Rattle.image_bodies.specs.Under.{OnlyUnder};
+ghost use Rattle.abt_disk.specs.Among.{OnlyAmong};
 
 use crate::cut::{Cutting, cut_file};
 use crate::sparse::sparse_file;
@@ -58,7 +58,7 @@ pub fn cut_in_memory<'a>(
     ensures done { OnOk result (CutsFile order.entry.raw order.entry.limit (path_of order.entry.input) order.entry.prefix.now
         (held_of disk.old) (held_of disk.new) (world_of disk.old) (world_of disk.new)
         (ShowsLast report.new)) }
-    ensures only { OnlyUnder (IsPiecePath order.entry.prefix.now) (held_of disk.old).read (held_of disk.new).begun
+    ensures only { OnlyAmong (IsPiecePath order.entry.prefix.now) (held_of disk.old).read (held_of disk.new).begun
         (world_of disk.old) (world_of disk.new) }
     ensures input { KeepsFile (path_of order.entry.input) (world_of disk.old) (world_of disk.new) }
     ensures closed { (held_of disk.new).output ≡ None }

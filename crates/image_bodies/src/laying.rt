@@ -4,8 +4,8 @@ ghost use Rattle.std.specs.Prelude.{◌≡◌, ◌<◌, ◌≤◌, ◌+◌, ◌-
 ghost use Rattle.image_bodies.specs.Sparsing.{HoldsNone, IsOutside, IsWritten};
 ghost use Rattle.sparse_rules.specs.Blocks.{IsBlockSize, most_of};
 
-use crate::carried::Carried;
 use abt_io::{Meter, Output, Overwrite, Source, Window};
+use abt_output::Carried;
 use abt_placed::sparsify_at;
 use abt_sparsify::{Written, sparsify};
 use sparse_rules::{Blocks, SparseCommandFault};

@@ -5,7 +5,6 @@
 //! | `sparse.rt` | the body of `sparse` |
 //! | `writing.rt` | the image of a raw one, to a file or a stream, and its end |
 //! | `laying.rt` | the calls of the engine, behind which it is known how far a command is |
-//! | `carried.rt` | a source that is held together with how far the command is |
 //! | `late_writes.rt` | what is told of a command that stopped, where its file is written late |
 //! | `cut.rt` | the body of `cut` |
 //! | `turns.rt`, `pieces.rt` | all pieces of an image, and one of them, each to a file of its own |
@@ -13,7 +12,6 @@
 //! | `in_memory.rt` | the same over a disk in memory: no clause is left that says nothing |
 #![tactic(auto)]
 
-mod carried;
 mod cut;
 mod in_memory;
 mod late_writes;

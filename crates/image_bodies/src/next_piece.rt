@@ -8,9 +8,9 @@ ghost use Rattle.abt_pieces.specs.declared.stage.Stage.{Stage};
 ghost use Rattle.abt_sparse.specs.Pieces.{pieces};
 ghost use Rattle.image_bodies.specs.Sparsing.{IsOutside};
 
-use crate::carried::Carried;
 use abt_disk::Lasting;
 use abt_io::{FrontLast, Meter, Output, Overwrite, Window};
+use abt_output::Carried;
 use abt_pieces::{Cutter, Piece, PieceFault};
 use abt_placed::next_piece_at;
 use abt_refusals::HostFault;

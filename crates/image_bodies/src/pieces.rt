@@ -6,16 +6,15 @@ ghost use Rattle.abt_pieces.specs.Cutter.{ToldCutter};
 ghost use Rattle.abt_pieces.specs.NextPiece.{IsNext, SameCutter};
 ghost use Rattle.abt_pieces.specs.declared.stage.Stage.{Stage};
 ghost use Rattle.abt_refusals.specs.Paths.{path_out};
-ghost use Rattle.image_bodies.specs.Cutting.{AddsPiece, ClosesBeside, HoldsPiece, cut_into};
+ghost use Rattle.image_bodies.specs.Cutting.{AddsNone, AddsPiece, ClosesBeside, HoldsPiece, cut_into};
 ghost use Rattle.image_bodies.specs.Sparsing.{IsOutside, GivesUp};
-ghost use Rattle.image_bodies.specs.Under.{GoesUnder};
+ghost use Rattle.abt_disk.specs.Among.{GoesAmong};
 
-use crate::carried::Carried;
 use crate::late_writes::stopped;
 use crate::next_piece::{LaysPieces, write_next};
 use abt_disk::{Disk, ImageTo, Lasting, Reasons, ended};
 use abt_io::{Meter, Window};
-use abt_output::Progress;
+use abt_output::{Carried, Progress};
 use abt_pieces::Piece;
 use abt_refusals::{HostFault, HostRefusal, Place, Sides};
 use abt_runs::BlockRuns;
@@ -48,8 +47,10 @@ pub(crate) fn put_piece<'a, D: Disk, B: BlockRuns + LaysPieces + Drop>(
     ensures piece { IfOk result (λ end. IsNext (B.count pieces.old.cutter.runs) pieces.old.cutter.limit
         pieces.old.cutter.start.block pieces.new.cutter.start.block pieces.old.cutter.made pieces.new.cutter.made
         pieces.new.cutter.stage end.0) }
+    ensures keeps { IsTrue D.tells → OnErr result (AddsNone (D.held disk.old) (D.held disk.new) (D.world disk.old)
+        (D.world disk.new)) }
     // whatever comes, no other file was changed, and none is open
-    ensures only { IsTrue D.tells → GoesUnder (λ path. path ≡ path_out place.entry) (D.held disk.old)
+    ensures only { IsTrue D.tells → GoesAmong (λ path. path ≡ path_out place.entry) (D.held disk.old)
         (D.held disk.new) (D.world disk.old) (D.world disk.new) }
     ensures closed { IsTrue D.tells → (D.held disk.new).output ≡ None }
     ensures cutter { SameCutter pieces.old.cutter.runs pieces.new.cutter.runs pieces.old.cutter.limit

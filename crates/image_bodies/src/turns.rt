@@ -7,14 +7,13 @@ ghost use Rattle.abt_pieces.specs.Cutter.{ToldCutter};
 ghost use Rattle.abt_pieces.specs.declared.stage.Stage.{Stage};
 ghost use Rattle.sparse_rules.specs.Lines.{text_of};
 ghost use Rattle.image_bodies.specs.Cutting.{CutsAll, CutsSoFar, IsPiecePath, OnlyFails, ShowsLast, StopsCut, cut_into, piece_path};
-ghost use Rattle.image_bodies.specs.Under.{GoesUnder};
+ghost use Rattle.abt_disk.specs.Among.{GoesAmong};
 
-use crate::carried::Carried;
 use crate::next_piece::LaysPieces;
 use crate::pieces::put_piece;
 use abt_disk::Disk;
 use abt_io::{Meter, Window};
-use abt_output::Report;
+use abt_output::{Carried, Report};
 use abt_pieces::Piece;
 use abt_refusals::{HostFault, HostRefusal, Place, Sides};
 use abt_runs::BlockRuns;
@@ -46,13 +45,13 @@ pub(crate) fn cut_pieces<'a, D: Disk, B: BlockRuns + LaysPieces + Drop>(
         (B.size pieces.cutter.runs) (B.list pieces.cutter.runs (D.At.content source))) (D.held disk.old)
         (D.held disk.new) (D.world disk.old) (D.world disk.new) (ShowsLast report.new)) }
     // whatever comes, only files of pieces were created or changed, and none is open
-    ensures only { IsTrue D.tells → GoesUnder (IsPiecePath prefix.now) (D.held disk.old) (D.held disk.new)
+    ensures only { IsTrue D.tells → GoesAmong (IsPiecePath prefix.now) (D.held disk.old) (D.held disk.new)
         (D.world disk.old) (D.world disk.new) }
     ensures closed { IsTrue D.tells → (D.held disk.new).output ≡ None }
     // it is refused where something has failed, or can't be told
     ensures refused { IsTrue D.tells → IfErr result (λ refusal. StopsCut refusal.fault
-        (HasFailed (D.held disk.old) (D.held disk.new)) (λ n. CutsSoFar prefix.now (cut_into pieces.cutter.limit
-        (B.size pieces.cutter.runs) (B.list pieces.cutter.runs (D.At.content source))) n (D.held disk.old)
+        (HasFailed (D.held disk.old) (D.held disk.new)) (λ n m. CutsSoFar prefix.now (cut_into pieces.cutter.limit
+        (B.size pieces.cutter.runs) (B.list pieces.cutter.runs (D.At.content source))) n m (D.held disk.old)
         (D.held disk.new) (D.world disk.old) (D.world disk.new))) }
     ensures clean { IsTrue D.tells → OnOk result (HasNotFailed (D.held disk.old) (D.held disk.new)) }
 {
@@ -121,20 +120,20 @@ fn write_pieces<'a, D: Disk, B: BlockRuns + LaysPieces + Drop>(
         (B.list pieces.cutter.runs (D.At.content source)) pieces.cutter.limit pieces.cutter.made
         pieces.cutter.start pieces.cutter.stage }
     ensures done { IsTrue D.tells → IfOk result.1 (λ files. CutsSoFar prefix.now (cut_into pieces.cutter.limit
-        (B.size pieces.cutter.runs) (B.list pieces.cutter.runs (D.At.content source))) files.count
+        (B.size pieces.cutter.runs) (B.list pieces.cutter.runs (D.At.content source))) files.count files.count
         (D.held disk.old) (D.held disk.new) (D.world disk.old) (D.world disk.new)) }
     ensures all { IsTrue D.tells → IfOk result.1 (λ files. files.count ≡ length (cut_into pieces.cutter.limit
         (B.size pieces.cutter.runs) (B.list pieces.cutter.runs (D.At.content source)))) }
     ensures some { IfOk result.1 (λ files. 0 < files.count) }
     ensures prefix { IfOk result.1 (λ files. files.prefix.now ≡ prefix.now) }
-    ensures only { IsTrue D.tells → GoesUnder (IsPiecePath prefix.now) (D.held disk.old) (D.held disk.new)
+    ensures only { IsTrue D.tells → GoesAmong (IsPiecePath prefix.now) (D.held disk.old) (D.held disk.new)
         (D.world disk.old) (D.world disk.new) }
     ensures closed { IsTrue D.tells → (D.held disk.new).output ≡ None }
     ensures refused { IsTrue D.tells → IfErr result.1 (λ refusal. StopsCut refusal.fault
         ((D.held disk.old).failed + D.At.read_faults source
         < (D.held disk.new).failed + D.At.read_faults result.0)
-        (λ n. CutsSoFar prefix.now (cut_into pieces.cutter.limit (B.size pieces.cutter.runs)
-        (B.list pieces.cutter.runs (D.At.content source))) n (D.held disk.old) (D.held disk.new)
+        (λ n m. CutsSoFar prefix.now (cut_into pieces.cutter.limit (B.size pieces.cutter.runs)
+        (B.list pieces.cutter.runs (D.At.content source))) n m (D.held disk.old) (D.held disk.new)
         (D.world disk.old) (D.world disk.new))) }
     ensures clean { IsTrue D.tells → OnOk result.1 ((D.held disk.new).failed + D.At.read_faults result.0
         ≡ (D.held disk.old).failed + D.At.read_faults source) }

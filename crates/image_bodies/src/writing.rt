@@ -6,12 +6,11 @@ ghost use Rattle.abt_disk.specs.World.{SparesRest};
 ghost use Rattle.image_bodies.specs.Sparsing.{HoldsWritten, LeavesNoPart, IsOutside, ClosesOutput};
 ghost use Rattle.sparse_rules.specs.Blocks.{IsBlockSize, most_of};
 
-use crate::carried::Carried;
 use crate::late_writes::stopped;
 use crate::laying::{lay_image, write_image};
 use abt_disk::{Disk, ImageTo, Reasons, ended};
 use abt_io::{Meter, Window};
-use abt_output::Progress;
+use abt_output::{Carried, Progress};
 use abt_refusals::{Place, Sides};
 use abt_sparsify::Written;
 use sparse_rules::{Blocks, SparseRefusal};

@@ -9,7 +9,8 @@ use Rattle.std.proofs.lemmas.Option.{none-some}
 use Rattle.std.proofs.lemmas.Bool.{cond-true, cond-false}
 use Rattle.std.proofs.lemmas.Slice.Eq.{bytes_eq-Decides}
 use Rattle.memory_disk.specs.Memory.{contents, leads, world_of_files}
-use Rattle.abt_disk.specs.World.{World, Spares, Ends, SparesRest, OnlyAt, in_output, Creates, Held, creating}
+use Rattle.abt_disk.specs.Images.{HoldsSame}
+use Rattle.abt_disk.specs.World.{World, Spares, Ends, SparesRest, OnlyAt, in_output, Creates, Held, creating, KeepsBegun}
 use Rattle.abt_disk.proofs.Worlds.{spares_trans}
 use Rattle.memory_disk.specs.declared.disk.MemoryFile.{MemoryFile}
 use Rattle.memory_disk.specs.declared.disk.MemoryPath.{MemoryPath}
@@ -177,3 +178,7 @@ only_at read path path' a b e only = subst (λ p. OnlyAt read p a b) e only
 -- and nothing is changed then
 pub only_then : (read path : List ℕ) (a b c : World) → c ≡ b → OnlyAt read path a b → OnlyAt read path a c
 only_then read path a b c e only = subst (λ w. OnlyAt read path a w) (sym e) only
+
+-- no file that was begun has changed then
+pub begun_then : (begun : List ℕ) (a b c : World) → c ≡ b → HoldsSame a b → KeepsBegun begun a c
+begun_then begun a b c e same = λ f _. ap (λ w. w.holds f) e ∙ same f

@@ -2,7 +2,7 @@
 
 ghost use Rattle.std.specs.Prelude.{◌≡◌, [], None, IfOk, OnOk, OnErr, Contains};
 ghost use Rattle.abt_refusals.specs.Paths.{path_of, path_out};
-ghost use Rattle.abt_disk.specs.Images.{is_file, is_over, OfImage, EmptiesAt};
+ghost use Rattle.abt_disk.specs.Images.{is_file, is_over, OfImage, HoldsSame, EmptiesAt};
 ghost use Rattle.abt_disk.specs.World.{Creates, IsFree, OnlyAt};
 ghost use Rattle.memory_disk.specs.Memory.{world_of, held_of};
 
@@ -45,6 +45,7 @@ impl MemoryDisk {
         ensures kept { OnErr result (held_of self.new ≡ held_of self.old) }
         ensures only { OnErr result (OnlyAt self.old.read.items (path_of place.entry) (world_of self.old)
             (world_of self.new)) }
+        ensures same { OnErr result (HoldsSame (world_of self.old) (world_of self.new)) }
     {
         if self.faults.calls.is_over() {
             return Err(HostRefusal::at(HostFault::CannotOpen, place, None));
@@ -68,6 +69,7 @@ impl MemoryDisk {
         ensures kept { OnErr result (held_of self.new ≡ held_of self.old) }
         ensures only { OnErr result (OnlyAt self.old.read.items (path_out place.entry) (world_of self.old)
             (world_of self.new)) }
+        ensures same { OnErr result (HoldsSame (world_of self.old) (world_of self.new)) }
     {
         if self.faults.calls.is_over() {
             return Err(HostRefusal::at(HostFault::CannotOpen, place, None));
@@ -96,6 +98,7 @@ impl MemoryDisk {
         ensures kept { OnErr result (held_of self.new ≡ held_of self.old) }
         ensures only { OnErr result (OnlyAt self.old.read.items (path_out place.entry) (world_of self.old)
             (world_of self.new)) }
+        ensures same { OnErr result (HoldsSame (world_of self.old) (world_of self.new)) }
         ensures empties { OnErr result (EmptiesAt (path_out place.entry) (world_of self.old) (world_of self.new)) }
     {
         if self.faults.calls.is_over() {

@@ -3,6 +3,7 @@
 ghost use Rattle.std.specs.Prelude.{◌≡◌, None, IsTrue, IfOk, OnOk, OnErr};
 ghost use Rattle.abt_io.specs.Frame.{nothing_logged};
 ghost use Rattle.abt_refusals.specs.Paths.{path_of};
+ghost use Rattle.abt_disk.specs.Images.{HoldsSame};
 ghost use Rattle.abt_disk.specs.Spools.{OpensSpool, closed_spool};
 ghost use Rattle.abt_disk.specs.World.{OnlyAt, Ends, SparesRest};
 ghost use Rattle.memory_disk.specs.Memory.{world_of, held_of};
@@ -27,6 +28,7 @@ impl MemoryDisk {
         ensures kept { OnErr result (held_of self.new ≡ held_of self.old) }
         ensures only { OnErr result (OnlyAt self.old.read.items (path_of place.entry) (world_of self.old)
             (world_of self.new)) }
+        ensures same { OnErr result (HoldsSame (world_of self.old) (world_of self.new)) }
     {
         if self.faults.calls.is_over() {
             return Err(HostRefusal::at(HostFault::CannotOpen, place, None));

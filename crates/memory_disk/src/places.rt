@@ -3,6 +3,7 @@
 ghost use Rattle.std.specs.Prelude.{◌≡◌, None, IfOk, OnOk, OnErr, length, replicate, if◌then◌else◌};
 ghost use Rattle.abt_io.specs.Moment.{no_past};
 ghost use Rattle.abt_refusals.specs.Paths.{path_of};
+ghost use Rattle.abt_disk.specs.Images.{HoldsSame};
 ghost use Rattle.abt_disk.specs.InPlace.{OpensPart, MakesZeros, IsAsLong, closed_part};
 ghost use Rattle.abt_disk.specs.World.{OnlyAt, Spares, Ends, SparesRest};
 ghost use Rattle.memory_disk.specs.Memory.{world_of, held_of};
@@ -60,6 +61,7 @@ impl MemoryDisk {
         ensures kept { OnErr result (held_of self.new ≡ held_of self.old) }
         ensures only { OnErr result (OnlyAt self.old.read.items (path_of place.entry) (world_of self.old)
             (world_of self.new)) }
+        ensures same { OnErr result (HoldsSame (world_of self.old) (world_of self.new)) }
     {
         if self.faults.calls.is_over() {
             return Err(HostRefusal::at(HostFault::CannotOpen, place, None));

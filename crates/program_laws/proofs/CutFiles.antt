@@ -7,7 +7,7 @@ use Rattle.abt_sparse.specs.Chunk.{classed}
 use Rattle.abt_sparse.specs.Pieces.{flashed, pieces}
 use Rattle.abt_disk.specs.World.{World, Held}
 use Rattle.image_bodies.specs.Cutting.{IsPiecePath, PiecesStand}
-use Rattle.image_bodies.specs.Under.{IsUnder}
+use Rattle.abt_disk.specs.Among.{IsAmong}
 use Rattle.sparse_bodies.specs.Overlaying.{LeadTo}
 use Rattle.program_laws.specs.InTurn.{Cuts, CutThenExpanded, CutThenFlashed, HoldPieces, IsCuttable, IsNoPiece}
 use Rattle.program_laws.specs.InTurn.{piece_paths}
@@ -67,7 +67,7 @@ held_pieces limit input prefix held held' a b cut =
     }
 
 no_piece : (prefix : List ℕ) (read : List ℕ) (a b : World) (onto : ℕ) → IsNoPiece prefix b onto
-    → (b.holds onto ≡ a.holds onto) ⊎ IsUnder (IsPiecePath prefix) read b onto → b.holds onto ≡ a.holds onto
+    → (b.holds onto ≡ a.holds onto) ⊎ IsAmong (IsPiecePath prefix) read b onto → b.holds onto ≡ a.holds onto
 no_piece prefix read a b onto no_file (inl same) = same
 no_piece prefix read a b onto no_file (inr under) =
     absurd (no_file under.is_named.0 (ap b.at (sym under.is_named.1) ∙ under.there))

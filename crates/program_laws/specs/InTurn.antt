@@ -6,7 +6,7 @@ use Rattle.abt_sparse.specs.Fails.{Spells}
 use Rattle.abt_sparse.specs.Pieces.{flashed, pieces}
 use Rattle.abt_disk.specs.World.{World, Held}
 use Rattle.image_bodies.specs.Cutting.{CutsFile, IsPiecePath, piece_path}
-use Rattle.image_bodies.specs.Under.{OnlyUnder}
+use Rattle.abt_disk.specs.Among.{OnlyAmong}
 use Rattle.flash_bodies.specs.Files.{Between}
 use Rattle.flash_bodies.specs.Flashing.{IsFlashed}
 use Rattle.sparse_bodies.specs.Overlaying.{LeadTo, OverlaysFiles}
@@ -58,7 +58,7 @@ piece_paths prefix first (suc n) = piece_path prefix first ∷ piece_paths prefi
 -- `cut` of a sparse image was done, and only files under its names were changed
 pub record Cuts (limit : ℕ) (input prefix : List ℕ) (held held' : Held) (old new : World) : Type 0 where
   pub done : CutsFile None limit input prefix held held' old new (λ line. Unit {0})
-  pub only : OnlyUnder (IsPiecePath prefix) held.read held'.begun old new
+  pub only : OnlyAmong (IsPiecePath prefix) held.read held'.begun old new
   pub low : limit < 2 ^ 32
 
 -- no file under these names is this one

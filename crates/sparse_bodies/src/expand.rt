@@ -7,11 +7,10 @@ ghost use Rattle.abt_output.specs.Shows.{Shows};
 ghost use Rattle.sparse_rules.specs.Lines.{text_of};
 ghost use Rattle.sparse_bodies.specs.Expanding.{Blames, Says, ExpandsFile, RefusesFile};
 
-use crate::carried::Carried;
 use abt_chunks::{Expanded, expand};
 use abt_disk::{Disk, Measured, Reasons, ended};
 use abt_io::{Input, Meter, Output, Window};
-use abt_output::Report;
+use abt_output::{Carried, Report};
 use abt_refusals::{HostRefusal, Place, Sides};
 use sparse_rules::{Line, SparseCommandFault, SparseRefusal};
 

@@ -8,12 +8,11 @@ ghost use Rattle.abt_sparse.specs.Pieces.{flashed, flashed_in_turn};
 ghost use Rattle.sparse_bodies.specs.Overlaying.{IsImageOf};
 ghost use Rattle.sparse_bodies.specs.Steps.{FailsAlone, IsNotFlashed, IsNotLaid};
 
-use crate::carried::Carried;
 use crate::opening::Kept;
 use abt_disk::{Disk, Lasting};
 use abt_flash::{FlashFault, Flashed, flash};
 use abt_io::{Forward, Meter, Partition, Source, Window};
-use abt_output::Progress;
+use abt_output::{Carried, Progress};
 use abt_refusals::{Place, Sides};
 use abt_sparse::SparseFault;
 use sparse_rules::{SparseCommandFault, SparseRefusal};

@@ -3,13 +3,11 @@
 //!
 //! | file | has |
 //! |---|---|
-//! | `carried.rt` | an input, and how far the command is |
 //! | `expand.rt` | `expand` of one image |
 //! | `overlay.rt`, `opening.rt`, `laying.rt` | `expand` of several images, which are laid over one another |
 //! | `in_memory.rt` | the same over a disk in memory, where each clause speaks |
 #![tactic(auto)]
 
-mod carried;
 mod expand;
 mod in_memory;
 mod laying;

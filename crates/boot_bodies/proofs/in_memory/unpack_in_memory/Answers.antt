@@ -16,5 +16,8 @@ returns-clause-only c = c.unpack_file.ensures.only refl
 pub returns-clause-input : goal.returns-clause-input
 returns-clause-input c = c.unpack_file.ensures.input refl
 
+pub returns-clause-stands : goal.returns-clause-stands
+returns-clause-stands c = c.unpack_file.ensures.stands refl
+
 pub returns-clause-refused : goal.returns-clause-refused
 returns-clause-refused c = c.unpack_file.ensures.refused refl

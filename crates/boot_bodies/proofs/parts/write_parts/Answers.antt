@@ -1,8 +1,9 @@
-use Rattle.std.proofs.Common.{◌∙◌, ◌+◌, refl, sym, subst, rules}
+use Rattle.std.proofs.Common.{◌∙◌, ◌+◌, true, refl, sym, subst, rules}
 use Rattle.abt_sections.specs.Header.{fragment_count, view_of}
 use Rattle.abt_sections.specs.Open.{IsOpened}
 use Rattle.boot_bodies.specs.Unpacking.{FragmentsDone, WordsDone, up_to_fragment, up_to_section, up_to_words}
-use Rattle.boot_bodies.proofs.Amongs.{goes_then, keeps_then}
+use Rattle.boot_bodies.specs.Unpacking.{in_fragments, in_sections, in_words}
+use Rattle.abt_disk.proofs.Amongs.{goes_then, keeps_then}
 use Rattle.boot_bodies.proofs.Causes.{refused_more}
 use Rattle.boot_bodies.proofs.Counts.{none_then, some_then, syncs_all, syncs_then, syncs_words}
 use Rattle.boot_bodies.proofs.Loops.{fragments_later, goes_fragment, goes_section, goes_words, sections_later}
@@ -11,7 +12,12 @@ use Rattle.boot_bodies.proofs.parts.write_parts.Goals as goal
 
 -- a section was refused
 pub returns-in-Err-clause-only : goal.returns-in-Err-clause-only
-returns-in-Err-clause-only g c = λ t. goes_section _ _ _ _ _ _ _ (c.in-Err.ensures.only t)
+returns-in-Err-clause-only g c = λ t. goes_section _ _ _ _ _ _ _ _ _ (c.in-Err.ensures.only t)
+
+pub returns-in-Err-clause-stands : goal.returns-in-Err-clause-stands
+returns-in-Err-clause-stands g c = λ t.
+    let s = c.in-Err.ensures.stands t in
+    in_sections s.0 s.1 (goes_section _ _ _ _ _ _ _ _ _ s.2)
 
 pub returns-in-Err-clause-refused : goal.returns-in-Err-clause-refused
 returns-in-Err-clause-refused g c = λ t opened.
@@ -21,8 +27,19 @@ returns-in-Err-clause-refused g c = λ t opened.
 -- a fragment was
 pub returns-in-Err-write_fragments-clause-only : goal.returns-in-Err-write_fragments-clause-only
 returns-in-Err-write_fragments-clause-only g c = λ t.
-    goes_then _ _ _ _ _ _ _ (goes_section _ _ _ _ _ _ _ (c.in-Ok.ensures.only t))
-    (goes_fragment _ _ _ _ _ _ _ (c.in-Err-write_fragments.ensures.only t))
+    goes_then _ _ _ _ _ _ _ (goes_section _ _ _ _ _ _ _ _ _ (c.in-Ok.ensures.only t))
+    (goes_fragment _ _ _ _ _ _ _ _ _ (c.in-Err-write_fragments.ensures.only t))
+
+pub returns-in-Err-write_fragments-clause-stands : goal.returns-in-Err-write_fragments-clause-stands
+returns-in-Err-write_fragments-clause-stands g c = λ t.
+    let s = c.in-Err-write_fragments.ensures.stands t in
+    in_fragments s.0
+    (sections_later _ _ _ _ _ _ _ _ (c.in-Err-write_fragments.ensures.keeps t) (c.in-Ok.ensures.done t))
+    (subst (λ x. FragmentsDone c.args.folder.now (view_of c.args.image.now.header) x s.0
+    (g.D.Disk.held c.write_fragments.new.disk) (g.D.Disk.world c.write_fragments.new.disk)) (c.in-Ok.ensures.content t)
+    s.1)
+    (goes_then _ _ _ _ _ _ _ (goes_section _ _ _ _ _ _ _ _ _ (c.in-Ok.ensures.only t))
+    (goes_fragment _ _ _ _ _ _ _ _ _ s.2))
 
 pub returns-in-Err-write_fragments-clause-refused : goal.returns-in-Err-write_fragments-clause-refused
 returns-in-Err-write_fragments-clause-refused g c = λ t opened.
@@ -30,7 +47,7 @@ returns-in-Err-write_fragments-clause-refused g c = λ t opened.
     refused_more _ _ _ _ _ _ c.in-Err-write_fragments.refusal.fault same
     (c.in-Err-write_fragments.ensures.refused t (subst (λ x. IsOpened x c.args.image.now) (sym same) opened))
     (λ failed. some_then _ _ _ _ _ _ (c.in-Ok.ensures.clean t) failed)
-    (λ stands. up_to_fragment stands.0 stands.1 (sections_later _ _ _ _ _ _ _ _ stands.3 (c.in-Ok.ensures.done t))
+    (λ stands. up_to_fragment stands.0 stands.1 (sections_later _ _ _ _ _ _ _ _ (c.in-Err-write_fragments.ensures.keeps t) (c.in-Ok.ensures.done t))
     (subst (λ x. FragmentsDone c.args.folder.now (view_of c.args.image.now.header) x (stands.0 + 1)
     (g.D.Disk.held c.write_fragments.new.disk) (g.D.Disk.world c.write_fragments.new.disk)) same stands.2))
 
@@ -41,8 +58,8 @@ returns-then-not-with_words-clause-sections g c = λ t.
 
 pub returns-then-not-with_words-clause-only : goal.returns-then-not-with_words-clause-only
 returns-then-not-with_words-clause-only g c = λ t.
-    goes_then _ _ _ _ _ _ _ (goes_section _ _ _ _ _ _ _ (c.in-Ok.ensures.only t))
-    (goes_fragment _ _ _ _ _ _ _ (c.in-Ok-write_fragments.ensures.only t))
+    goes_then _ _ _ _ _ _ _ (goes_section _ _ _ _ _ _ _ _ _ (c.in-Ok.ensures.only t))
+    (goes_fragment _ _ _ _ _ _ _ _ _ (c.in-Ok-write_fragments.ensures.only t))
 
 pub returns-then-not-with_words-clause-shown : goal.returns-then-not-with_words-clause-shown
 returns-then-not-with_words-clause-shown g c = λ t.
@@ -76,9 +93,9 @@ returns-in-Ok-write_pack_words-clause-fragments g c = λ t.
 pub returns-in-Ok-write_pack_words-clause-only : goal.returns-in-Ok-write_pack_words-clause-only
 returns-in-Ok-write_pack_words-clause-only g c = λ t.
     goes_then _ _ _ _ _ _ _
-    (goes_then _ _ _ _ _ _ _ (goes_section _ _ _ _ _ _ _ (c.in-Ok.ensures.only t))
-    (goes_fragment _ _ _ _ _ _ _ (c.in-Ok-write_fragments.ensures.only t)))
-    (goes_words _ c.args.with_words _ _ _ _ _ (first_of (search (rules, c.if-not-with_words.false), cc))
+    (goes_then _ _ _ _ _ _ _ (goes_section _ _ _ _ _ _ _ _ _ (c.in-Ok.ensures.only t))
+    (goes_fragment _ _ _ _ _ _ _ _ _ (c.in-Ok-write_fragments.ensures.only t)))
+    (goes_words _ _ _ c.args.with_words _ _ _ _ _ (first_of (search (rules, c.if-not-with_words.false), cc))
     (c.in-Ok-write_pack_words.ensures.only t))
 
 pub returns-in-Ok-write_pack_words-clause-shown : goal.returns-in-Ok-write_pack_words-clause-shown
@@ -102,10 +119,26 @@ returns-in-Ok-write_pack_words-clause-clean g c = λ t.
 pub returns-in-Err-write_pack_words-clause-only : goal.returns-in-Err-write_pack_words-clause-only
 returns-in-Err-write_pack_words-clause-only g c = λ t.
     goes_then _ _ _ _ _ _ _
-    (goes_then _ _ _ _ _ _ _ (goes_section _ _ _ _ _ _ _ (c.in-Ok.ensures.only t))
-    (goes_fragment _ _ _ _ _ _ _ (c.in-Ok-write_fragments.ensures.only t)))
-    (goes_words _ c.args.with_words _ _ _ _ _ (first_of (search (rules, c.if-not-with_words.false), cc))
+    (goes_then _ _ _ _ _ _ _ (goes_section _ _ _ _ _ _ _ _ _ (c.in-Ok.ensures.only t))
+    (goes_fragment _ _ _ _ _ _ _ _ _ (c.in-Ok-write_fragments.ensures.only t)))
+    (goes_words _ _ _ c.args.with_words _ _ _ _ _ (first_of (search (rules, c.if-not-with_words.false), cc))
     (c.in-Err-write_pack_words.ensures.only t))
+
+pub returns-in-Err-write_pack_words-clause-stands : goal.returns-in-Err-write_pack_words-clause-stands
+returns-in-Err-write_pack_words-clause-stands g c = λ t.
+    in_words
+    (sections_later _ _ _ _ _ _ _ _
+    (keeps_then _ _ _ _ _ _ (c.in-Ok-write_fragments.ensures.keeps t) (c.in-Err-write_pack_words.ensures.keeps t))
+    (c.in-Ok.ensures.done t))
+    (fragments_later _ _ _ _ _ _ _ _ (c.in-Err-write_pack_words.ensures.keeps t)
+    (subst (λ x. FragmentsDone c.args.folder.now (view_of c.args.image.now.header) x
+    (fragment_count (view_of c.args.image.now.header)) (g.D.Disk.held c.write_fragments.new.disk)
+    (g.D.Disk.world c.write_fragments.new.disk)) (c.in-Ok.ensures.content t)
+    (c.in-Ok-write_fragments.ensures.done t)))
+    (goes_then _ _ _ _ _ _ _
+    (goes_then _ _ _ _ _ _ _ (goes_section _ _ _ _ _ _ _ _ _ (c.in-Ok.ensures.only t))
+    (goes_fragment _ _ _ _ _ _ _ _ _ (c.in-Ok-write_fragments.ensures.only t)))
+    (goes_words _ _ _ true _ _ _ _ _ refl (c.in-Err-write_pack_words.ensures.only t)))
 
 pub returns-in-Err-write_pack_words-clause-refused : goal.returns-in-Err-write_pack_words-clause-refused
 returns-in-Err-write_pack_words-clause-refused g c = λ t opened.
@@ -116,11 +149,12 @@ returns-in-Err-write_pack_words-clause-refused g c = λ t opened.
     (λ failed. some_then _ _ _ _ _ _
     (none_then _ _ _ _ _ _ (c.in-Ok.ensures.clean t) (c.in-Ok-write_fragments.ensures.clean t)) failed)
     (λ stands. up_to_words (first_of (search (rules, c.if-not-with_words.false), cc))
-    (sections_later _ _ _ _ _ _ _ _ (keeps_then _ _ _ _ _ _ (c.in-Ok-write_fragments.ensures.keeps t) stands.1)
+    (sections_later _ _ _ _ _ _ _ _
+    (keeps_then _ _ _ _ _ _ (c.in-Ok-write_fragments.ensures.keeps t) (c.in-Err-write_pack_words.ensures.keeps t))
     (c.in-Ok.ensures.done t))
-    (fragments_later _ _ _ _ _ _ _ _ stands.1
+    (fragments_later _ _ _ _ _ _ _ _ (c.in-Err-write_pack_words.ensures.keeps t)
     (subst (λ x. FragmentsDone c.args.folder.now (view_of c.args.image.now.header) x
     (fragment_count (view_of c.args.image.now.header)) (g.D.Disk.held c.write_fragments.new.disk)
     (g.D.Disk.world c.write_fragments.new.disk)) first (c.in-Ok-write_fragments.ensures.done t)))
     (subst (λ x. WordsDone c.args.folder.now (view_of c.args.image.now.header) x
-    (g.D.Disk.held c.write_pack_words.new.disk) (g.D.Disk.world c.write_pack_words.new.disk)) same stands.0))
+    (g.D.Disk.held c.write_pack_words.new.disk) (g.D.Disk.world c.write_pack_words.new.disk)) same stands))

@@ -1,9 +1,9 @@
 use Rattle.std.proofs.Common.{◌∙◌, refl, sym, subst, arith, rules}
 use Rattle.abt_sections.specs.Open.{IsOpened}
-use Rattle.boot_bodies.proofs.Amongs.{goes_none, goes_then, keeps_none, keeps_then}
+use Rattle.abt_disk.proofs.Amongs.{goes_none, keeps_none, keeps_then}
 use Rattle.boot_bodies.proofs.Causes.{refused_more}
 use Rattle.boot_bodies.proofs.Counts.{none_then, nothing_failed, same_failing, some_then, syncs_none, syncs_then}
-use Rattle.boot_bodies.proofs.Loops.{no_sections, sections_more}
+use Rattle.boot_bodies.proofs.Loops.{no_sections, section_any, section_more, sections_later, sections_more}
 use Rattle.boot_bodies.proofs.Shown.{section_shown, silent}
 use Rattle.boot_bodies.proofs.parts.write_sections.Goals as goal
 
@@ -26,7 +26,7 @@ loop-i-preserved g c = record {
   told = λ t.
       let i = c.loop-i.invariant.told t in (
         c.in-Ok.ensures.content t ∙ i.0,
-        goes_then _ _ _ _ _ _ _ i.1 (c.in-Ok.ensures.only t),
+        section_more _ _ _ _ _ _ _ _ _ i.1 (c.in-Ok.ensures.only t),
         keeps_then _ _ _ _ _ _ i.2 (c.in-Ok.ensures.keeps t),
         sections_more _ _ _ _ _ _ _ _ _ i.0 (c.in-Ok.ensures.keeps t) i.3 (c.in-Ok.ensures.done t),
         syncs_then _ _ _ _ _ i.4 (c.in-Ok.ensures.synced t),
@@ -36,7 +36,21 @@ loop-i-preserved g c = record {
 
 pub returns-in-Err-clause-only : goal.returns-in-Err-clause-only
 returns-in-Err-clause-only g c = λ t.
-    goes_then _ _ _ _ _ _ _ (c.loop-i.invariant.told t).1 (c.in-Err.ensures.only t)
+    section_any _ _ _ _ _ _ _
+    (section_more _ _ _ _ _ _ _ _ _ (c.loop-i.invariant.told t).1 (c.in-Err.ensures.only t))
+
+pub returns-in-Err-clause-keeps : goal.returns-in-Err-clause-keeps
+returns-in-Err-clause-keeps g c = λ t.
+    keeps_then _ _ _ _ _ _ (c.loop-i.invariant.told t).2 (c.in-Err.ensures.keeps t)
+
+-- those before it stand
+pub returns-in-Err-clause-stands : goal.returns-in-Err-clause-stands
+returns-in-Err-clause-stands g c = λ t.
+    let i = c.loop-i.invariant.told t in (
+      c.loop-i.i,
+      sections_later _ _ _ _ _ _ _ _ (c.in-Err.ensures.keeps t) i.3,
+      section_more _ _ _ _ _ _ _ _ _ i.1 (c.in-Err.ensures.only t),
+    )
 
 pub returns-in-Err-clause-refused : goal.returns-in-Err-clause-refused
 returns-in-Err-clause-refused g c = λ t opened.
@@ -44,8 +58,11 @@ returns-in-Err-clause-refused g c = λ t opened.
     refused_more _ _ _ _ _ _ c.in-Err.refusal.fault i.0
     (c.in-Err.ensures.refused t (subst (λ x. IsOpened x c.args.image.now) (sym i.0) opened))
     (λ failed. some_then _ _ _ _ _ _ i.5 failed)
-    (λ stands. (c.loop-i.i, search (rules, arith), sections_more _ _ _ _ _ _ _ _ _ i.0 stands.1 i.3 stands.0))
+    (λ stands. (c.loop-i.i, search (rules, arith), sections_more _ _ _ _ _ _ _ _ _ i.0 (c.in-Err.ensures.keeps t) i.3 stands))
 
 pub returns-clause-done : goal.returns-clause-done
 returns-clause-done g c = λ t k below.
     (c.loop-i.invariant.told t).3 k (omega (arith, below, c.sections-i-end.ensures.value, c.loop-i-test.false))
+
+pub returns-clause-only : goal.returns-clause-only
+returns-clause-only g c = λ t. section_any _ _ _ _ _ _ _ (c.loop-i.invariant.told t).1

@@ -1,19 +1,19 @@
 use Rattle.std.proofs.Common.{◌∙◌, sym, subst}
 use Rattle.abt_refusals.specs.Paths.{path_of}
 use Rattle.boot_bodies.specs.Lines.{ShowsEach}
-use Rattle.boot_bodies.specs.Unpacking.{Unpacks}
-use Rattle.boot_bodies.proofs.Amongs.{only_none}
+use Rattle.boot_bodies.specs.Unpacking.{Unpacks, no_part}
+use Rattle.abt_disk.proofs.Amongs.{among_none}
 use Rattle.boot_bodies.proofs.Causes.{host_image, opened, refuses_file, section_refused}
 use Rattle.boot_bodies.proofs.Counts.{clean_within, failed_within, open_failed, source_failed, syncs_within, taken_failed}
 use Rattle.boot_bodies.proofs.Loops.{begun_later}
-use Rattle.boot_bodies.proofs.Wholes.{has_as, keeps_let_go, keeps_same, only_let_go, only_opened}
+use Rattle.boot_bodies.proofs.Wholes.{has_as, keeps_let_go, keeps_same, leaves_parts, only_let_go, only_opened}
 use Rattle.boot_bodies.proofs.Wholes.{opened_as, opens_as, parts_stand, syncs_parts, twice, unpacks}
 use Rattle.boot_bodies.proofs.unpack.unpack_file.Goals as goal
 
 -- IN could not be opened
 pub returns-in-Err-clause-only : goal.returns-in-Err-clause-only
 returns-in-Err-clause-only g c = λ t.
-    only_none _ _ _ _ _ 1 (c.requires.first t).begun (c.in-Err.ensures.kept t) (c.in-Err.ensures.world t)
+    among_none _ _ _ _ _ 1 (c.requires.first t).begun (c.in-Err.ensures.kept t) (c.in-Err.ensures.world t)
 
 pub returns-in-Err-clause-input : goal.returns-in-Err-clause-input
 returns-in-Err-clause-input g c = λ t. keeps_same _ _ _ (c.in-Err.ensures.world t)
@@ -22,7 +22,13 @@ pub returns-in-Err-clause-refused : goal.returns-in-Err-clause-refused
 returns-in-Err-clause-refused g c = λ t.
     host_image (path_of c.args.input) (g.D.Disk.world c.args.disk.now) _ _ _ _ c.into.ensures (source_failed _ _ (c.in-Err.ensures.kept t))
 
+pub returns-in-Err-clause-stands : goal.returns-in-Err-clause-stands
+returns-in-Err-clause-stands g c = λ t. no_part (c.in-Err.ensures.world t)
+
 -- it is no image
+pub returns-in-Err-open-clause-stands : goal.returns-in-Err-open-clause-stands
+returns-in-Err-open-clause-stands g c = λ t. no_part (c.let_go_source.ensures.world t ∙ c.in-Ok.ensures.world t)
+
 pub returns-in-Err-open-clause-only : goal.returns-in-Err-open-clause-only
 returns-in-Err-open-clause-only g c = λ t.
     only_opened _ _ _ _ _ _ _ _ _ (c.requires.first t).begun (c.in-Ok.ensures.opened t)
@@ -43,6 +49,11 @@ returns-in-Err-open-clause-refused g c = λ t.
     (λ none. absurd none)
 
 -- it is one of the files
+pub returns-in-Err-refuse_taken-clause-stands : goal.returns-in-Err-refuse_taken-clause-stands
+returns-in-Err-refuse_taken-clause-stands g c = λ t.
+    no_part (c.let_go_source-in-Err-refuse_taken.ensures.world t ∙ c.in-Err-refuse_taken.ensures.world t
+    ∙ c.in-Ok.ensures.world t)
+
 pub returns-in-Err-refuse_taken-clause-only : goal.returns-in-Err-refuse_taken-clause-only
 returns-in-Err-refuse_taken-clause-only g c = λ t.
     only_opened _ _ _ _ _ _ _ _ _ (c.requires.first t).begun (c.in-Ok.ensures.opened t)
@@ -111,6 +122,17 @@ returns-in-Err-write_parts-clause-input g c = λ t.
     (c.in-Ok-refuse_taken.ensures.held t) (c.in-Err-write_parts.ensures.only t) (c.let_go_source-in-Err-write_parts.ensures.held t) (c.let_go_source-in-Err-write_parts.ensures.world t)
 
 -- one was refused
+pub returns-in-Err-write_parts-clause-stands : goal.returns-in-Err-write_parts-clause-stands
+returns-in-Err-write_parts-clause-stands g c = λ t.
+    let told = g.met.D.Disk.source_told t in
+    let same = c.in-Ok-open.ensures.content told in
+    leaves_parts _ _ _ _ _ _ _ _ _ _ _ _ _ _ _ (c.requires.first t).begun
+    (opens_as _ _ _ _ _ _ same (c.in-Ok.ensures.opened t))
+    (c.in-Ok-refuse_taken.ensures.world t ∙ c.in-Ok.ensures.world t)
+    (has_as _ _ c.in-Ok-open.image same (c.in-Ok-open.ensures.opens told)) (c.in-Ok-refuse_taken.ensures.held t)
+    (c.in-Err-write_parts.ensures.stands t) (c.let_go_source-in-Err-write_parts.ensures.held t)
+    (c.let_go_source-in-Err-write_parts.ensures.world t)
+
 pub returns-in-Err-write_parts-clause-refused : goal.returns-in-Err-write_parts-clause-refused
 returns-in-Err-write_parts-clause-refused g c = λ t.
     let told = g.met.D.Disk.source_told t in

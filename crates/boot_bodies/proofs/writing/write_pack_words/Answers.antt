@@ -1,5 +1,5 @@
 use Rattle.std.proofs.Common.{◌∙◌, ap, sym, subst, true}
-use Rattle.boot_bodies.proofs.Amongs.{goes_refused, goes_written, keeps_written}
+use Rattle.abt_disk.proofs.Amongs.{goes_refused, goes_written, keeps_refused, keeps_written}
 use Rattle.boot_bodies.proofs.Causes.{host_refused, ok_gives, told_so}
 use Rattle.boot_bodies.proofs.Counts.{copy_failed, end_failed, none_created, part_clean, syncs_ended}
 use Rattle.boot_rules.specs.declared.part_names.Part.TheVariants as parts
@@ -11,6 +11,11 @@ pub returns-in-Err-clause-only : goal.returns-in-Err-clause-only
 returns-in-Err-clause-only g c = λ t.
     goes_refused _ _ _ _ _ _ _ c.place_of-place.ensures
     (c.in-Err.ensures.kept t) (c.in-Err.ensures.only t)
+
+pub returns-in-Err-clause-keeps : goal.returns-in-Err-clause-keeps
+returns-in-Err-clause-keeps g c = λ t.
+    keeps_refused _ _ _ _ _ 1 (c.requires.one t) (c.in-Err.ensures.kept t) (c.in-Err.ensures.only t)
+    (c.in-Err.ensures.begun t)
 
 pub returns-in-Err-clause-refused : goal.returns-in-Err-clause-refused
 returns-in-Err-clause-refused g c = λ t opened.
@@ -55,20 +60,22 @@ returns-in-Err-finish-clause-only g c = λ t.
     goes_written _ _ (c.in-Err-finish.ensures.closed t).0 _ _ _ _ _ _ _ c.place_of-place.ensures
     (c.in-Ok.ensures.created t) (c.in-Err-finish.ensures.closed t).2 (c.in-Err-finish.ensures.rest t)
 
+pub returns-in-Err-finish-clause-keeps : goal.returns-in-Err-finish-clause-keeps
+returns-in-Err-finish-clause-keeps g c = λ t.
+    keeps_written _ (c.in-Err-finish.ensures.closed t).0 _ _ _ _ _ _ _ (c.in-Ok.ensures.created t)
+    (c.in-Err-finish.ensures.closed t).2 (c.in-Err-finish.ensures.rest t)
+
 pub returns-in-Err-finish-clause-refused : goal.returns-in-Err-finish-clause-refused
 returns-in-Err-finish-clause-refused g c = λ t opened.
     let told = g.met.D.Disk.source_told t in
-    told_so _ (g.D.At.Source.content c.args.source.now.device) _ _ _ _ _ _ (c.in-Err-finish.ensures.told t)
+    told_so _ (g.D.At.Source.content c.args.source.now) _ _ _ _ _ _ (c.in-Err-finish.ensures.told t)
     (c.copy_words-onto.ensures.refused told opened)
     (λ done failed. end_failed _ _ _ _ _ _ _ _ _ _ (c.in-Ok.ensures.created t) (c.in-Ok.ensures.clean t)
     (ok_gives _ _ done c.copy_words-onto.ensures.clean) failed)
     (λ failed. copy_failed _ _ _ _ _ _ _ _ _ _ (c.in-Ok.ensures.created t) (c.in-Ok.ensures.clean t)
     (c.in-Err-finish.ensures.counts t) failed)
-    (λ done ends. (
-      part_done _ _ _ _ _ (c.in-Err-finish.ensures.closed t).0 _ _ _ _ _ _ _ c.place_of-place.ensures
-          c.in-Ok.ensures.empty
-          (ok_gives _ _ done (c.copy_words-onto.ensures.written (g.met.D.Disk.source_told t)))
-          (c.in-Ok.ensures.created t) (c.in-Err-finish.ensures.closed t).2 ends,
-      keeps_written _ (c.in-Err-finish.ensures.closed t).0 _ _ _ _ _ _ _ (c.in-Ok.ensures.created t) (c.in-Err-finish.ensures.closed t).2
-          (c.in-Err-finish.ensures.rest t),
-    ))
+    (λ done ends.
+    part_done _ _ _ _ _ (c.in-Err-finish.ensures.closed t).0 _ _ _ _ _ _ _ c.place_of-place.ensures
+    c.in-Ok.ensures.empty
+    (ok_gives _ _ done (c.copy_words-onto.ensures.written (g.met.D.Disk.source_told t)))
+    (c.in-Ok.ensures.created t) (c.in-Err-finish.ensures.closed t).2 ends)

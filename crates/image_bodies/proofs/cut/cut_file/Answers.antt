@@ -1,6 +1,6 @@
 use Rattle.image_bodies.specs.Cutting.{IsPiecePath}
 use Rattle.image_bodies.proofs.Opened.{if_err}
-use Rattle.image_bodies.proofs.Unders.{only_behind, only_none}
+use Rattle.abt_disk.proofs.Amongs.{among_behind, among_none}
 use Rattle.image_bodies.proofs.Wholes.{cuts_file_as, keeps_input, refuses_file_as, refuses_unopened}
 use Rattle.image_bodies.proofs.cut.cut_file.Goals as goal
 
@@ -11,17 +11,17 @@ returns-in-Err-clause-refused g c = λ t.
 
 pub returns-in-Err-clause-only : goal.returns-in-Err-clause-only
 returns-in-Err-clause-only g c = λ t.
-    only_none (IsPiecePath c.args.order.prefix.now) _ _ _ _ 1 (c.requires.first t).begun (c.in-Err.ensures.kept t)
+    among_none (IsPiecePath c.args.order.prefix.now) _ _ _ _ 1 (c.requires.first t).begun (c.in-Err.ensures.kept t)
     (c.in-Err.ensures.world t)
 
 pub returns-in-Some-clause-done : goal.returns-in-Some-clause-done
 returns-in-Some-clause-done g c = λ t.
     cuts_file_as c.cut_raw.result c.args.order.raw _ _ _ _ _ _ _ _ _ _ _ _ c.in-Some.is (c.requires.first t).begun
-    (c.in-Ok.ensures.opened t) (c.cut_raw.ensures.done t)
+    (c.in-Ok.ensures.opened t) (c.in-Ok.ensures.world t) (c.cut_raw.ensures.done t)
 
 pub returns-in-Some-clause-only : goal.returns-in-Some-clause-only
 returns-in-Some-clause-only g c = λ t.
-    only_behind (IsPiecePath c.args.order.prefix.now) _ _ _ _ _ _ _ _ (c.requires.first t).begun
+    among_behind (IsPiecePath c.args.order.prefix.now) _ _ _ _ _ _ _ _ (c.requires.first t).begun
     (c.in-Ok.ensures.opened t) (c.in-Ok.ensures.world t) (c.cut_raw.ensures.only t)
 
 pub returns-in-Some-clause-input : goal.returns-in-Some-clause-input
@@ -39,11 +39,11 @@ returns-in-Some-clause-refused g c = λ t.
 pub returns-in-None-clause-done : goal.returns-in-None-clause-done
 returns-in-None-clause-done g c = λ t.
     cuts_file_as c.cut_sparse.result c.args.order.raw _ _ _ _ _ _ _ _ _ _ _ _ c.in-None.is (c.requires.first t).begun
-    (c.in-Ok.ensures.opened t) (c.cut_sparse.ensures.done t)
+    (c.in-Ok.ensures.opened t) (c.in-Ok.ensures.world t) (c.cut_sparse.ensures.done t)
 
 pub returns-in-None-clause-only : goal.returns-in-None-clause-only
 returns-in-None-clause-only g c = λ t.
-    only_behind (IsPiecePath c.args.order.prefix.now) _ _ _ _ _ _ _ _ (c.requires.first t).begun
+    among_behind (IsPiecePath c.args.order.prefix.now) _ _ _ _ _ _ _ _ (c.requires.first t).begun
     (c.in-Ok.ensures.opened t) (c.in-Ok.ensures.world t) (c.cut_sparse.ensures.only t)
 
 pub returns-in-None-clause-input : goal.returns-in-None-clause-input

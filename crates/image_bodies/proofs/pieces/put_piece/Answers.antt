@@ -1,17 +1,29 @@
 use Rattle.std.proofs.Common.{refl, arith}
-use Rattle.image_bodies.proofs.Beside.{adds_piece, cause_piece, clean_piece, goes_piece, none_open}
-use Rattle.image_bodies.proofs.Unders.{goes_refused}
+use Rattle.image_bodies.proofs.Beside.{adds_none, adds_none_refused, adds_piece, cause_piece, clean_piece, goes_piece}
+use Rattle.image_bodies.proofs.Beside.{any_refused, none_open}
+use Rattle.abt_disk.proofs.Amongs.{goes_refused}
 use Rattle.image_bodies.proofs.pieces.put_piece.Goals as goal
 
 pub returns-in_err-image-clause-only : goal.returns-in_err-image-clause-only
 returns-in_err-image-clause-only g c = λ t.
     goes_refused _ _ _ _ _ _ 1 refl (c.in_err-image.ensures.kept t) (c.in_err-image.ensures.only t)
 
+pub returns-in_err-image-clause-keeps : goal.returns-in_err-image-clause-keeps
+returns-in_err-image-clause-keeps g c = λ t.
+    any_refused c.from_residual.result _ (adds_none_refused _ (g.D.Disk.held c.args.disk.now)
+    (g.D.Disk.held c.image.new.self) (g.D.Disk.world c.args.disk.now) (g.D.Disk.world c.image.new.self)
+    (c.requires.one t) (c.in_err-image.ensures.kept t) (c.in_err-image.ensures.only t) (c.in_err-image.ensures.begun t))
+
 pub returns-in-File-clause-adds : goal.returns-in-File-clause-adds
 returns-in-File-clause-adds g c = λ t.
     let told = g.met.D.Disk.source_told t in
     adds_piece _ _ _ _ _ _ _ _ _ _ _ _ (c.in_ok-image.ensures.created t)
     (rw (c.forget.ensures.content told) at (c.put_in_file.ensures.holds t)) (c.put_in_file.ensures.closed t)
+    (c.put_in_file.ensures.rest t)
+
+pub returns-in-File-clause-keeps : goal.returns-in-File-clause-keeps
+returns-in-File-clause-keeps g c = λ t.
+    adds_none c.put_in_file.result _ _ _ _ _ _ _ _ _ (c.in_ok-image.ensures.created t) (c.put_in_file.ensures.closed t)
     (c.put_in_file.ensures.rest t)
 
 pub returns-in-File-clause-only : goal.returns-in-File-clause-only
@@ -38,6 +50,11 @@ returns-in-Stream-clause-adds g c = λ t.
     adds_piece _ _ _ _ _ _ _ _ _ _ _ _ (c.in_ok-image.ensures.created t)
     (rw (c.forget.ensures.content told) at (c.put_in_stream.ensures.holds t)) (c.put_in_stream.ensures.closed t)
     (c.put_in_stream.ensures.rest t)
+
+pub returns-in-Stream-clause-keeps : goal.returns-in-Stream-clause-keeps
+returns-in-Stream-clause-keeps g c = λ t.
+    adds_none c.put_in_stream.result _ _ _ _ _ _ _ _ _ (c.in_ok-image.ensures.created t)
+    (c.put_in_stream.ensures.closed t) (c.put_in_stream.ensures.rest t)
 
 pub returns-in-Stream-clause-only : goal.returns-in-Stream-clause-only
 returns-in-Stream-clause-only g c = λ t.

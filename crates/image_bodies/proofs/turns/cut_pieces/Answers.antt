@@ -1,7 +1,13 @@
 use Rattle.std.proofs.Common.{◌≡◌, ◌+◌, None, sym, subst}
 use Rattle.image_bodies.specs.Cutting.{IsPiecePath, piece_path, untold}
-use Rattle.image_bodies.proofs.Wholes.{cuts_between, goes_between, stops_between}
+use Rattle.image_bodies.proofs.Wholes.{cuts_between, goes_between, stops_between, stops_host}
 use Rattle.image_bodies.proofs.turns.cut_pieces.Goals as goal
+
+pub returns-in-Err-clause-refused : goal.returns-in-Err-clause-refused
+returns-in-Err-clause-refused g c = λ t.
+    stops_host _ c.in-Err.refusal.fault c.args.prefix.now _ _ _ _ _ (c.requires.one t)
+    (c.refuse_image_as_piece.ensures.fails t) (c.refuse_image_as_piece.ensures.world t) c.into.ensures
+    (c.in-Err.ensures.refused t)
 
 pub returns-in-Err-answer-clause-only : goal.returns-in-Err-answer-clause-only
 returns-in-Err-answer-clause-only g c = λ t.
@@ -32,8 +38,8 @@ pub returns-in-Ok-tell_all-clause-done : goal.returns-in-Ok-tell_all-clause-done
 returns-in-Ok-tell_all-clause-done g c = λ t. record {
   count = c.in-Ok-answer.files.count;
   all = rw c.in-Ok-answer.is at (c.write_pieces-source.ensures.all t);
-  cuts = (cuts_between c.args.prefix.now _ c.in-Ok-answer.files.count _ _ _ _ _ _ _ _ _ (c.in-Ok.ensures.held t)
-      (c.refuse_image_as_piece.ensures.world t) (rw c.in-Ok-answer.is at (c.write_pieces-source.ensures.done t))
+  cuts = (cuts_between c.args.prefix.now _ c.in-Ok-answer.files.count c.in-Ok-answer.files.count _ _ _ _ _ _ _ _ _
+      (c.in-Ok.ensures.held t) (c.refuse_image_as_piece.ensures.world t) (rw c.in-Ok-answer.is at (c.write_pieces-source.ensures.done t))
       (c.let_go_source.ensures.held t) (c.let_go_source.ensures.world t));
   shown = λ few none. (
     c.write_pieces-source.new.report,
@@ -48,6 +54,6 @@ pub returns-in-Err-tell_all-clause-refused : goal.returns-in-Err-tell_all-clause
 returns-in-Err-tell_all-clause-refused g c = λ t.
     untold c.in-Err-tell_all.refusal.fault c.into-in-Err-tell_all.ensures c.in-Ok-answer.files.count
     (rw c.in-Ok-answer.is at c.write_pieces-source.ensures.some) (cuts_between c.args.prefix.now _
-    c.in-Ok-answer.files.count _ _ _ _ _ _ _ _ _ (c.in-Ok.ensures.held t)
+    c.in-Ok-answer.files.count c.in-Ok-answer.files.count _ _ _ _ _ _ _ _ _ (c.in-Ok.ensures.held t)
     (c.refuse_image_as_piece.ensures.world t) (rw c.in-Ok-answer.is at (c.write_pieces-source.ensures.done t))
     (c.let_go_source.ensures.held t) (c.let_go_source.ensures.world t))

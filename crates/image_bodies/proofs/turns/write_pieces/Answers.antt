@@ -5,7 +5,7 @@ use Rattle.abt_refusals.specs.Paths.{path_out}
 use Rattle.abt_sparse.specs.Pieces.{pieces}
 use Rattle.image_bodies.specs.Cutting.{CutsSoFar, piece_path, failed, untold}
 use Rattle.image_bodies.proofs.Nexts.{not_done}
-use Rattle.image_bodies.proofs.Cuts.{all_made, countable, cuts_more, cuts_none, goes_piece_more, left_less, now_done}
+use Rattle.image_bodies.proofs.Cuts.{all_made, countable, cuts_more, cuts_none, cuts_only, cuts_stop, left_less, now_done}
 use Rattle.image_bodies.proofs.Cuts.{piece_place, stands_more, still_between}
 use Rattle.image_bodies.proofs.turns.write_pieces.Goals as goal
 
@@ -26,9 +26,9 @@ pieces-init g c = record {
   named = c.new-files.ensures.begins;
   cuts = λ t. subst (λ (n : ℕ). CutsSoFar c.args.prefix.now (pieces c.args.pieces.cutter.limit
       (g.B.BlockRuns.size c.args.pieces.cutter.runs) (g.B.BlockRuns.list c.args.pieces.cutter.runs
-      (g.D.At.Source.content c.args.source))) n (g.D.Disk.held c.args.disk.now) (g.D.Disk.held c.args.disk.now)
+      (g.D.At.Source.content c.args.source))) n n (g.D.Disk.held c.args.disk.now) (g.D.Disk.held c.args.disk.now)
       (g.D.Disk.world c.args.disk.now) (g.D.Disk.world c.args.disk.now)) (sym c.requires.first)
-      (cuts_none _ _ _ _ (c.requires.one t));
+      (cuts_none _ _ 0 _ _ (c.requires.one t));
   fails = λ t. refl;
 }
 
@@ -100,7 +100,7 @@ returns-then-not-more-clause-some g c =
     omega (arith, i.counted, i.stands.some done)
 
 pub returns-then-not-more-clause-only : goal.returns-then-not-more-clause-only
-returns-then-not-more-clause-only g c = λ t. (c.pieces.invariant.cuts t).goes
+returns-then-not-more-clause-only g c = λ t. cuts_only _ _ _ _ _ _ _ _ (c.pieces.invariant.cuts t)
 
 pub returns-then-not-more-clause-closed : goal.returns-then-not-more-clause-closed
 returns-then-not-more-clause-closed g c = λ t. (c.pieces.invariant.cuts t).closed
@@ -120,11 +120,26 @@ returns-in-Err-clause-only g c = λ t.
     let path : path_out c.next-place.result ≡ piece_path c.args.prefix.now (cutter.made + 1)
     = piece_place c.next-place.result c.args.prefix.now (cutter.made + 1) c.next-place.ensures.folder
     (c.next-place.ensures.number ∙ ap Some behind) (ap (λ s. s.now) c.next-place.ensures.name ∙ i.named) in
-    goes_piece_more c.args.prefix.now (cutter.made + 1) _ _ _ _ _ _ _ path (i.cuts t).goes (c.in-Err.ensures.only t)
+    cuts_only _ _ _ _ _ _ _ _
+    (cuts_stop c.args.prefix.now _ cutter.made _ _ _ _ _ _ _ path (i.cuts t) (c.in-Err.ensures.keeps t)
+    (c.in-Err.ensures.only t))
 
 pub returns-in-Err-clause-refused : goal.returns-in-Err-clause-refused
 returns-in-Err-clause-refused g c = λ t.
-    failed (c.in-Err.ensures.outside t) (omega (arith, c.pieces.invariant.fails t, c.in-Err.ensures.cause t))
+    let i = c.pieces.invariant in
+    let cutter = c.pieces.pieces.cutter in
+    let is : cutter.stage ≡ Between = still_between _ i.stands.where_is (sym c.more.ensures ∙ c.if-not-more.false) in
+    let left : cutter.made ≤ cutter.start.block = cutter.sound.left (ap has_more is) in
+    let few = countable (g.B.BlockRuns.count c.args.pieces.cutter.runs) cutter.made cutter.start.block cutter.stage
+    i.stands is left (omega arith) in
+    let one = c.next-place.ensures.counted (omega (arith, few, i.counted)) in
+    let behind : c.next-place.new.self.count ≡ cutter.made + 1 = omega (arith, one, i.counted) in
+    let path : path_out c.next-place.result ≡ piece_path c.args.prefix.now (cutter.made + 1)
+    = piece_place c.next-place.result c.args.prefix.now (cutter.made + 1) c.next-place.ensures.folder
+    (c.next-place.ensures.number ∙ ap Some behind) (ap (λ s. s.now) c.next-place.ensures.name ∙ i.named) in
+    failed (c.in-Err.ensures.outside t) (omega (arith, i.fails t, c.in-Err.ensures.cause t)) cutter.made
+    (cuts_stop c.args.prefix.now _ cutter.made _ _ _ _ _ _ _ path (i.cuts t) (c.in-Err.ensures.keeps t)
+    (c.in-Err.ensures.only t))
 
 -- its line could not be printed
 
@@ -141,9 +156,10 @@ returns-in-Err-print_piece-clause-only g c = λ t.
     let path : path_out c.next-place.result ≡ piece_path c.args.prefix.now (cutter.made + 1)
     = piece_place c.next-place.result c.args.prefix.now (cutter.made + 1) c.next-place.ensures.folder
     (c.next-place.ensures.number ∙ ap Some behind) (ap (λ s. s.now) c.next-place.ensures.name ∙ i.named) in
+    cuts_only _ _ _ _ _ _ _ _
     (cuts_more c.args.prefix.now _ cutter.made _ _ _ _ _ _ _ path (i.cuts t)
     (rw (i.runs, i.limit, i.kept (g.met.D.Disk.source_told t)) at (c.in-Ok.ensures.adds t))
-    (c.put_piece-answer.ensures.only t)).goes
+    (c.put_piece-answer.ensures.only t))
 
 pub returns-in-Err-print_piece-clause-refused : goal.returns-in-Err-print_piece-clause-refused
 returns-in-Err-print_piece-clause-refused g c = λ t.

@@ -27,6 +27,7 @@ invariant-pieces g l =
       counted : l.files.count ≡ l.pieces.cutter.made;
       named : l.files.prefix.now ≡ l.prefix;
       cuts : IsTrue g.D.Disk.tells → CutsSoFar l.prefix (pieces cutter.limit size list) l.pieces.cutter.made
+          l.pieces.cutter.made
           (g.D.Disk.held l.fn.disk) (g.D.Disk.held l.disk) (g.D.Disk.world l.fn.disk) (g.D.Disk.world l.disk);
       fails : IsTrue g.D.Disk.tells → (g.D.Disk.held l.disk).failed + g.D.At.Source.read_faults l.source
           ≡ (g.D.Disk.held l.fn.disk).failed + g.D.At.Source.read_faults l.fn.source;

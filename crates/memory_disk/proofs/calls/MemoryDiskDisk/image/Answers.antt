@@ -1,5 +1,5 @@
 use Rattle.memory_disk.specs.Memory.{world_of}
-use Rattle.memory_disk.proofs.Files.{only_then}
+use Rattle.memory_disk.proofs.Files.{only_then, begun_then}
 use Rattle.memory_disk.proofs.Images.{empties_then}
 use Rattle.memory_disk.proofs.calls.MemoryDiskDisk.image.Goals as goal
 
@@ -9,3 +9,7 @@ returns-in-Err-clause-only c = λ _. only_then _ _ _ _ _ c.refused.ensures.world
 pub returns-in-Err-clause-empties : goal.returns-in-Err-clause-empties
 returns-in-Err-clause-empties c = λ _. empties_then _ (world_of c.args.self.now) (world_of c.image_at.new.self)
     (world_of c.refused.new.self) c.refused.ensures.world c.in-Err.ensures.empties
+
+pub returns-in-Err-clause-begun : goal.returns-in-Err-clause-begun
+returns-in-Err-clause-begun c = λ _. begun_then _ (world_of c.args.self.now) (world_of c.image_at.new.self)
+    (world_of c.refused.new.self) c.refused.ensures.world c.in-Err.ensures.same

@@ -1,16 +1,53 @@
 //! A device that is held together with how far the command is, so that contracts know the device through every call.
 
-use abt_io::{DeviceFault, Output, Source};
-use abt_output::Progress;
+use crate::progress::Progress;
+use abt_io::{DeviceFault, Input, Output, Overwrite, Source};
 
-/// Does what its device does, and counts the bytes that it moves. It is of each kind that its device is of.
+/// Does what its device does, and counts the bytes that it moves, so that a terminal shows how far the command is. It
+/// is of each kind that its device is of, and holds it: a device that is lent would be another one behind each call.
 #[derive(Drop)]
-pub(crate) struct Carried<D> {
+pub struct Carried<'a, D> {
     pub device: D,
-    pub progress: Progress,
+    pub progress: &'a mut Progress,
 }
 
-impl<D: Source> Source for Carried<D> {
+impl<D: Input> Input for Carried<'_, D> {
+    ghost tells = { D.tells };
+
+    ghost remaining = { λ c. D.remaining c.device };
+
+    ghost reads = { λ c. D.reads c.device };
+
+    ghost given = { λ c. D.given c.device };
+
+    ghost read_faults = { λ c. D.read_faults c.device };
+
+    ghost read_frame = { λ c. D.read_frame c.device };
+
+    ghost are_bytes = { λ c t. D.are_bytes c.device t };
+
+    fn read(&mut self, out: &mut [u8]) -> Result<usize, DeviceFault> {
+        match self.device.read(out) {
+            Ok(n) => {
+                self.progress.advance(n);
+                Ok(n)
+            }
+            Err(fault) => Err(fault),
+        }
+    }
+
+    fn pass(&mut self, room: &mut [u8]) -> Result<usize, DeviceFault> {
+        match self.device.pass(room) {
+            Ok(n) => {
+                self.progress.advance(n);
+                Ok(n)
+            }
+            Err(fault) => Err(fault),
+        }
+    }
+}
+
+impl<D: Source> Source for Carried<'_, D> {
     ghost tells = { D.tells };
 
     ghost content = { λ c. D.content c.device };
@@ -44,7 +81,7 @@ impl<D: Source> Source for Carried<D> {
     }
 }
 
-impl<D: Output> Output for Carried<D> {
+impl<D: Output> Output for Carried<'_, D> {
     ghost written = { λ c. D.written c.device };
 
     ghost is_full = { λ c. D.is_full c.device };
@@ -75,5 +112,15 @@ impl<D: Output> Output for Carried<D> {
             }
             Err(fault) => Err(fault),
         }
+    }
+}
+
+impl<D: Overwrite> Overwrite for Carried<'_, D> {
+    fn position(&self) -> u64 {
+        self.device.position()
+    }
+
+    fn write_over(&mut self, at: u64, bytes: &[u8]) -> Result<usize, DeviceFault> {
+        self.device.write_over(at, bytes)
     }
 }
