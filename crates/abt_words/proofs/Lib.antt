@@ -1,2 +1,4 @@
+pub mod Among
+pub mod Filling
 pub mod Lists
 pub mod Told

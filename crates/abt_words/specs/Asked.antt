@@ -1,8 +1,8 @@
 -- What the answers to the rows of a command's table ask for.
 use Rattle.std.specs.Prelude.{◌≡◌, ℕ, ◌++◌, List, [], Bool, false, Option, Some, None, map, codes, bytes_eq, is_some}
-use Rattle.std.specs.Prelude.{unwrap_or}
+use Rattle.std.specs.Prelude.{unwrap_or, option_map}
 use Rattle.std.specs.Prelude.{if◌then◌else◌, nat_lt}
-use Rattle.std.specs.List.{filter, find}
+use Rattle.std.specs.List.{filter, find, AllZip}
 use Rattle.abt_words.specs.declared.answers.Answer.{Answer}
 use Rattle.abt_words.specs.declared.order.Order.{Order}
 use Rattle.abt_words.specs.declared.order.Task.{Task}
@@ -13,6 +13,9 @@ use Rattle.abt_words.specs.declared.order.BootTask.{BootTask}
 use Rattle.abt_words.specs.declared.order.BootTask.TheVariants as boot
 use Rattle.abt_words.specs.declared.order.Pieces.{Pieces}
 use Rattle.abt_words.specs.declared.order.PackOrder.{PackOrder}
+use Rattle.abt_words.specs.declared.order.Given.{Given}
+use Rattle.abt_words.specs.Spelled.{AreSpelled}
+use Rattle.abt_words.specs.Table.{AreFrom, Shape, name_of, option_rows, rows_of, shape_of, work_of}
 
 -- whether it answers the row of this name
 abbrev pub is_named : List ℕ → Answer → Bool
@@ -45,6 +48,17 @@ flag_named name all = bytes_eq (word_named name all) (codes "true")
 abbrev pub words_named : List ℕ → List Answer → List (List ℕ)
 words_named name all = map (λ a. a.word.now) (filter (is_named name) all)
 
+-- its number; 0, where there is none
+abbrev pub answer_number : Option Answer → ℕ
+answer_number None = 0
+answer_number (Some a) = a.number
+
+-- what the option of a row was given: the word and the number of the first answer of its name, or none and 0
+pub record IsGiven (all : List Answer) (row : Shape) (given : Given) : Type 0 where
+  pub is : shape_of given.row.now ≡ row
+  pub word : option_map (λ s. s.now) given.word ≡ option_map (λ a. a.word.now) (answer_named row.name all)
+  pub number : given.number ≡ answer_number (answer_named row.name all)
+
 -- ---- what they ask for
 
 -- LIMIT, SPOOL and --from; without SPOOL the image is flashed whole
@@ -68,12 +82,14 @@ AsksSparse all (sparse.Flash input partition raw pieces) = (input.now ≡ word_n
 AsksSparse all (sparse.Verify input partition raw) = (input.now ≡ word_named (codes "IN") all)
     × (partition.now ≡ word_named (codes "PARTITION") all) × (raw ≡ number_named (codes "raw") all)
 
--- OUT, the kind and the version, and the ramdisk fragments: those of --fragment, then those behind OUT
+-- OUT, the kind and the version, what each option of the table was given, in its order, and the ramdisk fragments:
+-- those of --fragment, then those behind OUT
 pub record AsksPack (all : List Answer) (order : PackOrder) : Type 0 where
   pub output : order.output.now ≡ word_named (codes "OUT") all
   pub vendor : order.is_vendor ≡ flag_named (codes "vendor") all
   pub version : order.version ≡ unwrap_or (number_named (codes "version") all) 0
   pub page : order.page ≡ number_named (codes "page") all
+  pub given : AllZip (IsGiven all) option_rows order.given.items
   pub board_ids : map (λ s. s.now) order.board_ids.items ≡ words_named (codes "board-id") all
   pub fragments : map (λ s. s.now) order.fragments.items
       ≡ words_named (codes "fragment") all ++ words_named (codes "FRAGMENT") all
@@ -92,3 +108,14 @@ abbrev pub Asks : List Answer → Task → Type 0
 Asks all (tasks.Sparse task) = AsksSparse all task
 Asks all (tasks.Boot task) = AsksBoot all task
 Asks all (tasks.Completions shell) = Unit {0}
+
+-- ---- an order
+
+-- the words ask for it: answers to rows of its command's table stand among them, and ask for its task
+pub record IsOrderOf (words : List (List ℕ)) (order : Order) : Type 0 where
+  pub all : List Answer
+  pub from : AreFrom (rows_of (work_of order.task)) all
+  pub command : order.command.now ≡ name_of (work_of order.task)
+  pub spelled : AreSpelled words order.command.now all
+  pub asks : Asks all order.task
+  pub synced : order.is_synced ≡ flag_named (codes "sync") all

@@ -1,3 +1,4 @@
 pub mod Asked
 pub mod Refused
 pub mod Spelled
+pub mod Table

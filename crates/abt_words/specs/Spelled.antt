@@ -63,7 +63,8 @@ pub record Stands (words : List (List ℕ)) (a : Answer) : Type 0 where
   pub said : IsSaid words a
   pub read : IsRead a.row.now.value a.word.now a.number
 
--- the answers to words by their place stand among the words, in the order of the table, and so does each of the others
-pub record AreSpelled (words : List (List ℕ)) (all : List Answer) : Type 0 where
-  pub placed : left_of (placed_words all) words ≡ []
+-- the command's name and then the answers to words by their place stand among the words, in the order of the table, and
+-- so does each of the others
+pub record AreSpelled (words : List (List ℕ)) (command : List ℕ) (all : List Answer) : Type 0 where
+  pub placed : left_of (command ∷ placed_words all) words ≡ []
   pub each : All (Stands words) all

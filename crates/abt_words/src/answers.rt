@@ -1,10 +1,11 @@
 //! What was given for each row of a command's table.
 
 ghost use Rattle.std.specs.Prelude.{◌≡◌, ◌++◌, IfOk, IfErr, OnOk, map, option_map, unwrap_or, nat_lt, Some, None};
-ghost use Rattle.std.specs.Prelude.{if◌then◌else◌};
+ghost use Rattle.std.specs.Prelude.{Contains, List, [], ◌∷◌, if◌then◌else◌};
 ghost use Rattle.abt_values.specs.NumberWord.{IsRead};
-ghost use Rattle.abt_words.specs.Asked.{answer_named, flag_named, number_named, word_named, words_named};
+ghost use Rattle.abt_words.specs.Asked.{IsGiven, answer_named, flag_named, number_named, word_named, words_named};
 ghost use Rattle.abt_words.specs.Refused.{TellsNoNumber};
+ghost use Rattle.abt_words.specs.Table.{AreFrom, AreRows, Shape, rows_of, shape_of};
 
 use crate::fault::WordsFault;
 use crate::order::Given;
@@ -61,10 +62,12 @@ impl<'a> Answers<'a> {
         command: &CommandRow,
         found: &ArgMatches<'a>,
         is_verbose: bool,
-    ) -> Result<Answers<'a>, WordsFault> {
+    ) -> Result<Answers<'a>, WordsFault>
+        ensures { IfOk result (λ answers. AreFrom (rows_of command.now.work) answers.all.items) }
+    {
         let mut answers = Answers {
             all: Vec::new(alloc),
-            is_verbose: is_verbose || found.get_flag("verbose"),
+            is_verbose: is_told_more(found, is_verbose),
         };
         answers.read_rows(alloc, command.own_rows(), found)?;
         answers.read_rows(alloc, command.filling_rows(), found)?;
@@ -77,11 +80,15 @@ impl<'a> Answers<'a> {
         alloc: Global,
         rows: &'static [Row],
         found: &ArgMatches<'a>,
-    ) -> Result<(), WordsFault> {
+    ) -> Result<(), WordsFault>
+        ensures { (table : List Shape) → AreFrom table self.old.all.items → AreRows table rows.now →
+            OnOk result (AreFrom table self.new.all.items) }
+    {
         for row in rows {
-            if let Some(words) = found.get_strs(row.name) {
-                self.read_words(alloc, row, words)?;
-            }
+            let Some(words) = found.get_strs(row.name) else {
+                continue;
+            };
+            self.read_words(alloc, row, words)?;
         }
         Ok(())
     }
@@ -91,13 +98,21 @@ impl<'a> Answers<'a> {
         alloc: Global,
         row: &'static Row,
         words: &[&'a str],
-    ) -> Result<(), WordsFault> {
+    ) -> Result<(), WordsFault>
+        ensures { (table : List Shape) → AreFrom table self.old.all.items → Contains table (shape_of row.now) →
+            OnOk result (AreFrom table self.new.all.items) }
+    {
         for word in words {
             let answer = Answer::new(alloc, row, *word, self.is_verbose)?;
-            if self.all.push(answer).is_err() {
-                return Err(WordsFault::Memory);
-            }
+            self.push(answer)?;
         }
+        Ok(())
+    }
+
+    fn push(&mut self, answer: Answer<'a>) -> Result<(), AllocError>
+        ensures { OnOk result (self.new.all.items ≡ self.old.all.items ++ (answer.entry ∷ [])) }
+    {
+        self.all.push(answer)?;
         Ok(())
     }
 
@@ -145,14 +160,18 @@ impl<'a> Answers<'a> {
         self.number(name).unwrap_or(0)
     }
 
-    /// What the option of this name was given.
-    pub(crate) fn given(&self, name: &str) -> Given<'a> {
-        match self.find(name) {
+    /// What the option of this row was given.
+    pub(crate) fn given(&self, row: &'static Row) -> Given<'a>
+        ensures { IsGiven self.now.all.items (shape_of row.now) result }
+    {
+        match self.find(row.name) {
             Some(answer) => Given {
+                row,
                 word: Some(answer.word),
                 number: answer.number,
             },
             None => Given {
+                row,
                 word: None,
                 number: 0,
             },
@@ -179,6 +198,11 @@ impl<'a> Answers<'a> {
         }
         Ok(())
     }
+}
+
+// Whether words before the command, or those behind it, ask for the second line of a refusal.
+fn is_told_more(found: &ArgMatches<'_>, is_verbose: bool) -> bool {
+    is_verbose || found.get_flag("verbose")
 }
 
 // A number of 32 bits.

@@ -1,6 +1,7 @@
 //! What the words of the command line ask for.
 
 use crate::completions::Shell;
+use abt_values::Row;
 
 /// What the words ask for.
 #[derive(Drop)]
@@ -110,8 +111,8 @@ pub struct PackOrder<'a> {
     /// The header version of `pack`; 0 for `repack`.
     pub version: u32,
     pub page: Option<u32>,
-    /// What each of `OPTIONS` was given, in its order.
-    pub given: [Given<'a>; 22],
+    /// What each of `options()` was given, in its order.
+    pub given: Vec<Given<'a>>,
     pub board_ids: Vec<&'a str>,
     /// Those of `--fragment`, then those behind OUT.
     pub fragments: Vec<&'a str>,
@@ -122,6 +123,8 @@ pub struct PackOrder<'a> {
 /// What an option was given.
 #[derive(Clone, Copy)]
 pub struct Given<'a> {
+    /// Its row in the table.
+    pub row: &'static Row,
     pub word: Option<&'a str>,
     /// The number that the word writes, of an option that is one; else 0.
     pub number: u64,

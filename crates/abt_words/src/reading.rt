@@ -1,9 +1,10 @@
 //! Reading the words: what the answers to a command's rows ask for.
 
-ghost use Rattle.std.specs.Prelude.{◌≡◌, List, IfOk, map, codes};
-ghost use Rattle.abt_words.specs.Asked.{Asks, AsksBoot, AsksPack, AsksPieces, AsksSparse, flag_named};
-ghost use Rattle.abt_words.specs.Spelled.{AreSpelled};
-ghost use Rattle.abt_words.specs.declared.answers.Answer.{Answer};
+ghost use Rattle.std.specs.Prelude.{◌≡◌, IfOk, IfSome, map};
+ghost use Rattle.std.specs.List.{AllZip};
+ghost use Rattle.abt_words.specs.Asked.{Asks, AsksBoot, AsksPack, AsksPieces, AsksSparse, IsGiven, IsOrderOf};
+ghost use Rattle.abt_words.specs.Table.{name_of, option_rows, work_of, work_of_boot, work_of_sparse};
+ghost use Rattle.abt_words.specs.declared.rows.Work.TheVariants as works;
 
 use crate::answers::Answers;
 use crate::completions::Shell;
@@ -20,8 +21,7 @@ use std::convert::AsStr;
 /// Reads the words, of which the first is the program's name. How clap reads them is not trusted: each answer is found
 /// again among the words.
 pub fn order_of<'a, S: AsStr>(alloc: Global, words: &'a [S]) -> Result<Order<'a>, WordsFault>
-    ensures { IfOk result (λ order. (all : List Answer) × AreSpelled (map S.text words.now) all × Asks all order.task ×
-        (order.is_synced ≡ flag_named (codes "sync") all)) }
+    ensures { IfOk result (IsOrderOf (map S.text words.now)) }
 {
     let mut found = program(alloc)?.try_get_matches_from(words)?;
     let is_verbose = found.get_flag("verbose");
@@ -29,7 +29,7 @@ pub fn order_of<'a, S: AsStr>(alloc: Global, words: &'a [S]) -> Result<Order<'a>
     if let Some((name, found)) = found.remove_subcommand() {
         if let Some(command) = command_named(name) {
             let answers = Answers::new(alloc, command, &found, is_verbose)?;
-            if !are_spelled(alloc, words, answers.all.as_slice())? {
+            if !are_spelled(alloc, words, command.name, answers.all.as_slice())? {
                 return Err(misread(alloc)?);
             }
             return Ok(Order {
@@ -55,7 +55,9 @@ fn misread(alloc: Global) -> Result<WordsFault, AllocError> {
     Ok(WordsFault::Usage(error))
 }
 
-fn command_named(name: &str) -> Option<&'static CommandRow> {
+fn command_named(name: &str) -> Option<&'static CommandRow>
+    ensures { IfSome result (λ command. command.now.name.now ≡ name_of command.now.work) }
+{
     for command in commands() {
         if command.name == name {
             return Some(command);
@@ -65,7 +67,8 @@ fn command_named(name: &str) -> Option<&'static CommandRow> {
 }
 
 fn task_for<'a>(alloc: Global, work: Work, answers: &Answers<'a>) -> Result<Task<'a>, AllocError>
-    ensures { IfOk result (Asks answers.now.all.items) }
+    ensures work { IfOk result (λ task. work_of task ≡ work) }
+    ensures asks { IfOk result (Asks answers.now.all.items) }
 {
     match work {
         Work::Expand => expand(alloc, answers),
@@ -85,7 +88,8 @@ fn task_for<'a>(alloc: Global, work: Work, answers: &Answers<'a>) -> Result<Task
 // ---- sparse images
 
 fn expand<'a>(alloc: Global, answers: &Answers<'a>) -> Result<Task<'a>, AllocError>
-    ensures { IfOk result (Asks answers.now.all.items) }
+    ensures work { IfOk result (λ task. work_of task ≡ works.Expand) }
+    ensures asks { IfOk result (Asks answers.now.all.items) }
 {
     let mut inputs = Vec::new(alloc);
     answers.push_words("IN", &mut inputs)?;
@@ -94,7 +98,8 @@ fn expand<'a>(alloc: Global, answers: &Answers<'a>) -> Result<Task<'a>, AllocErr
 }
 
 fn list<'a>(answers: &Answers<'a>) -> SparseTask<'a>
-    ensures { AsksSparse answers.now.all.items result }
+    ensures work { work_of_sparse result ≡ works.List }
+    ensures asks { AsksSparse answers.now.all.items result }
 {
     SparseTask::List {
         input: answers.given_word("IN"),
@@ -102,7 +107,8 @@ fn list<'a>(answers: &Answers<'a>) -> SparseTask<'a>
 }
 
 fn make_sparse<'a>(answers: &Answers<'a>) -> SparseTask<'a>
-    ensures { AsksSparse answers.now.all.items result }
+    ensures work { work_of_sparse result ≡ works.Sparse }
+    ensures asks { AsksSparse answers.now.all.items result }
 {
     SparseTask::Sparse {
         input: answers.given_word("IN"),
@@ -112,7 +118,8 @@ fn make_sparse<'a>(answers: &Answers<'a>) -> SparseTask<'a>
 }
 
 fn cut<'a>(answers: &Answers<'a>) -> SparseTask<'a>
-    ensures { AsksSparse answers.now.all.items result }
+    ensures work { work_of_sparse result ≡ works.Cut }
+    ensures asks { AsksSparse answers.now.all.items result }
 {
     SparseTask::Cut {
         input: answers.given_word("IN"),
@@ -123,7 +130,8 @@ fn cut<'a>(answers: &Answers<'a>) -> SparseTask<'a>
 }
 
 fn flash<'a>(answers: &Answers<'a>) -> SparseTask<'a>
-    ensures { AsksSparse answers.now.all.items result }
+    ensures work { work_of_sparse result ≡ works.Flash }
+    ensures asks { AsksSparse answers.now.all.items result }
 {
     SparseTask::Flash {
         input: answers.given_word("IN"),
@@ -145,7 +153,8 @@ fn pieces_for<'a>(answers: &Answers<'a>) -> Option<Pieces<'a>>
 }
 
 fn verify<'a>(answers: &Answers<'a>) -> SparseTask<'a>
-    ensures { AsksSparse answers.now.all.items result }
+    ensures work { work_of_sparse result ≡ works.Verify }
+    ensures asks { AsksSparse answers.now.all.items result }
 {
     SparseTask::Verify {
         input: answers.given_word("IN"),
@@ -157,14 +166,16 @@ fn verify<'a>(answers: &Answers<'a>) -> SparseTask<'a>
 // ---- boot images
 
 fn pack<'a>(alloc: Global, answers: &Answers<'a>) -> Result<Task<'a>, AllocError>
-    ensures { IfOk result (Asks answers.now.all.items) }
+    ensures work { IfOk result (λ task. work_of task ≡ works.Pack) }
+    ensures asks { IfOk result (Asks answers.now.all.items) }
 {
     let order = pack_order(alloc, answers)?;
     Ok(Task::Boot(BootTask::Pack(order)))
 }
 
 fn repack<'a>(alloc: Global, answers: &Answers<'a>) -> Result<Task<'a>, AllocError>
-    ensures { IfOk result (Asks answers.now.all.items) }
+    ensures work { IfOk result (λ task. work_of task ≡ works.Repack) }
+    ensures asks { IfOk result (Asks answers.now.all.items) }
 {
     let input = answers.given_word("IN");
     let order = pack_order(alloc, answers)?;
@@ -172,7 +183,8 @@ fn repack<'a>(alloc: Global, answers: &Answers<'a>) -> Result<Task<'a>, AllocErr
 }
 
 fn unpack<'a>(answers: &Answers<'a>) -> BootTask<'a>
-    ensures { AsksBoot answers.now.all.items result }
+    ensures work { work_of_boot result ≡ works.Unpack }
+    ensures asks { AsksBoot answers.now.all.items result }
 {
     BootTask::Unpack {
         input: answers.given_word("IN"),
@@ -182,7 +194,8 @@ fn unpack<'a>(answers: &Answers<'a>) -> BootTask<'a>
 }
 
 fn info<'a>(answers: &Answers<'a>) -> BootTask<'a>
-    ensures { AsksBoot answers.now.all.items result }
+    ensures work { work_of_boot result ≡ works.Info }
+    ensures asks { AsksBoot answers.now.all.items result }
 {
     BootTask::Info {
         input: answers.given_word("IN"),
@@ -204,7 +217,7 @@ fn pack_order<'a>(alloc: Global, answers: &Answers<'a>) -> Result<PackOrder<'a>,
         is_vendor: answers.flag("vendor"),
         version: answers.given_number("version"),
         page: answers.number("page"),
-        given: all_given(answers),
+        given: all_given(alloc, answers)?,
         board_ids,
         fragments,
         keeps_trailing: answers.flag("keep-trailing"),
@@ -212,15 +225,13 @@ fn pack_order<'a>(alloc: Global, answers: &Answers<'a>) -> Result<PackOrder<'a>,
     })
 }
 
-// What each option was given.
-fn all_given<'a>(answers: &Answers<'a>) -> [Given<'a>; 22] {
-    let mut all = [Given {
-        word: None,
-        number: 0,
-    }; 22];
-    let options = options();
-    for place in 0..22usize {
-        all[place] = answers.given(options[place].name);
+// What each option of the table was given.
+fn all_given<'a>(alloc: Global, answers: &Answers<'a>) -> Result<Vec<Given<'a>>, AllocError>
+    ensures { IfOk result (λ given. AllZip (IsGiven answers.now.all.items) option_rows given.items) }
+{
+    let mut given = Vec::new(alloc);
+    for row in options() {
+        given.push(answers.given(row))?;
     }
-    all
+    Ok(given)
 }

@@ -11,23 +11,30 @@ use abt_values::{Place, number_in};
 use std::alloc::{AllocError, Global};
 use std::convert::AsStr;
 
-/// Whether each of these answers stands among the words, and its number is the one that its word writes.
+/// Whether the name of the command and each of these answers stand among the words, and each number is the one that its
+/// word writes.
 pub(crate) fn are_spelled<S: AsStr>(
     alloc: Global,
     words: &[S],
+    command: &str,
     answers: &[Answer<'_>],
 ) -> Result<bool, AllocError>
-    ensures { IfOk result (λ are. IsTrue are → AreSpelled (map S.text words.now) answers.now) }
+    ensures { IfOk result (λ are. IsTrue are → AreSpelled (map S.text words.now) command.now answers.now) }
 {
-    let placed = placed_in(alloc, answers)?;
+    let placed = placed_in(alloc, command, answers)?;
     Ok(are_in_turn(words, placed.as_slice()) && stand(words, answers))
 }
 
-// The words that answer rows by their place.
-fn placed_in<'a>(alloc: Global, answers: &[Answer<'a>]) -> Result<Vec<&'a str>, AllocError>
-    ensures { IfOk result (λ placed. map (λ s. s.now) placed.items ≡ placed_words answers.now) }
+// The name of the command, and the words that answer rows by their place.
+fn placed_in<'a>(
+    alloc: Global,
+    command: &'a str,
+    answers: &[Answer<'a>],
+) -> Result<Vec<&'a str>, AllocError>
+    ensures { IfOk result (λ placed. map (λ s. s.now) placed.items ≡ command.entry.now ∷ placed_words answers.now) }
 {
     let mut placed = Vec::new(alloc);
+    placed.push(command)?;
     for answer in answers {
         if !is_placed(answer.row.place) {
             continue;

@@ -3,7 +3,9 @@
 //!
 //! A row stands on one line, but for its help: `tools/make_completions.py` reads this file too.
 
-ghost use Rattle.std.specs.Prelude.{◌≡◌, length};
+ghost use Rattle.std.specs.Prelude.{◌≡◌, map};
+ghost use Rattle.abt_words.specs.Table.{filling_rows_of, name_of, option_rows, own_rows_of, shape_of};
+ghost use Rattle.abt_words.specs.Table.{shared_rows_of};
 
 use crate::rows::{CommandRow, Work};
 use abt_values::{Place, Row, Value};
@@ -147,7 +149,7 @@ pub(crate) fn telling() -> &'static [Row] {
 
 /// The options that an image may be filled by.
 pub fn options() -> &'static [Row]
-    ensures { length result.now ≡ 22 }
+    ensures { map shape_of result.now ≡ option_rows }
 {
     &OPTIONS
 }
@@ -234,7 +236,9 @@ static COMPLETIONS: [Row; 1] = [
 
 impl CommandRow {
     /// The rows of the command alone, which help names first.
-    pub(crate) fn own_rows(&self) -> &'static [Row] {
+    pub(crate) fn own_rows(&self) -> &'static [Row]
+        ensures { map shape_of result.now ≡ own_rows_of self.now.work }
+    {
         match self.work {
             Work::Expand => &EXPAND,
             Work::List => &LIST,
@@ -251,7 +255,9 @@ impl CommandRow {
     }
 
     /// The options that an image is filled by, of a command that fills one.
-    pub(crate) fn filling_rows(&self) -> &'static [Row] {
+    pub(crate) fn filling_rows(&self) -> &'static [Row]
+        ensures { map shape_of result.now ≡ filling_rows_of self.now.work }
+    {
         match self.work {
             Work::Pack | Work::Repack => &OPTIONS,
             _ => &[],
@@ -259,7 +265,9 @@ impl CommandRow {
     }
 
     /// The other rows that it shares with others.
-    pub(crate) fn shared_rows(&self) -> &'static [Row] {
+    pub(crate) fn shared_rows(&self) -> &'static [Row]
+        ensures { map shape_of result.now ≡ shared_rows_of self.now.work }
+    {
         match self.work {
             Work::Pack | Work::Repack => &PACKING,
             Work::Expand | Work::Sparse | Work::Cut | Work::Unpack => &WRITING,
@@ -269,7 +277,9 @@ impl CommandRow {
 }
 
 /// Every command, in the order in which help names them.
-pub(crate) fn commands() -> &'static [CommandRow] {
+pub(crate) fn commands() -> &'static [CommandRow]
+    ensures { map (λ command. command.name.now) result.now ≡ map (λ command. name_of command.work) result.now }
+{
     &COMMANDS
 }
 
