@@ -3,5 +3,6 @@ pub mod Fields
 pub mod Fragment
 pub mod Kind
 pub mod Loading
+pub mod Options
 pub mod OsWord
 pub mod Unescaped

@@ -1,6 +1,24 @@
 -- Where the parts of a boot image are loaded.
 use Rattle.std.specs.Prelude.{ℕ, ◌+◌, ◌^◌, nat_lt, if◌then◌else◌, Bool, true, false, Option, Some, None, ◌&&◌, not, is_some}
+use Rattle.boot_fields.specs.declared.fields.Address.{Address}
+use Rattle.boot_fields.specs.declared.fields.Address.TheVariants.{Kernel, Ramdisk, Second, Tags, Dtb}
 use Rattle.boot_fields.specs.declared.loading.AddressWords.{AddressWords}
+
+-- mkbootimg's offset of an address from the base
+abbrev pub usual_offset : Address → ℕ
+usual_offset Kernel = 0x8000
+usual_offset Ramdisk = 0x1000000
+usual_offset Second = 0xf00000
+usual_offset Tags = 0x100
+usual_offset Dtb = 0x1f00000
+
+-- the greatest address that a header has room for
+abbrev pub most_address : Address → ℕ
+most_address Kernel = 0xffffffff
+most_address Ramdisk = 0xffffffff
+most_address Second = 0xffffffff
+most_address Tags = 0xffffffff
+most_address Dtb = 0xffffffffffffffff
 
 -- the base that is given, or mkbootimg's where any offset is given
 abbrev pub base_for : Option ℕ → Bool → Option ℕ

@@ -1,8 +1,9 @@
 //! The fields of an image's header, whichever kind and version it has.
 
-ghost use Rattle.std.specs.Prelude.{◌≡◌, ◌≤◌, Some, None, IfSome, MatchOption, length};
+ghost use Rattle.std.specs.Prelude.{◌≡◌, ◌≤◌, ◌<◌, ◌^◌, Some, None, IfSome, MatchOption, length};
 ghost use Rattle.abt_sections.specs.Header.{view_of};
 ghost use Rattle.boot_fields.specs.Fields as spec;
+ghost use Rattle.boot_fields.specs.Loading.{most_address};
 
 use abt_headers::{BootFront, BootHeader, OsVersion, VendorFront, VendorHeader};
 use abt_sections::ImageHeader;
@@ -58,7 +59,8 @@ impl TextField {
 
 /// An address, where the header has it.
 pub fn address_of(header: &ImageHeader, which: Address) -> Option<u64>
-    ensures { result ≡ spec.address_of (view_of header.now) which }
+    ensures value { result ≡ spec.address_of (view_of header.now) which }
+    ensures low { most_address which ≡ 0xffffffff → IfSome result (λ address. address < 2 ^ 32) }
 {
     match header {
         ImageHeader::Boot(BootHeader::V0(front)) => front_address(front, which),
@@ -75,7 +77,8 @@ pub fn address_of(header: &ImageHeader, which: Address) -> Option<u64>
 }
 
 fn front_address(front: &BootFront, which: Address) -> Option<u64>
-    ensures { result ≡ spec.front_address front.now which }
+    ensures value { result ≡ spec.front_address front.now which }
+    ensures low { most_address which ≡ 0xffffffff → IfSome result (λ address. address < 2 ^ 32) }
 {
     match which {
         Address::Kernel => Some(front.kernel_addr as u64),
@@ -87,7 +90,8 @@ fn front_address(front: &BootFront, which: Address) -> Option<u64>
 }
 
 fn vendor_address(front: &VendorFront, which: Address) -> Option<u64>
-    ensures { result ≡ spec.vendor_address front.now which }
+    ensures value { result ≡ spec.vendor_address front.now which }
+    ensures low { most_address which ≡ 0xffffffff → IfSome result (λ address. address < 2 ^ 32) }
 {
     match which {
         Address::Kernel => Some(front.kernel_addr as u64),

@@ -2,9 +2,66 @@
 
 ghost use Rattle.std.specs.Prelude.{◌≡◌, ◌<◌, ◌^◌, if◌then◌else◌, Some, None};
 ghost use Rattle.boot_fields.specs.Loading as spec;
+ghost use Rattle.boot_fields.specs.Options.{address_option, offset_option};
+
+use crate::fields::Address;
 
 /// The base of mkbootimg, which counts where an offset is given and no base.
 pub const BASE: u64 = 0x1000_0000;
+
+impl Address {
+    /// The option that gives it.
+    pub fn option(self) -> &'static str
+        ensures { result.now ≡ address_option self }
+    {
+        match self {
+            Address::Kernel => "kernel-addr",
+            Address::Ramdisk => "ramdisk-addr",
+            Address::Second => "second-addr",
+            Address::Tags => "tags-addr",
+            Address::Dtb => "dtb-addr",
+        }
+    }
+
+    /// The option that gives its offset from the base.
+    pub fn offset_option(self) -> &'static str
+        ensures { result.now ≡ offset_option self }
+    {
+        match self {
+            Address::Kernel => "kernel-offset",
+            Address::Ramdisk => "ramdisk-offset",
+            Address::Second => "second-offset",
+            Address::Tags => "tags-offset",
+            Address::Dtb => "dtb-offset",
+        }
+    }
+
+    /// Mkbootimg's offset from the base.
+    pub fn usual_offset(self) -> u64
+        ensures { result ≡ spec.usual_offset self }
+    {
+        match self {
+            Address::Kernel => 0x8000,
+            Address::Ramdisk => 0x0100_0000,
+            Address::Second => 0x00f0_0000,
+            Address::Tags => 0x100,
+            Address::Dtb => 0x01f0_0000,
+        }
+    }
+
+    /// The greatest one that a header has room for.
+    pub fn most(self) -> u64
+        ensures { result ≡ spec.most_address self }
+    {
+        match self {
+            Address::Kernel => u32::MAX as u64,
+            Address::Ramdisk => u32::MAX as u64,
+            Address::Second => u32::MAX as u64,
+            Address::Tags => u32::MAX as u64,
+            Address::Dtb => u64::MAX,
+        }
+    }
+}
 
 /// What the words say of an address.
 #[derive(Clone, Copy, Drop)]

@@ -1,4 +1,5 @@
 pub mod Counts
 pub mod Ends
+pub mod FirstPlaces
 pub mod Paddings
 pub mod TextEnds

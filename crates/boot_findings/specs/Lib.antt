@@ -1,2 +1,3 @@
 pub mod LeftOut
+pub mod Places
 pub mod Reasons

@@ -79,8 +79,10 @@ pub fn count_left_out<S: Source>(
     ensures content { IsTrue S.tells → S.content source.new ≡ S.content source.old }
     ensures counts { IsTrue S.tells → IsOpened (S.content source.old) image.now → IfOk result (λ left. left ≡
         spec.left_out_of anew ramdisk (S.content source.old) (view_of image.now.header)) }
+    ensures faults { S.read_faults source.old ≤ S.read_faults source.new }
     ensures cause { IfErr result (λ f. ReadCause f (S.read_faults source.old) (S.read_faults source.new)
         (IsTrue S.tells → ⊥)) }
+    ensures clean { OnOk result (S.read_faults source.new ≡ S.read_faults source.old) }
 {
     let padding = match padding_left(image, source, w, m) {
         Ok(count) => count,
@@ -168,6 +170,7 @@ fn padding_left<S: Source>(
     ensures faults { S.read_faults source.old ≤ S.read_faults source.new }
     ensures cause { IfErr result (λ f. ReadCause f (S.read_faults source.old) (S.read_faults source.new)
         (IsTrue S.tells → ⊥)) }
+    ensures clean { OnOk result (S.read_faults source.new ≡ S.read_faults source.old) }
 {
     let page = image.header.page_size();
     let mut count = match set_behind(source, image.header.size() as u64, page, w, m) {
@@ -201,6 +204,7 @@ fn set_behind<S: Source>(
     ensures faults { S.read_faults source.old ≤ S.read_faults source.new }
     ensures cause { IfErr result (λ f. ReadCause f (S.read_faults source.old) (S.read_faults source.new)
         (IsTrue S.tells → ⊥)) }
+    ensures clean { OnOk result (S.read_faults source.new ≡ S.read_faults source.old) }
 {
     set_between(source, at, pages(at, page) * page as u64, w, m)
 }
@@ -220,6 +224,7 @@ fn trailing_left<S: Source>(
     ensures faults { S.read_faults source.old ≤ S.read_faults source.new }
     ensures cause { IfErr result (λ f. ReadCause f (S.read_faults source.old) (S.read_faults source.new)
         (IsTrue S.tells → ⊥)) }
+    ensures clean { OnOk result (S.read_faults source.new ≡ S.read_faults source.old) }
 {
     if anew.trailing {
         return Ok(0);

@@ -1,3 +1,4 @@
 pub mod Boards
 pub mod Ranging
 pub mod Refusals
+pub mod Words

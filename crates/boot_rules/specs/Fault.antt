@@ -3,7 +3,6 @@ use Rattle.std.specs.Prelude.{ℕ, Bool, true, false, Option, Some, None}
 use Rattle.abt_refusals.specs.Host.{is_not_text}
 use Rattle.abt_sections.specs.Fault as section
 use Rattle.abt_headers.specs.declared.fault.HeaderFault.TheVariants as headers
-use Rattle.abt_sections.specs.declared.fault.SectionFault.{SectionFault}
 use Rattle.abt_sections.specs.declared.fault.SectionFault.TheVariants as sections
 use Rattle.boot_rules.specs.declared.fault.BootCommandFault.{BootCommandFault}
 use Rattle.boot_rules.specs.declared.fault.BootCommandFault.TheVariants as faults
@@ -32,24 +31,6 @@ number_of faults.CheckFailed = None
 abbrev pub of_version : ℕ → BootCommandFault
 of_version n = faults.Section (sections.Header (headers.Version n))
 
--- a fault of the header's fields
-abbrev pub IsOfHeader : SectionFault → Type 0
-IsOfHeader (sections.Header f) = Unit {0}
-IsOfHeader (sections.Read f) = ⊥
-IsOfHeader (sections.Write f) = ⊥
-IsOfHeader sections.SourceChanged = ⊥
-IsOfHeader (sections.Entry i) = ⊥
-IsOfHeader sections.Name = ⊥
-IsOfHeader sections.CommandLine = ⊥
-IsOfHeader (sections.SectionTruncated s) = ⊥
-IsOfHeader (sections.SectionTooLarge s) = ⊥
-
--- a fault of the words, or of what they say of the header's fields
-abbrev pub IsOfWords : BootCommandFault → Type 0
-IsOfWords (faults.Host fault) = ⊥
-IsOfWords (faults.Section fault) = IsOfHeader fault
-IsOfWords (faults.OptionNotCarried name) = Unit {0}
-IsOfWords (faults.BadFragment word) = Unit {0}
-IsOfWords (faults.BadNumber word) = Unit {0}
-IsOfWords (faults.BadBoardId word) = Unit {0}
-IsOfWords faults.CheckFailed = ⊥
+-- a word says no OS version
+abbrev pub of_os_word : BootCommandFault
+of_os_word = faults.Section (sections.Header headers.Os)

@@ -1,8 +1,10 @@
 pub mod Boards
+pub mod Carried
 pub mod Fault
+pub mod Given
 pub mod Parts
 pub mod Ranges
 pub mod RangesLaws
 pub mod Refused
-pub mod Texts
 pub mod Unpacked
+pub mod Wrong

@@ -1,15 +1,15 @@
 //! What an image that is packed again is given anew.
 
-ghost use Rattle.std.specs.Prelude.{◌≡◌, codes, false};
-ghost use Rattle.boot_rules.specs.Texts.{HasNone};
+ghost use Rattle.std.specs.Prelude.{◌≡◌, codes, is_some};
+ghost use Rattle.boot_rules.specs.Given.{found};
 
 use crate::pack_texts::PackTexts;
 use boot_findings::Anew;
 
 /// What is given anew, or kept as it is.
 pub fn anew_of(texts: &PackTexts<'_>, keeps_trailing: bool) -> Anew
-    ensures name { result.name ≡ false → HasNone texts.now.options.items (codes "name") }
-    ensures cmdline { result.cmdline ≡ false → HasNone texts.now.options.items (codes "cmdline") }
+    ensures name { result.name ≡ is_some (found texts.now.options.items (codes "name")) }
+    ensures cmdline { result.cmdline ≡ is_some (found texts.now.options.items (codes "cmdline")) }
     ensures trailing { result.trailing ≡ keeps_trailing }
 {
     Anew {

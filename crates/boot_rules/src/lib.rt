@@ -10,6 +10,7 @@
 //! | `pack_command.rt`, `pack_texts.rt` | what `pack` and `repack` are told |
 //! | `pack_fields.rt`, `loads.rt` | the fields that an image is packed from, and where its parts are loaded |
 //! | `board_ids.rt` | the board ids that words set |
+//! | `part_rows.rt` | the parts that an image is packed from, each with its option and its section |
 //! | `part_source.rt`, `measure.rt` | what a part is read from, and one of which only the size counts |
 //! | `contents.rt` | packing the parts of an image of either kind, and what packing refuses of them |
 //! | `anew.rt` | what an image that is packed again is given anew |
@@ -26,6 +27,7 @@ mod pack_command;
 mod pack_fields;
 mod pack_texts;
 mod part_names;
+mod part_rows;
 mod part_source;
 
 pub use anew::anew_of;
@@ -37,4 +39,5 @@ pub use pack_command::{PackCommand, judge_words};
 pub use pack_fields::with_given;
 pub use pack_texts::{FragmentText, OptionText, PackTexts};
 pub use part_names::{Part, part_count, part_of};
+pub use part_rows::{PartRow, rows_of};
 pub use part_source::PartSource;

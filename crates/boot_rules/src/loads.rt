@@ -1,109 +1,131 @@
 //! Where the parts of an image are loaded, as the words of `pack` and `repack` say it.
 
+ghost use Rattle.std.specs.Prelude.{◌≡◌, ◌≤◌, None, Some, IfOk, IfErr};
+ghost use Rattle.abt_sections.specs.Fields.{boot_fields};
+ghost use Rattle.boot_fields.specs.Loading as loading;
+ghost use Rattle.boot_fields.specs.declared.fields.Address.TheVariants as addresses;
+ghost use Rattle.boot_rules.specs.Given.{address_for, has_offset, words_for};
+ghost use Rattle.boot_rules.specs.Wrong.{IsBadAddress, told_word};
+
 use crate::pack_texts::PackTexts;
-use boot_fields::{AddressWords, base_of, is_sum, load_address};
+use abt_sections::BootSpec;
+use boot_fields::{Address, AddressWords, base_of, is_sum, load_address};
 
-/// The addresses of the kernel, the ramdisk, the second stage, the kernel's tags and the device tree blob.
-pub(crate) type Addresses = [u64; 5];
-
-// The options of an address, mkbootimg's offset from the base, and the greatest address that has room.
+/// The addresses of the parts of an image.
 #[derive(Clone, Copy)]
-struct Load {
-    address: &'static str,
-    offset: &'static str,
-    usual_offset: u64,
-    most: u64,
+pub(crate) struct Addresses {
+    pub kernel: u32,
+    pub ramdisk: u32,
+    pub second: u32,
+    pub tags: u32,
+    pub dtb: u64,
 }
-
-const KERNEL: Load = Load {
-    address: "kernel-addr",
-    offset: "kernel-offset",
-    usual_offset: 0x8000,
-    most: u32::MAX as u64,
-};
-
-const RAMDISK: Load = Load {
-    address: "ramdisk-addr",
-    offset: "ramdisk-offset",
-    usual_offset: 0x0100_0000,
-    most: u32::MAX as u64,
-};
-
-const SECOND: Load = Load {
-    address: "second-addr",
-    offset: "second-offset",
-    usual_offset: 0x00f0_0000,
-    most: u32::MAX as u64,
-};
-
-const TAGS: Load = Load {
-    address: "tags-addr",
-    offset: "tags-offset",
-    usual_offset: 0x100,
-    most: u32::MAX as u64,
-};
-
-const DTB: Load = Load {
-    address: "dtb-addr",
-    offset: "dtb-offset",
-    usual_offset: 0x01f0_0000,
-    most: u64::MAX,
-};
-
-const LOADS: [Load; 5] = [KERNEL, RAMDISK, SECOND, TAGS, DTB];
 
 /// The addresses that the words say; where nothing is said of one, its own. Refuses the word of the first that has no
 /// room.
 pub(crate) fn addresses_of<'a>(
     texts: &PackTexts<'a>,
-    own: Addresses,
-) -> Result<Addresses, &'a str> {
-    let mut addresses = own;
-    for i in 0..5 {
-        let load = LOADS[i];
-        match load_address(words_of(texts, load), load.usual_offset, own[i]) {
-            Some(address) if address <= load.most => addresses[i] = address,
-            _ => return Err(told_word(texts, load)),
-        }
+    own: &BootSpec<'_>,
+) -> Result<Addresses, &'a str>
+    ensures kernel { IfOk result (λ given. address_for texts.now.options.items addresses.Kernel own.now.kernel_addr
+        ≡ Some given.kernel) }
+    ensures ramdisk { IfOk result (λ given. address_for texts.now.options.items addresses.Ramdisk own.now.ramdisk_addr
+        ≡ Some given.ramdisk) }
+    ensures second { IfOk result (λ given. address_for texts.now.options.items addresses.Second own.now.second_addr
+        ≡ Some given.second) }
+    ensures tags { IfOk result (λ given. address_for texts.now.options.items addresses.Tags own.now.tags_addr
+        ≡ Some given.tags) }
+    ensures dtb { IfOk result (λ given. address_for texts.now.options.items addresses.Dtb own.now.dtb_addr
+        ≡ Some given.dtb) }
+    ensures wrong { IfErr result (λ word. IsBadAddress (boot_fields own.now) texts.now.options.items word.now) }
+{
+    let kernel = short_address(texts, Address::Kernel, own.kernel_addr)?;
+    let ramdisk = short_address(texts, Address::Ramdisk, own.ramdisk_addr)?;
+    let second = short_address(texts, Address::Second, own.second_addr)?;
+    let tags = short_address(texts, Address::Tags, own.tags_addr)?;
+    let dtb = match long_address(texts, Address::Dtb, own.dtb_addr) {
+        Ok(dtb) => dtb,
+        Err(word) => return Err(word),
+    };
+    Ok(Addresses {
+        kernel,
+        ramdisk,
+        second,
+        tags,
+        dtb,
+    })
+}
+
+// An address that a header has 32 bits for.
+fn short_address<'a>(texts: &PackTexts<'a>, which: Address, own: u32) -> Result<u32, &'a str>
+    requires short { loading.most_address which ≡ 4294967295 }
+    ensures given { IfOk result (λ address. address_for texts.now.options.items which own ≡ Some address) }
+    ensures no_room { IfErr result (λ word. address_for texts.now.options.items which own ≡ None) }
+    ensures told { IfErr result (λ word. word.now ≡ told_word texts.now.options.items which) }
+{
+    match long_address(texts, which, own as u64) {
+        Ok(address) => Ok(address as u32),
+        Err(word) => Err(word),
     }
-    Ok(addresses)
+}
+
+// The address that the words say, or else its own. Refuses the word of one that a header has no room for.
+fn long_address<'a>(texts: &PackTexts<'a>, which: Address, own: u64) -> Result<u64, &'a str>
+    ensures given { IfOk result (λ address. address_for texts.now.options.items which own ≡ Some address) }
+    ensures room { IfOk result (λ address. address ≤ loading.most_address which) }
+    ensures no_room { IfErr result (λ word. address_for texts.now.options.items which own ≡ None) }
+    ensures told { IfErr result (λ word. word.now ≡ told_word texts.now.options.items which) }
+{
+    match load_address(words_of(texts, which), which.usual_offset(), own) {
+        Some(address) if address <= which.most() => Ok(address),
+        _ => Err(told_word(texts, which)),
+    }
 }
 
 /// Whether the words give the ramdisk an address that is counted from a base.
-pub fn counts_ramdisk(texts: &PackTexts<'_>) -> bool {
-    is_sum(words_of(texts, RAMDISK))
+pub fn counts_ramdisk(texts: &PackTexts<'_>) -> bool
+    ensures { result ≡ loading.is_sum (words_for texts.now.options.items addresses.Ramdisk) }
+{
+    is_sum(words_of(texts, Address::Ramdisk))
 }
 
 /// The same of the second stage.
-pub fn counts_second(texts: &PackTexts<'_>) -> bool {
-    is_sum(words_of(texts, SECOND))
+pub fn counts_second(texts: &PackTexts<'_>) -> bool
+    ensures { result ≡ loading.is_sum (words_for texts.now.options.items addresses.Second) }
+{
+    is_sum(words_of(texts, Address::Second))
 }
 
 // What the words say of an address.
-fn words_of(texts: &PackTexts<'_>, load: Load) -> AddressWords {
+fn words_of(texts: &PackTexts<'_>, which: Address) -> AddressWords
+    ensures { result ≡ words_for texts.now.options.items which }
+{
     AddressWords {
-        address: texts.number(load.address),
+        address: texts.number(which.option()),
         base: base_of(texts.number("base"), has_offset(texts)),
-        offset: texts.number(load.offset),
+        offset: texts.number(which.offset_option()),
     }
 }
 
 // Whether any offset is given, so that a base counts.
-fn has_offset(texts: &PackTexts<'_>) -> bool {
-    for load in &LOADS {
-        if texts.find(load.offset).is_some() {
-            return true;
-        }
-    }
-    false
+fn has_offset(texts: &PackTexts<'_>) -> bool
+    ensures { result ≡ has_offset texts.now.options.items }
+{
+    texts.has("kernel-offset")
+        || texts.has("ramdisk-offset")
+        || texts.has("second-offset")
+        || texts.has("tags-offset")
+        || texts.has("dtb-offset")
 }
 
 // The word that has no room: the address, the offset or the base.
-fn told_word<'a>(texts: &PackTexts<'a>, load: Load) -> &'a str {
-    if let Some(text) = texts.find(load.address) {
+fn told_word<'a>(texts: &PackTexts<'a>, which: Address) -> &'a str
+    ensures { result.now ≡ told_word texts.now.options.items which }
+{
+    if let Some(text) = texts.find(which.option()) {
         return text.word;
     }
-    if let Some(text) = texts.find(load.offset) {
+    if let Some(text) = texts.find(which.offset_option()) {
         return text.word;
     }
     match texts.find("base") {

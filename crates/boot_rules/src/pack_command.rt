@@ -1,11 +1,13 @@
 //! What `pack` and `repack` are told, with their words read, and how those of `pack` are judged.
 
-ghost use Rattle.std.specs.Prelude.{◌≡◌, [], Err, IsOk, IsSome, IsTrue, IfOk, IfErr, OnOk, codes, false};
+ghost use Rattle.std.specs.Prelude.{◌≡◌, Err, IsOk, IsTrue, IfOk, IfErr, OnOk, false};
 ghost use Rattle.std.specs.List.{All};
-ghost use Rattle.std.specs.Option.{unwrap_or};
-ghost use Rattle.boot_rules.specs.Fault.{IsOfWords, of_version};
-ghost use Rattle.boot_rules.specs.Texts.{IsChosen};
-ghost use Rattle.boot_fields.specs.Kind.{is_version, kind_for, version_of};
+ghost use Rattle.abt_sections.specs.Fields.{boot_fields};
+ghost use Rattle.boot_rules.specs.Carried.{IsCarried, IsTaken};
+ghost use Rattle.boot_rules.specs.Fault.{of_version};
+ghost use Rattle.boot_rules.specs.Given.{AreGiven, no_fields};
+ghost use Rattle.boot_rules.specs.Wrong.{IsWrong};
+ghost use Rattle.boot_fields.specs.Kind.{is_version, kind_for};
 
 use crate::fault::BootCommandFault;
 use crate::pack_fields::{no_fields, with_given};
@@ -34,22 +36,27 @@ pub fn judge_words<'t, 'a>(
 ) -> Result<(ImageKind, BootSpec<'t>), BootCommandFault<'a>>
     ensures version { is_version command.now.is_vendor command.now.version ≡ false →
         result ≡ Err (of_version command.now.version) }
-    ensures fields { IfOk result (λ judged. judged.1.version ≡ version_of judged.0) }
     ensures kind { IfOk result (λ judged. judged.0 ≡ kind_for command.now.is_vendor command.now.version) }
-    ensures there { IsOk result → IsTrue (is_version command.now.is_vendor command.now.version) }
-    ensures page { IfOk result (λ judged. judged.1.page ≡ unwrap_or command.now.page 4096) }
-    ensures name { IfOk result (λ judged.
-        IsChosen command.now.texts.options.items (codes "name") [] judged.1.name.now) }
-    ensures cmdline { IfOk result (λ judged.
-        IsChosen command.now.texts.options.items (codes "cmdline") [] judged.1.cmdline.now) }
-    ensures fragments { OnOk result (All (λ fragment. IsSome fragment.spec) command.now.texts.fragments.items) }
-    ensures words { IfErr result IsOfWords }
+    ensures known { IsOk result → IsTrue (is_version command.now.is_vendor command.now.version) }
+    ensures carried { OnOk result (All (IsCarried (kind_for command.now.is_vendor command.now.version))
+        command.now.texts.options.items) }
+    ensures taken { OnOk result (All (IsTaken (kind_for command.now.is_vendor command.now.version))
+        command.now.texts.fragments.items) }
+    ensures given { IfOk result (λ judged. AreGiven no_fields judged.0 command.now.page
+        command.now.texts.options.items (boot_fields judged.1)) }
+    ensures wrong { IfErr result (IsWrong no_fields (kind_for command.now.is_vendor command.now.version)
+        command.now.texts.options.items command.now.texts.fragments.items) }
 {
     let kind = match ImageKind::new(command.is_vendor, command.version) {
         Ok(kind) => kind,
         Err(fault) => return Err(BootCommandFault::of_header(fault)),
     };
-    command.texts.check(kind)?;
-    let fields = with_given(no_fields(), kind, command.page, &command.texts)?;
-    Ok((kind, fields))
+    match command.texts.check(kind) {
+        Ok(()) => {}
+        Err(fault) => return Err(fault),
+    }
+    match with_given(no_fields(), kind, command.page, &command.texts) {
+        Ok(fields) => Ok((kind, fields)),
+        Err(fault) => Err(fault),
+    }
 }

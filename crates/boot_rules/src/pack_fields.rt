@@ -1,25 +1,23 @@
 //! The fields of an image that is packed: as they were given, and else those of another image, or empty.
 
-ghost use Rattle.std.specs.Prelude.{◌≡◌, [], IfOk, IfErr, codes};
-ghost use Rattle.std.specs.Option.{unwrap_or};
+ghost use Rattle.std.specs.Prelude.{◌≡◌, ◌≤◌, ◌^◌, ℕ, IfOk, IfErr, OnErr};
+ghost use Rattle.abt_sections.specs.Fields.{boot_fields};
 ghost use Rattle.abt_sections.specs.Fields as vendor;
-ghost use Rattle.boot_rules.specs.Fault.{IsOfWords};
+ghost use Rattle.boot_rules.specs.Fault.{of_os_word};
+ghost use Rattle.boot_rules.specs.Given.{AreGiven, IsOsGiven, SaysOs, no_fields};
 ghost use Rattle.boot_rules.specs.Refused.{vendor_fields_of};
-ghost use Rattle.boot_rules.specs.Texts.{IsChosen};
-ghost use Rattle.boot_fields.specs.Kind.{version_of};
+ghost use Rattle.boot_rules.specs.Wrong.{IsWrong, IsWrongOs};
 
 use crate::fault::BootCommandFault;
-use crate::loads::{Addresses, addresses_of};
-use crate::pack_texts::PackTexts;
-use abt_headers::{HeaderFault, OsVersion};
+use crate::loads::addresses_of;
+use crate::pack_texts::{OptionText, PackTexts};
+use abt_headers::OsVersion;
 use abt_sections::{BootSpec, VendorSpec};
 use boot_fields::{ImageKind, os_from_word};
 
 /// The fields of `pack` where nothing is given.
 pub fn no_fields() -> BootSpec<'static>
-    ensures page { result.page ≡ 4096 }
-    ensures name { result.name.now ≡ [] }
-    ensures cmdline { result.cmdline.now ≡ [] }
+    ensures { boot_fields result ≡ no_fields }
 {
     BootSpec {
         version: 0,
@@ -42,66 +40,68 @@ pub fn with_given<'a, 't>(
     page: Option<u32>,
     texts: &'t PackTexts<'a>,
 ) -> Result<BootSpec<'t>, BootCommandFault<'a>>
-    ensures version { IfOk result (λ fields. fields.version ≡ version_of kind) }
-    ensures page { IfOk result (λ fields. fields.page ≡ unwrap_or page own.entry.page) }
-    ensures name { IfOk result (λ fields.
-        IsChosen texts.now.options.items (codes "name") own.entry.name.now fields.name.now) }
-    ensures cmdline { IfOk result (λ fields.
-        IsChosen texts.now.options.items (codes "cmdline") own.entry.cmdline.now fields.cmdline.now) }
-    ensures words { IfErr result IsOfWords }
+    ensures given { IfOk result (λ fields.
+        AreGiven (boot_fields own.entry) kind page texts.now.options.items (boot_fields fields)) }
+    ensures wrong { IfErr result (IsWrong (boot_fields own.entry) kind texts.now.options.items
+        texts.now.fragments.items) }
 {
-    let (addresses, os) = given_numbers(&own, texts)?;
+    let addresses = match addresses_of(texts, &own) {
+        Ok(addresses) => addresses,
+        Err(word) => return Err(BootCommandFault::BadNumber(word)),
+    };
+    let os = match os_of(texts, own.os) {
+        Ok(os) => os,
+        Err(fault) => return Err(fault),
+    };
     Ok(BootSpec {
         version: kind.version(),
         page: page.unwrap_or(own.page),
-        kernel_addr: narrow(addresses[0]),
-        ramdisk_addr: narrow(addresses[1]),
-        second_addr: narrow(addresses[2]),
-        tags_addr: narrow(addresses[3]),
-        dtb_addr: addresses[4],
+        kernel_addr: addresses.kernel,
+        ramdisk_addr: addresses.ramdisk,
+        second_addr: addresses.second,
+        tags_addr: addresses.tags,
+        dtb_addr: addresses.dtb,
         os,
         name: texts.bytes_or("name", own.name),
         cmdline: texts.bytes_or("cmdline", own.cmdline),
     })
 }
 
-// The addresses, and the OS version and patch level: those that were given, and else those of these fields.
-fn given_numbers<'a>(
-    own: &BootSpec<'_>,
-    texts: &PackTexts<'a>,
-) -> Result<(Addresses, OsVersion), BootCommandFault<'a>>
-    ensures { IfErr result IsOfWords }
-{
-    let own_addresses = [
-        own.kernel_addr as u64,
-        own.ramdisk_addr as u64,
-        own.second_addr as u64,
-        own.tags_addr as u64,
-        own.dtb_addr,
-    ];
-    let addresses = match addresses_of(texts, own_addresses) {
-        Ok(addresses) => addresses,
-        Err(word) => return Err(BootCommandFault::BadNumber(word)),
-    };
-    match os_of(texts, own.os) {
-        Ok(os) => Ok((addresses, os)),
-        Err(fault) => Err(BootCommandFault::of_header(fault)),
-    }
-}
-
-// (each has room, as `addresses_of` says)
-fn narrow(address: u64) -> u32 {
-    u32::try_from(address).unwrap_or(0)
-}
-
 // The OS version and patch level that were given, or else its own.
-fn os_of(texts: &PackTexts<'_>, own: OsVersion) -> Result<OsVersion, HeaderFault> {
-    if let Some(number) = texts.number("os-number") {
-        return Ok(OsVersion::from_raw(narrow(number)));
+fn os_of<'a>(texts: &PackTexts<'a>, own: OsVersion) -> Result<OsVersion, BootCommandFault<'a>>
+    ensures given { IfOk result (λ os. IsOsGiven texts.now.options.items own.number os.number) }
+    ensures wrong { IfErr result (IsWrongOs texts.now.options.items) }
+{
+    if let Some(option) = texts.find("os-number") {
+        return of_number(option);
     }
     match texts.find("os") {
-        Some(option) => os_from_word(option.word),
+        Some(option) => of_word(option.word),
         None => Ok(own),
+    }
+}
+
+// The one that a number says, which has room in 32 bits.
+fn of_number<'a>(option: &OptionText<'a>) -> Result<OsVersion, BootCommandFault<'a>>
+    ensures number { IfOk result (λ os. os.number ≡ option.now.number) }
+    ensures wrong { OnErr result (2 ^ 32 ≤ option.now.number) }
+    ensures told { IfErr result (λ fault. fault ≡ BootCommandFault.BadNumber option.now.word) }
+{
+    match u32::try_from(option.number) {
+        Ok(number) => Ok(OsVersion::from_raw(number)),
+        Err(_) => Err(BootCommandFault::BadNumber(option.word)),
+    }
+}
+
+// The one that a word says.
+fn of_word(word: &str) -> Result<OsVersion, BootCommandFault<'static>>
+    ensures says { IfOk result (λ os. SaysOs word.now os.number) }
+    ensures none { OnErr result ((os : ℕ) → SaysOs word.now os → ⊥) }
+    ensures told { IfErr result (λ fault. fault ≡ of_os_word) }
+{
+    match os_from_word(word) {
+        Ok(os) => Ok(os),
+        Err(fault) => Err(BootCommandFault::of_header(fault)),
     }
 }
 

@@ -1,9 +1,10 @@
 //! What `pack` and `repack` are told, with the bytes that each word stands for.
 
-ghost use Rattle.std.specs.Prelude.{◌≡◌, ◌≢◌, [], None, IfErr, IfSome, IsSome, IsTrue, OnOk, false};
+ghost use Rattle.std.specs.Prelude.{◌≡◌, ◌↔◌, None, Some, MatchOption, IfErr, IsTrue, OnOk, is_some};
 ghost use Rattle.std.specs.List.{All};
-ghost use Rattle.boot_rules.specs.Fault.{IsOfWords};
-ghost use Rattle.boot_rules.specs.Texts.{HasNone, IsChosen, IsNamed};
+ghost use Rattle.boot_rules.specs.Carried.{IsCarried, IsTaken};
+ghost use Rattle.boot_rules.specs.Given.{bytes_or, found, number_in};
+ghost use Rattle.boot_rules.specs.Wrong.{IsBadFragment, IsNotCarried, IsUntaken};
 
 use crate::fault::BootCommandFault;
 use abt_sections::FragmentSpec;
@@ -24,6 +25,18 @@ pub struct OptionText<'a> {
     pub bytes: Vec<u8>,
 }
 
+impl OptionText<'_> {
+    // Whether an image of this kind carries it.
+    fn is_carried_by(&self, kind: ImageKind) -> bool
+        ensures { IsTrue result ↔ IsCarried kind self.now }
+    {
+        match kind {
+            ImageKind::Boot(version) => self.row.is_carried_by(false, version),
+            ImageKind::Vendor(version) => self.row.is_carried_by(true, version),
+        }
+    }
+}
+
 /// A ramdisk fragment that was given.
 #[derive(Drop)]
 pub struct FragmentText<'a> {
@@ -37,9 +50,8 @@ pub struct FragmentText<'a> {
 
 impl FragmentText<'_> {
     // Whether its word is one, and an image of this kind has fragments.
-    fn is_packed_by(&self, kind: ImageKind) -> bool
-        ensures kind { IsTrue result → kind ≡ ImageKind.Vendor 4 }
-        ensures shape { IsTrue result → IsSome self.now.spec }
+    fn is_taken_by(&self, kind: ImageKind) -> bool
+        ensures { IsTrue result ↔ IsTaken kind self.now }
     {
         kind == ImageKind::Vendor(4) && self.spec.is_some()
     }
@@ -55,8 +67,8 @@ pub struct PackTexts<'a> {
 impl<'a> PackTexts<'a> {
     /// The option of this name, where it was given.
     pub fn find(&self, name: &str) -> Option<&OptionText<'a>>
-        ensures found { IfSome result (λ option. IsNamed self.now.options.items name.now option.now) }
-        ensures none { result ≡ None → HasNone self.now.options.items name.now }
+        ensures { MatchOption result (found self.now.options.items name.now ≡ None)
+            (λ option. found self.now.options.items name.now ≡ Some option.now) }
     {
         for option in &self.options {
             if option.name == name {
@@ -68,8 +80,7 @@ impl<'a> PackTexts<'a> {
 
     /// Whether this option was given.
     pub fn has(&self, name: &str) -> bool
-        ensures given { IsTrue result → (option : OptionText) × IsNamed self.now.options.items name.now option }
-        ensures none { result ≡ false → HasNone self.now.options.items name.now }
+        ensures { result ≡ is_some (found self.now.options.items name.now) }
     {
         match self.find(name) {
             Some(_) => true,
@@ -78,13 +89,15 @@ impl<'a> PackTexts<'a> {
     }
 
     /// The number that this option was given.
-    pub fn number(&self, name: &str) -> Option<u64> {
+    pub fn number(&self, name: &str) -> Option<u64>
+        ensures { result ≡ number_in self.now.options.items name.now }
+    {
         Some(self.find(name)?.number)
     }
 
     /// The bytes that this option was given, or else these.
     pub fn bytes_or<'t>(&'t self, name: &str, own: &'t [u8]) -> &'t [u8]
-        ensures { IsChosen self.now.options.items name.now own.now result.now }
+        ensures { result.now ≡ bytes_or self.now.options.items name.now own.now }
     {
         match self.find(name) {
             Some(option) => option.bytes.as_slice(),
@@ -95,28 +108,42 @@ impl<'a> PackTexts<'a> {
     /// Refuses the first option of the table that an image of this kind doesn't carry, and then the first FRAGMENT
     /// that is none, or any where the image has no fragments.
     pub fn check(&self, kind: ImageKind) -> Result<(), BootCommandFault<'a>>
-        ensures fragments { OnOk result (All (λ fragment. IsSome fragment.spec) self.now.fragments.items) }
-        ensures words { IfErr result IsOfWords }
-        ensures only { OnOk result (kind ≢ ImageKind.Vendor 4 → self.now.fragments.items ≡ []) }
+        ensures carried { OnOk result (All (IsCarried kind) self.now.options.items) }
+        ensures taken { OnOk result (All (IsTaken kind) self.now.fragments.items) }
+        ensures wrong { IfErr result (IsUntaken kind self.now.options.items self.now.fragments.items) }
+    {
+        if let Some(name) = self.not_carried(kind) {
+            return Err(BootCommandFault::OptionNotCarried(name));
+        }
+        match self.not_taken(kind) {
+            Some(word) => Err(BootCommandFault::BadFragment(word)),
+            None => Ok(()),
+        }
+    }
+
+    // The name of the first option that an image of this kind doesn't carry.
+    fn not_carried(&self, kind: ImageKind) -> Option<&'static str>
+        ensures { MatchOption result (All (IsCarried kind) self.now.options.items)
+            (λ name. IsNotCarried kind self.now.options.items name.now) }
     {
         for option in &self.options {
-            if !is_carried(option.row, kind) {
-                return Err(BootCommandFault::OptionNotCarried(option.name));
+            if !option.is_carried_by(kind) {
+                return Some(option.name);
             }
         }
-        for fragment in &self.fragments {
-            if !fragment.is_packed_by(kind) {
-                return Err(BootCommandFault::BadFragment(fragment.word));
-            }
-        }
-        Ok(())
+        None
     }
-}
 
-// Whether an image of this kind carries the option.
-fn is_carried(row: &Row, kind: ImageKind) -> bool {
-    match kind {
-        ImageKind::Boot(version) => row.is_carried_by(false, version),
-        ImageKind::Vendor(version) => row.is_carried_by(true, version),
+    // The word of the first fragment that an image of this kind doesn't take.
+    fn not_taken(&self, kind: ImageKind) -> Option<&'a str>
+        ensures { MatchOption result (All (IsTaken kind) self.now.fragments.items)
+            (λ word. IsBadFragment kind self.now.fragments.items word.now) }
+    {
+        for fragment in &self.fragments {
+            if !fragment.is_taken_by(kind) {
+                return Some(fragment.word);
+            }
+        }
+        None
     }
 }

@@ -15,6 +15,7 @@ use Rattle.abt_headers.specs.Vendor.{vendor_page, vendor_version}
 use Rattle.abt_sections.specs.Check.{all_zero}
 use Rattle.abt_sections.specs.Header.{Header, OfBoot, OfVendor, places_of, fragment_count, entry_of}
 use Rattle.boot_fields.specs.Fields as fields
+use Rattle.boot_fields.specs.Options.{address_option, option_of}
 use Rattle.boot_texts.specs.Info as info
 use Rattle.boot_fields.specs.declared.fields.Address.{Address}
 use Rattle.boot_fields.specs.declared.fields.Address.TheVariants as addresses
@@ -87,16 +88,16 @@ kind_words (OfVendor v) = flag_word (codes "escaped") ∷ flag_word (codes "vend
 -- the option that a section is given by: a vendor ramdisk with a table is given by its fragments, and the table with
 -- them
 abbrev pub section_option : Bool → Section → Option (List ℕ)
-section_option table Kernel = Some (codes "kernel")
-section_option table Ramdisk = Some (codes "ramdisk")
-section_option table Second = Some (codes "second")
-section_option table RecoveryDtbo = Some (codes "recovery-dtbo")
-section_option table Dtb = Some (codes "dtb")
-section_option table Signature = Some (codes "signature")
+section_option table Kernel = Some (option_of Kernel)
+section_option table Ramdisk = Some (option_of Ramdisk)
+section_option table Second = Some (option_of Second)
+section_option table RecoveryDtbo = Some (option_of RecoveryDtbo)
+section_option table Dtb = Some (option_of Dtb)
+section_option table Signature = Some (option_of Signature)
 section_option true VendorRamdisk = None
-section_option false VendorRamdisk = Some (codes "ramdisk")
+section_option false VendorRamdisk = Some (option_of VendorRamdisk)
 section_option table Table = None
-section_option table Bootconfig = Some (codes "bootconfig")
+section_option table Bootconfig = Some (option_of Bootconfig)
 
 abbrev pub section_words : List ℕ → Bool → Place → List (List ℕ)
 section_words folder table p =
@@ -105,13 +106,6 @@ section_words folder table p =
 abbrev pub has_table : Header → Bool
 has_table (OfBoot h) = false
 has_table (OfVendor v) = is_some v.tail
-
-abbrev pub address_option : Address → List ℕ
-address_option addresses.Kernel = codes "kernel-addr"
-address_option addresses.Ramdisk = codes "ramdisk-addr"
-address_option addresses.Second = codes "second-addr"
-address_option addresses.Tags = codes "tags-addr"
-address_option addresses.Dtb = codes "dtb-addr"
 
 abbrev pub address_word : Header → Address → List (List ℕ)
 address_word h a = words_if (number_word (address_option a)) (fields.address_of h a)

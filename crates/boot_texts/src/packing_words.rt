@@ -173,20 +173,8 @@ fn address_word<O: Output>(header: &ImageHeader, which: Address, text: &mut Text
         O.written O.write_faults text.old text.new (words.words_text (words.address_word (view_of header.now) which)) }
 {
     match address_of(header, which) {
-        Some(address) => put_number_word(address_option(which), address, text),
+        Some(address) => put_number_word(which.option(), address, text),
         None => {}
-    }
-}
-
-fn address_option(which: Address) -> &'static str
-    ensures { result.now ≡ words.address_option which }
-{
-    match which {
-        Address::Kernel => "kernel-addr",
-        Address::Ramdisk => "ramdisk-addr",
-        Address::Second => "second-addr",
-        Address::Tags => "tags-addr",
-        Address::Dtb => "dtb-addr",
     }
 }
 

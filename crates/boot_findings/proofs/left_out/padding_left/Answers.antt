@@ -13,6 +13,7 @@ loop-i-preserved g c =
     record {
       content = λ tells. seen.content tells ∙ before.content tells;
       faults = omega (arith, before.faults, seen.faults);
+      clean = seen.clean ∙ before.clean;
       few = omega (arith, before.few, seen.few, c.page_size-page.ensures.high);
       value = λ tells.
           padding_on (g.S.Source.content c.args.source.now) (page_of h) c.loop-i.i (places_of h) place.result c.loop-i.count c.in-Ok-set_behind.more _

@@ -11,6 +11,7 @@ invariant-loop-i g l =
     record {
       content : IsTrue s.tells → s.content l.source ≡ s.content l.fn.source;
       faults : s.read_faults l.fn.source ≤ s.read_faults l.source;
+      clean : s.read_faults l.source ≡ s.read_faults l.fn.source;
       few : l.count ≤ 131072 * (l.i + 1);
       value : IsTrue s.tells → l.count + behind_places (s.content l.fn.source) (page_of h) (drop l.i (places_of h)) ≡ padding_left (s.content l.fn.source) h;
     }

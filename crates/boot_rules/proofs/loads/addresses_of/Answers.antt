@@ -1,0 +1,9 @@
+use Rattle.boot_fields.specs.declared.fields.Address.TheVariants.{Dtb}
+use Rattle.boot_rules.proofs.loads.addresses_of.Goals as goal
+
+pub returns-in-Err-clause-wrong : goal.returns-in-Err-clause-wrong
+returns-in-Err-clause-wrong c = record {
+  which = Dtb;
+  no_room = c.in-Err.ensures.no_room;
+  told = c.in-Err.ensures.told;
+}
