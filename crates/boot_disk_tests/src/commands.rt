@@ -3,12 +3,14 @@
 ghost use Rattle.memory_disk.specs.Memory.{held_of};
 ghost use Rattle.abt_disk.specs.World.{IsReading};
 
+use crate::orders::{kernel_alone, nothing_given};
 use abt_io::{Meter, Window};
 use abt_output::Report;
 use abt_refusals::Place;
 use boot_bodies::unpack_file;
 use info_bodies::info_file;
 use memory_disk::MemoryDisk;
+use pack_bodies::{pack_file, repack_file};
 use std::alloc::AllocError;
 
 /// The commands.
@@ -19,6 +21,10 @@ pub(crate) enum Command {
     Info,
     InfoHex,
     InfoCheck,
+    /// A boot image of this version, with IN as its kernel.
+    Pack(u32),
+    /// IN's image, with nothing given.
+    Repack,
 }
 
 /// Whether a command with IN over this disk, of which nothing is open yet, answers Ok.
@@ -42,5 +48,13 @@ pub(crate) fn is_done(
         Command::Info => info_file(disk, report, input, false, false, w, m).is_ok(),
         Command::InfoHex => info_file(disk, report, input, false, true, w, m).is_ok(),
         Command::InfoCheck => info_file(disk, report, input, true, false, w, m).is_ok(),
+        Command::Pack(version) => {
+            let order = kernel_alone(rt.alloc(), version)?;
+            pack_file(disk, report, &order, w, m).is_ok()
+        }
+        Command::Repack => {
+            let order = nothing_given(rt.alloc());
+            repack_file(disk, report, input, &order, w, m).is_ok()
+        }
     })
 }

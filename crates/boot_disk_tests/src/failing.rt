@@ -4,11 +4,15 @@ use crate::commands::{Command, is_done};
 use crate::made::{disk, is_kept};
 use memory_disk::{Countdown, Faults};
 
-const COMMANDS: [Command; 4] = [
+const COMMANDS: [Command; 8] = [
     Command::Unpack,
     Command::UnpackWords,
     Command::Info,
     Command::InfoHex,
+    Command::Pack(0),
+    Command::Pack(3),
+    Command::Pack(4),
+    Command::Repack,
 ];
 
 /// Which of the calls fails.

@@ -7,6 +7,7 @@
 //! | `commands.rt` | the commands, as one call |
 //! | `failing.rt` | that each is refused exactly where something has failed |
 //! | `informing.rt` | `info`: its check says no |
+//! | `orders.rt`, `packing.rt` | what `pack` and `repack` are told; what they leave of OUT |
 //! | `unpacking.rt` | `unpack`: each part under its name; two paths to one file |
 #![tactic(auto)]
 
@@ -18,5 +19,9 @@ mod failing;
 mod informing;
 #[cfg(test)]
 mod made;
+#[cfg(test)]
+mod orders;
+#[cfg(test)]
+mod packing;
 #[cfg(test)]
 mod unpacking;

@@ -120,7 +120,7 @@ name_is name long = elim (cases_Bool (all_zero (drop (length (text_of name)) nam
   | inr e ↦ subst (IsNameOf name) (let q : name ≡ name_bytes name = rw e refl in q) (name_whole name long)
 ]
 
-name_of_bytes : (name : List ℕ) → AreBytes name → AreBytes (name_bytes name)
+pub name_of_bytes : (name : List ℕ) → AreBytes name → AreBytes (name_bytes name)
 name_of_bytes name h = elim (cases_Bool (all_zero (drop (length (text_of name)) name))) [
   | inl e ↦ subst AreBytes (let q : text_of name ≡ name_bytes name = rw e refl in q) (bytes_of_take _ name h)
   | inr e ↦ subst AreBytes (let q : name ≡ name_bytes name = rw e refl in q) h
@@ -345,7 +345,7 @@ abbrev boards_of : List ℕ → Header → ℕ → List BoardWord
 boards_of x h zero = []
 boards_of x h (suc k) = boards_of x h k ++ boards_for k 0 (entry_of x h k).board_id
 
-entry_name : (x : List ℕ) (h : Header) (k : ℕ) → AreBytes x → AreBytes (entry_of x h k).name
+pub entry_name : (x : List ℕ) (h : Header) (k : ℕ) → AreBytes x → AreBytes (entry_of x h k).name
 unfolding entry_at
 entry_name x h k bytes =
     let at = table_at h + 108 * k in

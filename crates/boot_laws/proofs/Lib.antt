@@ -1,6 +1,7 @@
 pub mod Escapes
 pub mod FilesSay
 pub mod FragmentsSay
+pub mod Held
 pub mod ImagesSay
 pub mod PackedAgain
 pub mod PackedFields

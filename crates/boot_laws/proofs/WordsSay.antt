@@ -67,10 +67,10 @@ both_bytes : (x y : List ℕ) → AreBytes x → AreBytes y → AreBytes (x ++ y
 both_bytes [] y h k = k
 both_bytes (b ∷ x) y h k = cons_bytes b (x ++ y) (h 0) (both_bytes x y (λ n. h (suc n)) k)
 
-none_are_bytes : AreBytes []
+pub none_are_bytes : AreBytes []
 none_are_bytes i = lit< tt
 
-over_bytes : (x y : List ℕ) → AreBytes x → AreBytes y → AreBytes (text_over x y)
+pub over_bytes : (x y : List ℕ) → AreBytes x → AreBytes y → AreBytes (text_over x y)
 over_bytes x y h k = bytes_of_take _ (x ++ y) (both_bytes x y h k)
 
 -- of one field

@@ -5,5 +5,6 @@
 mod words_laws;
 
 pub use words_laws::{
-    canonical_packs_again, header_is_held, words_pack_again, words_say_the_header,
+    canonical_is_said, canonical_packs_again, header_is_held, image_is_held, words_pack_again,
+    words_say_the_header,
 };

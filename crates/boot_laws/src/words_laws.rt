@@ -12,7 +12,7 @@ ghost use Rattle.boot_laws.specs.WayBack.{PacksAgain, SaysImage};
 ghost use Rattle.boot_texts.specs.Words.{image_words};
 
 use abt_io::are_bytes;
-use abt_sections::{Image, ImageHeader, canonical_is_packed, packed_holds_parts};
+use abt_sections::{Image, ImageHeader, canonical_is_packed, image_is_whole, packed_holds_parts};
 use boot_fields::{Address, TextField, address_of, os_version_of, text_field_of};
 
 /// The words of any header whose fields hold what fields can say each field as it is: numbers, the OS version and its
@@ -36,6 +36,13 @@ pub fn header_is_held(header: &ImageHeader)
     text_is_bytes(header, TextField::Extra);
 }
 
+/// The fields of the header that an image begins with hold what fields can.
+pub fn image_is_held()
+    ensures { (x : List ℕ) (h : Header) → AreBytes x → HasImage x h → IsHeld h }
+{
+    image_is_whole();
+}
+
 /// A canonical image is packed again: packing takes the fields of its header with the parts that unpacking writes, and
 /// the image that it packs of them is the one that stands there, byte for byte.
 pub fn canonical_packs_again()
@@ -43,6 +50,17 @@ pub fn canonical_packs_again()
 {
     canonical_is_packed();
     packed_holds_parts();
+}
+
+/// The words of a canonical image say what packs it again: that bytes are escaped, its kind and its fields, the file of
+/// each part, and each ramdisk fragment.
+pub fn canonical_is_said()
+    ensures { (folder x : List ℕ) (h : Header) → AreBytes folder → AreBytes x → HasImage x h → IsCanonical x h →
+        SaysImage (image_words folder x h) folder x h }
+{
+    words_say_the_header();
+    image_is_held();
+    canonical_packs_again();
 }
 
 /// The words of an opened canonical image say what packs it again, so packing what they say makes the image again.

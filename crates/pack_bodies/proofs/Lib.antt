@@ -1,0 +1,12 @@
+pub mod Again
+pub mod Closes
+pub mod Entries
+pub mod Fillings
+pub mod Gathered
+pub mod Images
+pub mod Magics
+pub mod Openings
+pub mod Outputs
+pub mod Owns
+pub mod Packs
+pub mod Repacks

@@ -1,0 +1,40 @@
+use Rattle.std.proofs.Common.{◌∙◌, ap}
+use Rattle.abt_refusals.specs.Paths.{path_of}
+use Rattle.boot_bodies.proofs.Causes.{host_image, opened, refuses_file, section_refused}
+use Rattle.boot_bodies.proofs.Counts.{open_failed, source_failed}
+use Rattle.boot_bodies.proofs.Wholes.{opened_as, opens_as}
+use Rattle.pack_bodies.proofs.own.open_own.Goals as goal
+
+pub returns-in-Err-clause-refused : goal.returns-in-Err-clause-refused
+returns-in-Err-clause-refused g c = λ t.
+    host_image (path_of c.args.place) (g.D.Disk.world c.args.disk.now) _ _ _ _ c.into.ensures
+    (source_failed _ _ (c.in-Err.ensures.kept t))
+
+pub returns-in-Err-clause-output : goal.returns-in-Err-clause-output
+returns-in-Err-clause-output g c = λ t. ap (λ k. k.output) (c.in-Err.ensures.kept t)
+
+pub returns-in-Err-open-clause-refused : goal.returns-in-Err-open-clause-refused
+returns-in-Err-open-clause-refused g c = λ t.
+    let told = g.met.D.Disk.source_told t in
+    refuses_file _ _ _ _ _ _ _ _ _ _ (c.in-Ok.ensures.opened t)
+    (section_refused _ _ ⊥ _ _ c.refuse.ensures
+    (opened c.in-Err-open.fault (g.D.At.Source.content c.in-Ok.source) _ _ _ c.in-Err-open.ensures.cause
+    (c.in-Err-open.ensures.opens told)))
+    (λ failed. open_failed _ _ _ _ _ _ _ _ (c.in-Ok.ensures.opened t) (c.in-Ok.ensures.clean t)
+    (c.let_go_source.ensures.held t) failed)
+    (λ none. absurd none)
+
+pub returns-in-Err-open-clause-output : goal.returns-in-Err-open-clause-output
+returns-in-Err-open-clause-output g c = λ t.
+    ap (λ k. k.output) (c.let_go_source.ensures.held t) ∙ ap (λ k. k.output) (c.in-Ok.ensures.opened t).taken
+
+pub returns-in-Ok-open-clause-opened : goal.returns-in-Ok-open-clause-opened
+returns-in-Ok-open-clause-opened g c = λ t.
+    opens_as _ _ _ _ _ _ (c.in-Ok-open.ensures.content (g.met.D.Disk.source_told t)) (c.in-Ok.ensures.opened t)
+
+pub returns-in-Ok-open-clause-image : goal.returns-in-Ok-open-clause-image
+returns-in-Ok-open-clause-image g c = λ told.
+    opened_as _ _ c.in-Ok-open.image (c.in-Ok-open.ensures.content told) (c.in-Ok-open.ensures.opens told)
+
+pub returns-in-Ok-open-clause-output : goal.returns-in-Ok-open-clause-output
+returns-in-Ok-open-clause-output g c = λ t. ap (λ k. k.output) (c.in-Ok.ensures.opened t).taken

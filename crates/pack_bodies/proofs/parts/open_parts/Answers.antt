@@ -1,0 +1,56 @@
+use Rattle.std.proofs.Common.{◌∙◌, ap, length, refl}
+use Rattle.std.specs.Prelude.{[]}
+use Rattle.pack_bodies.specs.Own.{IsOwnPart}
+use Rattle.pack_bodies.specs.Parts.{IsPartPath}
+use Rattle.pack_bodies.specs.Sources.{content_of, faults_of}
+use Rattle.pack_bodies.proofs.Gathered.{no_paths, none_at_all, none_read, one_longer, parts_all, parts_none}
+use Rattle.pack_bodies.proofs.Gathered.{parts_so_far, paths_all, paths_so_far, row_stops}
+use Rattle.pack_bodies.proofs.Openings.{opens_none}
+use Rattle.pack_bodies.proofs.parts.open_parts.Goals as goal
+
+pub loop-row-init : goal.loop-row-init
+loop-row-init g c = (
+  ap length c.new-parts.ensures.items,
+  λ t. (
+    parts_none (content_of g.D.At.Source.content) (g.D.Disk.world c.args.disk.now) c.args.texts.now.options.items
+        (IsOwnPart g.D.At.Source.content c.args.own) c.new-parts.result.items c.new-parts.ensures.items,
+    none_at_all (faults_of g.D.At.Source.read_faults) c.new-parts.result.items c.new-parts.ensures.items,
+    opens_none (IsPartPath c.args.texts.now.options.items []) _ _ _ refl (no_paths c.args.texts.now.options.items),
+    refl,
+  ),
+)
+
+pub loop-row-preserved : goal.loop-row-preserved
+loop-row-preserved g c = (
+  one_longer c.loop-row.parts.items c.push.new.self.items c.in-Ok.part _ c.in-Ok-push.ensures.items
+      c.loop-row.invariant.0,
+  λ t.
+      let i = c.loop-row.invariant.1 t in (
+        parts_so_far (content_of g.D.At.Source.content) (g.D.Disk.world c.args.disk.now) (g.D.Disk.world c.loop-row.disk)
+            c.args.texts.now.options.items (IsOwnPart g.D.At.Source.content c.args.own) c.rows_of-rows.result.now
+            c.loop-row.row-index _ c.loop-row.parts.items c.push.new.self.items c.in-Ok.part c.loop-row-test.true
+            c.rows_of-rows.ensures.options c.in-Ok-push.ensures.items i.3 i.0 (c.in-Ok.ensures.part t),
+        none_read (faults_of g.D.At.Source.read_faults) c.loop-row.parts.items c.push.new.self.items c.in-Ok.part
+            c.in-Ok-push.ensures.items i.1 (c.in-Ok.ensures.unread t),
+        paths_so_far (g.D.Disk.world c.args.disk.now) (g.D.Disk.world c.loop-row.disk) c.args.texts.now.options.items
+            c.rows_of-rows.result.now c.loop-row.row-index _ _ _ _ c.loop-row-test.true c.rows_of-rows.ensures.options i.3
+            i.2 (c.in-Ok.ensures.opened t),
+        c.open_part.ensures.world t ∙ i.3,
+      ),
+)
+
+pub returns-in-Err-clause-refused : goal.returns-in-Err-clause-refused
+returns-in-Err-clause-refused g c = λ t.
+    row_stops (g.D.Disk.world c.args.disk.now) c.args.texts.now.options.items c.rows_of-rows.result.now
+    c.loop-row.row-index _ _ _ _ _ c.in-Err.refusal.fault c.loop-row-test.true c.rows_of-rows.ensures.options
+    c.rows_of-rows.ensures.sections (c.loop-row.invariant.1 t).2 (c.in-Err.ensures.refused t)
+
+pub returns-clause-parts : goal.returns-clause-parts
+returns-clause-parts g c = λ t.
+    parts_all _ _ (IsOwnPart g.D.At.Source.content c.args.own) c.rows_of-rows.result.now c.loop-row.row-index _ _
+    c.loop-row-test.false c.rows_of-rows.ensures.sections (c.loop-row.invariant.1 t).0
+
+pub returns-clause-opened : goal.returns-clause-opened
+returns-clause-opened g c = λ t.
+    paths_all _ _ c.rows_of-rows.result.now c.loop-row.row-index _ _ _ c.loop-row-test.false
+    c.rows_of-rows.ensures.sections (c.loop-row.invariant.1 t).2

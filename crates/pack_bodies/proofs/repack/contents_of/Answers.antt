@@ -1,0 +1,65 @@
+use Rattle.std.proofs.Common.{◌∙◌, ap, map}
+use Rattle.abt_disk.specs.World.{Held}
+use Rattle.abt_sections.specs.Cause.{total}
+use Rattle.pack_bodies.specs.Contents.{packing_of}
+use Rattle.pack_bodies.specs.Sources.{content_of, faults_of}
+use Rattle.pack_bodies.proofs.Again.{asked_again, behind_stops, board_stops, boards_set, filling_stops, opens_given}
+use Rattle.pack_bodies.proofs.Again.{none_unread, parts_stop}
+use Rattle.pack_bodies.specs.Parts.{IsFragmentPath, of_fragment}
+use Rattle.pack_bodies.proofs.repack.contents_of.Goals as goal
+
+pub returns-in-Err-clause-refused : goal.returns-in-Err-clause-refused
+returns-in-Err-clause-refused g c = λ t.
+    filling_stops c.args.command.now _ _ _ (IsFragmentPath c.args.command.now.texts.fragments.items) _ _ _ _
+    (λ path is. of_fragment is) (c.in-Err.ensures.refused t) c.into.ensures
+
+pub returns-in-Err-open_parts-clause-refused : goal.returns-in-Err-open_parts-clause-refused
+returns-in-Err-open_parts-clause-refused g c = λ t.
+    parts_stop c.args.command.now _ _ _ _ _ _ _ _ _ c.requires.kind (c.in-Ok.ensures.opened t)
+    (c.in-Err-open_parts.ensures.refused t) c.into-in-Err-open_parts.ensures
+
+pub returns-in-Err-with_board_ids-clause-refused : goal.returns-in-Err-with_board_ids-clause-refused
+returns-in-Err-with_board_ids-clause-refused g c = λ t.
+    board_stops c.args.command.now _ _ _ _ _ _ _ _ (c.in-Ok.ensures.fragments t) c.as_slice.ensures.value
+    c.in-Err-with_board_ids.ensures.refused
+
+pub returns-in-Ok-trailing_of-clause-asked : goal.returns-in-Ok-trailing_of-clause-asked
+returns-in-Ok-trailing_of-clause-asked g c = λ t.
+    let content = content_of g.D.At.Source.content in
+    asked_again c.args.command.now _ _ _ _ c.args.kind _ (packing_of content c.filled.result) _ _ _
+    c.requires.kind (c.in-Ok.ensures.world t) (c.in-Ok-open_parts.ensures.parts t)
+    (ap (map content) c.filled.ensures.parts) (c.in-Ok.ensures.fragments t)
+    (ap (map content) (c.filled.ensures.sources ∙ c.in-Ok-with_board_ids.ensures.sources))
+    (boards_set c.args.command.now _ _ _ _ c.as_slice.ensures.value c.in-Ok-with_board_ids.ensures.specs
+    c.filled.ensures.specs)
+    (c.filled.ensures.loaded (g.met.D.Disk.source_told t))
+
+pub returns-in-Ok-trailing_of-clause-behind : goal.returns-in-Ok-trailing_of-clause-behind
+returns-in-Ok-trailing_of-clause-behind g c = λ t.
+    ap (content_of g.D.At.Source.content) c.filled.ensures.trailing ∙ c.in-Ok-trailing_of.ensures.behind t
+
+pub returns-in-Ok-trailing_of-clause-opened : goal.returns-in-Ok-trailing_of-clause-opened
+returns-in-Ok-trailing_of-clause-opened g c = λ t.
+    opens_given c.args.command.now.texts c.args.kind _ _ _ _ _ _ (c.in-Ok.ensures.world t) (c.in-Ok.ensures.opened t)
+    (c.in-Ok-open_parts.ensures.opened t) (c.in-Ok-trailing_of.ensures.held t)
+
+pub returns-in-Ok-trailing_of-clause-unread : goal.returns-in-Ok-trailing_of-clause-unread
+returns-in-Ok-trailing_of-clause-unread g c = λ t.
+    let faults = faults_of {S = g.row.D-At.Denot} {d = g.D.At.Source} g.D.At.Source.read_faults in
+    none_unread _ _ _ _ (ap (total faults) c.filled.ensures.parts ∙ c.in-Ok-open_parts.ensures.unread t)
+    (ap (total faults) (c.filled.ensures.sources ∙ c.in-Ok-with_board_ids.ensures.sources) ∙ c.in-Ok.ensures.unread t)
+    c.filled.ensures.unread (ap faults c.filled.ensures.trailing ∙ c.in-Ok-trailing_of.ensures.unread t)
+
+pub returns-in-Ok-trailing_of-clause-output : goal.returns-in-Ok-trailing_of-clause-output
+returns-in-Ok-trailing_of-clause-output g c = λ t.
+    ap (λ (k : Held). k.output) (c.in-Ok-trailing_of.ensures.held t) ∙ c.in-Ok-open_parts.ensures.output t
+    ∙ c.in-Ok.ensures.output t
+
+pub returns-in-Ok-trailing_of-clause-world : goal.returns-in-Ok-trailing_of-clause-world
+returns-in-Ok-trailing_of-clause-world g c = λ t.
+    c.in-Ok-trailing_of.ensures.world t ∙ c.in-Ok-open_parts.ensures.world t ∙ c.in-Ok.ensures.world t
+
+pub returns-clause-refused : goal.returns-clause-refused
+returns-clause-refused g c = λ t.
+    behind_stops c.args.command.now _ _ _ c.args.kind _ _ _ _ _ _ _ (c.in-Ok.ensures.opened t)
+    (c.in-Ok-open_parts.ensures.opened t) (c.in-Err-trailing_of.ensures.held t) c.into-in-Err-trailing_of.ensures

@@ -1,0 +1,67 @@
+use Rattle.std.proofs.Common.{◌∙◌, ap, inl, refl, subst, sym}
+use Rattle.abt_disk.specs.World.{untouched}
+use Rattle.abt_output.specs.Shows.{Shows}
+use Rattle.abt_sections.specs.Header.{fragment_count, view_of}
+use Rattle.abt_sections.specs.Open.{IsOpened}
+use Rattle.pack_bodies.specs.Own.{entries_to}
+use Rattle.pack_bodies.specs.Packing.{output_path}
+use Rattle.pack_bodies.specs.Writing.{unprinted}
+use Rattle.pack_bodies.proofs.Again.{content_done, content_refused, content_whole, judging_refuses, stays_kept}
+use Rattle.pack_bodies.proofs.Repacks.{calls_failed, nothing_more, reads_failed}
+use Rattle.pack_bodies.proofs.repack.pack_again.Goals as goal
+
+-- the words are wrong, or the image could not be read
+pub returns-in-Err-clause-others : goal.returns-in-Err-clause-others
+returns-in-Err-clause-others g c = λ t. untouched refl
+
+pub returns-in-Err-clause-given : goal.returns-in-Err-clause-given
+returns-in-Err-clause-given g c = λ t. stays_kept c.args.command.now _ _ _ refl
+
+pub returns-in-Err-clause-whole : goal.returns-in-Err-clause-whole
+returns-in-Err-clause-whole g c = λ t over file there. inl refl
+
+pub returns-in-Err-clause-refused : goal.returns-in-Err-clause-refused
+returns-in-Err-clause-refused g c = λ t.
+    judging_refuses c.args.command.now _ _ _ _ _ _ _ _ _ _ refl c.of_header-kind.ensures c.of_own.ensures
+    (c.in-Err.ensures.refused (g.met.D.Disk.source_told t) (c.requires.opened (g.met.D.Disk.source_told t)))
+    (λ more. reads_failed _ _ _ more)
+
+-- it is packed
+pub returns-in-Ok-write_again-clause-done : goal.returns-in-Ok-write_again-clause-done
+returns-in-Ok-write_again-clause-done g c = λ t.
+    content_done c.args.command.now _ _ _ _ _ _ (Shows c.args.report.now c.write_again.new.report)
+    (c.in-Ok.ensures.content (g.met.D.Disk.source_told t)) (c.in-Ok-write_again.ensures.done t)
+
+pub returns-in-Ok-write_again-clause-clean : goal.returns-in-Ok-write_again-clause-clean
+returns-in-Ok-write_again-clause-clean g c = λ t.
+    nothing_more _ _ _ _ (c.in-Ok-write_again.ensures.clean t) c.in-Ok.ensures.clean
+
+pub returns-in-Ok-write_again-clause-whole : goal.returns-in-Ok-write_again-clause-whole
+returns-in-Ok-write_again-clause-whole g c = λ t over.
+    content_whole c.args.command.now _ _ (view_of c.args.own.now.image.header) (g.D.Disk.world c.args.disk.now)
+    (g.D.Disk.world c.args.disk.now) (g.D.Disk.world c.write_again.new.disk)
+    (output_path c.args.command.now.output.now) (c.in-Ok.ensures.content (g.met.D.Disk.source_told t))
+    (c.in-Ok-write_again.ensures.whole t over)
+
+-- it is not
+pub returns-clause-whole : goal.returns-clause-whole
+returns-clause-whole g c = λ t over.
+    content_whole c.args.command.now _ _ (view_of c.args.own.now.image.header) (g.D.Disk.world c.args.disk.now)
+    (g.D.Disk.world c.args.disk.now) (g.D.Disk.world c.write_again.new.disk)
+    (output_path c.args.command.now.output.now) (c.in-Ok.ensures.content (g.met.D.Disk.source_told t))
+    (c.in-Err-write_again.ensures.whole t over)
+
+pub returns-clause-refused : goal.returns-clause-refused
+returns-clause-refused g c = λ t.
+    content_refused c.args.command.now _ _ _ _ _ _ _ _ unprinted _
+    (c.in-Ok.ensures.content (g.met.D.Disk.source_told t)) (c.in-Err-write_again.ensures.refused t)
+    (λ failed. calls_failed _ _ _ _ c.in-Ok.ensures.clean failed)
+
+pub write_again-requires-clause-opened : goal.write_again-requires-clause-opened
+write_again-requires-clause-opened g c = λ told.
+    subst (λ x. IsOpened x c.args.own.now.image) (sym (c.in-Ok.ensures.content told)) (c.requires.opened told)
+
+pub write_again-requires-clause-entries : goal.write_again-requires-clause-entries
+write_again-requires-clause-entries g c = λ told none.
+    let h = view_of c.args.own.now.image.header in
+    c.in-Ok.ensures.entries told none ∙ ap (λ x. entries_to x h (fragment_count h)) (sym (c.in-Ok.ensures.content told))

@@ -1,0 +1,10 @@
+-- What is printed of an image that was written.
+use Rattle.std.specs.Prelude.{ℕ, ◌-◌, ◌^◌, min, List, ◌++◌, codes, decimal}
+
+-- how many bytes it has
+abbrev pub image_line : ℕ → List ℕ
+image_line bytes = codes "bytes " ++ decimal bytes
+
+-- as far as 64 bits count
+abbrev pub counted : ℕ → ℕ
+counted n = min n (2 ^ 64 - 1)

@@ -1,0 +1,112 @@
+-- What the command `repack` leaves of files, and what it prints.
+use Rattle.std.specs.Prelude.{◌≡◌, ◌≢◌, ◌⊎◌, ℕ, List, [], ◌∷◌, ◌++◌, length, map, Some}
+use Rattle.std.specs.Prelude.{Contains}
+use Rattle.abt_sections.specs.Fields.{BootFields}
+use Rattle.abt_sections.specs.Header.{Header, fragment_count}
+use Rattle.abt_sections.specs.Open.{HasImage}
+use Rattle.abt_sections.specs.declared.spec.FragmentSpec.{FragmentSpec}
+use Rattle.abt_disk.specs.World.{World, Spares, KeepsFile}
+use Rattle.abt_output.specs.Shows.{Shows}
+use Rattle.abt_output.specs.declared.report.Report.{Report}
+use Rattle.abt_disk.specs.Among.{FileHolds}
+use Rattle.boot_fields.specs.Kind.{kind_of}
+use Rattle.boot_rules.specs.Given.{AreGiven}
+use Rattle.boot_rules.specs.declared.pack_command.PackCommand.{PackCommand}
+use Rattle.boot_rules.specs.declared.pack_texts.FragmentText.{FragmentText}
+use Rattle.pack_bodies.specs.Contents.{Packing, image_from}
+use Rattle.pack_bodies.specs.Lines.{image_line, counted}
+use Rattle.pack_bodies.specs.Own.{StandsIn, bytes_of, entries_to, kept_behind, own_fields, said_of}
+use Rattle.pack_bodies.specs.Packing.{ArePacked, board_words, output_path}
+use Rattle.pack_bodies.specs.Parts.{AreFragmentsOf, IsGivenPath}
+use Rattle.pack_bodies.specs.Writing.{HoldsNoPartOf}
+
+-- the ramdisk fragments of the image x, in the order of its table
+pub record AreOwnFragments (x : List ℕ) (h : Header) (said : List FragmentSpec) (ramdisks : List (List ℕ)) : Type 0
+  where
+    pub specs : said ≡ map said_of (entries_to x h (fragment_count h))
+    pub bytes : ramdisks ≡ map (bytes_of x h) (entries_to x h (fragment_count h))
+
+-- the fragments that were given, and where none was, those of the image
+abbrev pub AreFragmentsAgain : World → List FragmentText → List ℕ → Header → List FragmentSpec → List (List ℕ) → Type 0
+AreFragmentsAgain world [] x h said ramdisks = AreOwnFragments x h said ramdisks
+AreFragmentsAgain world (text ∷ texts) x h said ramdisks = AreFragmentsOf world (text ∷ texts) said ramdisks
+
+-- what the words ask for, and what the image x has where they give nothing
+abbrev pub AreAskedAgain : PackCommand → World → List ℕ → Header → BootFields → Packing → Type 0
+AreAskedAgain command world x h given p = ArePacked world command.texts (board_words command) (StandsIn x h)
+    (AreFragmentsAgain world command.texts.fragments.items x h) (kind_of h) given p
+
+-- the fields that the words give, and else those of the header
+abbrev pub AreFieldsAgain : PackCommand → Header → BootFields → Type 0
+AreFieldsAgain command h given = AreGiven (own_fields h) (kind_of h) command.page command.texts.options.items given
+
+-- IN's file begins with an image: these bytes, with this header
+pub record BeginsWith (input : List ℕ) (world : World) (x : List ℕ) (h : Header) : Type 0 where
+  pub file : FileHolds world input x
+  pub has : HasImage x h
+
+-- the image of IN's kind: of the fields, parts and fragments that the words give, and else of its own; and behind it
+-- what stands behind IN's, where that is kept
+pub record IsPackedAgain (command : PackCommand) (x : List ℕ) (h : Header) (world : World) (bytes : List ℕ) : Type 0
+  where
+    pub given : BootFields
+    pub are_given : AreFieldsAgain command h given
+    pub packing : Packing
+    pub asked : AreAskedAgain command world x h given packing
+    pub is : bytes ≡ image_from (kind_of h) packing ++ kept_behind command.keeps_trailing x h
+
+-- a file that is read: IN, or one that the words name
+abbrev pub IsReadPath : List ℕ → PackCommand → Header → List ℕ → Type 0
+IsReadPath input command h path = (path ≡ input) ⊎ IsGivenPath command.texts (kind_of h) path
+
+-- OUT's file holds what the image x is packed again to, no other file has changed, OUT's is none that is read or that
+-- the words name, and the line that was printed has its number of bytes
+pub record PacksAgain (command : PackCommand) (x : List ℕ) (h : Header) (read : List ℕ) (old new : World)
+    (shows : List ℕ → Type 0) : Type 0 where
+  pub onto : ℕ
+  pub here : new.at (output_path command.output.now) ≡ Some onto
+  pub free : ¬ Contains read onto
+  pub apart : (path : List ℕ) → IsGivenPath command.texts (kind_of h) path → old.at path ≢ Some onto
+  pub image : IsPackedAgain command x h old (new.holds onto)
+  pub spares : Spares onto old new
+  pub shown : shows (image_line (counted (length (new.holds onto))) ++ (10 ∷ []))
+
+-- each file that the words name holds what it held
+abbrev pub KeepsGivenAgain : PackCommand → Header → World → World → Type 0
+KeepsGivenAgain command h old new =
+    (path : List ℕ) → IsGivenPath command.texts (kind_of h) path → KeepsFile path old new
+
+-- OUT's file holds what IN's image is packed again to, no other file has changed, OUT's is none that is read, and the
+-- line that was printed has its number of bytes
+pub record RepacksFile (input : List ℕ) (command : PackCommand) (old new : World) (shows : List ℕ → Type 0) : Type 0
+  where
+    pub own : List ℕ
+    pub header : Header
+    pub begins : BeginsWith input old own header
+    pub onto : ℕ
+    pub here : new.at (output_path command.output.now) ≡ Some onto
+    pub apart : (path : List ℕ) → IsReadPath input command header path → old.at path ≢ Some onto
+    pub image : IsPackedAgain command own header old (new.holds onto)
+    pub spares : Spares onto old new
+    pub shown : shows (image_line (counted (length (new.holds onto))) ++ (10 ∷ []))
+
+-- this went out, and maybe a note behind it
+abbrev pub ShowsFirst : Report → Report → List ℕ → Type 0
+ShowsFirst old new told = (note : List ℕ) × Shows old new (told ++ note)
+
+-- these bytes are such an image of what IN's file holds
+pub record IsRepackedOf (input : List ℕ) (command : PackCommand) (world : World) (bytes : List ℕ) : Type 0 where
+  pub own : List ℕ
+  pub header : Header
+  pub begins : BeginsWith input world own header
+  pub image : IsPackedAgain command own header world bytes
+
+-- whatever the outcome, OUT's file holds what it held, or what is no image, or all of it
+abbrev pub HoldsNoPartAgain : List ℕ → PackCommand → World → World → Type 0
+HoldsNoPartAgain input command old new =
+    HoldsNoPartOf (output_path command.output.now) (IsRepackedOf input command old) old new
+
+-- and IN's file and each that the words name hold what they held
+pub record KeepsRead (input : List ℕ) (command : PackCommand) (old new : World) : Type 0 where
+  pub input_kept : KeepsFile input old new
+  pub given : (x : List ℕ) (h : Header) → BeginsWith input old x h → KeepsGivenAgain command h old new

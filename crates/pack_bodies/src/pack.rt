@@ -1,0 +1,120 @@
+//! The command `pack`: a boot image or a vendor boot image of its parts.
+
+ghost use Rattle.std.specs.Prelude.{◌≡◌, ◌+◌, [], None, IsTrue, IfErr, IfOk, OnOk, length, if◌then◌else◌};
+ghost use Rattle.std.specs.List.{All};
+ghost use Rattle.abt_disk.specs.World.{HasNotFailed, IsReading, OnlyAt};
+ghost use Rattle.abt_output.specs.Shows.{Shows};
+ghost use Rattle.abt_sections.specs.Fields.{boot_fields};
+ghost use Rattle.boot_fields.specs.Kind.{version_of};
+ghost use Rattle.boot_rules.specs.Carried.{IsTaken};
+ghost use Rattle.pack_bodies.specs.Contents.{faults_in, packing_of};
+ghost use Rattle.pack_bodies.specs.Opening.{OpensMore};
+ghost use Rattle.pack_bodies.specs.Packing.{AreAskedFor, HoldsNoPart, KeepsGiven, PacksFile, board_words, kind_of};
+ghost use Rattle.pack_bodies.specs.Packing.{output_path};
+ghost use Rattle.pack_bodies.specs.Parts.{IsGivenPath};
+ghost use Rattle.pack_bodies.specs.Refusing.{RefusesPack, StopsFilling};
+ghost use Rattle.pack_bodies.specs.Writing.{unprinted};
+
+use crate::contents::Contents;
+use crate::filling::filled;
+use crate::image_output::write_image;
+use crate::parts::open_parts;
+use crate::places::output_at;
+use crate::ramdisks::open_fragments;
+use abt_disk::Disk;
+use abt_io::{Meter, Source, Window};
+use abt_output::Report;
+use abt_refusals::Refusal;
+use abt_sections::BootSpec;
+use boot_bodies::BootOutcome;
+use boot_fields::ImageKind;
+use boot_rules::{BootCommandFault, PackCommand, PartSource, judge_words};
+
+/// Packs the image that the words ask for, and prints how many bytes it has.
+///
+/// The words are judged before any file is opened, and the parts are open before OUT is created or emptied.
+pub fn pack_file<'t, 'a, D: Disk>(
+    disk: &mut D,
+    report: &mut Report,
+    command: &'t PackCommand<'a>,
+    w: &mut Window,
+    m: &mut Meter,
+) -> BootOutcome<'t, 'a>
+    requires first { IsTrue D.tells → IsReading (D.held disk.old) }
+    // OUT is another file than those that are given, and holds the image that the words ask for, of what these hold;
+    // what was printed tells of it
+    ensures done { IsTrue D.tells → OnOk result (PacksFile command.now (D.world disk.old) (D.world disk.new)
+        (Shows report.old report.new)) }
+    // it was synced, where that is wanted, and no call failed
+    ensures synced { IsTrue D.tells → OnOk result ((D.held disk.new).syncs
+        ≡ (D.held disk.old).syncs + (if (D.held disk.old).is_synced then 1 else 0)) }
+    ensures clean { IsTrue D.tells → OnOk result (HasNotFailed (D.held disk.old) (D.held disk.new)) }
+    // whatever the outcome, OUT alone may hold anything else, the given files hold what they held, and OUT's file has
+    // no part of an image
+    ensures others { IsTrue D.tells → OnlyAt (D.held disk.old).read (output_path command.now.output.now)
+        (D.world disk.old) (D.world disk.new) }
+    ensures inputs { IsTrue D.tells → KeepsGiven command.now (D.world disk.old) (D.world disk.new) }
+    ensures closed { IsTrue D.tells → (D.held disk.new).output ≡ None }
+    ensures whole { IsTrue D.tells → IsTrue (D.is_over (output_path command.now.output.now)) → HoldsNoPart command.now
+        (D.world disk.old) (D.world disk.new) }
+    // each fault is so: of the words before anything is opened, of what is packed before OUT is; or a call has failed;
+    // or all is done and can't be told
+    ensures refused { IsTrue D.tells → IfErr result (λ refusal. RefusesPack command.now (D.world disk.old)
+        (D.world disk.new) (D.held disk.old) (D.held disk.new) (PacksFile command.now (D.world disk.old)
+        (D.world disk.new) unprinted) refusal.fault) }
+{
+    let (kind, fields) = match judge_words(command) {
+        Ok(judged) => judged,
+        Err(fault) => return Err(Refusal::of(fault)),
+    };
+    let contents = match contents_of(disk, kind, fields, command) {
+        Ok(contents) => contents,
+        Err(refusal) => return Err(refusal),
+    };
+    let output = output_at(&*command.output);
+    match write_image(disk, report, command.alloc, contents, output, w, m) {
+        Ok(()) => Ok(()),
+        Err(refusal) => Err(refusal),
+    }
+}
+
+// All that the image is written from.
+fn contents_of<'t, 'a, D: Disk>(
+    disk: &mut D,
+    kind: ImageKind,
+    fields: BootSpec<'t>,
+    command: &'t PackCommand<'a>,
+) -> Result<Contents<'t, PartSource<'t, D::At>>, Refusal<'t, BootCommandFault<'a>>>
+    requires first { IsTrue D.tells → (D.held disk.old).begun ≡ [] }
+    requires kind { kind ≡ kind_of command.now }
+    requires versioned { fields.version ≡ version_of kind }
+    requires taken { All (IsTaken kind) command.now.texts.fragments.items }
+    ensures kind { IfOk result (λ contents. contents.kind ≡ kind) }
+    ensures asked { IsTrue D.tells → IfOk result (λ contents. AreAskedFor command.now (D.world disk.old)
+        (boot_fields fields.entry) (packing_of ⟦<PartSource<'t, D::At> as Source>⟧.content contents)) }
+    ensures alone { IfOk result (λ contents. ⟦<PartSource<'t, D::At> as Source>⟧.content contents.trailing ≡ []) }
+    ensures nothing { IfOk result (λ contents. ⟦<PartSource<'t, D::At> as Source>⟧.size contents.nothing ≡ 0) }
+    ensures unread { IsTrue D.tells → IfOk result (λ contents.
+        faults_in ⟦<PartSource<'t, D::At> as Source>⟧.read_faults contents ≡ 0) }
+    ensures opened { IsTrue D.tells → OnOk result (OpensMore (IsGivenPath command.now.texts kind) (D.world disk.old)
+        (D.held disk.old) (D.held disk.new)) }
+    ensures refused { IsTrue D.tells → IfErr result (λ refusal. StopsFilling (IsGivenPath command.now.texts kind)
+        (board_words command.now) (length command.now.texts.fragments.items) (D.held disk.old) (D.held disk.new)
+        refusal.fault) }
+    ensures output { IsTrue D.tells → (D.held disk.new).output ≡ (D.held disk.old).output }
+    ensures world { IsTrue D.tells → D.world disk.new ≡ D.world disk.old }
+{
+    let texts = &command.texts;
+    let parts = match open_parts(disk, command.alloc, kind, texts, None) {
+        Ok(parts) => parts,
+        Err(refusal) => return Err(refusal.into()),
+    };
+    let ramdisks = match open_fragments(disk, command.alloc, texts) {
+        Ok(ramdisks) => ramdisks,
+        Err(refusal) => return Err(refusal.into()),
+    };
+    match ramdisks.with_board_ids(command.board_ids.as_slice()) {
+        Ok(ramdisks) => Ok(filled(kind, fields, texts, parts, ramdisks, PartSource::empty())),
+        Err(refusal) => Err(refusal),
+    }
+}

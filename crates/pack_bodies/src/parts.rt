@@ -1,0 +1,117 @@
+//! The parts that an image is packed from, each open to be read.
+
+ghost use Rattle.std.specs.Prelude.{◌≡◌, [], IsTrue, IfErr, IfOk, OnOk, length, map};
+ghost use Rattle.abt_disk.specs.World.{OpensFile};
+ghost use Rattle.abt_sections.specs.Cause.{total};
+ghost use Rattle.boot_fields.specs.Options.{option_of};
+ghost use Rattle.boot_rules.specs.Given.{found};
+ghost use Rattle.boot_rules.specs.Parts.{part_sections, row_count};
+ghost use Rattle.pack_bodies.specs.Opening.{OpensMore, StopsOpening};
+ghost use Rattle.pack_bodies.specs.Own.{IsOpenOwn, IsOwnPart};
+ghost use Rattle.pack_bodies.specs.Parts.{ArePartsOf, IsPartBy, IsPartPath, IsPathOf};
+
+use crate::own::{Own, own_part};
+use crate::places::file_at;
+use abt_disk::Disk;
+use abt_io::Source;
+use abt_refusals::{HostFault, HostRefusal};
+use boot_fields::ImageKind;
+use boot_rules::{PackTexts, PartRow, PartSource, rows_of};
+use std::alloc::Global;
+
+/// Opens the parts of an image of this kind: each is the file that was given, or else the image's own, or empty.
+pub(crate) fn open_parts<'t, D: Disk>(
+    disk: &mut D,
+    alloc: Global,
+    kind: ImageKind,
+    texts: &'t PackTexts<'_>,
+    own: Option<&Own<'t, D::At>>,
+) -> Result<Vec<PartSource<'t, D::At>>, HostRefusal<'t>>
+    requires first { IsTrue D.tells → (D.held disk.old).begun ≡ [] }
+    requires own { IsTrue D.At.tells → IsOpenOwn D.At.content own }
+    ensures counted { IfOk result (λ parts. length parts.items ≡ row_count kind) }
+    ensures parts { IsTrue D.tells → IfOk result (λ parts. ArePartsOf (D.world disk.old) texts.now.options.items
+        (IsOwnPart D.At.content own.entry) (part_sections kind)
+        (map ⟦<PartSource<'t, D::At> as Source>⟧.content parts.items)) }
+    ensures unread { IsTrue D.tells → IfOk result (λ parts.
+        total ⟦<PartSource<'t, D::At> as Source>⟧.read_faults parts.items ≡ 0) }
+    ensures opened { IsTrue D.tells → OnOk result (OpensMore (IsPartPath texts.now.options.items (part_sections kind))
+        (D.world disk.old) (D.held disk.old) (D.held disk.new)) }
+    ensures refused { IsTrue D.tells → IfErr result (λ refusal. StopsOpening (IsPartPath texts.now.options.items
+        (part_sections kind)) (D.held disk.old) (D.held disk.new) refusal.fault) }
+    ensures output { IsTrue D.tells → (D.held disk.new).output ≡ (D.held disk.old).output }
+    ensures world { IsTrue D.tells → D.world disk.new ≡ D.world disk.old }
+{
+    let rows = rows_of(kind);
+    let mut parts = Vec::new(alloc);
+    for row in rows {
+        let part = match open_part(disk, *row, texts, own) {
+            Ok(part) => part,
+            Err(refusal) => return Err(refusal),
+        };
+        match parts.push(part) {
+            Ok(()) => {}
+            Err(_) => return Err(HostRefusal::memory()),
+        }
+    }
+    Ok(parts)
+}
+
+// The file that was given, or else the image's own part.
+fn open_part<'t, D: Disk>(
+    disk: &mut D,
+    row: PartRow,
+    texts: &'t PackTexts<'_>,
+    own: Option<&Own<'t, D::At>>,
+) -> Result<PartSource<'t, D::At>, HostRefusal<'t>>
+    requires first { IsTrue D.tells → (D.held disk.old).begun ≡ [] }
+    requires own { IsTrue D.At.tells → IsOpenOwn D.At.content own }
+    ensures part { IsTrue D.tells → IfOk result (λ part. IsPartBy (D.world disk.old)
+        (found texts.now.options.items row.option.now) (IsOwnPart D.At.content own.entry row.section)
+        (⟦<PartSource<'t, D::At> as Source>⟧.content part)) }
+    ensures unread { IsTrue D.tells → IfOk result (λ part.
+        ⟦<PartSource<'t, D::At> as Source>⟧.read_faults part ≡ 0) }
+    ensures opened { IsTrue D.tells → OnOk result (OpensMore (IsPathOf texts.now.options.items row.option.now)
+        (D.world disk.old) (D.held disk.old) (D.held disk.new)) }
+    ensures refused { IsTrue D.tells → IfErr result (λ refusal. StopsOpening (IsPathOf texts.now.options.items
+        row.option.now) (D.held disk.old) (D.held disk.new) refusal.fault) }
+    ensures output { IsTrue D.tells → (D.held disk.new).output ≡ (D.held disk.old).output }
+    ensures world { IsTrue D.tells → D.world disk.new ≡ D.world disk.old }
+{
+    match texts.find(row.option) {
+        Some(option) => open_file(disk, row.option, &*option.word, option.bytes.as_slice()),
+        None => own_part(disk, own, row.section),
+    }
+}
+
+/// Opens a file whose path is these bytes, which a word writes.
+pub(crate) fn open_file<'t, D: Disk>(
+    disk: &mut D,
+    role: &'static str,
+    word: &'t str,
+    path: &'t [u8],
+) -> Result<PartSource<'t, D::At>, HostRefusal<'t>>
+    requires first { IsTrue D.tells → (D.held disk.old).begun ≡ [] }
+    ensures opened { IsTrue D.tells → IfOk result (λ part. OpensFile (D.world disk.old) path.now
+        (⟦<PartSource<'t, D::At> as Source>⟧.content part) (D.held disk.old) (D.held disk.new)) }
+    ensures unread { IsTrue D.tells → IfOk result (λ part.
+        ⟦<PartSource<'t, D::At> as Source>⟧.read_faults part ≡ 0) }
+    ensures refused { IsTrue D.tells → IfErr result (λ refusal. StopsOpening (λ p. p ≡ path.now) (D.held disk.old)
+        (D.held disk.new) refusal.fault) }
+    ensures output { IsTrue D.tells → (D.held disk.new).output ≡ (D.held disk.old).output }
+    ensures world { IsTrue D.tells → D.world disk.new ≡ D.world disk.old }
+{
+    match str::from_utf8(path) {
+        Ok(path) => {
+            let place = file_at(role, path);
+            match disk.source(place) {
+                Ok(file) => Ok(PartSource::whole(file, place)),
+                Err(refusal) => Err(refusal),
+            }
+        }
+        Err(_) => {
+            let place = file_at(role, word);
+            Err(HostRefusal::at(HostFault::CannotOpen, place, None))
+        }
+    }
+}

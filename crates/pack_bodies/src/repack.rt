@@ -1,0 +1,292 @@
+//! The command `repack`: an image with other parts and fields, all else kept.
+
+ghost use Rattle.std.specs.Prelude.{◌≡◌, ◌+◌, ◌++◌, [], None, IsTrue, IfErr, IfOk, OnOk, if◌then◌else◌, map};
+ghost use Rattle.std.specs.List.{All};
+ghost use Rattle.abt_disk.specs.World.{HasFailed, HasNotFailed, IsReading, OnlyAt};
+ghost use Rattle.abt_output.specs.Shows.{Shows};
+ghost use Rattle.abt_refusals.specs.Paths.{path_of};
+ghost use Rattle.abt_sections.specs.Cause.{total};
+ghost use Rattle.abt_sections.specs.Fields.{boot_fields};
+ghost use Rattle.abt_sections.specs.Header.{fragment_count, view_of};
+ghost use Rattle.abt_sections.specs.Open.{IsOpened};
+ghost use Rattle.boot_bodies.specs.Faults.{NoMoreFailed, SomeFailed};
+ghost use Rattle.boot_fields.specs.Fields.{text_of};
+ghost use Rattle.boot_fields.specs.Kind.{kind_of, version_of};
+ghost use Rattle.boot_findings.specs.LeftOut.{cmdline_of};
+ghost use Rattle.boot_rules.specs.Carried.{IsTaken};
+ghost use Rattle.pack_bodies.specs.Contents.{faults_in, packing_of};
+ghost use Rattle.pack_bodies.specs.Opening.{OpensMore, StopsOpening};
+ghost use Rattle.pack_bodies.specs.Own.{entries_to, kept_behind};
+ghost use Rattle.pack_bodies.specs.Packing.{output_path};
+ghost use Rattle.pack_bodies.specs.Parts.{IsFragmentPath, IsGivenPath};
+ghost use Rattle.pack_bodies.specs.RefusingAgain.{RefusesAgain, RefusesRepack, StopsFillingAgain};
+ghost use Rattle.pack_bodies.specs.Repacking.{AreAskedAgain, AreFragmentsAgain, HoldsNoPartAgain, IsPackedAgain};
+ghost use Rattle.pack_bodies.specs.Repacking.{KeepsGivenAgain, KeepsRead, PacksAgain, RepacksFile, ShowsFirst};
+ghost use Rattle.pack_bodies.specs.Writing.{HoldsNoPartOf, unprinted};
+
+use crate::contents::Contents;
+use crate::filling::filled;
+use crate::image_output::write_image;
+use crate::kept::{Kept, judged};
+use crate::own::{Own, open_own, trailing_of};
+use crate::own_fields::own_fields;
+use crate::own_ramdisks::own_fragments;
+use crate::parts::open_parts;
+use crate::places::output_at;
+use crate::ramdisks::{Ramdisks, open_fragments};
+use crate::telling::tell_left_out;
+use abt_disk::Disk;
+use abt_io::{Meter, Source, Window};
+use abt_output::Report;
+use abt_refusals::{HostRefusal, Place, Refusal, Sides};
+use abt_sections::BootSpec;
+use boot_bodies::BootOutcome;
+use boot_fields::ImageKind;
+use boot_findings::LeftOut;
+use boot_rules::{BootCommandFault, PackCommand, PackTexts, PartSource, with_given};
+use std::alloc::Global;
+
+/// Packs an image again, of which parts and fields may be given, and prints how many bytes it has.
+///
+/// The image and the parts are open before OUT is created or emptied. Bytes of the image that packing has no place for
+/// are counted on standard error.
+pub fn repack_file<'t, 'a, D: Disk>(
+    disk: &mut D,
+    report: &mut Report,
+    input: Place<'t>,
+    command: &'t PackCommand<'a>,
+    w: &mut Window,
+    m: &mut Meter,
+) -> BootOutcome<'t, 'a>
+    requires first { IsTrue D.tells → IsReading (D.held disk.old) }
+    // OUT is another file than IN and those that are given, and holds what IN's image is packed again to; what was
+    // printed tells of it
+    ensures done { IsTrue D.tells → OnOk result (RepacksFile (path_of input.entry) command.now (D.world disk.old)
+        (D.world disk.new) (ShowsFirst report.old report.new)) }
+    // it was synced, where that is wanted, and no call failed
+    ensures synced { IsTrue D.tells → OnOk result ((D.held disk.new).syncs
+        ≡ (D.held disk.old).syncs + (if (D.held disk.old).is_synced then 1 else 0)) }
+    ensures clean { IsTrue D.tells → OnOk result (HasNotFailed (D.held disk.old) (D.held disk.new)) }
+    // whatever the outcome, OUT alone may hold anything else, IN and the given files hold what they held, and OUT's
+    // file has no part of an image
+    ensures others { IsTrue D.tells → OnlyAt (D.held disk.old).read (output_path command.now.output.now)
+        (D.world disk.old) (D.world disk.new) }
+    ensures inputs { IsTrue D.tells → KeepsRead (path_of input.entry) command.now (D.world disk.old)
+        (D.world disk.new) }
+    ensures closed { IsTrue D.tells → (D.held disk.new).output ≡ None }
+    ensures whole { IsTrue D.tells → IsTrue (D.is_over (output_path command.now.output.now)) → HoldsNoPartAgain
+        (path_of input.entry) command.now (D.world disk.old) (D.world disk.new) }
+    // each fault is so: of IN's bytes, of the words or of what is packed before OUT is opened; or a call has failed; or
+    // all is done and can't be told
+    ensures refused { IsTrue D.tells → IfErr result (λ refusal. RefusesRepack (path_of input.entry) command.now
+        (D.world disk.old) (D.world disk.new) (D.held disk.old) (D.held disk.new) (RepacksFile (path_of input.entry)
+        command.now (D.world disk.old) (D.world disk.new) unprinted) refusal.fault) }
+{
+    let mut own = match open_own(disk, input, w, m) {
+        Ok(own) => own,
+        Err(refusal) => return Err(refusal),
+    };
+    let answer = pack_again(disk, report, &mut own, command, w, m);
+    disk.let_go_source(own.source);
+    match answer {
+        Ok(left) => {
+            tell_left_out(report, left);
+            Ok(())
+        }
+        Err(refusal) => Err(refusal),
+    }
+}
+
+// Packs the image that is open again, and answers what is left out of it.
+fn pack_again<'t, 'a, D: Disk>(
+    disk: &mut D,
+    report: &mut Report,
+    own: &mut Own<'t, D::At>,
+    command: &'t PackCommand<'a>,
+    w: &mut Window,
+    m: &mut Meter,
+) -> Result<LeftOut, Refusal<'t, BootCommandFault<'a>>>
+    requires first { IsTrue D.tells → IsReading (D.held disk.old) }
+    requires opened { IsTrue D.At.tells → IsOpened (D.At.content own.old.source) own.old.image }
+    ensures done { IsTrue D.tells → OnOk result (PacksAgain command.now (D.At.content own.old.source)
+        (view_of own.old.image.header) (D.held disk.old).read (D.world disk.old) (D.world disk.new)
+        (Shows report.old report.new)) }
+    ensures synced { IsTrue D.tells → OnOk result ((D.held disk.new).syncs
+        ≡ (D.held disk.old).syncs + (if (D.held disk.old).is_synced then 1 else 0)) }
+    ensures clean { IsTrue D.tells → OnOk result (NoMoreFailed (D.held disk.old) (D.At.read_faults own.old.source)
+        (D.held disk.new) (D.At.read_faults own.new.source)) }
+    ensures others { IsTrue D.tells → OnlyAt (D.held disk.old).read (output_path command.now.output.now)
+        (D.world disk.old) (D.world disk.new) }
+    ensures given { IsTrue D.tells → KeepsGivenAgain command.now (view_of own.old.image.header) (D.world disk.old)
+        (D.world disk.new) }
+    ensures closed { IsTrue D.tells → (D.held disk.new).output ≡ None }
+    ensures whole { IsTrue D.tells → IsTrue (D.is_over (output_path command.now.output.now)) → HoldsNoPartOf
+        (output_path command.now.output.now) (IsPackedAgain command.now (D.At.content own.old.source)
+        (view_of own.old.image.header) (D.world disk.old)) (D.world disk.old) (D.world disk.new) }
+    ensures refused { IsTrue D.tells → IfErr result (λ refusal. RefusesAgain command.now (D.At.content own.old.source)
+        (view_of own.old.image.header) (D.world disk.old) (D.world disk.new) (SomeFailed (D.held disk.old)
+        (D.At.read_faults own.old.source) (D.held disk.new) (D.At.read_faults own.new.source)) (PacksAgain command.now
+        (D.At.content own.old.source) (view_of own.old.image.header) (D.held disk.old).read (D.world disk.old)
+        (D.world disk.new) unprinted) refusal.fault) }
+{
+    let kind = ImageKind::of_header(&own.image.header);
+    let kept = match judged(&own.image, &mut own.source, kind, command, w, m) {
+        Ok(kept) => kept,
+        Err(fault) => return Err(of_own(own.place, fault)),
+    };
+    match write_again(disk, report, own, kind, &kept, command, w, m) {
+        Ok(()) => Ok(kept.left),
+        Err(refusal) => Err(refusal),
+    }
+}
+
+// A fault of the words, where the image is at hand.
+fn of_own<'t, 'a>(
+    input: Place<'t>,
+    fault: BootCommandFault<'a>,
+) -> Refusal<'t, BootCommandFault<'a>>
+    ensures { result.fault ≡ fault.entry }
+{
+    Sides::none().reading(input, None).refuse(fault)
+}
+
+// Writes the image again, as it is told.
+fn write_again<'t, 'a, D: Disk>(
+    disk: &mut D,
+    report: &mut Report,
+    own: &Own<'t, D::At>,
+    kind: ImageKind,
+    kept: &Kept,
+    command: &'t PackCommand<'a>,
+    w: &mut Window,
+    m: &mut Meter,
+) -> BootOutcome<'t, 'a>
+    requires first { IsTrue D.tells → IsReading (D.held disk.old) }
+    requires opened { IsTrue D.At.tells → IsOpened (D.At.content own.now.source) own.now.image }
+    requires kind { kind ≡ kind_of (view_of own.now.image.header) }
+    requires taken { All (IsTaken kind) command.now.texts.fragments.items }
+    requires cmdline { kept.now.cmdline.items ≡ text_of (cmdline_of (view_of own.now.image.header)) }
+    requires entries { IsTrue D.At.tells → command.now.texts.fragments.items ≡ [] → kept.now.entries.items
+        ≡ entries_to (D.At.content own.now.source) (view_of own.now.image.header)
+        (fragment_count (view_of own.now.image.header)) }
+    ensures done { IsTrue D.tells → OnOk result (PacksAgain command.now (D.At.content own.now.source)
+        (view_of own.now.image.header) (D.held disk.old).read (D.world disk.old) (D.world disk.new)
+        (Shows report.old report.new)) }
+    ensures synced { IsTrue D.tells → OnOk result ((D.held disk.new).syncs
+        ≡ (D.held disk.old).syncs + (if (D.held disk.old).is_synced then 1 else 0)) }
+    ensures clean { IsTrue D.tells → OnOk result (HasNotFailed (D.held disk.old) (D.held disk.new)) }
+    ensures others { IsTrue D.tells → OnlyAt (D.held disk.old).read (output_path command.now.output.now)
+        (D.world disk.old) (D.world disk.new) }
+    ensures given { IsTrue D.tells → KeepsGivenAgain command.now (view_of own.now.image.header) (D.world disk.old)
+        (D.world disk.new) }
+    ensures closed { IsTrue D.tells → (D.held disk.new).output ≡ None }
+    ensures whole { IsTrue D.tells → IsTrue (D.is_over (output_path command.now.output.now)) → HoldsNoPartOf
+        (output_path command.now.output.now) (IsPackedAgain command.now (D.At.content own.now.source)
+        (view_of own.now.image.header) (D.world disk.old)) (D.world disk.old) (D.world disk.new) }
+    ensures refused { IsTrue D.tells → IfErr result (λ refusal. RefusesAgain command.now (D.At.content own.now.source)
+        (view_of own.now.image.header) (D.world disk.old) (D.world disk.new) (HasFailed (D.held disk.old)
+        (D.held disk.new)) (PacksAgain command.now (D.At.content own.now.source) (view_of own.now.image.header)
+        (D.held disk.old).read (D.world disk.old) (D.world disk.new) unprinted) refusal.fault) }
+{
+    let own_fields = own_fields(&own.image.header, kept.cmdline.as_slice());
+    let fields = match with_given(own_fields, kind, command.page, &command.texts) {
+        Ok(fields) => fields,
+        Err(fault) => return Err(of_own(own.place, fault)),
+    };
+    let contents = match contents_of(disk, own, fields, kind, kept, command) {
+        Ok(contents) => contents,
+        Err(refusal) => return Err(refusal),
+    };
+    let output = output_at(&*command.output);
+    match write_image(disk, report, command.alloc, contents, output, w, m) {
+        Ok(()) => Ok(()),
+        Err(refusal) => Err(refusal),
+    }
+}
+
+// All that the image is written from: what was given, and else its own.
+fn contents_of<'t, 'f, 'a, D: Disk>(
+    disk: &mut D,
+    own: &Own<'t, D::At>,
+    fields: BootSpec<'f>,
+    kind: ImageKind,
+    kept: &Kept,
+    command: &'t PackCommand<'a>,
+) -> Result<Contents<'f, PartSource<'t, D::At>>, Refusal<'t, BootCommandFault<'a>>>
+    requires versioned { fields.version ≡ version_of kind }
+    requires first { IsTrue D.tells → (D.held disk.old).begun ≡ [] }
+    requires opened { IsTrue D.At.tells → IsOpened (D.At.content own.now.source) own.now.image }
+    requires kind { kind ≡ kind_of (view_of own.now.image.header) }
+    requires taken { All (IsTaken kind) command.now.texts.fragments.items }
+    requires entries { IsTrue D.At.tells → command.now.texts.fragments.items ≡ [] → kept.now.entries.items
+        ≡ entries_to (D.At.content own.now.source) (view_of own.now.image.header)
+        (fragment_count (view_of own.now.image.header)) }
+    ensures kind { IfOk result (λ contents. contents.kind ≡ kind) }
+    ensures asked { IsTrue D.tells → IfOk result (λ contents. AreAskedAgain command.now (D.world disk.old)
+        (D.At.content own.now.source) (view_of own.now.image.header) (boot_fields fields.entry)
+        (packing_of ⟦<PartSource<'t, D::At> as Source>⟧.content contents)) }
+    ensures behind { IsTrue D.tells → IfOk result (λ contents.
+        ⟦<PartSource<'t, D::At> as Source>⟧.content contents.trailing ≡ kept_behind command.now.keeps_trailing
+        (D.At.content own.now.source) (view_of own.now.image.header)) }
+    ensures nothing { IfOk result (λ contents. ⟦<PartSource<'t, D::At> as Source>⟧.size contents.nothing ≡ 0) }
+    ensures unread { IsTrue D.tells → IfOk result (λ contents.
+        faults_in ⟦<PartSource<'t, D::At> as Source>⟧.read_faults contents ≡ 0) }
+    ensures opened { IsTrue D.tells → OnOk result (OpensMore (IsGivenPath command.now.texts kind) (D.world disk.old)
+        (D.held disk.old) (D.held disk.new)) }
+    ensures refused { IsTrue D.tells → IfErr result (λ refusal. StopsFillingAgain command.now (D.world disk.old)
+        (D.At.content own.now.source) (view_of own.now.image.header) (HasFailed (D.held disk.old) (D.held disk.new))
+        refusal.fault) }
+    ensures output { IsTrue D.tells → (D.held disk.new).output ≡ (D.held disk.old).output }
+    ensures world { IsTrue D.tells → D.world disk.new ≡ D.world disk.old }
+{
+    let texts = &command.texts;
+    let ramdisks = match ramdisks_of(disk, command.alloc, own, kept, texts) {
+        Ok(ramdisks) => ramdisks,
+        Err(refusal) => return Err(refusal.into()),
+    };
+    let parts = match open_parts(disk, command.alloc, kind, texts, Some(own)) {
+        Ok(parts) => parts,
+        Err(refusal) => return Err(refusal.into()),
+    };
+    let ramdisks = match ramdisks.with_board_ids(command.board_ids.as_slice()) {
+        Ok(ramdisks) => ramdisks,
+        Err(refusal) => return Err(refusal),
+    };
+    match trailing_of(disk, own, command.keeps_trailing) {
+        Ok(trailing) => Ok(filled(kind, fields, texts, parts, ramdisks, trailing)),
+        Err(refusal) => Err(refusal.into()),
+    }
+}
+
+// The fragments that were given, and else its own.
+fn ramdisks_of<'t, D: Disk>(
+    disk: &mut D,
+    alloc: Global,
+    own: &Own<'t, D::At>,
+    kept: &Kept,
+    texts: &'t PackTexts<'_>,
+) -> Result<Ramdisks<'t, D::At>, HostRefusal<'t>>
+    requires first { IsTrue D.tells → (D.held disk.old).begun ≡ [] }
+    requires opened { IsTrue D.At.tells → IsOpened (D.At.content own.now.source) own.now.image }
+    requires taken { All (IsTaken (kind_of (view_of own.now.image.header))) texts.now.fragments.items }
+    requires entries { IsTrue D.At.tells → texts.now.fragments.items ≡ [] → kept.now.entries.items
+        ≡ entries_to (D.At.content own.now.source) (view_of own.now.image.header)
+        (fragment_count (view_of own.now.image.header)) }
+    ensures fragments { IsTrue D.tells → IfOk result (λ all. AreFragmentsAgain (D.world disk.old)
+        texts.now.fragments.items (D.At.content own.now.source) (view_of own.now.image.header) all.specs.items
+        (map ⟦<PartSource<'t, D::At> as Source>⟧.content all.sources.items)) }
+    ensures unread { IsTrue D.tells → IfOk result (λ all.
+        total ⟦<PartSource<'t, D::At> as Source>⟧.read_faults all.sources.items ≡ 0) }
+    ensures opened { IsTrue D.tells → OnOk result (OpensMore (IsFragmentPath texts.now.fragments.items)
+        (D.world disk.old) (D.held disk.old) (D.held disk.new)) }
+    ensures refused { IsTrue D.tells → IfErr result (λ refusal. StopsOpening (IsFragmentPath
+        texts.now.fragments.items) (D.held disk.old) (D.held disk.new) refusal.fault) }
+    ensures output { IsTrue D.tells → (D.held disk.new).output ≡ (D.held disk.old).output }
+    ensures world { IsTrue D.tells → D.world disk.new ≡ D.world disk.old }
+{
+    if texts.fragments.as_slice().is_empty() {
+        own_fragments(disk, alloc, own, kept.entries.as_slice())
+    } else {
+        open_fragments(disk, alloc, texts)
+    }
+}

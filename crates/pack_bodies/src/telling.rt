@@ -1,0 +1,25 @@
+//! What is told of an image that was packed again, beside its line.
+
+ghost use Rattle.std.specs.Prelude.{ℕ, List};
+ghost use Rattle.abt_output.specs.Shows.{Shows};
+ghost use Rattle.abt_output.specs.declared.report.Report.{Report};
+ghost use Rattle.pack_bodies.specs.Repacking.{ShowsFirst};
+
+use crate::lines::LeftOutNote;
+use abt_output::Report;
+use abt_text::Text;
+use boot_findings::LeftOut;
+
+/// Tells on standard error what was left out, if anything was.
+pub(crate) fn tell_left_out(report: &mut Report, left: LeftOut)
+    ensures { (before : Report) (line : List ℕ) → Shows before report.old line → ShowsFirst before report.new line }
+{
+    if left.is_nothing() {
+        return;
+    }
+    report.progress.erase();
+    let mut text = Text::new(&mut report.err);
+    text.short(LeftOutNote(left));
+    text.end_line();
+    let _ = text.finish();
+}

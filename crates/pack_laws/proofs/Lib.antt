@@ -1,0 +1,9 @@
+pub mod Again
+pub mod Boards
+pub mod Cuts
+pub mod Fields
+pub mod Fragments
+pub mod Lines
+pub mod Options
+pub mod Parts
+pub mod Unsaid
