@@ -1,1 +1,3 @@
+pub mod BootDone
 pub mod Mistake
+pub mod WordFiles

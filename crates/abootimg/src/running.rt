@@ -2,6 +2,8 @@
 
 ghost use Rattle.std.specs.Prelude.{◌≤◌};
 
+use crate::boot_task::do_boot;
+use crate::sparse_task::do_sparse;
 use crate::telling::{print, refused};
 use crate::word_files::read_word_files;
 use crate::wrong_words::wrong_words;
@@ -11,8 +13,8 @@ use abt_output::{Progress, Report};
 use abt_refusals::{HostRefusal, Refusal};
 use abt_values::expanded;
 use abt_words::{Order, Task, order_of};
-use boot_commands::{BootCommand, boot_command};
-use sparse_commands::sparse_command;
+use boot_commands::BootCommand;
+use host_disk::Host;
 use sparse_rules::SparseCommandFault;
 use sparse_texts::demo;
 use std::io::IsTerminal;
@@ -32,8 +34,8 @@ pub fn run(
 {
     let alloc = rt.alloc();
     let is_terminal = rt.stderr().is_terminal();
-    let mut reading = Reading::new(rt);
-    let texts = match read_word_files(&mut reading, words) {
+    let mut disk = Host::new(Reading::new(rt));
+    let texts = match read_word_files(&mut disk, words, alloc) {
         Ok(texts) => texts,
         Err(refusal) => return refused(rt, refusal, is_terminal, report),
     };
@@ -41,7 +43,7 @@ pub fn run(
         return refused(rt, HostRefusal::memory(), is_terminal, report);
     };
     match order_of(alloc, words.as_slice()) {
-        Ok(order) => carry_out(rt, order, reading, is_terminal, report, w, m),
+        Ok(order) => carry_out(rt, order, &mut disk, is_terminal, report, w, m),
         Err(fault) => wrong_words(rt, words.as_slice(), &fault, is_terminal, report),
     }
 }
@@ -60,7 +62,7 @@ pub fn demonstrate(rt: HostRuntime, report: &mut Report, w: &mut Window, m: &mut
 fn carry_out(
     rt: HostRuntime,
     order: Order<'_>,
-    reading: Reading,
+    disk: &mut Host,
     is_terminal: bool,
     report: &mut Report,
     w: &mut Window,
@@ -69,24 +71,19 @@ fn carry_out(
     ensures { result ≤ 2 }
 {
     let is_verbose = order.is_verbose || is_terminal;
-    let mut reading = reading;
     if order.is_synced {
-        reading.sync_outputs();
+        disk.sync_outputs();
     }
     if is_terminal && !order.is_quiet {
         report.progress = Progress::shown(rt, order.command);
     }
     match order.task {
-        Task::Sparse(task) => {
-            let outcome = sparse_command(reading, report, task, w, m);
-            answer(outcome, is_verbose, rt.alloc(), report)
-        }
+        Task::Sparse(task) => do_sparse(disk, task, is_verbose, rt.alloc(), report, w, m),
         Task::Boot(task) => {
             let Ok(command) = BootCommand::new(rt.alloc(), task) else {
                 return refused(rt, HostRefusal::memory(), is_verbose, report);
             };
-            let outcome = boot_command(reading, report, &command, w, m);
-            answer(outcome, is_verbose, rt.alloc(), report)
+            do_boot(disk, &command, is_verbose, rt.alloc(), report, w, m)
         }
         Task::Completions(shell) => print(rt, shell.completions(), is_verbose, report),
     }

@@ -1,27 +1,31 @@
 //! Which command over boot images it is.
 
-use crate::pack::pack_file;
+ghost use Rattle.std.specs.Prelude.{◌≡◌, IsTrue, IfErr, IfOk, OnOk};
+ghost use Rattle.abt_disk.specs.World.{HasNotFailed, IsReading};
+ghost use Rattle.abt_refusals.specs.Paths.{path_of};
+ghost use Rattle.boot_commands.specs.Commands.{DoesKind, IsKindOf, LeavesNoPart, RefusesKind, SparesKind};
+
 use crate::pack_order::command_of;
-use crate::repack::repack_file;
-use abt_host::Reading;
+use abt_disk::Disk;
 use abt_io::{Meter, Window};
 use abt_output::Report;
 use abt_refusals::Place;
 use abt_words::BootTask;
 use boot_bodies::{BootOutcome, unpack_file};
 use boot_rules::PackCommand;
-use host_disk::Host;
 use info_bodies::info_file;
+use pack_bodies::{pack_file, repack_file};
 use std::alloc::{AllocError, Global};
 
 /// A command over boot images, whose words are read.
 #[derive(Drop)]
 pub struct BootCommand<'a> {
-    kind: Kind<'a>,
+    pub kind: Kind<'a>,
 }
 
+/// Which one it is.
 #[derive(Drop)]
-enum Kind<'a> {
+pub enum Kind<'a> {
     Pack(PackCommand<'a>),
     Repack {
         input: &'a str,
@@ -41,13 +45,18 @@ enum Kind<'a> {
 
 impl<'a> BootCommand<'a> {
     /// Reads the words that stand for bytes.
-    pub fn new(alloc: Global, task: BootTask<'a>) -> Result<BootCommand<'a>, AllocError> {
+    pub fn new(alloc: Global, task: BootTask<'a>) -> Result<BootCommand<'a>, AllocError>
+        ensures { IfOk result (λ command. IsKindOf task.entry command.kind) }
+    {
         let kind = match task {
-            BootTask::Pack(order) => Kind::Pack(command_of(alloc, order)?),
-            BootTask::Repack { input, order } => {
-                let command = command_of(alloc, order)?;
-                Kind::Repack { input, command }
-            }
+            BootTask::Pack(order) => match command_of(alloc, order) {
+                Ok(command) => Kind::Pack(command),
+                Err(error) => return Err(error),
+            },
+            BootTask::Repack { input, order } => match command_of(alloc, order) {
+                Ok(command) => Kind::Repack { input, command },
+                Err(error) => return Err(error),
+            },
             BootTask::Unpack {
                 input,
                 folder,
@@ -72,46 +81,53 @@ impl<'a> BootCommand<'a> {
 }
 
 /// Does what a command asks for.
-pub fn boot_command<'t, 'a>(
-    reading: Reading,
+pub fn boot_command<'t, 'a, D: Disk>(
+    disk: &mut D,
     report: &mut Report,
     command: &'t BootCommand<'a>,
     w: &mut Window,
     m: &mut Meter,
-) -> BootOutcome<'t, 'a> {
+) -> BootOutcome<'t, 'a>
+    requires first { IsTrue D.tells → IsReading (D.held disk.old) }
+    // it is done, by its own body, at the files that its words name
+    ensures done { IsTrue D.tells → OnOk result (DoesKind command.now.kind (D.world disk.old) (D.held disk.old)
+        report.old (D.world disk.new) (D.held disk.new) report.new) }
+    // whatever the outcome, what it reads holds what it held, and none has changed but what it is to write
+    ensures spares { IsTrue D.tells → SparesKind command.now.kind (D.world disk.old) (D.held disk.old)
+        (D.world disk.new) (D.held disk.new) }
+    ensures whole { IsTrue D.tells → LeavesNoPart D.is_over command.now.kind (D.world disk.old) (D.world disk.new) }
+    // it is done only where nothing failed
+    ensures clean { IsTrue D.tells → OnOk result (HasNotFailed (D.held disk.old) (D.held disk.new)) }
+    // it is refused for what its body is refused for
+    ensures refused { IsTrue D.tells → IfErr result (λ refusal. RefusesKind refusal.fault command.now.kind
+        (D.world disk.old) (D.held disk.old) report.old (D.world disk.new) (D.held disk.new) report.new) }
+{
     match &command.kind {
-        Kind::Pack(command) => {
-            let mut disk = Host::new(reading);
-            pack_file(&mut disk, report, command, w, m)
-        }
+        Kind::Pack(command) => pack_file(disk, report, command, w, m),
         Kind::Repack { input, command } => {
-            let mut disk = Host::new(reading);
-            repack_file(&mut disk, report, input, command, w, m)
+            repack_file(disk, report, input_at(input), command, w, m)
         }
         Kind::Unpack {
             input,
             folder,
             with_words,
-        } => {
-            let mut disk = Host::new(reading);
-            unpack_file(
-                &mut disk,
-                report,
-                Place::new("IN", input),
-                folder,
-                *with_words,
-                w,
-                m,
-            )
-        }
+        } => unpack_file(disk, report, input_at(input), folder, *with_words, w, m),
         Kind::Info {
             input,
             with_check,
             with_hex,
-        } => {
-            let mut disk = Host::new(reading);
-            let place = Place::new("IN", input);
-            info_file(&mut disk, report, place, *with_check, *with_hex, w, m)
-        }
+        } => info_file(disk, report, input_at(input), *with_check, *with_hex, w, m),
+    }
+}
+
+// The file at a word, where `-` is a file of that name.
+fn input_at<'a>(word: &'a str) -> Place<'a>
+    ensures { path_of result ≡ word.now }
+{
+    Place {
+        role: "IN",
+        folder: None,
+        name: word,
+        number: None,
     }
 }

@@ -1,51 +1,76 @@
 //! What is to be done with a sparse image, and the command that does it.
 
-use crate::host_commands::{
-    cut_image, expand_files, flash_pieces, flash_straight, list_file, sparse_file, verify_image,
+ghost use Rattle.std.specs.Prelude.{◌≡◌, None, IsTrue, IfErr, OnOk};
+ghost use Rattle.abt_disk.specs.World.{HasNotFailed, IsReading};
+ghost use Rattle.sparse_commands.specs.Commands.{DoesTask, LeavesNoPart, RefusesTask, SparesFiles, state};
+
+use crate::commands::{
+    cut_image, expand_files, flash_pieces, flash_straight, list_image, sparsify, verify_image,
 };
-use abt_host::Reading;
+use abt_disk::Disk;
 use abt_io::{Meter, Window};
 use abt_output::Report;
 use abt_words::SparseTask;
 use sparse_rules::SparseRefusal;
+use std::alloc::Global;
 
 /// Does what the words ask for.
-pub fn sparse_command<'a>(
-    reading: Reading,
+pub fn sparse_command<'a, D: Disk>(
+    disk: &mut D,
     report: &mut Report,
     task: SparseTask<'a>,
+    alloc: Global,
     w: &mut Window,
     m: &mut Meter,
-) -> Result<(), SparseRefusal<'a>> {
+) -> Result<(), SparseRefusal<'a>>
+    requires first { IsTrue D.tells → IsReading (D.held disk.old) }
+    requires one { IsTrue D.tells → (D.held disk.old).part ≡ None }
+    requires through { IsTrue D.tells → (D.held disk.old).spool ≡ None }
+    // the task is done, by its own command, at the files that its words name
+    ensures done { IsTrue D.tells → OnOk result (DoesTask task.entry (state (D.world disk.old) (D.held disk.old)
+        report.old) (state (D.world disk.new) (D.held disk.new) report.new)) }
+    // whatever the outcome, what it reads holds what it held, and none has changed but what it is to write
+    ensures spares { IsTrue D.tells → SparesFiles task.entry (state (D.world disk.old) (D.held disk.old) report.old)
+        (state (D.world disk.new) (D.held disk.new) report.new) }
+    ensures whole { IsTrue D.tells → LeavesNoPart D.is_over task.entry
+        (state (D.world disk.old) (D.held disk.old) report.old)
+        (state (D.world disk.new) (D.held disk.new) report.new) }
+    // it is done only where nothing failed
+    ensures clean { IsTrue D.tells → OnOk result (HasNotFailed (D.held disk.old) (D.held disk.new)) }
+    // it is refused for what its command is refused for
+    ensures refused { IsTrue D.tells → IfErr result (λ refusal. RefusesTask refusal.fault task.entry
+        (state (D.world disk.old) (D.held disk.old) report.old)
+        (state (D.world disk.new) (D.held disk.new) report.new)) }
+{
     match task {
         SparseTask::Expand { inputs, output } => {
-            expand_files(reading, report, inputs.as_slice(), output, w, m)
+            expand_files(disk, report, inputs.as_slice(), output, alloc, w, m)
         }
-        SparseTask::List { input } => list_file(reading, report, input, w, m),
+        SparseTask::List { input } => list_image(disk, report, input, w, m),
         SparseTask::Sparse {
             input,
             output,
             block,
-        } => sparse_file(reading, report, input, output, block, w, m),
+        } => sparsify(disk, report, input, output, block, w, m),
         SparseTask::Cut {
             input,
             limit,
             prefix,
             raw,
-        } => cut_image(reading, report, input, limit, prefix, raw, w, m),
+        } => cut_image(disk, report, input, limit, prefix, raw, w, m),
         SparseTask::Flash {
             input,
             partition,
             raw,
             pieces,
         } => match pieces {
-            Some(pieces) => flash_pieces(reading, report, input, partition, raw, pieces, w, m),
-            None => flash_straight(reading, report, input, partition, raw, w, m),
+            Some(pieces) => flash_pieces(disk, report, input, partition, raw, pieces, w, m),
+            None => flash_straight(disk, report, input, partition, raw, w, m),
         },
         SparseTask::Verify {
             input,
             partition,
             raw,
-        } => verify_image(reading, report, input, partition, raw, w, m),
+        } => verify_image(disk, report, input, partition, raw, w, m),
     }
 }

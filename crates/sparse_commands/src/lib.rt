@@ -1,13 +1,16 @@
-//! The commands of sparse images: which one it is, and its body at the files of the system. The bodies stand in
-//! `sparse_bodies`, `image_bodies` and `flash_bodies`, over any disk: that is what is proved of them.
+//! The commands of sparse images: which one it is, and its body at the files that the words name. The bodies stand in
+//! `sparse_bodies`, `image_bodies` and `flash_bodies`; here it is proved, over any disk, that a task is done by its own
+//! body, with each word and number where it belongs.
 //!
 //! | file | has |
 //! |---|---|
 //! | `command.rt` | which command it is |
-//! | `host_commands.rt` | each command at the files of the system |
+//! | `commands.rt` | each command: one call of its body |
+//! | `places.rt` | the files that the words name |
 #![tactic(auto)]
 
 mod command;
-mod host_commands;
+mod commands;
+mod places;
 
 pub use command::sparse_command;

@@ -1,0 +1,70 @@
+-- What a status of 0 tells.
+use Rattle.std.proofs.Common.{arith, ◌≡◌, ℕ, List, [], ◌∷◌, Bool, true, false, Some, None, map, sym, subst, cond}
+use Rattle.std.specs.Prelude.{Result, Ok, Err, IfErr, OnOk}
+use Rattle.abt_words.specs.declared.order.SparseTask.{SparseTask}
+use Rattle.abt_words.specs.declared.order.SparseTask.TheVariants as tasks
+use Rattle.abt_disk.specs.World.{World, Held}
+use Rattle.abt_output.specs.declared.report.Report.{Report}
+use Rattle.abt_output.specs.declared.progress.Progress.{Progress}
+use Rattle.abt_host.specs.Answering.{PrintsNothing}
+use Rattle.sparse_commands.specs.Commands.{DoesTask, Expands, SparesExpanded, SparesFiles, State, state}
+
+not_zero : (n : ℕ) (wrong : Bool) → n ≡ cond wrong 2 1 → n ≡ 0 → ⊥
+not_zero n true is zero_is = omega (arith, is, zero_is)
+not_zero n false is zero_is = omega (arith, is, zero_is)
+
+-- status 0 is told of no refusal
+pub status_zero : {X E : Type 0} (r : Result X E) (n : ℕ) (P : Type 0) (wrong : E → Bool)
+    → IfErr r (λ e. n ≡ cond (wrong e) 2 1) → n ≡ 0 → OnOk r P → P
+status_zero (Ok x) n P wrong refused zero_is is = is
+status_zero (Err e) n P wrong refused zero_is is = absurd (not_zero n (wrong e) refused zero_is)
+
+-- ---- how far it is has no part in what is done, nor in what stays
+
+expands_as : (words : List (List ℕ)) (output : List ℕ) (a : State) (w : World) (h : Held) (r : Report) (p : Progress)
+    → Expands words output a (state w h r) → Expands words output a (state w h (record r { progress = p }))
+expands_as [] output a w h r p is = is
+expands_as (x ∷ []) output a w h r p is = is
+expands_as (x ∷ (y ∷ rest)) output a w h r p is = is
+
+does_as : (task : SparseTask) (a : State) (w : World) (h : Held) (r : Report) (p : Progress)
+    → DoesTask task a (state w h r) → DoesTask task a (state w h (record r { progress = p }))
+does_as (tasks.Expand inputs output) a w h r p is =
+    expands_as (map (λ word. word.now) inputs.items) output.now a w h r p is
+does_as (tasks.List input) a w h r p is = is
+does_as (tasks.Sparse input output block) a w h r p is = is
+does_as (tasks.Cut input limit prefix raw) a w h r p is = is
+does_as (tasks.Flash input partition None None) a w h r p is = is
+does_as (tasks.Flash input partition (Some size) None) a w h r p is = is
+does_as (tasks.Flash input partition None (Some pieces)) a w h r p is = is
+does_as (tasks.Flash input partition (Some size) (Some pieces)) a w h r p is = is
+does_as (tasks.Verify input partition None) a w h r p is = is
+does_as (tasks.Verify input partition (Some size)) a w h r p is = is
+
+spares_expanded_as : (words : List (List ℕ)) (output : List ℕ) (a : State) (w : World) (h : Held) (r r' : Report)
+    → SparesExpanded words output a (state w h r) → SparesExpanded words output a (state w h r')
+spares_expanded_as [] output a w h r r' is = is
+spares_expanded_as (x ∷ []) output a w h r r' is = is
+spares_expanded_as (x ∷ (y ∷ rest)) output a w h r r' is = is
+
+pub spares_as : (task : SparseTask) (a : State) (w : World) (h : Held) (r r' : Report)
+    → SparesFiles task a (state w h r) → SparesFiles task a (state w h r')
+spares_as (tasks.Expand inputs output) a w h r r' is =
+    spares_expanded_as (map (λ word. word.now) inputs.items) output.now a w h r r' is
+spares_as (tasks.List input) a w h r r' is = is
+spares_as (tasks.Sparse input output block) a w h r r' is = is
+spares_as (tasks.Cut input limit prefix raw) a w h r r' is = is
+spares_as (tasks.Flash input partition raw None) a w h r r' is = is
+spares_as (tasks.Flash input partition raw (Some pieces)) a w h r r' is = is
+spares_as (tasks.Verify input partition raw) a w h r r' is = is
+
+pub both_told : {X E : Type 0} (r : Result X E) (P Q R : Type 0) → (P → Q → R) → OnOk r P → OnOk r Q → OnOk r R
+both_told (Ok x) P Q R join p q = join p q
+both_told (Err e) P Q R join p q = tt
+
+-- the answer behind it prints nothing
+pub told_done : {X E : Type 0} (result : Result X E) (task : SparseTask) (a : State) (w : World) (h : Held)
+    (r r' : Report) → OnOk result (DoesTask task a (state w h r)) → OnOk result (PrintsNothing r r')
+    → OnOk result (DoesTask task a (state w h r'))
+told_done result task a w h r r' done quiet = both_told result _ _ _
+    (λ is same. subst (λ q. DoesTask task a (state w h q)) (sym same) (does_as task a w h r r'.progress is)) done quiet

@@ -1,0 +1,38 @@
+//! Doing a command over boot images, and the exit status.
+
+ghost use Rattle.std.specs.Prelude.{◌≡◌, ◌≤◌, IsTrue};
+ghost use Rattle.abt_disk.specs.World.{HasNotFailed, IsReading};
+ghost use Rattle.boot_commands.specs.Commands.{SparesKind};
+ghost use Rattle.abootimg.specs.BootDone.{BootDone};
+
+use abt_disk::Disk;
+use abt_host::answer;
+use abt_io::{Meter, Window};
+use abt_output::Report;
+use boot_commands::{BootCommand, boot_command};
+use std::alloc::Global;
+
+/// Does a command over boot images, and answers the exit status.
+pub fn do_boot<D: Disk>(
+    disk: &mut D,
+    command: &BootCommand<'_>,
+    is_verbose: bool,
+    alloc: Global,
+    report: &mut Report,
+    w: &mut Window,
+    m: &mut Meter,
+) -> u8
+    requires first { IsTrue D.tells → IsReading (D.held disk.old) }
+    ensures status { result ≤ 2 }
+    // the status is 0 only where it is done, and what was printed tells of it
+    ensures done { IsTrue D.tells → result ≡ 0 → BootDone command.now.kind (D.world disk.old) (D.held disk.old)
+        report.old (D.world disk.new) (D.held disk.new) report.new }
+    // and where nothing failed
+    ensures clean { IsTrue D.tells → result ≡ 0 → HasNotFailed (D.held disk.old) (D.held disk.new) }
+    // whatever the status, what it reads holds what it held, and none has changed but what it is to write
+    ensures spares { IsTrue D.tells → SparesKind command.now.kind (D.world disk.old) (D.held disk.old)
+        (D.world disk.new) (D.held disk.new) }
+{
+    let outcome = boot_command(disk, report, command, w, m);
+    answer(outcome, is_verbose, alloc, report)
+}

@@ -1,0 +1,40 @@
+//! Doing a task of sparse images, and the exit status.
+
+ghost use Rattle.std.specs.Prelude.{◌≡◌, ◌≤◌, None, IsTrue};
+ghost use Rattle.abt_disk.specs.World.{HasNotFailed, IsReading};
+ghost use Rattle.sparse_commands.specs.Commands.{DoesTask, SparesFiles, state};
+
+use abt_disk::Disk;
+use abt_host::answer;
+use abt_io::{Meter, Window};
+use abt_output::Report;
+use abt_words::SparseTask;
+use sparse_commands::sparse_command;
+use std::alloc::Global;
+
+/// Does a task of sparse images, and answers the exit status.
+pub fn do_sparse<D: Disk>(
+    disk: &mut D,
+    task: SparseTask<'_>,
+    is_verbose: bool,
+    alloc: Global,
+    report: &mut Report,
+    w: &mut Window,
+    m: &mut Meter,
+) -> u8
+    requires first { IsTrue D.tells → IsReading (D.held disk.old) }
+    requires one { IsTrue D.tells → (D.held disk.old).part ≡ None }
+    requires through { IsTrue D.tells → (D.held disk.old).spool ≡ None }
+    ensures status { result ≤ 2 }
+    // the status is 0 only where the task is done, and what was printed tells of it
+    ensures done { IsTrue D.tells → result ≡ 0 → DoesTask task.entry (state (D.world disk.old) (D.held disk.old)
+        report.old) (state (D.world disk.new) (D.held disk.new) report.new) }
+    // and where nothing failed
+    ensures clean { IsTrue D.tells → result ≡ 0 → HasNotFailed (D.held disk.old) (D.held disk.new) }
+    // whatever the status, what it reads holds what it held, and none has changed but what it is to write
+    ensures spares { IsTrue D.tells → SparesFiles task.entry (state (D.world disk.old) (D.held disk.old) report.old)
+        (state (D.world disk.new) (D.held disk.new) report.new) }
+{
+    let outcome = sparse_command(disk, report, task, alloc, w, m);
+    answer(outcome, is_verbose, alloc, report)
+}

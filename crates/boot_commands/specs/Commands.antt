@@ -1,0 +1,83 @@
+-- What a command over boot images does with the files that its words name, leaves of them, and is refused for.
+use Rattle.std.specs.Prelude.{◌≡◌, ◌+◌, ℕ, List, Bool, IsTrue, if◌then◌else◌}
+use Rattle.abt_words.specs.declared.order.BootTask.{BootTask}
+use Rattle.abt_words.specs.declared.order.BootTask.TheVariants as tasks
+use Rattle.abt_output.specs.declared.report.Report.{Report}
+use Rattle.abt_output.specs.Shows.{Shows}
+use Rattle.abt_disk.specs.Among.{OnlyAmong}
+use Rattle.abt_disk.specs.World.{World, Held, HasFailed, OnlyAt, KeepsFile}
+use Rattle.boot_rules.specs.declared.fault.BootCommandFault.{BootCommandFault}
+use Rattle.boot_bodies.specs.Faults.{RefusesImage}
+use Rattle.boot_bodies.specs.Lines.{ShowsEach}
+use Rattle.boot_bodies.specs.Unpacking.{IsPartOf, PartsStand, SyncsParts, Unpacks}
+use Rattle.info_bodies.specs.Informing.{RefusesInfo, TellsFile, notation_of}
+use Rattle.pack_bodies.specs.Packing.{HoldsNoPart, KeepsGiven, PacksFile, output_path}
+use Rattle.pack_bodies.specs.Refusing.{RefusesPack}
+use Rattle.pack_bodies.specs.RefusingAgain.{RefusesRepack}
+use Rattle.pack_bodies.specs.Repacking.{HoldsNoPartAgain, KeepsRead, RepacksFile, ShowsFirst}
+use Rattle.pack_bodies.specs.Writing.{unprinted}
+use Rattle.boot_commands.specs.Ordered.{IsCommandOf}
+use Rattle.boot_commands.specs.declared.command.BootCommand.{BootCommand}
+use Rattle.boot_commands.specs.declared.command.Kind.{Kind}
+use Rattle.boot_commands.specs.declared.command.Kind.TheVariants as kinds
+
+-- the command that a task asks for, with the bytes that its words stand for
+abbrev pub IsKindOf : BootTask → Kind → Type 0
+IsKindOf (tasks.Pack order) (kinds.Pack command) = IsCommandOf order command
+IsKindOf (tasks.Repack input order) (kinds.Repack from command) = (from.now ≡ input.now) × IsCommandOf order command
+IsKindOf (tasks.Unpack input folder with_words) (kinds.Unpack from onto are_wanted) =
+    (from.now ≡ input.now) × (onto.now ≡ folder.now) × (are_wanted ≡ with_words)
+IsKindOf (tasks.Info input with_check with_hex) (kinds.Info from check hex) =
+    (from.now ≡ input.now) × (check ≡ with_check) × (hex ≡ with_hex)
+IsKindOf task kind = ⊥
+
+-- one output more was synced, where that is wanted
+abbrev pub SyncsOne : Held → Held → Type 0
+SyncsOne old new = new.syncs ≡ old.syncs + (if old.is_synced then 1 else 0)
+
+-- ---- what is done, from one moment to another
+
+abbrev pub DoesKind : Kind → World → Held → Report → World → Held → Report → Type 0
+DoesKind (kinds.Pack command) world held report world' held' report' =
+    PacksFile command world world' (Shows report report') × SyncsOne held held'
+DoesKind (kinds.Repack input command) world held report world' held' report' =
+    RepacksFile input.now command world world' (ShowsFirst report report') × SyncsOne held held'
+DoesKind (kinds.Unpack input folder with_words) world held report world' held' report' =
+    Unpacks input.now folder.now with_words world world' (λ lines. ShowsEach lines report report')
+    × SyncsParts input.now with_words world held held'
+DoesKind (kinds.Info input with_check with_hex) world held report world' held' report' =
+    TellsFile input.now (notation_of with_hex) with_check world report report'
+
+-- ---- what stays, whatever the outcome: OUT, or files of the parts' names, alone may hold anything else
+
+abbrev pub SparesKind : Kind → World → Held → World → Held → Type 0
+SparesKind (kinds.Pack command) world held world' held' =
+    OnlyAt held.read (output_path command.output.now) world world' × KeepsGiven command world world'
+SparesKind (kinds.Repack input command) world held world' held' =
+    OnlyAt held.read (output_path command.output.now) world world' × KeepsRead input.now command world world'
+SparesKind (kinds.Unpack input folder with_words) world held world' held' =
+    OnlyAmong (IsPartOf input.now folder.now with_words world) held.read held'.begun world world'
+    × KeepsFile input.now world world'
+SparesKind (kinds.Info input with_check with_hex) world held world' held' = world' ≡ world
+
+-- OUT of these is no image unless all of it is there, where it can be written over
+abbrev pub LeavesNoPart : (List ℕ → Bool) → Kind → World → World → Type 0
+LeavesNoPart over (kinds.Pack command) world world' =
+    IsTrue (over (output_path command.output.now)) → HoldsNoPart command world world'
+LeavesNoPart over (kinds.Repack input command) world world' =
+    IsTrue (over (output_path command.output.now)) → HoldsNoPartAgain input.now command world world'
+LeavesNoPart over (kinds.Unpack input folder with_words) world world' = Unit {0}
+LeavesNoPart over (kinds.Info input with_check with_hex) world world' = Unit {0}
+
+-- ---- why it is refused
+
+abbrev pub RefusesKind : BootCommandFault → Kind → World → Held → Report → World → Held → Report → Type 0
+RefusesKind fault (kinds.Pack command) world held report world' held' report' =
+    RefusesPack command world world' held held' (PacksFile command world world' unprinted) fault
+RefusesKind fault (kinds.Repack input command) world held report world' held' report' =
+    RefusesRepack input.now command world world' held held' (RepacksFile input.now command world world' unprinted) fault
+RefusesKind fault (kinds.Unpack input folder with_words) world held report world' held' report' =
+    RefusesImage input.now world (HasFailed held held')
+    (PartsStand input.now folder.now with_words world held' world') fault
+RefusesKind fault (kinds.Info input with_check with_hex) world held report world' held' report' =
+    RefusesInfo input.now (notation_of with_hex) with_check world (HasFailed held held') report report' fault

@@ -1,0 +1,247 @@
+//! The commands over sparse images over any disk: each is one call of its body, at the files that the words name.
+
+ghost use Rattle.std.specs.Prelude.{◌≡◌, [], None, Some, IsTrue, IfErr, OnOk, map};
+ghost use Rattle.abt_disk.specs.World.{HasNotFailed, IsReading};
+ghost use Rattle.image_bodies.specs.Sparsing.{HoldsNoPart};
+ghost use Rattle.sparse_commands.specs.Commands.{Cuts, Expands, Flashes, Lists, Sparsifies, Verifies, state};
+ghost use Rattle.sparse_commands.specs.Commands.{RefusesCutting, RefusesExpand, RefusesFlashing, RefusesListing};
+ghost use Rattle.sparse_commands.specs.Commands.{RefusesSparse, RefusesVerifying};
+ghost use Rattle.sparse_commands.specs.Commands.{SparesCut, SparesExpanded, SparesFlashed, SparesSparsified};
+ghost use Rattle.sparse_commands.specs.Commands.{output_path};
+
+use crate::places::place;
+use abt_disk::Disk;
+use abt_io::{Meter, Window};
+use abt_output::Report;
+use abt_words::Pieces;
+use flash_bodies::{
+    flash_file, flash_pieces_file, flash_raw_file, list_file, verify_file, verify_raw_file,
+};
+use image_bodies::{Cutting, cut_file, sparse_file};
+use sparse_bodies::{expand_one, expand_several};
+use sparse_rules::{SparseRefusal, image_place};
+use std::alloc::Global;
+
+/// Writes the raw image of a sparse one, or of several laid over one another, and prints what it has.
+///
+/// Where there is one, `-` is standard input, and standard output.
+#[inline(never)]
+pub(crate) fn expand_files<'a, D: Disk>(
+    disk: &mut D,
+    report: &mut Report,
+    inputs: &[&'a str],
+    output: &'a str,
+    alloc: Global,
+    w: &mut Window,
+    m: &mut Meter,
+) -> Result<(), SparseRefusal<'a>>
+    requires first { IsTrue D.tells → IsReading (D.held disk.old) }
+    requires one { IsTrue D.tells → (D.held disk.old).part ≡ None }
+    ensures done { IsTrue D.tells → OnOk result (Expands (map (λ word. word.now) inputs.now) output.now
+        (state (D.world disk.old) (D.held disk.old) report.old)
+        (state (D.world disk.new) (D.held disk.new) report.new)) }
+    ensures spares { IsTrue D.tells → SparesExpanded (map (λ word. word.now) inputs.now) output.now
+        (state (D.world disk.old) (D.held disk.old) report.old)
+        (state (D.world disk.new) (D.held disk.new) report.new) }
+    ensures clean { IsTrue D.tells → OnOk result (HasNotFailed (D.held disk.old) (D.held disk.new)) }
+    ensures refused { IsTrue D.tells → IfErr result (λ refusal. RefusesExpand refusal.fault
+        (map (λ word. word.now) inputs.now) output.now
+        (state (D.world disk.old) (D.held disk.old) report.old)
+        (state (D.world disk.new) (D.held disk.new) report.new)) }
+{
+    let output = place("OUT", output);
+    if inputs.len() != 1 {
+        return expand_several(disk, report, inputs, output, alloc, w, m);
+    }
+    expand_one(disk, report, place("IN", inputs[0]), output, w, m)
+}
+
+/// Writes the sparse image of a raw one, and prints what it has. `-` is standard output.
+#[inline(never)]
+pub(crate) fn sparsify<'a, D: Disk>(
+    disk: &mut D,
+    report: &mut Report,
+    input: &'a str,
+    output: &'a str,
+    block: u32,
+    w: &mut Window,
+    m: &mut Meter,
+) -> Result<(), SparseRefusal<'a>>
+    requires first { IsTrue D.tells → IsReading (D.held disk.old) }
+    ensures done { IsTrue D.tells → OnOk result (Sparsifies input.now output.now block
+        (state (D.world disk.old) (D.held disk.old) report.old)
+        (state (D.world disk.new) (D.held disk.new) report.new)) }
+    ensures spares { IsTrue D.tells → SparesSparsified input.now output.now
+        (state (D.world disk.old) (D.held disk.old) report.old)
+        (state (D.world disk.new) (D.held disk.new) report.new) }
+    ensures whole { IsTrue D.tells → IsTrue (D.is_over (output_path output.now)) →
+        HoldsNoPart input.now (output_path output.now) block (D.world disk.old) (D.world disk.new) }
+    ensures clean { IsTrue D.tells → OnOk result (HasNotFailed (D.held disk.old) (D.held disk.new)) }
+    ensures refused { IsTrue D.tells → IfErr result (λ refusal. RefusesSparse refusal.fault input.now output.now block
+        (state (D.world disk.old) (D.held disk.old) report.old)
+        (state (D.world disk.new) (D.held disk.new) report.new)) }
+{
+    sparse_file(
+        disk,
+        report,
+        place("IN", input),
+        place("OUT", output),
+        block,
+        w,
+        m,
+    )
+}
+
+/// Cuts an image into pieces of at most so many bytes, each into a file of its own; a raw one where the bytes of its blocks
+/// are given.
+#[inline(never)]
+pub(crate) fn cut_image<'a, D: Disk>(
+    disk: &mut D,
+    report: &mut Report,
+    input: &'a str,
+    limit: u32,
+    prefix: &'a str,
+    raw: Option<u32>,
+    w: &mut Window,
+    m: &mut Meter,
+) -> Result<(), SparseRefusal<'a>>
+    requires first { IsTrue D.tells → IsReading (D.held disk.old) }
+    ensures done { IsTrue D.tells → OnOk result (Cuts input.now limit prefix.now raw
+        (state (D.world disk.old) (D.held disk.old) report.old)
+        (state (D.world disk.new) (D.held disk.new) report.new)) }
+    ensures spares { IsTrue D.tells → SparesCut input.now prefix.now
+        (state (D.world disk.old) (D.held disk.old) report.old)
+        (state (D.world disk.new) (D.held disk.new) report.new) }
+    ensures clean { IsTrue D.tells → OnOk result (HasNotFailed (D.held disk.old) (D.held disk.new)) }
+    ensures refused { IsTrue D.tells → IfErr result (λ refusal. RefusesCutting refusal.fault input.now limit
+        prefix.now raw
+        (state (D.world disk.old) (D.held disk.old) report.old)
+        (state (D.world disk.new) (D.held disk.new) report.new)) }
+{
+    let order = Cutting {
+        input: place("IN", input),
+        limit,
+        prefix,
+        raw,
+    };
+    cut_file(disk, report, order, w, m)
+}
+
+/// Prints the header and each chunk of a sparse image.
+#[inline(never)]
+pub(crate) fn list_image<'a, D: Disk>(
+    disk: &mut D,
+    report: &mut Report,
+    input: &'a str,
+    w: &mut Window,
+    m: &mut Meter,
+) -> Result<(), SparseRefusal<'a>>
+    requires first { IsTrue D.tells → (D.held disk.old).begun ≡ [] }
+    ensures done { IsTrue D.tells → OnOk result (Lists input.now
+        (state (D.world disk.old) (D.held disk.old) report.old)
+        (state (D.world disk.new) (D.held disk.new) report.new)) }
+    ensures spares { IsTrue D.tells → D.world disk.new ≡ D.world disk.old }
+    ensures clean { IsTrue D.tells → OnOk result (HasNotFailed (D.held disk.old) (D.held disk.new)) }
+    ensures refused { IsTrue D.tells → IfErr result (λ refusal. RefusesListing refusal.fault input.now
+        (state (D.world disk.old) (D.held disk.old) report.old)
+        (state (D.world disk.new) (D.held disk.new) report.new)) }
+{
+    list_file(disk, report, place("IN", input), w, m)
+}
+
+/// Flashes a sparse image straight to a partition, or a raw one in blocks of so many bytes.
+#[inline(never)]
+pub(crate) fn flash_straight<'a, D: Disk>(
+    disk: &mut D,
+    report: &mut Report,
+    input: &'a str,
+    partition: &'a str,
+    raw: Option<u32>,
+    w: &mut Window,
+    m: &mut Meter,
+) -> Result<(), SparseRefusal<'a>>
+    requires first { IsTrue D.tells → (D.held disk.old).begun ≡ [] }
+    requires one { IsTrue D.tells → (D.held disk.old).part ≡ None }
+    ensures done { IsTrue D.tells → OnOk result (Flashes input.now partition.now raw None
+        (state (D.world disk.old) (D.held disk.old) report.old)
+        (state (D.world disk.new) (D.held disk.new) report.new)) }
+    ensures spares { IsTrue D.tells → SparesFlashed input.now partition.now None
+        (state (D.world disk.old) (D.held disk.old) report.old)
+        (state (D.world disk.new) (D.held disk.new) report.new) }
+    ensures clean { IsTrue D.tells → OnOk result (HasNotFailed (D.held disk.old) (D.held disk.new)) }
+    ensures refused { IsTrue D.tells → IfErr result (λ refusal. RefusesFlashing refusal.fault input.now
+        partition.now raw None
+        (state (D.world disk.old) (D.held disk.old) report.old)
+        (state (D.world disk.new) (D.held disk.new) report.new)) }
+{
+    let partition = place("PARTITION", partition);
+    match raw {
+        Some(size) => flash_raw_file(disk, report, image_place(input), partition, size, w, m),
+        None => flash_file(disk, report, place("IN", input), partition, w, m),
+    }
+}
+
+/// Flashes an image in pieces that go through a file, from the piece that the words name on.
+#[inline(never)]
+pub(crate) fn flash_pieces<'a, D: Disk>(
+    disk: &mut D,
+    report: &mut Report,
+    input: &'a str,
+    partition: &'a str,
+    raw: Option<u32>,
+    pieces: Pieces<'a>,
+    w: &mut Window,
+    m: &mut Meter,
+) -> Result<(), SparseRefusal<'a>>
+    requires first { IsTrue D.tells → (D.held disk.old).begun ≡ [] }
+    requires one { IsTrue D.tells → (D.held disk.old).part ≡ None }
+    requires through { IsTrue D.tells → (D.held disk.old).spool ≡ None }
+    ensures done { IsTrue D.tells → OnOk result (Flashes input.now partition.now raw (Some pieces.entry)
+        (state (D.world disk.old) (D.held disk.old) report.old)
+        (state (D.world disk.new) (D.held disk.new) report.new)) }
+    ensures spares { IsTrue D.tells → SparesFlashed input.now partition.now (Some pieces.entry)
+        (state (D.world disk.old) (D.held disk.old) report.old)
+        (state (D.world disk.new) (D.held disk.new) report.new) }
+    ensures clean { IsTrue D.tells → OnOk result (HasNotFailed (D.held disk.old) (D.held disk.new)) }
+    ensures refused { IsTrue D.tells → IfErr result (λ refusal. RefusesFlashing refusal.fault input.now
+        partition.now raw (Some pieces.entry)
+        (state (D.world disk.old) (D.held disk.old) report.old)
+        (state (D.world disk.new) (D.held disk.new) report.new)) }
+{
+    let Pieces { limit, spool, from } = pieces;
+    let input = image_place(input);
+    let partition = place("PARTITION", partition);
+    let spool = place("SPOOL", spool);
+    flash_pieces_file(
+        disk, report, input, partition, raw, limit, spool, from, w, m,
+    )
+}
+
+/// Compares an image with what stands on a partition: a sparse one, or a raw one in blocks of so many bytes.
+#[inline(never)]
+pub(crate) fn verify_image<'a, D: Disk>(
+    disk: &mut D,
+    report: &mut Report,
+    input: &'a str,
+    partition: &'a str,
+    raw: Option<u32>,
+    w: &mut Window,
+    m: &mut Meter,
+) -> Result<(), SparseRefusal<'a>>
+    requires first { IsTrue D.tells → (D.held disk.old).begun ≡ [] }
+    ensures done { IsTrue D.tells → OnOk result (Verifies input.now partition.now raw
+        (state (D.world disk.old) (D.held disk.old) report.old)
+        (state (D.world disk.new) (D.held disk.new) report.new)) }
+    ensures spares { IsTrue D.tells → D.world disk.new ≡ D.world disk.old }
+    ensures clean { IsTrue D.tells → OnOk result (HasNotFailed (D.held disk.old) (D.held disk.new)) }
+    ensures refused { IsTrue D.tells → IfErr result (λ refusal. RefusesVerifying refusal.fault input.now
+        partition.now raw
+        (state (D.world disk.old) (D.held disk.old) report.old)
+        (state (D.world disk.new) (D.held disk.new) report.new)) }
+{
+    let partition = place("PARTITION", partition);
+    match raw {
+        Some(size) => verify_raw_file(disk, report, image_place(input), partition, size, w, m),
+        None => verify_file(disk, report, place("IN", input), partition, w, m),
+    }
+}

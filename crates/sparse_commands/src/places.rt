@@ -1,0 +1,22 @@
+//! The files that the words of a task name.
+
+ghost use Rattle.std.specs.Prelude.{◌≡◌};
+ghost use Rattle.abt_refusals.specs.Paths.{path_in, path_of, path_out};
+ghost use Rattle.sparse_rules.specs.ImagePath.{image_path};
+ghost use Rattle.sparse_commands.specs.Commands.{output_path};
+
+use abt_refusals::Place;
+
+/// The file at a word. Where it is read forward, `-` is standard input, and where it is an output, standard output.
+pub(crate) fn place<'a>(role: &'static str, word: &'a str) -> Place<'a>
+    ensures at { path_of result ≡ word.now }
+    ensures read { path_in result ≡ image_path word.now }
+    ensures written { path_out result ≡ output_path word.now }
+{
+    Place {
+        role,
+        folder: None,
+        name: word,
+        number: None,
+    }
+}
