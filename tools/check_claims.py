@@ -30,7 +30,7 @@ DOCUMENTS = ("README.md", "CONTRIBUTING.md", "CHANGELOG.md", "docs/*.md")
 OF_THE_PROGRAM = (
     "abt_buffers", "abt_values", "abt_words", "abt_refusals", "abt_disk", "memory_disk", "abt_output", "abt_host",
     "host_disk", "sparse_rules", "sparse_bodies", "image_bodies", "flash_bodies", "sparse_commands", "boot_rules",
-    "boot_bodies", "info_bodies", "boot_commands", "abootimg",
+    "boot_bodies", "info_bodies", "pack_bodies", "boot_commands", "abootimg",
 )
 
 
