@@ -1,6 +1,7 @@
 pub mod Copied
 pub mod Filled
 pub mod Fronts
+pub mod Lent
 pub mod Moments
 pub mod Overs
 pub mod Parts

@@ -7,6 +7,7 @@ pub mod Frame
 pub mod FrameLaws
 pub mod Held
 pub mod Inner
+pub mod Lent
 pub mod Moment
 pub mod Over
 pub mod Window

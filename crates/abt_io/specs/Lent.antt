@@ -1,0 +1,43 @@
+-- What a call leaves of the devices and of the meter that it is lent, whatever it answers.
+use Rattle.std.specs.Prelude.{◌≡◌, ℕ, ◌+◌, ◌≤◌, IsTrue, Result, OnOk, List, length, map, max, sum_by}
+use Rattle.abt_io.specs.declared.device.Source as sources
+use Rattle.abt_io.specs.declared.device.Output as outputs
+use Rattle.abt_io.specs.declared.meter.Meter.{Meter}
+
+-- A source is only read: it holds what it held and is as long, and what no read changes is as it was. Its count of
+-- faults does not fall; after an Ok it has not failed.
+pub record OnlyReads {X E : Type 0} (r : Result X E) {A : Type 0} (s : sources.Ghosts A) (old new : A) : Type 0 where
+  pub content : IsTrue s.tells → s.content new ≡ s.content old
+  pub size : IsTrue s.tells → s.size new ≡ s.size old
+  pub frame : s.read_frame new ≡ s.read_frame old
+  pub faults : s.read_faults old ≤ s.read_faults new
+  pub clean : OnOk r (s.read_faults new ≡ s.read_faults old)
+
+-- The same of several sources, whose faults are counted together.
+pub record OnlyReadsAll {X E : Type 0} (r : Result X E) {A : Type 0} (s : sources.Ghosts A) (old new : List A) : Type 0
+  where
+    pub content : IsTrue s.tells → map s.content new ≡ map s.content old
+    pub size : IsTrue s.tells → map s.size new ≡ map s.size old
+    pub frame : map s.read_frame new ≡ map s.read_frame old
+    pub faults : sum_by s.read_faults old ≤ sum_by s.read_faults new
+    pub clean : OnOk r (sum_by s.read_faults new ≡ sum_by s.read_faults old)
+
+-- An output is only written to: it was given no less, and what no write changes is as it was. Its count of faults does
+-- not fall; after an Ok it has not failed. It has answered that it is full as often more as `full` says.
+pub record OnlyWrites {X E : Type 0} (r : Result X E) (full : ℕ) {B : Type 0} (o : outputs.Ghosts B) (old new : B)
+    : Type 0 where
+  pub least : length (o.written old) ≤ length (o.written new)
+  pub frame : o.write_frame new ≡ o.write_frame old
+  pub faults : o.write_faults old ≤ o.write_faults new
+  pub clean : OnOk r (o.write_faults new ≡ o.write_faults old)
+  pub full_faults : o.full_faults new ≡ o.full_faults old + full
+
+-- No step ends: only turns of loops are counted.
+pub record NoStep (old new : Meter) : Type 0 where
+  pub steps : new.steps.number ≡ old.steps.number
+  pub greatest : new.greatest.number ≡ old.greatest.number
+
+-- One step ends, which has received n bytes.
+pub record OneStep (n : ℕ) (old new : Meter) : Type 0 where
+  pub steps : new.steps.number ≡ old.steps.number + 1
+  pub greatest : new.greatest.number ≡ max old.greatest.number n
