@@ -1,6 +1,9 @@
 -- Whose fault a part and an answer are, and how much is read at a turn.
-use Rattle.std.proofs.Common.{◌≡◌, ℕ, ◌<◌, ◌≤◌, ◌+◌, ◌-◌, ◌∙◌, Bool, true, false, refl, arith, ap, eq-eqb, ne_eqb, lt-ltb, le-ltb, ◌==◌, nat_lt, inl, inr, eqb-true, if◌then◌else◌, ◌&&◌}
+use Rattle.std.proofs.Common.{Result, Ok, Err, OnOk}
+use Rattle.std.proofs.Common.{◌≡◌, ℕ, ◌<◌, ◌≤◌, ◌+◌, ◌-◌, ◌∙◌, Bool, true, false, refl, arith, ap, eq-eqb, ne_eqb}
+use Rattle.std.proofs.Common.{lt-ltb, le-ltb, ◌==◌, nat_lt, inl, inr, eqb-true, if◌then◌else◌, ◌&&◌}
 use Rattle.std.specs.Prelude.{IfErr}
+use Rattle.abt_io.specs.Count.{full_in}
 use Rattle.abt_sparse.specs.Cause.{full_in_fault, full_answered}
 use Rattle.abt_sparse.specs.declared.fault.SparseFault.{SparseFault}
 use Rattle.abt_sparse.specs.declared.fault.SparseFault.TheVariants as faults
@@ -14,10 +17,11 @@ use Rattle.abt_chunks.specs.declared.walk.Part.{Part}
 use Rattle.abt_chunks.specs.declared.walk.Part.TheVariants as parts
 use Rattle.abt_chunks.specs.declared.walk.Turn.{Turn}
 use Rattle.abt_chunks.specs.declared.walk.Turn.TheVariants as turns
-use Rattle.abt_chunks.specs.Cause.{Clean, CleanPart, full_in_part, UnlessCut, wanted, wanted_in, head_wanted, data_wanted}
-use Rattle.abt_chunks.specs.Expanding.{IsGoing, IsQuiet, Rises, answer_of}
-use Rattle.abt_chunks.specs.Turns.{AtTurn, ask_of, IsOver, SpentBy}
-use Rattle.abt_chunks.specs.Parts.{Caused, Leaves}
+use Rattle.abt_chunks.specs.Cause.{Clean, CleanPart, full_in_part, full_since, UnlessCut}
+use Rattle.abt_chunks.specs.Cause.{wanted, wanted_in, head_wanted, data_wanted}
+use Rattle.abt_chunks.specs.Expanding.{IsGoing, IsQuiet, ExpandingRises, answer_of}
+use Rattle.abt_chunks.specs.Turns.{AtTurn, ask_of, IsWalkOver, SpentBy}
+use Rattle.abt_chunks.specs.Parts.{Caused, PartLeaves}
 use Rattle.abt_chunks.specs.ListingAhead.{Closes, at_end, is_between, is_spent}
 use Rattle.abt_chunks.specs.Ahead.{due_of}
 use Rattle.std.proofs.lemmas.Bool.{cases_Bool}
@@ -65,35 +69,59 @@ pub answer_full : (q : Part) → full_answered (answer_of q) ≡ full_in_part q
 answer_full (parts.Fault f) = refl
 answer_full q = refl
 
+-- that a device is full is answered to no part of a walk, and to a failed write where the device says so
+pub none_since : (p : Phase) (q : Part) → (IsGoing p → full_in_part q ≡ 0) → full_since p (answer_of q) ≡ 0
+none_since phases.Header q none = answer_full q ∙ none tt
+none_since phases.Body q none = answer_full q ∙ none tt
+none_since phases.Done q none = refl
+none_since (phases.Failed f) q none = refl
+
+pub written_since : (X : Type 0) (p : Phase) (d : DeviceFault) → (IsWalkOver p → ⊥)
+    → full_since {X = X} p (Err (faults.Write d)) ≡ full_in d
+written_since X phases.Header d going = refl
+written_since X phases.Body d going = refl
+written_since X phases.Done d going = absurd (going tt)
+written_since X (phases.Failed f) d going = absurd (going tt)
+
+pub since_going : {X : Type 0} (p : Phase) (r : Result X SparseFault) → IsGoing p → full_since p r ≡ full_answered r
+since_going phases.Header r going = refl
+since_going phases.Body r going = refl
+since_going phases.Done r going = absurd going
+since_going (phases.Failed f) r going = absurd going
+
+pub any_ok : {X E P : Type 0} (r : Result X E) → P → OnOk r P
+any_ok (Ok x) h = h
+any_ok (Err e) h = tt
+
 -- the device that a step's answer blames has failed
-rises_header : (f : SparseFault) (r r' w w' : ℕ) → Caused (parts.Fault f) phases.Header r r' → Rises (answer_of (parts.Fault f)) r r' w w'
+rises_header : (f : SparseFault) (r r' w w' : ℕ) → Caused (parts.Fault f) phases.Header r r' → ExpandingRises (answer_of (parts.Fault f)) r r' w w'
 rises_header (faults.Read d) r r' w w' h = h
 rises_header (faults.Write d) r r' w w' h = absurd h
 rises_header f r r' w w' h = tt
 
-rises_body : (f : SparseFault) (r r' w w' : ℕ) → Caused (parts.Fault f) phases.Body r r' → Rises (answer_of (parts.Fault f)) r r' w w'
+rises_body : (f : SparseFault) (r r' w w' : ℕ) → Caused (parts.Fault f) phases.Body r r' → ExpandingRises (answer_of (parts.Fault f)) r r' w w'
 rises_body (faults.Read d) r r' w w' h = h
 rises_body (faults.Write d) r r' w w' h = absurd h
 rises_body f r r' w w' h = tt
 
-rises_here : (f : SparseFault) (p : Phase) (r r' w w' : ℕ) → IsGoing p → Caused (parts.Fault f) p r r' → Rises (answer_of (parts.Fault f)) r r' w w'
+rises_here : (f : SparseFault) (p : Phase) (r r' w w' : ℕ) → IsGoing p → Caused (parts.Fault f) p r r' → ExpandingRises (answer_of (parts.Fault f)) r r' w w'
 rises_here f phases.Header r r' w w' going h = rises_header f r r' w w' h
 rises_here f phases.Body r r' w w' going h = rises_body f r r' w w' h
 rises_here f phases.Done r r' w w' going h = absurd going
 rises_here f (phases.Failed g) r r' w w' going h = absurd going
 
-pub answer_rises : (q : Part) (p : Phase) (r r' w w' : ℕ) → IsGoing p → Caused q p r r' → Rises (answer_of q) r r' w w'
+pub answer_rises : (q : Part) (p : Phase) (r r' w w' : ℕ) → IsGoing p → Caused q p r r' → ExpandingRises (answer_of q) r r' w w'
 answer_rises (parts.Fault f) p r r' w w' going h = rises_here f p r r' w w' going h
 answer_rises q p r r' w w' going h = tt
 
 -- a walk that is over gives nothing to write
-over_quiet : (q : Part) (p : Phase) → Leaves q p → IsOver p → IsQuiet q
+over_quiet : (q : Part) (p : Phase) → PartLeaves q p → IsWalkOver p → IsQuiet q
 over_quiet (parts.Raw n) p e over = rw e at over
 over_quiet (parts.Words word n) p e over = rw e at over
 over_quiet (parts.Skip n) p e over = rw e at over
 over_quiet q p e over = tt
 
-pub quiet_over : (q : Part) (s s1 : Walk) → Leaves q s1.phase → s1 ≡ s → IsOver s.phase → IsQuiet q
+pub quiet_over : (q : Part) (s s1 : Walk) → PartLeaves q s1.phase → s1 ≡ s → IsWalkOver s.phase → IsQuiet q
 quiet_over q s s1 e same over = over_quiet q s.phase (rw same at e) over
 
 -- a fault of the image blames no device, whatever it did
@@ -123,13 +151,13 @@ own_caused (parts.Fault f) p r r' h = caused_fault f p r r' h
 own_caused q p r r' h = tt
 
 -- and a failed read the input, which a walk that is over does not read
-pub read_caused : (d : DeviceFault) (p : Phase) (r r' : ℕ) → r < r' → (IsOver p → r' ≡ r) → Caused (parts.Fault (faults.Read d)) p r r'
+pub read_caused : (d : DeviceFault) (p : Phase) (r r' : ℕ) → r < r' → (IsWalkOver p → r' ≡ r) → Caused (parts.Fault (faults.Read d)) p r r'
 read_caused d phases.Header r r' rose none = rose
 read_caused d phases.Body r r' rose none = rose
 read_caused d phases.Done r r' rose none = rose
 read_caused d (phases.Failed f) r r' rose none = absurd (omega (arith, rose, none tt))
 
-pub asks_none : (turn : Turn) (s : Walk) → AtTurn turn s → IsOver s.phase → ask_of turn s ≡ 0
+pub asks_none : (turn : Turn) (s : Walk) → AtTurn turn s → IsWalkOver s.phase → ask_of turn s ≡ 0
 asks_none turns.Header s h over = absurd (rw h at over)
 asks_none turns.Extra s h over = absurd (rw h.0 at over)
 asks_none turns.Raw s h over = absurd (rw h.0 at over)
@@ -246,7 +274,7 @@ refuse_part (parts.Fault f) p s h = λ e. rw e at h
 refuse_part q p s h = tt
 
 -- a listing that is refused between two chunks, for what the next one says
-pub bounded_next : (f : SparseFault) (p : Phase) (s : Walk) (a b : ℕ) → s.phase ≡ p → is_between p s ≡ true → (s.phase ≡ phases.Body → UnlessCut f (at_end s ≡ true)) → (IsOver p → b ≡ a) → b - a ≤ wanted s
+pub bounded_next : (f : SparseFault) (p : Phase) (s : Walk) (a b : ℕ) → s.phase ≡ p → is_between p s ≡ true → (s.phase ≡ phases.Body → UnlessCut f (at_end s ≡ true)) → (IsWalkOver p → b ≡ a) → b - a ≤ wanted s
     → UnlessCut f (b ≤ a + 12)
 bounded_next f phases.Header s a b q between refuse over more = absurd cc
 bounded_next f phases.Body s a b q between refuse over more = cut_map f (at_end s ≡ true) (b ≤ a + 12) (λ e. let w = wanted_between s q e in omega (arith, more, w)) (refuse q)

@@ -10,7 +10,7 @@ use Rattle.abt_chunks.specs.declared.walk.Turn.TheVariants as turns
 use Rattle.abt_chunks.specs.Ahead.{due_of}
 use Rattle.abt_chunks.specs.Cause.{head_wanted}
 use Rattle.abt_chunks.specs.Feeding.{whole_in, whole_in_data, whole_next, whole_of}
-use Rattle.abt_chunks.specs.Turns.{AtTurn, IsOver, SpentBy}
+use Rattle.abt_chunks.specs.Turns.{AtTurn, IsWalkOver, SpentBy}
 use Rattle.abt_chunks.proofs.Causes.{none_of, some_of, more_heads, no_heads}
 
 word_whole : (k : ChunkKind) (due : Bool) (raw words head : ℕ) → due_of k ≡ true → due ≡ true → whole_in_data k due raw words head ≡ 4
@@ -37,7 +37,7 @@ gap_whole k due raw words head e lt = rw e (some_of words head 0 lt)
 in_body : (s : Walk) → s.phase ≡ phases.Body → s.extra ≡ 0 → whole_next s ≡ whole_in_data s.kind s.due s.raw s.words (head_wanted s)
 in_body s p e = ap (λ (q : Phase). whole_in q s) p ∙ none_of s.extra (whole_in_data s.kind s.due s.raw s.words (head_wanted s)) 0 e
 
-when_over : (p : Phase) (s : Walk) → IsOver p → whole_in p s ≡ 0
+when_over : (p : Phase) (s : Walk) → IsWalkOver p → whole_in p s ≡ 0
 when_over phases.Header s o = absurd o
 when_over phases.Body s o = absurd o
 when_over phases.Done s o = refl

@@ -14,9 +14,9 @@ use Rattle.abt_chunks.specs.declared.walk.Walk.{Walk}
 use Rattle.abt_chunks.specs.declared.walk.Part.{Part}
 use Rattle.abt_chunks.specs.declared.walk.Part.TheVariants as parts
 use Rattle.abt_chunks.specs.Ahead.{Ahead, before, somes, fills, gaps, finish, seen, seen_chunks, chunks_ahead, body_ahead, walk}
-use Rattle.abt_chunks.specs.Parts.{Told, Leaves, Moved, is_fault, ahead, ahead_in}
+use Rattle.abt_chunks.specs.Parts.{SaysUnlessDevice, PartLeaves, Moved, is_fault, ahead, ahead_in}
 use Rattle.abt_chunks.specs.Places.{owed, owed_in, owed_of}
-use Rattle.abt_chunks.specs.Expanding.{laid_by, answer_of, Stands, Unless, UnlessDevice, Begins}
+use Rattle.abt_chunks.specs.Expanding.{laid_by, answer_of, ExpandingLeaves, UnlessExpanding, UnlessExpandingDevice, IsFrontOf}
 use Rattle.abt_chunks.specs.declared.progress.Expanded.{Expanded}
 use Rattle.abt_io.proofs.Parts.{take_plus}
 use Rattle.abt_sparse.specs.Reading.{Bad, chunk_at, chunks_at, Outcome, Image, Fault}
@@ -41,12 +41,12 @@ module _ (s s' : Walk) (y' c t win w w' : List ℕ) (r : ℕ) (in_window : take 
   raw_is : (n : ℕ) → n ≡ r → laid (somes c) ≡ take n win
   raw_is n e = laid_some c ∙ sym in_window ∙ ap (λ (k : ℕ). take k win) (sym e)
 
-  onward_fault : (f : SparseFault) → Told (parts.Fault f) s s' c t → s'.phase ≡ phases.Failed f → w' ≡ w ++ [] → Unless (answer_of (parts.Fault f)) (finish w (ahead s (c ++ t)) ≡ finish w' (ahead s' t))
+  onward_fault : (f : SparseFault) → SaysUnlessDevice (parts.Fault f) s s' c t → s'.phase ≡ phases.Failed f → w' ≡ w ++ [] → UnlessExpanding (answer_of (parts.Fault f)) (finish w (ahead s (c ++ t)) ≡ finish w' (ahead s' t))
   onward_fault (faults.Read d) says leaves e = tt
   onward_fault (faults.Write d) says leaves e = tt
   onward_fault f says leaves e = let k : w' ≡ w = e ∙ append-nil w in rw (says, leaves, k) refl
 
-  pub onward : (q : Part) → Told q s s' c t → Leaves q s'.phase → Moved q r → w' ≡ w ++ laid_by q win → Unless (answer_of q) (finish w (ahead s (c ++ t)) ≡ finish w' (ahead s' t))
+  pub onward : (q : Part) → SaysUnlessDevice q s s' c t → PartLeaves q s'.phase → Moved q r → w' ≡ w ++ laid_by q win → UnlessExpanding (answer_of q) (finish w (ahead s (c ++ t)) ≡ finish w' (ahead s' t))
   onward (parts.Raw n) says leaves moved e = rw (says.1, e) (finish-before w (take n win) (somes c) (ahead s' t) (raw_is n moved.0))
   onward (parts.Words word n) says leaves moved e = rw (says, e) (finish-before w (concat (replicate n word)) (fills n word) (ahead s' t) (laid_some (concat (replicate n word))))
   onward (parts.Skip n) says leaves moved e = rw (says, e) (finish-before w (replicate (4 * n) 0) (gaps n) (ahead s' t) (laid_none (4 * n)))
@@ -55,7 +55,7 @@ module _ (s s' : Walk) (y' c t win w w' : List ℕ) (r : ℕ) (in_window : take 
   onward (parts.Fault f) says leaves moved e = onward_fault f says leaves e
 
 -- a front of what a part gives is a beginning
-begins_part : (w w' xs : List ℕ) (k : ℕ) (a b : Ahead) (cs : List (Option ℕ)) → laid cs ≡ xs → a ≡ before cs b → w' ≡ w ++ take k xs → Begins w' (w ++ laid a.cells)
+begins_part : (w w' xs : List ℕ) (k : ℕ) (a b : Ahead) (cs : List (Option ℕ)) → laid cs ≡ xs → a ≡ before cs b → w' ≡ w ++ take k xs → IsFrontOf w' (w ++ laid a.cells)
 begins_part w w' xs k a b cs e f g = record {
   more = drop k xs ++ laid b.cells;
   joined = rw (f, g, laid-append cs b.cells, e)
@@ -63,12 +63,12 @@ begins_part w w' xs k a b cs e f g = record {
       ∙ sym (append_assoc w (take k xs) (drop k xs ++ laid b.cells)));
 }
 
-begins_none : (w w' : List ℕ) (k : ℕ) (l : List ℕ) → w' ≡ w ++ take k [] → Begins w' (w ++ l)
+begins_none : (w w' : List ℕ) (k : ℕ) (l : List ℕ) → w' ≡ w ++ take k [] → IsFrontOf w' (w ++ l)
 begins_none w w' zero l e = record { more = l; joined = rw (e, append-nil) refl }
 begins_none w w' (suc k) l e = record { more = l; joined = rw (e, append-nil) refl }
 
 module _ (s s' : Walk) (y' c win w w' : List ℕ) (r k : ℕ) (in_window : take r win ≡ c) where
-  pub begins : (q : Part) → ((t : List ℕ) → (is_fault q ≡ true → t ≡ y') → Told q s s' c t) → Moved q r → w' ≡ w ++ take k (laid_by q win) → Begins w' (finish w (ahead s c)).0
+  pub begins : (q : Part) → ((t : List ℕ) → (is_fault q ≡ true → t ≡ y') → SaysUnlessDevice q s s' c t) → Moved q r → w' ≡ w ++ take k (laid_by q win) → IsFrontOf w' (finish w (ahead s c)).0
   begins (parts.Raw n) says moved e = let h = rw append-nil at (says [] (λ z. absurd cc)).1 in begins_part w w' (take n win) k (ahead s c) (ahead s' []) (somes c) (raw_is s s' y' c [] win w w' r in_window n moved.0) h e
   begins (parts.Words word n) says moved e = let h = rw append-nil at (says [] (λ z. absurd cc)) in begins_part w w' (concat (replicate n word)) k (ahead s c) (ahead s' []) (fills n word) (laid_some (concat (replicate n word))) h e
   begins (parts.Skip n) says moved e = let h = rw append-nil at (says [] (λ z. absurd cc)) in begins_part w w' (replicate (4 * n) 0) k (ahead s c) (ahead s' []) (gaps n) (laid_none (4 * n)) h e
@@ -98,7 +98,7 @@ told_more w0 w w' rem rem' s s' k n j t whole r same before step =
 
 -- what is begun in a step is begun in the whole
 pub begun_more : (w0 w w' rem rem' : List ℕ) (s : Walk) (k n j : ℕ) (whole : List ℕ → Ahead) → rem' ≡ drop k rem → j ≡ k + n
-    → ((t : List ℕ) → finish w0 (whole (take k rem ++ t)) ≡ finish w (ahead s t)) → Begins w' (finish w (ahead s (take n rem'))).0 → Begins w' (finish w0 (whole (take j rem))).0
+    → ((t : List ℕ) → finish w0 (whole (take k rem ++ t)) ≡ finish w (ahead s t)) → IsFrontOf w' (finish w (ahead s (take n rem'))).0 → IsFrontOf w' (finish w0 (whole (take j rem))).0
 begun_more w0 w w' rem rem' s k n j whole r same before b =
     let parts : take j rem ≡ take k rem ++ take n rem' = ap (λ (i : ℕ). take i rem) same ∙ sym (take_plus k n rem) ∙ ap (λ (l : List ℕ). take k rem ++ take n l) (sym r) in
     record { more = b.more; joined = ap (λ (l : List ℕ). (finish w0 (whole l)).0) parts ∙ ap (λ (p : Whole). p.0) (before (take n rem')) ∙ b.joined }
@@ -132,7 +132,7 @@ FindsFault f old new (Fault g cs) = (f ≡ g) × (new ≡ old ++ laid cs)
 abbrev pub Finds : Result Expanded SparseFault → List ℕ → List ℕ → List ℕ → Outcome → Type 0
 Finds (Ok e) old new left (Image h cs rest) = (left ≡ rest) × (new ≡ old ++ expansion h.blk_sz (classed cs)) × (e.blocks ≡ h.total_blks) × (e.bytes ≡ h.total_blks * h.blk_sz)
 Finds (Ok e) old new left (Fault f cs) = ⊥
-Finds (Err f) old new left o = UnlessDevice f (FindsFault f old new o)
+Finds (Err f) old new left o = UnlessExpandingDevice f (FindsFault f old new o)
 
 -- the end of an image
 pub image_ends : (o : Outcome) (e : Expanded) (h : Header) (old new left : List ℕ) → finish old (seen o) ≡ (new, Ok (h, left)) → e.blocks ≡ h.total_blks → e.bytes ≡ h.total_blks * h.blk_sz → Finds (Ok e) old new left o
@@ -152,12 +152,12 @@ refused (Fault g cs) f old new q =
     let same : f ≡ g = err_err g f r in
     (same, sym a)
 
-pub refusal : (o : Outcome) (f : SparseFault) (old new : List ℕ) → UnlessDevice f (finish old (seen o) ≡ (new, Err f)) → UnlessDevice f (FindsFault f old new o)
+pub refusal : (o : Outcome) (f : SparseFault) (old new : List ℕ) → UnlessExpandingDevice f (finish old (seen o) ≡ (new, Err f)) → UnlessExpandingDevice f (FindsFault f old new o)
 refusal o (faults.Read d) old new q = tt
 refusal o (faults.Write d) old new q = tt
 refusal o f old new q = refused o f old new q
 
-pub unless_map : (f : SparseFault) (P Q : Type 0) → (P → Q) → UnlessDevice f P → UnlessDevice f Q
+pub unless_map : (f : SparseFault) (P Q : Type 0) → (P → Q) → UnlessExpandingDevice f P → UnlessExpandingDevice f Q
 unless_map (faults.Read d) P Q go h = tt
 unless_map (faults.Write d) P Q go h = tt
 unless_map f P Q go h = go h
@@ -179,10 +179,10 @@ refusal_found : (x : List ℕ) (o : Outcome) (f : SparseFault) (old new : List �
 refusal_found x (Image h cs rest) f old new is finds = absurd finds
 refusal_found x (Fault g cs) f old new is finds = record { given = cs; fails = subst (λ (k : SparseFault). Fails x k cs) (sym finds.0) is; written = finds.1 }
 
-pub refused_found : (x : List ℕ) (o : Outcome) (f : SparseFault) (old new : List ℕ) → IsOutcome x o → UnlessDevice f (FindsFault f old new o) → UnlessDevice f (Refusal f old new x)
+pub refused_found : (x : List ℕ) (o : Outcome) (f : SparseFault) (old new : List ℕ) → IsOutcome x o → UnlessExpandingDevice f (FindsFault f old new o) → UnlessExpandingDevice f (Refusal f old new x)
 refused_found x o f old new is finds = unless_map f (FindsFault f old new o) (Refusal f old new x) (refusal_found x o f old new is) finds
 
-pub begun_found : (y : List ℕ) (o : Outcome) (old new : List ℕ) → IsOutcome y o → Begins new (finish old (seen o)).0 → Begun old new y
+pub begun_found : (y : List ℕ) (o : Outcome) (old new : List ℕ) → IsOutcome y o → IsFrontOf new (finish old (seen o)).0 → Begun old new y
 begun_found y (Image h cs rest) old new is b = record { whole = laid (cells h.blk_sz (classed cs)); gives = image h cs rest is; begins = b }
 begun_found y (Fault f cs) old new is b = record { whole = laid cs; gives = fault f cs is; begins = b }
 
@@ -227,17 +227,17 @@ owed_at phases.Body s fine = owed_walk s.kind s.due (view s.header) s.index s.ha
 owed_at phases.Done s fine = refl
 owed_at (phases.Failed f) s fine = refl
 
-fine : (r : Progress) (p : Phase) → Stands (Ok r) p → IsFine p
+fine : (r : Progress) (p : Phase) → ExpandingLeaves (Ok r) p → IsFine p
 fine answers.More p e = rw e tt
 fine answers.Done p e = rw e tt
 
-pub held_back : (r : Result Progress SparseFault) (s s' : Walk) (c w w' : List ℕ) → Stands r s'.phase → Unless r (finish w (ahead s (c ++ [])) ≡ finish w' (ahead s' [])) → OnOk r ((finish w (ahead s c)).0 ≡ w' ++ laid (owed s'))
+pub held_back : (r : Result Progress SparseFault) (s s' : Walk) (c w w' : List ℕ) → ExpandingLeaves r s'.phase → UnlessExpanding r (finish w (ahead s (c ++ [])) ≡ finish w' (ahead s' [])) → OnOk r ((finish w (ahead s c)).0 ≡ w' ++ laid (owed s'))
 held_back (Ok r) s s' c w w' stands told =
     let e : finish w (ahead s c) ≡ finish w' (ahead s' []) = rw append-nil at told in
     ap (λ (p : Whole). p.0) e ∙ ap (λ (cs : List (Option ℕ)). w' ++ laid cs) (owed_at s'.phase s' (fine r s'.phase stands))
 held_back (Err f) s s' c w w' stands told = tt
 
-stands_so : (q : Part) (s' : Walk) → Leaves q s'.phase → Stands (answer_of q) s'.phase
+stands_so : (q : Part) (s' : Walk) → PartLeaves q s'.phase → ExpandingLeaves (answer_of q) s'.phase
 stands_so (parts.Raw n) s' l = l
 stands_so (parts.Words word n) s' l = l
 stands_so (parts.Skip n) s' l = l
@@ -245,7 +245,7 @@ stands_so parts.Nothing s' l = l
 stands_so parts.End s' l = l
 stands_so (parts.Fault f) s' l = l
 
-pub held_part : (s s' : Walk) (y' c win w w' : List ℕ) (r : ℕ) → take r win ≡ c → (q : Part) → ((t : List ℕ) → (is_fault q ≡ true → t ≡ y') → Told q s s' c t) → Leaves q s'.phase → Moved q r → w' ≡ w ++ laid_by q win
+pub held_part : (s s' : Walk) (y' c win w w' : List ℕ) (r : ℕ) → take r win ≡ c → (q : Part) → ((t : List ℕ) → (is_fault q ≡ true → t ≡ y') → SaysUnlessDevice q s s' c t) → PartLeaves q s'.phase → Moved q r → w' ≡ w ++ laid_by q win
     → OnOk (answer_of q) ((finish w (ahead s c)).0 ≡ w' ++ laid (owed s'))
 held_part s s' y' c win w w' r e (parts.Fault f) says leaves moved ok = tt
 held_part s s' y' c win w w' r e q says leaves moved ok = held_back (answer_of q) s s' c w w' (stands_so q s' leaves) (onward s s' y' c [] win w w' r e q (says [] (λ z. absurd cc)) leaves moved ok)

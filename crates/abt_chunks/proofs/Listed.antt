@@ -17,10 +17,10 @@ use Rattle.abt_chunks.specs.declared.walk.Phase.TheVariants as phases
 use Rattle.abt_chunks.specs.declared.walk.Walk.{Walk}
 use Rattle.abt_chunks.specs.declared.walk.Part.{Part}
 use Rattle.abt_chunks.specs.declared.walk.Part.TheVariants as parts
-use Rattle.abt_chunks.specs.Ahead.{due_of, raw_of}
+use Rattle.abt_chunks.specs.Ahead.{due_of, raw_announced}
 use Rattle.abt_chunks.specs.Listing.{no_word, info_of, Listing, headless, listed, listing_from, listing_of}
 use Rattle.abt_chunks.specs.Turns.{SpentBy}
-use Rattle.abt_chunks.specs.ListingAhead.{lacking, word_shown, head_shown, shown_before, begun_listing, is_spent, at_end, with_begun, upcoming_ended, upcoming, upcoming_in, breaking, head_in, info_at, Shows, Lists}
+use Rattle.abt_chunks.specs.ListingAhead.{lacking, word_shown, head_shown, shown_before, begun_listing, is_spent, at_end, with_begun, upcoming_ended, upcoming, upcoming_in, breaking, head_in, info_at, ShowsPart, Lists}
 use Rattle.abt_chunks.proofs.Onward.{drop_past, shorter, GoodHead, good_at, header-front}
 
 -- ---- within a chunk
@@ -117,7 +117,7 @@ listing_few h size i have y le e =
 
 -- ---- behind a chunk's header
 
-lacks_data : (k : ChunkKind) (n b : ℕ) → lacking k (due_of k) (raw_of k n b) ≡ data_len b k n
+lacks_data : (k : ChunkKind) (n b : ℕ) → lacking k (due_of k) (raw_announced k n b) ≡ data_len b k n
 lacks_data kinds.Raw n b = refl
 lacks_data kinds.Fill n b = refl
 lacks_data kinds.Skip n b = refl
@@ -131,7 +131,7 @@ info_made i b kinds.Skip n word y = refl
 info_made i b kinds.Crc n word y = refl
 
 pub chunk_begun : (h : Header) (size i have : ℕ) (word c t : List ℕ) (k : ChunkKind) (n total : ℕ) → 12 ≤ h.chunk_hdr_sz → i < h.total_chunks → GoodHead h have c k n total
-    → listing_from h size i have (c ++ t) ≡ begun_listing k (due_of k) h (i + 1) (have + counted k n) (h.chunk_hdr_sz - 12) (raw_of k n h.blk_sz) word (counted k n) size t
+    → listing_from h size i have (c ++ t) ≡ begun_listing k (due_of k) h (i + 1) (have + counted k n) (h.chunk_hdr_sz - 12) (raw_announced k n h.blk_sz) word (counted k n) size t
 unfolding begun_listing
 chunk_begun h size i have word c t k n total hdr lt g =
     let len = data_len h.blk_sz k n in
@@ -221,12 +221,12 @@ ended_listing s y e =
     let z : nat_lt (length y) 0 ≡ false = le-ltb _ _ (omega arith) in
     rw (x0, l0, z, word_shown_spent s.kind s.due s.raw s.words s.word y parts.1) refl
 
-lists_fault : (f : SparseFault) (s s' : Walk) (c t : List ℕ) → Shows (parts.Fault f) s s' c t → Lists (parts.Fault f) s s' c t
+lists_fault : (f : SparseFault) (s s' : Walk) (c t : List ℕ) → ShowsPart (parts.Fault f) s s' c t → Lists (parts.Fault f) s s' c t
 lists_fault (Read d) s s' c t h = tt
 lists_fault (Write d) s s' c t h = tt
 lists_fault f s s' c t h = h
 
-pub lists : (q : Part) (s s' : Walk) (c t : List ℕ) → Shows q s s' c t → Lists q s s' c t
+pub lists : (q : Part) (s s' : Walk) (c t : List ℕ) → ShowsPart q s s' c t → Lists q s s' c t
 lists (parts.Fault f) s s' c t h = lists_fault f s s' c t h
 lists q s s' c t h = h
 

@@ -6,7 +6,9 @@ use Rattle.std.proofs.lemmas.List.{map-append, get_or_append_left, drop_all, tak
 use Rattle.std.proofs.Math.Seq.{drop-append-add}
 use Rattle.byteorder.specs.Endian.{little_from}
 use Rattle.abt_sparse.specs.declared.fault.SparseFault.{SparseFault}
-use Rattle.abt_sparse.specs.declared.fault.SparseFault.TheVariants.{Magic, Major, FileHeaderSize, ChunkHeaderSize, BlockSize, Truncated, TooFewBlocks, ChunkType, ChunkLength, TooManyBlocks, Read, Write}
+use Rattle.abt_sparse.specs.declared.fault.SparseFault.TheVariants.{Magic, Major, FileHeaderSize, ChunkHeaderSize}
+use Rattle.abt_sparse.specs.declared.fault.SparseFault.TheVariants.{BlockSize, Truncated, TooFewBlocks, ChunkType}
+use Rattle.abt_sparse.specs.declared.fault.SparseFault.TheVariants.{ChunkLength, TooManyBlocks}
 use Rattle.abt_sparse.specs.declared.kind.ChunkKind.{ChunkKind}
 use Rattle.abt_sparse.specs.declared.kind.ChunkKind.TheVariants as kinds
 use Rattle.abt_sparse.specs.Block.{Raw, Fill, Skip, cells, split}
@@ -15,8 +17,9 @@ use Rattle.abt_sparse.specs.Reading.{number_at, header_at, checked_header, kind_
 use Rattle.abt_io.proofs.Words.{take_past, words_add}
 use Rattle.abt_sparse.proofs.Lay.{cells-append, cells-skips}
 use Rattle.abt_sparse.proofs.Exactly.{chunks-got, chunks-bad}
+use Rattle.abt_chunks.specs.Cause.{IsOwn}
 use Rattle.abt_chunks.specs.Turns.{SpentBy}
-use Rattle.abt_chunks.specs.Ahead.{Ahead, stopping, before, somes, fills, gaps, seen_chunks, seen, chunks_ahead, body_ahead, walk, raw_of, due_of, words_of, left_of}
+use Rattle.abt_chunks.specs.Ahead.{Ahead, stopping, before, somes, fills, gaps, seen_chunks, seen, chunks_ahead, body_ahead, walk, raw_announced, due_of, words_announced, left_of}
 
 -- ---- lists
 
@@ -181,7 +184,7 @@ skip_cells b n four = cells-skips b n ∙ ap (λ (j : ℕ). replicate j None) (w
 -- what the chunk gives, by its kind
 made_cells : (h : Header) → h.blk_sz % 4 ≡ 0 → (k : ChunkKind) (n : ℕ) (d : List ℕ) → length d ≡ data_len h.blk_sz k n → (size i have : ℕ) (word rest : List ℕ)
     → before (cells h.blk_sz (blocks_of (chunk_from h.blk_sz k n d))) (chunks_ahead h size i have rest)
-    ≡ body_ahead k (due_of k) h i have (raw_of k n h.blk_sz) (words_of k n h.blk_sz) word size (d ++ rest)
+    ≡ body_ahead k (due_of k) h i have (raw_announced k n h.blk_sz) (words_announced k n h.blk_sz) word size (d ++ rest)
 unfolding body_ahead
 made_cells h four kinds.Raw n d l size i have word rest =
     let s : nat_lt (length (d ++ rest)) (n * h.blk_sz) ≡ false = le-ltb _ _ (omega (arith, length-append d rest)) in
@@ -198,7 +201,7 @@ made_cells h four kinds.Crc n d l size i have word rest =
 
 -- and where its data is cut off
 cut_cells : (h : Header) (k : ChunkKind) (n : ℕ) (y : List ℕ) → length y < data_len h.blk_sz k n → (size i have : ℕ) (word : List ℕ)
-    → body_ahead k (due_of k) h i have (raw_of k n h.blk_sz) (words_of k n h.blk_sz) word size y ≡ record { cells = somes (partial_of k y); ending = Err (Truncated size) }
+    → body_ahead k (due_of k) h i have (raw_announced k n h.blk_sz) (words_announced k n h.blk_sz) word size y ≡ record { cells = somes (partial_of k y); ending = Err (Truncated size) }
 unfolding body_ahead
 cut_cells h kinds.Raw n y l size i have word = let s : nat_lt (length y) (n * h.blk_sz) ≡ true = lt-ltb _ _ l in rw s refl
 cut_cells h kinds.Fill n y l size i have word = let s : nat_lt (length y) 4 ≡ true = lt-ltb _ _ l in rw s refl
@@ -235,7 +238,7 @@ good_at h size i have c t k n total g b e =
 
 -- behind a good header
 pub past_head : (h : Header) (size i have : ℕ) (word c t : List ℕ) (k : ChunkKind) (n total : ℕ) → h.blk_sz % 4 ≡ 0 → 12 ≤ h.chunk_hdr_sz → i < h.total_chunks → GoodHead h have c k n total
-    → chunks_ahead h size i have (c ++ t) ≡ walk k (due_of k) h (i + 1) (have + counted k n) (h.chunk_hdr_sz - 12) (raw_of k n h.blk_sz) (words_of k n h.blk_sz) word size t
+    → chunks_ahead h size i have (c ++ t) ≡ walk k (due_of k) h (i + 1) (have + counted k n) (h.chunk_hdr_sz - 12) (raw_announced k n h.blk_sz) (words_announced k n h.blk_sz) word size t
 unfolding walk
 past_head h size i have word c t k n total four hdr lt g =
     let y1 = drop (h.chunk_hdr_sz - 12) t in
@@ -381,18 +384,13 @@ unfolding outcome
 short_header c l = let t : nat_lt (length c) 28 ≡ true = lt-ltb _ _ l in rw t refl
 
 -- the data of a chunk, in its parts
-pub data_parts : (k : ChunkKind) (n b : ℕ) → raw_of k n b + cond (due_of k) 4 0 ≡ data_len b k n
+pub data_parts : (k : ChunkKind) (n b : ℕ) → raw_announced k n b + cond (due_of k) 4 0 ≡ data_len b k n
 data_parts kinds.Raw n b = omega arith
 data_parts kinds.Fill n b = refl
 data_parts kinds.Skip n b = refl
 data_parts kinds.Crc n b = refl
 
 -- a header's own fault is none of a device
-abbrev pub IsOwn : SparseFault → Type 0
-IsOwn (Read d) = ⊥
-IsOwn (Write d) = ⊥
-IsOwn f = Unit {0}
-
 own_err : (t : Bool) (f g : SparseFault) (r : Result Header SparseFault) → IsOwn f → (r ≡ Err g → IsOwn g) → cond t (Err f) r ≡ Err g → IsOwn g
 own_err true f g r own k e = let s : f ≡ g = cc in subst IsOwn s own
 own_err false f g r own k e = k e
@@ -415,7 +413,7 @@ header_own x f e =
     (own_err ((h.blk_sz == 0) || not (h.blk_sz % 4 == 0)) (BlockSize h.blk_sz) f (Ok h) tt (λ q. ok_err h f (Ok h) refl q))))) e
 
 -- the blocks of a chunk, in bytes
-pub left_new : (k : ChunkKind) (n b : ℕ) → b % 4 ≡ 0 → left_of k (raw_of k n b) (words_of k n b) ≡ counted k n * b
+pub left_new : (k : ChunkKind) (n b : ℕ) → b % 4 ≡ 0 → left_of k (raw_announced k n b) (words_announced k n b) ≡ counted k n * b
 left_new kinds.Raw n b four = omega arith
 left_new kinds.Fill n b four = let e : b ≡ 4 * (b / 4) = omega arith in let f : n * b ≡ n * (4 * (b / 4)) = ap (λ (j : ℕ). n * j) e in omega (arith, f)
 left_new kinds.Skip n b four = let e : b ≡ 4 * (b / 4) = omega arith in let f : n * b ≡ n * (4 * (b / 4)) = ap (λ (j : ℕ). n * j) e in omega (arith, f)

@@ -5,10 +5,10 @@ use Rattle.abt_chunks.specs.declared.feed.Pull.TheVariants as pulls
 use Rattle.abt_chunks.specs.declared.walk.Part.{Part}
 use Rattle.abt_chunks.specs.declared.walk.Part.TheVariants as parts
 use Rattle.abt_chunks.specs.declared.walk.Walk.{Walk}
-use Rattle.abt_chunks.specs.Parts.{IsRaw, IsRead}
+use Rattle.abt_chunks.specs.Parts.{IsRawPart, IsReadPart}
 use Rattle.abt_chunks.specs.Pulling.{PullMoves}
 
-pub read_moves : (q : Part) (s s' : Walk) (used n : ℕ) → IsRead q → 0 < used → PullMoves (pulls.Gives q) s s' used n
+pub read_moves : (q : Part) (s s' : Walk) (used n : ℕ) → IsReadPart q → 0 < used → PullMoves (pulls.Gives q) s s' used n
 read_moves parts.Nothing s s' used n is some = some
 read_moves (parts.Fault f) s s' used n is some = tt
 read_moves (parts.Raw k) s s' used n is some = absurd is
@@ -16,7 +16,7 @@ read_moves (parts.Words word k) s s' used n is some = absurd is
 read_moves (parts.Skip k) s s' used n is some = absurd is
 read_moves parts.End s s' used n is some = absurd is
 
-pub raw_moves : (q : Part) (s s' : Walk) (used n : ℕ) → IsRaw q used → 0 < used → used ≡ min s.raw n → PullMoves (pulls.Gives q) s s' used n
+pub raw_moves : (q : Part) (s s' : Walk) (used n : ℕ) → IsRawPart q used → 0 < used → used ≡ min s.raw n → PullMoves (pulls.Gives q) s s' used n
 raw_moves (parts.Raw k) s s' used n is some all = (some, all)
 raw_moves (parts.Fault f) s s' used n is some all = tt
 raw_moves parts.Nothing s s' used n is some all = absurd is

@@ -9,15 +9,15 @@ use Rattle.abt_chunks.specs.declared.walk.Phase.TheVariants as phases
 use Rattle.abt_chunks.specs.declared.walk.Walk.{Walk}
 use Rattle.abt_chunks.specs.declared.walk.Part.{Part}
 use Rattle.abt_chunks.specs.declared.walk.Part.TheVariants as parts
-use Rattle.abt_chunks.specs.Expanding.{answer_of, OnMore}
+use Rattle.abt_chunks.specs.Expanding.{answer_of, OnMoreExpanding}
 use Rattle.abt_chunks.specs.Listing.{Listing, listing_from, listing_of}
-use Rattle.abt_chunks.specs.Turns.{IsOver}
+use Rattle.abt_chunks.specs.Turns.{IsWalkOver}
 use Rattle.abt_chunks.specs.Parts.{Moved}
 use Rattle.abt_chunks.specs.ListingAhead.{MayEnd, Numbers, is_between, at_end, Empties, Lists, info_at, shown_before, upcoming, with_begun}
 use Rattle.abt_chunks.specs.Showing.{ListsTo}
 use Rattle.abt_chunks.proofs.Listed.{ended_listing, upcoming_body, upcoming_header}
 
-pub moves_on : (q : Part) (s s' : Walk) (r m : ℕ) → Moved q r → Empties q s s' m m → s.words ≤ m → OnMore (answer_of q) (at_end s' ≡ false → 0 < r)
+pub moves_on : (q : Part) (s s' : Walk) (r m : ℕ) → Moved q r → Empties q s s' m m → s.words ≤ m → OnMoreExpanding (answer_of q) (at_end s' ≡ false → 0 < r)
 moves_on (parts.Raw n) s s' r m moved empties le = λ e. omega (arith, moved.0, moved.1)
 moves_on (parts.Words word n) s s' r m moved empties le = λ e. absurd (let a = empties le in let b : true ≡ false = sym a ∙ e in cc)
 moves_on (parts.Skip n) s s' r m moved empties le = λ e. absurd (let a = empties le in let b : true ≡ false = sym a ∙ e in cc)
@@ -43,7 +43,7 @@ lists_to (parts.Fault f) s s' c t x e h = lists_fault f s s' c t x e h
 some_index : (s : Walk) (y : List ℕ) → 0 < s.index → (if s.index == 0 then [] else (info_at s ∷ [])) ≡ info_at s ∷ []
 some_index s y i = let e : (s.index == 0) ≡ false = ne_eqb _ _ (λ q. absurd (omega (arith, q))) in ap (λ (b : Bool). let l : List ChunkInfo = (if b then [] else (info_at s ∷ [])) in l) e
 
-pub more_index : (p : Phase) (s s1 : Walk) (r : ℕ) → is_between p s ≡ true → s.phase ≡ p → (IsOver p → s1 ≡ s) → s1.phase ≡ phases.Body → Numbers p s s1 r → (0 < s1.index) × (0 < r)
+pub more_index : (p : Phase) (s s1 : Walk) (r : ℕ) → is_between p s ≡ true → s.phase ≡ p → (IsWalkOver p → s1 ≡ s) → s1.phase ≡ phases.Body → Numbers p s s1 r → (0 < s1.index) × (0 < r)
 more_index phases.Header s s1 r b e again stands n = absurd cc
 more_index phases.Body s s1 r b e again stands n =
     let i : s1.index ≡ s.index + 1 = n.0 ∙ ap (λ (v : Bool). if v then s.index + 1 else s.index) b in (omega arith, n.1 b)
@@ -51,7 +51,7 @@ more_index phases.Done s s1 r b e again stands n = absurd (let q : phases.Body �
 more_index (phases.Failed f) s s1 r b e again stands n = absurd (let q : phases.Body ≡ phases.Failed f = sym stands ∙ ap (λ (w : Walk). w.phase) (again tt) ∙ e in cc)
 
 -- where the image ends, or has ended before, its header stays
-pub ended_header : (p : Phase) (s s1 : Walk) → s.phase ≡ p → MayEnd p s → (s.phase ≡ phases.Body → s1.header ≡ s.header) → (IsOver p → s1 ≡ s) → s1.header ≡ s.header
+pub ended_header : (p : Phase) (s s1 : Walk) → s.phase ≡ p → MayEnd p s → (s.phase ≡ phases.Body → s1.header ≡ s.header) → (IsWalkOver p → s1 ≡ s) → s1.header ≡ s.header
 ended_header phases.Header s s1 e may same again = absurd may
 ended_header phases.Body s s1 e may same again = same e
 ended_header phases.Done s s1 e may same again = ap (λ (w : Walk). w.header) (again tt)

@@ -71,19 +71,19 @@ walk k due h i have extra raw words word size y =
     else body_ahead k due h i have raw words word size (drop extra y)
 
 -- what the header of a chunk of n blocks of b bytes announces: raw bytes, a word, words to give
-abbrev pub raw_of : ChunkKind → ℕ → ℕ → ℕ
-raw_of kinds.Raw n b = n * b
-raw_of k n b = 0
+abbrev pub raw_announced : ChunkKind → ℕ → ℕ → ℕ
+raw_announced kinds.Raw n b = n * b
+raw_announced k n b = 0
 
 abbrev pub due_of : ChunkKind → Bool
 due_of kinds.Fill = true
 due_of kinds.Crc = true
 due_of k = false
 
-abbrev pub words_of : ChunkKind → ℕ → ℕ → ℕ
-words_of kinds.Fill n b = n * (b / 4)
-words_of kinds.Skip n b = n * (b / 4)
-words_of k n b = 0
+abbrev pub words_announced : ChunkKind → ℕ → ℕ → ℕ
+words_announced kinds.Fill n b = n * (b / 4)
+words_announced kinds.Skip n b = n * (b / 4)
+words_announced k n b = 0
 
 -- how many bytes of its blocks are left
 abbrev pub left_of : ChunkKind → ℕ → ℕ → ℕ

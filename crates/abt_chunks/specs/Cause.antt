@@ -4,12 +4,14 @@ use Rattle.abt_sparse.specs.declared.fault.SparseFault.{SparseFault}
 use Rattle.abt_sparse.specs.declared.fault.SparseFault.TheVariants as faults
 use Rattle.abt_sparse.specs.declared.kind.ChunkKind.{ChunkKind}
 use Rattle.abt_sparse.specs.declared.kind.ChunkKind.TheVariants as kinds
-use Rattle.abt_sparse.specs.Cause.{full_in_fault}
+use Rattle.abt_sparse.specs.Cause.{full_answered, full_in_fault}
 use Rattle.abt_chunks.specs.declared.walk.Phase.{Phase}
 use Rattle.abt_chunks.specs.declared.walk.Phase.TheVariants as phases
 use Rattle.abt_chunks.specs.declared.walk.Walk.{Walk}
 use Rattle.abt_chunks.specs.declared.walk.Part.{Part}
 use Rattle.abt_chunks.specs.declared.walk.Part.TheVariants as parts
+use Rattle.abt_chunks.specs.Expanding.{IsGoing, ExpandingRises}
+use Rattle.abt_chunks.specs.Parts.{Caused}
 
 -- No device has failed but the one whose fault is answered: the input's faults went from r to r', the output's from w
 -- to w'.
@@ -27,6 +29,36 @@ CleanPart q r r' = r' ≡ r
 abbrev pub full_in_part : Part → ℕ
 full_in_part (parts.Fault f) = full_in_fault f
 full_in_part q = 0
+
+-- Whose fault a part of a walk is, where the input's count of faults went from r to r'. That a device is full is handed
+-- on only by a walk that is over.
+pub record PartBlamed (q : Part) (s : Walk) (r r' : ℕ) : Type 0 where
+  pub cause : Caused q s.phase r r'
+  pub clean : CleanPart q r r'
+  pub failed : IsGoing s.phase → full_in_part q ≡ 0
+
+-- Whose fault an answer is: the device that it names has failed, and no other.
+pub record Blamed {X : Type 0} (a : Result X SparseFault) (r r' w w' : ℕ) : Type 0 where
+  pub cause : ExpandingRises a r r' w w'
+  pub clean : Clean a r r' w w'
+
+-- the same of an answer that comes of an input alone, which is never that a device is full
+pub record InputBlamed {X : Type 0} (a : Result X SparseFault) (r r' : ℕ) : Type 0 where
+  pub cause : ExpandingRises a r r' 0 0
+  pub clean : Clean a r r' 0 0
+  pub failed : full_answered a ≡ 0
+
+-- 1 where a walk that had neither ended nor failed is refused since a device is full
+abbrev pub full_since : {X : Type 0} → Phase → Result X SparseFault → ℕ
+full_since phases.Header a = full_answered a
+full_since phases.Body a = full_answered a
+full_since p a = 0
+
+-- one of the ten faults that bytes may have
+abbrev pub IsOwn : SparseFault → Type 0
+IsOwn (faults.Read d) = ⊥
+IsOwn (faults.Write d) = ⊥
+IsOwn f = Unit {0}
 
 -- P, save where the input ended too soon or a device failed
 abbrev pub UnlessCut : SparseFault → Type 0 → Type 0

@@ -1,12 +1,15 @@
 -- What an expander writes of each part, and what its steps answer.
-use Rattle.std.specs.Prelude.{◌≡◌, ℕ, ◌*◌, ◌<◌, ◌≤◌, List, [], ◌++◌, take, replicate, Result, Ok, Err}
+use Rattle.std.specs.Prelude.{◌≡◌, ℕ, ◌-◌, ◌*◌, ◌<◌, ◌≤◌, List, [], ◌++◌, length, take, replicate, Result, Ok, Err}
+use Rattle.std.specs.Prelude.{OnOk, OnErr, Option}
 use Rattle.std.specs.List.{concat}
+use Rattle.abt_io.specs.declared.device.Output as outputs
 use Rattle.abt_sparse.specs.declared.fault.SparseFault.{SparseFault}
 use Rattle.abt_sparse.specs.declared.fault.SparseFault.TheVariants as faults
 use Rattle.abt_chunks.specs.declared.walk.Part.{Part}
 use Rattle.abt_chunks.specs.declared.walk.Part.TheVariants as parts
 use Rattle.abt_chunks.specs.declared.walk.Phase.{Phase}
 use Rattle.abt_chunks.specs.declared.walk.Phase.TheVariants as phases
+use Rattle.abt_chunks.specs.Ahead.{somes, fills, gaps}
 use Rattle.abt_chunks.specs.declared.progress.Progress.{Progress}
 use Rattle.abt_chunks.specs.declared.progress.Progress.TheVariants as answers
 
@@ -16,6 +19,13 @@ laid_by (parts.Raw n) window = take n window
 laid_by (parts.Words word n) window = concat (replicate n word)
 laid_by (parts.Skip n) window = replicate (4 * n) 0
 laid_by q window = []
+
+-- its cells, raw ones from the front of the window
+abbrev pub cells_by : Part → List ℕ → List (Option ℕ)
+cells_by (parts.Raw n) window = somes (take n window)
+cells_by (parts.Words word n) window = fills n word
+cells_by (parts.Skip n) window = gaps n
+cells_by q window = []
 
 -- a part of which nothing is written
 abbrev pub IsQuiet : Part → Type 0
@@ -37,39 +47,49 @@ IsWritable (parts.Words word n) = 0 < n
 IsWritable (parts.Skip n) = 0 < n
 IsWritable q = Unit {0}
 
+-- The bytes x are written to an output: all of them after an Ok, and otherwise a front of them, and a write has failed.
+pub record WritesOn {X E : Type 0} (r : Result X E) (x : List ℕ) {B : Type 0} (o : outputs.Ghosts B) (old new : B)
+    : Type 0 where
+  pub ok : OnOk r (o.written new ≡ o.written old ++ x)
+  pub front : o.written new ≡ o.written old ++ take (length (o.written new) - length (o.written old)) x
+  pub cause : OnErr r (o.write_faults old < o.write_faults new)
+
 -- these bytes are a beginning of those
-pub record Begins (front whole : List ℕ) : Type 0 where
+pub record IsFrontOf (front whole : List ℕ) : Type 0 where
   pub more : List ℕ
   pub joined : whole ≡ front ++ more
 
--- what a step answers to a part that was written
+-- what a step answers to a part that was done with, of a fault what it makes of it
+abbrev pub answer_by : {E : Type 0} → (SparseFault → E) → Part → Result Progress E
+answer_by g parts.End = Ok answers.Done
+answer_by g (parts.Fault f) = Err (g f)
+answer_by g q = Ok answers.More
+
 abbrev pub answer_of : Part → Result Progress SparseFault
-answer_of parts.End = Ok answers.Done
-answer_of (parts.Fault f) = Err f
-answer_of q = Ok answers.More
+answer_of q = answer_by (λ f. f) q
 
 -- the phase that an answer leaves
-abbrev pub Stands : Result Progress SparseFault → Phase → Type 0
-Stands (Ok answers.More) p = p ≡ phases.Body
-Stands (Ok answers.Done) p = p ≡ phases.Done
-Stands (Err f) p = p ≡ phases.Failed f
+abbrev pub ExpandingLeaves : Result Progress SparseFault → Phase → Type 0
+ExpandingLeaves (Ok answers.More) p = p ≡ phases.Body
+ExpandingLeaves (Ok answers.Done) p = p ≡ phases.Done
+ExpandingLeaves (Err f) p = p ≡ phases.Failed f
 
 -- P, save where the fault is a device's
-abbrev pub UnlessDevice : SparseFault → Type 0 → Type 0
-UnlessDevice (faults.Read d) P = Unit {0}
-UnlessDevice (faults.Write d) P = Unit {0}
-UnlessDevice f P = P
+abbrev pub UnlessExpandingDevice : SparseFault → Type 0 → Type 0
+UnlessExpandingDevice (faults.Read d) P = Unit {0}
+UnlessExpandingDevice (faults.Write d) P = Unit {0}
+UnlessExpandingDevice f P = P
 
 -- P, save where a device has failed
-abbrev pub Unless : {X : Type 0} → Result X SparseFault → Type 0 → Type 0
-Unless (Ok x) P = P
-Unless (Err f) P = UnlessDevice f P
+abbrev pub UnlessExpanding : {X : Type 0} → Result X SparseFault → Type 0 → Type 0
+UnlessExpanding (Ok x) P = P
+UnlessExpanding (Err f) P = UnlessExpandingDevice f P
 
 -- 11 and 12 come where that device's faults rose
-abbrev pub Rises : {X : Type 0} → Result X SparseFault → ℕ → ℕ → ℕ → ℕ → Type 0
-Rises (Err (faults.Read d)) r r' w w' = r < r'
-Rises (Err (faults.Write d)) r r' w w' = w < w'
-Rises a r r' w w' = Unit {0}
+abbrev pub ExpandingRises : {X : Type 0} → Result X SparseFault → ℕ → ℕ → ℕ → ℕ → Type 0
+ExpandingRises (Err (faults.Read d)) r r' w w' = r < r'
+ExpandingRises (Err (faults.Write d)) r r' w w' = w < w'
+ExpandingRises a r r' w w' = Unit {0}
 
 -- the machine has neither ended nor failed
 abbrev pub IsGoing : Phase → Type 0
@@ -78,10 +98,10 @@ IsGoing phases.Body = Unit {0}
 IsGoing p = ⊥
 
 -- P, where the machine has more to do, and where it has ended
-abbrev pub OnMore : Result Progress SparseFault → Type 0 → Type 0
-OnMore (Ok answers.More) P = P
-OnMore r P = Unit {0}
+abbrev pub OnMoreExpanding : {E : Type 0} → Result Progress E → Type 0 → Type 0
+OnMoreExpanding (Ok answers.More) P = P
+OnMoreExpanding r P = Unit {0}
 
-abbrev pub OnDone : Result Progress SparseFault → Type 0 → Type 0
+abbrev pub OnDone : {E : Type 0} → Result Progress E → Type 0 → Type 0
 OnDone (Ok answers.Done) P = P
 OnDone r P = Unit {0}

@@ -6,6 +6,7 @@ pub mod Places
 pub mod ListingAhead
 pub mod Taking
 pub mod Cause
+pub mod Costs
 pub mod Expanding
 pub mod Whole
 pub mod Showing

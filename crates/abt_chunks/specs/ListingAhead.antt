@@ -31,6 +31,14 @@ is_spent kinds.Crc due raw words = not due
 abbrev pub at_end : Walk → Bool
 at_end s = (s.extra == 0) && is_spent s.kind s.due s.raw s.words
 
+-- 1 where the next step may pass a gap, for which nothing is read or written. One may follow each header of a chunk.
+abbrev pub idle_in : Phase → Walk → ℕ
+idle_in phases.Body s = if at_end s then 0 else 1
+idle_in p s = 0
+
+abbrev pub idle : Walk → ℕ
+idle s = idle_in s.phase s
+
 -- where a listing stands between two calls
 abbrev pub is_between : Phase → Walk → Bool
 is_between phases.Header s = false
@@ -115,16 +123,16 @@ breaking s f = record { head = head_in s.phase (at_end s) s; shown = []; ending 
 -- ---- a step
 
 -- what a part tells a listing, once its bytes c are read and t comes behind
-abbrev pub Shows : Part → Walk → Walk → List ℕ → List ℕ → Type 0
-Shows parts.End s s' c t = upcoming s (c ++ t) ≡ record { head = Some (view s'.header); shown = []; ending = Ok t }
-Shows (parts.Fault f) s s' c t = upcoming s (c ++ t) ≡ breaking s f
-Shows q s s' c t = upcoming s (c ++ t) ≡ with_begun s' t
+abbrev pub ShowsPart : Part → Walk → Walk → List ℕ → List ℕ → Type 0
+ShowsPart parts.End s s' c t = upcoming s (c ++ t) ≡ record { head = Some (view s'.header); shown = []; ending = Ok t }
+ShowsPart (parts.Fault f) s s' c t = upcoming s (c ++ t) ≡ breaking s f
+ShowsPart q s s' c t = upcoming s (c ++ t) ≡ with_begun s' t
 
 -- the same, of a fault of a device nothing
 abbrev pub Lists : Part → Walk → Walk → List ℕ → List ℕ → Type 0
 Lists (parts.Fault (faults.Read d)) s s' c t = Unit {0}
 Lists (parts.Fault (faults.Write d)) s s' c t = Unit {0}
-Lists q s s' c t = Shows q s s' c t
+Lists q s s' c t = ShowsPart q s s' c t
 
 -- how many chunks were begun: one more where the last one had ended, and its header took some bytes
 abbrev pub Numbers : Phase → Walk → Walk → ℕ → Type 0

@@ -32,10 +32,10 @@ Says parts.End s s' c t = ahead s (c ++ t) ≡ record { cells = []; ending = Ok 
 Says (parts.Fault f) s s' c t = ahead s (c ++ t) ≡ stopping f
 
 -- the phase that a part leaves
-abbrev pub Leaves : Part → Phase → Type 0
-Leaves parts.End p = p ≡ phases.Done
-Leaves (parts.Fault f) p = p ≡ phases.Failed f
-Leaves q p = p ≡ phases.Body
+abbrev pub PartLeaves : Part → Phase → Type 0
+PartLeaves parts.End p = p ≡ phases.Done
+PartLeaves (parts.Fault f) p = p ≡ phases.Failed f
+PartLeaves q p = p ≡ phases.Body
 
 -- the machine goes on behind it
 abbrev pub goes_on : Part → Bool
@@ -48,16 +48,16 @@ is_fault (parts.Fault f) = true
 is_fault q = false
 
 -- a header or a word was read, or one is refused
-abbrev pub IsRead : Part → Type 0
-IsRead parts.Nothing = Unit {0}
-IsRead (parts.Fault f) = Unit {0}
-IsRead q = ⊥
+abbrev pub IsReadPart : Part → Type 0
+IsReadPart parts.Nothing = Unit {0}
+IsReadPart (parts.Fault f) = Unit {0}
+IsReadPart q = ⊥
 
 -- so many raw bytes, or a refusal
-abbrev pub IsRaw : Part → ℕ → Type 0
-IsRaw (parts.Raw k) n = k ≡ n
-IsRaw (parts.Fault f) n = Unit {0}
-IsRaw q n = ⊥
+abbrev pub IsRawPart : Part → ℕ → Type 0
+IsRawPart (parts.Raw k) n = k ≡ n
+IsRawPart (parts.Fault f) n = Unit {0}
+IsRawPart q n = ⊥
 
 -- of fills and gaps at most so many words
 abbrev pub Within : Part → ℕ → ℕ → Type 0
@@ -79,10 +79,10 @@ Caused (parts.Fault (faults.Write d)) p r r' = ⊥
 Caused q p r r' = Unit {0}
 
 -- the same, of a fault of the devices nothing
-abbrev pub Told : Part → Walk → Walk → List ℕ → List ℕ → Type 0
-Told (parts.Fault (faults.Read d)) s s' c t = Unit {0}
-Told (parts.Fault (faults.Write d)) s s' c t = Unit {0}
-Told q s s' c t = Says q s s' c t
+abbrev pub SaysUnlessDevice : Part → Walk → Walk → List ℕ → List ℕ → Type 0
+SaysUnlessDevice (parts.Fault (faults.Read d)) s s' c t = Unit {0}
+SaysUnlessDevice (parts.Fault (faults.Write d)) s s' c t = Unit {0}
+SaysUnlessDevice q s s' c t = Says q s s' c t
 
 -- how many bytes of blocks a part gives or passes over
 abbrev pub given_by : Part → ℕ

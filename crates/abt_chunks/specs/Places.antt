@@ -1,5 +1,6 @@
 -- Where a walk stands in the expanded image, and what it owes without another byte.
-use Rattle.std.specs.Prelude.{ℕ, ◌-◌, ◌*◌, Bool, List, [], Option, if◌then◌else◌, ◌==◌}
+use Rattle.std.specs.Prelude.{ℕ, ◌+◌, ◌-◌, ◌*◌, Bool, List, [], ◌∷◌, ◌++◌, replicate, Option, Some, None, ◌==◌}
+use Rattle.std.specs.Prelude.{if◌then◌else◌}
 use Rattle.abt_sparse.specs.declared.kind.ChunkKind.{ChunkKind}
 use Rattle.abt_sparse.specs.declared.kind.ChunkKind.TheVariants as kinds
 use Rattle.abt_chunks.specs.declared.walk.Phase.{Phase}
@@ -36,3 +37,13 @@ owed_in p s = []
 
 abbrev pub owed : Walk → List (Option ℕ)
 owed s = owed_in s.phase s
+
+-- cells from a place on
+abbrev pub from_place : ℕ → List (Option ℕ) → List (Option ℕ)
+from_place at cs = replicate at None ++ cs
+
+-- how many bytes cells say
+abbrev pub said_by : List (Option ℕ) → ℕ
+said_by [] = 0
+said_by (None ∷ cs) = said_by cs
+said_by (Some x ∷ cs) = 1 + said_by cs

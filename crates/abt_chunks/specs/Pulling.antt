@@ -1,5 +1,5 @@
 -- The reading machine that is fed its input in pieces: what it holds, and what a pull says.
-use Rattle.std.specs.Prelude.{◌≡◌, ℕ, ◌<◌, ◌≤◌, ◌++◌, List, take, min, true}
+use Rattle.std.specs.Prelude.{◌≡◌, ℕ, ◌+◌, ◌<◌, ◌≤◌, ◌++◌, List, length, take, min, true}
 use Rattle.abt_chunks.specs.declared.feed.Pull.{Pull}
 use Rattle.abt_chunks.specs.declared.feed.Pull.TheVariants as pulls
 use Rattle.abt_chunks.specs.declared.feed.Puller.{Puller}
@@ -7,18 +7,19 @@ use Rattle.abt_chunks.specs.declared.walk.Part.TheVariants as parts
 use Rattle.abt_chunks.specs.declared.feed.Pulled.{Pulled}
 use Rattle.abt_chunks.specs.declared.walk.Walk.{Walk}
 use Rattle.abt_chunks.specs.ListingAhead.{at_end}
-use Rattle.abt_chunks.specs.Parts.{Says, Leaves, given_by, goes_on}
+use Rattle.abt_chunks.specs.Parts.{Says, PartLeaves, given_by, goes_on}
+use Rattle.abt_chunks.specs.Places.{place_of, upto_of}
 use Rattle.abt_chunks.specs.Turns.{todo}
 
 -- the bytes that it holds
-abbrev pub front_of : Puller → List ℕ
-front_of p = take p.count p.held
+abbrev pub pulled_front : Puller → List ℕ
+pulled_front p = take p.count p.held
 
 -- What a pull says, once its bytes c are taken and whatever bytes t follow: what was held and came is held, or it gives
 -- a part with them.
 abbrev pub PullSays : Pull → Puller → Puller → List ℕ → List ℕ → Type 0
-PullSays pulls.Need p p' c t = (p'.walk ≡ p.walk) × (front_of p' ≡ front_of p ++ c)
-PullSays (pulls.Gives q) p p' c t = Says q p.walk p'.walk (front_of p ++ c) t
+PullSays pulls.Need p p' c t = (p'.walk ≡ p.walk) × (pulled_front p' ≡ pulled_front p ++ c)
+PullSays (pulls.Gives q) p p' c t = Says q p.walk p'.walk (pulled_front p ++ c) t
 
 -- nothing is held behind a part; where it gives something of a block, nothing was held before
 abbrev pub IsKept : Pull → Puller → Puller → Type 0
@@ -41,11 +42,11 @@ IsUsed q used n = Unit {0}
 
 -- the phase that a part leaves
 abbrev pub PullLeaves : Pull → Puller → Type 0
-PullLeaves (pulls.Gives q) p = Leaves q p.walk.phase
+PullLeaves (pulls.Gives q) p = PartLeaves q p.walk.phase
 PullLeaves q p = Unit {0}
 
--- What a pull made of n bytes: raw bytes are all that came of those that are left, a header or a word used one at least,
--- and a fill and a gap are given whole, and use none. The end uses none.
+-- What a pull made of n bytes: raw bytes are all that came of those that are left, a header or a word used one at
+-- least, and a fill and a gap are given whole, and use none. The end uses none.
 abbrev pub PullMoves : Pull → Walk → Walk → ℕ → ℕ → Type 0
 PullMoves (pulls.Gives (parts.Raw k)) s s' used n = (0 < used) × (used ≡ min s.raw n)
 PullMoves (pulls.Gives parts.Nothing) s s' used n = 0 < used
@@ -58,6 +59,18 @@ PullMoves q s s' used n = Unit {0}
 abbrev pub PullFalls : Pull → Walk → Walk → Type 0
 PullFalls (pulls.Gives q) s s' = goes_on q ≡ true → todo s' < todo s
 PullFalls q s s' = Unit {0}
+
+-- what a pull that is given these bytes answers, and what it leaves
+pub record Pulls (r : Pulled) (p p' : Puller) (bytes : List ℕ) : Type 0 where
+  pub used : r.used ≤ length bytes
+  pub needs : IsUsed r.pull r.used (length bytes)
+  pub says : (t : List ℕ) → PullSays r.pull p p' (take r.used bytes) t
+  pub lent : IsLent r.pull r.used
+  pub kept : IsKept r.pull p p'
+  pub leaves : PullLeaves r.pull p'
+  pub inside : place_of p.walk + pulled_by r.pull ≤ upto_of p.walk
+  pub moves : PullMoves r.pull p.walk p'.walk r.used (length bytes)
+  pub falls : PullFalls r.pull p.walk p'.walk
 
 -- where the image has ended or was refused, a pull uses nothing, changes nothing, and asks for nothing more
 pub record IsAgain (r : Pulled) (p p' : Puller) : Type 0 where

@@ -8,7 +8,7 @@ use Rattle.abt_chunks.specs.declared.progress.ChunkInfo.{ChunkInfo}
 use Rattle.abt_chunks.specs.declared.walk.Phase.{Phase}
 use Rattle.abt_chunks.specs.declared.walk.Phase.TheVariants as phases
 use Rattle.abt_chunks.specs.declared.walk.Walk.{Walk}
-use Rattle.abt_chunks.specs.Expanding.{UnlessDevice}
+use Rattle.abt_chunks.specs.Expanding.{UnlessExpandingDevice}
 use Rattle.abt_chunks.specs.Listing.{Listing, listing_of}
 use Rattle.abt_chunks.specs.ListingAhead.{at_end, breaking, shown_before, upcoming, with_begun}
 
@@ -16,7 +16,7 @@ use Rattle.abt_chunks.specs.ListingAhead.{at_end, breaking, shown_before, upcomi
 abbrev pub ListsTo : Result Progress SparseFault → Walk → Walk → List ℕ → List ℕ → Type 0
 ListsTo (Ok answers.More) s s' x y = upcoming s x ≡ with_begun s' y
 ListsTo (Ok answers.Done) s s' x y = upcoming s x ≡ record { head = Some (view s'.header); shown = []; ending = Ok y }
-ListsTo (Err f) s s' x y = UnlessDevice f (upcoming s x ≡ breaking s f)
+ListsTo (Err f) s s' x y = UnlessExpandingDevice f (upcoming s x ≡ breaking s f)
 
 -- a fault, and no chunk before it; within the image's header, before chunk 0 is begun, no header either
 pub record Breaks (a : Listing) (i : ℕ) (f : SparseFault) : Type 0 where
@@ -27,11 +27,11 @@ pub record Breaks (a : Listing) (i : ℕ) (f : SparseFault) : Type 0 where
 -- to the end of what was begun
 abbrev pub Passes : Result (Unit {0}) SparseFault → Walk → Walk → List ℕ → List ℕ → Type 0
 Passes (Ok u) s s' x y = with_begun s x ≡ with_begun s' y
-Passes (Err f) s s' x y = UnlessDevice f (Breaks (with_begun s x) s.index f)
+Passes (Err f) s s' x y = UnlessExpandingDevice f (Breaks (with_begun s x) s.index f)
 
-abbrev pub Settles : Result (Unit {0}) SparseFault → Walk → Type 0
-Settles (Ok u) s = (s.phase ≡ phases.Body) × (at_end s ≡ true)
-Settles (Err f) s = s.phase ≡ phases.Failed f
+abbrev pub SettlesWalk : Result (Unit {0}) SparseFault → Walk → Type 0
+SettlesWalk (Ok u) s = (s.phase ≡ phases.Body) × (at_end s ≡ true)
+SettlesWalk (Err f) s = s.phase ≡ phases.Failed f
 
 -- Opened on the bytes x, of which y are left: the header is good and behind, and the rest of the listing is still to
 -- come.
@@ -42,7 +42,7 @@ Opens s x y = (listing_of x ≡ upcoming s y) × (s.phase ≡ phases.Body) × (a
 abbrev pub Lists_next : Result (Option ChunkInfo) SparseFault → Walk → Walk → List ℕ → List ℕ → Type 0
 Lists_next (Ok (Some info)) s s' x y = upcoming s x ≡ shown_before (info ∷ []) (upcoming s' y)
 Lists_next (Ok None) s s' x y = ((upcoming s x).shown ≡ []) × ((upcoming s x).ending ≡ Ok y)
-Lists_next (Err f) s s' x y = UnlessDevice f (((upcoming s x).shown ≡ []) × ((upcoming s x).ending ≡ Err f))
+Lists_next (Err f) s s' x y = UnlessExpandingDevice f (((upcoming s x).shown ≡ []) × ((upcoming s x).ending ≡ Err f))
 
 -- the phase that an answer leaves
 abbrev pub Stands_next : Result (Option ChunkInfo) SparseFault → Phase → Type 0

@@ -28,13 +28,13 @@ SpentBy kinds.Fill due raw words = (due ≡ false) × (words ≡ 0)
 SpentBy kinds.Skip due raw words = words ≡ 0
 SpentBy kinds.Crc due raw words = due ≡ false
 
-abbrev pub IsOver : Phase → Type 0
-IsOver phases.Done = Unit {0}
-IsOver (phases.Failed f) = Unit {0}
-IsOver p = ⊥
+abbrev pub IsWalkOver : Phase → Type 0
+IsWalkOver phases.Done = Unit {0}
+IsWalkOver (phases.Failed f) = Unit {0}
+IsWalkOver p = ⊥
 
-abbrev pub Spent : Walk → Type 0
-Spent s = SpentBy s.kind s.due s.raw s.words
+abbrev pub SpentChunk : Walk → Type 0
+SpentChunk s = SpentBy s.kind s.due s.raw s.words
 
 -- when a walk is at each turn
 abbrev pub AtTurn : Turn → Walk → Type 0
@@ -44,9 +44,9 @@ AtTurn turns.Raw s = (s.phase ≡ phases.Body) × (s.extra ≡ 0) × (s.kind ≡
 AtTurn turns.Word s = (s.phase ≡ phases.Body) × (s.extra ≡ 0) × (due_of s.kind ≡ true) × (s.due ≡ true)
 AtTurn turns.Fill s = (s.phase ≡ phases.Body) × (s.extra ≡ 0) × (s.kind ≡ kinds.Fill) × (s.due ≡ false) × (0 < s.words)
 AtTurn turns.Gap s = (s.phase ≡ phases.Body) × (s.extra ≡ 0) × (s.kind ≡ kinds.Skip) × (0 < s.words)
-AtTurn turns.Chunk s = (s.phase ≡ phases.Body) × (s.extra ≡ 0) × Spent s × (s.index < s.header.total_chunks)
-AtTurn turns.End s = (s.phase ≡ phases.Body) × (s.extra ≡ 0) × Spent s × (s.header.total_chunks ≤ s.index)
-AtTurn turns.Over s = IsOver s.phase
+AtTurn turns.Chunk s = (s.phase ≡ phases.Body) × (s.extra ≡ 0) × SpentChunk s × (s.index < s.header.total_chunks)
+AtTurn turns.End s = (s.phase ≡ phases.Body) × (s.extra ≡ 0) × SpentChunk s × (s.header.total_chunks ≤ s.index)
+AtTurn turns.Over s = IsWalkOver s.phase
 
 -- how many bytes are asked for, and how few may come where the input has not ended
 abbrev pub ask_of : Turn → Walk → ℕ

@@ -6,7 +6,7 @@ use Rattle.abt_sparse.specs.Block.{laid, expansion}
 use Rattle.abt_sparse.specs.Chunk.{Header, Chunk, classed}
 use Rattle.abt_sparse.specs.Fails.{Fails, Spells}
 use Rattle.abt_chunks.specs.declared.progress.Expanded.{Expanded}
-use Rattle.abt_chunks.specs.Expanding.{Begins, UnlessDevice}
+use Rattle.abt_chunks.specs.Expanding.{IsFrontOf, UnlessExpandingDevice}
 
 -- An image stands at the front of x, and rest behind it; its expansion was written, and the answer counts it.
 pub record Expansion (e : Expanded) (old new x rest : List ℕ) : Type 0 where
@@ -26,7 +26,7 @@ pub record Refusal (f : SparseFault) (old new x : List ℕ) : Type 0 where
 -- what is answered over an input x of which rest is left, save where a device failed
 abbrev pub Expands : Result Expanded SparseFault → List ℕ → List ℕ → List ℕ → List ℕ → Type 0
 Expands (Ok e) old new x rest = Expansion e old new x rest
-Expands (Err f) old new x rest = UnlessDevice f (Refusal f old new x)
+Expands (Err f) old new x rest = UnlessExpandingDevice f (Refusal f old new x)
 
 -- what bytes give where nothing was before, whether an image stands at their front or they have a fault
 pub data Gives (y : List ℕ) : List ℕ → Type 0 where
@@ -38,7 +38,7 @@ pub data Gives (y : List ℕ) : List ℕ → Type 0 where
 pub record Begun (old new y : List ℕ) : Type 0 where
   pub whole : List ℕ
   pub gives : Gives y whole
-  pub begins : Begins new (old ++ whole)
+  pub begins : IsFrontOf new (old ++ whole)
 
 -- of these bytes nothing is known but that they end too soon
 pub record EndsTooSoon (y : List ℕ) : Type 0 where

@@ -1,16 +1,18 @@
 //! Expanding a sparse image, in steps and as a whole.
 
 ghost use Rattle.std.specs.Prelude.{◌≡◌, ◌<◌, ◌≤◌, ◌+◌, ◌-◌, ◌*◌, ◌++◌, ℕ, List, IsTrue, OnOk, is_err, length, take};
-ghost use Rattle.std.specs.Prelude.{drop, max};
+ghost use Rattle.abt_io.specs.Lent.{OneStep, OnlyWrites};
 ghost use Rattle.abt_sparse.specs.Block.{laid};
 ghost use Rattle.abt_sparse.specs.Cause.{full_answered};
 ghost use Rattle.abt_chunks.specs.Ahead.{finish};
-ghost use Rattle.abt_chunks.specs.Cause.{Clean, wanted};
-ghost use Rattle.abt_chunks.specs.Turns.{IsOver, todo};
+ghost use Rattle.abt_chunks.specs.Cause.{Blamed, full_since};
+ghost use Rattle.abt_chunks.specs.Costs.{ExpandCosts, StepsWithin};
+ghost use Rattle.abt_chunks.specs.Expanding.{IsFrontOf, IsGoing, OnMoreExpanding, ExpandingLeaves, UnlessExpanding};
+ghost use Rattle.abt_chunks.specs.Expanding.{answer_of};
 ghost use Rattle.abt_chunks.specs.Parts.{ahead};
 ghost use Rattle.abt_chunks.specs.Places.{owed};
-ghost use Rattle.abt_chunks.specs.Taking.{ReadsOn, input_state};
-ghost use Rattle.abt_chunks.specs.Expanding.{Begins, IsGoing, OnMore, Rises, Stands, Unless, answer_of};
+ghost use Rattle.abt_chunks.specs.Taking.{ReadStep, ReadsOn, input_state};
+ghost use Rattle.abt_chunks.specs.Turns.{IsWalkOver, todo};
 ghost use Rattle.abt_chunks.specs.Whole.{AllNeeded, Begun, Expands};
 ghost use Rattle.abt_chunks.specs.declared.progress.Progress.TheVariants.{More};
 
@@ -58,16 +60,15 @@ impl Expander {
         w: &mut Window,
         m: &mut Meter,
     ) -> Result<Progress, SparseFault>
-        ensures asked { I.given input.old ≤ I.given input.new × I.given input.new ≤ I.given input.old + 65536 }
-        ensures wanted { I.given input.new - I.given input.old ≤ wanted self.old.walk }
-        ensures input { ReadsOn I.tells (input_state I.Input input.old) (input_state I.Input input.new) }
+        ensures input { ReadStep (I.given input.new - I.given input.old) 65536 self.old.walk I.tells
+            (input_state I.Input input.old) (input_state I.Input input.new) }
         // What is written, finished by what is still to be read, is the whole.
         ensures told { IsTrue I.tells → (t : List ℕ) → (IsTrue (is_err result) → t ≡ I.remaining input.new) →
-            Unless result (finish (O.written output.old) (ahead self.old.walk
+            UnlessExpanding result (finish (O.written output.old) (ahead self.old.walk
             (take (I.given input.new - I.given input.old) (I.remaining input.old) ++ t)) ≡ finish
             (O.written output.new) (ahead self.new.walk t)) }
         // And it is a beginning of what the bytes read so far give.
-        ensures begun { IsTrue I.tells → Begins (O.written output.new)
+        ensures begun { IsTrue I.tells → IsFrontOf (O.written output.new)
             (finish (O.written output.old) (ahead self.old.walk
             (take (I.given input.new - I.given input.old) (I.remaining input.old)))).0 }
         // Nothing is held over: what the bytes read so far give is written, but for the words that a fill or a gap
@@ -75,31 +76,16 @@ impl Expander {
         ensures held { IsTrue I.tells → OnOk result ((finish (O.written output.old)
             (ahead self.old.walk (take (I.given input.new - I.given input.old) (I.remaining input.old)))).0 ≡
             O.written output.new ++ laid (owed self.new.walk)) }
-        ensures grown { length (O.written output.old) ≤ length (O.written output.new) }
-        ensures stands { Stands result self.new.walk.phase }
-        ensures cause { IsGoing self.old.walk.phase → Rises result (I.read_faults input.old) (I.read_faults input.new)
-            (O.write_faults output.old) (O.write_faults output.new) }
-        ensures clean { Clean result (I.read_faults input.old) (I.read_faults input.new)
-            (O.write_faults output.old) (O.write_faults output.new) }
-        ensures full_faults { IsGoing self.old.walk.phase →
-            O.full_faults output.new ≡ O.full_faults output.old + full_answered result }
-        ensures again { IsOver self.old.walk.phase → (self.new.walk ≡ self.old.walk) × (input.new ≡ input.old) ×
+        ensures stands { ExpandingLeaves result self.new.walk.phase }
+        ensures blame { IsGoing self.old.walk.phase → Blamed result (I.read_faults input.old)
+            (I.read_faults input.new) (O.write_faults output.old) (O.write_faults output.new) }
+        ensures writes { OnlyWrites result (full_since self.old.walk.phase result) O.Output output.old output.new }
+        ensures again { IsWalkOver self.old.walk.phase → (self.new.walk ≡ self.old.walk) × (input.new ≡ input.old) ×
             (output.new ≡ output.old) }
-        ensures fewer { OnMore result (todo self.new.walk < todo self.old.walk) }
-        ensures write_frame { O.write_frame output.new ≡ O.write_frame output.old }
-        ensures write_faults { O.write_faults output.old ≤ O.write_faults output.new }
-        ensures reads { I.reads input.new ≤ I.reads input.old + (I.given input.new - I.given input.old) + 1 }
-        ensures writes { O.writes output.new ≤ O.writes output.old + 2 *
-            (length (O.written output.new) - length (O.written output.old)) + 1 }
-        ensures progress { OnMore result (0 < (I.given input.new - I.given input.old) +
-            (length (O.written output.new) - length (O.written output.old))) }
-        ensures turns { m.new.turns.number ≤ m.old.turns.number + (I.given input.new - I.given input.old) + 2 *
-            (length (O.written output.new) - length (O.written output.old)) + 17 }
-        ensures few { OnMore result (m.new.turns.number ≤ m.old.turns.number +
-            (I.given input.new - I.given input.old) + 2 * (length (O.written output.new) - length
-            (O.written output.old)) + 2) }
-        ensures steps { m.new.steps.number ≡ m.old.steps.number + 1 }
-        ensures greatest { m.new.greatest.number ≡ max m.old.greatest.number (I.given input.new - I.given input.old) }
+        ensures fewer { OnMoreExpanding result (todo self.new.walk < todo self.old.walk) }
+        ensures costs { ExpandCosts result (I.given input.new - I.given input.old) O.Output output.old output.new m.old
+            m.new }
+        ensures one_step { OneStep (I.given input.new - I.given input.old) m.old m.new }
     {
         self.walk.is_counted();
         let all = self.walk.words.max(1);
@@ -135,23 +121,16 @@ pub fn expand<I: Input, O: Output>(
         (take (I.given input.new - I.given input.old) (I.remaining input.old)) }
     // No byte is read that is not needed: none behind an image, and none once a fault is known.
     ensures needed { IsTrue I.tells → AllNeeded (I.remaining input.old) (I.given input.new - I.given input.old) }
-    ensures cause { Rises result (I.read_faults input.old) (I.read_faults input.new) (O.write_faults output.old)
+    ensures blame { Blamed result (I.read_faults input.old) (I.read_faults input.new) (O.write_faults output.old)
         (O.write_faults output.new) }
-    ensures clean { Clean result (I.read_faults input.old) (I.read_faults input.new)
-        (O.write_faults output.old) (O.write_faults output.new) }
-    ensures full_faults { O.full_faults output.new ≡ O.full_faults output.old + full_answered result }
-    ensures given { I.given input.old ≤ I.given input.new }
-    ensures grown { length (O.written output.old) ≤ length (O.written output.new) }
-    ensures write_frame { O.write_frame output.new ≡ O.write_frame output.old }
-    ensures write_faults { O.write_faults output.old ≤ O.write_faults output.new }
+    ensures writes { OnlyWrites result (full_answered result) O.Output output.old output.new }
     ensures calls { (I.reads input.new - I.reads input.old) + (O.writes output.new - O.writes output.old) ≤ 8 *
         ((I.given input.new - I.given input.old) + (length (O.written output.new) - length (O.written output.old))) +
         512 }
     ensures turns { m.new.turns.number ≤ m.old.turns.number + 8 *
         ((I.given input.new - I.given input.old) + (length (O.written output.new) - length (O.written output.old))) +
         512 }
-    ensures steps { I.given input.new + 65580 * m.old.steps.number ≤ I.given input.old + 65580 * m.new.steps.number }
-    ensures greatest { m.new.greatest.number ≤ max m.old.greatest.number 65580 }
+    ensures steps { StepsWithin 65580 (I.given input.old) (I.given input.new) m.old m.new }
 {
     let mut machine = Expander::open();
     'steps: loop {

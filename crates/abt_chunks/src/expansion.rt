@@ -1,9 +1,11 @@
 //! What an expander writes of each part of an image.
 
-ghost use Rattle.std.specs.Prelude.{◌≡◌, ◌<◌, ◌≤◌, ◌+◌, ◌-◌, ◌*◌, ◌^◌, ◌++◌, OnOk, OnErr, length, take, replicate};
+ghost use Rattle.std.specs.Prelude.{◌≡◌, ◌<◌, ◌+◌, ◌*◌, ◌^◌, OnOk, length, replicate};
 ghost use Rattle.std.specs.List.{concat};
 ghost use Rattle.abt_io.specs.Count.{full_of};
-ghost use Rattle.abt_chunks.specs.Expanding.{laid_by, IsQuiet, IsWords, IsWritable};
+ghost use Rattle.abt_io.specs.Lent.{OnlyWrites};
+ghost use Rattle.abt_chunks.specs.Costs.{WritingCosts};
+ghost use Rattle.abt_chunks.specs.Expanding.{IsQuiet, IsWords, IsWritable, WritesOn, laid_by};
 ghost use Rattle.abt_chunks.specs.Parts.{given_by};
 
 use crate::walk::Part;
@@ -19,25 +21,11 @@ pub(crate) fn write_part<O: Output>(
 ) -> Result<(), DeviceFault>
     requires writable { IsWritable part }
     requires fits { given_by part < 2 ^ 64 }
-    ensures ok { OnOk result (O.written output.new ≡ O.written output.old ++ laid_by part w.old.bytes) }
-    ensures front { O.written output.new ≡ O.written output.old ++ take
-        (length (O.written output.new) - length (O.written output.old)) (laid_by part w.old.bytes) }
-    ensures grown { length (O.written output.old) ≤ length (O.written output.new) }
+    ensures front { WritesOn result (laid_by part w.old.bytes) O.Output output.old output.new }
     ensures some { OnOk result (IsWords part → length (O.written output.old) < length (O.written output.new)) }
     ensures quiet { IsQuiet part → output.new ≡ output.old }
-    ensures frame { O.write_frame output.new ≡ O.write_frame output.old }
-    ensures faults { O.write_faults output.old ≤ O.write_faults output.new }
-    ensures cause { OnErr result (O.write_faults output.old < O.write_faults output.new) }
-    ensures clean { OnOk result (O.write_faults output.new ≡ O.write_faults output.old) }
-    ensures full_faults { O.full_faults output.new ≡ O.full_faults output.old + full_of result }
-    ensures calls { O.writes output.new + 2 * length (O.written output.old) ≤ O.writes output.old + 2 * length
-        (O.written output.new) + 1 }
-    ensures turns { m.new.turns.number + 2 * length (O.written output.old) ≤ m.old.turns.number + 2 * length
-        (O.written output.new) + 16 }
-    ensures few { OnOk result (m.new.turns.number + 2 * length (O.written output.old) ≤ m.old.turns.number +
-        2 * length (O.written output.new) + 1) }
-    ensures steps { m.new.steps.number ≡ m.old.steps.number }
-    ensures greatest { m.new.greatest.number ≡ m.old.greatest.number }
+    ensures writes { OnlyWrites result (full_of result) O.Output output.old output.new }
+    ensures costs { WritingCosts result 1 O.Output output.old output.new m.old m.new }
 {
     match part {
         Part::Raw(n) => write_out(output, w.part(0, n), m),
@@ -58,24 +46,10 @@ fn write_fill<O: Output>(
 ) -> Result<(), DeviceFault>
     requires some { 0 < n }
     requires fits { 4 * n < 2 ^ 64 }
-    ensures ok { OnOk result (O.written output.new ≡ O.written output.old ++ concat (replicate n word)) }
-    ensures front { O.written output.new ≡ O.written output.old ++ take
-        (length (O.written output.new) - length (O.written output.old)) (concat (replicate n word)) }
-    ensures grown { length (O.written output.old) ≤ length (O.written output.new) }
+    ensures front { WritesOn result (concat (replicate n word)) O.Output output.old output.new }
     ensures all { OnOk result (length (O.written output.new) ≡ length (O.written output.old) + 4 * n) }
-    ensures frame { O.write_frame output.new ≡ O.write_frame output.old }
-    ensures faults { O.write_faults output.old ≤ O.write_faults output.new }
-    ensures cause { OnErr result (O.write_faults output.old < O.write_faults output.new) }
-    ensures clean { OnOk result (O.write_faults output.new ≡ O.write_faults output.old) }
-    ensures full_faults { O.full_faults output.new ≡ O.full_faults output.old + full_of result }
-    ensures calls { O.writes output.new + 2 * length (O.written output.old) ≤ O.writes output.old + 2 * length
-        (O.written output.new) + 1 }
-    ensures turns { m.new.turns.number + 2 * length (O.written output.old) ≤ m.old.turns.number + 2 * length
-        (O.written output.new) + 16 }
-    ensures few { OnOk result (m.new.turns.number + 2 * length (O.written output.old) ≤ m.old.turns.number +
-        2 * length (O.written output.new)) }
-    ensures steps { m.new.steps.number ≡ m.old.steps.number }
-    ensures greatest { m.new.greatest.number ≡ m.old.greatest.number }
+    ensures writes { OnlyWrites result (full_of result) O.Output output.old output.new }
+    ensures costs { WritingCosts result 0 O.Output output.old output.new m.old m.new }
 {
     if word == [0; 4] {
         write_zeros(output, 4 * n, w, m)
@@ -93,24 +67,10 @@ fn write_words<O: Output>(
     m: &mut Meter,
 ) -> Result<(), DeviceFault>
     requires { 0 < n }
-    ensures ok { OnOk result (O.written output.new ≡ O.written output.old ++ concat (replicate n word)) }
-    ensures front { O.written output.new ≡ O.written output.old ++ take
-        (length (O.written output.new) - length (O.written output.old)) (concat (replicate n word)) }
-    ensures grown { length (O.written output.old) ≤ length (O.written output.new) }
+    ensures front { WritesOn result (concat (replicate n word)) O.Output output.old output.new }
     ensures all { OnOk result (length (O.written output.new) ≡ length (O.written output.old) + 4 * n) }
-    ensures frame { O.write_frame output.new ≡ O.write_frame output.old }
-    ensures faults { O.write_faults output.old ≤ O.write_faults output.new }
-    ensures cause { OnErr result (O.write_faults output.old < O.write_faults output.new) }
-    ensures clean { OnOk result (O.write_faults output.new ≡ O.write_faults output.old) }
-    ensures full_faults { O.full_faults output.new ≡ O.full_faults output.old + full_of result }
-    ensures calls { O.writes output.new + 2 * length (O.written output.old) ≤ O.writes output.old + 2 * length
-        (O.written output.new) + 1 }
-    ensures turns { m.new.turns.number + 2 * length (O.written output.old) ≤ m.old.turns.number + 2 * length
-        (O.written output.new) + 16 }
-    ensures few { OnOk result (m.new.turns.number + 2 * length (O.written output.old) ≤ m.old.turns.number +
-        2 * length (O.written output.new)) }
-    ensures steps { m.new.steps.number ≡ m.old.steps.number }
-    ensures greatest { m.new.greatest.number ≡ m.old.greatest.number }
+    ensures writes { OnlyWrites result (full_of result) O.Output output.old output.new }
+    ensures costs { WritingCosts result 0 O.Output output.old output.new m.old m.new }
 {
     let most = n.min(WORDS as u64) as usize;
     lay_word(w, word, most, m);

@@ -1,7 +1,7 @@
 //! What follows from the kind of a chunk, in small functions that the machine calls and the proofs cite.
 
 ghost use Rattle.std.specs.Prelude.{◌≡◌, ◌<◌, ◌^◌};
-ghost use Rattle.abt_chunks.specs.Ahead.{raw_of, due_of, words_of, left_of};
+ghost use Rattle.abt_chunks.specs.Ahead.{raw_announced, due_of, words_announced, left_of};
 ghost use Rattle.abt_chunks.specs.ListingAhead.{is_spent};
 
 use abt_sparse::ChunkKind;
@@ -23,7 +23,7 @@ pub(crate) fn bytes_left(kind: ChunkKind, raw: u64, words: u64) -> u64
 /// How many raw bytes are to be read of it.
 #[inline(always)]
 pub(crate) fn raw_bytes(kind: ChunkKind, blocks: u32, block_size: u32) -> u64
-    ensures { result ≡ raw_of kind blocks block_size }
+    ensures { result ≡ raw_announced kind blocks block_size }
 {
     match kind {
         ChunkKind::Raw => u64::from(blocks) * u64::from(block_size),
@@ -46,7 +46,7 @@ pub(crate) fn has_word(kind: ChunkKind) -> bool
 /// How many words of four bytes it gives without reading them.
 #[inline(always)]
 pub(crate) fn laid_words(kind: ChunkKind, blocks: u32, block_size: u32) -> u64
-    ensures { result ≡ words_of kind blocks block_size }
+    ensures { result ≡ words_announced kind blocks block_size }
 {
     match kind {
         ChunkKind::Fill => u64::from(blocks) * (u64::from(block_size) / 4),

@@ -1,17 +1,17 @@
 //! The chunks of a sparse image, one after the other.
 
-ghost use Rattle.std.specs.Prelude.{◌≡◌, ◌<◌, ◌≤◌, ◌+◌, ◌-◌, ◌*◌, IsTrue, IfErr, IfOk, MatchResult, OnOk, true, false};
-ghost use Rattle.std.specs.Prelude.{ℕ, List, length, take, drop, max};
-ghost use Rattle.abt_sparse.specs.Cause.{full_answered};
-ghost use Rattle.abt_chunks.specs.Cause.{Clean, CleanPart, UnlessCut, full_in_part, wanted};
-ghost use Rattle.abt_chunks.specs.Expanding.{IsGoing, OnDone, OnMore, Rises, Stands, UnlessDevice};
+ghost use Rattle.std.specs.Prelude.{◌≡◌, ◌<◌, ◌≤◌, ◌+◌, ◌-◌, ◌*◌, ℕ, IsTrue, IfErr, IfOk, MatchResult, OnOk, List};
+ghost use Rattle.std.specs.Prelude.{true, false, take};
+ghost use Rattle.abt_io.specs.Lent.{OneStep};
+ghost use Rattle.abt_chunks.specs.Cause.{InputBlamed, PartBlamed, UnlessCut};
+ghost use Rattle.abt_chunks.specs.Costs.{ListCosts, StepsWithin, TurnsOnly};
+ghost use Rattle.abt_chunks.specs.Expanding.{IsGoing, OnDone, OnMoreExpanding, ExpandingLeaves, UnlessExpandingDevice};
 ghost use Rattle.abt_chunks.specs.Listing.{headless, listing_of};
-ghost use Rattle.abt_chunks.specs.Parts.{Caused, is_fault};
-ghost use Rattle.abt_chunks.specs.Taking.{ReadsOn, TurnTaken, input_state};
-ghost use Rattle.abt_chunks.specs.Turns.{AtTurn, IsOver, todo};
-ghost use Rattle.abt_chunks.specs.ListingAhead.{Closes, Empties, Lists, MayEnd, Numbers, at_end, info_at};
-ghost use Rattle.abt_chunks.specs.ListingAhead.{is_between};
-ghost use Rattle.abt_chunks.specs.Showing.{IsFew, ListsTo, Lists_next, Opens, Passes, Settles, Stands_next};
+ghost use Rattle.abt_chunks.specs.ListingAhead.{Lists, MayEnd, Numbers, at_end, info_at, is_between};
+ghost use Rattle.abt_chunks.specs.Parts.{is_fault};
+ghost use Rattle.abt_chunks.specs.Showing.{IsFew, ListsTo, Lists_next, Opens, Passes, SettlesWalk, Stands_next};
+ghost use Rattle.abt_chunks.specs.Taking.{ReadStep, ReadsOn, TurnTaken, WithinWords, input_state};
+ghost use Rattle.abt_chunks.specs.Turns.{AtTurn, IsWalkOver, todo};
 
 use crate::expander::answer;
 use crate::kinds::has_word;
@@ -32,23 +32,15 @@ pub struct Chunks {
 #[inline(always)]
 fn pass_raw<I: Input>(walk: &mut Walk, input: &mut I, w: &mut Window, m: &mut Meter) -> Taken
     requires { AtTurn Turn.Raw walk.old }
-    ensures received { I.given input.new ≡ I.given input.old + result.received }
-    ensures small { result.received ≤ 65536 }
-    ensures wanted { result.received ≤ wanted walk.old }
-    ensures input { ReadsOn I.tells (input_state I.Input input.old) (input_state I.Input input.new) }
+    ensures input { ReadStep result.received 65536 walk.old I.tells (input_state I.Input input.old)
+        (input_state I.Input input.new) }
     ensures lists { IsTrue I.tells → (t : List ℕ) → (is_fault result.part ≡ true → t ≡ I.remaining input.new) →
         Lists result.part walk.old walk.new (take result.received (I.remaining input.old)) t }
     ensures turn { TurnTaken result.part walk.old walk.new result.received }
-    ensures empties { (n : ℕ) → Empties result.part walk.old walk.new n n }
-    ensures closes { Closes result.part walk.old.phase walk.old }
-    ensures cause { Caused result.part walk.old.phase (I.read_faults input.old) (I.read_faults input.new) }
-    ensures clean { CleanPart result.part (I.read_faults input.old) (I.read_faults input.new) }
-    ensures failed { IsGoing walk.old.phase → full_in_part result.part ≡ 0 }
-    ensures over { IsOver walk.old.phase → (walk.new ≡ walk.old) × (input.new ≡ input.old) }
-    ensures reads { I.reads input.new ≤ I.reads input.old + result.received + 1 }
-    ensures turns { m.new.turns.number ≤ m.old.turns.number + result.received + 1 }
-    ensures steps { m.new.steps.number ≡ m.old.steps.number }
-    ensures greatest { m.new.greatest.number ≡ m.old.greatest.number }
+    ensures words { (n : ℕ) → WithinWords result.part walk.old walk.new n n }
+    ensures blame { PartBlamed result.part walk.old (I.read_faults input.old) (I.read_faults input.new) }
+    ensures over { IsWalkOver walk.old.phase → (walk.new ≡ walk.old) × (input.new ≡ input.old) }
+    ensures meter { TurnsOnly (result.received + 1) m.old m.new }
 {
     let ask = walk.ask(Turn::Raw);
     w.is_whole();
@@ -74,23 +66,15 @@ fn next_part<I: Input>(
     m: &mut Meter,
 ) -> Taken
     requires { 0 < most }
-    ensures received { I.given input.new ≡ I.given input.old + result.received }
-    ensures small { result.received ≤ 65536 }
-    ensures wanted { result.received ≤ wanted walk.old }
-    ensures input { ReadsOn I.tells (input_state I.Input input.old) (input_state I.Input input.new) }
+    ensures input { ReadStep result.received 65536 walk.old I.tells (input_state I.Input input.old)
+        (input_state I.Input input.new) }
     ensures lists { IsTrue I.tells → (t : List ℕ) → (is_fault result.part ≡ true → t ≡ I.remaining input.new) →
         Lists result.part walk.old walk.new (take result.received (I.remaining input.old)) t }
     ensures turn { TurnTaken result.part walk.old walk.new result.received }
-    ensures empties { Empties result.part walk.old walk.new most most }
-    ensures closes { Closes result.part walk.old.phase walk.old }
-    ensures cause { Caused result.part walk.old.phase (I.read_faults input.old) (I.read_faults input.new) }
-    ensures clean { CleanPart result.part (I.read_faults input.old) (I.read_faults input.new) }
-    ensures failed { IsGoing walk.old.phase → full_in_part result.part ≡ 0 }
-    ensures over { IsOver walk.old.phase → (walk.new ≡ walk.old) × (input.new ≡ input.old) }
-    ensures reads { I.reads input.new ≤ I.reads input.old + result.received + 1 }
-    ensures turns { m.new.turns.number ≤ m.old.turns.number + result.received + 1 }
-    ensures steps { m.new.steps.number ≡ m.old.steps.number }
-    ensures greatest { m.new.greatest.number ≡ m.old.greatest.number }
+    ensures words { WithinWords result.part walk.old walk.new most most }
+    ensures blame { PartBlamed result.part walk.old (I.read_faults input.old) (I.read_faults input.new) }
+    ensures over { IsWalkOver walk.old.phase → (walk.new ≡ walk.old) × (input.new ≡ input.old) }
+    ensures meter { TurnsOnly (result.received + 1) m.old m.new }
 {
     match walk.turn() {
         Turn::Raw => pass_raw(walk, input, w, m),
@@ -106,25 +90,21 @@ fn step<I: Input>(
     w: &mut Window,
     m: &mut Meter,
 ) -> Result<Progress, SparseFault>
-    ensures asked { I.given input.old ≤ I.given input.new × I.given input.new ≤ I.given input.old + 65536 }
-    ensures input { ReadsOn I.tells (input_state I.Input input.old) (input_state I.Input input.new) }
+    ensures input { ReadStep (I.given input.new - I.given input.old) 65536 walk.old I.tells
+        (input_state I.Input input.old) (input_state I.Input input.new) }
     ensures lists { IsTrue I.tells → ListsTo result walk.old walk.new (I.remaining input.old) (I.remaining input.new) }
-    ensures numbers { OnMore result (Numbers walk.old.phase walk.old walk.new (I.given input.new - I.given input.old)) }
+    ensures numbers { OnMoreExpanding result
+        (Numbers walk.old.phase walk.old walk.new (I.given input.new - I.given input.old)) }
     ensures closes { OnDone result (MayEnd walk.old.phase walk.old) }
     ensures refuses { IfErr result (λ f. walk.old.phase ≡ Phase.Body → UnlessCut f (at_end walk.old ≡ true)) }
-    ensures wanted { I.given input.new - I.given input.old ≤ wanted walk.old }
-    ensures stands { Stands result walk.new.phase }
+    ensures stands { ExpandingLeaves result walk.new.phase }
     ensures header { walk.old.phase ≡ Phase.Body → walk.new.header ≡ walk.old.header }
-    ensures cause { IsGoing walk.old.phase → Rises result (I.read_faults input.old) (I.read_faults input.new) 0 0 }
-    ensures clean { Clean result (I.read_faults input.old) (I.read_faults input.new) 0 0 }
-    ensures failed { IsGoing walk.old.phase → full_answered result ≡ 0 }
-    ensures again { IsOver walk.old.phase → (walk.new ≡ walk.old) × (input.new ≡ input.old) }
-    ensures fewer { OnMore result (todo walk.new < todo walk.old) }
-    ensures reads { I.reads input.new ≤ I.reads input.old + (I.given input.new - I.given input.old) + 1 }
-    ensures moves { OnMore result (at_end walk.new ≡ false → 0 < I.given input.new - I.given input.old) }
+    ensures blame { IsGoing walk.old.phase → InputBlamed result (I.read_faults input.old) (I.read_faults input.new) }
+    ensures again { IsWalkOver walk.old.phase → (walk.new ≡ walk.old) × (input.new ≡ input.old) }
+    ensures fewer { OnMoreExpanding result (todo walk.new < todo walk.old) }
+    ensures moves { OnMoreExpanding result (at_end walk.new ≡ false → 0 < I.given input.new - I.given input.old) }
     ensures turns { m.new.turns.number ≤ m.old.turns.number + (I.given input.new - I.given input.old) + 1 }
-    ensures steps { m.new.steps.number ≡ m.old.steps.number + 1 }
-    ensures greatest { m.new.greatest.number ≡ max m.old.greatest.number (I.given input.new - I.given input.old) }
+    ensures one_step { OneStep (I.given input.new - I.given input.old) m.old m.new }
 {
     let all = walk.words.max(1);
     let taken = next_part(walk, all, input, w, m);
@@ -141,20 +121,16 @@ fn pass<I: Input>(
     m: &mut Meter,
 ) -> Result<(), SparseFault>
     requires { walk.old.phase ≡ Phase.Body }
-    ensures given { I.given input.old ≤ I.given input.new }
     ensures input { ReadsOn I.tells (input_state I.Input input.old) (input_state I.Input input.new) }
     ensures passes { IsTrue I.tells → Passes result walk.old walk.new (I.remaining input.old) (I.remaining input.new) }
-    ensures settles { Settles result walk.new }
+    ensures settles { SettlesWalk result walk.new }
     ensures index { OnOk result (walk.new.index ≡ walk.old.index) }
     ensures header { walk.new.header ≡ walk.old.header }
     ensures cut { IfErr result (λ f. UnlessCut f ⊥) }
-    ensures cause { Rises result (I.read_faults input.old) (I.read_faults input.new) 0 0 }
-    ensures clean { Clean result (I.read_faults input.old) (I.read_faults input.new) 0 0 }
-    ensures failed { full_answered result ≡ 0 }
+    ensures blame { InputBlamed result (I.read_faults input.old) (I.read_faults input.new) }
     ensures reads { I.reads input.new ≤ I.reads input.old + 2 * (I.given input.new - I.given input.old) + 1 }
     ensures turns { m.new.turns.number ≤ m.old.turns.number + 3 * (I.given input.new - I.given input.old) + 2 }
-    ensures steps { I.given input.new + 65536 * m.old.steps.number ≤ I.given input.old + 65536 * m.new.steps.number }
-    ensures greatest { m.new.greatest.number ≤ max m.old.greatest.number 65536 }
+    ensures steps { StepsWithin 65536 (I.given input.old) (I.given input.new) m.old m.new }
 {
     'steps: while !walk.is_at_end() {
         m.tick();
@@ -192,22 +168,16 @@ impl Chunks {
         w: &mut Window,
         m: &mut Meter,
     ) -> Result<Chunks, SparseFault>
-        ensures given { I.given input.old ≤ I.given input.new }
         ensures input { ReadsOn I.tells (input_state I.Input input.old) (input_state I.Input input.new) }
         ensures opens { IsTrue I.tells → MatchResult result (λ chunks. Opens chunks.walk (I.remaining input.old)
-            (I.remaining input.new)) (λ fault. UnlessDevice fault
+            (I.remaining input.new)) (λ fault. UnlessExpandingDevice fault
             (listing_of (I.remaining input.old) ≡ headless fault)) }
         ensures going { IfOk result (λ chunks. IsGoing chunks.walk.phase) }
         // A header that is refused for what it says is known once its 28 bytes have been read, and no more are.
         ensures bounded { IfErr result (λ f. UnlessCut f (I.given input.new ≤ I.given input.old + 28)) }
-        ensures cause { Rises result (I.read_faults input.old) (I.read_faults input.new) 0 0 }
-        ensures clean { Clean result (I.read_faults input.old) (I.read_faults input.new) 0 0 }
-        ensures failed { full_answered result ≡ 0 }
-        ensures calls { I.reads input.new ≤ I.reads input.old + 8 * (I.given input.new - I.given input.old) + 8 }
-        ensures turns { m.new.turns.number ≤ m.old.turns.number + 8 * (I.given input.new - I.given input.old) + 8 }
-        ensures steps { I.given input.new + 65536 * m.old.steps.number ≤ I.given input.old +
-            65536 * m.new.steps.number }
-        ensures greatest { m.new.greatest.number ≤ max m.old.greatest.number 65536 }
+        ensures blame { InputBlamed result (I.read_faults input.old) (I.read_faults input.new) }
+        ensures costs { ListCosts (input_state I.Input input.old) (input_state I.Input input.new) m.old m.new }
+        ensures steps { StepsWithin 65536 (I.given input.old) (I.given input.new) m.old m.new }
     {
         let mut walk = Walk::new();
         m.tick();
@@ -238,7 +208,6 @@ impl Chunks {
         w: &mut Window,
         m: &mut Meter,
     ) -> Result<Option<ChunkInfo>, SparseFault>
-        ensures given { I.given input.old ≤ I.given input.new }
         ensures input { ReadsOn I.tells (input_state I.Input input.old) (input_state I.Input input.new) }
         ensures lists { IsTrue I.tells → Lists_next result self.old.walk self.new.walk (I.remaining input.old)
             (I.remaining input.new) }
@@ -246,18 +215,13 @@ impl Chunks {
         ensures header { self.new.walk.header ≡ self.old.walk.header }
         // A chunk that is refused for what it says is known once its first 12 bytes have been read, and no more are.
         ensures bounded { IfErr result (λ f. UnlessCut f (I.given input.new ≤ I.given input.old + 12)) }
-        ensures cause { IsGoing self.old.walk.phase → Rises result (I.read_faults input.old)
-            (I.read_faults input.new) 0 0 }
-        ensures clean { Clean result (I.read_faults input.old) (I.read_faults input.new) 0 0 }
-        ensures failed { IsGoing self.old.walk.phase → full_answered result ≡ 0 }
-        ensures again { IsOver self.old.walk.phase → (self.new.walk ≡ self.old.walk) × (input.new ≡ input.old) }
-        ensures calls { I.reads input.new ≤ I.reads input.old + 8 * (I.given input.new - I.given input.old) + 8 }
-        ensures turns { m.new.turns.number ≤ m.old.turns.number + 8 * (I.given input.new - I.given input.old) + 8 }
+        ensures blame { IsGoing self.old.walk.phase → InputBlamed result (I.read_faults input.old)
+            (I.read_faults input.new) }
+        ensures again { IsWalkOver self.old.walk.phase → (self.new.walk ≡ self.old.walk) × (input.new ≡ input.old) }
+        ensures costs { ListCosts (input_state I.Input input.old) (input_state I.Input input.new) m.old m.new }
         ensures few { IsFew result (I.given input.new - I.given input.old) (I.reads input.new - I.reads input.old)
             (m.new.turns.number - m.old.turns.number) }
-        ensures steps { I.given input.new + 65536 * m.old.steps.number ≤ I.given input.old +
-            65536 * m.new.steps.number }
-        ensures greatest { m.new.greatest.number ≤ max m.old.greatest.number 65536 }
+        ensures steps { StepsWithin 65536 (I.given input.old) (I.given input.new) m.old m.new }
     {
         m.tick();
         match step(&mut self.walk, input, w, m) {

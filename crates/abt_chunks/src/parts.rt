@@ -1,21 +1,18 @@
 //! One step of a walk: the bytes for its turn are gathered in the window, and taken as a part of the image.
 //!
-//! Each function that takes a turn has the same clauses. `says`: what lies ahead is what the part gives, and then what
-//! lies ahead behind it, whatever bytes follow. `lists`: the same of what a listing shows. `short`: too few bytes are a
-//! fault. `turn`: what every turn leaves (`TurnTaken`). `closes`, `empties`: where a chunk ends. `place`: where the
-//! next byte of a block lies in the expanded image. `cause`: whose fault it is.
+//! Each function that takes a turn has the same clauses. `told`: what lies ahead is what the part gives, and then what
+//! lies ahead behind it, whatever bytes follow; the same of what a listing shows; and too few bytes are a fault.
+//! `turn`: what every turn leaves, and whose fault it is. `words`: how much is given of a fill or of a gap.
 
-ghost use Rattle.std.specs.Prelude.{◌≡◌, ◌≤◌, ◌<◌, ◌+◌, ℕ, List, [], length, IsTrue, true, false, ◌-◌, take, drop};
+ghost use Rattle.std.specs.Prelude.{◌≡◌, ◌≤◌, ◌<◌, ◌+◌, ℕ, List, [], length, IsTrue, false, ◌-◌, take};
 ghost use Rattle.abt_sparse.specs.Reading.{kind_at, number_at};
-ghost use Rattle.abt_chunks.specs.Cause.{CleanPart, full_in_part, wanted};
-ghost use Rattle.abt_chunks.specs.Expanding.{IsGoing};
-ghost use Rattle.abt_chunks.specs.Turns.{AtTurn, IsOver, ask_of, needed_of, todo};
-ghost use Rattle.abt_chunks.specs.Parts.{Says, IsRaw, IsRead, Leaves, Moved, Within, Caused, Told};
-ghost use Rattle.abt_chunks.specs.Parts.{given_by, is_fault, goes_on};
-ghost use Rattle.abt_chunks.specs.Places.{place_of, upto_of};
-ghost use Rattle.abt_chunks.specs.ListingAhead.{Shows, Lists, Numbers, Empties, Closes};
-ghost use Rattle.abt_chunks.specs.Taking.{ReadsOn, TurnTaken, input_state};
+ghost use Rattle.abt_chunks.specs.Cause.{PartBlamed};
+ghost use Rattle.abt_chunks.specs.Costs.{TurnsOnly};
 ghost use Rattle.abt_chunks.specs.Feeding.{TakesWhole};
+ghost use Rattle.abt_chunks.specs.Parts.{Caused, IsRawPart, goes_on};
+ghost use Rattle.abt_chunks.specs.Taking.{OwnTurn, ReadStep, ReadsHead, StepTells, TurnTaken, TurnTells, WithinWords};
+ghost use Rattle.abt_chunks.specs.Taking.{input_state};
+ghost use Rattle.abt_chunks.specs.Turns.{AtTurn, IsWalkOver, ask_of, needed_of};
 
 use crate::kinds::{has_word, laid_words, raw_bytes};
 use crate::walk::{Part, Phase, Taken, Turn, Walk};
@@ -37,17 +34,9 @@ impl Walk {
     fn take_header(&mut self, got: &[u8]) -> Part
         requires here { AtTurn Turn.Header self.old }
         requires asked { length got.now ≤ 28 }
-        ensures read { IsRead result }
-        ensures no_blocks { given_by result ≡ 0 }
-        ensures says { (t : List ℕ) → (length got.now < 28 → t ≡ []) → Says result self.old self.new got.now t }
-        ensures lists { (t : List ℕ) → (length got.now < 28 → t ≡ []) → Shows result self.old self.new got.now t }
-        ensures short { length got.now < 28 → IsTrue (is_fault result) }
-        ensures turn { TurnTaken result self.old self.new (length got.now) }
-        ensures within { (fills skips : ℕ) → Within result fills skips }
-        ensures empties { (fills skips : ℕ) → Empties result self.old self.new fills skips }
-        ensures closes { Closes result self.old.phase self.old }
-        ensures cause { Caused result self.old.phase 1 0 }
-        ensures place { IsTrue (goes_on result) → place_of self.new ≡ place_of self.old + given_by result }
+        ensures read { ReadsHead result }
+        ensures told { TurnTells result self.old self.new got.now 28 }
+        ensures turn { OwnTurn result self.old self.new (length got.now) }
     {
         if got.len() < 28 {
             return self.fail(SparseFault::Truncated {
@@ -81,17 +70,9 @@ impl Walk {
     pub(crate) fn take_extra(&mut self, got: &[u8]) -> Part
         requires here { AtTurn Turn.Extra self.old }
         requires asked { length got.now ≤ self.old.extra }
-        ensures read { IsRead result }
-        ensures no_blocks { given_by result ≡ 0 }
-        ensures says { (t : List ℕ) → (length got.now < 1 → t ≡ []) → Says result self.old self.new got.now t }
-        ensures lists { (t : List ℕ) → (length got.now < 1 → t ≡ []) → Shows result self.old self.new got.now t }
-        ensures short { length got.now < 1 → IsTrue (is_fault result) }
-        ensures turn { TurnTaken result self.old self.new (length got.now) }
-        ensures within { (fills skips : ℕ) → Within result fills skips }
-        ensures empties { (fills skips : ℕ) → Empties result self.old self.new fills skips }
-        ensures closes { Closes result self.old.phase self.old }
-        ensures cause { Caused result self.old.phase 1 0 }
-        ensures place { IsTrue (goes_on result) → place_of self.new ≡ place_of self.old + given_by result }
+        ensures read { ReadsHead result }
+        ensures told { TurnTells result self.old self.new got.now 1 }
+        ensures turn { OwnTurn result self.old self.new (length got.now) }
     {
         if got.is_empty() {
             return self.fail(SparseFault::Truncated { at: self.position });
@@ -107,16 +88,9 @@ impl Walk {
     pub(crate) fn take_raw(&mut self, n: usize) -> Part
         requires here { AtTurn Turn.Raw self.old }
         requires asked { n ≤ self.old.raw }
-        ensures raw { IsRaw result n }
-        ensures says { (c t : List ℕ) → length c ≡ n → (n < 1 → t ≡ []) → Says result self.old self.new c t }
-        ensures lists { (c t : List ℕ) → length c ≡ n → (n < 1 → t ≡ []) → Shows result self.old self.new c t }
-        ensures short { n < 1 → IsTrue (is_fault result) }
-        ensures turn { TurnTaken result self.old self.new n }
-        ensures within { (fills skips : ℕ) → Within result fills skips }
-        ensures empties { (fills skips : ℕ) → Empties result self.old self.new fills skips }
-        ensures closes { Closes result self.old.phase self.old }
-        ensures cause { Caused result self.old.phase 1 0 }
-        ensures place { IsTrue (goes_on result) → place_of self.new ≡ place_of self.old + given_by result }
+        ensures raw { IsRawPart result n }
+        ensures told { (c : List ℕ) → length c ≡ n → TurnTells result self.old self.new c 1 }
+        ensures turn { OwnTurn result self.old self.new n }
     {
         if n == 0 {
             return self.fail(SparseFault::Truncated { at: self.position });
@@ -131,17 +105,9 @@ impl Walk {
     fn take_word(&mut self, got: &[u8]) -> Part
         requires here { AtTurn Turn.Word self.old }
         requires asked { length got.now ≤ 4 }
-        ensures read { IsRead result }
-        ensures no_blocks { given_by result ≡ 0 }
-        ensures says { (t : List ℕ) → (length got.now < 4 → t ≡ []) → Says result self.old self.new got.now t }
-        ensures lists { (t : List ℕ) → (length got.now < 4 → t ≡ []) → Shows result self.old self.new got.now t }
-        ensures short { length got.now < 4 → IsTrue (is_fault result) }
-        ensures turn { TurnTaken result self.old self.new (length got.now) }
-        ensures within { (fills skips : ℕ) → Within result fills skips }
-        ensures empties { (fills skips : ℕ) → Empties result self.old self.new fills skips }
-        ensures closes { Closes result self.old.phase self.old }
-        ensures cause { Caused result self.old.phase 1 0 }
-        ensures place { IsTrue (goes_on result) → place_of self.new ≡ place_of self.old + given_by result }
+        ensures read { ReadsHead result }
+        ensures told { TurnTells result self.old self.new got.now 4 }
+        ensures turn { OwnTurn result self.old self.new (length got.now) }
     {
         if got.len() < 4 {
             let at = self.position + got.len() as u64;
@@ -158,17 +124,9 @@ impl Walk {
     fn take_chunk(&mut self, got: &[u8]) -> Part
         requires here { AtTurn Turn.Chunk self.old }
         requires asked { length got.now ≤ 12 }
-        ensures read { IsRead result }
-        ensures no_blocks { given_by result ≡ 0 }
-        ensures says { (t : List ℕ) → (length got.now < 12 → t ≡ []) → Says result self.old self.new got.now t }
-        ensures lists { (t : List ℕ) → (length got.now < 12 → t ≡ []) → Shows result self.old self.new got.now t }
-        ensures short { length got.now < 12 → IsTrue (is_fault result) }
-        ensures turn { TurnTaken result self.old self.new (length got.now) }
-        ensures within { (fills skips : ℕ) → Within result fills skips }
-        ensures empties { (fills skips : ℕ) → Empties result self.old self.new fills skips }
-        ensures closes { Closes result self.old.phase self.old }
-        ensures cause { Caused result self.old.phase 1 0 }
-        ensures place { IsTrue (goes_on result) → place_of self.new ≡ place_of self.old + given_by result }
+        ensures read { ReadsHead result }
+        ensures told { TurnTells result self.old self.new got.now 12 }
+        ensures turn { OwnTurn result self.old self.new (length got.now) }
     {
         if got.len() < 12 {
             let end = self.position + got.len() as u64;
@@ -186,16 +144,9 @@ impl Walk {
         requires here { AtTurn Turn.Chunk self.old }
         requires whole { length got.now ≡ 12 }
         requires known { kind_at (number_at 0 2 got.now) ≡ Some kind }
-        ensures read { IsRead result }
-        ensures no_blocks { given_by result ≡ 0 }
-        ensures says { (t : List ℕ) → Says result self.old self.new got.now t }
-        ensures lists { (t : List ℕ) → Shows result self.old self.new got.now t }
-        ensures turn { TurnTaken result self.old self.new (length got.now) }
-        ensures within { (fills skips : ℕ) → Within result fills skips }
-        ensures empties { (fills skips : ℕ) → Empties result self.old self.new fills skips }
-        ensures closes { Closes result self.old.phase self.old }
-        ensures cause { Caused result self.old.phase 1 0 }
-        ensures place { IsTrue (goes_on result) → place_of self.new ≡ place_of self.old + given_by result }
+        ensures read { ReadsHead result }
+        ensures told { TurnTells result self.old self.new got.now 0 }
+        ensures turn { OwnTurn result self.old self.new (length got.now) }
     {
         let blocks = u32_at(got, 4);
         let total = u32_at(got, 8);
@@ -230,15 +181,11 @@ impl Walk {
     fn give_fill(&mut self, most: u64) -> Part
         requires here { AtTurn Turn.Fill self.old }
         requires some { 0 < most }
-        ensures says { (t : List ℕ) → Says result self.old self.new [] t }
-        ensures lists { (t : List ℕ) → Shows result self.old self.new [] t }
+        ensures fill { Part.Words self.old.word (self.old.words - self.new.words) ≡ result }
+        ensures told { TurnTells result self.old self.new [] 0 }
         ensures turn { TurnTaken result self.old self.new 0 }
-        ensures words { Part.Words self.old.word (self.old.words - self.new.words) ≡ result }
-        ensures within { (skips : ℕ) → Within result most skips }
-        ensures empties { (skips : ℕ) → Empties result self.old self.new most skips }
-        ensures closes { Closes result self.old.phase self.old }
+        ensures words { (skips : ℕ) → WithinWords result self.old self.new most skips }
         ensures cause { Caused result Phase.Body 1 0 }
-        ensures place { place_of self.new ≡ place_of self.old + given_by result }
     {
         let n = self.words.min(most);
         self.words -= n;
@@ -250,15 +197,11 @@ impl Walk {
     fn give_gap(&mut self, most: u64) -> Part
         requires here { AtTurn Turn.Gap self.old }
         requires some { 0 < most }
-        ensures says { (t : List ℕ) → Says result self.old self.new [] t }
-        ensures lists { (t : List ℕ) → Shows result self.old self.new [] t }
-        ensures turn { TurnTaken result self.old self.new 0 }
         ensures gap { Part.Skip (self.old.words - self.new.words) ≡ result }
-        ensures within { (fills : ℕ) → Within result fills most }
-        ensures empties { (fills : ℕ) → Empties result self.old self.new fills most }
-        ensures closes { Closes result self.old.phase self.old }
+        ensures told { TurnTells result self.old self.new [] 0 }
+        ensures turn { TurnTaken result self.old self.new 0 }
+        ensures words { (fills : ℕ) → WithinWords result self.old self.new fills most }
         ensures cause { Caused result Phase.Body 1 0 }
-        ensures place { place_of self.new ≡ place_of self.old + given_by result }
     {
         let n = self.words.min(most);
         self.words -= n;
@@ -269,14 +212,9 @@ impl Walk {
     #[inline(always)]
     fn end(&mut self) -> Part
         requires here { AtTurn Turn.End self.old }
-        ensures says { (t : List ℕ) → Says result self.old self.new [] t }
-        ensures lists { (t : List ℕ) → Shows result self.old self.new [] t }
-        ensures turn { TurnTaken result self.old self.new 0 }
-        ensures within { (fills skips : ℕ) → Within result fills skips }
-        ensures empties { (fills skips : ℕ) → Empties result self.old self.new fills skips }
-        ensures closes { Closes result self.old.phase self.old }
-        ensures cause { Caused result self.old.phase 1 0 }
         ensures over { goes_on result ≡ false }
+        ensures told { TurnTells result self.old self.new [] 0 }
+        ensures turn { OwnTurn result self.old self.new 0 }
     {
         if self.have != self.header.total_blks {
             return self.fail(SparseFault::TooFewBlocks { have: self.have });
@@ -288,14 +226,9 @@ impl Walk {
     /// What was answered last, once more.
     fn again(&self) -> Part
         requires here { AtTurn Turn.Over self.now }
-        ensures says { (t : List ℕ) → Says result self.now self.now [] t }
-        ensures lists { (t : List ℕ) → Shows result self.now self.now [] t }
-        ensures turn { TurnTaken result self.now self.now 0 }
-        ensures within { (fills skips : ℕ) → Within result fills skips }
-        ensures empties { (fills skips : ℕ) → Empties result self.now self.now fills skips }
-        ensures closes { Closes result self.now.phase self.now }
-        ensures cause { Caused result self.now.phase 1 0 }
         ensures over { goes_on result ≡ false }
+        ensures told { TurnTells result self.now self.now [] 0 }
+        ensures turn { OwnTurn result self.now self.now 0 }
     {
         match self.phase {
             Phase::Failed(fault) => Part::Fault(fault),
@@ -308,22 +241,13 @@ impl Walk {
     pub(crate) fn take(&mut self, turn: Turn, got: &[u8], fills: u64, skips: u64) -> Part
         requires here { AtTurn turn self.old }
         requires asked { length got.now ≤ ask_of turn self.old }
-        requires fills { 0 < fills }
-        requires skips { 0 < skips }
-        ensures read { TakesWhole turn → IsRead result }
-        ensures no_blocks { TakesWhole turn → given_by result ≡ 0 }
-        ensures says { (t : List ℕ) → (length got.now < needed_of turn → t ≡ []) →
-            Says result self.old self.new got.now t }
-        ensures lists { (t : List ℕ) → (length got.now < needed_of turn → t ≡ []) →
-            Shows result self.old self.new got.now t }
-        ensures short { length got.now < needed_of turn → IsTrue (is_fault result) }
+        requires words { 0 < fills × 0 < skips }
+        ensures read { TakesWhole turn → ReadsHead result }
+        ensures told { TurnTells result self.old self.new got.now (needed_of turn) }
         ensures turn { TurnTaken result self.old self.new (length got.now) }
-        ensures within { Within result fills skips }
-        ensures empties { Empties result self.old self.new fills skips }
-        ensures closes { Closes result self.old.phase self.old }
+        ensures words { WithinWords result self.old self.new fills skips }
         ensures cause { Caused result self.old.phase 1 0 }
-        ensures place { IsTrue (goes_on result) → place_of self.new ≡ place_of self.old + given_by result }
-        ensures over { IsOver self.old.phase → self.new ≡ self.old }
+        ensures over { IsWalkOver self.old.phase → self.new ≡ self.old }
     {
         match turn {
             Turn::Header => self.take_header(got),
@@ -349,33 +273,20 @@ impl Walk {
         w: &mut Window,
         m: &mut Meter,
     ) -> Taken
-        requires fills { 0 < fills }
-        requires skips { 0 < skips }
+        requires words { 0 < fills × 0 < skips }
         // What was received, and what is left of the input.
-        ensures received { I.given input.new ≡ I.given input.old + result.received }
-        ensures small { result.received ≤ 65536 }
-        ensures wanted { result.received ≤ wanted self.old }
-        ensures input { ReadsOn I.tells (input_state I.Input input.old) (input_state I.Input input.new) }
-        ensures window { IsTrue I.tells → take result.received w.new.bytes ≡ take result.received
-            (I.remaining input.old) }
-        // What it says of the image: for every continuation t, and at a fault for what is really left.
-        ensures says { IsTrue I.tells → (t : List ℕ) → (is_fault result.part ≡ true → t ≡ I.remaining input.new) →
-            Told result.part self.old self.new (take result.received (I.remaining input.old)) t }
-        ensures lists { IsTrue I.tells → (t : List ℕ) → (is_fault result.part ≡ true → t ≡ I.remaining input.new) →
-            Lists result.part self.old self.new (take result.received (I.remaining input.old)) t }
+        ensures input { ReadStep result.received 65536 self.old I.tells (input_state I.Input input.old)
+            (input_state I.Input input.new) }
+        ensures window { IsTrue I.tells → take result.received w.new.bytes
+            ≡ take result.received (I.remaining input.old) }
+        // What it says of the image.
+        ensures told { IsTrue I.tells → StepTells result.part self.old self.new
+            (take result.received (I.remaining input.old)) (I.remaining input.new) }
         ensures turn { TurnTaken result.part self.old self.new result.received }
-        ensures within { Within result.part fills skips }
-        ensures empties { Empties result.part self.old self.new fills skips }
-        ensures closes { Closes result.part self.old.phase self.old }
-        ensures cause { Caused result.part self.old.phase (I.read_faults input.old) (I.read_faults input.new) }
-        ensures clean { CleanPart result.part (I.read_faults input.old) (I.read_faults input.new) }
-        ensures failed { IsGoing self.old.phase → full_in_part result.part ≡ 0 }
-        ensures place { IsTrue (goes_on result.part) → place_of self.new ≡ place_of self.old + given_by result.part }
-        ensures over { IsOver self.old.phase → (self.new ≡ self.old) × (input.new ≡ input.old) }
-        ensures reads { I.reads input.new ≤ I.reads input.old + result.received + 1 }
-        ensures turns { m.new.turns.number ≤ m.old.turns.number + result.received + 1 }
-        ensures steps { m.new.steps.number ≡ m.old.steps.number }
-        ensures greatest { m.new.greatest.number ≡ m.old.greatest.number }
+        ensures words { WithinWords result.part self.old self.new fills skips }
+        ensures blame { PartBlamed result.part self.old (I.read_faults input.old) (I.read_faults input.new) }
+        ensures over { IsWalkOver self.old.phase → (self.new ≡ self.old) × (input.new ≡ input.old) }
+        ensures meter { TurnsOnly (result.received + 1) m.old m.new }
     {
         self.part_within(fills, skips, WINDOW, input, w, m)
     }
@@ -391,35 +302,22 @@ impl Walk {
         w: &mut Window,
         m: &mut Meter,
     ) -> Taken
-        requires fills { 0 < fills }
-        requires skips { 0 < skips }
+        requires words { 0 < fills × 0 < skips }
         requires least { 28 ≤ most }
         requires most { most ≤ 65536 }
         // What was received, and what is left of the input.
-        ensures received { I.given input.new ≡ I.given input.old + result.received }
-        ensures small { result.received ≤ most }
-        ensures wanted { result.received ≤ wanted self.old }
-        ensures input { ReadsOn I.tells (input_state I.Input input.old) (input_state I.Input input.new) }
+        ensures input { ReadStep result.received most self.old I.tells (input_state I.Input input.old)
+            (input_state I.Input input.new) }
         ensures window { IsTrue I.tells → take result.received w.new.bytes
             ≡ take result.received (I.remaining input.old) }
-        // What it says of the image: for every continuation t, and at a fault for what is really left.
-        ensures says { IsTrue I.tells → (t : List ℕ) → (is_fault result.part ≡ true → t ≡ I.remaining input.new) →
-            Told result.part self.old self.new (take result.received (I.remaining input.old)) t }
-        ensures lists { IsTrue I.tells → (t : List ℕ) → (is_fault result.part ≡ true → t ≡ I.remaining input.new) →
-            Lists result.part self.old self.new (take result.received (I.remaining input.old)) t }
+        // What it says of the image.
+        ensures told { IsTrue I.tells → StepTells result.part self.old self.new
+            (take result.received (I.remaining input.old)) (I.remaining input.new) }
         ensures turn { TurnTaken result.part self.old self.new result.received }
-        ensures within { Within result.part fills skips }
-        ensures empties { Empties result.part self.old self.new fills skips }
-        ensures closes { Closes result.part self.old.phase self.old }
-        ensures cause { Caused result.part self.old.phase (I.read_faults input.old) (I.read_faults input.new) }
-        ensures clean { CleanPart result.part (I.read_faults input.old) (I.read_faults input.new) }
-        ensures failed { IsGoing self.old.phase → full_in_part result.part ≡ 0 }
-        ensures place { IsTrue (goes_on result.part) → place_of self.new ≡ place_of self.old + given_by result.part }
-        ensures over { IsOver self.old.phase → (self.new ≡ self.old) × (input.new ≡ input.old) }
-        ensures reads { I.reads input.new ≤ I.reads input.old + result.received + 1 }
-        ensures turns { m.new.turns.number ≤ m.old.turns.number + result.received + 1 }
-        ensures steps { m.new.steps.number ≡ m.old.steps.number }
-        ensures greatest { m.new.greatest.number ≡ m.old.greatest.number }
+        ensures words { WithinWords result.part self.old self.new fills skips }
+        ensures blame { PartBlamed result.part self.old (I.read_faults input.old) (I.read_faults input.new) }
+        ensures over { IsWalkOver self.old.phase → (self.new ≡ self.old) × (input.new ≡ input.old) }
+        ensures meter { TurnsOnly (result.received + 1) m.old m.new }
     {
         let turn = self.turn();
         let wish = self.ask(turn);

@@ -3,11 +3,10 @@
 
 ghost use Rattle.std.specs.Prelude.{◌≡◌, ◌≤◌, ◌<◌, ◌+◌, ◌++◌, ℕ, List, [], length, take};
 ghost use Rattle.abt_chunks.specs.Feeding.{TakesWhole, whole_next, whole_of};
-ghost use Rattle.abt_chunks.specs.Turns.{AtTurn, IsOver, needed_of};
-ghost use Rattle.abt_chunks.specs.Parts.{Leaves, Says, given_by};
+ghost use Rattle.abt_chunks.specs.Parts.{PartLeaves, Says, given_by};
 ghost use Rattle.abt_chunks.specs.Places.{place_of, upto_of};
-ghost use Rattle.abt_chunks.specs.Pulling.{IsAgain, IsKept, IsLent, IsUsed, PullFalls, PullLeaves, PullMoves};
-ghost use Rattle.abt_chunks.specs.Pulling.{PullSays, front_of, pulled_by};
+ghost use Rattle.abt_chunks.specs.Pulling.{IsAgain, PullFalls, Pulls, pulled_front};
+ghost use Rattle.abt_chunks.specs.Turns.{AtTurn, IsWalkOver, needed_of};
 
 use crate::feed::{Pull, Pulled, Puller};
 use crate::walk::{Part, Phase, Turn, Walk};
@@ -97,15 +96,7 @@ impl Puller {
         requires whole { TakesWhole turn }
         requires all { whole_next self.old.walk ≡ needed_of turn }
         requires few { self.old.count < needed_of turn }
-        ensures used { result.used ≤ length bytes.now }
-        ensures needs { IsUsed result.pull result.used (length bytes.now) }
-        ensures says { (t : List ℕ) → PullSays result.pull self.old self.new (take result.used bytes.now) t }
-        ensures lent { IsLent result.pull result.used }
-        ensures kept { IsKept result.pull self.old self.new }
-        ensures leaves { PullLeaves result.pull self.new }
-        ensures inside { place_of self.old.walk + pulled_by result.pull ≤ upto_of self.old.walk }
-        ensures moves { PullMoves result.pull self.old.walk self.new.walk result.used (length bytes.now) }
-        ensures falls { PullFalls result.pull self.old.walk self.new.walk }
+        ensures pulls { Pulls result self.old self.new bytes.now }
     {
         let whole = needed(turn);
         let used = bytes.len().min(whole - self.count);
@@ -131,15 +122,7 @@ impl Puller {
     fn pull_raw(&mut self, bytes: &[u8]) -> Pulled
         requires here { AtTurn Turn.Raw self.old.walk }
         requires none { self.old.count ≡ 0 }
-        ensures used { result.used ≤ length bytes.now }
-        ensures needs { IsUsed result.pull result.used (length bytes.now) }
-        ensures says { (t : List ℕ) → PullSays result.pull self.old self.new (take result.used bytes.now) t }
-        ensures lent { IsLent result.pull result.used }
-        ensures kept { IsKept result.pull self.old self.new }
-        ensures leaves { PullLeaves result.pull self.new }
-        ensures inside { place_of self.old.walk + pulled_by result.pull ≤ upto_of self.old.walk }
-        ensures moves { PullMoves result.pull self.old.walk self.new.walk result.used (length bytes.now) }
-        ensures falls { PullFalls result.pull self.old.walk self.new.walk }
+        ensures pulls { Pulls result self.old self.new bytes.now }
     {
         let n = self.walk.raw.min(bytes.len() as u64) as usize;
         if n == 0 {
@@ -159,15 +142,7 @@ impl Puller {
     fn pull_extra(&mut self, bytes: &[u8]) -> Pulled
         requires here { AtTurn Turn.Extra self.old.walk }
         requires none { self.old.count ≡ 0 }
-        ensures used { result.used ≤ length bytes.now }
-        ensures needs { IsUsed result.pull result.used (length bytes.now) }
-        ensures says { (t : List ℕ) → PullSays result.pull self.old self.new (take result.used bytes.now) t }
-        ensures lent { IsLent result.pull result.used }
-        ensures kept { IsKept result.pull self.old self.new }
-        ensures leaves { PullLeaves result.pull self.new }
-        ensures inside { place_of self.old.walk + pulled_by result.pull ≤ upto_of self.old.walk }
-        ensures moves { PullMoves result.pull self.old.walk self.new.walk result.used (length bytes.now) }
-        ensures falls { PullFalls result.pull self.old.walk self.new.walk }
+        ensures pulls { Pulls result self.old self.new bytes.now }
     {
         let n = bytes.len().min(self.walk.extra as usize);
         if n == 0 {
@@ -188,16 +163,8 @@ impl Puller {
         requires here { AtTurn turn self.old.walk }
         requires nothing { needed_of turn ≡ 0 }
         requires none { self.old.count ≡ 0 }
-        ensures used { result.used ≡ 0 }
-        ensures needs { (n : ℕ) → IsUsed result.pull result.used n }
-        ensures says { (t : List ℕ) → PullSays result.pull self.old self.new [] t }
-        ensures lent { IsLent result.pull result.used }
-        ensures kept { IsKept result.pull self.old self.new }
-        ensures leaves { PullLeaves result.pull self.new }
-        ensures inside { place_of self.old.walk + pulled_by result.pull ≤ upto_of self.old.walk }
-        ensures moves { (n : ℕ) → PullMoves result.pull self.old.walk self.new.walk result.used n }
-        ensures falls { PullFalls result.pull self.old.walk self.new.walk }
-        ensures again { IsOver self.old.walk.phase → IsAgain result self.old self.new }
+        ensures pulls { (bytes : List ℕ) → Pulls result self.old self.new bytes }
+        ensures again { IsWalkOver self.old.walk.phase → IsAgain result self.old self.new }
     {
         let _words = self.walk.words;
         let part = self.walk.take(turn, &[], u64::MAX, u64::MAX);
@@ -209,16 +176,8 @@ impl Puller {
 
     /// The next part of the image, as far as these bytes go: they are what comes behind those that were used.
     pub fn pull(&mut self, bytes: &[u8]) -> Pulled
-        ensures used { result.used ≤ length bytes.now }
-        ensures needs { IsUsed result.pull result.used (length bytes.now) }
-        ensures says { (t : List ℕ) → PullSays result.pull self.old self.new (take result.used bytes.now) t }
-        ensures lent { IsLent result.pull result.used }
-        ensures kept { IsKept result.pull self.old self.new }
-        ensures leaves { PullLeaves result.pull self.new }
-        ensures inside { place_of self.old.walk + pulled_by result.pull ≤ upto_of self.old.walk }
-        ensures moves { PullMoves result.pull self.old.walk self.new.walk result.used (length bytes.now) }
-        ensures falls { PullFalls result.pull self.old.walk self.new.walk }
-        ensures again { IsOver self.old.walk.phase → IsAgain result self.old self.new }
+        ensures pulls { Pulls result self.old self.new bytes.now }
+        ensures again { IsWalkOver self.old.walk.phase → IsAgain result self.old self.new }
     {
         let turn = next(&self.walk);
         match turn {
@@ -237,11 +196,11 @@ impl Puller {
     /// The next part where the input has ended.
     #[tactic(auto, using(crate::proofs::Turns::needed_asked))]
     pub fn last(&mut self) -> Part
-        ensures says { Says result self.old.walk self.new.walk (front_of self.old) [] }
+        ensures says { Says result self.old.walk self.new.walk (pulled_front self.old) [] }
         ensures empty { self.new.count ≡ 0 }
-        ensures leaves { Leaves result self.new.walk.phase }
+        ensures leaves { PartLeaves result self.new.walk.phase }
         ensures falls { PullFalls (Pull.Gives result) self.old.walk self.new.walk }
-        ensures again { IsOver self.old.walk.phase → self.new.walk ≡ self.old.walk }
+        ensures again { IsWalkOver self.old.walk.phase → self.new.walk ≡ self.old.walk }
         ensures inside { place_of self.old.walk + given_by result ≤ upto_of self.old.walk }
     {
         let turn = next(&self.walk);

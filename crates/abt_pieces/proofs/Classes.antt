@@ -1,5 +1,5 @@
 -- A front of blocks of one class.
-use Rattle.std.proofs.Common.{◌≡◌, ℕ, zero, suc, List, [], ◌∷◌, length, take, replicate, refl, ap, ◌∙◌, arith}
+use Rattle.std.proofs.Common.{◌≡◌, ℕ, zero, suc, List, [], ◌∷◌, length, take, drop, replicate, refl, ap, ◌∙◌, arith}
 use Rattle.std.specs.List.{AllByRecursion}
 use Rattle.std.proofs.lemmas.List.{take_all}
 use Rattle.abt_sparse.specs.Block.{Block, Fill, Skip}
@@ -20,6 +20,12 @@ same_take (suc q) x (y ∷ xs) h =
     let t : xs ≡ replicate (length xs) x = cc in
     let r = same_take q x xs t in
     cc
+
+pub all_drop : (q : ℕ) (x : Block) (xs : List Block) → xs ≡ replicate (length xs) x
+    → drop q xs ≡ replicate (length (drop q xs)) x
+all_drop zero x xs h = h
+all_drop (suc q) x [] h = refl
+all_drop (suc q) x (y ∷ xs) h = all_drop q x xs (let t : xs ≡ replicate (length xs) x = cc in t)
 
 pub all_take : (k : RunKind) (q : ℕ) (xs : List Block) → AllOf k xs → AllOf k (take q xs)
 all_take kinds.Raw q xs h = raws_take q xs h

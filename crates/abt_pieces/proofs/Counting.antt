@@ -11,24 +11,24 @@ use Rattle.abt_runs.specs.declared.part.RunKind.{RunKind}
 use Rattle.abt_runs.specs.declared.part.RunKind.TheVariants as kinds
 use Rattle.abt_runs.specs.Whole.{alike_kinds}
 use Rattle.abt_pieces.specs.declared.contents.Contents.{Contents}
-use Rattle.abt_pieces.specs.Contents.{kind_of, opens, opens_len, data_len, held, with_part, contents_before, counts, sizes, written_in, last_of, IsContents}
+use Rattle.abt_pieces.specs.Contents.{run_kind_of, opens, opens_len, copy_len, held, with_blocks, contents_before, chunks_of_kinds, sizes, written_in, last_of, IsContents}
 use Rattle.abt_pieces.specs.Plan.{last_kind}
 use Rattle.abt_pieces.specs.declared.segment_tail.Tail.TheVariants as tails
 use Rattle.abt_runs.proofs.Alike.{kind_is, alike_is, self_alike, tail_of_all}
 
 -- ---- two lists in a row
 
-pub counts-append : (j : RunKind) (l m : List Block) → counts j (l ++ m) ≡ counts j l + counts (last_of j l) m
+pub counts-append : (j : RunKind) (l m : List Block) → chunks_of_kinds j (l ++ m) ≡ chunks_of_kinds j l + chunks_of_kinds (last_of j l) m
 counts-append j [] m = omega arith
-counts-append j (x ∷ l) m = omega (arith, counts-append (kind_of x) l m)
+counts-append j (x ∷ l) m = omega (arith, counts-append (run_kind_of x) l m)
 
 pub last-append : (j : RunKind) (l m : List Block) → last_of j (l ++ m) ≡ last_of (last_of j l) m
 last-append j [] m = refl
-last-append j (x ∷ l) m = last-append (kind_of x) l m
+last-append j (x ∷ l) m = last-append (run_kind_of x) l m
 
 pub sizes-append : (b : ℕ) (j : RunKind) (l m : List Block) → sizes b j (l ++ m) ≡ sizes b j l + sizes b (last_of j l) m
 sizes-append b j [] m = omega arith
-sizes-append b j (x ∷ l) m = omega (arith, sizes-append b (kind_of x) l m)
+sizes-append b j (x ∷ l) m = omega (arith, sizes-append b (run_kind_of x) l m)
 
 pub written-append : (l m : List Block) → written_in (l ++ m) ≡ written_in l + written_in m
 written-append [] m = omega arith
@@ -37,12 +37,12 @@ written-append (x ∷ l) m = omega (arith, written-append l m)
 -- ---- blocks of one class
 
 record Alone (b : ℕ) (k : RunKind) (xs : List Block) : Type 0 where
-  none : counts k xs ≡ 0
-  bytes : sizes b k xs ≡ data_len k (length xs) b
+  none : chunks_of_kinds k xs ≡ 0
+  bytes : sizes b k xs ≡ copy_len k (length xs) b
   written : written_in xs ≡ held k (length xs)
   last : last_of k xs ≡ k
 
-one_more : (b : ℕ) (k : RunKind) (n : ℕ) → data_len k 1 b + data_len k n b ≡ data_len k (suc n) b
+one_more : (b : ℕ) (k : RunKind) (n : ℕ) → copy_len k 1 b + copy_len k n b ≡ copy_len k (suc n) b
 one_more b kinds.Raw n = omega arith
 one_more b (kinds.Fill w) n = refl
 one_more b kinds.Skip n = refl
@@ -54,7 +54,7 @@ one_held (kinds.Fill w) n = omega arith
 one_held kinds.Skip n = refl
 one_held kinds.End n = refl
 
-none_len : (b : ℕ) (k : RunKind) → data_len k 0 b ≡ 0
+none_len : (b : ℕ) (k : RunKind) → copy_len k 0 b ≡ 0
 none_len b kinds.Raw = omega arith
 none_len b (kinds.Fill w) = refl
 none_len b kinds.Skip = refl
@@ -81,8 +81,8 @@ alone b k x (y ∷ xs) h =
     }
 
 pub record OnePart (b : ℕ) (j k : RunKind) (xs : List Block) : Type 0 where
-  pub chunks : counts j xs ≡ opens j k
-  pub bytes : sizes b j xs ≡ opens_len j k + data_len k (length xs) b
+  pub chunks : chunks_of_kinds j xs ≡ opens j k
+  pub bytes : sizes b j xs ≡ opens_len j k + copy_len k (length xs) b
   pub written : written_in xs ≡ held k (length xs)
   pub last : last_of j xs ≡ k
 
@@ -101,11 +101,11 @@ one_part b j k (x ∷ xs) h some =
 -- ---- a piece that grows
 
 pub contents_on : (b : ℕ) (l xs : List Block) (c : Contents) (j k : RunKind) (q : ℕ) → IsContents b l c → j ≡ last_of kinds.End l → AllOf k xs → 0 < q → length xs ≡ q
-    → IsContents b (l ++ xs) (with_part c j k q b) × (last_of kinds.End (l ++ xs) ≡ k)
+    → IsContents b (l ++ xs) (with_blocks c j k q b) × (last_of kinds.End (l ++ xs) ≡ k)
 contents_on b l xs c j k q h last all some long =
     let p = one_part b (last_of kinds.End l) k xs all (omega arith) in
-    let chunks : counts (last_of kinds.End l) xs ≡ opens j k = rw last p.chunks in
-    let bytes : sizes b (last_of kinds.End l) xs ≡ opens_len j k + data_len k q b = rw (last, ← long) p.bytes in
+    let chunks : chunks_of_kinds (last_of kinds.End l) xs ≡ opens j k = rw last p.chunks in
+    let bytes : sizes b (last_of kinds.End l) xs ≡ opens_len j k + copy_len k q b = rw (last, ← long) p.bytes in
     let written : written_in xs ≡ held k q = rw (← long) p.written in (
       record {
         chunks = omega (arith, counts-append kinds.End l xs, chunks, h.chunks);
@@ -127,7 +127,7 @@ pub skips_contents : (b n : ℕ) → IsContents b (replicate n Skip) (contents_b
 skips_contents b zero = record { chunks = refl; written = refl; bytes = refl }
 skips_contents b (suc n) =
     let r = alone b kinds.Skip Skip (replicate n Skip) (skips_all (suc n)) in
-    let c : counts kinds.Skip (replicate n Skip) ≡ 0 = r.none in
+    let c : chunks_of_kinds kinds.Skip (replicate n Skip) ≡ 0 = r.none in
     let w : written_in (replicate n Skip) ≡ 0 = r.written in
     let s : sizes b kinds.Skip (replicate n Skip) ≡ 0 = r.bytes in
     record { chunks = rw c refl; written = rw w refl; bytes = rw s refl }
@@ -138,26 +138,26 @@ skips_last (suc n) = (alone 0 kinds.Skip Skip (replicate n Skip) (skips_all (suc
 
 -- ---- what the numbers are in the words of a piece
 
-runs_behind : (y : Block) (l : List Block) → length (runs (y ∷ l)) ≡ suc (counts (kind_of y) l)
+runs_behind : (y : Block) (l : List Block) → length (runs (y ∷ l)) ≡ suc (chunks_of_kinds (run_kind_of y) l)
 runs_behind y [] = refl
 runs_behind y (x ∷ l) =
     let v = runs_head x l in
     let r = runs_behind x l in
     elim (cases_Bool (alike y x)) [
       | inl e ↦
-          let a : alike_kinds (kind_of y) (kind_of x) ≡ true = sym (alike_is y x) ∙ e in
+          let a : alike_kinds (run_kind_of y) (run_kind_of x) ≡ true = sym (alike_is y x) ∙ e in
           ap length (grouped-alike y x v.0 v.1 (runs (x ∷ l)) v.2 e) ∙ ap length (sym v.2) ∙ r ∙ (rw a (omega arith))
       | inr e ↦
-          let a : alike_kinds (kind_of y) (kind_of x) ≡ false = sym (alike_is y x) ∙ e in
+          let a : alike_kinds (run_kind_of y) (run_kind_of x) ≡ false = sym (alike_is y x) ∙ e in
           ap length (grouped-apart y x v.0 v.1 (runs (x ∷ l)) v.2 e) ∙ ap (λ (gs : List (List Block)). suc (length gs)) (sym v.2) ∙ ap suc r ∙ (rw a (omega arith))
     ]
 
-pub runs_count : (l : List Block) → length (runs l) ≡ counts kinds.End l
+pub runs_count : (l : List Block) → length (runs l) ≡ chunks_of_kinds kinds.End l
 runs_count [] = refl
-runs_count (x ∷ l) = runs_behind x l ∙ (let z : suc (counts (kind_of x) l) ≡ 1 + counts (kind_of x) l = omega arith in z)
+runs_count (x ∷ l) = runs_behind x l ∙ (let z : suc (chunks_of_kinds (run_kind_of x) l) ≡ 1 + chunks_of_kinds (run_kind_of x) l = omega arith in z)
 
 -- a block that goes with the one before it and a block that goes with the one behind it add the same
-swap : (b : ℕ) (y z : Block) → full b y + (opens_len (kind_of y) (kind_of z) + data_len (kind_of z) 1 b) ≡ step b y z + full b z
+swap : (b : ℕ) (y z : Block) → full b y + (opens_len (run_kind_of y) (run_kind_of z) + copy_len (run_kind_of z) 1 b) ≡ step b y z + full b z
 swap b (Raw x) (Raw y) = omega arith
 swap b (Raw x) (Fill w) = omega arith
 swap b (Raw x) Skip = omega arith
@@ -168,11 +168,11 @@ swap b Skip (Raw y) = omega arith
 swap b Skip (Fill w) = omega arith
 swap b Skip Skip = refl
 
-total_behind : (b : ℕ) (y : Block) (l : List Block) → total b (y ∷ l) ≡ full b y + sizes b (kind_of y) l
+total_behind : (b : ℕ) (y : Block) (l : List Block) → total b (y ∷ l) ≡ full b y + sizes b (run_kind_of y) l
 total_behind b y [] = omega arith
 total_behind b y (z ∷ l) = omega (arith, total_behind b z l, swap b y z)
 
-first_size : (b : ℕ) (y : Block) → full b y ≡ opens_len kinds.End (kind_of y) + data_len (kind_of y) 1 b
+first_size : (b : ℕ) (y : Block) → full b y ≡ opens_len kinds.End (run_kind_of y) + copy_len (run_kind_of y) 1 b
 first_size b (Raw x) = omega arith
 first_size b (Fill w) = refl
 first_size b Skip = refl

@@ -7,7 +7,7 @@ use Rattle.abt_runs.specs.declared.part.Cursor.{Cursor}
 use Rattle.abt_runs.specs.declared.part.Run.{Run}
 use Rattle.abt_runs.specs.declared.part.RunKind.{RunKind}
 use Rattle.abt_runs.specs.declared.part.RunKind.TheVariants as kinds
-use Rattle.abt_pieces.specs.Contents.{opens_len, data_len, contents_before}
+use Rattle.abt_pieces.specs.Contents.{opens_len, copy_len, contents_before}
 use Rattle.abt_pieces.specs.Plan.{last_words}
 use Rattle.abt_pieces.specs.Gather.{ClosedRun, SoundGatherer, gathered_on, silent_left, gathered_to}
 use Rattle.abt_pieces.specs.Write.{begins, begun_as, run_begun, opened_on, chunk_opened, copied_on, to_find, silent_write, passed_to, writer_words}
@@ -90,7 +90,7 @@ paid_on within n first past d g r h going reads tail at_end = elim (cases_Bool (
 
 -- ---- what a part takes in a piece
 
-pub takes_on : (j k : RunKind) (used q size bytes t t' : ℕ) → (0 < used → k ≡ kinds.Raw) → is_end k ≡ false → piece_bytes size used k q + t ≤ t' → bytes + (opens_len j k + data_len k q size) + t ≤ bytes + t' + (if used == 0 then 0 else 16)
+pub takes_on : (j k : RunKind) (used q size bytes t t' : ℕ) → (0 < used → k ≡ kinds.Raw) → is_end k ≡ false → piece_bytes size used k q + t ≤ t' → bytes + (opens_len j k + copy_len k q size) + t ≤ bytes + t' + (if used == 0 then 0 else 16)
 takes_on j kinds.Raw used q size bytes t t' inside going h = elim (cases_Bool (used == 0)) [
   | inl z ↦ let e : 12 + q * size + t ≤ t' = rw z at h in elim (cases_Bool (alike_kinds j kinds.Raw)) [ inl a ↦ rw (z, a) (omega arith) | inr a ↦ rw (z, a) (omega arith) ]
   | inr z ↦ let e : 0 + q * size + t ≤ t' = rw z at h in elim (cases_Bool (alike_kinds j kinds.Raw)) [ inl a ↦ rw (z, a) (omega arith) | inr a ↦ rw (z, a) (omega arith) ]

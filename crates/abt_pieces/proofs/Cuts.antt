@@ -12,7 +12,7 @@ use Rattle.abt_sparse.specs.Chunk.{Chunk, Raws, plain, chunk_of_run, raw_bytes, 
 use Rattle.abt_runs.specs.Part.{AllOf, IsRaw, raw_of}
 use Rattle.abt_runs.specs.declared.part.RunKind.{RunKind}
 use Rattle.abt_runs.specs.declared.part.RunKind.TheVariants as kinds
-use Rattle.abt_pieces.specs.Contents.{head_len, data_len}
+use Rattle.abt_pieces.specs.Contents.{head_len, copy_len}
 use Rattle.abt_pieces.specs.Write.{front_bytes, chunks_in, bytes_of, cut_bytes, run_front, run_head}
 use Rattle.abt_pieces.proofs.Classes.{all_take}
 use Rattle.abt_pieces.proofs.Writing.{blocks_take, blocks_drop, run_bytes, front_long, length_raw}
@@ -168,7 +168,7 @@ run_rest kinds.End r g = []
 pub record RunCut (b r : ℕ) (k : RunKind) (g : List Block) : Type 0 where
   pub bytes : flat_map plain (cut_run r (chunk_of_run g)) ≡ run_front k (length g) ++ run_rest k r g
   pub count : length (cut_run r (chunk_of_run g)) ≡ chunks_in k (length g) r
-  pub long : length (flat_map plain (cut_run r (chunk_of_run g))) ≡ chunks_in k (length g) r * head_len k + data_len k (length g) b
+  pub long : length (flat_map plain (cut_run r (chunk_of_run g))) ≡ chunks_in k (length g) r * head_len k + copy_len k (length g) b
   pub head : length (run_front k (length g)) ≡ run_head k
 
 not_raws : (r : ℕ) (k : RunKind) (g : List Block) → (k ≡ kinds.Raw → ⊥) → AllOf k g → 0 < length g → cut_run r (chunk_of_run g) ≡ chunk_of_run g ∷ []
@@ -211,7 +211,7 @@ run_cut b r kinds.End g some all more good = absurd (omega (arith, more, ap leng
 pub record FirstCut (b r : ℕ) (k : RunKind) (g rest whole : List Block) : Type 0 where
   pub bytes : bytes_of r whole ≡ run_front k (length g) ++ (run_rest k r g ++ bytes_of r rest)
   pub count : length (chunks_of r whole) ≡ chunks_in k (length g) r + length (chunks_of r rest)
-  pub long : length (bytes_of r whole) ≡ chunks_in k (length g) r * head_len k + data_len k (length g) b + length (bytes_of r rest)
+  pub long : length (bytes_of r whole) ≡ chunks_in k (length g) r * head_len k + copy_len k (length g) b + length (bytes_of r rest)
 
 pub first_cut : (b r : ℕ) (k : RunKind) (g rest whole : List Block) → runs whole ≡ g ∷ runs rest → 0 < r → AllOf k g → 0 < length g → AreBlocks b g → FirstCut b r k g rest whole
 first_cut b r k g rest whole first some all more good =

@@ -10,9 +10,9 @@ use Rattle.abt_sparse.proofs.Weights.{one_fits, fewest}
 use Rattle.abt_runs.specs.Part.{AllOf}
 use Rattle.abt_runs.specs.declared.part.Cursor.{Cursor}
 use Rattle.abt_runs.specs.declared.part.RunKind.TheVariants as kinds
-use Rattle.abt_pieces.specs.Plan.{between, FirstPiece, Ends}
+use Rattle.abt_pieces.specs.Plan.{between, FirstPiece, PlanEnds}
 use Rattle.abt_pieces.specs.Gather.{frame, first_gatherer, Gathered, SoundGatherer}
-use Rattle.abt_pieces.specs.Outline.{IsOutline, blocks_of, segment_at, piece_at, first_part}
+use Rattle.abt_pieces.specs.Outline.{IsOutline, piece_blocks, segment_at, piece_at, first_part}
 use Rattle.abt_pieces.specs.Write.{bytes_of, rest_of, frame_of, ToldWriter}
 use Rattle.abt_pieces.specs.declared.outline.Outline.{Outline}
 use Rattle.abt_pieces.specs.declared.plan.Planner.{Planner}
@@ -36,7 +36,7 @@ piece_is b limit l s e h =
     sym (ap (λ (g : List Block). piece b (framed s g (length l - (s + length (segment_at b limit l s))))) seg ∙ ap (λ (n : ℕ). piece b (framed s (between l s e) n)) rest)
 
 -- a segment that goes no further has a block, where there is one
-pub moves : (b limit : ℕ) (l : List Block) (p : Planner) → 4 ≤ b → 64 + b ≤ limit → Ends b l limit p → p.first ≡ p.at.block → p.at.block < length l → ⊥
+pub moves : (b limit : ℕ) (l : List Block) (p : Planner) → 4 ≤ b → 64 + b ≤ limit → PlanEnds b l limit p → p.first ≡ p.at.block → p.at.block < length l → ⊥
 moves b limit l p four room ends none more = go (drop p.at.block l) refl
   where
     go : (rest : List Block) → drop p.at.block l ≡ rest → ⊥
@@ -88,9 +88,9 @@ piece_uncut b limit f some room good long =
 
 -- the piece is its header and its chunks
 pub header_first : (b n limit : ℕ) (l : List Block) (c : Cursor) (o : Outline) → n ≡ length l → c.block ≡ o.piece.first → AreBlocks b l → 0 < b → 40 ≤ limit → o.piece.bytes ≤ limit → IsOutline b l o
-    → piece b (blocks_of l o.piece) ≡ header_record (plain_header b n o.chunks) ++ rest_of (frame_of l (first_writer c o (most_raw b limit))) (first_writer c o (most_raw b limit))
+    → piece b (piece_blocks l o.piece) ≡ header_record (plain_header b n o.chunks) ++ rest_of (frame_of l (first_writer c o (most_raw b limit))) (first_writer c o (most_raw b limit))
 header_first b n limit l c o same first good some room fits h =
-    let f = blocks_of l o.piece in
+    let f = piece_blocks l o.piece in
     let long : length f ≡ n = length-frame l o.piece.first o.piece.past h.is.order h.is.within ∙ sym same in
     let cs = map chunk_of_run (runs f) in
     let count : length cs ≡ o.chunks = length-map (runs f) chunk_of_run ∙ sym h.count in
@@ -106,7 +106,7 @@ header_long b n k = refl
 
 pub writer_told : (P : Cursor → Type 0) (T : Cursor → ℕ) (b n limit : ℕ) (l : List Block) (c : Cursor) (o : Outline) → P c → n ≡ length l → c.block ≡ o.piece.first → AreBlocks b l → 0 < b → 40 ≤ limit → o.piece.bytes ≤ limit → IsOutline b l o → ToldWriter P T l (first_writer c o (most_raw b limit))
 writer_told P T b n limit l c o place same first good some room fits h =
-    let f = blocks_of l o.piece in
+    let f = piece_blocks l o.piece in
     let w = first_writer c o (most_raw b limit) in
     let long = length-frame l o.piece.first o.piece.past h.is.order h.is.within in
     let none : c.block - c.block ≡ 0 = omega arith in

@@ -1,10 +1,13 @@
 -- The blocks of a piece, and the parts of the image in it.
 use Rattle.std.proofs.Common.{◌≡◌, ℕ, zero, suc, ◌+◌, ◌-◌, ◌<◌, ◌≤◌, true, false, List, [], ◌∷◌, ◌++◌, length, take, drop, replicate, refl, sym, ap, subst, ◌∙◌, append_assoc, arith, inl, inr, length-append, length-drop, ◌⊎◌}
+use Rattle.std.proofs.Common.{IsTrue}
+use Rattle.std.proofs.lemmas.Bool.{false≢true}
 use Rattle.std.proofs.lemmas.List.{drop-drop, length-take-le, take-take, length-replicate, take-append-le, drop-append-le, take_all, take-append-drop}
 use Rattle.std.proofs.Math.Seq.{drop-append-add}
 use Rattle.abt_sparse.specs.Block.{Block, Skip}
 use Rattle.abt_sparse.specs.Runs.{runs}
-use Rattle.abt_runs.specs.Part.{AllOf, PartOf}
+use Rattle.abt_runs.specs.Part.{AllOf, PartOf, is_end}
+use Rattle.abt_runs.specs.declared.part.RunKind.TheVariants as kinds
 use Rattle.abt_runs.specs.declared.part.Run.{Run}
 use Rattle.abt_runs.specs.declared.part.RunKind.{RunKind}
 use Rattle.abt_pieces.specs.Plan.{between}
@@ -13,7 +16,8 @@ use Rattle.abt_runs.proofs.Alike.{kind_of, kind_is, all_append, alike_same, Ende
 use Rattle.abt_pieces.specs.Gather.{frame, Gathered}
 use Rattle.abt_pieces.specs.declared.gather.Gatherer.{Gatherer}
 use Rattle.abt_pieces.proofs.Planning.{between_more}
-use Rattle.abt_pieces.proofs.Classes.{all_take}
+use Rattle.abt_pieces.proofs.Counting.{skips_all}
+use Rattle.abt_pieces.proofs.Classes.{all_drop, all_take}
 
 -- ---- the piece's blocks
 
@@ -57,6 +61,39 @@ frame_part l s e i q r r' order within here le part less blocks same next =
       all = rw (same, blocks) all;
       ended = λ h. absurd (let stop : i ≡ length l = part.ended (rw same at h) in omega arith);
     }
+
+-- what is behind the segment: don't care up to the end
+pub frame_behind : (l : List Block) (s e i : ℕ) (r : Run) → s ≤ e → e ≤ length l → e ≤ i → i ≤ length l
+    → r.blocks ≡ length l - i → r.next.block ≡ i + r.blocks
+    → (r.kind ≡ kinds.Skip) ⊎ ((r.kind ≡ kinds.End) × (i ≡ length l)) → PartOf (frame l s e) i r
+frame_behind l s e i r order le behind room blocks next kind =
+    let long = length-frame l s e order le in
+    record { within = omega (arith, long, blocks, room); next = next; all = all kind; ended = stops kind }
+  where
+    all : (r.kind ≡ kinds.Skip) ⊎ ((r.kind ≡ kinds.End) × (i ≡ length l))
+        → AllOf r.kind (take r.blocks (drop i (frame l s e)))
+    all (inl is) =
+        let first = replicate s Skip ++ between l s e in
+        let tail = replicate (length l - e) Skip in
+        let at : i ≡ length first + (i - e) = omega (
+          arith,
+          length-append (replicate s Skip) (between l s e),
+          length-replicate {A = Block} s Skip,
+          length-between l s e le,
+          order,
+          behind,
+        ) in
+        let there : drop i (frame l s e) ≡ drop (i - e) tail =
+        ap (λ (n : ℕ). drop n (first ++ tail)) at ∙ drop-append-add first tail (i - e) in
+        let skips = all_drop (i - e) Skip tail (skips_all (length l - e)) in
+        rw is (all_take kinds.Skip r.blocks (drop i (frame l s e))
+        (subst (λ (xs : List Block). AllOf kinds.Skip xs) (sym there) skips))
+    all (inr h) = let none : r.blocks ≡ 0 = omega (arith, blocks, h.1) in rw (h.0, none) refl
+
+    stops : (r.kind ≡ kinds.Skip) ⊎ ((r.kind ≡ kinds.End) × (i ≡ length l)) → IsTrue (is_end r.kind)
+        → i ≡ length (frame l s e)
+    stops (inl is) ends = absurd (false≢true (rw is at ends))
+    stops (inr h) ends = let long = length-frame l s e order le in omega (arith, long, h.1)
 
 -- ---- the gatherer
 

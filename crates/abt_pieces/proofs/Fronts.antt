@@ -2,14 +2,14 @@
 use Rattle.std.proofs.Common.{◌≡◌, ℕ, ◌+◌, ◌-◌, ◌≤◌, ◌<◌, List, [], ◌∷◌, ◌++◌, length, take, drop, refl, sym, ap, ◌∙◌, append_assoc, append-nil, arith, length-append, length-drop, Bool, true, false, IsTrue, ◌⊎◌, inl, inr}
 use Rattle.std.proofs.lemmas.List.{drop-drop, length-take, take-append-le, take_all}
 use Rattle.std.proofs.Math.Seq.{take-add, take-append_seam, drop-append_seam}
-use Rattle.abt_runs.specs.Part.{Caused}
+use Rattle.abt_runs.specs.Part.{RunCaused}
 use Rattle.abt_runs.specs.declared.part.RunFault.{RunFault}
 use Rattle.abt_runs.specs.declared.part.RunFault.TheVariants as of_runs
 use Rattle.abt_pieces.specs.declared.fault.PieceFault.{PieceFault}
 use Rattle.abt_pieces.specs.declared.fault.PieceFault.TheVariants.{Read, Write, TooLarge, SourceChanged, BadBlock, LimitTooSmall}
-use Rattle.abt_pieces.specs.Fault.{HasCause, fault_of_run, full_in_cut, full_cut}
+use Rattle.abt_pieces.specs.Fault.{CutCause, fault_of_run, full_in_cut, full_cut}
 use Rattle.abt_pieces.specs.Write.{ChunkCause}
-use Rattle.std.proofs.Common.{Result, Ok, Err, OnOk, IfOk, IfErr, IsErrOf, max}
+use Rattle.std.proofs.Common.{Result, Ok, Err, IfOk, IfErr, IsErrOf, max}
 use Rattle.std.proofs.lemmas.Bool.{true≢false, false≢true}
 use Rattle.abt_io.specs.Count.{full_in}
 use Rattle.abt_io.specs.declared.device.DeviceFault.{DeviceFault}
@@ -58,7 +58,7 @@ whole_join w0 w1 x low front none =
 
 -- ---- causes
 
-pub run_cause : (f : RunFault) (tells : Bool) (r r' w w' : ℕ) → Caused f tells r r' → HasCause (fault_of_run f) tells r r' w w'
+pub run_cause : (f : RunFault) (tells : Bool) (r r' w w' : ℕ) → RunCaused f tells r r' → CutCause (fault_of_run f) tells r r' w w'
 run_cause (of_runs.Read d) tells r r' w w' h = h
 run_cause of_runs.TooLarge tells r r' w w' h = absurd h
 run_cause of_runs.SourceChanged tells r r' w w' h = h
@@ -69,7 +69,7 @@ pub not_told : (tells : Bool) → (IsTrue tells → ⊥) → tells ≡ false
 not_told true h = absurd (h refl)
 not_told false h = refl
 
-pub chunk_cause : (e : PieceFault) (tells : Bool) (chunks bytes need r r' w w' : ℕ) → (IsTrue tells → (0 < chunks) × (need ≤ bytes)) → ChunkCause e chunks bytes need w w' → HasCause e tells r r' w w'
+pub chunk_cause : (e : PieceFault) (tells : Bool) (chunks bytes need r r' w w' : ℕ) → (IsTrue tells → (0 < chunks) × (need ≤ bytes)) → ChunkCause e chunks bytes need w w' → CutCause e tells r r' w w'
 chunk_cause SourceChanged tells chunks bytes need r r' w w' fits h = not_told tells (λ t. let z = fits t in over z.0 z.1 h)
   where
     over : 0 < chunks → need ≤ bytes → (chunks ≡ 0) ⊎ (bytes < need) → ⊥
@@ -86,7 +86,7 @@ no_bytes [] e = refl
 no_bytes (y ∷ x) e = absurd (omega arith)
 
 -- a fault since then is a fault since earlier
-pub cause_since : (e : PieceFault) (tells : Bool) (r0 r r' w0 w w' : ℕ) → r0 ≤ r → w0 ≤ w → HasCause e tells r r' w w' → HasCause e tells r0 r' w0 w'
+pub cause_since : (e : PieceFault) (tells : Bool) (r0 r r' w0 w w' : ℕ) → r0 ≤ r → w0 ≤ w → CutCause e tells r r' w w' → CutCause e tells r0 r' w0 w'
 cause_since (Read f) tells r0 r r' w0 w w' a b h = (omega (arith, a, h.0), h.1)
 cause_since (Write f) tells r0 r r' w0 w w' a b h = omega (arith, b, h)
 cause_since SourceChanged tells r0 r r' w0 w w' a b h = h
@@ -121,14 +121,7 @@ no_more_than n j k = omega arith
 pub max_most : (n k : ℕ) → n ≤ max n k
 max_most n k = omega arith
 
-pub none_more : (n : ℕ) → n ≡ n + 0
-none_more n = omega arith
-
-pub ok_both : {A E : Type 0} (r : Result A E) (P Q : Type 0) → P → OnOk r Q → OnOk r (P × Q)
-ok_both (Ok x) P Q p q = (p, q)
-ok_both (Err e) P Q p q = tt
-
-pub run_causes : (e : PieceFault) (f : RunFault) (tells : Bool) (r r' w w' : ℕ) → e ≡ fault_of_run f → Caused f tells r r' → HasCause e tells r r' w w'
+pub run_causes : (e : PieceFault) (f : RunFault) (tells : Bool) (r r' w w' : ℕ) → e ≡ fault_of_run f → RunCaused f tells r r' → CutCause e tells r r' w w'
 run_causes e f tells r r' w w' is h = rw is (run_cause f tells r r' w w' h)
 
 pub run_unfilled : (e : PieceFault) (f : RunFault) (n : ℕ) → e ≡ fault_of_run f → n ≡ n + full_in_cut e
@@ -147,7 +140,7 @@ pub not_full : ◌≡◌ {A = ℕ} 0 1 → ⊥
 not_full h = omega (arith, h)
 
 -- a call that has no output
-pub cause_unwritten : (e : PieceFault) (tells : Bool) (r r' w w' : ℕ) → HasCause e tells r r' 0 0 → HasCause e tells r r' w w'
+pub cause_unwritten : (e : PieceFault) (tells : Bool) (r r' w w' : ℕ) → CutCause e tells r r' 0 0 → CutCause e tells r r' w w'
 cause_unwritten (Read f) tells r r' w w' h = h
 cause_unwritten (Write f) tells r r' w w' h = absurd (omega (arith, h))
 cause_unwritten SourceChanged tells r r' w w' h = h
@@ -172,7 +165,7 @@ pub whole_ended : (r : Result Bool PieceFault) (A B Q : Type 0) → IfOk r (λ d
 whole_ended (Ok d) A B Q h q = λ e. (h.1, q)
 whole_ended (Err f) A B Q h q = tt
 
-pub whole_cause : (r : Result Bool PieceFault) (tells : Bool) (X : Type 0) (n n' w w' : ℕ) → IfErr r (λ e. (e ≡ SourceChanged) × (X → ⊥)) → (IsTrue tells → X) → IfErr r (λ e. HasCause e tells n n' w w')
+pub whole_cause : (r : Result Bool PieceFault) (tells : Bool) (X : Type 0) (n n' w w' : ℕ) → IfErr r (λ e. (e ≡ SourceChanged) × (X → ⊥)) → (IsTrue tells → X) → IfErr r (λ e. CutCause e tells n n' w w')
 whole_cause (Ok d) tells X n n' w w' h all = tt
 whole_cause (Err f) tells X n n' w w' h all = rw h.0 (not_told tells (λ t. h.1 (all t)))
 

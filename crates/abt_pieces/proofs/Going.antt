@@ -20,7 +20,7 @@ use Rattle.abt_pieces.specs.declared.gather.Gatherer.{Gatherer}
 use Rattle.abt_pieces.specs.declared.write.Copying.{Copying}
 use Rattle.abt_pieces.specs.declared.write.Writer.{Writer}
 use Rattle.abt_pieces.specs.declared.fault.PieceFault.{PieceFault}
-use Rattle.abt_pieces.specs.Fault.{HasCause}
+use Rattle.abt_pieces.specs.Fault.{CutCause}
 use Rattle.abt_pieces.proofs.Fronts.{wrote_rest, chunk_cause}
 use Rattle.abt_pieces.proofs.Classes.{all_take}
 use Rattle.abt_pieces.proofs.Framing.{frame_take, length-frame}
@@ -211,7 +211,7 @@ pub begun_rest : {A : Type 0} (f : List Block) (w t : Writer) (front : List ℕ)
 begun_rest f w t front (Ok x) v old new z e h = rw e (wrote_rest old new front (rest_of f w) (rest_of f t) h z)
 begun_rest f w t front (Err e') v old new z e h = tt
 
-pub chunk_causes : {A : Type 0} (res : Result A PieceFault) (tells : Bool) (chunks bytes need r r' w w' : ℕ) → IfErr res (λ e. ChunkCause e chunks bytes need w w') → (IsTrue tells → (0 < chunks) × (need ≤ bytes)) → IfErr res (λ e. HasCause e tells r r' w w')
+pub chunk_causes : {A : Type 0} (res : Result A PieceFault) (tells : Bool) (chunks bytes need r r' w w' : ℕ) → IfErr res (λ e. ChunkCause e chunks bytes need w w') → (IsTrue tells → (0 < chunks) × (need ≤ bytes)) → IfErr res (λ e. CutCause e tells r r' w w')
 chunk_causes (Ok x) tells chunks bytes need r r' w w' h fits = tt
 chunk_causes (Err f) tells chunks bytes need r r' w w' h fits = chunk_cause f tells chunks bytes need r r' w w' fits h
 

@@ -15,7 +15,7 @@ use Rattle.abt_runs.specs.declared.part.RunKind.TheVariants as kinds
 use Rattle.abt_pieces.specs.Gather.{ClosedRun, SoundGatherer}
 use Rattle.abt_pieces.specs.Write.{begins, front_bytes, front_begun, raw_begun, begun_as, run_begun, run_front, run_head, next_blocks, chunk_opened, copied_on}
 use Rattle.abt_pieces.specs.Cutter.{first_writer, is_begun, has_failed}
-use Rattle.abt_pieces.specs.Image.{Appended, Leads, IsImage, IsPlain, AreChunks, MayCome, StageMayCome, copy_to_come, blocks_to_come}
+use Rattle.abt_pieces.specs.Image.{Appended, Leads, IsPlainImage, IsPlain, AreChunks, MayCome, StageMayCome, copy_to_come, blocks_to_come}
 use Rattle.abt_pieces.specs.declared.fault.PieceFault.{PieceFault}
 use Rattle.abt_pieces.specs.declared.gather.Gatherer.{Gatherer}
 use Rattle.abt_pieces.specs.declared.outline.Outline.{Outline}
@@ -233,7 +233,7 @@ can_write b m [] all few le = tt
 can_write b m (c ∷ cs) all few le = (record { is = all.0.is; counts = omega arith; fits = all.0.fits }, can_write b m cs all.1 (omega arith) le)
 
 -- chunks behind the header that counts them and their blocks
-pub chunks_image : (b n k : ℕ) (x : List ℕ) → (0 < b) × (b % 4 ≡ 0) × (b < 2 ^ 32) → n < 2 ^ 32 → k < 2 ^ 32 → AreChunks b k n x → IsImage b n (header_record (plain_header b n k) ++ x)
+pub chunks_image : (b n k : ℕ) (x : List ℕ) → (0 < b) × (b % 4 ≡ 0) × (b < 2 ^ 32) → n < 2 ^ 32 → k < 2 ^ 32 → AreChunks b k n x → IsPlainImage b n (header_record (plain_header b n k) ++ x)
 chunks_image b n k x good few fewer a =
     let cs = a.chunks in
     let image : image_of b (counted_in cs) cs ++ [] ≡ header_record (plain_header b n k) ++ x = append-nil (image_of b (counted_in cs) cs) ∙ rw (a.blocks, a.count, a.bytes) refl in
@@ -241,7 +241,7 @@ chunks_image b n k x good few fewer a =
     record { chunks = cs; spelled = subst (λ (y : List ℕ). Spells y (plain_header b n (length cs)) cs []) image (subst (λ (m : ℕ). Spells (image_of b (counted_in cs) cs ++ []) (plain_header b m (length cs)) cs []) a.blocks s) }
 
 pub header_leads : (b n r : ℕ) (start : Cursor) (o : Outline) (old new : List ℕ) → (0 < b) × (b % 4 ≡ 0) × (b < 2 ^ 32) → n < 2 ^ 32 → o.chunks < 2 ^ 32 → new ≡ old ++ header_record (plain_header b n o.chunks)
-    → Leads (IsImage b n) (MayCome b n (first_writer start o r)) old new
+    → Leads (IsPlainImage b n) (MayCome b n (first_writer start o r)) old new
 header_leads b n r start o old new good few fewer written = record {
   wrote = header_record (plain_header b n o.chunks);
   behind = written;
@@ -274,7 +274,7 @@ pub still_unfailed : {X A B C : Type 0} (start now : Stage) → ((is_begun now �
 still_unfailed start now (inl h) unfailed = begun_unfailed now h.0
 still_unfailed start now (inr h) unfailed = ap has_failed h.3 ∙ unfailed
 
-pub between_image : (b n : ℕ) (st : Stage) (old new : List ℕ) → st ≡ Between → Appended (StageMayCome b n st) old new → Appended (IsImage b n) old new
+pub between_image : (b n : ℕ) (st : Stage) (old new : List ℕ) → st ≡ Between → Appended (StageMayCome b n st) old new → Appended (IsPlainImage b n) old new
 between_image b n st old new is h = rw is at h
 
 -- a writer that ends

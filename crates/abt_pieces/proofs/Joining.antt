@@ -2,7 +2,7 @@
 use Rattle.std.proofs.Common.{◌≡◌, ◌∙◌, ℕ, ◌+◌, ◌-◌, ◌*◌, ◌<◌, ◌≤◌, max, arith, Result, Ok, Err, true, false, inl, inr, ◌⊎◌}
 use Rattle.abt_io.specs.declared.meter.Meter.{Meter}
 use Rattle.abt_pieces.specs.Calls.{Devices, PieceCosts}
-use Rattle.abt_pieces.specs.Step.{StepCosts}
+use Rattle.abt_pieces.specs.Step.{CutStepCosts}
 use Rattle.abt_pieces.specs.Cutter.{is_begun}
 use Rattle.abt_pieces.specs.declared.fault.PieceFault.{PieceFault}
 use Rattle.abt_pieces.specs.declared.stage.PieceProgress.{PieceProgress}
@@ -43,7 +43,7 @@ calls_most : (g0 g1 g2 w0 w1 w2 r0 r1 r2 o0 o1 o2 s : ℕ) → g0 ≤ g1 → g1 
 calls_most g0 g1 g2 w0 w1 w2 r0 r1 r2 o0 o1 o2 s a b c d reads writes step step' = omega (arith, a, b, c, d, reads, writes, step, step')
 
 -- the step that ends the call, behind those that went on
-pub costs_join : (one words silent : ℕ) (a y z : Devices) (m m' tick m'' : Meter) → StepCosts words (3 * one) y z tick m'' → a.given ≤ y.given → a.written ≤ y.written → y.given + 65536 * m.steps.number ≤ a.given + 65536 * m'.steps.number → m'.greatest.number ≤ max m.greatest.number 65536
+pub costs_join : (one words silent : ℕ) (a y z : Devices) (m m' tick m'' : Meter) → CutStepCosts words (3 * one) y z tick m'' → a.given ≤ y.given → a.written ≤ y.written → y.given + 65536 * m.steps.number ≤ a.given + 65536 * m'.steps.number → m'.greatest.number ≤ max m.greatest.number 65536
     → y.reads + 2 * silent ≤ a.reads + 3 * (y.given - a.given) + 2 * (y.written - a.written) + 12 → y.writes + silent ≤ a.writes + (y.given - a.given) + 2 * (y.written - a.written) + 6
     → m'.turns.number + 4 * silent ≤ m.turns.number + 6 * (y.given - a.given) + 5 * (y.written - a.written) + words + 24
     → tick.steps.number ≡ m'.steps.number → tick.greatest.number ≡ m'.greatest.number → tick.turns.number ≡ m'.turns.number + 1 → PieceCosts one a z m m''

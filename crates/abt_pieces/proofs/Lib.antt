@@ -16,3 +16,5 @@ pub mod Joining
 pub mod SpendingStages
 pub mod Image
 pub mod Turning
+pub mod WriterSteps
+pub mod Failures

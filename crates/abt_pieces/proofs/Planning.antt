@@ -20,11 +20,11 @@ use Rattle.abt_runs.specs.declared.part.RunKind.TheVariants as kinds
 use Rattle.abt_pieces.specs.declared.contents.Contents.{Contents}
 use Rattle.abt_runs.specs.Whole.{alike_kinds}
 use Rattle.abt_runs.proofs.Alike.{not_end_some}
-use Rattle.abt_pieces.specs.Contents.{opens, opens_len, data_len, held, with_part, contents_before, last_of, written_in, IsContents}
+use Rattle.abt_pieces.specs.Contents.{opens, opens_len, copy_len, held, with_blocks, contents_before, last_of, written_in, IsContents}
 use Rattle.abt_pieces.proofs.Counting.{contents_on, skips_contents, skips_last, skips_all, runs_count, length_is}
 use Rattle.abt_pieces.proofs.Writing.{blocks_take, blocks_drop, blocks_append, blocks_skips}
 use Rattle.abt_sparse.specs.Chunk.{piece}
-use Rattle.abt_pieces.specs.Plan.{last_kind, front, Slim, Even, head_of, fill_gain_of, skip_tail, cap_of, gain_of, tail_after, tail_of, between, FirstPiece, Planned, Ends, rested}
+use Rattle.abt_pieces.specs.Plan.{last_kind, front, Slim, Even, head_of, fill_gain_of, skip_tail, cap_of, gain_of, tail_after, tail_of, between, FirstPiece, Planned, PlanEnds, rested}
 use Rattle.abt_pieces.specs.declared.segment_tail.Tail.{Tail}
 use Rattle.abt_pieces.specs.declared.segment_tail.Tail.TheVariants as tails
 
@@ -204,7 +204,7 @@ last_after (tails.Fill w) kinds.Skip at q some e = refl
 last_after t kinds.End at q some e = absurd cc
 
 pub planned_on : (b : ℕ) (l : List Block) (p : Planner) (r : Run) (more : ℕ) (t : Tail) (j : RunKind) (c : Contents) → Planned b l p → PartOf l p.at.block r → 0 < r.blocks → more ≡ gain_of p.tail r.kind r.blocks b → t ≡ tail_after p.tail r.kind
-    → j ≡ last_kind p.tail p.at.block → c ≡ with_part p.contents j r.kind r.blocks b
+    → j ≡ last_kind p.tail p.at.block → c ≡ with_blocks p.contents j r.kind r.blocks b
     → Planned b l (record { first = p.first; at = r.next; tail = t; weight = p.weight + more; contents = c })
 planned_on b l p r more t j c plan part some gains ends behind grows =
     let g = grown b l p.first p.at.block r.blocks r.kind p.tail plan.order part.within some plan.tail part.all in
@@ -224,14 +224,14 @@ planned_on b l p r more t j c plan part some gains ends behind grows =
 -- ---- the numbers, whatever the source gave
 
 pub even_on : (p : Planner) (r : Run) (more : ℕ) (t : Tail) (j : RunKind) (c : Contents) (b : ℕ) → Even p → r.next.block ≡ p.at.block + r.blocks → 0 < r.blocks → is_end r.kind ≡ false → more ≡ gain_of p.tail r.kind r.blocks b → t ≡ tail_after p.tail r.kind
-    → j ≡ last_kind p.tail p.at.block → c ≡ with_part p.contents j r.kind r.blocks b
+    → j ≡ last_kind p.tail p.at.block → c ≡ with_blocks p.contents j r.kind r.blocks b
     → Even (record { first = p.first; at = r.next; tail = t; weight = p.weight + more; contents = c })
 even_on p r more t j c b even next some going gains ends behind grows = record {
   order = omega (arith, even.order);
   chunks = let z = ap (λ (x : Contents). x.chunks) grows in omega (arith, z, even.chunks, opens_le j r.kind);
   written = let z = ap (λ (x : Contents). x.written) grows in omega (arith, z, even.written, held_le r.kind r.blocks);
-  least = let z : c.bytes ≡ p.contents.bytes + (opens_len j r.kind + data_len r.kind r.blocks b) = ap (λ (x : Contents). x.bytes) grows in omega (arith, z, even.least);
-  slim = let z : c.bytes ≡ p.contents.bytes + (opens_len j r.kind + data_len r.kind r.blocks b) = ap (λ (x : Contents). x.bytes) grows in rw (next, z, ends, gains, behind) (slim_on p.tail r.kind p.at.block r.blocks b p.contents.bytes p.weight some going even.slim);
+  least = let z : c.bytes ≡ p.contents.bytes + (opens_len j r.kind + copy_len r.kind r.blocks b) = ap (λ (x : Contents). x.bytes) grows in omega (arith, z, even.least);
+  slim = let z : c.bytes ≡ p.contents.bytes + (opens_len j r.kind + copy_len r.kind r.blocks b) = ap (λ (x : Contents). x.bytes) grows in rw (next, z, ends, gains, behind) (slim_on p.tail r.kind p.at.block r.blocks b p.contents.bytes p.weight some going even.slim);
 }
   where
     opens_le : (j k : RunKind) → opens j k ≤ 1
@@ -243,7 +243,7 @@ even_on p r more t j c b even next some going gains ends behind grows = record {
     held_le kinds.Skip q = omega arith
     held_le kinds.End q = omega arith
 
-    slim_on : (t : Tail) (k : RunKind) (at q b bytes weight : ℕ) → 0 < q → is_end k ≡ false → Slim t at bytes weight → Slim (tail_after t k) (at + q) (bytes + (opens_len (last_kind t at) k + data_len k q b)) (weight + gain_of t k q b)
+    slim_on : (t : Tail) (k : RunKind) (at q b bytes weight : ℕ) → 0 < q → is_end k ≡ false → Slim t at bytes weight → Slim (tail_after t k) (at + q) (bytes + (opens_len (last_kind t at) k + copy_len k q b)) (weight + gain_of t k q b)
     slim_on tails.Fresh kinds.Raw zero q b bytes weight some e s = omega (arith, s.0, s.2 refl)
     slim_on tails.Fresh kinds.Raw (suc at) q b bytes weight some e s = omega (arith, s.0, s.1)
     slim_on tails.Skip kinds.Raw at q b bytes weight some e s = omega (arith, s)
@@ -295,7 +295,7 @@ even_begin from = record { order = omega arith; chunks = few from.block; written
     small (suc n) = (refl, omega arith, λ z. absurd (omega arith))
 
 pub ends_here : (b limit : ℕ) (l : List Block) (p : Planner) (r : Run) (more : ℕ) → 0 < b → Planned b l p → PartOf l p.at.block r → 0 < r.blocks → p.weight ≤ limit → Capped (cap_of p.tail (limit - p.weight) b) r
-    → more ≡ gain_of p.tail r.kind r.blocks b → limit - p.weight < more → Ends b l limit p
+    → more ≡ gain_of p.tail r.kind r.blocks b → limit - p.weight < more → PlanEnds b l limit p
 ends_here b limit l p r more some plan part one fits capped gains above =
     record { over = over b l p.first p.at.block r.blocks r.kind p.tail limit p.weight some one plan.tail part.all plan.weight fits capped.raw (omega (arith, gains, above)) }
 
@@ -387,7 +387,7 @@ charged_on given given' given0 charge0 charge charge' at Stuck step so inside fr
 -- ---- a piece that is planned
 
 -- the numbers with what is skipped behind the segment
-pub outlined : (b : ℕ) (l : List Block) (p : Planner) → AreBlocks b l → Planned b l p → (c : Contents) → (p.at.block < length l → c ≡ with_part p.contents (last_kind p.tail p.at.block) kinds.Skip (length l - p.at.block) b) → (length l ≤ p.at.block → c ≡ p.contents)
+pub outlined : (b : ℕ) (l : List Block) (p : Planner) → AreBlocks b l → Planned b l p → (c : Contents) → (p.at.block < length l → c ≡ with_blocks p.contents (last_kind p.tail p.at.block) kinds.Skip (length l - p.at.block) b) → (length l ≤ p.at.block → c ≡ p.contents)
     → (c.chunks ≡ length (runs (framed p.first (between l p.first p.at.block) (length l - p.at.block)))) × (c.written ≡ written_in (framed p.first (between l p.first p.at.block) (length l - p.at.block))) × (c.bytes ≡ length (piece b (framed p.first (between l p.first p.at.block) (length l - p.at.block))))
 outlined b l p good plan c more none = elim (cases_Bool (nat_lt p.at.block (length l))) [
   | inl e ↦
@@ -422,7 +422,7 @@ last_opens tails.Raw at bytes weight s = (omega arith, omega (arith, s))
 last_opens (tails.Fill w) at bytes weight s = (omega arith, omega (arith, s))
 
 -- no block follows behind the last one
-pub ends_last : (b limit : ℕ) (l : List Block) (p : Planner) → p.at.block ≡ length l → Ends b l limit p
+pub ends_last : (b limit : ℕ) (l : List Block) (p : Planner) → p.at.block ≡ length l → PlanEnds b l limit p
 ends_last b limit l p e = record { over = λ x more is. absurd (let z : length (drop p.at.block l) ≡ suc (length more) = ap length is in omega (arith, z, e, length-drop p.at.block l)) }
 
 -- ---- a planner that goes no further
@@ -441,5 +441,5 @@ planned_still b l p next e h = record { order = rw e h.order; within = rw e h.wi
 pub even_still : (p : Planner) (next : Cursor) → next.block ≡ p.at.block → Even p → Even (record { first = p.first; at = next; tail = p.tail; weight = p.weight; contents = p.contents })
 even_still p next e h = record { order = rw e h.order; chunks = rw e h.chunks; written = rw e h.written; least = h.least; slim = rw e h.slim }
 
-pub ends_rests : (b : ℕ) (l : List Block) (limit : ℕ) (p : Planner) → Ends b l limit p → Ends b l limit (rested p)
+pub ends_rests : (b : ℕ) (l : List Block) (limit : ℕ) (p : Planner) → PlanEnds b l limit p → PlanEnds b l limit (rested p)
 ends_rests b l limit p h = record { over = h.over }

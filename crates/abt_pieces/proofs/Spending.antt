@@ -8,7 +8,7 @@ use Rattle.abt_runs.specs.declared.part.RunKind.{RunKind}
 use Rattle.abt_runs.specs.declared.part.RunKind.TheVariants as kinds
 use Rattle.abt_pieces.specs.Gather.{ClosedRun, SoundGatherer, gathered_on, gathered_to, first_gatherer}
 use Rattle.abt_pieces.specs.Write.{begins, starts, begun_as, run_begun, chunk_opened, next_copying, copied_on, IsCopying}
-use Rattle.abt_pieces.specs.Spent.{both, Entered, SpentGathering, SpentPart, SpentCopying, Spent}
+use Rattle.abt_pieces.specs.Spent.{charge_and_copied, Entered, SpentGathering, SpentPart, SpentCopying, Spent}
 use Rattle.abt_pieces.specs.declared.gather.Gatherer.{Gatherer}
 use Rattle.abt_pieces.specs.declared.write.Copying.{Copying}
 use Rattle.abt_pieces.specs.declared.write.Writer.{Writer}
@@ -33,16 +33,16 @@ entry_less a b le = elim (cases_Bool (b.used == 0)) [
 
 -- what is known of a part that is gathered from a place
 pub record SpentTo (charge copied : Cursor → ℕ) (past : ℕ) (d at : Cursor) (r : Run) : Type 0 where
-  pub behind : gathered_to (both charge copied) past d at ≤ gathered_to (both charge copied) past d r.next
+  pub behind : gathered_to (charge_and_copied charge copied) past d at ≤ gathered_to (charge_and_copied charge copied) past d r.next
   pub next : r.next.block ≡ at.block + r.blocks
   pub unused : r.next.block < past → r.next.used ≡ 0
-  pub raw : r.kind ≡ kinds.Raw → (r.next.block ≤ past) × (r.here.block ≡ at.block) × (both charge copied at ≤ both charge copied r.here) × (charge (afresh r.here) ≤ charge r.here) × (r.here.used ≤ at.used)
+  pub raw : r.kind ≡ kinds.Raw → (r.next.block ≤ past) × (r.here.block ≡ at.block) × (charge_and_copied charge copied at ≤ charge_and_copied charge copied r.here) × (charge (afresh r.here) ≤ charge r.here) × (r.here.used ≤ at.used)
 
 enters : (charge copied : Cursor → ℕ) (first past : ℕ) (d : Cursor) (s : ℕ) (g : Gatherer) (r : Run) → SpentGathering charge copied first past d s g → SpentTo charge copied past d g.at r → r.kind ≡ kinds.Raw → 0 < r.blocks → Entered charge copied first s r.here
 enters charge copied first past d s g r h p k some =
     let z = p.raw k in
     let low : g.at.block < past = omega (arith, z.0, p.next, some) in
-    let b : s ≤ both charge copied g.at + (16 - entry g.at) = rw (lt-ltb g.at.block past low) at h.behind in
+    let b : s ≤ charge_and_copied charge copied g.at + (16 - entry g.at) = rw (lt-ltb g.at.block past low) at h.behind in
     let e = entry_less r.here g.at z.4 in
     record {
       behind = omega (arith, b, e, z.2);
@@ -53,7 +53,7 @@ enters charge copied first past d s g r h p k some =
 pub spent_on : (charge copied : Cursor → ℕ) (first past : ℕ) (d : Cursor) (s : ℕ) (g : Gatherer) (r : Run) → SpentGathering charge copied first past d s g → SpentTo charge copied past d g.at r → SpentGathering charge copied first past d s (gathered_on g r).0
 spent_on charge copied first past d s g r h p =
     let at = same_at g r in
-    let behind : s ≤ gathered_to (both charge copied) past d r.next = omega (arith, h.behind, p.behind) in
+    let behind : s ≤ gathered_to (charge_and_copied charge copied) past d r.next = omega (arith, h.behind, p.behind) in
     let inside : r.next.block < past → 0 < r.next.used → r.next.block ≡ first = λ low u. absurd (let z = p.unused low in omega arith) in
     elim (on_case g r) [
       | still none going e ↦ rw e (record { behind = behind; inside = inside; from = h.from })
@@ -246,7 +246,7 @@ spent_whole Is charge copied held W n d s t w is there fresh none done sound h =
 
 -- nothing is read before the first chunk
 pub spent_first : (Is : Cursor → Type 0) (charge copied : Cursor → ℕ) (held : Cursor → ℕ → ℕ) (start d : Cursor) (w : Writer) → w.gatherer ≡ first_gatherer start → w.copying ≡ None → w.first ≡ start.block
-    → Spent Is charge copied held d (gathered_to (both charge copied) w.past d start) (gathered_to charge w.past d start + gathered_to (both charge copied) w.past d start) w
+    → Spent Is charge copied held d (gathered_to (charge_and_copied charge copied) w.past d start) (gathered_to charge w.past d start + gathered_to (charge_and_copied charge copied) w.past d start) w
 spent_first Is charge copied held start d w gathers none first = record {
   gathering = rw gathers (record { behind = omega arith; inside = λ low u. sym first; from = λ k. absurd cc });
   copies = rw (none, gathers) (inl (omega arith));

@@ -5,7 +5,7 @@ use Rattle.abt_runs.specs.Part.{entry}
 use Rattle.abt_runs.specs.declared.part.Cursor.{Cursor}
 use Rattle.abt_pieces.specs.Gather.{gathered_to}
 use Rattle.abt_pieces.specs.Cutter.{first_writer, is_begun, TakenPlan, OnEnd}
-use Rattle.abt_pieces.specs.Spent.{both, Spent}
+use Rattle.abt_pieces.specs.Spent.{charge_and_copied, Spent}
 use Rattle.abt_pieces.specs.SpentStage.{all_passes, SpentPlan, SpentOutline, SpentWriting, SpentStage, SpentPiece}
 use Rattle.abt_pieces.specs.declared.fault.PieceFault.{PieceFault}
 use Rattle.abt_pieces.specs.declared.stage.Stage.{Stage}
@@ -76,12 +76,12 @@ spent_less Is charge copied held d start s t t' r o le h = record {
 pub outline_writes : (Is : Cursor → Type 0) (charge copied : Cursor → ℕ) (held : Cursor → ℕ → ℕ) (n one : ℕ) (start : Cursor) (t r : ℕ) (o : Outline) → o.piece.first ≡ start.block → SpentOutline charge copied n one start t o → SpentWriting Is charge copied held n one t o (first_writer start o r)
 outline_writes Is charge copied held n one start t r o first h =
     let e = entry_most start in
-    let enough : 2 * charge start + copied start ≤ gathered_to charge o.piece.past o.next start + gathered_to (both charge copied) o.piece.past o.next start = elim (cases_Bool (nat_lt start.block o.piece.past)) [
+    let enough : 2 * charge start + copied start ≤ gathered_to charge o.piece.past o.next start + gathered_to (charge_and_copied charge copied) o.piece.past o.next start = elim (cases_Bool (nat_lt start.block o.piece.past)) [
       | inl a ↦ rw a (omega (arith, e))
       | inr a ↦ rw a (omega (arith, h.behind, h.copies))
     ] in
     record {
-      begun = gathered_to (both charge copied) o.piece.past o.next start;
+      begun = gathered_to (charge_and_copied charge copied) o.piece.past o.next start;
       total = 2 * charge start + copied start;
       fresh = h.fresh;
       spent = spent_less Is charge copied held o.next start _ _ _ r o enough (spent_first Is charge copied held start o.next (first_writer start o r) refl refl first);

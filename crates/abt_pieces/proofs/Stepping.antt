@@ -6,11 +6,11 @@ use Rattle.abt_sparse.specs.Chunk.{piece, header_record, plain_header}
 use Rattle.abt_io.specs.declared.meter.Meter.{Meter}
 use Rattle.abt_runs.specs.declared.part.Cursor.{Cursor}
 use Rattle.abt_pieces.specs.Calls.{Devices}
-use Rattle.abt_pieces.specs.Step.{StepCosts}
+use Rattle.abt_pieces.specs.Step.{CutStepCosts}
 use Rattle.abt_pieces.specs.Plan.{FirstPiece, last_words}
 use Rattle.abt_pieces.specs.Contents.{contents_before}
 use Rattle.abt_pieces.specs.Gather.{frame, first_gatherer, look_left}
-use Rattle.abt_pieces.specs.Outline.{blocks_of, piece_at}
+use Rattle.abt_pieces.specs.Outline.{piece_blocks, piece_at}
 use Rattle.abt_pieces.specs.Write.{rest_of, frame_of, write_left, writer_words}
 use Rattle.abt_pieces.specs.Cutter.{most_raw, first_writer, is_begun, so_far, coming, ToldOutline, ToldCutter, ToldStage, segments_left, Passed, TakenPlan, planned_left, silent_cut, plan_words, piece_words}
 use Rattle.abt_pieces.specs.declared.outline.Piece.{Piece}
@@ -38,7 +38,7 @@ pub header_comes : (P : Cursor → Type 0) (b n limit : ℕ) (l : List Block) (s
     → piece_at b limit l start.block ≡ header_record (plain_header b n o.chunks) ++ rest_of (frame_of l (first_writer start o (most_raw b limit))) (first_writer start o (most_raw b limit))
 header_comes P b n limit l start o same first good some room fits h =
     let one = piece_is b limit l start.block o.piece.past h.greatest in
-    let two : piece b (blocks_of l o.piece) ≡ piece b (frame l start.block o.piece.past) = ap (λ (k : ℕ). piece b (frame l k o.piece.past)) first in
+    let two : piece b (piece_blocks l o.piece) ≡ piece b (frame l start.block o.piece.past) = ap (λ (k : ℕ). piece b (frame l k o.piece.past)) first in
     sym one ∙ sym two ∙ header_first b n limit l start o same (sym first) good some room fits h.exact
 
 -- ---- steps left
@@ -82,7 +82,7 @@ whole_front w0 w1 w2 x c d front rest all =
     ∙ ap (λ (y : List ℕ). w0 ++ (take d x ++ y)) rest ∙ ap (λ (y : List ℕ). w0 ++ y) (take-append-drop d x)
 
 -- the piece that was to come
-pub piece_came : (b limit : ℕ) (l : List Block) (s : ℕ) (p : Piece) (st : Stage) → st ≡ Between → p.first ≡ s → FirstPiece b l limit p.first p.past → coming b limit l s st ≡ piece b (blocks_of l p)
+pub piece_came : (b limit : ℕ) (l : List Block) (s : ℕ) (p : Piece) (st : Stage) → st ≡ Between → p.first ≡ s → FirstPiece b l limit p.first p.past → coming b limit l s st ≡ piece b (piece_blocks l p)
 piece_came b limit l s p st e first h = rw (e, ← first) (sym (piece_is b limit l p.first p.past h))
 
 -- ---- what the steps of a piece cost
@@ -159,7 +159,7 @@ told_moves P T b l limit made start st new told same stage = record {
 }
 
 -- a step of the writer, in a piece whose plan compared so many words
-pub write_costs : (plan words one : ℕ) (a z : Devices) (m m' : Meter) → plan ≤ one → StepCosts words (2 * one) a z m m' → StepCosts (plan + words) (3 * one) a z m m'
+pub write_costs : (plan words one : ℕ) (a z : Devices) (m m' : Meter) → plan ≤ one → CutStepCosts words (2 * one) a z m m' → CutStepCosts (plan + words) (3 * one) a z m m'
 write_costs plan words one a z m m' most h = record {
   given = h.given;
   received = h.received;
@@ -173,7 +173,7 @@ write_costs plan words one a z m m' most h = record {
 }
 
 -- a step that leaves the output alone
-pub unwritten_costs : (words more : ℕ) (a z : Devices) (m m' : Meter) → z.writes ≡ a.writes → z.written ≡ a.written → a.given ≤ z.given → z.given ≤ a.given + 65536 → m'.steps.number ≡ m.steps.number + 1 → m'.greatest.number ≡ max m.greatest.number (z.given - a.given) → z.reads ≤ a.reads + (z.given - a.given) + 2 → m'.turns.number + words ≤ m.turns.number + 2 * (z.given - a.given) + 3 + more → StepCosts words more a z m m'
+pub unwritten_costs : (words more : ℕ) (a z : Devices) (m m' : Meter) → z.writes ≡ a.writes → z.written ≡ a.written → a.given ≤ z.given → z.given ≤ a.given + 65536 → m'.steps.number ≡ m.steps.number + 1 → m'.greatest.number ≡ max m.greatest.number (z.given - a.given) → z.reads ≤ a.reads + (z.given - a.given) + 2 → m'.turns.number + words ≤ m.turns.number + 2 * (z.given - a.given) + 3 + more → CutStepCosts words more a z m m'
 unwritten_costs words more a z m m' writes written given received steps greatest calls turns = record {
   given = given;
   received = received;
@@ -187,7 +187,7 @@ unwritten_costs words more a z m m' writes written given received steps greatest
 }
 
 -- a step that leaves the source alone, and writes a header
-pub header_costs : (plan one : ℕ) (a z : Devices) (m m' : Meter) → z.reads ≡ a.reads → z.given ≡ a.given → plan ≤ one → a.written ≤ z.written → z.written ≤ a.written + 28 → m'.steps.number ≡ m.steps.number + 1 → m'.greatest.number ≡ m.greatest.number → z.writes + a.written ≤ a.writes + z.written + 1 → m'.turns.number + a.written ≤ m.turns.number + z.written + 1 → StepCosts plan (3 * one) a z m m'
+pub header_costs : (plan one : ℕ) (a z : Devices) (m m' : Meter) → z.reads ≡ a.reads → z.given ≡ a.given → plan ≤ one → a.written ≤ z.written → z.written ≤ a.written + 28 → m'.steps.number ≡ m.steps.number + 1 → m'.greatest.number ≡ m.greatest.number → z.writes + a.written ≤ a.writes + z.written + 1 → m'.turns.number + a.written ≤ m.turns.number + z.written + 1 → CutStepCosts plan (3 * one) a z m m'
 header_costs plan one a z m m' reads given most grown few steps greatest writes turns = record {
   given = omega (arith, given);
   received = omega (arith, given);

@@ -13,7 +13,7 @@ use Rattle.abt_runs.specs.Part.{AllOf, IsRaw, raw_of}
 use Rattle.abt_runs.specs.declared.part.RunKind.{RunKind}
 use Rattle.abt_runs.specs.declared.part.RunKind.TheVariants as kinds
 use Rattle.abt_pieces.specs.Plan.{between}
-use Rattle.abt_pieces.specs.Contents.{head_len, data_len}
+use Rattle.abt_pieces.specs.Contents.{head_len, copy_len}
 use Rattle.abt_pieces.specs.Gather.{frame}
 use Rattle.abt_pieces.specs.Write.{front_bytes, chunk_len}
 
@@ -92,7 +92,7 @@ front_long b (kinds.Fill w) (Fill v ∷ g) n t h some good = let e : v ≡ w = (
 front_long b (kinds.Fill w) (Raw v ∷ g) n t h some good = absurd (let e : Raw v ≡ Fill w = cc in cc)
 front_long b (kinds.Fill w) (Skip ∷ g) n t h some good = absurd (let e : Skip ≡ Fill w = cc in cc)
 
-pub data_long : (b : ℕ) (k : RunKind) (g : List Block) → AllOf k g → AreBlocks b g → length (run_data k g) ≡ data_len k (length g) b
+pub data_long : (b : ℕ) (k : RunKind) (g : List Block) → AllOf k g → AreBlocks b g → length (run_data k g) ≡ copy_len k (length g) b
 data_long b kinds.Raw g h good = length_raw b g h good
 data_long b (kinds.Fill w) g h good = refl
 data_long b kinds.Skip g h good = refl

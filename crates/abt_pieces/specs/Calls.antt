@@ -1,5 +1,6 @@
 -- What a call that writes an image, or a piece of one, of a source has failed and costs.
 use Rattle.std.specs.Prelude.{◌≡◌, ℕ, ◌+◌, ◌-◌, ◌*◌, ◌≤◌, length, max, Result, OnOk}
+use Rattle.abt_io.specs.Lent.{OneStep}
 use Rattle.abt_io.specs.declared.device.Source as sources
 use Rattle.abt_io.specs.declared.device.Output as outputs
 use Rattle.abt_io.specs.declared.meter.Meter.{Meter}
@@ -34,7 +35,7 @@ pub record Failing {X : Type 0} (r : Result X PieceFault) (a z : Devices) : Type
 
 -- The calls of both devices, and the turns of loops, are at most 8 for each byte that was moved and for each of n, the
 -- bytes of a block, and 512. No step receives more than a window.
-pub record Costs (n : ℕ) (a z : Devices) (m m' : Meter) : Type 0 where
+pub record CallCosts (n : ℕ) (a z : Devices) (m m' : Meter) : Type 0 where
   pub given : a.given ≤ z.given
   pub steps : z.given + 65536 * m.steps.number ≤ a.given + 65536 * m'.steps.number
   pub greatest : m'.greatest.number ≤ max m.greatest.number 65536
@@ -58,3 +59,19 @@ pub record PlanCosts (one c g c' g' : ℕ) (m m' : Meter) : Type 0 where
   pub greatest : m'.greatest.number ≤ max m.greatest.number 65536
   pub calls : c' ≤ c + 3 * (g' - g) + 2
   pub turns : m'.turns.number ≤ m.turns.number + 5 * (g' - g) + 2 + 2 * one
+
+-- What finding a part of a segment costs, one step in all. Of words that are compared without being read, `words` were
+-- counted before, and at most `more` may be.
+pub record WordCosts (words more : ℕ) {A : Type 0} (s : sources.Ghosts A) (source source' : A) (m m' : Meter) : Type 0
+  where
+    pub given : s.given source ≤ s.given source'
+    pub received : s.given source' ≤ s.given source + 65536
+    pub calls : s.reads source' ≤ s.reads source + (s.given source' - s.given source) + 2
+    pub turns : m'.turns.number + words
+        ≤ m.turns.number + 2 * (s.given source' - s.given source) + 2 + more
+    pub one_step : OneStep (s.given source' - s.given source) m m'
+
+-- one call of an output at most that moves no byte, and one turn
+pub record WriteCosts {B : Type 0} (o : outputs.Ghosts B) (output output' : B) (m m' : Meter) : Type 0 where
+  pub calls : o.writes output' + length (o.written output) ≤ o.writes output + length (o.written output') + 1
+  pub turns : m'.turns.number + length (o.written output) ≤ m.turns.number + length (o.written output') + 1

@@ -6,10 +6,10 @@ use Rattle.abt_runs.specs.declared.part.RunKind.TheVariants as kinds
 use Rattle.abt_runs.specs.Whole.{alike_kinds}
 use Rattle.abt_pieces.specs.declared.contents.Contents.{Contents}
 
-abbrev pub kind_of : Block → RunKind
-kind_of (Raw x) = kinds.Raw
-kind_of (Fill w) = kinds.Fill w
-kind_of Skip = kinds.Skip
+abbrev pub run_kind_of : Block → RunKind
+run_kind_of (Raw x) = kinds.Raw
+run_kind_of (Fill w) = kinds.Fill w
+run_kind_of Skip = kinds.Skip
 
 -- one chunk more, behind this class
 abbrev pub opens : RunKind → RunKind → ℕ
@@ -26,11 +26,11 @@ abbrev pub opens_len : RunKind → RunKind → ℕ
 opens_len j k = if alike_kinds j k then 0 else head_len k
 
 -- the bytes of q blocks of b bytes that are copied into a chunk
-abbrev pub data_len : RunKind → ℕ → ℕ → ℕ
-data_len kinds.Raw q b = q * b
-data_len (kinds.Fill w) q b = 0
-data_len kinds.Skip q b = 0
-data_len kinds.End q b = 0
+abbrev pub copy_len : RunKind → ℕ → ℕ → ℕ
+copy_len kinds.Raw q b = q * b
+copy_len (kinds.Fill w) q b = 0
+copy_len kinds.Skip q b = 0
+copy_len kinds.End q b = 0
 
 -- how many of q blocks are raw or fill
 abbrev pub held : RunKind → ℕ → ℕ
@@ -40,11 +40,11 @@ held kinds.Skip q = 0
 held kinds.End q = 0
 
 -- with q blocks of class k more, behind class j
-abbrev pub with_part : Contents → RunKind → RunKind → ℕ → ℕ → Contents
-with_part c j k q b = record {
+abbrev pub with_blocks : Contents → RunKind → RunKind → ℕ → ℕ → Contents
+with_blocks c j k q b = record {
   chunks = c.chunks + opens j k;
   written = c.written + held k q;
-  bytes = c.bytes + (opens_len j k + data_len k q b);
+  bytes = c.bytes + (opens_len j k + copy_len k q b);
 }
 
 -- with nothing but n skipped blocks
@@ -54,25 +54,25 @@ contents_before (suc n) = record { chunks = 1; written = 0; bytes = 40 }
 
 -- ---- the same of lists, behind class j
 
-abbrev pub counts : RunKind → List Block → ℕ
-counts j [] = 0
-counts j (x ∷ l) = opens j (kind_of x) + counts (kind_of x) l
+abbrev pub chunks_of_kinds : RunKind → List Block → ℕ
+chunks_of_kinds j [] = 0
+chunks_of_kinds j (x ∷ l) = opens j (run_kind_of x) + chunks_of_kinds (run_kind_of x) l
 
 abbrev pub sizes : ℕ → RunKind → List Block → ℕ
 sizes b j [] = 0
-sizes b j (x ∷ l) = opens_len j (kind_of x) + data_len (kind_of x) 1 b + sizes b (kind_of x) l
+sizes b j (x ∷ l) = opens_len j (run_kind_of x) + copy_len (run_kind_of x) 1 b + sizes b (run_kind_of x) l
 
 -- how many blocks are raw or fill
 abbrev pub written_in : List Block → ℕ
 written_in [] = 0
-written_in (x ∷ l) = held (kind_of x) 1 + written_in l
+written_in (x ∷ l) = held (run_kind_of x) 1 + written_in l
 
 abbrev pub last_of : RunKind → List Block → RunKind
 last_of j [] = j
-last_of j (x ∷ l) = last_of (kind_of x) l
+last_of j (x ∷ l) = last_of (run_kind_of x) l
 
 -- the numbers of a piece of these blocks; End stands for nothing, since no block is like it
 pub record IsContents (b : ℕ) (l : List Block) (c : Contents) : Type 0 where
-  pub chunks : c.chunks ≡ counts kinds.End l
+  pub chunks : c.chunks ≡ chunks_of_kinds kinds.End l
   pub written : c.written ≡ written_in l
   pub bytes : c.bytes ≡ 28 + sizes b kinds.End l

@@ -1,10 +1,11 @@
 -- Where a cutter stands, between pieces and within one.
-use Rattle.std.specs.Prelude.{◌≡◌, ℕ, ◌+◌, ◌-◌, ◌*◌, ◌/◌, ◌^◌, ◌≤◌, ◌<◌, Bool, true, false, List, [], ◌++◌, length, drop}
-use Rattle.std.specs.Prelude.{nat_le, None, ⊤, Result, Ok, Err, if◌then◌else◌, nat_lt}
+use Rattle.std.specs.Prelude.{◌≡◌, ℕ, ◌+◌, ◌-◌, ◌*◌, ◌/◌, ◌^◌, ◌≤◌, ◌<◌, Bool, true, false, List, [], ◌++◌, length}
+use Rattle.std.specs.Prelude.{drop, nat_le, None, ⊤, Result, Ok, Err, if◌then◌else◌, nat_lt}
 use Rattle.abt_sparse.specs.Block.{Block}
 use Rattle.abt_sparse.specs.Runs.{weight, greedy, segments}
 use Rattle.abt_runs.specs.declared.part.Cursor.{Cursor}
 use Rattle.abt_pieces.specs.Plan.{Even, Planned, FirstPiece, last_words}
+use Rattle.abt_pieces.specs.Fault.{full_cut}
 use Rattle.abt_pieces.specs.Gather.{first_gatherer}
 use Rattle.abt_pieces.specs.Outline.{IsOutline, piece_at}
 use Rattle.abt_pieces.specs.Write.{SoundWriter, ToldWriter, rest_of, frame_of, write_left, writer_words, silent_write}
@@ -62,6 +63,10 @@ has_failed (Write o w) = false
 has_failed Done = false
 has_failed (Failed f) = true
 
+-- how often more a call answers that the output is full: one that answers a fault again calls no output
+abbrev pub full_at : {X : Type 0} → Stage → Result X PieceFault → ℕ
+full_at st r = if has_failed st then 0 else full_cut r
+
 -- how many bytes of the begun piece are written
 abbrev pub so_far : Stage → ℕ
 so_far Between = 0
@@ -73,15 +78,15 @@ so_far (Failed f) = 0
 
 -- ---- what a step answers
 
-abbrev pub is_more : Result PieceProgress PieceFault → Bool
-is_more (Ok answers.More) = true
-is_more (Ok (answers.Piece p)) = false
-is_more (Ok answers.End) = false
-is_more (Err f) = false
+abbrev pub has_more_to_cut : Result PieceProgress PieceFault → Bool
+has_more_to_cut (Ok answers.More) = true
+has_more_to_cut (Ok (answers.Piece p)) = false
+has_more_to_cut (Ok answers.End) = false
+has_more_to_cut (Err f) = false
 
-abbrev pub OnMore : Result PieceProgress PieceFault → Type 0 → Type 0
-OnMore (Ok answers.More) P = P
-OnMore r P = ⊤
+abbrev pub OnMoreCutting : Result PieceProgress PieceFault → Type 0 → Type 0
+OnMoreCutting (Ok answers.More) P = P
+OnMoreCutting r P = ⊤
 
 abbrev pub OnEnd : Result PieceProgress PieceFault → Type 0 → Type 0
 OnEnd (Ok answers.End) P = P

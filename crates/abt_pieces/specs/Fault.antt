@@ -8,13 +8,13 @@ use Rattle.abt_pieces.specs.declared.fault.PieceFault.{PieceFault}
 use Rattle.abt_pieces.specs.declared.fault.PieceFault.TheVariants.{Read, Write, TooLarge, SourceChanged, BadBlock}
 use Rattle.abt_pieces.specs.declared.fault.PieceFault.TheVariants.{LimitTooSmall}
 
-abbrev pub fault_number : PieceFault → ℕ
-fault_number (Read f) = 11
-fault_number (Write f) = 12
-fault_number TooLarge = 13
-fault_number SourceChanged = 14
-fault_number (BadBlock n) = 15
-fault_number (LimitTooSmall n) = 16
+abbrev pub piece_fault_number : PieceFault → ℕ
+piece_fault_number (Read f) = 11
+piece_fault_number (Write f) = 12
+piece_fault_number TooLarge = 13
+piece_fault_number SourceChanged = 14
+piece_fault_number (BadBlock n) = 15
+piece_fault_number (LimitTooSmall n) = 16
 
 abbrev pub fault_of_run : RunFault → PieceFault
 fault_of_run (of_runs.Read f) = Read f
@@ -25,13 +25,13 @@ fault_of_run (of_runs.BadBlock n) = BadBlock n
 
 -- While a piece is planned or written a device has failed, the source with the reason that is handed on, or a source
 -- that does not tell its bytes has changed.
-abbrev pub HasCause : PieceFault → Bool → ℕ → ℕ → ℕ → ℕ → Type 0
-HasCause (Read f) tells reads reads' writes writes' = (reads < reads') × (f ≡ Failed)
-HasCause (Write f) tells reads reads' writes writes' = writes < writes'
-HasCause SourceChanged tells reads reads' writes writes' = tells ≡ false
-HasCause TooLarge tells reads reads' writes writes' = ⊥
-HasCause (BadBlock n) tells reads reads' writes writes' = ⊥
-HasCause (LimitTooSmall n) tells reads reads' writes writes' = ⊥
+abbrev pub CutCause : PieceFault → Bool → ℕ → ℕ → ℕ → ℕ → Type 0
+CutCause (Read f) tells reads reads' writes writes' = (reads < reads') × (f ≡ Failed)
+CutCause (Write f) tells reads reads' writes writes' = writes < writes'
+CutCause SourceChanged tells reads reads' writes writes' = tells ≡ false
+CutCause TooLarge tells reads reads' writes writes' = ⊥
+CutCause (BadBlock n) tells reads reads' writes writes' = ⊥
+CutCause (LimitTooSmall n) tells reads reads' writes writes' = ⊥
 
 -- 1 where a fault hands on that the output is full
 abbrev pub full_in_cut : PieceFault → ℕ

@@ -21,7 +21,7 @@ abbrev pub Leads : (List ℕ → Type 0) → (List ℕ → Type 0) → List ℕ 
 Leads P Q old new = Appended (λ x. (t : List ℕ) → Q t → P (x ++ t)) old new
 
 -- x is a sparse image of n blocks of b bytes, with as many chunks as its header says, and nothing behind it
-pub record IsImage (b n : ℕ) (x : List ℕ) : Type 0 where
+pub record IsPlainImage (b n : ℕ) (x : List ℕ) : Type 0 where
   pub chunks : List Chunk
   pub spelled : Spells x (plain_header b n (length chunks)) chunks []
 
@@ -59,9 +59,9 @@ pub record MayCome (b n : ℕ) (w : Writer) (t : List ℕ) : Type 0 where
 
 -- the same at any stage: all of an image, or the rest of one
 abbrev pub StageMayCome : ℕ → ℕ → Stage → List ℕ → Type 0
-StageMayCome b n Between t = IsImage b n t
-StageMayCome b n (Plan p) t = IsImage b n t
-StageMayCome b n (Begin o) t = IsImage b n t
+StageMayCome b n Between t = IsPlainImage b n t
+StageMayCome b n (Plan p) t = IsPlainImage b n t
+StageMayCome b n (Begin o) t = IsPlainImage b n t
 StageMayCome b n (Write o w) t = MayCome b n w t
-StageMayCome b n Done t = IsImage b n t
-StageMayCome b n (Failed f) t = IsImage b n t
+StageMayCome b n Done t = IsPlainImage b n t
+StageMayCome b n (Failed f) t = IsPlainImage b n t

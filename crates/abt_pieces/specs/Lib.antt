@@ -14,3 +14,7 @@ pub mod Calls
 pub mod NextPiece
 pub mod Step
 pub mod Stepped
+pub mod Ready
+pub mod Framed
+pub mod PlanStep
+pub mod WriterStep

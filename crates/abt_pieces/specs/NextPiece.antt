@@ -1,10 +1,15 @@
 -- What a call that writes or passes the next piece leaves of its cutter, and what the piece is.
-use Rattle.std.specs.Prelude.{◌≡◌, ℕ, ◌+◌, ◌≤◌, false, List, ◌++◌}
+use Rattle.std.specs.Prelude.{◌≡◌, ℕ, ◌+◌, ◌-◌, ◌*◌, ◌≤◌, false, List, ◌++◌, length}
+use Rattle.abt_io.specs.declared.meter.Meter.{Meter}
 use Rattle.abt_sparse.specs.Block.{Block}
 use Rattle.abt_sparse.specs.Chunk.{piece}
-use Rattle.abt_pieces.specs.Cutter.{Passed, is_begun}
-use Rattle.abt_pieces.specs.Outline.{IsPiece, blocks_of, piece_at}
+use Rattle.abt_runs.specs.declared.part.Cursor.{Cursor}
+use Rattle.abt_runs.specs.declared.runs.BlockRuns as images
+use Rattle.abt_pieces.specs.Cutter.{Passed, is_begun, piece_words}
+use Rattle.abt_pieces.specs.Image.{Appended, IsPlainImage}
+use Rattle.abt_pieces.specs.Outline.{IsPieceOf, piece_blocks, piece_at}
 use Rattle.abt_pieces.specs.Plan.{FirstPiece}
+use Rattle.abt_pieces.specs.PlanStep.{Charged}
 use Rattle.abt_pieces.specs.declared.outline.Piece.{Piece}
 use Rattle.abt_pieces.specs.declared.stage.Stage.{Stage}
 
@@ -26,7 +31,26 @@ pub record IsNext (n limit first next made made' : ℕ) (st : Stage) (p : Piece)
 
 -- Behind what stood there, the piece p of these blocks: the one that the limit allows from this block on.
 pub record LaidNext (b limit : ℕ) (l : List Block) (first : ℕ) (p : Piece) (old new : List ℕ) : Type 0 where
-  pub written : new ≡ old ++ piece b (blocks_of l p)
+  pub written : new ≡ old ++ piece b (piece_blocks l p)
   pub coming : new ≡ old ++ piece_at b limit l first
-  pub exact : IsPiece b l p
+  pub exact : IsPieceOf b l p
   pub greatest : FirstPiece b l limit p.first p.past
+
+-- Whatever the source gave, the piece p was written behind what stood there: an image, as long as it says. The source
+-- had given d bytes before, and d' then.
+pub record PieceMade {R : Type 0} (g : images.Ghosts R) (runs : R) (limit : ℕ) (start start' : Cursor)
+    (made made' : ℕ) (st' : Stage) (d d' : ℕ) (old new : List ℕ) (m m' : Meter) (p : Piece) : Type 0 where
+  pub image : Appended (IsPlainImage (g.size runs) (g.count runs)) old new
+  pub piece : IsNext (g.count runs) limit start.block start'.block made made' st' p
+  pub long : length new ≡ length old + p.bytes
+  pub takes : p.bytes + g.taken runs start ≤ g.taken runs start' + 80
+  pub words : m'.turns.number ≤ m.turns.number + 6 * ((d' - d) + (length new - length old)) + 32
+      + piece_words (g.one runs) (g.count runs) p.past
+
+-- the piece p was planned and passed
+pub record PiecePassed {R : Type 0} (g : images.Ghosts R) (image : R) (limit : ℕ) (start start' : Cursor)
+    (made made' : ℕ) (st' : Stage) (d d' : ℕ) (m m' : Meter) (p : Piece) : Type 0 where
+  pub piece : IsNext (g.count image) limit start.block start'.block made made' st' p
+  pub charges : Charged (g.charge image) (g.one image) (g.count image) start start' p.past d d'
+  pub takes : p.bytes + g.taken image start ≤ g.taken image start' + 80
+  pub words : m'.turns.number ≤ m.turns.number + 5 * (d' - d) + 2 + piece_words (g.one image) (g.count image) p.past

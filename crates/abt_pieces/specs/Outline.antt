@@ -9,19 +9,19 @@ use Rattle.abt_pieces.specs.declared.outline.Piece.{Piece}
 use Rattle.abt_pieces.specs.declared.outline.Outline.{Outline}
 
 -- the blocks of the piece p of an image of these blocks
-abbrev pub blocks_of : List Block → Piece → List Block
-blocks_of l p = frame l p.first p.past
+abbrev pub piece_blocks : List Block → Piece → List Block
+piece_blocks l p = frame l p.first p.past
 
 -- the numbers of a piece of an image of these blocks
-pub record IsPiece (b : ℕ) (l : List Block) (p : Piece) : Type 0 where
+pub record IsPieceOf (b : ℕ) (l : List Block) (p : Piece) : Type 0 where
   pub order : p.first ≤ p.past
   pub within : p.past ≤ length l
-  pub held : p.written ≡ written_in (blocks_of l p)
-  pub long : p.bytes ≡ length (piece b (blocks_of l p))
+  pub held : p.written ≡ written_in (piece_blocks l p)
+  pub long : p.bytes ≡ length (piece b (piece_blocks l p))
 
 pub record IsOutline (b : ℕ) (l : List Block) (o : Outline) : Type 0 where
-  pub is : IsPiece b l o.piece
-  pub count : o.chunks ≡ length (runs (blocks_of l o.piece))
+  pub is : IsPieceOf b l o.piece
+  pub count : o.chunks ≡ length (runs (piece_blocks l o.piece))
 
 -- ---- the piece that begins at block s
 

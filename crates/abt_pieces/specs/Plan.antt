@@ -92,7 +92,7 @@ pub record Planned (b : ℕ) (l : List Block) (p : Planner) : Type 0 where
   pub contents : IsContents b (front l p.first p.at.block) p.contents
 
 -- not one block more would be within the limit
-pub record Ends (b : ℕ) (l : List Block) (limit : ℕ) (p : Planner) : Type 0 where
+pub record PlanEnds (b : ℕ) (l : List Block) (limit : ℕ) (p : Planner) : Type 0 where
   pub over : (x : Block) (more : List Block) → drop p.at.block l ≡ x ∷ more
       → limit < weight b (between l p.first p.at.block ++ x ∷ [])
 

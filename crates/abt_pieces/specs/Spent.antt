@@ -10,20 +10,20 @@ use Rattle.abt_pieces.specs.declared.write.Copying.{Copying}
 use Rattle.abt_pieces.specs.declared.write.Writer.{Writer}
 
 -- how many bytes a pass and copying may have read before a place, together
-abbrev pub both : (Cursor → ℕ) → (Cursor → ℕ) → Cursor → ℕ
-both charge copied c = charge c + copied c
+abbrev pub charge_and_copied : (Cursor → ℕ) → (Cursor → ℕ) → Cursor → ℕ
+charge_and_copied charge copied c = charge c + copied c
 
 -- A raw run may be copied from a place, of a piece that begins at block `first` where s bytes may have been read: no
 -- fewer are before the place, and a chunk is entered inside at the piece's first block alone.
 pub record Entered (charge copied : Cursor → ℕ) (first s : ℕ) (c : Cursor) : Type 0 where
-  pub behind : s ≤ both charge copied c + (16 - entry c)
+  pub behind : s ≤ charge_and_copied charge copied c + (16 - entry c)
   pub anew : charge (afresh c) ≤ charge c
   pub inside : 0 < c.used → c.block ≡ first
 
 -- a gatherer of such a piece, which goes up to block `past` and the place d
 pub record SpentGathering (charge copied : Cursor → ℕ) (first past : ℕ) (d : Cursor) (s : ℕ)
     (g : Gatherer) : Type 0 where
-  pub behind : s ≤ gathered_to (both charge copied) past d g.at
+  pub behind : s ≤ gathered_to (charge_and_copied charge copied) past d g.at
   pub inside : g.at.block < past → 0 < g.at.used → g.at.block ≡ first
   pub from : g.kind ≡ kinds.Raw → 0 < g.count → Entered charge copied first s g.from
 

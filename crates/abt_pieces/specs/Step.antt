@@ -6,14 +6,14 @@ use Rattle.abt_runs.specs.declared.part.Cursor.{Cursor}
 use Rattle.abt_runs.specs.declared.runs.BlockRuns as images
 use Rattle.abt_pieces.specs.Calls.{Devices}
 use Rattle.abt_pieces.specs.Cutter.{coming, so_far, cut_left, silent_cut, cut_words, piece_words}
-use Rattle.abt_pieces.specs.Outline.{IsPiece}
+use Rattle.abt_pieces.specs.Outline.{IsPieceOf}
 use Rattle.abt_pieces.specs.Plan.{FirstPiece}
 use Rattle.abt_pieces.specs.declared.outline.Piece.{Piece}
 use Rattle.abt_pieces.specs.declared.stage.Stage.{Stage}
 
 -- One step receives at most a window, and writes at most 80 bytes more than it received. Of words that are compared
 -- without being read, `words` were counted before, and at most `more` may be.
-pub record StepCosts (words more : ℕ) (a z : Devices) (m m' : Meter) : Type 0 where
+pub record CutStepCosts (words more : ℕ) (a z : Devices) (m m' : Meter) : Type 0 where
   pub given : a.given ≤ z.given
   pub received : z.given ≤ a.given + 65536
   pub grown : a.written ≤ z.written
@@ -27,7 +27,7 @@ pub record StepCosts (words more : ℕ) (a z : Devices) (m m' : Meter) : Type 0 
 
 -- The begun piece of an image goes on: what was written is counted, there is less left to do, and a step that moves no
 -- byte is paid for by what was moved before.
-pub record GoesOn {R : Type 0} (g : images.Ghosts R) (image : R) (start start' : Cursor) (made made' : ℕ)
+pub record PieceGoesOn {R : Type 0} (g : images.Ghosts R) (image : R) (start start' : Cursor) (made made' : ℕ)
     (st st' : Stage) (a z : Devices) (m m' : Meter) : Type 0 where
   pub same_place : start' ≡ start
   pub same_number : made' ≡ made
@@ -40,7 +40,7 @@ pub record GoesOn {R : Type 0} (g : images.Ghosts R) (image : R) (start start' :
       + cut_words (g.one image) (g.count image) start' st'
 
 -- The begun piece of an image has ended as p: its bytes are those that were written of it.
-pub record Ends {R : Type 0} (g : images.Ghosts R) (image : R) (start start' : Cursor) (st : Stage) (p : Piece)
+pub record PieceEnds {R : Type 0} (g : images.Ghosts R) (image : R) (start start' : Cursor) (st : Stage) (p : Piece)
     (a z : Devices) (m m' : Meter) : Type 0 where
   pub long : p.bytes ≡ so_far st + (z.written - a.written)
   pub takes : p.bytes + g.taken image start ≤ g.taken image start' + 80
@@ -52,5 +52,5 @@ pub record Ends {R : Type 0} (g : images.Ghosts R) (image : R) (start start' : C
 pub record CameWhole (b limit : ℕ) (l : List Block) (first : ℕ) (st : Stage) (p : Piece) (old new : List ℕ) :
     Type 0 where
   pub written : new ≡ old ++ coming b limit l first st
-  pub exact : IsPiece b l p
+  pub exact : IsPieceOf b l p
   pub greatest : FirstPiece b l limit p.first p.past

@@ -1,6 +1,6 @@
 -- A piece that is being written, and what of it is still to come.
-use Rattle.std.specs.Prelude.{◌≡◌, ℕ, ◌+◌, ◌-◌, ◌*◌, ◌/◌, ◌^◌, ◌≤◌, ◌<◌, List, [], ◌++◌, length, drop, map, Option, Some}
-use Rattle.std.specs.Prelude.{None, ⊤, ◌⊎◌, ◌==◌, ◌&&◌, not, min, nat_lt, if◌then◌else◌}
+use Rattle.std.specs.Prelude.{◌≡◌, ℕ, ◌+◌, ◌-◌, ◌*◌, ◌/◌, ◌^◌, ◌≤◌, ◌<◌, List, [], ◌++◌, length, drop, map}
+use Rattle.std.specs.Prelude.{Option, Some, None, ⊤, ◌⊎◌, ◌==◌, ◌&&◌, not, min, nat_lt, if◌then◌else◌}
 use Rattle.std.specs.List.{flat_map}
 use Rattle.abt_sparse.specs.declared.kind.ChunkKind.TheVariants as chunks
 use Rattle.abt_sparse.specs.Block.{Block}
@@ -12,7 +12,7 @@ use Rattle.abt_runs.specs.declared.part.RunKind.TheVariants as kinds
 use Rattle.abt_runs.specs.declared.part.Cursor.{Cursor}
 use Rattle.abt_runs.specs.declared.part.Run.{Run}
 use Rattle.abt_pieces.specs.Plan.{between, last_words}
-use Rattle.abt_pieces.specs.Contents.{head_len, data_len}
+use Rattle.abt_pieces.specs.Contents.{head_len, copy_len}
 use Rattle.abt_pieces.specs.Gather.{frame, SoundGatherer, ToldGatherer, look_left, silent_left}
 use Rattle.abt_pieces.specs.declared.fault.PieceFault.{PieceFault}
 use Rattle.abt_pieces.specs.declared.fault.PieceFault.TheVariants.{Read, Write, TooLarge, SourceChanged, BadBlock}
@@ -116,7 +116,7 @@ pub record ToldWriter (P : Cursor → Type 0) (together : Cursor → ℕ) (l : L
 
 -- how long the chunk of q blocks is
 abbrev pub chunk_len : RunKind → ℕ → ℕ → ℕ
-chunk_len k q b = head_len k + data_len k q b
+chunk_len k q b = head_len k + copy_len k q b
 
 -- with the front of a chunk written
 abbrev pub front_begun : Writer → RunKind → Writer

@@ -1,10 +1,12 @@
 //! What stands in front of a chunk's blocks.
-ghost use Rattle.std.specs.Prelude.{◌≡◌, ◌<◌, ◌≤◌, ◌+◌, ◌-◌, ◌%◌, ◌^◌, ◌++◌, OnOk, OnErr, IfErr, IsErrOf, IsTrue};
-ghost use Rattle.std.specs.Prelude.{length, take};
+ghost use Rattle.std.specs.Prelude.{◌≡◌, ◌<◌, ◌≤◌, ◌+◌, ◌-◌, ◌%◌, ◌++◌, OnErr, IsErrOf, IsTrue, length, take};
 ghost use Rattle.abt_io.specs.Count.{full_of};
 ghost use Rattle.abt_sparse.specs.Chunk.{header_record, plain_header};
 ghost use Rattle.abt_pieces.specs.Contents.{head_len as length_of_head};
 ghost use Rattle.abt_pieces.specs.Write.{front_bytes};
+ghost use Rattle.abt_io.specs.Lent.{OnlyWrites, NoStep};
+ghost use Rattle.abt_pieces.specs.Calls.{WriteCosts};
+ghost use Rattle.abt_pieces.specs.WriterStep.{PutFront};
 
 use crate::contents::head_len;
 use abt_io::{DeviceFault, Meter, Output, write_out};
@@ -48,25 +50,15 @@ pub fn write_front<O: Output>(
     total: u32,
     m: &mut Meter,
 ) -> Result<(), DeviceFault>
-    ensures ok { OnOk result (O.written output.new ≡ O.written output.old ++ front_bytes kind blocks total) }
-    ensures front { O.written output.new ≡ O.written output.old ++ take
-        (length (O.written output.new) - length (O.written output.old)) (front_bytes kind blocks total) }
-    ensures grown { length (O.written output.old) ≤ length (O.written output.new) }
+    ensures put { PutFront result (length_of_head kind) (front_bytes kind blocks total) (O.written output.old)
+        (O.written output.new) }
+    ensures writes { OnlyWrites result (full_of result) O.Output output.old output.new }
     ensures within { length (O.written output.new) ≤ length (O.written output.old) + length_of_head kind }
-    ensures whole { OnOk result (length (O.written output.new) ≡ length (O.written output.old) + length_of_head kind) }
-    ensures frame { O.write_frame output.new ≡ O.write_frame output.old }
-    ensures faults { O.write_faults output.old ≤ O.write_faults output.new }
-    ensures clean { OnOk result (O.write_faults output.new ≡ O.write_faults output.old) }
-    ensures full_faults { O.full_faults output.new ≡ O.full_faults output.old + full_of result }
     ensures full { IsErrOf result DeviceFault.Full → IsTrue (O.is_full output.new) }
     ensures short { OnErr result (length (O.written output.new) < length (O.written output.old) + length_of_head kind) }
     ensures cause { OnErr result (O.write_faults output.old < O.write_faults output.new) }
-    ensures calls { O.writes output.new + length (O.written output.old) ≤ O.writes output.old + length
-        (O.written output.new) + 1 }
-    ensures turns { m.new.turns.number + length (O.written output.old) ≤ m.old.turns.number + length
-        (O.written output.new) + 1 }
-    ensures steps { m.new.steps.number ≡ m.old.steps.number }
-    ensures greatest { m.new.greatest.number ≡ m.old.greatest.number }
+    ensures costs { WriteCosts O.Output output.old output.new m.old m.new }
+    ensures no_step { NoStep m.old m.new }
 {
     let bytes = chunk_front(kind, blocks, total);
     write_out(output, &bytes[..head_len(kind) as usize], m)
@@ -100,27 +92,15 @@ pub fn write_header<O: Output>(
 ) -> Result<(), DeviceFault>
     requires some { 0 < size }
     requires words { size % 4 ≡ 0 }
-    ensures ok { OnOk result (O.written output.new ≡ O.written output.old ++ header_record
-        (plain_header size count chunks)) }
-    ensures front { O.written output.new ≡ O.written output.old ++ take
-        (length (O.written output.new) - length (O.written output.old))
-        (header_record (plain_header size count chunks)) }
-    ensures grown { length (O.written output.old) ≤ length (O.written output.new) }
+    ensures put { PutFront result 28 (header_record (plain_header size count chunks)) (O.written output.old)
+        (O.written output.new) }
+    ensures writes { OnlyWrites result (full_of result) O.Output output.old output.new }
     ensures within { length (O.written output.new) ≤ length (O.written output.old) + 28 }
-    ensures whole { OnOk result (length (O.written output.new) ≡ length (O.written output.old) + 28) }
-    ensures frame { O.write_frame output.new ≡ O.write_frame output.old }
-    ensures faults { O.write_faults output.old ≤ O.write_faults output.new }
-    ensures clean { OnOk result (O.write_faults output.new ≡ O.write_faults output.old) }
-    ensures full_faults { O.full_faults output.new ≡ O.full_faults output.old + full_of result }
     ensures full { IsErrOf result DeviceFault.Full → IsTrue (O.is_full output.new) }
     ensures short { OnErr result (length (O.written output.new) < length (O.written output.old) + 28) }
     ensures cause { OnErr result (O.write_faults output.old < O.write_faults output.new) }
-    ensures calls { O.writes output.new + length (O.written output.old) ≤ O.writes output.old + length
-        (O.written output.new) + 1 }
-    ensures turns { m.new.turns.number + length (O.written output.old) ≤ m.old.turns.number + length
-        (O.written output.new) + 1 }
-    ensures steps { m.new.steps.number ≡ m.old.steps.number }
-    ensures greatest { m.new.greatest.number ≡ m.old.greatest.number }
+    ensures costs { WriteCosts O.Output output.old output.new m.old m.new }
+    ensures no_step { NoStep m.old m.new }
 {
     write_out(output, &image_header(size, count, chunks), m)
 }

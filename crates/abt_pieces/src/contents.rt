@@ -1,6 +1,6 @@
 //! What a piece holds: its chunks, its written blocks and its length, counted as blocks are passed.
 ghost use Rattle.std.specs.Prelude.{◌≡◌, ◌<◌, ◌≤◌, ◌+◌, ◌*◌, ◌^◌};
-ghost use Rattle.abt_pieces.specs.Contents.{opens, opens_len, data_len, held, head_len as length_of_head, with_part};
+ghost use Rattle.abt_pieces.specs.Contents.{opens, opens_len, copy_len, held, head_len as length_of_head, with_blocks};
 ghost use Rattle.abt_pieces.specs.Contents.{contents_before};
 
 use abt_runs::{RunKind, are_alike};
@@ -30,7 +30,7 @@ pub fn head_len(kind: RunKind) -> u64
 
 /// How many bytes of these blocks are copied into a chunk.
 pub fn copied_len(kind: RunKind, blocks: u32, size: u32) -> u64
-    ensures { result ≡ data_len kind blocks size }
+    ensures { result ≡ copy_len kind blocks size }
 {
     match kind {
         RunKind::Raw => blocks as u64 * size as u64,
@@ -83,8 +83,8 @@ impl Contents {
     pub fn with(self, last: RunKind, kind: RunKind, blocks: u32, size: u32) -> Contents
         requires chunks { self.chunks + opens last kind < 2 ^ 32 }
         requires written { self.written + held kind blocks < 2 ^ 32 }
-        requires bytes { self.bytes + (opens_len last kind + data_len kind blocks size) < 2 ^ 64 }
-        ensures { result ≡ with_part self last kind blocks size }
+        requires bytes { self.bytes + (opens_len last kind + copy_len kind blocks size) < 2 ^ 64 }
+        ensures { result ≡ with_blocks self last kind blocks size }
     {
         let (chunks, bytes) = opened(last, kind);
         Contents {

@@ -1,21 +1,22 @@
 //! Cutting an image into the fewest pieces for a download limit.
-ghost use Rattle.std.specs.Prelude.{◌≡◌, ◌<◌, ◌≤◌, ◌+◌, ◌-◌, ◌*◌, ◌^◌, ◌++◌, max, ℕ, List, [], IsTrue, IfOk, IfErr};
-ghost use Rattle.std.specs.Prelude.{IfSome, IfNone, OnOk, OnErr, Ok, Err, length, take, drop, true, false, ◌⊎◌};
-ghost use Rattle.std.specs.Prelude.{if◌then◌else◌};
+ghost use Rattle.std.specs.Prelude.{◌≡◌, ◌<◌, ◌≤◌, ◌+◌, ◌-◌, ◌*◌, ◌++◌, ℕ, List, IsTrue, IfOk, IfErr, IfSome, IfNone};
+ghost use Rattle.std.specs.Prelude.{OnErr, Ok, Err, length, take, true, false, ◌⊎◌, if◌then◌else◌};
 ghost use Rattle.abt_sparse.specs.Block.{Block};
 ghost use Rattle.abt_sparse.specs.Runs.{Division};
-ghost use Rattle.abt_pieces.specs.Fault.{HasCause, full_cut};
+ghost use Rattle.abt_pieces.specs.Fault.{CutCause, full_cut};
 ghost use Rattle.abt_pieces.specs.Plan.{FirstPiece};
-ghost use Rattle.abt_pieces.specs.Outline.{IsPiece, IsOutline};
+ghost use Rattle.abt_pieces.specs.Outline.{IsPieceOf};
 ghost use Rattle.abt_pieces.specs.Alike.{SoundCutter-prop};
-ghost use Rattle.abt_pieces.specs.Cutter.{SoundOutline, SoundCutter, ToldCutter, Made, segments_left, coming};
-ghost use Rattle.abt_pieces.specs.Cutter.{has_more, is_begun, has_failed, piece_words};
-ghost use Rattle.abt_pieces.specs.Image.{Appended, IsImage};
-ghost use Rattle.abt_pieces.specs.Calls.{Failing, PieceCosts, PlanCosts, devices};
-ghost use Rattle.abt_pieces.specs.NextPiece.{IsNext, LaidNext, SameCutter};
+ghost use Rattle.abt_pieces.specs.Cutter.{SoundOutline, SoundCutter, ToldCutter, Made, segments_left, coming, has_more};
+ghost use Rattle.abt_pieces.specs.Cutter.{is_begun, has_failed, piece_words, ToldOutline, full_at};
+ghost use Rattle.abt_pieces.specs.Calls.{PieceCosts, PlanCosts, devices};
+ghost use Rattle.abt_pieces.specs.NextPiece.{LaidNext, SameCutter, PieceMade, PiecePassed};
 ghost use Rattle.abt_pieces.specs.SpentStage.{SpentPiece, all_passes};
 ghost use Rattle.abt_pieces.specs.Turn.{NextInTurn};
 ghost use Rattle.abt_pieces.specs.declared.stage.Stage.{Stage};
+ghost use Rattle.abt_io.specs.Lent.{OnlyReads, OnlyWrites};
+ghost use Rattle.abt_pieces.specs.Ready.{ReadyCutter};
+ghost use Rattle.abt_pieces.specs.PlanStep.{Charged};
 
 use crate::PieceFault;
 use crate::fault::run_fault;
@@ -96,45 +97,33 @@ impl<R: BlockRuns + Drop> Cutter<R> {
 
     /// Plans the next piece.
     fn outline<S: Source>(
-        &mut self,
+        &self,
         source: &mut S,
         w: &mut Window,
         m: &mut Meter,
     ) -> Result<Outline, PieceFault>
-        requires told { IsTrue S.tells → R.opened self.old.runs (S.content source.old) ×
-            R.place self.old.runs (S.content source.old) self.old.start }
-        ensures runs { self.new.runs ≡ self.old.runs }
-        ensures rest { (self.new.limit ≡ self.old.limit) × (self.new.start ≡ self.old.start) ×
-            (self.new.made ≡ self.old.made) × (self.new.stage ≡ self.old.stage) }
-        ensures content { IsTrue S.tells → S.content source.new ≡ S.content source.old }
-        ensures frame { S.read_frame source.new ≡ S.read_frame source.old }
-        ensures sound { IfOk result (λ o. SoundOutline (R.within self.old.runs) (R.count self.old.runs) self.old.limit
-            self.old.start.block o) }
-        ensures exact { IsTrue S.tells →
-            IfOk result (λ o. IsOutline (R.size self.old.runs) (R.list self.old.runs (S.content source.old)) o) }
-        ensures greatest { IsTrue S.tells →
-            IfOk result (λ o. FirstPiece (R.size self.old.runs) (R.list self.old.runs (S.content source.old))
-            self.old.limit self.old.start.block o.piece.past) }
-        ensures place { IsTrue S.tells → IfOk result (λ o. R.place self.old.runs (S.content source.old) o.next) }
-        ensures charged { IfOk result (λ o. S.given source.new + R.charge self.old.runs self.old.start
-            ≤ S.given source.old + R.charge self.old.runs o.next + 48 + R.one self.old.runs) }
-        ensures charged_end { IfOk result (λ o. R.count self.old.runs ≤ o.piece.past →
-            S.given source.new + R.charge self.old.runs self.old.start ≤ S.given source.old + R.charge self.old.runs
-            o.next + 16) }
-        ensures takes { IfOk result (λ o. o.piece.bytes + R.taken self.old.runs self.old.start
-            ≤ R.taken self.old.runs o.next + 80) }
-        ensures costs { PlanCosts (R.one self.old.runs) (S.reads source.old) (S.given source.old) (S.reads source.new)
+        requires told { IsTrue S.tells → R.opened self.now.runs (S.content source.old) ×
+            R.place self.now.runs (S.content source.old) self.now.start }
+        ensures reads { OnlyReads result S.Source source.old source.new }
+        ensures sound { IfOk result (λ o. SoundOutline (R.within self.now.runs) (R.count self.now.runs) self.now.limit
+            self.now.start.block o) }
+        ensures told { IsTrue S.tells → IfOk result (λ o. ToldOutline (R.place self.now.runs (S.content source.old))
+            (R.size self.now.runs) (R.list self.now.runs (S.content source.old)) self.now.limit self.now.start.block
+            o) }
+        ensures charges { IfOk result (λ o. Charged (R.charge self.now.runs) (R.one self.now.runs)
+            (R.count self.now.runs) self.now.start o.next o.piece.past (S.given source.old) (S.given source.new)) }
+        ensures takes { IfOk result (λ o. o.piece.bytes + R.taken self.now.runs self.now.start
+            ≤ R.taken self.now.runs o.next + 80) }
+        ensures costs { PlanCosts (R.one self.now.runs) (S.reads source.old) (S.given source.old) (S.reads source.new)
             (S.given source.new) m.old m.new }
         ensures words { IfOk result (λ o. m.new.turns.number
-            ≤ m.old.turns.number + 5 * (S.given source.new - S.given source.old) + 2 + piece_words (R.one self.old.runs)
-            (R.count self.old.runs) o.piece.past) }
-        ensures faults { S.read_faults source.old ≤ S.read_faults source.new }
-        ensures clean { OnOk result (S.read_faults source.new ≡ S.read_faults source.old) }
-        ensures cause { IfErr result (λ e. HasCause e S.tells (S.read_faults source.old) (S.read_faults source.new) 0
+            ≤ m.old.turns.number + 5 * (S.given source.new - S.given source.old) + 2 + piece_words (R.one self.now.runs)
+            (R.count self.now.runs) o.piece.past) }
+        ensures cause { IfErr result (λ e. CutCause e S.tells (S.read_faults source.old) (S.read_faults source.new) 0
             0) }
     {
         let start = self.start;
-        let planner = match plan_piece(&mut self.runs, source, start, self.limit, w, m) {
+        let planner = match plan_piece(&self.runs, source, start, self.limit, w, m) {
             Ok(planner) => planner,
             Err(fault) => return Err(run_fault(fault)),
         };
@@ -159,30 +148,22 @@ impl<R: BlockRuns + Drop> Cutter<R> {
         m: &mut Meter,
     ) -> Result<Option<Piece>, PieceFault>
         requires unbegun { is_begun self.old.stage ≡ false }
-        requires opened { IsTrue S.tells → R.opened self.old.runs (S.content source.old) }
-        requires told { IsTrue S.tells → ToldCutter (R.place self.old.runs (S.content source.old))
-            (R.together self.old.runs (S.content source.old)) (R.size self.old.runs)
-            (R.list self.old.runs (S.content source.old)) self.old.limit self.old.made self.old.start self.old.stage }
+        requires ready { ReadyCutter R.BlockRuns S.Source self.old.runs source.old self.old.limit self.old.made
+            self.old.start self.old.stage }
         ensures cutter { SameCutter self.old.runs self.new.runs self.old.limit self.new.limit self.new.stage }
-        ensures content { IsTrue S.tells → S.content source.new ≡ S.content source.old }
-        ensures frame { S.read_frame source.new ≡ S.read_frame source.old }
-        ensures write_frame { O.write_frame output.new ≡ O.write_frame output.old }
+        ensures reads { OnlyReads result S.Source source.old source.new }
+        ensures writes { OnlyWrites result (full_at self.old.stage result) O.Output output.old output.new }
         ensures told { IsTrue S.tells → ToldCutter (R.place self.old.runs (S.content source.old))
             (R.together self.old.runs (S.content source.old)) (R.size self.old.runs)
             (R.list self.old.runs (S.content source.old)) self.new.limit self.new.made self.new.start self.new.stage }
-        ensures grown { length (O.written output.old) ≤ length (O.written output.new) }
         ensures within { length (O.written output.new) ≤ length (O.written output.old) + self.old.limit }
         ensures front { IsTrue S.tells → O.written output.new ≡ O.written output.old ++ take
             (length (O.written output.new) - length (O.written output.old))
             (coming (R.size self.old.runs) self.old.limit (R.list self.old.runs (S.content source.old))
             self.old.start.block self.old.stage) }
-        ensures image { IfOk
-            result (λ o. IfSome o (λ p. Appended (IsImage (R.size self.old.runs) (R.count self.old.runs))
-            (O.written output.old) (O.written output.new))) }
-        ensures piece { IfOk result (λ o. IfSome o (λ p. IsNext (R.count self.old.runs) self.old.limit
-            self.old.start.block self.new.start.block self.old.made self.new.made self.new.stage p)) }
-        ensures long { IfOk result (λ o. IfSome o (λ p.
-            length (O.written output.new) ≡ length (O.written output.old) + p.bytes)) }
+        ensures made { IfOk result (λ o. IfSome o (λ p. PieceMade R.BlockRuns self.old.runs self.old.limit
+            self.old.start self.new.start self.old.made self.new.made self.new.stage (S.given source.old)
+            (S.given source.new) (O.written output.old) (O.written output.new) m.old m.new p)) }
         ensures laid { IsTrue S.tells → IfOk result (λ o. IfSome o (λ p. LaidNext (R.size self.old.runs) self.old.limit
             (R.list self.old.runs (S.content source.old)) self.old.start.block p (O.written output.old)
             (O.written output.new))) }
@@ -194,27 +175,14 @@ impl<R: BlockRuns + Drop> Cutter<R> {
         ensures refused { IfErr result (λ e. self.new.stage ≡ Stage.Failed e) }
         ensures costs { PieceCosts (R.one self.old.runs) (devices S.Source O.Output source.old output.old)
             (devices S.Source O.Output source.new output.new) m.old m.new }
-        ensures takes { IfOk
-            result (λ o. IfSome o (λ p. p.bytes + R.taken self.old.runs self.old.start
-            ≤ R.taken self.old.runs self.new.start + 80)) }
         ensures spent { IsTrue S.tells → IfOk result (λ o. IfSome o (λ p. SpentPiece (R.charge self.old.runs)
             (R.copied self.old.runs) (R.count self.old.runs) (R.one self.old.runs) p.past self.new.start
             (all_passes (R.charge self.old.runs) (R.copied self.old.runs) self.old.start +
             (S.given source.new - S.given source.old)))) }
-        ensures words { IfOk
-            result (λ o. IfSome o
-            (λ p. m.new.turns.number
-            ≤ m.old.turns.number + 6
-            * ((S.given source.new - S.given source.old) + (length (O.written output.new) - length
-            (O.written output.old))) + 32 + piece_words (R.one self.old.runs) (R.count self.old.runs) p.past)) }
-        ensures failing { Failing result (devices S.Source O.Output source.old output.old)
-            (devices S.Source O.Output source.new output.new) }
-        ensures full_faults { has_failed self.old.stage ≡ false → O.full_faults output.new
-            ≡ O.full_faults output.old + full_cut result }
         ensures full { has_failed self.old.stage ≡ false → full_cut result ≡ 1 → IsTrue (O.is_full output.new) ×
             (length (O.written output.new) < length (O.written output.old) + self.old.limit) }
         ensures cause { IfErr result (λ e. (self.old.stage ≡ Stage.Failed e) ⊎
-            HasCause e S.tells (S.read_faults source.old) (S.read_faults source.new) (O.write_faults output.old)
+            CutCause e S.tells (S.read_faults source.old) (S.read_faults source.new) (O.write_faults output.old)
             (O.write_faults output.new)) }
     {
         'steps: loop {
@@ -237,21 +205,19 @@ impl<R: BlockRuns + Drop> Cutter<R> {
         m: &mut Meter,
     ) -> Result<Option<Piece>, PieceFault>
         requires unbegun { is_begun self.old.stage ≡ false }
-        requires opened { IsTrue S.tells → R.opened self.old.runs (S.content source.old) }
-        requires told { IsTrue S.tells → ToldCutter (R.place self.old.runs (S.content source.old))
-            (R.together self.old.runs (S.content source.old)) (R.size self.old.runs)
-            (R.list self.old.runs (S.content source.old)) self.old.limit self.old.made self.old.start self.old.stage }
+        requires ready { ReadyCutter R.BlockRuns S.Source self.old.runs source.old self.old.limit self.old.made
+            self.old.start self.old.stage }
         ensures cutter { SameCutter self.old.runs self.new.runs self.old.limit self.new.limit self.new.stage }
-        ensures content { IsTrue S.tells → S.content source.new ≡ S.content source.old }
-        ensures frame { S.read_frame source.new ≡ S.read_frame source.old }
+        ensures reads { OnlyReads result S.Source source.old source.new }
         ensures told { IsTrue S.tells → ToldCutter (R.place self.old.runs (S.content source.old))
             (R.together self.old.runs (S.content source.old)) (R.size self.old.runs)
             (R.list self.old.runs (S.content source.old)) self.new.limit self.new.made self.new.start self.new.stage }
-        ensures piece { IfOk result (λ o. IfSome o (λ p. IsNext (R.count self.old.runs) self.old.limit
-            self.old.start.block self.new.start.block self.old.made self.new.made self.new.stage p)) }
+        ensures passed { IfOk result (λ o. IfSome o (λ p. PiecePassed R.BlockRuns self.old.runs self.old.limit
+            self.old.start self.new.start self.old.made self.new.made self.new.stage (S.given source.old)
+            (S.given source.new) m.old m.new p)) }
         ensures exact { IsTrue S.tells →
             IfOk
-            result (λ o. IfSome o (λ p. IsPiece (R.size self.old.runs) (R.list self.old.runs (S.content source.old))
+            result (λ o. IfSome o (λ p. IsPieceOf (R.size self.old.runs) (R.list self.old.runs (S.content source.old))
             p)) }
         ensures greatest { IsTrue S.tells →
             IfOk
@@ -262,26 +228,10 @@ impl<R: BlockRuns + Drop> Cutter<R> {
         ensures again { (f : PieceFault) → self.old.stage ≡ Stage.Failed f → (result ≡ Err f) ×
             (source.new ≡ source.old) }
         ensures refused { IfErr result (λ e. self.new.stage ≡ Stage.Failed e) }
-        ensures charged { IfOk result (λ o. IfSome o (λ p. S.given source.new + R.charge self.old.runs self.old.start
-            ≤ S.given source.old + R.charge self.old.runs self.new.start + 48 + R.one self.old.runs)) }
-        ensures charged_end { IfOk
-            result (λ o. IfSome o (λ p. R.count self.old.runs ≤ p.past →
-            S.given source.new + R.charge self.old.runs self.old.start ≤ S.given source.old + R.charge self.old.runs
-            self.new.start + 16)) }
-        ensures takes { IfOk
-            result (λ o. IfSome o (λ p. p.bytes + R.taken self.old.runs self.old.start
-            ≤ R.taken self.old.runs self.new.start + 80)) }
         ensures costs { PlanCosts (R.one self.old.runs) (S.reads source.old) (S.given source.old) (S.reads source.new)
             (S.given source.new) m.old m.new }
-        ensures words { IfOk
-            result (λ o. IfSome o
-            (λ p. m.new.turns.number
-            ≤ m.old.turns.number + 5 * (S.given source.new - S.given source.old) + 2 + piece_words (R.one self.old.runs)
-            (R.count self.old.runs) p.past)) }
-        ensures faults { S.read_faults source.old ≤ S.read_faults source.new }
-        ensures clean { OnOk result (S.read_faults source.new ≡ S.read_faults source.old) }
         ensures cause { IfErr result (λ e. (self.old.stage ≡ Stage.Failed e) ⊎
-            HasCause e S.tells (S.read_faults source.old) (S.read_faults source.new) 0 0) }
+            CutCause e S.tells (S.read_faults source.old) (S.read_faults source.new) 0 0) }
     {
         match self.stage {
             Stage::Done => return Ok(None),

@@ -1,6 +1,6 @@
 //! Why cutting or sparsing is refused.
 ghost use Rattle.std.specs.Prelude.{◌≡◌};
-ghost use Rattle.abt_pieces.specs.Fault.{fault_number, fault_of_run};
+ghost use Rattle.abt_pieces.specs.Fault.{piece_fault_number, fault_of_run};
 
 use abt_io::DeviceFault;
 use abt_runs::RunFault;
@@ -32,7 +32,7 @@ pub enum PieceFault {
 impl PieceFault {
     /// The number of the fault.
     pub fn number(&self) -> u32
-        ensures { result ≡ fault_number self.now }
+        ensures { result ≡ piece_fault_number self.now }
     {
         match self {
             PieceFault::Read(_) => 11,

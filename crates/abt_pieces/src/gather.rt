@@ -1,12 +1,16 @@
 //! The runs of a piece, each known whole before it is written.
-ghost use Rattle.std.specs.Prelude.{◌≡◌, ℕ, ◌<◌, ◌≤◌, ◌+◌, ◌-◌, ◌*◌, ◌^◌, IsTrue, IfOk, IfErr, OnOk, IfSome, IfNone};
-ghost use Rattle.std.specs.Prelude.{length, min, max, true, false};
-ghost use Rattle.abt_runs.specs.Part.{PartOf, Caused, afresh, is_end as ends};
+ghost use Rattle.std.specs.Prelude.{◌≡◌, ℕ, ◌<◌, ◌≤◌, ◌+◌, ◌-◌, ◌*◌, ◌^◌, IsTrue, IfOk, IfErr, IfSome, IfNone, min};
+ghost use Rattle.std.specs.Prelude.{true, false};
+ghost use Rattle.abt_runs.specs.Part.{RunCaused, is_end as ends};
 ghost use Rattle.abt_pieces.specs.Gather.{frame, Closed, ClosedRun, SoundGatherer, ToldGatherer, first_gatherer};
 ghost use Rattle.abt_pieces.specs.Gather.{gathered_on, look_left, silent_left, gathered_to};
 ghost use Rattle.abt_runs.specs.declared.part.Cursor.{Cursor};
 ghost use Rattle.abt_pieces.specs.Plan.{last_words};
-ghost use Rattle.abt_pieces.specs.Spent.{both, SpentGathering};
+ghost use Rattle.abt_pieces.specs.Spent.{SpentGathering};
+ghost use Rattle.abt_io.specs.Lent.{OnlyReads};
+ghost use Rattle.abt_pieces.specs.Calls.{WordCosts};
+ghost use Rattle.abt_pieces.specs.Ready.{ReadyPart, ReadyGatherer};
+ghost use Rattle.abt_pieces.specs.Framed.{PartFound, PartTold};
 
 use abt_io::{Meter, Source, Window};
 use abt_runs::{BlockRuns, Cursor, Run, RunFault, RunKind, are_alike};
@@ -14,7 +18,7 @@ use abt_runs::{BlockRuns, Cursor, Run, RunFault, RunKind, are_alike};
 /// One part of a piece: of the image from `first` up to `past`, and don't care behind it. One step.
 #[inline(always)]
 pub fn framed_part<R: BlockRuns, S: Source>(
-    runs: &mut R,
+    runs: &R,
     source: &mut S,
     first: u32,
     past: u32,
@@ -22,58 +26,18 @@ pub fn framed_part<R: BlockRuns, S: Source>(
     w: &mut Window,
     m: &mut Meter,
 ) -> Result<Run, RunFault>
-    requires order { first ≤ at.block }
-    requires inner { first ≤ past }
-    requires room { at.block ≤ R.count runs.old }
-    requires end { past ≤ R.count runs.old }
-    requires within { at.block < past → R.within runs.old at }
-    requires told { IsTrue S.tells → R.opened runs.old (S.content source.old) ×
-        (at.block < past → R.place runs.old (S.content source.old) at) }
-    requires behind { past < at.block → at.block ≡ R.count runs.old }
-    ensures same { runs.new ≡ runs.old }
-    ensures content { IsTrue S.tells → S.content source.new ≡ S.content source.old }
-    ensures frame { S.read_frame source.new ≡ S.read_frame source.old }
-    ensures part { IsTrue S.tells →
-        IfOk result (λ r. PartOf (frame (R.list runs.old (S.content source.old)) first past) at.block r) }
-    ensures on { IfOk result (λ r. (r.next.block ≡ at.block + r.blocks) × (r.next.block ≤ R.count runs.old)) }
-    ensures next { IfOk result (λ r. r.next.block < past → R.within runs.old r.next) }
-    ensures place { IsTrue S.tells →
-        IfOk result (λ r. r.next.block < past → R.place runs.old (S.content source.old) r.next) }
-    ensures behind { IfOk result (λ r. past < r.next.block → r.next.block ≡ R.count runs.old) }
-    ensures raw { IfOk result (λ r. r.kind ≡ RunKind.Raw → (r.next.block ≤ past) × (r.here.block ≡ at.block) ×
-        R.within runs.old r.here) }
-    ensures raw_place { IsTrue S.tells →
-        IfOk result (λ r. r.kind ≡ RunKind.Raw → R.place runs.old (S.content source.old) r.here) }
-    ensures ended { IfOk result (λ r. ends r.kind ≡ true → (at.block ≡ R.count runs.old) × (r.blocks ≡ 0)) }
-    ensures at_end { at.block ≡ R.count runs.old → IfOk result (λ r. ends r.kind ≡ true) }
-    ensures left { at.block < past →
-        IfOk result (λ r. r.next.block < past → R.left runs.old r.next < R.left runs.old at) }
-    ensures tail { past ≤ at.block → IfOk result (λ r. r.next.block ≡ R.count runs.old) }
-    ensures fetched { at.block < past → IfOk result (λ r. S.given source.old < S.given source.new) }
-    ensures gathered { IsTrue S.tells → (d : Cursor) → R.within runs.old d → R.place runs.old (S.content source.old) d →
-        d.block ≡ past → d.ask ≡ 1 → IfOk result (λ r. S.given source.new + gathered_to (R.charge runs.old) past d at
-        ≤ S.given source.old + gathered_to (R.charge runs.old) past d r.next) }
-    ensures unused { IfOk result (λ r. r.next.block < past → r.next.used ≡ 0) }
-    ensures anew { IfOk result (λ r. r.kind ≡ RunKind.Raw →
-        (both (R.charge runs.old) (R.copied runs.old) at ≤ both (R.charge runs.old) (R.copied runs.old) r.here) ×
-        (R.charge runs.old (afresh r.here) ≤ R.charge runs.old r.here) × (r.here.used ≤ at.used)) }
-    ensures behind_start { IsTrue S.tells → (d : Cursor) → R.within runs.old d →
-        R.place runs.old (S.content source.old) d → d.block ≡ past → d.ask ≡ 1 →
-        IfOk result (λ r. gathered_to (both (R.charge runs.old) (R.copied runs.old)) past d at
-        ≤ gathered_to (both (R.charge runs.old) (R.copied runs.old)) past d r.next) }
-    ensures calls { S.reads source.new ≤ S.reads source.old + (S.given source.new - S.given source.old) + 2 }
-    ensures turns { m.new.turns.number + last_words (R.one runs.old) (R.count runs.old) (min at.block past)
-        ≤ m.old.turns.number + 2 * (S.given source.new - S.given source.old) + 2 + R.one runs.old }
-    ensures words { IfOk result (λ r. m.new.turns.number + last_words (R.one runs.old) (R.count runs.old)
+    requires ready { ReadyPart R.BlockRuns S.Source runs.now source.old first past at }
+    ensures reads { OnlyReads result S.Source source.old source.new }
+    ensures found { IfOk result (λ r. PartFound R.BlockRuns runs.now past at (S.given source.old) (S.given source.new)
+        r) }
+    ensures told { IsTrue S.tells →
+        IfOk result (λ r. PartTold R.BlockRuns S.Source runs.now source.old source.new first past at r) }
+    ensures costs { WordCosts (last_words (R.one runs.now) (R.count runs.now) (min at.block past)) (R.one runs.now)
+        S.Source source.old source.new m.old m.new }
+    ensures words { IfOk result (λ r. m.new.turns.number + last_words (R.one runs.now) (R.count runs.now)
         (min at.block past) ≤ m.old.turns.number + 2 * (S.given source.new - S.given source.old) + 2 + last_words
-        (R.one runs.old) (R.count runs.old) (min r.next.block past)) }
-    ensures given { S.given source.old ≤ S.given source.new }
-    ensures received { S.given source.new ≤ S.given source.old + 65536 }
-    ensures steps { m.new.steps.number ≡ m.old.steps.number + 1 }
-    ensures greatest { m.new.greatest.number ≡ max m.old.greatest.number (S.given source.new - S.given source.old) }
-    ensures faults { S.read_faults source.old ≤ S.read_faults source.new }
-    ensures clean { OnOk result (S.read_faults source.new ≡ S.read_faults source.old) }
-    ensures cause { IfErr result (λ e. Caused e S.tells (S.read_faults source.old) (S.read_faults source.new)) }
+        (R.one runs.now) (R.count runs.now) (min r.next.block past)) }
+    ensures cause { IfErr result (λ e. RunCaused e S.tells (S.read_faults source.old) (S.read_faults source.new)) }
 {
     let count = runs.blocks();
     if at.block < past {
@@ -197,58 +161,46 @@ impl Gatherer {
     #[inline(always)]
     pub fn gather<R: BlockRuns, S: Source>(
         &mut self,
-        runs: &mut R,
+        runs: &R,
         source: &mut S,
         first: u32,
         past: u32,
         w: &mut Window,
         m: &mut Meter,
     ) -> Result<Option<Run>, RunFault>
-        requires sound { SoundGatherer (R.within runs.old) (R.count runs.old) first past self.old }
-        requires opened { IsTrue S.tells → R.opened runs.old (S.content source.old) }
-        requires told { IsTrue S.tells → ToldGatherer (R.place runs.old (S.content source.old))
-            (R.list runs.old (S.content source.old)) first past self.old }
-        ensures same { runs.new ≡ runs.old }
-        ensures content { IsTrue S.tells → S.content source.new ≡ S.content source.old }
-        ensures frame { S.read_frame source.new ≡ S.read_frame source.old }
-        ensures sound { SoundGatherer (R.within runs.old) (R.count runs.old) first past self.new }
-        ensures told { IsTrue S.tells → ToldGatherer (R.place runs.old (S.content source.old))
-            (R.list runs.old (S.content source.old)) first past self.new }
+        requires ready { ReadyGatherer R.BlockRuns S.Source runs.now source.old first past self.old }
+        ensures reads { OnlyReads result S.Source source.old source.new }
+        ensures sound { SoundGatherer (R.within runs.now) (R.count runs.now) first past self.new }
+        ensures told { IsTrue S.tells → ToldGatherer (R.place runs.now (S.content source.old))
+            (R.list runs.now (S.content source.old)) first past self.new }
         ensures grows { IfOk
             result (λ o. IfNone o (self.new.at.block + self.old.count ≡ self.old.at.block + self.new.count)) }
         ensures run { IfOk result (λ o. IfSome o (λ r. ClosedRun self.old self.new r)) }
         ensures closed { IsTrue S.tells →
             IfOk
-            result (λ o. IfSome o (λ r. Closed (frame (R.list runs.old (S.content source.old)) first past) self.old
+            result (λ o. IfSome o (λ r. Closed (frame (R.list runs.now (S.content source.old)) first past) self.old
             self.new r)) }
         ensures left { ends self.old.kind ≡ false →
-            IfOk result (λ o. look_left (R.left runs.old) (R.count runs.old) past self.new < look_left (R.left runs.old)
-            (R.count runs.old) past self.old) }
+            IfOk result (λ o. look_left (R.left runs.now) (R.count runs.now) past self.new < look_left (R.left runs.now)
+            (R.count runs.now) past self.old) }
         ensures paid { ends self.old.kind ≡ false →
-            IfOk result (λ o. silent_left (R.count runs.old) past self.new < silent_left (R.count runs.old) past
+            IfOk result (λ o. silent_left (R.count runs.now) past self.new < silent_left (R.count runs.now) past
             self.old + (S.given source.new - S.given source.old)) }
-        ensures gathered { IsTrue S.tells → (d : Cursor) → R.within runs.old d →
-            R.place runs.old (S.content source.old) d → d.block ≡ past → d.ask ≡ 1 →
-            IfOk result (λ o. S.given source.new + gathered_to (R.charge runs.old) past d self.old.at
-            ≤ S.given source.old + gathered_to (R.charge runs.old) past d self.new.at) }
-        ensures spends { IsTrue S.tells → (d : Cursor) → R.within runs.old d → R.place runs.old (S.content source.old) d
-            → d.block ≡ past → d.ask ≡ 1 → (s : ℕ) → SpentGathering (R.charge runs.old) (R.copied runs.old) first past d
+        ensures gathered { IsTrue S.tells → (d : Cursor) → R.within runs.now d →
+            R.place runs.now (S.content source.old) d → d.block ≡ past → d.ask ≡ 1 →
+            IfOk result (λ o. S.given source.new + gathered_to (R.charge runs.now) past d self.old.at
+            ≤ S.given source.old + gathered_to (R.charge runs.now) past d self.new.at) }
+        ensures spends { IsTrue S.tells → (d : Cursor) → R.within runs.now d → R.place runs.now (S.content source.old) d
+            → d.block ≡ past → d.ask ≡ 1 → (s : ℕ) → SpentGathering (R.charge runs.now) (R.copied runs.now) first past d
             s self.old →
-            IfOk result (λ o. SpentGathering (R.charge runs.old) (R.copied runs.old) first past d s self.new) }
-        ensures calls { S.reads source.new ≤ S.reads source.old + (S.given source.new - S.given source.old) + 2 }
-        ensures turns { m.new.turns.number + last_words (R.one runs.old) (R.count runs.old) (min self.old.at.block past)
-            ≤ m.old.turns.number + 2 * (S.given source.new - S.given source.old) + 2 + R.one runs.old }
-        ensures words { IfOk result (λ o. m.new.turns.number + last_words (R.one runs.old) (R.count runs.old)
+            IfOk result (λ o. SpentGathering (R.charge runs.now) (R.copied runs.now) first past d s self.new) }
+        ensures costs { WordCosts (last_words (R.one runs.now) (R.count runs.now) (min self.old.at.block past))
+            (R.one runs.now) S.Source source.old source.new m.old m.new }
+        ensures words { IfOk result (λ o. m.new.turns.number + last_words (R.one runs.now) (R.count runs.now)
             (min self.old.at.block past)
-            ≤ m.old.turns.number + 2 * (S.given source.new - S.given source.old) + 2 + last_words (R.one runs.old)
-            (R.count runs.old) (min self.new.at.block past)) }
-        ensures given { S.given source.old ≤ S.given source.new }
-        ensures received { S.given source.new ≤ S.given source.old + 65536 }
-        ensures steps { m.new.steps.number ≡ m.old.steps.number + 1 }
-        ensures greatest { m.new.greatest.number ≡ max m.old.greatest.number (S.given source.new - S.given source.old) }
-        ensures faults { S.read_faults source.old ≤ S.read_faults source.new }
-        ensures clean { OnOk result (S.read_faults source.new ≡ S.read_faults source.old) }
-        ensures cause { IfErr result (λ e. Caused e S.tells (S.read_faults source.old) (S.read_faults source.new)) }
+            ≤ m.old.turns.number + 2 * (S.given source.new - S.given source.old) + 2 + last_words (R.one runs.now)
+            (R.count runs.now) (min self.new.at.block past)) }
+        ensures cause { IfErr result (λ e. RunCaused e S.tells (S.read_faults source.old) (S.read_faults source.new)) }
     {
         let part = match framed_part(runs, source, first, past, self.at, w, m) {
             Ok(part) => part,

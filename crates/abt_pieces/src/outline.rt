@@ -1,7 +1,7 @@
 //! A piece as it is planned: how far it goes, and the numbers that its header needs first.
 ghost use Rattle.std.specs.Prelude.{◌≡◌, ◌<◌, ◌≤◌, ◌+◌, ◌-◌, ◌^◌, ℕ, List, length};
 ghost use Rattle.abt_sparse.specs.Block.{Block, AreBlocks};
-ghost use Rattle.abt_pieces.specs.Contents.{with_part};
+ghost use Rattle.abt_pieces.specs.Contents.{with_blocks};
 ghost use Rattle.abt_pieces.specs.Plan.{Planned, Even, last_kind};
 ghost use Rattle.abt_pieces.specs.Outline.{IsOutline};
 
@@ -64,7 +64,7 @@ fn whole(planner: &Planner, count: u32, size: u32) -> Contents
     requires room { planner.now.weight < 2 ^ 32 }
     requires within { planner.now.at.block ≤ count }
     ensures more { planner.now.at.block < count →
-        result ≡ with_part planner.now.contents (last_kind planner.now.tail planner.now.at.block) RunKind.Skip
+        result ≡ with_blocks planner.now.contents (last_kind planner.now.tail planner.now.at.block) RunKind.Skip
         (count - planner.now.at.block) size }
     ensures same { count ≤ planner.now.at.block → result ≡ planner.now.contents }
     ensures bytes { result.bytes ≤ planner.now.weight }

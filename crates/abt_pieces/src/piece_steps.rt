@@ -1,21 +1,20 @@
 //! One step of cutting: a part of a plan, the header of a piece, or a part of its chunks.
-ghost use Rattle.std.specs.Prelude.{◌≡◌, ◌<◌, ◌≤◌, ◌+◌, ◌-◌, ◌*◌, ◌^◌, ◌++◌, ℕ, List, IsTrue, IfOk, IfErr, OnOk};
-ghost use Rattle.std.specs.Prelude.{Ok, Err, length, take, max, true, false, ◌⊎◌};
+ghost use Rattle.std.specs.Prelude.{◌≡◌, ◌<◌, ◌≤◌, ◌+◌, ◌-◌, ◌*◌, ◌^◌, ◌++◌, ℕ, List, IsTrue, IfOk, IfErr, OnOk, Ok};
+ghost use Rattle.std.specs.Prelude.{Err, length, take, true, false, ◌⊎◌};
 ghost use Rattle.abt_sparse.specs.Block.{Block, AreBlocks};
 ghost use Rattle.abt_sparse.specs.Chunk.{header_record, plain_header};
-ghost use Rattle.abt_pieces.specs.Fault.{HasCause, full_cut};
+ghost use Rattle.abt_pieces.specs.Fault.{CutCause, full_cut};
 ghost use Rattle.abt_pieces.specs.Plan.{Planned, Even, last_words};
 ghost use Rattle.abt_pieces.specs.Outline.{IsOutline, piece_at};
-ghost use Rattle.abt_pieces.specs.Cutter.{SoundPlanner, SoundOutline, SoundStage};
-ghost use Rattle.abt_pieces.specs.Cutter.{TakenPlan, TakenStage, silent_cut, cut_words, ToldPlanner};
-ghost use Rattle.abt_pieces.specs.Cutter.{ToldStage, ToldCutter, OnEnd};
-ghost use Rattle.abt_pieces.specs.Cutter.{coming, is_begun, so_far, planned_left};
-ghost use Rattle.abt_pieces.specs.Cutter.{first_writer, most_raw, cut_left};
-ghost use Rattle.abt_pieces.specs.Image.{IsImage, StageMayCome};
+ghost use Rattle.abt_pieces.specs.Cutter.{SoundOutline, ToldStage, ToldCutter, OnEnd, coming, first_writer, most_raw};
 ghost use Rattle.abt_pieces.specs.SpentStage.{SpentPlan, SpentStage};
 ghost use Rattle.abt_pieces.specs.Stepped.{Stepped};
 ghost use Rattle.abt_pieces.specs.declared.stage.Stage.{Stage};
 ghost use Rattle.abt_pieces.specs.declared.stage.PieceProgress.{PieceProgress};
+ghost use Rattle.abt_io.specs.Lent.{OnlyReads, OnlyWrites, OneStep};
+ghost use Rattle.abt_pieces.specs.Calls.{WordCosts, WriteCosts};
+ghost use Rattle.abt_pieces.specs.Ready.{ReadyPlan, ReadyCutter};
+ghost use Rattle.abt_pieces.specs.PlanStep.{PlanStaged};
 
 use crate::PieceFault;
 use crate::chunk::write_header;
@@ -102,20 +101,14 @@ impl<R: BlockRuns + Drop> Cutter<R> {
         w: &mut Window,
         m: &mut Meter,
     ) -> Result<(), PieceFault>
-        requires few { self.old.made ≤ self.old.start.block }
-        requires sound { SoundPlanner (R.within self.old.runs) self.old.limit self.old.start.block from }
-        requires taken { TakenPlan (R.taken self.old.runs) (R.size self.old.runs) self.old.limit self.old.start from }
-        requires opened { IsTrue S.tells → R.opened self.old.runs (S.content source.old) }
-        requires told { IsTrue S.tells → ToldPlanner (R.place self.old.runs (S.content source.old))
-            (R.size self.old.runs) (R.list self.old.runs (S.content source.old)) from }
+        requires ready { ReadyPlan R.BlockRuns S.Source self.old.runs source.old self.old.limit self.old.made
+            self.old.start from }
         ensures runs { self.new.runs ≡ self.old.runs }
         ensures rest { (self.new.limit ≡ self.old.limit) × (self.new.start ≡ self.old.start) ×
             (self.new.made ≡ self.old.made) }
-        ensures content { IsTrue S.tells → S.content source.new ≡ S.content source.old }
-        ensures frame { S.read_frame source.new ≡ S.read_frame source.old }
-        ensures begun { OnOk result ((is_begun self.new.stage ≡ true) × (so_far self.new.stage ≡ 0)) }
-        ensures sound { OnOk result (SoundStage (R.within self.old.runs) (R.reach self.old.runs) (R.count self.old.runs)
-            (R.size self.old.runs) self.old.limit self.old.start.block self.new.stage) }
+        ensures reads { OnlyReads result S.Source source.old source.new }
+        ensures goes_on { OnOk result (PlanStaged R.BlockRuns self.old.runs self.old.limit self.old.start from.at
+            self.new.stage (S.given source.old) (S.given source.new) m.old m.new) }
         ensures told { IsTrue S.tells →
             OnOk result (ToldStage (R.place self.old.runs (S.content source.old))
             (R.together self.old.runs (S.content source.old)) (R.size self.old.runs)
@@ -124,40 +117,22 @@ impl<R: BlockRuns + Drop> Cutter<R> {
             OnOk result (coming (R.size self.old.runs) self.old.limit (R.list self.old.runs (S.content source.old))
             self.old.start.block self.new.stage ≡ piece_at (R.size self.old.runs) self.old.limit
             (R.list self.old.runs (S.content source.old)) self.old.start.block) }
-        ensures comes { OnOk result ((t : List ℕ) → StageMayCome (R.size self.old.runs) (R.count self.old.runs)
-            self.new.stage t → IsImage (R.size self.old.runs) (R.count self.old.runs) t) }
-        ensures left { OnOk result (cut_left (R.left self.old.runs) (R.count self.old.runs) self.old.start
-            self.new.stage < planned_left (R.left self.old.runs) self.old.start + R.left self.old.runs from.at) }
         ensures refused { IfErr result (λ e. self.new.stage ≡ Stage.Failed e) }
-        ensures given { S.given source.old ≤ S.given source.new }
-        ensures received { S.given source.new ≤ S.given source.old + 65536 }
-        ensures steps { m.new.steps.number ≡ m.old.steps.number + 1 }
-        ensures greatest { m.new.greatest.number ≡ max m.old.greatest.number (S.given source.new - S.given source.old) }
-        ensures taken { OnOk result (TakenStage (R.taken self.old.runs) (R.size self.old.runs) self.old.limit
-            self.old.start self.new.stage) }
-        ensures paid { OnOk result (silent_cut (R.count self.old.runs) self.new.stage
-            < 6 + (S.given source.new - S.given source.old)) }
         ensures spends { (t : ℕ) → SpentPlan (R.charge self.old.runs) (R.copied self.old.runs) (R.size self.old.runs)
             self.old.limit self.old.start t from →
             OnOk result (SpentStage (λ c. R.within self.old.runs c × R.place self.old.runs (S.content source.old) c)
             (R.charge self.old.runs) (R.copied self.old.runs) (R.held self.old.runs) (R.size self.old.runs)
             self.old.limit (R.count self.old.runs) (R.one self.old.runs) self.old.start
             (t + (S.given source.new - S.given source.old)) self.new.stage) }
-        ensures calls { S.reads source.new ≤ S.reads source.old + (S.given source.new - S.given source.old) + 2 }
-        ensures turns { m.new.turns.number + last_words (R.one self.old.runs) (R.count self.old.runs) from.at.block
-            ≤ m.old.turns.number + 2 * (S.given source.new - S.given source.old) + 3 + 3 * R.one self.old.runs }
-        ensures words { OnOk result (m.new.turns.number + last_words (R.one self.old.runs) (R.count self.old.runs)
-            from.at.block ≤ m.old.turns.number + 2 * (S.given source.new - S.given source.old) + 3 + cut_words
-            (R.one self.old.runs) (R.count self.old.runs) self.old.start self.new.stage) }
-        ensures faults { S.read_faults source.old ≤ S.read_faults source.new }
-        ensures clean { OnOk result (S.read_faults source.new ≡ S.read_faults source.old) }
+        ensures costs { WordCosts (last_words (R.one self.old.runs) (R.count self.old.runs) from.at.block)
+            (1 + 3 * R.one self.old.runs) S.Source source.old source.new m.old m.new }
         ensures unwritten { full_cut result ≡ 0 }
-        ensures cause { IfErr result (λ e. HasCause e S.tells (S.read_faults source.old) (S.read_faults source.new) 0
+        ensures cause { IfErr result (λ e. CutCause e S.tells (S.read_faults source.old) (S.read_faults source.new) 0
             0) }
     {
         let mut planner = from;
         let limit = self.limit;
-        match planner.step(&mut self.runs, source, limit, w, m) {
+        match planner.step(&self.runs, source, limit, w, m) {
             Ok(false) => {
                 self.stage = Stage::Plan(planner);
                 Ok(())
@@ -183,17 +158,13 @@ impl<R: BlockRuns + Drop> Cutter<R> {
         w: &mut Window,
         m: &mut Meter,
     ) -> Result<PieceProgress, PieceFault>
-        requires few { self.old.made ≤ self.old.start.block }
+        requires ready { ReadyPlan R.BlockRuns S.Source self.old.runs source.old self.old.limit self.old.made
+            self.old.start from }
         requires at { (self.old.stage ≡ Stage.Plan from) ⊎ ((self.old.stage ≡ Stage.Between) ×
             (from.at ≡ self.old.start)) }
-        requires sound { SoundPlanner (R.within self.old.runs) self.old.limit self.old.start.block from }
-        requires taken { TakenPlan (R.taken self.old.runs) (R.size self.old.runs) self.old.limit self.old.start from }
-        requires opened { IsTrue S.tells → R.opened self.old.runs (S.content source.old) }
         requires told { IsTrue S.tells → ToldCutter (R.place self.old.runs (S.content source.old))
             (R.together self.old.runs (S.content source.old)) (R.size self.old.runs)
             (R.list self.old.runs (S.content source.old)) self.old.limit self.old.made self.old.start self.old.stage }
-        requires planned { IsTrue S.tells → ToldPlanner (R.place self.old.runs (S.content source.old))
-            (R.size self.old.runs) (R.list self.old.runs (S.content source.old)) from }
         ensures stepped { Stepped R.BlockRuns S.Source O.Output result self.old.runs self.new.runs self.old.limit
             self.new.limit self.old.start self.new.start self.old.made self.new.made self.old.stage self.new.stage
             source.old source.new _output.now _output.now m.old m.new }
@@ -218,28 +189,20 @@ impl<R: BlockRuns + Drop> Cutter<R> {
             (self.new.made ≡ self.old.made) }
         ensures small { self.old.limit < 2 ^ 32 }
         ensures fits { (R.size self.old.runs < 2 ^ 32) × (R.count self.old.runs < 2 ^ 32) × (outline.chunks < 2 ^ 32) }
-        ensures write_frame { O.write_frame output.new ≡ O.write_frame output.old }
         ensures stage { OnOk result (self.new.stage ≡ Stage.Write outline (first_writer self.old.start outline
             (most_raw (R.size self.old.runs) self.old.limit))) }
-        ensures grown { length (O.written output.old) ≤ length (O.written output.new) }
+        ensures writes { OnlyWrites result (full_cut result) O.Output output.old output.new }
         ensures within { length (O.written output.new) ≤ length (O.written output.old) + 28 }
         ensures whole { OnOk result (length (O.written output.new) ≡ length (O.written output.old) + 28) }
         ensures front { O.written output.new ≡ O.written output.old ++ take
             (length (O.written output.new) - length (O.written output.old))
             (header_record (plain_header (R.size self.old.runs) (R.count self.old.runs) outline.chunks)) }
         ensures refused { IfErr result (λ e. self.new.stage ≡ Stage.Failed e) }
-        ensures steps { m.new.steps.number ≡ m.old.steps.number + 1 }
-        ensures greatest { m.new.greatest.number ≡ m.old.greatest.number }
-        ensures write_calls { O.writes output.new + length (O.written output.old) ≤ O.writes output.old + length
-            (O.written output.new) + 1 }
-        ensures turns { m.new.turns.number + length (O.written output.old) ≤ m.old.turns.number + length
-            (O.written output.new) + 1 }
-        ensures write_faults { O.write_faults output.old ≤ O.write_faults output.new }
-        ensures clean { OnOk result (O.write_faults output.new ≡ O.write_faults output.old) }
-        ensures full_faults { O.full_faults output.new ≡ O.full_faults output.old + full_cut result }
+        ensures costs { WriteCosts O.Output output.old output.new m.old m.new }
+        ensures one_step { OneStep 0 m.old m.new }
         ensures full { full_cut result ≡ 1 → IsTrue (O.is_full output.new) ×
             (length (O.written output.new) < length (O.written output.old) + 28) }
-        ensures cause { IfErr result (λ e. HasCause e true 0 0 (O.write_faults output.old)
+        ensures cause { IfErr result (λ e. CutCause e true 0 0 (O.write_faults output.old)
             (O.write_faults output.new)) }
     {
         let _limit = self.limit;
@@ -271,17 +234,15 @@ impl<R: BlockRuns + Drop> Cutter<R> {
         m: &mut Meter,
     ) -> Result<PieceProgress, PieceFault>
         requires at { self.old.stage ≡ Stage.Write outline from }
-        requires opened { IsTrue S.tells → R.opened self.old.runs (S.content source.old) }
-        requires told { IsTrue S.tells → ToldCutter (R.place self.old.runs (S.content source.old))
-            (R.together self.old.runs (S.content source.old)) (R.size self.old.runs)
-            (R.list self.old.runs (S.content source.old)) self.old.limit self.old.made self.old.start self.old.stage }
+        requires ready { ReadyCutter R.BlockRuns S.Source self.old.runs source.old self.old.limit self.old.made
+            self.old.start self.old.stage }
         ensures stepped { Stepped R.BlockRuns S.Source O.Output result self.old.runs self.new.runs self.old.limit
             self.new.limit self.old.start self.new.start self.old.made self.new.made self.old.stage self.new.stage
             source.old source.new output.old output.new m.old m.new }
         ensures unended { OnEnd result ⊥ }
     {
         let mut writer = from;
-        match writer.step(&mut self.runs, source, output, w, m) {
+        match writer.step(&self.runs, source, output, w, m) {
             Ok(false) => {
                 self.stage = Stage::Write(outline, writer);
                 Ok(PieceProgress::More)
@@ -304,10 +265,8 @@ impl<R: BlockRuns + Drop> Cutter<R> {
         w: &mut Window,
         m: &mut Meter,
     ) -> Result<PieceProgress, PieceFault>
-        requires opened { IsTrue S.tells → R.opened self.old.runs (S.content source.old) }
-        requires told { IsTrue S.tells → ToldCutter (R.place self.old.runs (S.content source.old))
-            (R.together self.old.runs (S.content source.old)) (R.size self.old.runs)
-            (R.list self.old.runs (S.content source.old)) self.old.limit self.old.made self.old.start self.old.stage }
+        requires ready { ReadyCutter R.BlockRuns S.Source self.old.runs source.old self.old.limit self.old.made
+            self.old.start self.old.stage }
         ensures stepped { Stepped R.BlockRuns S.Source O.Output result self.old.runs self.new.runs self.old.limit
             self.new.limit self.old.start self.new.start self.old.made self.new.made self.old.stage self.new.stage
             source.old source.new output.old output.new m.old m.new }

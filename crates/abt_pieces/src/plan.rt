@@ -1,10 +1,15 @@
 //! How far a piece goes.
-ghost use Rattle.std.specs.Prelude.{◌≡◌, ◌<◌, ◌≤◌, ◌+◌, ◌-◌, ◌*◌, ◌^◌, ℕ, List, length, IsTrue, IfOk, IfErr, OnOk};
-ghost use Rattle.std.specs.Prelude.{false, true, max};
-ghost use Rattle.abt_runs.specs.Part.{Caused, entry};
+ghost use Rattle.std.specs.Prelude.{◌≡◌, ◌<◌, ◌≤◌, ◌+◌, ◌-◌, ◌*◌, ℕ, List, length, IsTrue, IfOk, IfErr, false, true};
+ghost use Rattle.abt_runs.specs.Part.{RunCaused};
 ghost use Rattle.abt_sparse.specs.Block.{Block};
 ghost use Rattle.abt_pieces.specs.Contents.{contents_before};
-ghost use Rattle.abt_pieces.specs.Plan.{Planned, Even, Ends, FirstPiece, last_words, rested};
+ghost use Rattle.abt_pieces.specs.Plan.{Planned, Even, PlanEnds, FirstPiece, last_words};
+ghost use Rattle.abt_io.specs.Lent.{OnlyReads};
+ghost use Rattle.abt_runs.specs.Found.{PartCosts};
+ghost use Rattle.abt_pieces.specs.Calls.{PlanCosts};
+ghost use Rattle.abt_pieces.specs.Ready.{ReadyPlanner};
+ghost use Rattle.abt_pieces.specs.PlanStep.{PlanGoes, PlanRests, Charged};
+ghost use Rattle.abt_pieces.specs.Cutter.{SoundPlanner, ToldPlanner};
 
 use crate::contents::Contents;
 use crate::segment_tail::{Tail, added, last, raw_cap};
@@ -45,61 +50,30 @@ impl Planner {
     #[inline(always)]
     pub fn step<R: BlockRuns, S: Source>(
         &mut self,
-        runs: &mut R,
+        runs: &R,
         source: &mut S,
         limit: u32,
         w: &mut Window,
         m: &mut Meter,
     ) -> Result<bool, RunFault>
-        requires within { R.within runs.old self.old.at }
-        requires told { IsTrue S.tells → R.opened runs.old (S.content source.old) ×
-            R.place runs.old (S.content source.old) self.old.at }
-        requires planned { IsTrue S.tells → Planned (R.size runs.old) (R.list runs.old (S.content source.old))
-            self.old }
-        requires room { self.old.weight ≤ limit }
-        requires even { Even self.old }
-        ensures same { runs.new ≡ runs.old }
-        ensures first { self.new.first ≡ self.old.first }
-        ensures content { IsTrue S.tells → S.content source.new ≡ S.content source.old }
-        ensures frame { S.read_frame source.new ≡ S.read_frame source.old }
-        ensures within { R.within runs.old self.new.at }
-        ensures place { IsTrue S.tells → R.place runs.old (S.content source.old) self.new.at }
-        ensures planned { IsTrue S.tells → Planned (R.size runs.old) (R.list runs.old (S.content source.old)) self.new }
-        ensures room { self.new.weight ≤ limit }
-        ensures even { Even self.new }
+        requires ready { ReadyPlanner R.BlockRuns S.Source runs.now source.old limit self.old }
+        ensures reads { OnlyReads result S.Source source.old source.new }
+        ensures sound { SoundPlanner (R.within runs.now) limit self.old.first self.new }
+        ensures told { IsTrue S.tells → ToldPlanner (R.place runs.now (S.content source.old)) (R.size runs.now)
+            (R.list runs.now (S.content source.old)) self.new }
+        ensures goes_on { IfOk result (λ d. d ≡ false → PlanGoes R.BlockRuns runs.now limit (S.given source.old)
+            (S.given source.new) self.old self.new) }
+        ensures rests { IfOk result (λ d. d ≡ true → PlanRests R.BlockRuns runs.now (S.given source.old)
+            (S.given source.new) self.old self.new) }
         ensures ends { IsTrue S.tells →
-            IfOk result (λ d. IsTrue d → Ends (R.size runs.old) (R.list runs.old (S.content source.old)) limit
+            IfOk result (λ d. IsTrue d → PlanEnds (R.size runs.now) (R.list runs.now (S.content source.old)) limit
             self.new) }
-        ensures on { IfOk result (λ d. d ≡ false → R.left runs.old self.new.at < R.left runs.old self.old.at) }
-        ensures given { S.given source.old ≤ S.given source.new }
-        ensures charged { IfOk result (λ d. d ≡ false → S.given source.new + R.charge runs.old self.old.at
-            ≤ S.given source.old + R.charge runs.old self.new.at + entry self.old.at) }
-        ensures last { IfOk result (λ d. d ≡ true → S.given source.new ≤ S.given source.old + 32 + R.one runs.old) }
-        ensures received { S.given source.new ≤ S.given source.old + 65536 }
-        ensures at_end { IfOk result (λ d. d ≡ true → R.count runs.old ≤ self.old.at.block →
-            S.given source.new ≡ S.given source.old) }
-        ensures still { IfOk result (λ d. d ≡ true → self.new ≡ rested self.old) }
-        ensures rests { IfOk result (λ d. d ≡ true → (R.charge runs.old self.old.at ≤ R.charge runs.old self.new.at) ×
-            (R.taken runs.old self.old.at ≤ R.taken runs.old self.new.at) ×
-            (R.left runs.old self.new.at ≤ R.left runs.old self.old.at)) }
-        ensures onward { IfOk result (λ d. R.copied runs.old self.old.at ≤ R.copied runs.old self.new.at) }
-        ensures inside { IfOk result (λ d. d ≡ false → 0 < self.new.at.used → (self.new.tail ≡ Tail.Raw) ×
-            (limit - self.new.weight < R.size runs.old)) }
-        ensures stuck { 0 < self.old.at.used → self.old.tail ≡ Tail.Raw → limit - self.old.weight < R.size runs.old →
+        ensures onward { IfOk result (λ d. R.copied runs.now self.old.at ≤ R.copied runs.now self.new.at) }
+        ensures stuck { 0 < self.old.at.used → self.old.tail ≡ Tail.Raw → limit - self.old.weight < R.size runs.now →
             IfOk result (λ d. d ≡ true) }
-        ensures takes { IfOk result (λ d. d ≡ false → self.new.contents.bytes + R.taken runs.old self.old.at
-            ≤ self.old.contents.bytes + R.taken runs.old self.new.at + entry self.old.at) }
-        ensures fetched { IfOk result (λ d. d ≡ false → S.given source.old < S.given source.new) }
-        ensures calls { S.reads source.new ≤ S.reads source.old + (S.given source.new - S.given source.old) + 2 }
-        ensures turns { m.new.turns.number
-            ≤ m.old.turns.number + 2 * (S.given source.new - S.given source.old) + 2 + R.padding runs.old self.old.at }
-        ensures words { IfOk result (λ d. d ≡ false → R.padding runs.old self.old.at + last_words (R.one runs.old)
-            (R.count runs.old) self.old.at.block ≤ last_words (R.one runs.old) (R.count runs.old) self.new.at.block) }
-        ensures steps { m.new.steps.number ≡ m.old.steps.number + 1 }
-        ensures greatest { m.new.greatest.number ≡ max m.old.greatest.number (S.given source.new - S.given source.old) }
-        ensures faults { S.read_faults source.old ≤ S.read_faults source.new }
-        ensures clean { OnOk result (S.read_faults source.new ≡ S.read_faults source.old) }
-        ensures cause { IfErr result (λ e. Caused e S.tells (S.read_faults source.old) (S.read_faults source.new)) }
+        ensures costs { PartCosts (R.padding runs.now self.old.at) (S.reads source.old) (S.given source.old)
+            (S.reads source.new) (S.given source.new) m.old m.new }
+        ensures cause { IfErr result (λ e. RunCaused e S.tells (S.read_faults source.old) (S.read_faults source.new)) }
     {
         let size = runs.block_size();
         let room = limit as u64 - self.weight;
@@ -132,51 +106,36 @@ impl Planner {
 
 /// Plans the piece that begins at a place.
 pub fn plan_piece<R: BlockRuns, S: Source>(
-    runs: &mut R,
+    runs: &R,
     source: &mut S,
     from: Cursor,
     limit: u32,
     w: &mut Window,
     m: &mut Meter,
 ) -> Result<Planner, RunFault>
-    requires within { R.within runs.old from }
-    requires told { IsTrue S.tells → R.opened runs.old (S.content source.old) ×
-        R.place runs.old (S.content source.old) from }
-    requires limit { 64 + R.size runs.old ≤ limit }
-    ensures same { runs.new ≡ runs.old }
-    ensures content { IsTrue S.tells → S.content source.new ≡ S.content source.old }
-    ensures frame { S.read_frame source.new ≡ S.read_frame source.old }
-    ensures within { IfOk result (λ p. R.within runs.old p.at) }
-    ensures place { IsTrue S.tells → IfOk result (λ p. R.place runs.old (S.content source.old) p.at) }
+    requires within { R.within runs.now from }
+    requires told { IsTrue S.tells → R.opened runs.now (S.content source.old) ×
+        R.place runs.now (S.content source.old) from }
+    requires limit { 64 + R.size runs.now ≤ limit }
+    ensures reads { OnlyReads result S.Source source.old source.new }
+    ensures sound { IfOk result (λ p. SoundPlanner (R.within runs.now) limit from.block p) }
+    ensures told { IsTrue S.tells → IfOk result (λ p. ToldPlanner (R.place runs.now (S.content source.old))
+        (R.size runs.now) (R.list runs.now (S.content source.old)) p) }
     ensures greatest { IsTrue S.tells →
-        IfOk result (λ p. FirstPiece (R.size runs.old) (R.list runs.old (S.content source.old)) limit from.block
+        IfOk result (λ p. FirstPiece (R.size runs.now) (R.list runs.now (S.content source.old)) limit from.block
         p.at.block) }
-    ensures planned { IsTrue S.tells →
-        IfOk result (λ p. Planned (R.size runs.old) (R.list runs.old (S.content source.old)) p) }
     ensures ends { IsTrue S.tells →
-        IfOk result (λ p. Ends (R.size runs.old) (R.list runs.old (S.content source.old)) limit p) }
-    ensures first { IfOk result (λ p. p.first ≡ from.block) }
-    ensures room { IfOk result (λ p. p.weight ≤ limit) }
-    ensures even { IfOk result (λ p. Even p) }
-    ensures charged { IfOk result (λ p. S.given source.new + R.charge runs.old from ≤ S.given source.old + R.charge
-        runs.old p.at + 48 + R.one runs.old) }
-    ensures charged_end { IfOk result (λ p. R.count runs.old ≤ p.at.block → S.given source.new + R.charge runs.old from
-        ≤ S.given source.old + R.charge runs.old p.at + 16) }
+        IfOk result (λ p. PlanEnds (R.size runs.now) (R.list runs.now (S.content source.old)) limit p) }
+    ensures charges { IfOk result (λ p. Charged (R.charge runs.now) (R.one runs.now) (R.count runs.now) from p.at
+        p.at.block (S.given source.old) (S.given source.new)) }
     ensures fresh { IfOk result (λ p. p.at.ask ≡ 1) }
-    ensures takes { IfOk result (λ p. p.contents.bytes + R.taken runs.old from ≤ R.taken runs.old p.at + 56) }
-    ensures given { S.given source.old ≤ S.given source.new }
-    ensures received { S.given source.new + 65536 * m.old.steps.number
-        ≤ S.given source.old + 65536 * m.new.steps.number }
-    ensures most_received { m.new.greatest.number ≤ max m.old.greatest.number 65536 }
-    ensures calls { S.reads source.new ≤ S.reads source.old + 3 * (S.given source.new - S.given source.old) + 2 }
-    ensures turns { m.new.turns.number
-        ≤ m.old.turns.number + 5 * (S.given source.new - S.given source.old) + 2 + 2 * R.one runs.old }
-    ensures words { IfOk result (λ p. m.new.turns.number + last_words (R.one runs.old) (R.count runs.old) from.block
-        ≤ m.old.turns.number + 5 * (S.given source.new - S.given source.old) + 2 + last_words (R.one runs.old)
-        (R.count runs.old) p.at.block + last_words (R.one runs.old) (R.count runs.old) (p.at.block + 1)) }
-    ensures faults { S.read_faults source.old ≤ S.read_faults source.new }
-    ensures clean { OnOk result (S.read_faults source.new ≡ S.read_faults source.old) }
-    ensures cause { IfErr result (λ e. Caused e S.tells (S.read_faults source.old) (S.read_faults source.new)) }
+    ensures takes { IfOk result (λ p. p.contents.bytes + R.taken runs.now from ≤ R.taken runs.now p.at + 56) }
+    ensures costs { PlanCosts (R.one runs.now) (S.reads source.old) (S.given source.old) (S.reads source.new)
+        (S.given source.new) m.old m.new }
+    ensures words { IfOk result (λ p. m.new.turns.number + last_words (R.one runs.now) (R.count runs.now) from.block
+        ≤ m.old.turns.number + 5 * (S.given source.new - S.given source.old) + 2 + last_words (R.one runs.now)
+        (R.count runs.now) p.at.block + last_words (R.one runs.now) (R.count runs.now) (p.at.block + 1)) }
+    ensures cause { IfErr result (λ e. RunCaused e S.tells (S.read_faults source.old) (S.read_faults source.new)) }
 {
     let mut planner = Planner::begin(from);
     while !planner.step(runs, source, limit, w, m)? {

@@ -1,20 +1,21 @@
 //! Writing the chunks of an image: one for each of its runs, a raw run in several.
-ghost use Rattle.std.specs.Prelude.{◌≡◌, ℕ, List, [], ◌<◌, ◌≤◌, ◌+◌, ◌-◌, ◌*◌, ◌^◌, ◌++◌, IsTrue, IfOk, IfErr, OnOk};
-ghost use Rattle.std.specs.Prelude.{length, take, drop, min, max, true, false};
+ghost use Rattle.std.specs.Prelude.{◌≡◌, ℕ, [], ◌<◌, ◌≤◌, ◌+◌, ◌-◌, ◌*◌, ◌^◌, IsTrue, IfOk, IfErr, OnOk, length, min};
+ghost use Rattle.std.specs.Prelude.{true, false};
 ghost use Rattle.abt_runs.specs.Part.{is_end as ends};
-ghost use Rattle.abt_pieces.specs.Fault.{HasCause, full_cut};
-ghost use Rattle.abt_pieces.specs.Calls.{Failing, devices};
+ghost use Rattle.abt_pieces.specs.Fault.{CutCause, full_cut};
+ghost use Rattle.abt_pieces.specs.Calls.{WordCosts};
 ghost use Rattle.abt_pieces.specs.Contents.{head_len as length_of_head};
 ghost use Rattle.abt_pieces.specs.Cutter.{first_writer};
-ghost use Rattle.abt_pieces.specs.Write.{front_bytes, chunk_len, ChunkCause, front_begun, run_begun, run_front, run_head};
-ghost use Rattle.abt_pieces.specs.Write.{next_blocks, opened_with, chunk_opened, next_copying};
-ghost use Rattle.abt_pieces.specs.Write.{copied_on, rest_of, frame_of, SoundWriter, ToldWriter, write_left};
-ghost use Rattle.abt_pieces.specs.Write.{silent_write, writer_words};
-ghost use Rattle.abt_pieces.specs.Image.{Leads, MayCome};
+ghost use Rattle.abt_pieces.specs.Write.{front_bytes, chunk_len, ChunkCause, front_begun, run_begun, run_front};
+ghost use Rattle.abt_pieces.specs.Write.{run_head, next_blocks, opened_with, chunk_opened, next_copying, copied_on};
+ghost use Rattle.abt_pieces.specs.Write.{rest_of, frame_of, ToldWriter, silent_write};
+ghost use Rattle.abt_pieces.specs.Image.{MayCome};
 ghost use Rattle.abt_runs.specs.declared.part.Cursor.{Cursor};
 ghost use Rattle.abt_pieces.specs.Plan.{last_words};
 ghost use Rattle.abt_pieces.specs.Spent.{Spent};
-ghost use Rattle.abt_pieces.specs.Step.{StepCosts};
+ghost use Rattle.abt_io.specs.Lent.{OnlyReads, NoStep, OneStep};
+ghost use Rattle.abt_pieces.specs.Ready.{ReadyWriter};
+ghost use Rattle.abt_pieces.specs.WriterStep.{ChunkBegun, RawGoes, WriterStepped};
 
 use crate::PieceFault;
 use crate::chunk::write_front;
@@ -144,33 +145,12 @@ impl Writer {
     ) -> Result<(), PieceFault>
         requires small { chunk_len kind blocks size < 2 ^ 32 }
         ensures ok { OnOk result (self.new ≡ front_begun self.old kind) }
-        ensures segment { (self.new.first ≡ self.old.first) × (self.new.past ≡ self.old.past) ×
-            (self.new.most ≡ self.old.most) }
         ensures room { OnOk result ((0 < self.old.chunks) × (chunk_len kind blocks size ≤ self.old.bytes)) }
-        ensures written { OnOk result (O.written output.new ≡ O.written output.old ++ front_bytes kind blocks
-            (chunk_len kind blocks size)) }
-        ensures front { O.written output.new ≡ O.written output.old ++ take
-            (length (O.written output.new) - length (O.written output.old))
-            (front_bytes kind blocks (chunk_len kind blocks size)) }
-        ensures grown { length (O.written output.old) ≤ length (O.written output.new) }
-        ensures within { length (O.written output.new) ≤ length (O.written output.old) + self.old.bytes }
-        ensures few { length (O.written output.new) ≤ length (O.written output.old) + 16 }
-        ensures whole { OnOk result (length (O.written output.new) ≡ length (O.written output.old) + length_of_head
-            kind) }
-        ensures frame { O.write_frame output.new ≡ O.write_frame output.old }
-        ensures faults { O.write_faults output.old ≤ O.write_faults output.new }
-        ensures clean { OnOk result (O.write_faults output.new ≡ O.write_faults output.old) }
-        ensures full_faults { O.full_faults output.new ≡ O.full_faults output.old + full_cut result }
-        ensures full { full_cut result ≡ 1 → IsTrue (O.is_full output.new) ×
-            (length (O.written output.new) < length (O.written output.old) + self.old.bytes) }
+        ensures put { ChunkBegun result (length_of_head kind) (front_bytes kind blocks (chunk_len kind blocks size))
+            O.Output self.old self.new output.old output.new m.old m.new }
         ensures cause { IfErr result (λ e. ChunkCause e self.old.chunks self.old.bytes
             (chunk_len kind blocks size) (O.write_faults output.old) (O.write_faults output.new)) }
-        ensures calls { O.writes output.new + length (O.written output.old) ≤ O.writes output.old + length
-            (O.written output.new) + 1 }
-        ensures turns { m.new.turns.number + length (O.written output.old) ≤ m.old.turns.number + length
-            (O.written output.new) + 1 }
-        ensures steps { m.new.steps.number ≡ m.old.steps.number }
-        ensures greatest { m.new.greatest.number ≡ m.old.greatest.number }
+        ensures no_step { NoStep m.old m.new }
     {
         let head = head_len(kind);
         let total = head + copied_len(kind, blocks, size);
@@ -196,32 +176,13 @@ impl Writer {
         m: &mut Meter,
     ) -> Result<(), PieceFault>
         ensures ok { OnOk result (self.new ≡ run_begun self.old run) }
-        ensures segment { (self.new.first ≡ self.old.first) × (self.new.past ≡ self.old.past) ×
-            (self.new.most ≡ self.old.most) }
         ensures room { OnOk result (run_head run.kind ≤ self.old.bytes) }
         ensures some { OnOk result (0 < run_head run.kind → 0 < self.old.chunks) }
-        ensures written { OnOk result (O.written output.new ≡ O.written output.old ++ run_front run.kind run.blocks) }
-        ensures front { O.written output.new ≡ O.written output.old ++ take
-            (length (O.written output.new) - length (O.written output.old)) (run_front run.kind run.blocks) }
-        ensures grown { length (O.written output.old) ≤ length (O.written output.new) }
-        ensures within { length (O.written output.new) ≤ length (O.written output.old) + self.old.bytes }
-        ensures few { length (O.written output.new) ≤ length (O.written output.old) + 16 }
-        ensures whole { OnOk result (length (O.written output.new) ≡ length (O.written output.old) + run_head
-            run.kind) }
-        ensures frame { O.write_frame output.new ≡ O.write_frame output.old }
-        ensures faults { O.write_faults output.old ≤ O.write_faults output.new }
-        ensures clean { OnOk result (O.write_faults output.new ≡ O.write_faults output.old) }
-        ensures full_faults { O.full_faults output.new ≡ O.full_faults output.old + full_cut result }
-        ensures full { full_cut result ≡ 1 → IsTrue (O.is_full output.new) ×
-            (length (O.written output.new) < length (O.written output.old) + self.old.bytes) }
+        ensures put { ChunkBegun result (run_head run.kind) (run_front run.kind run.blocks) O.Output self.old self.new
+            output.old output.new m.old m.new }
         ensures cause { IfErr result (λ e. ChunkCause e self.old.chunks self.old.bytes (length_of_head run.kind)
             (O.write_faults output.old) (O.write_faults output.new)) }
-        ensures calls { O.writes output.new + length (O.written output.old) ≤ O.writes output.old + length
-            (O.written output.new) + 1 }
-        ensures turns { m.new.turns.number + length (O.written output.old) ≤ m.old.turns.number + length
-            (O.written output.new) + 1 }
-        ensures steps { m.new.steps.number ≡ m.old.steps.number }
-        ensures greatest { m.new.greatest.number ≡ m.old.greatest.number }
+        ensures no_step { NoStep m.old m.new }
     {
         match run.kind {
             RunKind::Raw => {
@@ -252,34 +213,14 @@ impl Writer {
     ) -> Result<(), PieceFault>
         requires small { 12 + self.old.most * size < 2 ^ 32 }
         ensures ok { OnOk result (self.new ≡ chunk_opened self.old copying size) }
-        ensures segment { (self.new.first ≡ self.old.first) × (self.new.past ≡ self.old.past) ×
-            (self.new.most ≡ self.old.most) }
         ensures room { OnOk result ((0 < self.old.chunks) ×
             (12 + next_blocks copying self.old.most * size ≤ self.old.bytes)) }
-        ensures written { OnOk result (O.written output.new ≡ O.written output.old ++ front_bytes RunKind.Raw
-            (next_blocks copying self.old.most) (12 + next_blocks copying self.old.most * size)) }
-        ensures front { O.written output.new ≡ O.written output.old ++ take
-            (length (O.written output.new) - length (O.written output.old))
-            (front_bytes RunKind.Raw (next_blocks copying self.old.most)
-            (12 + next_blocks copying self.old.most * size)) }
-        ensures grown { length (O.written output.old) ≤ length (O.written output.new) }
-        ensures within { length (O.written output.new) ≤ length (O.written output.old) + self.old.bytes }
-        ensures few { length (O.written output.new) ≤ length (O.written output.old) + 16 }
-        ensures whole { OnOk result (length (O.written output.new) ≡ length (O.written output.old) + 12) }
-        ensures frame { O.write_frame output.new ≡ O.write_frame output.old }
-        ensures faults { O.write_faults output.old ≤ O.write_faults output.new }
-        ensures clean { OnOk result (O.write_faults output.new ≡ O.write_faults output.old) }
-        ensures full_faults { O.full_faults output.new ≡ O.full_faults output.old + full_cut result }
-        ensures full { full_cut result ≡ 1 → IsTrue (O.is_full output.new) ×
-            (length (O.written output.new) < length (O.written output.old) + self.old.bytes) }
+        ensures put { ChunkBegun result 12 (front_bytes RunKind.Raw (next_blocks copying self.old.most)
+            (12 + next_blocks copying self.old.most * size)) O.Output self.old self.new output.old output.new m.old
+            m.new }
         ensures cause { IfErr result (λ e. ChunkCause e self.old.chunks self.old.bytes
             (12 + next_blocks copying self.old.most * size) (O.write_faults output.old) (O.write_faults output.new)) }
-        ensures calls { O.writes output.new + length (O.written output.old) ≤ O.writes output.old + length
-            (O.written output.new) + 1 }
-        ensures turns { m.new.turns.number + length (O.written output.old) ≤ m.old.turns.number + length
-            (O.written output.new) + 1 }
-        ensures steps { m.new.steps.number ≡ m.old.steps.number + 1 }
-        ensures greatest { m.new.greatest.number ≡ max m.old.greatest.number 0 }
+        ensures one_step { OneStep 0 m.old m.new }
     {
         m.close_step(0);
         let blocks = copying.after.min(self.most);
@@ -296,68 +237,17 @@ impl Writer {
     #[inline(always)]
     fn look<R: BlockRuns, S: Source, O: Output>(
         &mut self,
-        runs: &mut R,
+        runs: &R,
         source: &mut S,
         output: &mut O,
         w: &mut Window,
         m: &mut Meter,
     ) -> Result<(), PieceFault>
-        requires sound { SoundWriter (R.within runs.old) (R.reach runs.old) (R.count runs.old) (R.size runs.old)
-            self.old }
-        requires opened { IsTrue S.tells → R.opened runs.old (S.content source.old) }
-        requires told { IsTrue S.tells → ToldWriter (R.place runs.old (S.content source.old))
-            (R.together runs.old (S.content source.old)) (R.list runs.old (S.content source.old)) self.old }
+        requires ready { ReadyWriter R.BlockRuns S.Source runs.now source.old self.old }
         requires none { self.old.copying ≡ None }
         requires going { ends self.old.gatherer.kind ≡ false }
-        ensures same { runs.new ≡ runs.old }
-        ensures content { IsTrue S.tells → S.content source.new ≡ S.content source.old }
-        ensures frame { S.read_frame source.new ≡ S.read_frame source.old }
-        ensures sound { OnOk result (SoundWriter (R.within runs.old) (R.reach runs.old) (R.count runs.old)
-            (R.size runs.old) self.new) }
-        ensures told { IsTrue S.tells →
-            OnOk result (ToldWriter (R.place runs.old (S.content source.old))
-            (R.together runs.old (S.content source.old)) (R.list runs.old (S.content source.old)) self.new) }
-        ensures segment { (self.new.first ≡ self.old.first) × (self.new.past ≡ self.old.past) ×
-            (self.new.most ≡ self.old.most) }
-        ensures within { length (O.written output.new) ≤ length (O.written output.old) + self.old.bytes }
-        ensures counted { OnOk result (length (O.written output.new) + self.new.bytes
-            ≡ length (O.written output.old) + self.old.bytes) }
-        ensures front { IsTrue S.tells → O.written output.new ≡ O.written output.old ++ take
-            (length (O.written output.new) - length (O.written output.old))
-            (rest_of (frame_of (R.list runs.old (S.content source.old)) self.old) self.old) }
-        ensures rest { IsTrue S.tells →
-            OnOk result (rest_of (frame_of (R.list runs.old (S.content source.old)) self.old) self.new
-            ≡ drop (length (O.written output.new) - length (O.written output.old))
-            (rest_of (frame_of (R.list runs.old (S.content source.old)) self.old) self.old)) }
-        ensures leads { OnOk result (Leads (MayCome (R.size runs.old) (R.count runs.old) self.old)
-            (MayCome (R.size runs.old) (R.count runs.old) self.new) (O.written output.old) (O.written output.new)) }
-        ensures write_frame { O.write_frame output.new ≡ O.write_frame output.old }
-        ensures cause { IfErr result (λ e. HasCause e S.tells (S.read_faults source.old) (S.read_faults source.new)
-            (O.write_faults output.old) (O.write_faults output.new)) }
-        ensures left { OnOk result (write_left (R.left runs.old) (R.count runs.old) self.new
-            < write_left (R.left runs.old) (R.count runs.old) self.old) }
-        ensures paid { OnOk result (silent_write (R.count runs.old) self.new < silent_write (R.count runs.old)
-            self.old + (S.given source.new - S.given source.old) + (length (O.written output.new) - length
-            (O.written output.old))) }
-        ensures spends { IsTrue S.tells → (d : Cursor) → R.within runs.old d → R.place runs.old (S.content source.old) d
-            → d.block ≡ self.old.past → d.ask ≡ 1 → (s t : ℕ) →
-            Spent (λ c. R.within runs.old c × R.place runs.old (S.content source.old) c) (R.charge runs.old)
-            (R.copied runs.old) (R.held runs.old) d s t self.old →
-            OnOk result (Spent (λ c. R.within runs.old c × R.place runs.old (S.content source.old) c)
-            (R.charge runs.old) (R.copied runs.old) (R.held runs.old) d s
-            (t + (S.given source.new - S.given source.old)) self.new) }
-        ensures words { OnOk result (m.new.turns.number + writer_words (R.one runs.old) (R.count runs.old) self.old
-            ≤ m.old.turns.number + 2 * (S.given source.new - S.given source.old) + (length
-            (O.written output.new) - length (O.written output.old)) + 3 + writer_words (R.one runs.old)
-            (R.count runs.old) self.new) }
-        ensures costs { StepCosts (writer_words (R.one runs.old) (R.count runs.old) self.old) (2 * R.one runs.old)
-            (devices S.Source O.Output source.old output.old)
-            (devices S.Source O.Output source.new output.new) m.old m.new }
-        ensures failing { Failing result (devices S.Source O.Output source.old output.old)
-            (devices S.Source O.Output source.new output.new) }
-        ensures full_faults { O.full_faults output.new ≡ O.full_faults output.old + full_cut result }
-        ensures full { full_cut result ≡ 1 → IsTrue (O.is_full output.new) ×
-            (length (O.written output.new) < length (O.written output.old) + self.old.bytes) }
+        ensures stepped { WriterStepped R.BlockRuns S.Source O.Output result (OnOk result) runs.now self.old
+            self.new source.old source.new output.old output.new m.old m.new }
     {
         let size = runs.block_size();
         let mut gatherer = self.gatherer;
@@ -378,61 +268,38 @@ impl Writer {
     fn next_raw<R: BlockRuns, S: Source>(
         &mut self,
         copying: Copying,
-        runs: &mut R,
+        runs: &R,
         source: &mut S,
         w: &mut Window,
         m: &mut Meter,
     ) -> Result<(), PieceFault>
-        requires sound { SoundWriter (R.within runs.old) (R.reach runs.old) (R.count runs.old) (R.size runs.old)
-            self.old }
-        requires opened { IsTrue S.tells → R.opened runs.old (S.content source.old) }
-        requires told { IsTrue S.tells → ToldWriter (R.place runs.old (S.content source.old))
-            (R.together runs.old (S.content source.old)) (R.list runs.old (S.content source.old)) self.old }
+        requires ready { ReadyWriter R.BlockRuns S.Source runs.now source.old self.old }
         requires is { self.old.copying ≡ Some copying }
         requires whole { copying.done ≡ copying.size }
         requires remains { 0 < copying.left }
-        ensures same { runs.new ≡ runs.old }
-        ensures content { IsTrue S.tells → S.content source.new ≡ S.content source.old }
-        ensures frame { S.read_frame source.new ≡ S.read_frame source.old }
-        ensures sound { OnOk result (SoundWriter (R.within runs.old) (R.reach runs.old) (R.count runs.old)
-            (R.size runs.old) self.new) }
+        ensures reads { OnlyReads result S.Source source.old source.new }
         ensures told { IsTrue S.tells →
-            OnOk result (ToldWriter (R.place runs.old (S.content source.old))
-            (R.together runs.old (S.content source.old)) (R.list runs.old (S.content source.old)) self.new) }
+            OnOk result (ToldWriter (R.place runs.now (S.content source.old))
+            (R.together runs.now (S.content source.old)) (R.list runs.now (S.content source.old)) self.new) }
         ensures segment { (self.new.first ≡ self.old.first) × (self.new.past ≡ self.old.past) ×
             (self.new.most ≡ self.old.most) }
         ensures bytes { self.new.bytes ≡ self.old.bytes }
         ensures rest { IsTrue S.tells →
-            OnOk result (rest_of (frame_of (R.list runs.old (S.content source.old)) self.old) self.new
-            ≡ rest_of (frame_of (R.list runs.old (S.content source.old)) self.old) self.old) }
-        ensures comes { OnOk result ((t : List ℕ) → MayCome (R.size runs.old) (R.count runs.old) self.new t →
-            MayCome (R.size runs.old) (R.count runs.old) self.old t) }
-        ensures left { OnOk result (write_left (R.left runs.old) (R.count runs.old) self.new
-            < write_left (R.left runs.old) (R.count runs.old) self.old) }
-        ensures given { S.given source.old ≤ S.given source.new }
-        ensures paid { OnOk result (silent_write (R.count runs.old) self.new < silent_write (R.count runs.old)
-            self.old + (S.given source.new - S.given source.old)) }
-        ensures spends { IsTrue S.tells → (d : Cursor) → R.within runs.old d → R.place runs.old (S.content source.old) d
+            OnOk result (rest_of (frame_of (R.list runs.now (S.content source.old)) self.old) self.new
+            ≡ rest_of (frame_of (R.list runs.now (S.content source.old)) self.old) self.old) }
+        ensures goes_on { OnOk result (RawGoes R.BlockRuns runs.now self.old self.new (S.given source.old)
+            (S.given source.new) m.old m.new) }
+        ensures spends { IsTrue S.tells → (d : Cursor) → R.within runs.now d → R.place runs.now (S.content source.old) d
             → d.block ≡ self.old.past → d.ask ≡ 1 → (s t : ℕ) →
-            Spent (λ c. R.within runs.old c × R.place runs.old (S.content source.old) c) (R.charge runs.old)
-            (R.copied runs.old) (R.held runs.old) d s t self.old →
-            OnOk result (Spent (λ c. R.within runs.old c × R.place runs.old (S.content source.old) c)
-            (R.charge runs.old) (R.copied runs.old) (R.held runs.old) d s
+            Spent (λ c. R.within runs.now c × R.place runs.now (S.content source.old) c) (R.charge runs.now)
+            (R.copied runs.now) (R.held runs.now) d s t self.old →
+            OnOk result (Spent (λ c. R.within runs.now c × R.place runs.now (S.content source.old) c)
+            (R.charge runs.now) (R.copied runs.now) (R.held runs.now) d s
             (t + (S.given source.new - S.given source.old)) self.new) }
-        ensures calls { S.reads source.new ≤ S.reads source.old + (S.given source.new - S.given source.old) + 2 }
-        ensures turns { m.new.turns.number + last_words (R.one runs.old) (R.count runs.old)
-            (min copying.next.block self.old.past)
-            ≤ m.old.turns.number + 2 * (S.given source.new - S.given source.old) + 2 + R.one runs.old }
-        ensures words { OnOk result (m.new.turns.number + writer_words (R.one runs.old) (R.count runs.old) self.old
-            ≤ m.old.turns.number + 2 * (S.given source.new - S.given source.old) + 2 + writer_words (R.one runs.old)
-            (R.count runs.old) self.new) }
-        ensures received { S.given source.new ≤ S.given source.old + 65536 }
-        ensures steps { m.new.steps.number ≡ m.old.steps.number + 1 }
-        ensures greatest { m.new.greatest.number ≡ max m.old.greatest.number (S.given source.new - S.given source.old) }
-        ensures faults { S.read_faults source.old ≤ S.read_faults source.new }
-        ensures clean { OnOk result (S.read_faults source.new ≡ S.read_faults source.old) }
+        ensures costs { WordCosts (last_words (R.one runs.now) (R.count runs.now)
+            (min copying.next.block self.old.past)) (R.one runs.now) S.Source source.old source.new m.old m.new }
         ensures unwritten { full_cut result ≡ 0 }
-        ensures cause { IfErr result (λ e. HasCause e S.tells (S.read_faults source.old) (S.read_faults source.new) 0
+        ensures cause { IfErr result (λ e. CutCause e S.tells (S.read_faults source.old) (S.read_faults source.new) 0
             0) }
     {
         let until = self.gatherer.at.block - self.gatherer.count;
@@ -456,68 +323,20 @@ impl Writer {
     fn copy_bytes<R: BlockRuns, S: Source, O: Output>(
         &mut self,
         copying: Copying,
-        runs: &mut R,
+        runs: &R,
         source: &mut S,
         output: &mut O,
         w: &mut Window,
         m: &mut Meter,
     ) -> Result<(), PieceFault>
-        requires sound { SoundWriter (R.within runs.old) (R.reach runs.old) (R.count runs.old) (R.size runs.old)
-            self.old }
-        requires opened { IsTrue S.tells → R.opened runs.old (S.content source.old) }
-        requires told { IsTrue S.tells → ToldWriter (R.place runs.old (S.content source.old))
-            (R.together runs.old (S.content source.old)) (R.list runs.old (S.content source.old)) self.old }
+        requires ready { ReadyWriter R.BlockRuns S.Source runs.now source.old self.old }
         requires is { self.old.copying ≡ Some copying }
         requires more { copying.done < copying.size }
         requires remains { 0 < copying.left }
-        ensures same { runs.new ≡ runs.old }
-        ensures content { IsTrue S.tells → S.content source.new ≡ S.content source.old }
-        ensures frame { S.read_frame source.new ≡ S.read_frame source.old }
-        ensures sound { OnOk result (SoundWriter (R.within runs.old) (R.reach runs.old) (R.count runs.old)
-            (R.size runs.old) self.new) }
-        ensures told { IsTrue S.tells →
-            OnOk result (ToldWriter (R.place runs.old (S.content source.old))
-            (R.together runs.old (S.content source.old)) (R.list runs.old (S.content source.old)) self.new) }
-        ensures segment { (self.new.first ≡ self.old.first) × (self.new.past ≡ self.old.past) ×
-            (self.new.most ≡ self.old.most) }
-        ensures within { length (O.written output.new) ≤ length (O.written output.old) + self.old.bytes }
-        ensures counted { OnOk result (length (O.written output.new) + self.new.bytes
-            ≡ length (O.written output.old) + self.old.bytes) }
-        ensures front { IsTrue S.tells → O.written output.new ≡ O.written output.old ++ take
-            (length (O.written output.new) - length (O.written output.old))
-            (rest_of (frame_of (R.list runs.old (S.content source.old)) self.old) self.old) }
-        ensures rest { IsTrue S.tells →
-            OnOk result (rest_of (frame_of (R.list runs.old (S.content source.old)) self.old) self.new
-            ≡ drop (length (O.written output.new) - length (O.written output.old))
-            (rest_of (frame_of (R.list runs.old (S.content source.old)) self.old) self.old)) }
-        ensures leads { OnOk result (Leads (MayCome (R.size runs.old) (R.count runs.old) self.old)
-            (MayCome (R.size runs.old) (R.count runs.old) self.new) (O.written output.old) (O.written output.new)) }
-        ensures write_frame { O.write_frame output.new ≡ O.write_frame output.old }
-        ensures cause { IfErr result (λ e. HasCause e S.tells (S.read_faults source.old) (S.read_faults source.new)
-            (O.write_faults output.old) (O.write_faults output.new)) }
-        ensures left { OnOk result (write_left (R.left runs.old) (R.count runs.old) self.new
-            < write_left (R.left runs.old) (R.count runs.old) self.old) }
-        ensures paid { OnOk result (silent_write (R.count runs.old) self.new < silent_write (R.count runs.old)
+        ensures stepped { WriterStepped R.BlockRuns S.Source O.Output result (OnOk result) runs.now self.old
+            self.new source.old source.new output.old output.new m.old m.new }
+        ensures paid { OnOk result (silent_write (R.count runs.now) self.new < silent_write (R.count runs.now)
             self.old + (length (O.written output.new) - length (O.written output.old))) }
-        ensures spends { IsTrue S.tells → (d : Cursor) → R.within runs.old d → R.place runs.old (S.content source.old) d
-            → d.block ≡ self.old.past → d.ask ≡ 1 → (s t : ℕ) →
-            Spent (λ c. R.within runs.old c × R.place runs.old (S.content source.old) c) (R.charge runs.old)
-            (R.copied runs.old) (R.held runs.old) d s t self.old →
-            OnOk result (Spent (λ c. R.within runs.old c × R.place runs.old (S.content source.old) c)
-            (R.charge runs.old) (R.copied runs.old) (R.held runs.old) d s
-            (t + (S.given source.new - S.given source.old)) self.new) }
-        ensures words { OnOk result (m.new.turns.number + writer_words (R.one runs.old) (R.count runs.old) self.old
-            ≤ m.old.turns.number + 2 * (S.given source.new - S.given source.old) + (length
-            (O.written output.new) - length (O.written output.old)) + 3 + writer_words (R.one runs.old)
-            (R.count runs.old) self.new) }
-        ensures costs { StepCosts (writer_words (R.one runs.old) (R.count runs.old) self.old) (2 * R.one runs.old)
-            (devices S.Source O.Output source.old output.old)
-            (devices S.Source O.Output source.new output.new) m.old m.new }
-        ensures failing { Failing result (devices S.Source O.Output source.old output.old)
-            (devices S.Source O.Output source.new output.new) }
-        ensures full_faults { O.full_faults output.new ≡ O.full_faults output.old + full_cut result }
-        ensures full { full_cut result ≡ 1 → IsTrue (O.is_full output.new) ×
-            (length (O.written output.new) < length (O.written output.old) + self.old.bytes) }
     {
         let part = copying.size - copying.done;
         let ask = part.min(copying.left).min(WINDOW as u64) as usize;
@@ -550,75 +369,24 @@ impl Writer {
     #[inline(always)]
     pub fn step<R: BlockRuns, S: Source, O: Output>(
         &mut self,
-        runs: &mut R,
+        runs: &R,
         source: &mut S,
         output: &mut O,
         w: &mut Window,
         m: &mut Meter,
     ) -> Result<bool, PieceFault>
-        requires sound { SoundWriter (R.within runs.old) (R.reach runs.old) (R.count runs.old) (R.size runs.old)
-            self.old }
-        requires opened { IsTrue S.tells → R.opened runs.old (S.content source.old) }
-        requires told { IsTrue S.tells → ToldWriter (R.place runs.old (S.content source.old))
-            (R.together runs.old (S.content source.old)) (R.list runs.old (S.content source.old)) self.old }
-        ensures same { runs.new ≡ runs.old }
-        ensures content { IsTrue S.tells → S.content source.new ≡ S.content source.old }
-        ensures frame { S.read_frame source.new ≡ S.read_frame source.old }
-        ensures sound { OnOk result (SoundWriter (R.within runs.old) (R.reach runs.old) (R.count runs.old)
-            (R.size runs.old) self.new) }
-        ensures told { IsTrue S.tells →
-            OnOk result (ToldWriter (R.place runs.old (S.content source.old))
-            (R.together runs.old (S.content source.old)) (R.list runs.old (S.content source.old)) self.new) }
-        ensures segment { (self.new.first ≡ self.old.first) × (self.new.past ≡ self.old.past) ×
-            (self.new.most ≡ self.old.most) }
-        ensures within { length (O.written output.new) ≤ length (O.written output.old) + self.old.bytes }
-        ensures counted { OnOk result (length (O.written output.new) + self.new.bytes
-            ≡ length (O.written output.old) + self.old.bytes) }
-        ensures front { IsTrue S.tells → O.written output.new ≡ O.written output.old ++ take
-            (length (O.written output.new) - length (O.written output.old))
-            (rest_of (frame_of (R.list runs.old (S.content source.old)) self.old) self.old) }
-        ensures rest { IsTrue S.tells →
-            OnOk result (rest_of (frame_of (R.list runs.old (S.content source.old)) self.old) self.new
-            ≡ drop (length (O.written output.new) - length (O.written output.old))
-            (rest_of (frame_of (R.list runs.old (S.content source.old)) self.old) self.old)) }
-        ensures leads { IfOk result (λ d. d ≡ false → Leads (MayCome (R.size runs.old) (R.count runs.old) self.old)
-            (MayCome (R.size runs.old) (R.count runs.old) self.new) (O.written output.old) (O.written output.new)) }
-        ensures all { IfOk result (λ d. d ≡ true → MayCome (R.size runs.old) (R.count runs.old) self.old []) }
-        ensures write_frame { O.write_frame output.new ≡ O.write_frame output.old }
-        ensures cause { IfErr result (λ e. HasCause e S.tells (S.read_faults source.old) (S.read_faults source.new)
-            (O.write_faults output.old) (O.write_faults output.new)) }
-        ensures left { IfOk result (λ d. d ≡ false → write_left (R.left runs.old) (R.count runs.old) self.new
-            < write_left (R.left runs.old) (R.count runs.old) self.old) }
+        requires ready { ReadyWriter R.BlockRuns S.Source runs.now source.old self.old }
+        ensures stepped { WriterStepped R.BlockRuns S.Source O.Output result (λ p. IfOk result (λ d. d ≡ false → p))
+            runs.now self.old self.new source.old source.new output.old output.new m.old m.new }
+        ensures all { IfOk result (λ d. d ≡ true → MayCome (R.size runs.now) (R.count runs.now) self.old []) }
         ensures ended { IfOk result (λ d. d ≡ true → (self.old.bytes ≡ 0) ×
             (O.written output.new ≡ O.written output.old)) }
-        ensures paid { IfOk result (λ d. d ≡ false → silent_write (R.count runs.old) self.new
-            < silent_write (R.count runs.old) self.old + (S.given source.new - S.given source.old) + (length
-            (O.written output.new) - length (O.written output.old))) }
-        ensures spends { IsTrue S.tells → (d : Cursor) → R.within runs.old d → R.place runs.old (S.content source.old) d
+        ensures spent { IsTrue S.tells → (d : Cursor) → R.within runs.now d → R.place runs.now (S.content source.old) d
             → d.block ≡ self.old.past → d.ask ≡ 1 → (s t : ℕ) →
-            Spent (λ c. R.within runs.old c × R.place runs.old (S.content source.old) c) (R.charge runs.old)
-            (R.copied runs.old) (R.held runs.old) d s t self.old →
-            IfOk result (λ _. Spent (λ c. R.within runs.old c × R.place runs.old (S.content source.old) c)
-            (R.charge runs.old) (R.copied runs.old) (R.held runs.old) d s
-            (t + (S.given source.new - S.given source.old)) self.new) }
-        ensures spent { IsTrue S.tells → (d : Cursor) → R.within runs.old d → R.place runs.old (S.content source.old) d
-            → d.block ≡ self.old.past → d.ask ≡ 1 → (s t : ℕ) →
-            Spent (λ c. R.within runs.old c × R.place runs.old (S.content source.old) c) (R.charge runs.old)
-            (R.copied runs.old) (R.held runs.old) d s t self.old →
+            Spent (λ c. R.within runs.now c × R.place runs.now (S.content source.old) c) (R.charge runs.now)
+            (R.copied runs.now) (R.held runs.now) d s t self.old →
             IfOk result (λ done. done ≡ true → t + (S.given source.new - S.given source.old)
-            ≤ 2 * R.charge runs.old d + R.copied runs.old d + 32) }
-        ensures costs { StepCosts (writer_words (R.one runs.old) (R.count runs.old) self.old) (2 * R.one runs.old)
-            (devices S.Source O.Output source.old output.old)
-            (devices S.Source O.Output source.new output.new) m.old m.new }
-        ensures words { IfOk result (λ d. m.new.turns.number + writer_words (R.one runs.old) (R.count runs.old) self.old
-            ≤ m.old.turns.number + 2 * (S.given source.new - S.given source.old) + (length
-            (O.written output.new) - length (O.written output.old)) + 3 + writer_words (R.one runs.old)
-            (R.count runs.old) self.new) }
-        ensures failing { Failing result (devices S.Source O.Output source.old output.old)
-            (devices S.Source O.Output source.new output.new) }
-        ensures full_faults { O.full_faults output.new ≡ O.full_faults output.old + full_cut result }
-        ensures full { full_cut result ≡ 1 → IsTrue (O.is_full output.new) ×
-            (length (O.written output.new) < length (O.written output.old) + self.old.bytes) }
+            ≤ 2 * R.charge runs.now d + R.copied runs.now d + 32) }
     {
         match self.copying {
             Some(copying) => {

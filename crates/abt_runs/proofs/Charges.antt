@@ -6,7 +6,11 @@ use Rattle.abt_runs.specs.declared.part.RunKind.{RunKind}
 use Rattle.abt_runs.specs.declared.part.RunKind.TheVariants as kinds
 use Rattle.abt_runs.specs.Raw.{raw_charge, RawPlace}
 use Rattle.abt_runs.specs.RawLaws.{raw_passed, own_size}
-use Rattle.abt_runs.specs.Found.{PartCosts}
+use Rattle.abt_runs.specs.Found.{PartCosts, RunCosts}
+use Rattle.abt_runs.specs.Loads.{Loads}
+use Rattle.abt_runs.specs.declared.part.RunFault.{RunFault}
+use Rattle.abt_io.specs.declared.device.Source as sources
+use Rattle.std.specs.Prelude.{Option}
 use Rattle.abt_io.specs.declared.meter.Meter.{Meter}
 use Rattle.abt_runs.specs.declared.part.Cursor.{Cursor}
 
@@ -24,11 +28,86 @@ none_added n = omega arith
 pub none_behind : (n : ℕ) → n ≡ n + 0
 none_behind n = omega arith
 
-pub nothing_read : (more c g : ℕ) (m m' : Meter) → m'.turns.number ≡ m.turns.number → m'.steps.number ≡ m.steps.number + 1 → m'.greatest.number ≡ max m.greatest.number 0 → PartCosts more c g c g m m'
-nothing_read more c g m m' turns steps greatest = record { given = own_size g; received = no_more _ _; calls = no_more_than _ _ _; turns = omega (arith, turns); steps = steps; greatest = omega (arith, greatest) }
+pub nothing_read : (more c g : ℕ) (m m' : Meter) → m'.turns.number ≡ m.turns.number
+    → m'.steps.number ≡ m.steps.number + 1 → m'.greatest.number ≡ max m.greatest.number 0 → PartCosts more c g c g m m'
+nothing_read more c g m m' turns steps greatest = record {
+  given = own_size g;
+  received = no_more _ _;
+  calls = no_more_than _ _ _;
+  turns = omega (arith, turns);
+  one_step = record { steps = steps; greatest = omega (arith, greatest) };
+}
 
-pub read_some : (more c g r c' g' : ℕ) (m m' : Meter) → r ≤ 65536 → g' ≡ g + r → c' ≤ c + r + 2 → m'.turns.number ≤ m.turns.number + r + 2 → m'.steps.number ≡ m.steps.number + 1 → m'.greatest.number ≡ max m.greatest.number r → PartCosts more c g c' g' m m'
-read_some more c g r c' g' m m' few given calls turns steps greatest = record { given = omega arith; received = omega arith; calls = omega arith; turns = omega arith; steps = steps; greatest = omega arith }
+-- ---- what was loaded, in a step that ends then
+
+pub load_costs : {more n : ℕ} {f : Option RunFault} {A : Type 0} {s : sources.Ghosts A} {a b : A} {m m1 m2 : Meter}
+    → Loads f n s a b m m1 → n ≤ 65536 → m2.turns.number ≡ m1.turns.number → m2.steps.number ≡ m1.steps.number + 1
+    → m2.greatest.number ≡ max m1.greatest.number n
+    → PartCosts more (s.reads a) (s.given a) (s.reads b) (s.given b) m m2
+load_costs l few turns steps greatest = record {
+  given = omega (arith, l.given);
+  received = omega (arith, l.given, few);
+  calls = omega (arith, l.calls, l.given);
+  turns = omega (arith, l.turns, l.given, turns);
+  one_step = record {
+    steps = omega (arith, steps, l.no_step.steps);
+    greatest = omega (arith, greatest, l.no_step.greatest, l.given);
+  };
+}
+
+pub both_cost : {more n k : ℕ} {f h : Option RunFault} {A : Type 0} {s : sources.Ghosts A} {a b z : A}
+    {m m1 m2 m3 : Meter} → Loads f n s a b m m1 → Loads h k s b z m1 m2 → n + k ≤ 65536
+    → m3.turns.number ≡ m2.turns.number → m3.steps.number ≡ m2.steps.number + 1
+    → m3.greatest.number ≡ max m2.greatest.number (n + k)
+    → PartCosts more (s.reads a) (s.given a) (s.reads z) (s.given z) m m3
+both_cost l d few turns steps greatest = record {
+  given = omega (arith, l.given, d.given);
+  received = omega (arith, l.given, d.given, few);
+  calls = omega (arith, l.calls, d.calls, l.given, d.given);
+  turns = omega (arith, l.turns, d.turns, l.given, d.given, turns);
+  one_step = record {
+    steps = omega (arith, steps, l.no_step.steps, d.no_step.steps);
+    greatest = omega (arith, greatest, l.no_step.greatest, d.no_step.greatest, l.given, d.given);
+  };
+}
+
+-- ---- what the steps of a run cost so far
+
+pub record CostSoFar (one c g c' g' : ℕ) (m m' : Meter) : Type 0 where
+  pub given : g ≤ g'
+  pub received : g' + 65536 * m.steps.number ≤ g + 65536 * m'.steps.number
+  pub calls : c' + 2 * m.steps.number ≤ c + (g' - g) + 2 * m'.steps.number
+  pub turns : m'.turns.number + (3 + one) * m.steps.number
+      ≤ m.turns.number + 2 * (g' - g) + (3 + one) * m'.steps.number
+  pub greatest : m'.greatest.number ≤ max m.greatest.number 65536
+
+-- a step more
+pub costs_on : {one more c g c1 g1 c2 g2 : ℕ} {m m1 m2 m3 : Meter} → CostSoFar one c g c1 g1 m m1
+    → m2.turns.number ≡ m1.turns.number + 1 → m2.steps.number ≡ m1.steps.number
+    → m2.greatest.number ≡ m1.greatest.number → PartCosts more c1 g1 c2 g2 m2 m3 → 4 * more ≤ one
+    → CostSoFar one c g c2 g2 m m3
+costs_on {one = one} {m1 = m1} {m3 = m3} k turns same greatest d small =
+    let steps : m3.steps.number ≡ m1.steps.number + 1 = omega (arith, d.one_step.steps, same) in
+    let more : (3 + one) * (m1.steps.number + 1) ≡ (3 + one) * m1.steps.number + (3 + one) = omega arith in
+    record {
+      given = omega (arith, k.given, d.given);
+      received = omega (arith, k.received, d.received, steps);
+      calls = omega (arith, k.calls, d.calls, steps, k.given, d.given);
+      turns = rw steps (omega (arith, more, k.turns, d.turns, turns, small, k.given, d.given));
+      greatest = omega (arith, k.greatest, d.one_step.greatest, d.received, greatest);
+    }
+
+-- all of them, and perhaps a turn more
+pub costs_end : {one c g c1 g1 : ℕ} {m m1 m2 : Meter} → CostSoFar one c g c1 g1 m m1
+    → m2.turns.number ≤ m1.turns.number + 1 → m2.steps.number ≡ m1.steps.number
+    → m2.greatest.number ≡ m1.greatest.number → RunCosts one c g c1 g1 m m2
+costs_end k turns steps greatest = record {
+  given = k.given;
+  received = omega (arith, k.received, steps);
+  calls = omega (arith, k.calls, steps);
+  turns = rw steps (omega (arith, k.turns, turns));
+  greatest = omega (arith, k.greatest, greatest);
+}
 
 -- ---- what is read of a raw image
 

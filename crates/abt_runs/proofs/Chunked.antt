@@ -16,8 +16,8 @@ use Rattle.abt_sparse.proofs.Exactly.{chunks-got, chunks-bad}
 use Rattle.abt_sparse.proofs.ChunkLaws.{got_made}
 use Rattle.abt_runs.specs.Part.{AllOf, IsRaw, PartOf, is_end, raw_of}
 use Rattle.abt_runs.specs.Sparse.{SparseOpened, blocks_in, sparse_list, Inside, SparsePlace, raw_blocks, blocks_together, data_place}
-use Rattle.abt_runs.specs.SparseLaws.{length-split', count_is, counted-classed, done_list, done_rest, image_rest, through}
-use Rattle.abt_runs.specs.Head.{head_of, head_of_kind, is_raw, HeadFits, has_word, class_of_kind, behind_chunk, part_of_chunk}
+use Rattle.abt_runs.specs.SparseLaws.{length-split', count_is, counted-classed, done_list, done_rest, image_rest, read_through}
+use Rattle.abt_runs.specs.Head.{chunk_header_of, head_of_kind, is_raw, HeadFits, has_word, class_of_kind, behind_chunk, part_of_chunk}
 use Rattle.abt_runs.specs.declared.part.Cursor.{Cursor}
 use Rattle.abt_runs.specs.declared.part.Run.{Run}
 use Rattle.abt_runs.specs.declared.part.RunKind.TheVariants as classes
@@ -42,7 +42,7 @@ pub record Standing (h : Header) (x : List ℕ) (image : ℕ) (c : Cursor) (k : 
   pub fits : HeadFits h image c k
   pub enough : c.at + k.total ≤ length x
 
-head_is : (bytes y : List ℕ) (k : ChunkKind) (n total : ℕ) → bytes ≡ take 12 y → 12 ≤ length y → kind_at (number_at 0 2 y) ≡ Some k → number_at 4 4 y ≡ n → number_at 8 4 y ≡ total → head_of bytes ≡ Some (record { kind = k; blocks = n; total = total })
+head_is : (bytes y : List ℕ) (k : ChunkKind) (n total : ℕ) → bytes ≡ take 12 y → 12 ≤ length y → kind_at (number_at 0 2 y) ≡ Some k → number_at 4 4 y ≡ n → number_at 8 4 y ≡ total → chunk_header_of bytes ≡ Some (record { kind = k; blocks = n; total = total })
 head_is bytes y k n total is long kind blocks all =
     let a : number_at 0 2 bytes ≡ number_at 0 2 y = sym (number_taken 0 2 12 bytes y is long (omega arith)) in
     let b : number_at 4 4 bytes ≡ n = sym (number_taken 4 4 12 bytes y is long (omega arith)) ∙ blocks in
@@ -60,7 +60,7 @@ going_on b kinds.Crc n (suc u) d cs h some = absurd h
 stand_on : (h : Header) (long image : ℕ) (x bytes : List ℕ) (c : Cursor) → SparseOpened h long image x → (p : SparsePlace h x c) → bytes ≡ take 12 (drop c.at x)
     → (left : ℕ) → left ≡ h.total_chunks - (c.chunk + 1) → (ch : Chunk) (m : ℕ) (next : List ℕ) → chunk_at h (length x) c.chunk (counted_in p.before) (drop c.at x) ≡ Got ch m next
     → (ds : List Chunk) (end : List ℕ) → chunks_at h (length x) (c.chunk + 1) (counted_in p.before + m) left next ≡ Done ds end → Done (ch ∷ ds) end ≡ Done p.after p.rest
-    → (k : ChunkHeader) × (head_of bytes ≡ Some k) × Standing h x image c k
+    → (k : ChunkHeader) × (chunk_header_of bytes ≡ Some k) × Standing h x image c k
 stand_on h long image x bytes c o p is left left_is ch m next r ds end s g =
     let y = drop c.at x in
     let made = got_made h (length x) c.chunk (counted_in p.before) y ch m next r in
@@ -74,7 +74,7 @@ stand_on h long image x bytes c o p is left left_is ch m next r ds end s g =
     let same_rest : o.rest ≡ p.rest = image_rest (sym o.is_image ∙ p.is_image) in
     let y_long : length y ≡ length x - c.at = length-drop c.at x in
     let within : c.at + made.total ≤ length x = omega (arith, good.whole, y_long, good.long) in
-    let short : length end ≤ length next = omega (arith, (through h (length x) left (c.chunk + 1) (counted_in p.before + m) next ds end s).long) in
+    let short : length end ≤ length next = omega (arith, (read_through h (length x) left (c.chunk + 1) (counted_in p.before + m) next ds end s).long) in
     let next_long : length next ≡ length x - (c.at + made.total) = ap length next_is ∙ length-drop (c.at + made.total) x in
     let here : Inside c.used (chunk_of h x c k ∷ ds) = subst (λ (d : Chunk). Inside c.used (d ∷ ds)) (sym ch_is) (subst (λ (cs : List Chunk). Inside c.used cs) (sym list) p.inside) in (
       k,
@@ -102,7 +102,7 @@ stand_on h long image x bytes c o p is left left_is ch m next r ds end s g =
 
 -- a place before the last chunk's end is in a chunk whose header is as it was found
 pub standing : (h : Header) (long image : ℕ) (x bytes : List ℕ) (c : Cursor) → SparseOpened h long image x → SparsePlace h x c → c.chunk < h.total_chunks → bytes ≡ take 12 (drop c.at x)
-    → (k : ChunkHeader) × (head_of bytes ≡ Some k) × Standing h x image c k
+    → (k : ChunkHeader) × (chunk_header_of bytes ≡ Some k) × Standing h x image c k
 standing h long image x bytes c o p lt is =
     let left = h.total_chunks - (c.chunk + 1) in
     let more : h.total_chunks - c.chunk ≡ suc left = omega arith in
@@ -111,14 +111,14 @@ standing h long image x bytes c o p lt is =
   where
     inner : (left : ℕ) → left ≡ h.total_chunks - (c.chunk + 1) → chunks_at h (length x) c.chunk (counted_in p.before) (suc left) (drop c.at x) ≡ Done p.after p.rest
         → (ch : Chunk) (m : ℕ) (next : List ℕ) → chunk_at h (length x) c.chunk (counted_in p.before) (drop c.at x) ≡ Got ch m next
-        → (s : ChunksRead) → chunks_at h (length x) (c.chunk + 1) (counted_in p.before + m) left next ≡ s → (k : ChunkHeader) × (head_of bytes ≡ Some k) × Standing h x image c k
+        → (s : ChunksRead) → chunks_at h (length x) (c.chunk + 1) (counted_in p.before + m) left next ≡ s → (k : ChunkHeader) × (chunk_header_of bytes ≡ Some k) × Standing h x image c k
     inner left left_is all ch m next r (Failed f ds came) s = absurd (let g : Failed f (ch ∷ ds) came ≡ Done p.after p.rest = ap (λ (t : ChunksRead). behind ch t) (sym s) ∙ sym (chunks-got h (length x) c.chunk (counted_in p.before) left (drop c.at x) ch m next r) ∙ all in cc)
     inner left left_is all ch m next r (Done ds end) s =
         let g : Done (ch ∷ ds) end ≡ Done p.after p.rest = ap (λ (t : ChunksRead). behind ch t) (sym s) ∙ sym (chunks-got h (length x) c.chunk (counted_in p.before) left (drop c.at x) ch m next r) ∙ all in
         stand_on h long image x bytes c o p is left left_is ch m next r ds end s g
 
     step : (left : ℕ) → left ≡ h.total_chunks - (c.chunk + 1) → chunks_at h (length x) c.chunk (counted_in p.before) (suc left) (drop c.at x) ≡ Done p.after p.rest
-        → (r : ChunkRead) → chunk_at h (length x) c.chunk (counted_in p.before) (drop c.at x) ≡ r → (k : ChunkHeader) × (head_of bytes ≡ Some k) × Standing h x image c k
+        → (r : ChunkRead) → chunk_at h (length x) c.chunk (counted_in p.before) (drop c.at x) ≡ r → (k : ChunkHeader) × (chunk_header_of bytes ≡ Some k) × Standing h x image c k
     step left left_is all (Bad f came) r = absurd (let g : Failed f [] came ≡ Done p.after p.rest = sym (chunks-bad h (length x) c.chunk (counted_in p.before) left (drop c.at x) f came r) ∙ all in cc)
     step left left_is all (Got ch m next) r = inner left left_is all ch m next r (chunks_at h (length x) (c.chunk + 1) (counted_in p.before + m) left next) refl
 
@@ -126,7 +126,7 @@ heads_are : {a b : ChunkHeader} → Some a ≡ Some b → a ≡ b
 heads_are {a} {b} e = cc
 
 -- and it is the chunk whose header was read
-pub standing_as : (h : Header) (long image : ℕ) (x bytes : List ℕ) (c : Cursor) (k : ChunkHeader) → SparseOpened h long image x → SparsePlace h x c → c.chunk < h.total_chunks → bytes ≡ take 12 (drop c.at x) → head_of bytes ≡ Some k → Standing h x image c k
+pub standing_as : (h : Header) (long image : ℕ) (x bytes : List ℕ) (c : Cursor) (k : ChunkHeader) → SparseOpened h long image x → SparsePlace h x c → c.chunk < h.total_chunks → bytes ≡ take 12 (drop c.at x) → chunk_header_of bytes ≡ Some k → Standing h x image c k
 standing_as h long image x bytes c k o p lt is read =
     let s = standing h long image x bytes c o p lt is in
     subst (λ (j : ChunkHeader). Standing h x image c j) (heads_are (sym s.1 ∙ read)) s.2
@@ -149,7 +149,7 @@ pub at_last : (h : Header) (x : List ℕ) (c : Cursor) → SparsePlace h x c →
 at_last h x c p last =
     let z : h.total_chunks - c.chunk ≡ 0 = omega arith in
     let e : chunks_at h (length x) c.chunk (counted_in p.before) 0 (drop c.at x) ≡ Done p.after p.rest = ap (λ (n : ℕ). chunks_at h (length x) c.chunk (counted_in p.before) n (drop c.at x)) (sym z) ∙ p.ahead in
-    let t = through h (length x) 0 c.chunk (counted_in p.before) (drop c.at x) p.after p.rest e in
+    let t = read_through h (length x) 0 c.chunk (counted_in p.before) (drop c.at x) p.after p.rest e in
     let none = no_more h (length x) c.chunk (counted_in p.before) (drop c.at x) p.after p.rest e in
     let used : c.used ≡ 0 = none_inside c.used p.after none p.inside in
     let left : counted_in p.after ≡ 0 = ap counted_in (sym none) in

@@ -6,7 +6,7 @@ use Rattle.std.proofs.Math.Seq.{take-add}
 use Rattle.abt_sparse.specs.Block.{Block}
 use Rattle.abt_sparse.specs.Runs.{runs}
 use Rattle.abt_runs.specs.Part.{AllOf, PartOf, is_end, entry}
-use Rattle.abt_runs.specs.Whole.{alike_kinds, first_of, first_run, cut_at, RunOf, and_part, room_in}
+use Rattle.abt_runs.specs.Whole.{alike_kinds, blocks_of_first, first_run, cut_at, RunOf, and_part, room_in}
 use Rattle.abt_runs.proofs.Alike.{kind_of, kind_is, Ended, runs_apart, runs_front, alike_same, all_append, not_end_some}
 use Rattle.abt_runs.specs.declared.part.Cursor.{Cursor}
 use Rattle.abt_runs.specs.declared.part.Run.{Run}
@@ -112,7 +112,7 @@ whole_run cap l i r g some few e =
       within = g.within;
       next = g.next;
       all = g.all;
-      whole = cut_same r.kind cap r.blocks few ∙ ap (λ (n : ℕ). cut_at r.kind cap n) (sym long ∙ ap (λ (gs : List (List Block)). length (first_of gs)) (sym first));
+      whole = cut_same r.kind cap r.blocks few ∙ ap (λ (n : ℕ). cut_at r.kind cap n) (sym long ∙ ap (λ (gs : List (List Block)). length (blocks_of_first gs)) (sym first));
       ended = λ h. absurd (let f = not_end_some r.kind (take r.blocks (drop i l)) g.all (omega (arith, long)) in let t : is_end r.kind ≡ true = h in cc);
       none = λ z. absurd (omega arith);
     }
@@ -163,7 +163,7 @@ is_full cap l i r g kind full some =
     let long = long_front l i r.blocks g.within in
     let v = runs_front r.kind (take r.blocks (drop i l)) (drop (i + r.blocks) l) g.all (omega (arith, long)) in
     let first : runs (drop i l) ≡ (take r.blocks (drop i l) ++ v.0) ∷ v.1 = ap runs (apart l i r.blocks) ∙ v.2 in
-    let most : length (first_run (drop i l)) ≡ length (take r.blocks (drop i l)) + length v.0 = ap (λ (gs : List (List Block)). length (first_of gs)) first ∙ length-append (take r.blocks (drop i l)) v.0 in
+    let most : length (first_run (drop i l)) ≡ length (take r.blocks (drop i l)) + length v.0 = ap (λ (gs : List (List Block)). length (blocks_of_first gs)) first ∙ length-append (take r.blocks (drop i l)) v.0 in
     record {
       within = g.within;
       next = g.next;

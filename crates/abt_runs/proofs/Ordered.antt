@@ -6,7 +6,7 @@ use Rattle.abt_sparse.specs.Chunk.{Header, Chunk, Raws, Fills, Skips, Crc, count
 use Rattle.abt_sparse.specs.Reading.{counted}
 use Rattle.abt_sparse.specs.Fails.{counted_in}
 use Rattle.abt_runs.specs.Sparse.{SparseOpened, SparsePlace, SparseWithin, Inside, sparse_charge, lengths}
-use Rattle.abt_runs.specs.SparseLaws.{count_is, image_chunks, image_rest, through}
+use Rattle.abt_runs.specs.SparseLaws.{count_is, image_chunks, image_rest, read_through}
 use Rattle.abt_runs.specs.declared.part.Cursor.{Cursor}
 use Rattle.abt_runs.specs.declared.part.Run.{Run}
 use Rattle.abt_runs.proofs.Chunked.{Standing, chunk_of, Parts, passes, stops, ends, going_on, raw_counts}
@@ -61,7 +61,7 @@ order h long image x c d k o s p low =
     rests = ap length (image_rest (sym s.is_image ∙ p.is_image))
 
     there : length x - d.at ≡ lengths h p.after + length p.rest
-    there = sym (length-drop d.at x) ∙ (through h (length x) (h.total_chunks - d.chunk) d.chunk (counted_in p.before) (drop d.at x) p.after p.rest p.ahead).long
+    there = sym (length-drop d.at x) ∙ (read_through h (length x) (h.total_chunks - d.chunk) d.chunk (counted_in p.before) (drop d.at x) p.after p.rest p.ahead).long
 
     payload : List ℕ
     payload = drop h.chunk_hdr_sz (take k.total (drop c.at x))
@@ -71,12 +71,12 @@ order h long image x c d k o s p low =
         let i : d.used ≤ count m = inside_few d.used m _ (subst (λ (l : List Chunk). Inside d.used l) f p.inside) in
         before (omega (arith, i, ap counted_in e, counted-append p.before (m ∷ ms), s.block, p.block))
     by_split (later [] e f) =
-        let here : length x - c.at ≡ lengths h (chunk_of h x c k ∷ s.after) + length s.rest = sym (length-drop c.at x) ∙ (through h (length x) (h.total_chunks - c.chunk) c.chunk (counted_in s.before) (drop c.at x) (chunk_of h x c k ∷ s.after) s.rest s.from_here).long in
+        let here : length x - c.at ≡ lengths h (chunk_of h x c k ∷ s.after) + length s.rest = sym (length-drop c.at x) ∙ (read_through h (length x) (h.total_chunks - c.chunk) c.chunk (counted_in s.before) (drop c.at x) (chunk_of h x c k ∷ s.after) s.rest s.from_here).long in
         let l : lengths h (chunk_of h x c k ∷ s.after) ≡ lengths h p.after = ap (λ (cs : List Chunk). lengths h cs) f in
         let i = subst (λ (cs : List Chunk). Inside d.used cs) (sym f) p.inside in
         same (omega (arith, here, there, l, rests, s.enough, low, o.image_is)) (omega (arith, ap counted_in e, counted-append s.before [], s.block, p.block)) (going_on h.blk_sz k.kind k.blocks d.used payload s.after i)
     by_split (later (m ∷ ms) e f) =
-        let here : length x - (c.at + k.total) ≡ lengths h s.after + length s.rest = sym (length-drop (c.at + k.total) x) ∙ (through h (length x) (h.total_chunks - (c.chunk + 1)) (c.chunk + 1) (counted_in s.before + counted k.kind k.blocks) (drop (c.at + k.total) x) s.after s.rest s.ahead).long in
+        let here : length x - (c.at + k.total) ≡ lengths h s.after + length s.rest = sym (length-drop (c.at + k.total) x) ∙ (read_through h (length x) (h.total_chunks - (c.chunk + 1)) (c.chunk + 1) (counted_in s.before + counted k.kind k.blocks) (drop (c.at + k.total) x) s.after s.rest s.ahead).long in
         let l : lengths h s.after ≡ lengths h ms + lengths h p.after = ap (λ (cs : List Chunk). lengths h cs) (same_tail f) ∙ lengths-append h ms p.after in
         let n : counted k.kind k.blocks ≡ count m = sym (count_is h.blk_sz k.kind k.blocks payload) ∙ ap count (same_head f) in
         behind (omega (arith, here, there, l, rests, s.enough, low, o.image_is)) (omega (arith, n, ap counted_in e, counted-append s.before (m ∷ ms), s.block, p.block))

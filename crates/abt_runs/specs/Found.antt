@@ -1,11 +1,13 @@
--- What is known of a part that was found.
-use Rattle.std.specs.Prelude.{◌≡◌, ℕ, ◌+◌, ◌-◌, ◌*◌, ◌≤◌, ◌<◌, true, false, List, max}
+-- What is known of a part or a run that was found, and what finding and copying cost.
+use Rattle.std.specs.Prelude.{◌≡◌, ℕ, ◌+◌, ◌-◌, ◌*◌, ◌≤◌, ◌<◌, ◌↔◌, true, false, IsTrue, List, max, min}
+use Rattle.abt_io.specs.Lent.{OneStep}
 use Rattle.abt_io.specs.declared.meter.Meter.{Meter}
 use Rattle.abt_sparse.specs.Block.{Block}
 use Rattle.abt_runs.specs.declared.part.Cursor.{Cursor}
 use Rattle.abt_runs.specs.declared.part.Run.{Run}
 use Rattle.abt_runs.specs.declared.part.RunKind.TheVariants.{Raw}
 use Rattle.abt_runs.specs.Part.{PartOf, MovesOn, Capped, Earliest, afresh, entry, is_end, piece_bytes}
+use Rattle.abt_runs.specs.Whole.{RunOf}
 
 -- Of whatever source: r, of at most `cap` blocks of `size` bytes where they are raw, was found from a place on in an
 -- image of `count` blocks. The source had given g bytes before, and g' then.
@@ -30,7 +32,7 @@ pub record Found (W : Cursor → Type 0) (size count : ℕ) (lefts charge reach 
   pub filled_up : 0 < padding from → 0 < r.blocks
 
 -- Of a source that tells: r is a part of the blocks l, between places of the image that the source is.
-pub record Told (l : List Block) (W P : Cursor → Type 0) (together copied charge : Cursor → ℕ) (from : Cursor)
+pub record IsToldRun (l : List Block) (W P : Cursor → Type 0) (together copied charge : Cursor → ℕ) (from : Cursor)
     (cap : ℕ) (r : Run) : Type 0 where
   pub part : PartOf l from.block r
   pub place : P r.next
@@ -52,5 +54,39 @@ pub record PartCosts (more c g c' g' : ℕ) (m m' : Meter) : Type 0 where
   pub received : g' ≤ g + 65536
   pub calls : c' ≤ c + (g' - g) + 2
   pub turns : m'.turns.number ≤ m.turns.number + 2 * (g' - g) + 2 + more
-  pub steps : m'.steps.number ≡ m.steps.number + 1
-  pub greatest : m'.greatest.number ≡ max m.greatest.number (g' - g)
+  pub one_step : OneStep (g' - g) m m'
+
+-- What copying n bytes from byte `at` on costs, one step in all: at most one call, and no byte that is not copied.
+pub record CopyCosts (held : ℕ → ℕ) (at n c g c' g' : ℕ) (m m' : Meter) : Type 0 where
+  pub given : (g ≤ g') × (g' ≤ g + n)
+  pub read : g' + held at ≤ g + held (at + n)
+  pub calls : c' ≤ c + 1
+  pub turns : m'.turns.number ≡ m.turns.number
+  pub one_step : OneStep (g' - g) m m'
+
+-- Of whatever source: the run r was found from a place on, and what was read is charged to what it passes.
+pub record FoundRun (W : Cursor → Type 0) (size count one : ℕ) (charge reach : Cursor → ℕ) (from : Cursor)
+    (cap g g' : ℕ) (r : Run) : Type 0 where
+  pub nowhere : r.blocks ≡ 0 → r.here ≡ r.next
+  pub within : W r.here × W r.next
+  pub reached : r.kind ≡ Raw → size ≤ reach r.here
+  pub moved : (r.here.block ≡ from.block) × (r.next.block ≡ from.block + r.blocks)
+  pub capped : Capped cap r
+  pub end : IsTrue (is_end r.kind) ↔ from.block ≡ count
+  pub charged : g' + charge from ≤ g + charge r.next + entry from + min 65536 (16 + cap * one)
+
+-- Of a source that tells: r is the first run of the blocks l from a place on, between places of the image.
+pub record ToldRun (l : List Block) (P : Cursor → Type 0) (together : Cursor → ℕ) (from : Cursor) (cap : ℕ) (r : Run)
+    : Type 0 where
+  pub run : RunOf cap l from.block r
+  pub places : P r.here × P r.next
+  pub stands : r.kind ≡ Raw → 0 < together r.here
+
+-- What finding a run costs, over all its steps.
+pub record RunCosts (one c g c' g' : ℕ) (m m' : Meter) : Type 0 where
+  pub given : g ≤ g'
+  pub received : g' + 65536 * m.steps.number ≤ g + 65536 * m'.steps.number
+  pub calls : c' + 2 * m.steps.number ≤ c + (g' - g) + 2 * m'.steps.number
+  pub turns : m'.turns.number + (3 + one) * m.steps.number
+      ≤ m.turns.number + 2 * (g' - g) + (3 + one) * m'.steps.number + 1
+  pub greatest : m'.greatest.number ≤ max m.greatest.number 65536

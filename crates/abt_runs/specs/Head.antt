@@ -16,8 +16,8 @@ abbrev pub head_of_kind : Option ChunkKind → List ℕ → Option ChunkHeader
 head_of_kind None bytes = None
 head_of_kind (Some k) bytes = Some (record { kind = k; blocks = number_at 4 4 bytes; total = number_at 8 4 bytes })
 
-abbrev pub head_of : List ℕ → Option ChunkHeader
-head_of bytes = head_of_kind (kind_at (number_at 0 2 bytes)) bytes
+abbrev pub chunk_header_of : List ℕ → Option ChunkHeader
+chunk_header_of bytes = head_of_kind (kind_at (number_at 0 2 bytes)) bytes
 
 abbrev pub is_raw : ChunkKind → Bool
 is_raw kinds.Raw = true

@@ -1,6 +1,7 @@
 pub mod Number
 pub mod Part
 pub mod Found
+pub mod Loads
 pub mod Words
 pub mod Whole
 pub mod Raw
@@ -9,4 +10,5 @@ pub mod Sparse
 pub mod Head
 pub mod Stage
 pub mod Verdict
+pub mod Advance
 pub mod SparseLaws

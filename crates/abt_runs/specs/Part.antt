@@ -44,12 +44,12 @@ pub record Capped (cap : ℕ) (r : Run) : Type 0 where
   pub raw : r.kind ≡ Raw → r.blocks ≤ cap
 
 -- a device has failed and answered so, or one that tells nothing has changed
-abbrev pub Caused : RunFault → Bool → ℕ → ℕ → Type 0
-Caused (Read f) tells before after = (before < after) × (f ≡ Failed)
-Caused SourceChanged tells before after = tells ≡ false
-Caused (Sparse f) tells before after = ⊥
-Caused TooLarge tells before after = ⊥
-Caused (BadBlock n) tells before after = ⊥
+abbrev pub RunCaused : RunFault → Bool → ℕ → ℕ → Type 0
+RunCaused (Read f) tells before after = (before < after) × (f ≡ Failed)
+RunCaused SourceChanged tells before after = tells ≡ false
+RunCaused (Sparse f) tells before after = ⊥
+RunCaused TooLarge tells before after = ⊥
+RunCaused (BadBlock n) tells before after = ⊥
 
 -- what a part may read besides what it passes: where it begins inside a chunk, that chunk's header
 abbrev pub entry : Cursor → ℕ

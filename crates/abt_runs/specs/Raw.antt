@@ -27,12 +27,12 @@ abbrev pub raw_held : ℕ → ℕ → Cursor → ℕ → ℕ
 raw_held long size c n = min n (long - c.block * size)
 
 -- why a raw image isn't opened
-abbrev pub Refused : RunFault → ℕ → ℕ → Type 0
-Refused (BadBlock n) size long = (n ≡ size) × ((4 ≤ size) × (size ≤ 65536) × (size % 4 ≡ 0) → ⊥)
-Refused TooLarge size long = (4 ≤ size) × (size ≤ 65536) × (size % 4 ≡ 0) × ((2 ^ 32 - 1) * size < long)
-Refused (Sparse f) size long = ⊥
-Refused (Read f) size long = ⊥
-Refused SourceChanged size long = ⊥
+abbrev pub RefusedRaw : RunFault → ℕ → ℕ → Type 0
+RefusedRaw (BadBlock n) size long = (n ≡ size) × ((4 ≤ size) × (size ≤ 65536) × (size % 4 ≡ 0) → ⊥)
+RefusedRaw TooLarge size long = (4 ≤ size) × (size ≤ 65536) × (size % 4 ≡ 0) × ((2 ^ 32 - 1) * size < long)
+RefusedRaw (Sparse f) size long = ⊥
+RefusedRaw (Read f) size long = ⊥
+RefusedRaw SourceChanged size long = ⊥
 
 -- how many words of the last block may be zeros that were not read
 abbrev pub raw_padding : ℕ → ℕ → Cursor → ℕ

@@ -16,8 +16,8 @@ length-split b zero y = refl
 length-split b (suc n) y = ap suc (length-split b n (drop b y))
 
 -- the number of blocks, from what fixes it
-pub count_is : (b n len : ℕ) → 0 < b → len ≤ n * b → n * b < len + b → (len + (b - 1)) / b ≡ n
-count_is b n len some covers last =
+pub block_count_is : (b n len : ℕ) → 0 < b → len ≤ n * b → n * b < len + b → (len + (b - 1)) / b ≡ n
+block_count_is b n len some covers last =
     let q = (len + (b - 1)) / b in
     let d : b * q + (len + (b - 1)) % b ≡ len + (b - 1) = omega arith in
     let r : (len + (b - 1)) % b < b = omega arith in
@@ -34,7 +34,7 @@ count_is b n len some covers last =
 pub raw_count : (len blocks size : ℕ) (x : List ℕ) → 4 ≤ size → len ≤ blocks * size → blocks * size < len + size
     → len ≡ length x → block_count size x ≡ blocks
 raw_count len blocks size x some covers last e =
-    count_is size blocks (length x) (omega arith) (omega arith) (omega arith)
+    block_count_is size blocks (length x) (omega arith) (omega arith) (omega arith)
 
 pub raw_long : (len blocks size : ℕ) (x : List ℕ) → 4 ≤ size → len ≤ blocks * size → blocks * size < len + size
     → len ≡ length x → length (classify size x) ≡ blocks

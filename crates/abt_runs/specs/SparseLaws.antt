@@ -78,7 +78,7 @@ both_good b (x ∷ xs) ys h k = (h.0, both_good b xs ys h.1 k)
 -- ---- all chunks
 
 -- chunks that were read to their end, behind so many blocks
-pub record Through (h : Header) (have : ℕ) (y : List ℕ) (cs : List Chunk) (rest : List ℕ) : Type 0 where
+pub record ReadThrough (h : Header) (have : ℕ) (y : List ℕ) (cs : List Chunk) (rest : List ℕ) : Type 0 where
   pub total : have + counted_in cs ≡ h.total_blks
   pub good : AllByRecursion (IsBlock h.blk_sz) (classed cs)
   pub long : length y ≡ lengths h cs + length rest
@@ -89,15 +89,15 @@ done_list {cs} {cs'} {r} {r'} e = cc
 pub done_rest : {cs cs' : List Chunk} {r r' : List ℕ} → Done cs r ≡ Done cs' r' → r ≡ r'
 done_rest {cs} {cs'} {r} {r'} e = cc
 
-pub through : (h : Header) (size left i have : ℕ) (y : List ℕ) (cs : List Chunk) (rest : List ℕ)
-    → chunks_at h size i have left y ≡ Done cs rest → Through h have y cs rest
+pub read_through : (h : Header) (size left i have : ℕ) (y : List ℕ) (cs : List Chunk) (rest : List ℕ)
+    → chunks_at h size i have left y ≡ Done cs rest → ReadThrough h have y cs rest
 unfolding chunks_at
-through h size zero i have y cs rest e = elim (cases_Bool (have == h.total_blks)) [
+read_through h size zero i have y cs rest e = elim (cases_Bool (have == h.total_blks)) [
   | inl t ↦
       let f : Done [] y ≡ Done cs rest = rw (t, chunks_at) at e in
       let none : [] ≡ cs = done_list f in
       let same : y ≡ rest = done_rest f in
-      subst (λ (ds : List Chunk). Through h have y ds rest) none
+      subst (λ (ds : List Chunk). ReadThrough h have y ds rest) none
       (record {
         total = omega (arith, eqb-true have h.total_blks t);
         good = tt;
@@ -105,13 +105,13 @@ through h size zero i have y cs rest e = elim (cases_Bool (have == h.total_blks)
       })
   | inr t ↦ absurd (let f : Failed _ [] [] ≡ Done cs rest = rw (t, chunks_at) at e in cc)
 ]
-through h size (suc left) i have y cs rest e =
-    step (chunk_at h size i have y) refl (λ n more ds end s. through h size left (i + 1) (have + n) more ds end s)
+read_through h size (suc left) i have y cs rest e =
+    step (chunk_at h size i have y) refl (λ n more ds end s. read_through h size left (i + 1) (have + n) more ds end s)
   where
     inner : (c : Chunk) (n : ℕ) (more : List ℕ) → chunk_at h size i have y ≡ Got c n more → (s : ChunksRead)
         → chunks_at h size (i + 1) (have + n) left more ≡ s
         → ((ds : List Chunk) (end : List ℕ) → chunks_at h size (i + 1) (have + n) left more ≡ Done ds end
-        → Through h (have + n) more ds end) → Through h have y cs rest
+        → ReadThrough h (have + n) more ds end) → ReadThrough h have y cs rest
     inner c n more r (Failed f ds came) s ih = absurd (let g : Failed f (c ∷ ds) came ≡ Done cs rest =
         ap (λ (t : ChunksRead). behind c t) (sym s) ∙ sym (chunks-got h size i have left y c n more r) ∙ e in cc)
     inner c n more r (Done ds end) s ih =
@@ -137,7 +137,7 @@ through h size (suc left) i have y cs rest e =
         let mine : AllByRecursion (IsBlock h.blk_sz) (blocks_of c) =
         subst (λ (d : Chunk). AllByRecursion (IsBlock h.blk_sz) (blocks_of d)) made.c_is
         (blocks_good h.blk_sz made.k made.n made.d data_long) in
-        subst (λ (ds' : List Chunk). Through h have y ds' rest) (done_list g) (record {
+        subst (λ (ds' : List Chunk). ReadThrough h have y ds' rest) (done_list g) (record {
           total = omega (arith, t.total, counts);
           good = both_good h.blk_sz (blocks_of c) (classed ds) mine t.good;
           long = omega (arith, t.long, more_long, mine_long, ap length (done_rest g));
@@ -145,8 +145,8 @@ through h size (suc left) i have y cs rest e =
 
     step : (r : ChunkRead) → chunk_at h size i have y ≡ r
         → ((n : ℕ) (more : List ℕ) (ds : List Chunk) (end : List ℕ)
-        → chunks_at h size (i + 1) (have + n) left more ≡ Done ds end → Through h (have + n) more ds end)
-        → Through h have y cs rest
+        → chunks_at h size (i + 1) (have + n) left more ≡ Done ds end → ReadThrough h (have + n) more ds end)
+        → ReadThrough h have y cs rest
     step (Bad f came) r ih =
         absurd (let g : Failed f [] came ≡ Done cs rest = sym (chunks-bad h size i have left y f came r) ∙ e in cc)
     step (Got c n more) r ih = inner c n more r (chunks_at h size (i + 1) (have + n) left more) refl (ih n more)
@@ -209,14 +209,14 @@ pub sparse_long : (h : Header) (long image : ℕ) (x : List ℕ) → SparseOpene
     → length (sparse_list x) ≡ h.total_blks
 sparse_long h long image x o =
     let p = parted x h o.chunks o.rest o.is_image in
-    let t = through h (length x) h.total_chunks 0 0 (drop h.file_hdr_sz x) o.chunks o.rest p.chunks in
+    let t = read_through h (length x) h.total_chunks 0 0 (drop h.file_hdr_sz x) o.chunks o.rest p.chunks in
     omega (arith, ap (λ (r : Outcome). length (blocks_in r)) o.is_image, counted-classed o.chunks, t.total)
 
 pub sparse_are_blocks : (h : Header) (long image : ℕ) (x : List ℕ) → SparseOpened h long image x
     → AreBlocks h.blk_sz (sparse_list x)
 sparse_are_blocks h long image x o =
     let p = parted x h o.chunks o.rest o.is_image in
-    let t = through h (length x) h.total_chunks 0 0 (drop h.file_hdr_sz x) o.chunks o.rest p.chunks in
+    let t = read_through h (length x) h.total_chunks 0 0 (drop h.file_hdr_sz x) o.chunks o.rest p.chunks in
     subst (λ (l : List Block). AreBlocks h.blk_sz l) (sym (ap blocks_in o.is_image)) t.good
 
 pub sparse_one : (b : ℕ) → 0 ≤ b

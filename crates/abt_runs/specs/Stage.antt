@@ -16,21 +16,21 @@ is_behind Chunks = true
 is_behind Done = true
 is_behind s = false
 
-abbrev pub is_done : Stage → Bool
-is_done Done = true
-is_done s = false
+abbrev pub is_opening_done : Stage → Bool
+is_opening_done Done = true
+is_opening_done s = false
 
 -- it answers what it answered before
-abbrev pub IsOver : Stage → Type 0
-IsOver Done = ⊤
-IsOver (Failed f) = ⊤
-IsOver s = ⊥
+abbrev pub IsOpeningOver : Stage → Type 0
+IsOpeningOver Done = ⊤
+IsOpeningOver (Failed f) = ⊤
+IsOpeningOver s = ⊥
 
 -- the stage that an answer leaves
-abbrev pub Leaves : Result Progress RunFault → Stage → Type 0
-Leaves (Ok answers.More) s = s ≡ Chunks
-Leaves (Ok answers.Done) s = s ≡ Done
-Leaves (Err f) s = s ≡ Failed f
+abbrev pub OpeningLeaves : Result Progress RunFault → Stage → Type 0
+OpeningLeaves (Ok answers.More) s = s ≡ Chunks
+OpeningLeaves (Ok answers.Done) s = s ≡ Done
+OpeningLeaves (Err f) s = s ≡ Failed f
 
 abbrev pub is_more : Result Progress RunFault → Bool
 is_more (Ok answers.More) = true

@@ -49,14 +49,18 @@ IsFormat (Sparse f) = number_of f ≤ 10
 IsFormat f = ⊥
 
 -- 1 to 10 alone come of the bytes: 11 where the source has failed in this call and answered so, 14 where it isn't the
--- one whose length was found, and each where the opening had failed so
+-- one whose length was found
+abbrev pub CausedIn : RunFault → ℕ → ℕ → Type 0 → Type 0
+CausedIn (Sparse f) before after Same = number_of f ≤ 10
+CausedIn (Read d) before after Same = (before < after) × (d ≡ devices.Failed)
+CausedIn SourceChanged before after Same = Same → ⊥
+CausedIn TooLarge before after Same = ⊥
+CausedIn (BadBlock n) before after Same = ⊥
+
+-- and each where the opening had failed so
 abbrev pub CausedAt : Stage → RunFault → ℕ → ℕ → Type 0 → Type 0
 CausedAt (stages.Failed f) e before after Same = f ≡ e
-CausedAt s (Sparse f) before after Same = number_of f ≤ 10
-CausedAt s (Read d) before after Same = (before < after) × (d ≡ devices.Failed)
-CausedAt s SourceChanged before after Same = Same → ⊥
-CausedAt s TooLarge before after Same = ⊥
-CausedAt s (BadBlock n) before after Same = ⊥
+CausedAt s e before after Same = CausedIn e before after Same
 
 -- how many steps there are at most
 abbrev pub steps_left : Stage → ℕ → ℕ → ℕ

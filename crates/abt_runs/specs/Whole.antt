@@ -16,12 +16,12 @@ alike_kinds Skip Skip = true
 alike_kinds x y = false
 
 -- the blocks of the first run
-abbrev pub first_of : List (List Block) → List Block
-first_of [] = []
-first_of (g ∷ gs) = g
+abbrev pub blocks_of_first : List (List Block) → List Block
+blocks_of_first [] = []
+blocks_of_first (g ∷ gs) = g
 
 abbrev pub first_run : List Block → List Block
-first_run l = first_of (runs l)
+first_run l = blocks_of_first (runs l)
 
 -- a raw run is cut at cap blocks
 abbrev pub cut_at : RunKind → ℕ → ℕ → ℕ

@@ -1,6 +1,6 @@
 //! The twelve bytes of a chunk's header.
 ghost use Rattle.std.specs.Prelude.{◌≡◌, length};
-ghost use Rattle.abt_runs.specs.Head.{head_of};
+ghost use Rattle.abt_runs.specs.Head.{chunk_header_of};
 
 use abt_sparse::{ChunkHeader, ChunkKind, u16_at, u32_at};
 
@@ -11,7 +11,7 @@ pub const CHUNK_HEADER: usize = 12;
 #[inline(always)]
 pub fn head_at(bytes: &[u8]) -> Option<ChunkHeader>
     requires { length bytes.now ≡ 12 }
-    ensures { result ≡ head_of bytes.now }
+    ensures { result ≡ chunk_header_of bytes.now }
 {
     match ChunkKind::from_code(u16_at(bytes, 0)) {
         Some(kind) => Some(ChunkHeader {

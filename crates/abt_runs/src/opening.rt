@@ -1,6 +1,6 @@
 //! The numbers of an opening between two steps.
 ghost use Rattle.std.specs.Prelude.{◌≤◌, ◌≡◌, ◌+◌, ◌*◌, true};
-ghost use Rattle.abt_runs.specs.Stage.{is_first, is_behind, is_done};
+ghost use Rattle.abt_runs.specs.Stage.{is_first, is_behind, is_opening_done};
 
 use crate::stage::Stage;
 use abt_sparse::SparseHeader;
@@ -27,5 +27,5 @@ pub struct Opening {
     pub ghost placed: { at ≤ 65535 + 4294967295 * index },
     pub ghost first: { is_first stage ≡ true → at ≡ 0 },
     pub ghost behind: { is_behind stage ≡ true → header.file_hdr_sz ≤ at },
-    pub ghost whole: { is_done stage ≡ true → (index ≡ header.total_chunks) × (have ≡ header.total_blks) },
+    pub ghost whole: { is_opening_done stage ≡ true → (index ≡ header.total_chunks) × (have ≡ header.total_blks) },
 }

@@ -1,13 +1,14 @@
 //! The steps of an opening.
-ghost use Rattle.std.specs.Prelude.{◌≡◌, ◌<◌, ◌≤◌, ◌+◌, ◌-◌, ◌^◌, ℕ, List, IsTrue, IfOk, IfErr, OnOk, Result, Ok};
-ghost use Rattle.std.specs.Prelude.{Err, length, take, drop, max, true, false};
+ghost use Rattle.std.specs.Prelude.{◌≡◌, ◌<◌, ◌≤◌, ◌+◌, ℕ, List, IsTrue, IfErr, OnOk, Result, Err, length, take, drop};
+ghost use Rattle.std.specs.Prelude.{false};
+ghost use Rattle.abt_io.specs.Lent.{OnlyReads};
 ghost use Rattle.abt_sparse.specs.Chunk.{Header};
-ghost use Rattle.abt_sparse.specs.Reading.{outcome, kind_at, number_at};
-ghost use Rattle.abt_sparse.specs.View.{view};
+ghost use Rattle.abt_sparse.specs.Reading.{outcome};
 ghost use Rattle.abt_sparse.specs.declared.fault.SparseFault.{SparseFault as SparseFaults};
-ghost use Rattle.abt_runs.specs.Stage.{Leaves, IsOver, is_done, is_more};
-ghost use Rattle.abt_runs.specs.Verdict.{ComesTo, SameLength, CausedAt, IsFormat, ends, to_do};
-ghost use Rattle.abt_runs.specs.Head.{head_of};
+ghost use Rattle.abt_runs.specs.Stage.{OpeningLeaves, IsOpeningOver, is_opening_done, is_more};
+ghost use Rattle.abt_runs.specs.Verdict.{ComesTo, SameLength, CausedAt, IsFormat, ends};
+ghost use Rattle.abt_runs.specs.Advance.{Advances, AtChunk, Takes, HeaderCosts};
+ghost use Rattle.abt_runs.specs.Head.{chunk_header_of};
 
 use crate::head::{CHUNK_HEADER, head_at};
 use crate::reading::load;
@@ -46,7 +47,7 @@ impl Opening {
 
     /// Whether the image is opened.
     pub fn done(&self) -> bool
-        ensures { result ≡ is_done self.now.stage }
+        ensures { result ≡ is_opening_done self.now.stage }
     {
         match self.stage {
             Stage::Done => true,
@@ -70,9 +71,7 @@ impl Opening {
         requires long { 28 ≤ size }
         ensures keeps { (x : List ℕ) → length x ≡ size → bytes.now ≡ take 28 x → (v : Result (Header × ℕ) SparseFaults)
             → ComesTo self.old x v → ComesTo self.new x v }
-        ensures leaves { Leaves result self.new.stage }
-        ensures on { OnOk result ((is_more result ≡ true) × (28 ≤ self.new.at) × (to_do self.new < to_do self.old)) }
-        ensures own { IfErr result IsFormat }
+        ensures takes { Takes 28 result self.old self.new }
     {
         match header_of(bytes) {
             Ok(header) => {
@@ -96,16 +95,10 @@ impl Opening {
     /// The step over the bytes of a chunk's header.
     #[inline(always)]
     fn take_chunk(&mut self, bytes: &[u8]) -> Result<Progress, RunFault>
-        requires here { self.old.stage ≡ Stage.Chunks }
-        requires more { self.old.index < self.old.header.total_chunks }
-        requires there { self.old.at + 12 ≤ self.old.length }
-        requires whole { length bytes.now ≡ 12 }
+        requires chunk { AtChunk self.old bytes.now }
         ensures keeps { (x : List ℕ) → bytes.now ≡ take 12 (drop self.old.at x) → (v : Result (Header × ℕ) SparseFaults)
             → ComesTo self.old x v → ComesTo self.new x v }
-        ensures leaves { Leaves result self.new.stage }
-        ensures on { OnOk result ((is_more result ≡ true) × (self.old.at + 12 ≤ self.new.at) ×
-            (to_do self.new < to_do self.old)) }
-        ensures own { IfErr result IsFormat }
+        ensures takes { Takes (self.old.at + 12) result self.old self.new }
     {
         match head_at(bytes) {
             Some(chunk) => self.take_known(bytes, chunk),
@@ -119,17 +112,11 @@ impl Opening {
     /// The same where the type is known.
     #[inline(always)]
     fn take_known(&mut self, bytes: &[u8], chunk: ChunkHeader) -> Result<Progress, RunFault>
-        requires here { self.old.stage ≡ Stage.Chunks }
-        requires more { self.old.index < self.old.header.total_chunks }
-        requires there { self.old.at + 12 ≤ self.old.length }
-        requires whole { length bytes.now ≡ 12 }
-        requires known { head_of bytes.now ≡ Some chunk }
+        requires chunk { AtChunk self.old bytes.now }
+        requires known { chunk_header_of bytes.now ≡ Some chunk }
         ensures keeps { (x : List ℕ) → bytes.now ≡ take 12 (drop self.old.at x) → (v : Result (Header × ℕ) SparseFaults)
             → ComesTo self.old x v → ComesTo self.new x v }
-        ensures leaves { Leaves result self.new.stage }
-        ensures on { OnOk result ((is_more result ≡ true) × (self.old.at + 12 ≤ self.new.at) ×
-            (to_do self.new < to_do self.old)) }
-        ensures own { IfErr result IsFormat }
+        ensures takes { Takes (self.old.at + 12) result self.old self.new }
     {
         let header = self.header;
         let data = data_length(header.blk_sz, chunk.kind, chunk.blocks);
@@ -160,7 +147,7 @@ impl Opening {
         requires last { self.old.header.total_chunks ≤ self.old.index }
         ensures keeps { (x : List ℕ) (v : Result (Header × ℕ) SparseFaults) → ComesTo self.old x v →
             ComesTo self.new x v }
-        ensures leaves { Leaves result self.new.stage }
+        ensures leaves { OpeningLeaves result self.new.stage }
         ensures over { OnOk result ((is_more result ≡ false) × (self.new.at ≡ self.old.at)) }
         ensures own { IfErr result IsFormat }
     {
@@ -179,21 +166,11 @@ impl Opening {
         m: &mut Meter,
     ) -> Result<Progress, RunFault>
         requires here { self.old.stage ≡ Stage.Header }
-        ensures keeps { IsTrue S.tells → (v : Result (Header × ℕ) SparseFaults) →
-            ComesTo self.old (S.content source.old) v → ComesTo self.new (S.content source.old) v }
-        ensures leaves { Leaves result self.new.stage }
-        ensures fewer { is_more result ≡ true → to_do self.new < to_do self.old }
-        ensures charged { OnOk result (S.given source.new + self.old.at ≤ S.given source.old + self.new.at) }
-        ensures content { IsTrue S.tells → S.content source.new ≡ S.content source.old }
-        ensures frame { S.read_frame source.new ≡ S.read_frame source.old }
-        ensures given { S.given source.old ≤ S.given source.new × S.given source.new ≤ S.given source.old + 28 }
-        ensures some { is_more result ≡ true → S.given source.old + 12 ≤ S.given source.new }
-        ensures calls { S.reads source.new ≤ S.reads source.old + (S.given source.new - S.given source.old) + 1 }
-        ensures turns { m.new.turns.number ≤ m.old.turns.number + (S.given source.new - S.given source.old) + 1 }
-        ensures steps { m.new.steps.number ≡ m.old.steps.number + 1 }
-        ensures greatest { m.new.greatest.number ≡ max m.old.greatest.number (S.given source.new - S.given source.old) }
-        ensures faults { S.read_faults source.old ≤ S.read_faults source.new }
-        ensures clean { OnOk result (S.read_faults source.new ≡ S.read_faults source.old) }
+        ensures reads { OnlyReads result S.Source source.old source.new }
+        ensures opening { Advances S.tells (S.content source.old) (S.given source.old) (S.given source.new) result
+            self.old self.new }
+        ensures costs { HeaderCosts (S.reads source.old) (S.given source.old) (S.reads source.new) (S.given source.new)
+            m.old m.new }
         ensures cause { IfErr result (λ e. CausedAt self.old.stage e (S.read_faults source.old)
             (S.read_faults source.new) (IsTrue S.tells ×
             SameLength self.old.stage self.old.length (S.content source.old))) }
@@ -221,23 +198,13 @@ impl Opening {
         m: &mut Meter,
     ) -> Result<Progress, RunFault>
         requires here { self.old.stage ≡ Stage.Chunks }
-        ensures keeps { IsTrue S.tells → (v : Result (Header × ℕ) SparseFaults) →
-            ComesTo self.old (S.content source.old) v → ComesTo self.new (S.content source.old) v }
+        ensures reads { OnlyReads result S.Source source.old source.new }
+        ensures opening { Advances S.tells (S.content source.old) (S.given source.old) (S.given source.new) result
+            self.old self.new }
+        ensures costs { HeaderCosts (S.reads source.old) (S.given source.old) (S.reads source.new) (S.given source.new)
+            m.old m.new }
         ensures length { self.old.stage ≡ Stage.Chunks → self.old.index < self.old.header.total_chunks →
             IfErr result (λ e. IsFormat e → S.size source.old ≡ self.old.length) }
-        ensures leaves { Leaves result self.new.stage }
-        ensures fewer { is_more result ≡ true → to_do self.new < to_do self.old }
-        ensures charged { OnOk result (S.given source.new + self.old.at ≤ S.given source.old + self.new.at) }
-        ensures content { IsTrue S.tells → S.content source.new ≡ S.content source.old }
-        ensures frame { S.read_frame source.new ≡ S.read_frame source.old }
-        ensures given { S.given source.old ≤ S.given source.new × S.given source.new ≤ S.given source.old + 28 }
-        ensures some { is_more result ≡ true → S.given source.old + 12 ≤ S.given source.new }
-        ensures calls { S.reads source.new ≤ S.reads source.old + (S.given source.new - S.given source.old) + 1 }
-        ensures turns { m.new.turns.number ≤ m.old.turns.number + (S.given source.new - S.given source.old) + 1 }
-        ensures steps { m.new.steps.number ≡ m.old.steps.number + 1 }
-        ensures greatest { m.new.greatest.number ≡ max m.old.greatest.number (S.given source.new - S.given source.old) }
-        ensures faults { S.read_faults source.old ≤ S.read_faults source.new }
-        ensures clean { OnOk result (S.read_faults source.new ≡ S.read_faults source.old) }
         ensures cause { IfErr result (λ e. CausedAt self.old.stage e (S.read_faults source.old)
             (S.read_faults source.new) (IsTrue S.tells ×
             SameLength self.old.stage self.old.length (S.content source.old))) }
@@ -276,24 +243,14 @@ impl Opening {
         w: &mut Window,
         m: &mut Meter,
     ) -> Result<Progress, RunFault>
-        ensures keeps { IsTrue S.tells → (v : Result (Header × ℕ) SparseFaults) →
-            ComesTo self.old (S.content source.old) v → ComesTo self.new (S.content source.old) v }
+        ensures reads { OnlyReads result S.Source source.old source.new }
+        ensures opening { Advances S.tells (S.content source.old) (S.given source.old) (S.given source.new) result
+            self.old self.new }
+        ensures costs { HeaderCosts (S.reads source.old) (S.given source.old) (S.reads source.new) (S.given source.new)
+            m.old m.new }
         ensures length { self.old.stage ≡ Stage.Chunks → self.old.index < self.old.header.total_chunks →
             IfErr result (λ e. IsFormat e → S.size source.old ≡ self.old.length) }
-        ensures leaves { Leaves result self.new.stage }
-        ensures fewer { is_more result ≡ true → to_do self.new < to_do self.old }
-        ensures again { IsOver self.old.stage → (self.new ≡ self.old) × (source.new ≡ source.old) }
-        ensures charged { OnOk result (S.given source.new + self.old.at ≤ S.given source.old + self.new.at) }
-        ensures content { IsTrue S.tells → S.content source.new ≡ S.content source.old }
-        ensures frame { S.read_frame source.new ≡ S.read_frame source.old }
-        ensures given { S.given source.old ≤ S.given source.new × S.given source.new ≤ S.given source.old + 28 }
-        ensures some { is_more result ≡ true → S.given source.old + 12 ≤ S.given source.new }
-        ensures calls { S.reads source.new ≤ S.reads source.old + (S.given source.new - S.given source.old) + 1 }
-        ensures turns { m.new.turns.number ≤ m.old.turns.number + (S.given source.new - S.given source.old) + 1 }
-        ensures steps { m.new.steps.number ≡ m.old.steps.number + 1 }
-        ensures greatest { m.new.greatest.number ≡ max m.old.greatest.number (S.given source.new - S.given source.old) }
-        ensures faults { S.read_faults source.old ≤ S.read_faults source.new }
-        ensures clean { OnOk result (S.read_faults source.new ≡ S.read_faults source.old) }
+        ensures again { IsOpeningOver self.old.stage → (self.new ≡ self.old) × (source.new ≡ source.old) }
         ensures cause { IfErr result (λ e. CausedAt self.old.stage e (S.read_faults source.old)
             (S.read_faults source.new) (IsTrue S.tells ×
             SameLength self.old.stage self.old.length (S.content source.old))) }

@@ -1,6 +1,6 @@
 //! Places of an image, parts of it that are of one class, and why reading one is refused.
 ghost use Rattle.std.specs.Prelude.{◌≡◌};
-ghost use Rattle.abt_runs.specs.Number.{number_of};
+ghost use Rattle.abt_runs.specs.Number.{run_fault_number};
 
 use abt_io::DeviceFault;
 use abt_sparse::SparseFault;
@@ -71,7 +71,7 @@ pub enum RunFault {
 impl RunFault {
     /// The number of the fault in the list of all faults of images.
     pub fn number(&self) -> u32
-        ensures { result ≡ number_of self.now }
+        ensures { result ≡ run_fault_number self.now }
     {
         match self {
             RunFault::Sparse(fault) => fault.number(),

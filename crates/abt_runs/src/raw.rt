@@ -1,10 +1,13 @@
 //! A raw image as classed blocks: each block of one word all over is fill, any other is raw.
-ghost use Rattle.std.specs.Prelude.{◌≡◌, ◌<◌, ◌≤◌, ◌+◌, ◌-◌, ◌*◌, ◌/◌, ◌%◌, ◌^◌, ◌++◌, ℕ, IsTrue, IsNone, false};
-ghost use Rattle.std.specs.Prelude.{IfOk, IfErr, IfSome, IfNone, length, take, drop, map, replicate, slice_range};
+ghost use Rattle.std.specs.Prelude.{◌≡◌, ◌<◌, ◌≤◌, ◌+◌, ◌-◌, ◌*◌, ◌/◌, ◌%◌, ◌^◌, ◌++◌, IsTrue, false, IfOk, IfErr};
+ghost use Rattle.std.specs.Prelude.{IfNone, length, take, drop, map, replicate, slice_range};
 ghost use Rattle.abt_sparse.specs.Block.{split, class_of, classify};
-ghost use Rattle.abt_runs.specs.Part.{AllOf, Caused, is_end, next_ask};
+ghost use Rattle.abt_io.specs.Lent.{NoStep};
+ghost use Rattle.abt_runs.specs.Part.{AllOf, is_end, next_ask};
+ghost use Rattle.abt_runs.specs.Loads.{Loads};
 ghost use Rattle.abt_runs.specs.Words.{kind_of_word};
-ghost use Rattle.abt_runs.specs.Raw.{RawPlace, RawPlace-prop, raw_charge, raw_padding, raw_before, raw_held, Refused};
+ghost use Rattle.abt_runs.specs.Raw.{RawPlace, RawPlace-prop, raw_charge, raw_padding, raw_before, raw_held};
+ghost use Rattle.abt_runs.specs.Raw.{RefusedRaw};
 ghost use Rattle.abt_runs.specs.RawLaws.{raw_left, raw_long, raw_are_blocks, own_size, raw_passed, raw_copied_fits};
 ghost use Rattle.abt_runs.specs.RawLaws.{raw_held_grows, raw_place_afresh, raw_afresh, raw_spared, raw_economy};
 ghost use Rattle.abt_runs.specs.RawLaws.{raw_padded, raw_inside};
@@ -19,8 +22,7 @@ const MOST_ZEROS: usize = 64;
 /// Ticks once for each of so many words.
 fn tick_words(words: usize, m: &mut Meter)
     ensures turns { m.new.turns.number ≡ m.old.turns.number + words }
-    ensures steps { m.new.steps.number ≡ m.old.steps.number }
-    ensures greatest { m.new.greatest.number ≡ m.old.greatest.number }
+    ensures no_step { NoStep m.old m.new }
 {
     for _ in 0..words {
         m.tick();
@@ -59,8 +61,7 @@ pub fn leading(blocks: &[u8], size: usize, n: u32, m: &mut Meter) -> (RunKind, u
     ensures all { AllOf result.0 (map class_of (split size result.1 blocks.now)) }
     ensures turns { 2 * m.new.turns.number + size / 2 ≤ 2 * m.old.turns.number + length blocks.now }
     ensures looked { 4 * m.new.turns.number ≤ 4 * m.old.turns.number + (result.1 + 1) * (size + 4) }
-    ensures steps { m.new.steps.number ≡ m.old.steps.number }
-    ensures greatest { m.new.greatest.number ≡ m.old.greatest.number }
+    ensures no_step { NoStep m.old m.new }
 {
     let word = equal_word(&blocks[..size]);
     tick_words(size / 4, m);
@@ -97,16 +98,7 @@ pub fn load_filled<S: Source>(
     ensures bytes { IsTrue S.tells →
         IfNone result.fault (slice_range w.new.bytes 0 room ≡ take want (drop at (S.content source.old)) ++ replicate
         (room - want) 0) }
-    ensures content { IsTrue S.tells → S.content source.new ≡ S.content source.old }
-    ensures frame { S.read_frame source.new ≡ S.read_frame source.old }
-    ensures given { S.given source.new ≡ S.given source.old + result.received }
-    ensures calls { S.reads source.new ≤ S.reads source.old + result.received + 1 }
-    ensures turns { m.new.turns.number ≤ m.old.turns.number + result.received + 1 }
-    ensures steps { m.new.steps.number ≡ m.old.steps.number }
-    ensures greatest { m.new.greatest.number ≡ m.old.greatest.number }
-    ensures faults { S.read_faults source.old ≤ S.read_faults source.new }
-    ensures clean { IsNone result.fault → S.read_faults source.new ≡ S.read_faults source.old }
-    ensures cause { IfSome result.fault (λ e. Caused e S.tells (S.read_faults source.old) (S.read_faults source.new)) }
+    ensures loads { Loads result.fault result.received S.Source source.old source.new m.old m.new }
 {
     let loaded = load(source, at, want, w, m);
     w.is_whole();
@@ -133,7 +125,7 @@ impl RawRuns {
     pub fn open<S: Source>(source: &S, size: u32) -> Result<RawRuns, RunFault>
         ensures size { IfOk result (λ r. (r.size ≡ size) × (r.length ≡ S.size source.now)) }
         ensures opened { IsTrue S.tells → IfOk result (λ r. r.length ≡ length (S.content source.now)) }
-        ensures refused { IfErr result (λ e. Refused e size (S.size source.now)) }
+        ensures refused { IfErr result (λ e. RefusedRaw e size (S.size source.now)) }
     {
         if size < 4 || size > 65_536 || size % 4 != 0 {
             return Err(RunFault::BadBlock(size));
@@ -299,7 +291,7 @@ impl BlockRuns for RawRuns {
     }
 
     fn next_part<S: Source>(
-        &mut self,
+        &self,
         source: &mut S,
         from: Cursor,
         cap: u32,
@@ -339,7 +331,7 @@ impl BlockRuns for RawRuns {
     }
 
     fn next_raw<S: Source>(
-        &mut self,
+        &self,
         _source: &mut S,
         from: Cursor,
         cap: u32,
@@ -360,7 +352,7 @@ impl BlockRuns for RawRuns {
     }
 
     fn copy<S: Source>(
-        &mut self,
+        &self,
         source: &mut S,
         here: Cursor,
         at: u64,

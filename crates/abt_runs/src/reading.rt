@@ -1,6 +1,6 @@
 //! Reading bytes of the source at a place into the window.
-ghost use Rattle.std.specs.Prelude.{◌≡◌, ◌<◌, ◌≤◌, ◌+◌, ◌^◌, IsTrue, IsNone, IfSome, IfNone, length, take, drop};
-ghost use Rattle.abt_runs.specs.Part.{Caused};
+ghost use Rattle.std.specs.Prelude.{◌≡◌, ◌<◌, ◌≤◌, ◌+◌, ◌^◌, IsTrue, IfNone, length, take, drop};
+ghost use Rattle.abt_runs.specs.Loads.{Loads};
 
 use crate::RunFault;
 use abt_io::{Meter, Source, Window, read_full_at};
@@ -28,17 +28,7 @@ pub fn load<S: Source>(
     ensures whole { IfNone result.fault (result.received ≡ want) }
     ensures bytes { IsTrue S.tells →
         IfNone result.fault (take want w.new.bytes ≡ take want (drop at (S.content source.old))) }
-    ensures content { IsTrue S.tells → S.content source.new ≡ S.content source.old }
-    ensures size { IsTrue S.tells → S.size source.new ≡ S.size source.old }
-    ensures frame { S.read_frame source.new ≡ S.read_frame source.old }
-    ensures given { S.given source.new ≡ S.given source.old + result.received }
-    ensures calls { S.reads source.new ≤ S.reads source.old + result.received + 1 }
-    ensures turns { m.new.turns.number ≤ m.old.turns.number + result.received + 1 }
-    ensures steps { m.new.steps.number ≡ m.old.steps.number }
-    ensures greatest { m.new.greatest.number ≡ m.old.greatest.number }
-    ensures faults { S.read_faults source.old ≤ S.read_faults source.new }
-    ensures clean { IsNone result.fault → S.read_faults source.new ≡ S.read_faults source.old }
-    ensures cause { IfSome result.fault (λ e. Caused e S.tells (S.read_faults source.old) (S.read_faults source.new)) }
+    ensures loads { Loads result.fault result.received S.Source source.old source.new m.old m.new }
 {
     w.is_whole();
     let got = read_full_at(source, at, w.part_mut(0, want), m);

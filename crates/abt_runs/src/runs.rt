@@ -1,12 +1,12 @@
 //! The trait of opened images: what is known of one, and how it is read in repeated passes.
-ghost use Rattle.std.specs.Prelude.{◌≡◌, ◌<◌, ◌≤◌, ◌+◌, ◌-◌, ◌*◌, ◌%◌, ◌^◌, ◌↔◌, ℕ, List, IsTrue, IfOk, IfErr, OnOk};
-ghost use Rattle.std.specs.Prelude.{length, take, drop, min, max};
+ghost use Rattle.std.specs.Prelude.{◌≡◌, ◌<◌, ◌≤◌, ◌+◌, ◌-◌, ◌*◌, ◌%◌, ◌^◌, ℕ, List, IsTrue, IfOk, IfErr, length, take};
+ghost use Rattle.std.specs.Prelude.{drop};
 ghost use Rattle.abt_io.specs.Count.{count_of};
+ghost use Rattle.abt_io.specs.Lent.{OnlyReads};
 ghost use Rattle.abt_sparse.specs.Block.{Block, AreBlocks};
 ghost use Rattle.abt_runs.specs.declared.part.Cursor.{Cursor};
-ghost use Rattle.abt_runs.specs.Part.{AllOf, Capped, Caused, Afresh, afresh, entry, is_end, raw_of};
-ghost use Rattle.abt_runs.specs.Found.{Found, Told, Asked, PartCosts};
-ghost use Rattle.abt_runs.specs.Whole.{RunOf};
+ghost use Rattle.abt_runs.specs.Part.{AllOf, RunCaused, Afresh, afresh, raw_of};
+ghost use Rattle.abt_runs.specs.Found.{Found, IsToldRun, Asked, PartCosts, CopyCosts, FoundRun, ToldRun, RunCosts};
 
 use crate::whole::{joined, none_yet, room};
 use crate::{Cursor, Run, RunFault, RunKind};
@@ -104,7 +104,7 @@ pub trait BlockRuns {
     /// It refuses with `Read` where the source has failed, and with `SourceChanged` where the
     /// source is no longer the one that was opened.
     fn next_part<S: Source>(
-        &mut self,
+        &self,
         source: &mut S,
         from: Cursor,
         cap: u32,
@@ -112,26 +112,23 @@ pub trait BlockRuns {
         m: &mut Meter,
     ) -> Result<Run, RunFault>
         requires some { 0 < cap }
-        requires within { within self.old from }
-        requires told { IsTrue S.tells → opened self.old (S.content source.old) ×
-            place self.old (S.content source.old) from }
-        ensures same { self.new ≡ self.old }
-        ensures content { IsTrue S.tells → S.content source.new ≡ S.content source.old }
-        ensures frame { S.read_frame source.new ≡ S.read_frame source.old }
-        ensures told { IsTrue S.tells → IfOk result (λ r. Told (list self.old (S.content source.old)) (within self.old)
-            (place self.old (S.content source.old)) (together self.old (S.content source.old)) (copied self.old)
-            (charge self.old) from cap r) }
-        ensures found { IfOk result (λ r. Found (within self.old) (size self.old) (count self.old) (left self.old)
-            (charge self.old) (reach self.old) (taken self.old) (copied self.old) (padding self.old) (held self.old)
+        requires within { within self.now from }
+        requires told { IsTrue S.tells → opened self.now (S.content source.old) ×
+            place self.now (S.content source.old) from }
+        ensures reads { OnlyReads result S.Source source.old source.new }
+        ensures told { IsTrue S.tells
+            → IfOk result (λ r. IsToldRun (list self.now (S.content source.old)) (within self.now)
+            (place self.now (S.content source.old)) (together self.now (S.content source.old)) (copied self.now)
+            (charge self.now) from cap r) }
+        ensures found { IfOk result (λ r. Found (within self.now) (size self.now) (count self.now) (left self.now)
+            (charge self.now) (reach self.now) (taken self.now) (copied self.now) (padding self.now) (held self.now)
             from cap (S.given source.old) (S.given source.new) r) }
-        ensures asked { IfOk result (λ r. Asked (S.size source.old) (source_size self.old) (S.given source.old)
+        ensures asked { IfOk result (λ r. Asked (S.size source.old) (source_size self.now) (S.given source.old)
             (S.given source.new) r) }
-        ensures costs { PartCosts (padding self.old from) (S.reads source.old) (S.given source.old) (S.reads source.new)
+        ensures costs { PartCosts (padding self.now from) (S.reads source.old) (S.given source.old) (S.reads source.new)
             (S.given source.new) m.old m.new }
-        ensures most { S.given source.new ≤ S.given source.old + 16 + cap * one self.old }
-        ensures faults { S.read_faults source.old ≤ S.read_faults source.new }
-        ensures clean { OnOk result (S.read_faults source.new ≡ S.read_faults source.old) }
-        ensures cause { IfErr result (λ e. Caused e S.tells (S.read_faults source.old) (S.read_faults source.new)) };
+        ensures most { S.given source.new ≤ S.given source.old + 16 + cap * one self.now }
+        ensures cause { IfErr result (λ e. RunCaused e S.tells (S.read_faults source.old) (S.read_faults source.new)) };
 
     /// The next part of a run that is known to be raw, of the `cap` blocks from a place on. It is
     /// that of `next_part`, or all of them without a read, where the blocks' places need no header.
@@ -139,7 +136,7 @@ pub trait BlockRuns {
     ///
     /// It refuses as `next_part` does.
     fn next_raw<S: Source>(
-        &mut self,
+        &self,
         source: &mut S,
         from: Cursor,
         cap: u32,
@@ -147,27 +144,24 @@ pub trait BlockRuns {
         m: &mut Meter,
     ) -> Result<Run, RunFault>
         requires some { 0 < cap }
-        requires within { within self.old from }
-        requires inside { from.block + cap ≤ count self.old }
-        requires told { IsTrue S.tells → opened self.old (S.content source.old) ×
-            place self.old (S.content source.old) from }
+        requires within { within self.now from }
+        requires inside { from.block + cap ≤ count self.now }
+        requires told { IsTrue S.tells → opened self.now (S.content source.old) ×
+            place self.now (S.content source.old) from }
         requires raw { IsTrue S.tells →
-            AllOf RunKind.Raw (take cap (drop from.block (list self.old (S.content source.old)))) }
-        ensures same { self.new ≡ self.old }
-        ensures content { IsTrue S.tells → S.content source.new ≡ S.content source.old }
-        ensures frame { S.read_frame source.new ≡ S.read_frame source.old }
-        ensures told { IsTrue S.tells → IfOk result (λ r. Told (list self.old (S.content source.old)) (within self.old)
-            (place self.old (S.content source.old)) (together self.old (S.content source.old)) (copied self.old)
-            (charge self.old) from cap r) }
-        ensures found { IfOk result (λ r. Found (within self.old) (size self.old) (count self.old) (left self.old)
-            (charge self.old) (reach self.old) (taken self.old) (copied self.old) (padding self.old) (held self.old)
+            AllOf RunKind.Raw (take cap (drop from.block (list self.now (S.content source.old)))) }
+        ensures reads { OnlyReads result S.Source source.old source.new }
+        ensures told { IsTrue S.tells
+            → IfOk result (λ r. IsToldRun (list self.now (S.content source.old)) (within self.now)
+            (place self.now (S.content source.old)) (together self.now (S.content source.old)) (copied self.now)
+            (charge self.now) from cap r) }
+        ensures found { IfOk result (λ r. Found (within self.now) (size self.now) (count self.now) (left self.now)
+            (charge self.now) (reach self.now) (taken self.now) (copied self.now) (padding self.now) (held self.now)
             from cap (S.given source.old) (S.given source.new) r) }
-        ensures costs { PartCosts (padding self.old from) (S.reads source.old) (S.given source.old) (S.reads source.new)
+        ensures costs { PartCosts (padding self.now from) (S.reads source.old) (S.given source.old) (S.reads source.new)
             (S.given source.new) m.old m.new }
         ensures fetched { IfOk result (λ r. S.given source.new ≡ S.given source.old → r.blocks ≡ cap) }
-        ensures faults { S.read_faults source.old ≤ S.read_faults source.new }
-        ensures clean { OnOk result (S.read_faults source.new ≡ S.read_faults source.old) }
-        ensures cause { IfErr result (λ e. Caused e S.tells (S.read_faults source.old) (S.read_faults source.new)) };
+        ensures cause { IfErr result (λ e. RunCaused e S.tells (S.read_faults source.old) (S.read_faults source.new)) };
 
     /// Bytes of the raw blocks that stand together at a place, from byte `at` of these on, by at
     /// most one read: how many came to the front of `out`, 0 only where `out` is empty. The call is
@@ -176,7 +170,7 @@ pub trait BlockRuns {
     ///
     /// It refuses as `next_part` does.
     fn copy<S: Source>(
-        &mut self,
+        &self,
         source: &mut S,
         here: Cursor,
         at: u64,
@@ -184,32 +178,22 @@ pub trait BlockRuns {
         m: &mut Meter,
     ) -> Result<usize, RunFault>
         requires window { length out.old ≤ 65536 }
-        requires within { within self.old here }
-        requires room { at + length out.old ≤ reach self.old here }
-        requires told { IsTrue S.tells → opened self.old (S.content source.old) ×
-            place self.old (S.content source.old) here }
-        ensures same { self.new ≡ self.old }
-        ensures content { IsTrue S.tells → S.content source.new ≡ S.content source.old }
-        ensures frame { S.read_frame source.new ≡ S.read_frame source.old }
+        requires within { within self.now here }
+        requires room { at + length out.old ≤ reach self.now here }
+        requires told { IsTrue S.tells → opened self.now (S.content source.old) ×
+            place self.now (S.content source.old) here }
+        ensures reads { OnlyReads result S.Source source.old source.new }
         ensures within { count_of result ≤ length out.new }
         ensures some { IfOk result (λ n. 0 < length out.new → 0 < n) }
-        ensures bytes { IsTrue S.tells → IfOk result (λ n. (q : ℕ) → q ≤ together self.old (S.content source.old) here →
-            AllOf RunKind.Raw (take q (drop here.block (list self.old (S.content source.old)))) →
-            at + n ≤ q * size self.old →
+        ensures bytes { IsTrue S.tells → IfOk result (λ n. (q : ℕ) → q ≤ together self.now (S.content source.old) here →
+            AllOf RunKind.Raw (take q (drop here.block (list self.now (S.content source.old)))) →
+            at + n ≤ q * size self.now →
             take n out.new
-            ≡ take n (drop at (raw_of (take q (drop here.block (list self.old (S.content source.old))))))) }
-        ensures given { S.given source.old ≤ S.given source.new × S.given source.new ≤ S.given source.old + count_of
-            result }
-        ensures read { S.given source.new + held self.old here at ≤ S.given source.old + held self.old here
-            (at + count_of result) }
+            ≡ take n (drop at (raw_of (take q (drop here.block (list self.now (S.content source.old))))))) }
         ensures few { IfOk result (λ n. n ≤ 80 + (S.given source.new - S.given source.old)) }
-        ensures calls { S.reads source.new ≤ S.reads source.old + 1 }
-        ensures turns { m.new.turns.number ≡ m.old.turns.number }
-        ensures steps { m.new.steps.number ≡ m.old.steps.number + 1 }
-        ensures greatest { m.new.greatest.number ≡ max m.old.greatest.number (S.given source.new - S.given source.old) }
-        ensures faults { S.read_faults source.old ≤ S.read_faults source.new }
-        ensures clean { OnOk result (S.read_faults source.new ≡ S.read_faults source.old) }
-        ensures cause { IfErr result (λ e. Caused e S.tells (S.read_faults source.old) (S.read_faults source.new)) };
+        ensures costs { CopyCosts (held self.now here) at (count_of result) (S.reads source.old) (S.given source.old)
+            (S.reads source.new) (S.given source.new) m.old m.new }
+        ensures cause { IfErr result (λ e. RunCaused e S.tells (S.read_faults source.old) (S.read_faults source.new)) };
 
     /// The run of blocks of one class that begins at a place: all that stand together, but at most
     /// `cap` of them where they are raw. It is `RunKind::End` exactly where no block is left, of
@@ -217,7 +201,7 @@ pub trait BlockRuns {
     ///
     /// It refuses as `next_part` does.
     final fn next_run<S: Source>(
-        &mut self,
+        &self,
         source: &mut S,
         from: Cursor,
         cap: u32,
@@ -225,38 +209,17 @@ pub trait BlockRuns {
         m: &mut Meter,
     ) -> Result<Run, RunFault>
         requires some { 0 < cap }
-        requires within { within self.old from }
-        requires told { IsTrue S.tells → opened self.old (S.content source.old) ×
-            place self.old (S.content source.old) from }
-        ensures same { self.new ≡ self.old }
-        ensures content { IsTrue S.tells → S.content source.new ≡ S.content source.old }
-        ensures frame { S.read_frame source.new ≡ S.read_frame source.old }
-        ensures run { IsTrue S.tells →
-            IfOk result (λ r. RunOf cap (list self.old (S.content source.old)) from.block r) }
-        ensures places { IsTrue S.tells → IfOk result (λ r. place self.old (S.content source.old) r.here ×
-            place self.old (S.content source.old) r.next) }
-        ensures nowhere { IfOk result (λ r. r.blocks ≡ 0 → r.here ≡ r.next) }
-        ensures stands { IsTrue S.tells →
-            IfOk result (λ r. r.kind ≡ RunKind.Raw → 0 < together self.old (S.content source.old) r.here) }
-        ensures within { IfOk result (λ r. within self.old r.here × within self.old r.next) }
-        ensures reached { IfOk result (λ r. r.kind ≡ RunKind.Raw → size self.old ≤ reach self.old r.here) }
-        ensures moved { IfOk result (λ r. (r.here.block ≡ from.block) × (r.next.block ≡ from.block + r.blocks)) }
-        ensures capped { IfOk result (λ r. Capped cap r) }
-        ensures end { IfOk result (λ r. IsTrue (is_end r.kind) ↔ from.block ≡ count self.old) }
-        ensures charged { IfOk result (λ r. S.given source.new + charge self.old from ≤ S.given source.old + charge
-            self.old r.next + entry from + min 65536 (16 + cap * one self.old)) }
-        ensures given { S.given source.old ≤ S.given source.new }
-        ensures received { S.given source.new + 65536 * m.old.steps.number
-            ≤ S.given source.old + 65536 * m.new.steps.number }
-        ensures calls { S.reads source.new + 2 * m.old.steps.number
-            ≤ S.reads source.old + (S.given source.new - S.given source.old) + 2 * m.new.steps.number }
-        ensures turns { m.new.turns.number + (3 + one self.old) * m.old.steps.number
-            ≤ m.old.turns.number + 2 * (S.given source.new - S.given source.old) + (3 + one self.old)
-            * m.new.steps.number + 1 }
-        ensures greatest { m.new.greatest.number ≤ max m.old.greatest.number 65536 }
-        ensures faults { S.read_faults source.old ≤ S.read_faults source.new }
-        ensures clean { OnOk result (S.read_faults source.new ≡ S.read_faults source.old) }
-        ensures cause { IfErr result (λ e. Caused e S.tells (S.read_faults source.old) (S.read_faults source.new)) }
+        requires within { within self.now from }
+        requires told { IsTrue S.tells → opened self.now (S.content source.old) ×
+            place self.now (S.content source.old) from }
+        ensures reads { OnlyReads result S.Source source.old source.new }
+        ensures told { IsTrue S.tells → IfOk result (λ r. ToldRun (list self.now (S.content source.old))
+            (place self.now (S.content source.old)) (together self.now (S.content source.old)) from cap r) }
+        ensures found { IfOk result (λ r. FoundRun (within self.now) (size self.now) (count self.now) (one self.now)
+            (charge self.now) (reach self.now) from cap (S.given source.old) (S.given source.new) r) }
+        ensures costs { RunCosts (one self.now) (S.reads source.old) (S.given source.old) (S.reads source.new)
+            (S.given source.new) m.old m.new }
+        ensures cause { IfErr result (λ e. RunCaused e S.tells (S.read_faults source.old) (S.read_faults source.new)) }
     {
         let mut run = none_yet(from);
         'parts: loop {

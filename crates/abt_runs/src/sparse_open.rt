@@ -1,9 +1,9 @@
 //! Opening a sparse image.
-ghost use Rattle.std.specs.Prelude.{◌≡◌, ◌<◌, ◌≤◌, ◌+◌, ◌-◌, ◌*◌, ℕ, List, IsTrue, IfOk, IfErr, OnOk, length, max};
-ghost use Rattle.std.specs.Prelude.{true};
+ghost use Rattle.std.specs.Prelude.{◌≡◌, ◌≤◌, ◌+◌, ◌-◌, ◌*◌, ℕ, List, IsTrue, IfOk, IfErr, max, true};
+ghost use Rattle.abt_io.specs.Lent.{OnlyReads};
 ghost use Rattle.abt_sparse.specs.Reading.{outcome};
 ghost use Rattle.abt_sparse.specs.View.{view};
-ghost use Rattle.abt_runs.specs.Stage.{is_done};
+ghost use Rattle.abt_runs.specs.Stage.{is_opening_done};
 ghost use Rattle.abt_runs.specs.Verdict.{ComesTo, CausedAt, Refuses, ends};
 ghost use Rattle.abt_runs.specs.Sparse.{SparseOpened};
 
@@ -13,7 +13,7 @@ use abt_io::{Meter, Source, Window};
 impl Opening {
     /// The image that was opened.
     pub fn into_runs(self) -> SparseRuns
-        requires { is_done self.stage ≡ true }
+        requires { is_opening_done self.stage ≡ true }
         ensures image { result.image ≡ self.at }
         ensures opened { (x : List ℕ) → ComesTo self x (ends (outcome x)) →
             SparseOpened (view result.header) result.length result.image x }
@@ -38,16 +38,13 @@ impl SparseRuns {
         ensures opened { IsTrue S.tells →
             IfOk result (λ r. SparseOpened (view r.header) r.length r.image (S.content source.old)) }
         ensures refused { IsTrue S.tells → IfErr result (λ e. Refuses e (outcome (S.content source.old))) }
-        ensures content { IsTrue S.tells → S.content source.new ≡ S.content source.old }
-        ensures frame { S.read_frame source.new ≡ S.read_frame source.old }
+        ensures reads { OnlyReads result S.Source source.old source.new }
         ensures charged { IfOk result (λ r. S.given source.new ≤ S.given source.old + r.image) }
         ensures given { S.given source.old ≤ S.given source.new }
         ensures received { S.given source.new + 28 * m.old.steps.number ≤ S.given source.old + 28 * m.new.steps.number }
         ensures calls { S.reads source.new ≤ S.reads source.old + 2 * (S.given source.new - S.given source.old) + 1 }
         ensures turns { m.new.turns.number ≤ m.old.turns.number + 2 * (S.given source.new - S.given source.old) + 2 }
         ensures greatest { m.new.greatest.number ≤ max m.old.greatest.number 28 }
-        ensures faults { S.read_faults source.old ≤ S.read_faults source.new }
-        ensures clean { OnOk result (S.read_faults source.new ≡ S.read_faults source.old) }
         ensures cause { IfErr result (λ e. CausedAt Stage.Header e (S.read_faults source.old) (S.read_faults source.new)
             (IsTrue S.tells)) }
     {

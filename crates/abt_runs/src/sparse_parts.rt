@@ -1,17 +1,17 @@
 //! A sparse image as classed blocks: its chunks one after the other, each read where it stands.
-ghost use Rattle.std.specs.Prelude.{◌≡◌, ◌<◌, ◌≤◌, ◌+◌, ◌-◌, ◌*◌, ◌^◌, ◌↔◌, ℕ, IsTrue, IsNone, IfSome, IfNone, Some};
-ghost use Rattle.std.specs.Prelude.{length, take, drop, true, false};
+ghost use Rattle.std.specs.Prelude.{◌≡◌, ◌<◌, ◌≤◌, ◌+◌, ◌-◌, ◌^◌, ◌↔◌, IsTrue, IfSome, IfNone, Some, length, take};
+ghost use Rattle.std.specs.Prelude.{drop, true, false};
 ghost use Rattle.abt_sparse.specs.Reading.{counted};
 ghost use Rattle.abt_sparse.specs.View.{view};
 ghost use Rattle.abt_sparse.specs.declared.chunk_header.ChunkHeader.{ChunkHeader as Heads};
-ghost use Rattle.abt_runs.specs.Part.{Caused};
-ghost use Rattle.abt_runs.specs.Head.{head_of, HeadFits, has_word as wants_word, class_of_kind, part_of_chunk};
+ghost use Rattle.abt_runs.specs.Loads.{Loads};
+ghost use Rattle.abt_runs.specs.Head.{chunk_header_of, HeadFits, has_word as wants_word, class_of_kind, part_of_chunk};
 ghost use Rattle.abt_runs.specs.Head.{is_raw as raws};
 ghost use Rattle.abt_runs.specs.Sparse.{SparseOpened, SparsePlace, SparseWithin, SparseWithin-prop, sparse_list};
 ghost use Rattle.abt_runs.specs.Sparse.{sparse_charge, data_place, blocks_together};
-ghost use Rattle.abt_runs.specs.SparseLaws.{sparse_long, sparse_are_blocks, sparse_one, sparse_left};
-ghost use Rattle.abt_runs.specs.SparseLaws.{sparse_held_grows, sparse_place_afresh, sparse_afresh, sparse_spared};
-ghost use Rattle.abt_runs.specs.SparseLaws.{sparse_economy, sparse_padded, sparse_source_long};
+ghost use Rattle.abt_runs.specs.SparseLaws.{sparse_long, sparse_are_blocks, sparse_one, sparse_left, sparse_held_grows};
+ghost use Rattle.abt_runs.specs.SparseLaws.{sparse_place_afresh, sparse_afresh, sparse_spared, sparse_economy};
+ghost use Rattle.abt_runs.specs.SparseLaws.{sparse_padded, sparse_source_long};
 
 use crate::head::{CHUNK_HEADER, head_at};
 use crate::reading::load;
@@ -127,16 +127,7 @@ fn load_word<S: Source>(
     ensures none { wants_word chunk.now.kind chunk.now.blocks ≡ false → result.received ≡ 0 }
     ensures bytes { IsTrue S.tells → IfNone result.fault (wants_word chunk.now.kind chunk.now.blocks ≡ true →
         result.bytes ≡ take 4 (drop at (S.content source.old))) }
-    ensures content { IsTrue S.tells → S.content source.new ≡ S.content source.old }
-    ensures frame { S.read_frame source.new ≡ S.read_frame source.old }
-    ensures given { S.given source.new ≡ S.given source.old + result.received }
-    ensures calls { S.reads source.new ≤ S.reads source.old + result.received + 1 }
-    ensures turns { m.new.turns.number ≤ m.old.turns.number + result.received + 1 }
-    ensures steps { m.new.steps.number ≡ m.old.steps.number }
-    ensures greatest { m.new.greatest.number ≡ m.old.greatest.number }
-    ensures faults { S.read_faults source.old ≤ S.read_faults source.new }
-    ensures clean { IsNone result.fault → S.read_faults source.new ≡ S.read_faults source.old }
-    ensures cause { IfSome result.fault (λ e. Caused e S.tells (S.read_faults source.old) (S.read_faults source.new)) }
+    ensures loads { Loads result.fault result.received S.Source source.old source.new m.old m.new }
 {
     let mut bytes = [0u8; 4];
     if !has_word(chunk) {
@@ -186,8 +177,9 @@ impl SparseRuns {
         requires used { from.used ≤ from.block }
         requires at { from.at ≤ self.now.image }
         ensures fits { IfSome result (λ k. HeadFits (view self.now.header) self.now.image from k) }
-        ensures read { IfSome result (λ k. head_of bytes.now ≡ Some k) }
-        ensures found { (k : Heads) → head_of bytes.now ≡ Some k → HeadFits (view self.now.header) self.now.image from k
+        ensures read { IfSome result (λ k. chunk_header_of bytes.now ≡ Some k) }
+        ensures found { (k : Heads) → chunk_header_of bytes.now ≡ Some k
+            → HeadFits (view self.now.header) self.now.image from k
             → result ≡ Some k }
     {
         match head_at(bytes) {
@@ -299,7 +291,7 @@ impl BlockRuns for SparseRuns {
 
     #[inline(always)]
     fn next_part<S: Source>(
-        &mut self,
+        &self,
         source: &mut S,
         from: Cursor,
         cap: u32,
@@ -350,7 +342,7 @@ impl BlockRuns for SparseRuns {
 
     #[inline(always)]
     fn next_raw<S: Source>(
-        &mut self,
+        &self,
         source: &mut S,
         from: Cursor,
         cap: u32,
@@ -361,7 +353,7 @@ impl BlockRuns for SparseRuns {
     }
 
     fn copy<S: Source>(
-        &mut self,
+        &self,
         source: &mut S,
         here: Cursor,
         at: u64,

@@ -5,7 +5,7 @@ use Rattle.std.proofs.lemmas.List.{take_all}
 use Rattle.std.proofs.Math.ListN.{drop_of_length-le}
 use Rattle.abt_sparse.specs.Block.{Block, Skip, AreBlocks, classify}
 use Rattle.abt_sparse.specs.Chunk.{chunks_of, spelling, header_record, plain_header}
-use Rattle.abt_runs.specs.Raw.{RawPlace, Refused, raw_charge, raw_before, raw_held}
+use Rattle.abt_runs.specs.Raw.{RawPlace, RefusedRaw, raw_charge, raw_before, raw_held}
 use Rattle.abt_runs.specs.RawLaws.{raw_long as raw_count, raw_are_blocks as raw_are}
 use Rattle.abt_runs.specs.declared.part.Cursor.{Cursor}
 use Rattle.abt_runs.specs.declared.part.Run.{Run}
@@ -13,13 +13,13 @@ use Rattle.abt_runs.specs.declared.part.RunKind.{RunKind}
 use Rattle.abt_runs.specs.declared.part.RunKind.TheVariants as kinds
 use Rattle.abt_runs.specs.declared.part.RunFault.{RunFault}
 use Rattle.abt_runs.specs.declared.part.RunFault.TheVariants as of_runs
-use Rattle.abt_pieces.specs.Contents.{head_len, data_len}
+use Rattle.abt_pieces.specs.Contents.{head_len, copy_len}
 use Rattle.abt_pieces.specs.Plan.{between}
 use Rattle.abt_pieces.specs.Gather.{frame, Gathered, Closed, ClosedRun, SoundGatherer, ToldGatherer, first_gatherer, gathered_to}
 use Rattle.abt_pieces.specs.Write.{begins, chunks_in, bytes_of, rest_of, SoundWriter, ToldWriter}
-use Rattle.abt_pieces.specs.Image.{Appended, Leads, IsImage, AreChunks, MayCome}
-use Rattle.abt_pieces.specs.Spent.{both, Spent}
-use Rattle.abt_pieces.specs.Fault.{HasCause, full_in_cut, fault_of_run}
+use Rattle.abt_pieces.specs.Image.{Appended, Leads, IsPlainImage, AreChunks, MayCome}
+use Rattle.abt_pieces.specs.Spent.{charge_and_copied, Spent}
+use Rattle.abt_pieces.specs.Fault.{CutCause, full_in_cut, fault_of_run}
 use Rattle.abt_pieces.specs.declared.fault.PieceFault.{PieceFault}
 use Rattle.abt_pieces.specs.declared.fault.PieceFault.TheVariants.{Read, Write, TooLarge, SourceChanged, BadBlock, LimitTooSmall}
 use Rattle.abt_pieces.specs.declared.gather.Gatherer.{Gatherer}
@@ -29,7 +29,8 @@ use Rattle.abt_pieces.proofs.Cutting.{sound_first, gathered_first}
 use Rattle.abt_pieces.proofs.Going.{run_ended}
 use Rattle.abt_pieces.proofs.Image.{no_raw, chunks_image, leads_same}
 use Rattle.abt_pieces.proofs.Spending.{spent_first}
-use Rattle.abt_sparsify.specs.Sparsify.{writer_at_start, with_run, Counted, SoundCount, no_runs, end_place, read_to, IsRawSize, SparsifyCause}
+use Rattle.abt_sparsify.specs.Sparsify.{writer_at_start, with_run, Counted, CountsOf, SoundCount, no_runs, end_place}
+use Rattle.abt_sparsify.specs.Sparsify.{read_to, IsRawSize, SparsifyCause}
 use Rattle.abt_sparsify.specs.declared.count.Written.{Written}
 
 -- ---- the whole image as its own frame
@@ -83,7 +84,7 @@ first_leads b n r start a w first = leads_same (AreChunks b a.chunks n) (MayCome
     subst (λ (y : List ℕ). AreChunks b a.chunks n y) (sym (m.bytes ∙ ap (λ (y : List ℕ). y ++ m.rest) (no_raw m.raw m.long))) (subst (λ (k : ℕ). AreChunks b a.chunks k m.rest) (let z : 0 + (n - (start.block - start.block)) ≡ n = omega arith in z) m.chunks))
 
 -- the header in front of them
-pub header_chunks : (b n k : ℕ) (w0 w1 w2 : List ℕ) → (0 < b) × (b % 4 ≡ 0) × (b < 2 ^ 32) → n < 2 ^ 32 → k < 2 ^ 32 → w1 ≡ w0 ++ header_record (plain_header b n k) → Appended (AreChunks b k n) w1 w2 → Appended (IsImage b n) w0 w2
+pub header_chunks : (b n k : ℕ) (w0 w1 w2 : List ℕ) → (0 < b) × (b % 4 ≡ 0) × (b < 2 ^ 32) → n < 2 ^ 32 → k < 2 ^ 32 → w1 ≡ w0 ++ header_record (plain_header b n k) → Appended (AreChunks b k n) w1 w2 → Appended (IsPlainImage b n) w0 w2
 header_chunks b n k w0 w1 w2 good few fewer written h = record {
   wrote = header_record (plain_header b n k) ++ h.wrote;
   behind = h.behind ∙ ap (λ (y : List ℕ). y ++ h.wrote) written ∙ append_assoc w0 (header_record (plain_header b n k)) h.wrote;
@@ -97,7 +98,7 @@ counted_on b r n l g h x a some e good gathered closed run c =
     let whole = frame_whole l n e in
     let d = run_ended b r l g h x some good (rw whole at gathered) (rw whole at closed) run in
     let k : chunks_in x.kind (length (between l (begins g) g.at.block)) r ≡ chunks_in x.kind x.blocks r = ap (λ (m : ℕ). chunks_in x.kind m r) d.long in
-    let t : data_len x.kind (length (between l (begins g) g.at.block)) b ≡ data_len x.kind x.blocks b = ap (λ (m : ℕ). data_len x.kind m b) d.long in
+    let t : copy_len x.kind (length (between l (begins g) g.at.block)) b ≡ copy_len x.kind x.blocks b = ap (λ (m : ℕ). copy_len x.kind m b) d.long in
     record {
       chunks = rw d.next (omega (arith, c.chunks, rw k at d.cut.count));
       bytes = rw d.next (omega (arith, c.bytes, rw (k, t) at d.cut.long));
@@ -109,13 +110,13 @@ counted_still r l g h a low high grows c =
     record { chunks = rw same c.chunks; bytes = rw same c.bytes }
 
 -- how much a run takes at most
-run_bound : (k : RunKind) (q c b : ℕ) → 0 < q → c ≤ q → (k ≡ kinds.Raw → c * 12 ≤ q * 12) → (k ≡ kinds.Raw → ⊥) ⊎ (k ≡ kinds.Raw) → c * head_len k + data_len k q b ≤ q * (b + 16)
+run_bound : (k : RunKind) (q c b : ℕ) → 0 < q → c ≤ q → (k ≡ kinds.Raw → c * 12 ≤ q * 12) → (k ≡ kinds.Raw → ⊥) ⊎ (k ≡ kinds.Raw) → c * head_len k + copy_len k q b ≤ q * (b + 16)
 run_bound kinds.Raw q c b some few m o = let z = m refl in omega (arith, z)
 run_bound (kinds.Fill w) q c b some few m o = let z : 16 * c ≤ 16 * q = mul-le-mul_left 16 few in omega (arith, z)
 run_bound kinds.Skip q c b some few m o = let z : 12 * c ≤ 12 * q = mul-le-mul_left 12 few in omega (arith, z)
 run_bound kinds.End q c b some few m o = omega arith
 
-pub run_fits : (k : RunKind) (q r b : ℕ) → 0 < r → 0 < q → chunks_in k q r * head_len k + data_len k q b ≤ q * (b + 16)
+pub run_fits : (k : RunKind) (q r b : ℕ) → 0 < r → 0 < q → chunks_in k q r * head_len k + copy_len k q b ≤ q * (b + 16)
 run_fits k q r b some more = run_bound k q (chunks_in k q r) b more (few_cuts k q r some more) (λ e. let z : 12 * chunks_in k q r ≤ 12 * q = mul-le-mul_left 12 (few_cuts k q r some more) in omega (arith, z)) (raw_or k)
   where
     raw_or : (k : RunKind) → (k ≡ kinds.Raw → ⊥) ⊎ (k ≡ kinds.Raw)
@@ -147,12 +148,23 @@ raw_blocks blocks size len x some covers last e = (sym (raw_count len blocks siz
 
 -- ---- an image that is counted whole
 
-pub counted_whole : (b r n : ℕ) (l : List Block) (g : Gatherer) (a : Written) → n ≡ length l → g.count ≡ 0 → g.at.block ≡ n → Counted r l g a → (a.chunks ≡ length (chunks_of r l)) × (a.bytes ≡ length (spelling b r l))
+pub counted_whole : (b r n : ℕ) (l : List Block) (g : Gatherer) (a : Written) → n ≡ length l → g.count ≡ 0
+    → g.at.block ≡ n → Counted r l g a
+    → CountsOf r b l a
 counted_whole b r n l g a e none end c =
-    let gone : drop (begins g) l ≡ [] = drop_of_length-le l (let y : length l ≤ begins g = omega (arith, none, end, e) in y) in (
-      omega (arith, c.chunks, ap (λ (y : List Block). length (chunks_of r y)) gone),
-      omega (arith, c.bytes, ap (λ (y : List Block). length (bytes_of r y)) gone, length-append (header_record (plain_header b (length l) (length (chunks_of r l)))) (bytes_of r l)),
-    )
+    let gone : drop (begins g) l ≡ [] =
+    drop_of_length-le l (let y : length l ≤ begins g = omega (arith, none, end, e) in y) in
+    let head = header_record (plain_header b (length l) (length (chunks_of r l))) in
+    record {
+      chunks = omega (arith, c.chunks, ap (λ (y : List Block). length (chunks_of r y)) gone);
+      bytes = omega (
+        arith,
+        c.bytes,
+        ap (λ (y : List Block). length (bytes_of r y)) gone,
+        length-append head
+            (bytes_of r l),
+      );
+    }
 
 pub counted_first : (r : ℕ) (l : List Block) (c : Cursor) (n : ℕ) → c.block ≡ 0 → Counted r l (first_gatherer c) (no_runs n)
 counted_first r l c n e =
@@ -204,17 +216,17 @@ all_spent len n b r start a first used fresh covers =
     let charge : Cursor → ℕ = λ c. raw_charge len n b c in
     let copied : Cursor → ℕ = λ c. raw_before len b c in
     let h = spent_first (λ c. RawPlace n b c × RawPlace n b c) charge copied (λ c k. raw_held len b c k) start (end_place n) (writer_at_start n r start a) refl refl (sym first) in
-    let one : gathered_to (both charge copied) n (end_place n) start ≡ 16 = before in
+    let one : gathered_to (charge_and_copied charge copied) n (end_place n) start ≡ 16 = before in
     let two : gathered_to charge n (end_place n) start ≡ 16 = alone in
     rw (one, two) at h
   where
-    before : gathered_to (both (λ c. raw_charge len n b c) (λ c. raw_before len b c)) n (end_place n) start ≡ 16
+    before : gathered_to (charge_and_copied (λ c. raw_charge len n b c) (λ c. raw_before len b c)) n (end_place n) start ≡ 16
     before = elim (cases_Bool (nat_lt start.block n)) [
       | inl e ↦ rw (e, first, used, fresh) (omega arith)
       | inr e ↦ rw e (none (ltb-false start.block n e))
     ]
       where
-        none : n ≤ start.block → both (λ c. raw_charge len n b c) (λ c. raw_before len b c) (end_place n) + 16 ≡ 16
+        none : n ≤ start.block → charge_and_copied (λ c. raw_charge len n b c) (λ c. raw_before len b c) (end_place n) + 16 ≡ 16
         none le = let z : n ≡ 0 = omega (arith, le, first) in let y : len ≡ 0 = omega (arith, covers, ap (λ (k : ℕ). k * b) z) in let k : nat_lt n n ≡ false = not_below n n (omega arith) in rw (y, k) (omega arith)
 
     alone : gathered_to (λ c. raw_charge len n b c) n (end_place n) start ≡ 16
@@ -240,7 +252,7 @@ within_blocks x n b len last fits = elim (cases_Bool (nat_lt n x)) [
 -- ---- refusals
 
 -- counting has no output
-pub unwritten : (e : PieceFault) (tells : Bool) (r r' : ℕ) → HasCause e tells r r' 0 0 → full_in_cut e ≡ 0
+pub unwritten : (e : PieceFault) (tells : Bool) (r r' : ℕ) → CutCause e tells r r' 0 0 → full_in_cut e ≡ 0
 unwritten (Read f) tells r r' h = refl
 unwritten (Write f) tells r r' h = absurd (omega (arith, h))
 unwritten TooLarge tells r r' h = absurd h
@@ -255,7 +267,7 @@ pub blocks_cover : (res : Result Written PieceFault) (n b long : ℕ) → IfOk r
 blocks_cover (Ok a) n b long is covers last = rw is (covers, last)
 blocks_cover (Err f) n b long is covers last = tt
 
-pub sparsify_causes : (res : Result Written PieceFault) (b long : ℕ) (tells : Bool) (r r' w w' : ℕ) → IfErr res (λ e. HasCause e tells r r' w w') → IfErr res (λ e. SparsifyCause e b long tells r r' w w')
+pub sparsify_causes : (res : Result Written PieceFault) (b long : ℕ) (tells : Bool) (r r' w w' : ℕ) → IfErr res (λ e. CutCause e tells r r' w w') → IfErr res (λ e. SparsifyCause e b long tells r r' w w')
 sparsify_causes (Ok a) b long tells r r' w w' h = tt
 sparsify_causes (Err (Read f)) b long tells r r' w w' h = h
 sparsify_causes (Err (Write f)) b long tells r r' w w' h = h
@@ -264,21 +276,21 @@ sparsify_causes (Err TooLarge) b long tells r r' w w' h = absurd h
 sparsify_causes (Err (BadBlock n)) b long tells r r' w w' h = absurd h
 sparsify_causes (Err (LimitTooSmall n)) b long tells r r' w w' h = absurd h
 
-pub refused_bad : (e : PieceFault) (f : RunFault) (b long : ℕ) → e ≡ fault_of_run f → Refused f b long → (IsRawSize b → ⊥) → e ≡ BadBlock b
+pub refused_bad : (e : PieceFault) (f : RunFault) (b long : ℕ) → e ≡ fault_of_run f → RefusedRaw f b long → (IsRawSize b → ⊥) → e ≡ BadBlock b
 refused_bad e (of_runs.BadBlock n) b long is h bad = is ∙ ap BadBlock h.0
 refused_bad e of_runs.TooLarge b long is h bad = absurd (bad (h.0, h.1, h.2))
 refused_bad e (of_runs.Sparse f) b long is h bad = absurd h
 refused_bad e (of_runs.Read f) b long is h bad = absurd h
 refused_bad e of_runs.SourceChanged b long is h bad = absurd h
 
-pub refused_large : (e : PieceFault) (f : RunFault) (b long : ℕ) → e ≡ fault_of_run f → Refused f b long → IsRawSize b → e ≡ TooLarge
+pub refused_large : (e : PieceFault) (f : RunFault) (b long : ℕ) → e ≡ fault_of_run f → RefusedRaw f b long → IsRawSize b → e ≡ TooLarge
 refused_large e (of_runs.BadBlock n) b long is h good = absurd (h.1 good)
 refused_large e of_runs.TooLarge b long is h good = is
 refused_large e (of_runs.Sparse f) b long is h good = absurd h
 refused_large e (of_runs.Read f) b long is h good = absurd h
 refused_large e of_runs.SourceChanged b long is h good = absurd h
 
-pub refused_cause : (e : PieceFault) (f : RunFault) (b long : ℕ) (tells : Bool) (r r' w w' : ℕ) → e ≡ fault_of_run f → Refused f b long → SparsifyCause e b long tells r r' w w'
+pub refused_cause : (e : PieceFault) (f : RunFault) (b long : ℕ) (tells : Bool) (r r' w w' : ℕ) → e ≡ fault_of_run f → RefusedRaw f b long → SparsifyCause e b long tells r r' w w'
 refused_cause e (of_runs.BadBlock n) b long tells r r' w w' is h = rw is h
 refused_cause e of_runs.TooLarge b long tells r r' w w' is h = rw is ((h.0, h.1, h.2), h.3)
 refused_cause e (of_runs.Sparse f) b long tells r r' w w' is h = absurd h

@@ -1,12 +1,17 @@
 -- A sparse image that is counted, and why one is not written.
-use Rattle.std.specs.Prelude.{◌≡◌, ℕ, ◌+◌, ◌-◌, ◌*◌, ◌%◌, ◌^◌, ◌≤◌, ◌<◌, Bool, false, List, length, drop, None}
+use Rattle.std.specs.Prelude.{◌≡◌, ℕ, ◌+◌, ◌-◌, ◌*◌, ◌%◌, ◌^◌, ◌++◌, ◌≤◌, ◌<◌, Bool, false, IsTrue, List, length, take}
+use Rattle.std.specs.Prelude.{drop, max, None, Result, OnOk, IfOk}
+use Rattle.abt_io.specs.declared.device.Source as sources
+use Rattle.abt_io.specs.declared.device.Output as outputs
+use Rattle.abt_io.specs.declared.meter.Meter.{Meter}
 use Rattle.abt_sparse.specs.Block.{Block}
-use Rattle.abt_sparse.specs.Chunk.{chunks_of}
+use Rattle.abt_sparse.specs.Chunk.{chunks_of, spelling}
 use Rattle.abt_runs.specs.Raw.{raw_charge}
 use Rattle.abt_runs.specs.declared.part.Cursor.{Cursor}
 use Rattle.abt_runs.specs.declared.part.Run.{Run}
-use Rattle.abt_pieces.specs.Contents.{head_len, data_len}
+use Rattle.abt_pieces.specs.Contents.{head_len, copy_len}
 use Rattle.abt_pieces.specs.Gather.{first_gatherer, gathered_to}
+use Rattle.abt_pieces.specs.Image.{Appended, IsPlainImage}
 use Rattle.abt_io.specs.declared.device.DeviceFault.TheVariants.{Failed}
 pub use Rattle.abt_pieces.specs.Write.{chunks_in, bytes_of, cut_bytes}
 use Rattle.abt_pieces.specs.Write.{begins}
@@ -27,7 +32,7 @@ abbrev pub with_run : Written → Run → ℕ → ℕ → Written
 with_run a x b r = record {
   blocks = a.blocks;
   chunks = a.chunks + chunks_in x.kind x.blocks r;
-  bytes = a.bytes + (chunks_in x.kind x.blocks r * head_len x.kind + data_len x.kind x.blocks b);
+  bytes = a.bytes + (chunks_in x.kind x.blocks r * head_len x.kind + copy_len x.kind x.blocks b);
 }
 
 -- the numbers of an image of the blocks f up to where a gatherer's open run begins
@@ -41,7 +46,54 @@ pub record SoundCount (b : ℕ) (g : Gatherer) (a : Written) : Type 0 where
   pub least : 28 ≤ a.bytes
   pub bytes : a.bytes ≤ 28 + begins g * (b + 16)
 
+-- the numbers of the whole image
+pub record CountsOf (r b : ℕ) (l : List Block) (a : Written) : Type 0 where
+  pub chunks : a.chunks ≡ length (chunks_of r l)
+  pub bytes : a.bytes ≡ length (spelling b r l)
+
+-- what counting costs, over all its steps
+pub record CountCosts (b : ℕ) {A : Type 0} (s : sources.Ghosts A) (source source' : A) (m m' : Meter) : Type 0 where
+  pub given : s.given source ≤ s.given source'
+  pub received : s.given source' + 65536 * m.steps.number ≤ s.given source + 65536 * m'.steps.number
+  pub calls : s.reads source' ≤ s.reads source + 3 * (s.given source' - s.given source) + 8
+  pub turns : m'.turns.number ≤ m.turns.number + 5 * (s.given source' - s.given source) + 12 + b
+  pub greatest : m'.greatest.number ≤ max m.greatest.number 65536
+
 -- ---- writing
+
+-- the image x of len bytes, opened in blocks of b bytes, can be written in chunks of at most r raw blocks
+pub record ReadyRuns (tells : Bool) (r b len : ℕ) (x : List ℕ) : Type 0 where
+  pub some : 0 < r
+  pub small : 12 + r * b < 2 ^ 32
+  pub opened : IsTrue tells → len ≡ length x
+
+-- what writing all chunks costs, over all its steps
+pub record ChunkCosts (b : ℕ) {A B : Type 0} (s : sources.Ghosts A) (o : outputs.Ghosts B) (source source' : A)
+    (output output' : B) (m m' : Meter) : Type 0 where
+  pub given : s.given source ≤ s.given source'
+  pub received : s.given source' + 65536 * m.steps.number ≤ s.given source + 65536 * m'.steps.number
+  pub calls : s.reads source' ≤ s.reads source + 3 * (s.given source' - s.given source)
+      + 2 * (length (o.written output') - length (o.written output)) + 8
+  pub write_calls : o.writes output' ≤ o.writes output + (s.given source' - s.given source)
+      + 2 * (length (o.written output') - length (o.written output)) + 4
+  pub turns : m'.turns.number ≤ m.turns.number + 6 * (s.given source' - s.given source)
+      + 5 * (length (o.written output') - length (o.written output)) + 15 + 2 * b
+  pub greatest : m'.greatest.number ≤ max m.greatest.number 65536
+
+-- n bytes stand behind w as a sparse image, in blocks of b
+pub record Sparsified (b n : ℕ) (w w' : List ℕ) (a : Written) : Type 0 where
+  pub blocks : (n ≤ a.blocks * b) × (a.blocks * b < n + b)
+  pub long : length w' ≡ length w + a.bytes
+  pub image : Appended (IsPlainImage b a.blocks) w w'
+
+-- Of a source that tells n bytes, the blocks l: what stands is their image, or after a refusal a beginning of it. The
+-- source had given g bytes before, and g' then.
+pub record ToldImage (r : Result Written PieceFault) (b most : ℕ) (l : List Block) (w w' : List ℕ) (n g g' : ℕ)
+    : Type 0 where
+  pub chunks : IfOk r (λ a. (a.blocks ≡ length l) × (a.chunks ≡ length (chunks_of most l)))
+  pub front : w' ≡ w ++ take (length w' - length w) (spelling b most l)
+  pub whole : OnOk r (w' ≡ w ++ spelling b most l)
+  pub economy : IfOk r (λ a. g' ≤ g + 8 * n)
 
 -- a writer of all chunks of an image of n blocks, raw runs cut every r blocks
 abbrev pub writer_at_start : ℕ → ℕ → Cursor → Written → Writer

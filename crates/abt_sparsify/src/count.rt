@@ -1,10 +1,10 @@
 //! The numbers of a sparse image, which its header needs first: a pass that counts runs.
-ghost use Rattle.std.specs.Prelude.{◌≡◌, ◌<◌, ◌≤◌, ◌+◌, ◌-◌, ◌*◌, ◌^◌, IsTrue, IfOk, IfErr, OnOk, length, max};
+ghost use Rattle.std.specs.Prelude.{◌≡◌, ◌<◌, ◌≤◌, ◌+◌, ◌*◌, ◌^◌, IsTrue, IfOk, IfErr, length};
+ghost use Rattle.abt_io.specs.Lent.{OnlyReads};
 ghost use Rattle.abt_sparse.specs.Block.{classify};
-ghost use Rattle.abt_sparse.specs.Chunk.{spelling, chunks_of};
-ghost use Rattle.abt_pieces.specs.Fault.{HasCause};
+ghost use Rattle.abt_pieces.specs.Fault.{CutCause};
 ghost use Rattle.abt_pieces.specs.Write.{chunks_in};
-ghost use Rattle.abt_sparsify.specs.Sparsify.{with_run, no_runs};
+ghost use Rattle.abt_sparsify.specs.Sparsify.{with_run, no_runs, CountsOf, CountCosts};
 
 use abt_io::{Meter, Source, Window};
 use abt_pieces::{Gatherer, PieceFault, copied_len, head_len, run_fault};
@@ -64,36 +64,23 @@ impl Written {
 /// Counts what the sparse image of a raw one will hold, its raw runs cut every `most` blocks.
 #[tactic(auto, using(crate::proofs::SparseSteps::granted))]
 pub fn count_runs<S: Source>(
-    runs: &mut RawRuns,
+    runs: &RawRuns,
     source: &mut S,
     most: u32,
     w: &mut Window,
     m: &mut Meter,
 ) -> Result<Written, PieceFault>
     requires some { 0 < most }
-    requires opened { IsTrue S.tells → runs.old.length ≡ length (S.content source.old) }
-    ensures same { runs.new ≡ runs.old }
-    ensures content { IsTrue S.tells → S.content source.new ≡ S.content source.old }
-    ensures frame { S.read_frame source.new ≡ S.read_frame source.old }
-    ensures blocks { IfOk result (λ a. a.blocks ≡ runs.old.blocks) }
-    ensures chunks { IsTrue S.tells →
-        IfOk result (λ a. a.chunks ≡ length (chunks_of most (classify runs.old.size (S.content source.old)))) }
-    ensures bytes { IsTrue S.tells →
-        IfOk
-        result (λ a. a.bytes ≡ length (spelling runs.old.size most (classify runs.old.size (S.content source.old)))) }
-    ensures bounded { IfOk result (λ a. (28 ≤ a.bytes) × (a.bytes ≤ 28 + runs.old.blocks * (runs.old.size + 16))) }
-    ensures given { S.given source.old ≤ S.given source.new }
-    ensures received { S.given source.new + 65536 * m.old.steps.number
-        ≤ S.given source.old + 65536 * m.new.steps.number }
+    requires opened { IsTrue S.tells → runs.now.length ≡ length (S.content source.old) }
+    ensures reads { OnlyReads result S.Source source.old source.new }
+    ensures blocks { IfOk result (λ a. a.blocks ≡ runs.now.blocks) }
+    ensures counts { IsTrue S.tells →
+        IfOk result (λ a. CountsOf most runs.now.size (classify runs.now.size (S.content source.old)) a) }
+    ensures bounded { IfOk result (λ a. (28 ≤ a.bytes) × (a.bytes ≤ 28 + runs.now.blocks * (runs.now.size + 16))) }
     ensures economy { IsTrue S.tells →
-        IfOk result (λ a. S.given source.new ≤ S.given source.old + 2 * runs.old.length) }
-    ensures calls { S.reads source.new ≤ S.reads source.old + 3 * (S.given source.new - S.given source.old) + 8 }
-    ensures turns { m.new.turns.number
-        ≤ m.old.turns.number + 5 * (S.given source.new - S.given source.old) + 12 + runs.old.size }
-    ensures greatest { m.new.greatest.number ≤ max m.old.greatest.number 65536 }
-    ensures faults { S.read_faults source.old ≤ S.read_faults source.new }
-    ensures clean { OnOk result (S.read_faults source.new ≡ S.read_faults source.old) }
-    ensures cause { IfErr result (λ e. HasCause e S.tells (S.read_faults source.old) (S.read_faults source.new) 0 0) }
+        IfOk result (λ a. S.given source.new ≤ S.given source.old + 2 * runs.now.length) }
+    ensures costs { CountCosts runs.now.size S.Source source.old source.new m.old m.new }
+    ensures cause { IfErr result (λ e. CutCause e S.tells (S.read_faults source.old) (S.read_faults source.new) 0 0) }
 {
     let size = runs.block_size();
     let count = runs.blocks();

@@ -1,6 +1,9 @@
-use Rattle.std.proofs.Common.{length, ◌-◌, ◌≡◌, ◌≤◌, ◌+◌, ◌*◌, ◌++◌, List, ℕ, take, drop, max}
+use Rattle.std.proofs.Common.{length, ◌-◌, ◌≡◌, ◌≤◌, ◌+◌, ◌*◌, ◌++◌, List, ℕ, Ok, take}
 use Rattle.std.specs.Prelude.{IsTrue}
+use Rattle.abt_io.specs.Lent.{OnlyWrites}
 use Rattle.abt_sparse.specs.Reading.{outcome}
+use Rattle.abt_chunks.specs.Costs.{StepsWithin}
+use Rattle.abt_chunks.specs.Taking.{ReadsOn, input_state}
 use Rattle.abt_chunks.specs.Ahead.{finish, seen}
 use Rattle.abt_chunks.specs.Turns.{todo}
 use Rattle.abt_chunks.specs.Parts.{ahead}
@@ -10,28 +13,26 @@ use Rattle.abt_chunks.proofs.expander.expand.Given as goal
 
 abbrev pub invariant-steps : goal.invariant-steps
 invariant-steps g l =
-    let got = g.I.Input.given in
-    let remaining = g.I.Input.remaining in
-    let written = g.O.Output.written in
+    let i = g.I.Input in
+    let o = g.O.Output in
+    let got = i.given in
+    let written = o.written in
     record {
-      read : got l.fn.input ≤ got l.input;
-      present : IsTrue g.I.Input.tells → got l.input - got l.fn.input ≤ length (remaining l.fn.input);
-      rest : IsTrue g.I.Input.tells → remaining l.input ≡ drop (got l.input - got l.fn.input) (remaining l.fn.input);
-      told : IsTrue g.I.Input.tells → (t : List ℕ) →
-          finish (written l.fn.output) (seen (outcome (take (got l.input - got l.fn.input) (remaining l.fn.input) ++ t))) ≡ finish (written l.output) (ahead l.machine.walk t);
-      needed : IsTrue g.I.Input.tells → AllNeeded (remaining l.fn.input) (got l.input - got l.fn.input);
-      grown : length (written l.fn.output) ≤ length (written l.output);
+      input : ReadsOn i.tells (input_state i l.fn.input) (input_state i l.input);
+      writes : OnlyWrites {X = Unit {0}} {E = Unit {0}} (Ok tt) 0 o l.fn.output l.output;
+      told : IsTrue i.tells → (t : List ℕ) → finish (written l.fn.output)
+          (seen (outcome (take (got l.input - got l.fn.input) (i.remaining l.fn.input) ++ t)))
+          ≡ finish (written l.output) (ahead l.machine.walk t);
+      needed : IsTrue i.tells → AllNeeded (i.remaining l.fn.input) (got l.input - got l.fn.input);
       going : IsGoing l.machine.walk.phase;
-      read_frame : g.I.Input.read_frame l.input ≡ g.I.Input.read_frame l.fn.input;
-      write_frame : g.O.Output.write_frame l.output ≡ g.O.Output.write_frame l.fn.output;
-      read_faults : g.I.Input.read_faults l.input ≡ g.I.Input.read_faults l.fn.input;
-      write_faults : g.O.Output.write_faults l.output ≡ g.O.Output.write_faults l.fn.output;
-      full_faults : g.O.Output.full_faults l.output ≡ g.O.Output.full_faults l.fn.output;
-      reads : g.I.Input.reads l.input + 4 * got l.fn.input + 4 * length (written l.fn.output) ≤ g.I.Input.reads l.fn.input + 4 * got l.input + 4 * length (written l.output);
-      writes : g.O.Output.writes l.output + 4 * got l.fn.input + 4 * length (written l.fn.output) ≤ g.O.Output.writes l.fn.output + 4 * got l.input + 4 * length (written l.output);
-      turns : l.m.turns.number + 8 * got l.fn.input + 8 * length (written l.fn.output) ≤ l.fn.m.turns.number + 8 * got l.input + 8 * length (written l.output);
-      steps : got l.input + 65580 * l.fn.m.steps.number ≤ got l.fn.input + 65580 * l.m.steps.number;
-      greatest : l.m.greatest.number ≤ max l.fn.m.greatest.number 65580;
+      read_faults : i.read_faults l.input ≡ i.read_faults l.fn.input;
+      reads : i.reads l.input + 4 * got l.fn.input + 4 * length (written l.fn.output)
+          ≤ i.reads l.fn.input + 4 * got l.input + 4 * length (written l.output);
+      calls : o.writes l.output + 4 * got l.fn.input + 4 * length (written l.fn.output)
+          ≤ o.writes l.fn.output + 4 * got l.input + 4 * length (written l.output);
+      turns : l.m.turns.number + 8 * got l.fn.input + 8 * length (written l.fn.output)
+          ≤ l.fn.m.turns.number + 8 * got l.input + 8 * length (written l.output);
+      steps : StepsWithin 65580 (got l.fn.input) (got l.input) l.fn.m l.m;
     }
 
 abbrev pub decreases-steps : goal.decreases-steps

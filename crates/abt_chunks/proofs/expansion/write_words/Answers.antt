@@ -11,8 +11,10 @@ writes-preserved g c =
     let most = c.min-most.result in
     let test : c.writes.done < c.args.n = c.writes-test.true in
     let least : some ≡ min (c.args.n - c.writes.done) most = c.min-some.ensures in
-    let part : c.part.result.now ≡ concat (replicate some c.args.word) = c.part.ensures.value ∙ some_of_window c.lay_word.new.w.bytes c.args.word most some i.word (omega arith) c.lay_word.ensures.laid in
-    let all : length (g.O.Output.written c.write_out.new.output) ≡ length (g.O.Output.written c.writes.output) + length c.part.result.now = e.all in
+    let part : c.part.result.now ≡ concat (replicate some c.args.word) = c.part.ensures.value
+    ∙ some_of_window c.lay_word.new.w.bytes c.args.word most some i.word (omega arith) c.lay_word.ensures.laid in
+    let all : length (g.O.Output.written c.write_out.new.output)
+    ≡ length (g.O.Output.written c.writes.output) + length c.part.result.now = e.all in
     let long : length c.part.result.now ≡ 4 * some - 0 = c.part.ensures.long in
     record {
       within = omega arith;
@@ -37,8 +39,15 @@ returns-in-Err-clause-front g c =
     let most = c.min-most.result in
     let test : c.writes.done < c.args.n = c.writes-test.true in
     let least : some ≡ min (c.args.n - c.writes.done) most = c.min-some.ensures in
-    let part : c.part.result.now ≡ concat (replicate some c.args.word) = c.part.ensures.value ∙ some_of_window c.lay_word.new.w.bytes c.args.word most some i.word (omega arith) c.lay_word.ensures.laid in
+    let part : c.part.result.now ≡ concat (replicate some c.args.word) = c.part.ensures.value
+    ∙ some_of_window c.lay_word.new.w.bytes c.args.word most some i.word (omega arith) c.lay_word.ensures.laid in
     let long : length c.part.result.now ≡ 4 * some - 0 = c.part.ensures.long in
-    let within : length (g.O.Output.written c.write_out.new.output) ≤ length (g.O.Output.written c.writes.output) + length c.part.result.now = e.within in
+    let within : length (g.O.Output.written c.write_out.new.output)
+    ≤ length (g.O.Output.written c.writes.output) + length c.part.result.now = e.within in
     let k = length (g.O.Output.written c.write_out.new.output) - length (g.O.Output.written c.writes.output) in
-    words_front _ _ _ c.part.result.now c.args.word c.writes.done some c.args.n k _ i.word i.written part e.front (omega arith) (omega arith) (omega (arith, i.long, e.grown))
+    record {
+      ok = tt;
+      front = words_front _ _ _ c.part.result.now c.args.word c.writes.done some c.args.n k _ i.word i.written part
+          e.front (omega arith) (omega arith) (omega (arith, i.long, e.grown));
+      cause = omega (arith, e.cause, i.faults);
+    }

@@ -1,22 +1,19 @@
 use Rattle.std.proofs.Common.{◌≡◌, ◌≤◌, ◌<◌, ◌+◌, ◌-◌, ◌⊎◌, ◌*◌, max}
 use Rattle.abt_pieces.specs.declared.segment_tail.Tail.TheVariants as tails
-use Rattle.std.specs.Prelude.{IsTrue}
-use Rattle.abt_pieces.specs.Plan.{Planned, Even, last_words}
+use Rattle.std.specs.Prelude.{IsTrue, Ok}
+use Rattle.abt_io.specs.Lent.{OnlyReads}
+use Rattle.abt_pieces.specs.Cutter.{SoundPlanner, ToldPlanner}
+use Rattle.abt_pieces.specs.Plan.{last_words}
 use Rattle.abt_pieces.proofs.plan.plan_piece.Given as goal
 
 abbrev pub invariant-loop-m : goal.invariant-loop-m
 invariant-loop-m g l =
     let content = g.S.Source.content in
     record {
-      same : l.runs ≡ l.fn.runs;
-      first : l.planner.first ≡ l.fn.from.block;
-      kept : IsTrue g.S.Source.tells → content l.source ≡ content l.fn.source;
-      within : g.R.BlockRuns.within l.fn.runs l.planner.at;
-      place : IsTrue g.S.Source.tells → g.R.BlockRuns.place l.fn.runs (content l.fn.source) l.planner.at;
-      planned : IsTrue g.S.Source.tells → Planned (g.R.BlockRuns.size l.fn.runs) (g.R.BlockRuns.list l.fn.runs (content l.fn.source)) l.planner;
-      frame : g.S.Source.read_frame l.source ≡ g.S.Source.read_frame l.fn.source;
-      even : Even l.planner;
-      room : l.planner.weight ≤ l.limit;
+      reads : OnlyReads {X = Unit {0}} {E = Unit {0}} (Ok tt) g.S.Source l.fn.source l.source;
+      sound : SoundPlanner (g.R.BlockRuns.within l.fn.runs) l.limit l.fn.from.block l.planner;
+      told : IsTrue g.S.Source.tells → ToldPlanner (g.R.BlockRuns.place l.fn.runs (content l.fn.source))
+          (g.R.BlockRuns.size l.fn.runs) (g.R.BlockRuns.list l.fn.runs (content l.fn.source)) l.planner;
       charged : g.S.Source.given l.source + g.R.BlockRuns.charge l.fn.runs l.fn.from ≤ g.S.Source.given l.fn.source + g.R.BlockRuns.charge l.fn.runs l.planner.at + 16;
       inside : 0 < l.planner.at.used → ((l.planner.tail ≡ tails.Raw) × (l.limit - l.planner.weight < g.R.BlockRuns.size l.fn.runs)) ⊎ (g.S.Source.given l.source + g.R.BlockRuns.charge l.fn.runs l.fn.from ≤ g.S.Source.given l.fn.source + g.R.BlockRuns.charge l.fn.runs l.planner.at);
       taken : l.planner.contents.bytes + g.R.BlockRuns.taken l.fn.runs l.fn.from ≤ 40 + g.R.BlockRuns.taken l.fn.runs l.planner.at + 16;
@@ -26,8 +23,6 @@ invariant-loop-m g l =
       most : l.m.greatest.number ≤ max l.fn.m.greatest.number 65536;
       calls : g.S.Source.reads l.source ≤ g.S.Source.reads l.fn.source + 3 * (g.S.Source.given l.source - g.S.Source.given l.fn.source);
       turns : l.m.turns.number + last_words (g.R.BlockRuns.one l.fn.runs) (g.R.BlockRuns.count l.fn.runs) l.fn.from.block ≤ l.fn.m.turns.number + 5 * (g.S.Source.given l.source - g.S.Source.given l.fn.source) + last_words (g.R.BlockRuns.one l.fn.runs) (g.R.BlockRuns.count l.fn.runs) l.planner.at.block;
-      faults : g.S.Source.read_faults l.fn.source ≤ g.S.Source.read_faults l.source;
-      clean : g.S.Source.read_faults l.source ≡ g.S.Source.read_faults l.fn.source;
     }
 
 abbrev pub decreases-loop-m : goal.decreases-loop-m

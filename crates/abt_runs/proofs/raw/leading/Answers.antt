@@ -15,8 +15,7 @@ loop-count-preserved c =
       all = leading_on c.args.size c.loop-count.count c.loop-count.at c.args.blocks.now c.equal_word-word.result i.at (not_end c.equal_word-word.result) i.all (same ∙ c.equal_word.ensures);
       turns = omega arith;
       looked = omega arith;
-      steps = omega arith;
-      greatest = omega arith;
+      no_step = record { steps = omega arith; greatest = omega arith };
     }
 
 one_more : (count size at : ℕ) → at ≡ count * size → (count + 1) * (size + 4) ≡ at + size + 4 * count + 4

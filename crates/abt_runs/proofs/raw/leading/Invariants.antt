@@ -1,4 +1,5 @@
 use Rattle.std.proofs.Common.{◌≡◌, ◌≤◌, ◌<◌, ◌+◌, ◌-◌, ◌*◌, ◌/◌}
+use Rattle.abt_io.specs.Lent.{NoStep}
 use Rattle.abt_runs.specs.Part.{AllOf}
 use Rattle.abt_runs.specs.Words.{kind_of_word}
 use Rattle.abt_runs.proofs.Classes.{classes}
@@ -13,8 +14,7 @@ invariant-loop-count l = record {
   all : AllOf (kind_of_word l.word) (classes l.size l.count l.blocks);
   turns : 2 * l.m.turns.number + l.size / 2 ≤ 2 * l.fn.m.turns.number + l.at;
   looked : 4 * l.m.turns.number + 4 ≤ 4 * l.fn.m.turns.number + l.at + 4 * l.count;
-  steps : l.m.steps.number ≡ l.fn.m.steps.number;
-  greatest : l.m.greatest.number ≡ l.fn.m.greatest.number;
+  no_step : NoStep l.fn.m l.m;
 }
 
 abbrev pub decreases-loop-count : goal.decreases-loop-count

@@ -1,4 +1,5 @@
-use Rattle.std.proofs.Common.{arith, ◌∙◌, sym, min, refl, IsTrue}
+use Rattle.std.proofs.Common.{arith, sym, min, refl, IsTrue}
+use Rattle.abt_io.proofs.Lent.{reads_none, reads_then, reads_err, reads_ok}
 use Rattle.abt_pieces.proofs.Fronts.{as_many, max_most, run_causes}
 use Rattle.abt_pieces.proofs.Counts.{silent_most, words_most}
 use Rattle.abt_sparsify.specs.Sparsify.{end_place}
@@ -13,12 +14,10 @@ loop-gatherer-init g c =
     let begun = c.begin-gatherer.ensures in
     let none = c.begin-counted.ensures in
     record {
-      same = refl;
       size = c.block_size-size.ensures;
       count = c.blocks-count.ensures;
       blocks = rw none c.blocks-count.ensures;
-      kept = λ tells. refl;
-      frame = refl;
+      reads = reads_none _ g.S.Source _;
       sound = rw begun (gatherer_sound _ _ c.start.result s.first s.within);
       told = λ tells.
           let o = raw_blocks r.blocks r.size r.length _ r.some r.covers r.last (c.requires.opened tells) in
@@ -28,11 +27,9 @@ loop-gatherer-init g c =
       given = as_many _;
       received = as_many _;
       greatest = max_most _ _;
-      reads = omega arith;
+      calls = omega arith;
       turns = omega arith;
       reads_to = λ tells. rw begun (let z = granted r.length r.blocks r.size c.start.result s.unused in omega (arith, z));
-      faults = as_many _;
-      clean = refl;
     }
 
 pub and_run-counted-requires-clause-chunks : goal.and_run-counted-requires-clause-chunks
@@ -42,7 +39,7 @@ and_run-counted-requires-clause-chunks g c =
     let r = c.args.runs.now in
     let run = rw c.in-Some.is at e.run in
     let z = sound_count_on _ c.args.most c.loop-gatherer.gatherer c.gather.new.self c.in-Some.run' c.loop-gatherer.counted c.requires.some i.sound.behind_it run i.bounds in
-    let s = rw (i.same, i.count) at e.sound in
+    let s = rw i.count at e.sound in
     omega (arith, z.chunks, s.room, r.fits)
 
 pub and_run-counted-requires-clause-bytes : goal.and_run-counted-requires-clause-bytes
@@ -52,7 +49,7 @@ and_run-counted-requires-clause-bytes g c =
     let r = c.args.runs.now in
     let run = rw c.in-Some.is at e.run in
     let z = sound_count_on _ c.args.most c.loop-gatherer.gatherer c.gather.new.self c.in-Some.run' c.loop-gatherer.counted c.requires.some i.sound.behind_it run i.bounds in
-    let s = rw (i.same, i.count) at e.sound in
+    let s = rw i.count at e.sound in
     rw i.size (few_bytes _ r.blocks r.size _ (omega (arith, s.room)) r.fits r.window z.bytes)
 
 pub loop-gatherer-preserved-in-Some : goal.loop-gatherer-preserved-in-Some
@@ -64,31 +61,29 @@ loop-gatherer-preserved-in-Some g c =
     let z = sound_count_on _ c.args.most c.loop-gatherer.gatherer c.gather.new.self c.in-Some.run' c.loop-gatherer.counted c.requires.some i.sound.behind_it run i.bounds in
     let going = sym c.loop-gatherer-test.ensures in
     let most = silent_most r.blocks r.blocks c.loop-gatherer.gatherer in
-    let paid = rw (i.same, i.count) at (e.paid going) in
-    let words = rw (i.same, i.count) at e.words in
+    let paid = rw i.count at (e.paid going) in
+    let words = rw i.count at e.words in
     let now = rw i.size at c.and_run-counted.ensures in
     record {
-      same = e.same ∙ i.same;
       size = i.size;
       count = i.count;
       blocks = rw now i.blocks;
-      kept = λ tells. e.content tells ∙ i.kept tells;
-      frame = e.frame ∙ i.frame;
-      sound = rw (i.same, i.count) at e.sound;
-      told = λ tells. rw (i.same, i.count, i.kept tells) at (e.told tells);
+      reads = reads_then i.reads (reads_ok tt e.reads);
+      sound = rw i.count at e.sound;
+      told = λ tells. rw (i.count, i.reads.content tells) at (e.told tells);
       bounds = rw now z;
       numbers = λ tells.
           let o = raw_blocks r.blocks r.size r.length _ r.some r.covers r.last (c.requires.opened tells) in
-          let closed = rw (i.same, i.count, i.kept tells, c.in-Some.is) at (e.closed tells) in
+          let closed = rw (i.count, i.reads.content tells, c.in-Some.is) at (e.closed tells) in
           rw now (counted_on _ _ _ _ c.loop-gatherer.gatherer c.gather.new.self c.in-Some.run' c.loop-gatherer.counted c.requires.some o.0 o.1 (i.told tells).gathered closed run (i.numbers tells));
-      given = omega (arith, e.given, i.given);
-      received = omega (arith, e.received, e.steps, i.received, c.tick.ensures.steps);
-      greatest = omega (arith, e.received, e.greatest, i.greatest, c.tick.ensures.greatest);
-      reads = omega (arith, e.calls, e.given, paid, most, i.reads, i.given);
-      turns = omega (arith, words, e.given, paid, most, i.turns, i.given, c.tick.ensures.turns);
-      reads_to = λ tells. let place = is_end_place r.blocks r.size r.window in let z = rw (i.same, i.count) at (e.gathered tells (end_place r.blocks) (rw i.same place) (rw i.same place) (sym i.count) refl) in omega (arith, z, i.reads_to tells);
-      faults = omega (arith, e.faults, i.faults);
-      clean = e.clean ∙ i.clean;
+      given = omega (arith, e.costs.given, i.given);
+      received = omega (arith, e.costs.received, e.costs.one_step.steps, i.received, c.tick.ensures.steps);
+      greatest = omega (arith, e.costs.received, e.costs.one_step.greatest, i.greatest, c.tick.ensures.greatest);
+      calls = omega (arith, e.costs.calls, e.costs.given, paid, most, i.calls, i.given);
+      turns = omega (arith, words, e.costs.given, paid, most, i.turns, i.given, c.tick.ensures.turns);
+      reads_to = λ tells. let place = is_end_place r.blocks r.size r.window in
+          let z = rw i.count at (e.gathered tells (end_place r.blocks) place place (sym i.count) refl) in
+          omega (arith, z, i.reads_to tells);
     }
 
 pub loop-gatherer-preserved : goal.loop-gatherer-preserved
@@ -99,28 +94,26 @@ loop-gatherer-preserved g c =
     let grows = rw c.in-None.is at e.grows in
     let going = sym c.loop-gatherer-test.ensures in
     let most = silent_most r.blocks r.blocks c.loop-gatherer.gatherer in
-    let paid = rw (i.same, i.count) at (e.paid going) in
-    let words = rw (i.same, i.count) at e.words in
-    let on = rw (i.same, i.count) at e.sound in
+    let paid = rw i.count at (e.paid going) in
+    let words = rw i.count at e.words in
+    let on = rw i.count at e.sound in
     record {
-      same = e.same ∙ i.same;
       size = i.size;
       count = i.count;
       blocks = i.blocks;
-      kept = λ tells. e.content tells ∙ i.kept tells;
-      frame = e.frame ∙ i.frame;
+      reads = reads_then i.reads (reads_ok tt e.reads);
       sound = on;
-      told = λ tells. rw (i.same, i.count, i.kept tells) at (e.told tells);
+      told = λ tells. rw (i.count, i.reads.content tells) at (e.told tells);
       bounds = sound_count_still _ c.loop-gatherer.gatherer c.gather.new.self c.loop-gatherer.counted i.sound.behind_it on.behind_it grows i.bounds;
       numbers = λ tells. counted_still _ _ c.loop-gatherer.gatherer c.gather.new.self c.loop-gatherer.counted i.sound.behind_it on.behind_it grows (i.numbers tells);
-      given = omega (arith, e.given, i.given);
-      received = omega (arith, e.received, e.steps, i.received, c.tick.ensures.steps);
-      greatest = omega (arith, e.received, e.greatest, i.greatest, c.tick.ensures.greatest);
-      reads = omega (arith, e.calls, e.given, paid, most, i.reads, i.given);
-      turns = omega (arith, words, e.given, paid, most, i.turns, i.given, c.tick.ensures.turns);
-      reads_to = λ tells. let place = is_end_place r.blocks r.size r.window in let z = rw (i.same, i.count) at (e.gathered tells (end_place r.blocks) (rw i.same place) (rw i.same place) (sym i.count) refl) in omega (arith, z, i.reads_to tells);
-      faults = omega (arith, e.faults, i.faults);
-      clean = e.clean ∙ i.clean;
+      given = omega (arith, e.costs.given, i.given);
+      received = omega (arith, e.costs.received, e.costs.one_step.steps, i.received, c.tick.ensures.steps);
+      greatest = omega (arith, e.costs.received, e.costs.one_step.greatest, i.greatest, c.tick.ensures.greatest);
+      calls = omega (arith, e.costs.calls, e.costs.given, paid, most, i.calls, i.given);
+      turns = omega (arith, words, e.costs.given, paid, most, i.turns, i.given, c.tick.ensures.turns);
+      reads_to = λ tells. let place = is_end_place r.blocks r.size r.window in
+          let z = rw i.count at (e.gathered tells (end_place r.blocks) place place (sym i.count) refl) in
+          omega (arith, z, i.reads_to tells);
     }
 
 -- all runs are counted
@@ -134,21 +127,18 @@ returns g c =
     counted_whole r.size _ _ _ c.loop-gatherer.gatherer c.loop-gatherer.counted o.0 z.0 z.1 (i.numbers tells) in
     let most = words_most r.size r.blocks (min c.loop-gatherer.gatherer.at.block r.blocks) in
     record {
-      same = i.same;
-      content = i.kept;
-      frame = i.frame;
+      reads = reads_ok _ i.reads;
       blocks = i.blocks;
-      chunks = λ tells. (whole tells).0;
-      bytes = λ tells. (whole tells).1;
+      counts = whole;
       bounded = bounded_whole _ _ c.loop-gatherer.gatherer c.loop-gatherer.counted z.0 z.1 i.bounds;
-      given = i.given;
-      received = i.received;
       economy = λ tells. let end = granted_end r.length r.blocks r.size c.loop-gatherer.gatherer.at z.1 in omega (arith, end, i.reads_to tells);
-      calls = omega (arith, i.reads);
-      turns = omega (arith, i.turns, most);
-      greatest = i.greatest;
-      faults = i.faults;
-      clean = i.clean;
+      costs = record {
+        given = i.given;
+        received = i.received;
+        calls = omega (arith, i.calls);
+        turns = omega (arith, i.turns, most);
+        greatest = i.greatest;
+      };
       cause = tt;
     }
 
@@ -157,22 +147,19 @@ pub returns-in-Err : goal.returns-in-Err
 returns-in-Err g c =
     let i = c.loop-gatherer.invariant in
     let e = c.gather.ensures in
-    let turns = rw (i.same, i.count) at e.turns in
+    let turns = rw i.count at e.costs.turns in
     record {
-      same = e.same ∙ i.same;
-      content = λ tells. e.content tells ∙ i.kept tells;
-      frame = e.frame ∙ i.frame;
+      reads = reads_then i.reads (reads_err _ c.in-Err.ensures.reads);
       blocks = tt;
-      chunks = λ tells. tt;
-      bytes = λ tells. tt;
+      counts = λ tells. tt;
       bounded = tt;
-      given = omega (arith, i.given, e.given);
-      received = omega (arith, e.received, e.steps, i.received, c.tick.ensures.steps);
       economy = λ tells. tt;
-      calls = omega (arith, i.reads, e.calls, i.given, e.given);
-      turns = omega (arith, i.turns, turns, i.given, e.given, c.tick.ensures.turns);
-      greatest = omega (arith, e.received, e.greatest, i.greatest, c.tick.ensures.greatest);
-      faults = omega (arith, i.faults, e.faults);
-      clean = tt;
-      cause = run_causes _ _ _ _ _ _ _ c.run_fault.ensures (rw i.clean at c.in-Err.ensures.cause);
+      costs = record {
+        given = omega (arith, i.given, e.costs.given);
+        received = omega (arith, e.costs.received, e.costs.one_step.steps, i.received, c.tick.ensures.steps);
+        calls = omega (arith, i.calls, e.costs.calls, i.given, e.costs.given);
+        turns = omega (arith, i.turns, turns, i.given, e.costs.given, c.tick.ensures.turns);
+        greatest = omega (arith, e.costs.received, e.costs.one_step.greatest, i.greatest, c.tick.ensures.greatest);
+      };
+      cause = run_causes _ _ _ _ _ _ _ c.run_fault.ensures (rw i.reads.clean at c.in-Err.ensures.cause);
     }

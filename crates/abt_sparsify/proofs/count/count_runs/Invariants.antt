@@ -1,10 +1,12 @@
 use Rattle.std.proofs.Common.{◌≡◌, ◌≤◌, ◌+◌, ◌-◌, ◌*◌, max, min}
-use Rattle.std.specs.Prelude.{IsTrue}
+use Rattle.std.specs.Prelude.{IsTrue, Ok}
+use Rattle.abt_io.specs.Lent.{OnlyReads}
 use Rattle.abt_sparse.specs.Block.{classify}
 use Rattle.abt_runs.specs.Raw.{RawPlace}
 use Rattle.abt_pieces.specs.Gather.{SoundGatherer, ToldGatherer, look_left, silent_left}
 use Rattle.abt_sparsify.specs.Sparsify.{Counted, SoundCount, read_to}
 use Rattle.abt_pieces.specs.Plan.{last_words}
+use Rattle.abt_pieces.specs.declared.fault.PieceFault.{PieceFault}
 use Rattle.abt_sparsify.proofs.count.count_runs.Given as goal
 
 abbrev pub invariant-loop-gatherer : goal.invariant-loop-gatherer
@@ -12,12 +14,10 @@ invariant-loop-gatherer g l =
     let content = g.S.Source.content in
     let given' = g.S.Source.given in
     record {
-      same : l.runs ≡ l.fn.runs;
       size : l.size ≡ l.fn.runs.size;
       count : l.count ≡ l.fn.runs.blocks;
       blocks : l.counted.blocks ≡ l.fn.runs.blocks;
-      kept : IsTrue g.S.Source.tells → content l.source ≡ content l.fn.source;
-      frame : g.S.Source.read_frame l.source ≡ g.S.Source.read_frame l.fn.source;
+      reads : OnlyReads {X = Unit {0}} {E = PieceFault} (Ok tt) g.S.Source l.fn.source l.source;
       sound : SoundGatherer (λ c. RawPlace l.fn.runs.blocks l.fn.runs.size c) l.fn.runs.blocks 0 l.fn.runs.blocks l.gatherer;
       told : IsTrue g.S.Source.tells → ToldGatherer (λ c. RawPlace l.fn.runs.blocks l.fn.runs.size c) (classify l.fn.runs.size (content l.fn.source)) 0 l.fn.runs.blocks l.gatherer;
       bounds : SoundCount l.fn.runs.size l.gatherer l.counted;
@@ -25,11 +25,10 @@ invariant-loop-gatherer g l =
       given : given' l.fn.source ≤ given' l.source;
       received : given' l.source + 65536 * l.fn.m.steps.number ≤ given' l.fn.source + 65536 * l.m.steps.number;
       greatest : l.m.greatest.number ≤ max l.fn.m.greatest.number 65536;
-      reads : g.S.Source.reads l.source + 2 * min (silent_left l.fn.runs.blocks l.fn.runs.blocks l.gatherer) 3 ≤ g.S.Source.reads l.fn.source + 3 * (given' l.source - given' l.fn.source) + 6;
+      calls : g.S.Source.reads l.source + 2 * min (silent_left l.fn.runs.blocks l.fn.runs.blocks l.gatherer) 3
+          ≤ g.S.Source.reads l.fn.source + 3 * (given' l.source - given' l.fn.source) + 6;
       turns : l.m.turns.number + 3 * min (silent_left l.fn.runs.blocks l.fn.runs.blocks l.gatherer) 3 ≤ l.fn.m.turns.number + 5 * (given' l.source - given' l.fn.source) + 9 + last_words l.fn.runs.size l.fn.runs.blocks (min l.gatherer.at.block l.fn.runs.blocks);
       reads_to : IsTrue g.S.Source.tells → given' l.source + 16 ≤ given' l.fn.source + read_to l.fn.runs.length l.fn.runs.blocks l.fn.runs.size l.gatherer.at;
-      faults : g.S.Source.read_faults l.fn.source ≤ g.S.Source.read_faults l.source;
-      clean : g.S.Source.read_faults l.source ≡ g.S.Source.read_faults l.fn.source;
     }
 
 abbrev pub decreases-loop-gatherer : goal.decreases-loop-gatherer

@@ -1,5 +1,8 @@
-use Rattle.std.proofs.Common.{◌≡◌, ◌∙◌, arith, refl, IsTrue}
-use Rattle.abt_pieces.proofs.Fronts.{wrote_part, wrote_front, wrote_rest, front_join, whole_of, nothing_more, as_many, no_more, says_full, not_full, cause_unwritten, cause_since, unfilled_by, none_says}
+use Rattle.std.proofs.Common.{◌∙◌, arith}
+use Rattle.abt_io.proofs.Lent.{reads_none, reads_then, reads_err, reads_ok, writes_none, writes_then, writes_err}
+use Rattle.abt_io.proofs.Lent.{writes_ok}
+use Rattle.abt_pieces.proofs.Fronts.{wrote_front, wrote_rest, wrote_part, front_join, whole_of, nothing_more, no_more}
+use Rattle.abt_pieces.proofs.Fronts.{says_full, not_full, cause_unwritten, cause_since, none_says}
 use Rattle.abt_sparsify.proofs.SparseSteps.{raw_blocks, header_first, header_chunks, unwritten}
 use Rattle.abt_sparsify.proofs.image.write_image.Goals as goal
 
@@ -8,31 +11,20 @@ pub returns-in-Err : goal.returns-in-Err
 returns-in-Err g c =
     let a = c.count_runs.ensures in
     let e = c.in-Err.ensures in
-    let calls = a.calls in
-    let turns = a.turns in
     let none = unwritten c.in-Err.fault _ _ _ e.cause in
     record {
-      content = a.content;
-      frame = a.frame;
-      write_frame = refl;
-      blocks = tt;
-      chunks = λ tells. tt;
-      long = tt;
+      reads = reads_err _ e.reads;
+      writes = rw none (writes_none _ g.O.Output _);
+      told = λ tells. record { chunks = tt; front = nothing_more _ _; whole = tt; economy = tt };
+      sparse = tt;
       within = no_more _ _;
-      grown = as_many _;
-      front = λ tells. nothing_more _ _;
-      whole = λ tells. tt;
-      image = tt;
-      given = a.given;
-      received = a.received;
-      economy = λ tells. tt;
-      calls = omega (arith, calls);
-      turns = omega (arith, turns);
-      greatest = a.greatest;
-      faults = a.faults;
-      write_faults = as_many _;
-      clean = tt;
-      full_faults = unfilled_by _ _ none;
+      costs = record {
+        given = a.costs.given;
+        steps = a.costs.received;
+        greatest = a.costs.greatest;
+        calls = omega (arith, a.costs.calls);
+        turns = omega (arith, a.costs.turns);
+      };
       full = λ says. absurd (none_says _ none says);
       cause = cause_unwritten c.in-Err.fault _ _ _ _ _ e.cause;
     }
@@ -46,33 +38,23 @@ returns-in-Err-write_header g c =
     let s = c.close_step.ensures in
     let h = c.write_header.ensures in
     let f = c.in-Err-write_header.ensures in
-    let calls = a.calls in
-    let turns = a.turns in
     record {
-      content = a.content;
-      frame = a.frame;
-      write_frame = h.frame;
-      blocks = tt;
-      chunks = λ tells. tt;
-      long = tt;
+      reads = reads_then e.reads (reads_none _ g.S.Source _);
+      writes = writes_err _ f.writes;
+      told = λ tells.
+          let o = raw_blocks i.blocks i.size i.length _ i.some i.covers i.last (c.requires.ready.opened tells) in
+          let whole = header_first i.size c.args.most _ c.block_size-size.result c.in-Ok.counted.blocks
+          c.in-Ok.counted.chunks c.block_size-size.ensures (e.blocks ∙ o.0) (e.counts tells).chunks in
+          record { chunks = tt; front = wrote_part _ _ _ _ _ f.put.front whole; whole = tt; economy = tt };
+      sparse = tt;
       within = omega (arith, h.within);
-      grown = h.grown;
-      front = λ tells.
-          let o = raw_blocks i.blocks i.size i.length _ i.some i.covers i.last (c.requires.opened tells) in
-          let whole = header_first i.size c.args.most _ c.block_size-size.result c.in-Ok.counted.blocks c.in-Ok.counted.chunks (rw e.same at c.block_size-size.ensures) (e.blocks ∙ o.0) (e.chunks tells) in
-          wrote_part _ _ _ _ _ f.front whole;
-      whole = λ tells. tt;
-      image = tt;
-      given = a.given;
-      received = omega (arith, a.received, s.steps, h.steps);
-      economy = λ tells. tt;
-      calls = omega (arith, calls, h.calls, h.grown, a.given);
-      turns = omega (arith, turns, s.turns, h.turns, h.grown, a.given);
-      greatest = omega (arith, a.greatest, s.greatest, h.greatest);
-      faults = a.faults;
-      write_faults = h.faults;
-      clean = tt;
-      full_faults = f.full_faults;
+      costs = record {
+        given = a.costs.given;
+        steps = omega (arith, a.costs.received, s.steps, h.no_step.steps);
+        greatest = omega (arith, a.costs.greatest, s.greatest, h.no_step.greatest);
+        calls = omega (arith, a.costs.calls, h.costs.calls, h.writes.least, a.costs.given);
+        turns = omega (arith, a.costs.turns, s.turns, h.costs.turns, h.writes.least, a.costs.given);
+      };
       full = λ says. f.full (says_full c.in-Err-write_header.fault says);
       cause = f.cause;
     }
@@ -88,38 +70,56 @@ returns-in-Ok-write_runs g c =
     let b = c.write_header.ensures in
     let y = c.write_runs.ensures in
     let z = c.in-Ok-write_runs.ensures in
-    let size : c.block_size-size.result ≡ i.size = rw e.same at c.block_size-size.ensures in
-    let header = λ (tells : IsTrue g.S.Source.tells).
-    let o = raw_blocks i.blocks i.size i.length _ i.some i.covers i.last (c.requires.opened tells) in
-    header_first i.size c.args.most _ c.block_size-size.result c.in-Ok.counted.blocks c.in-Ok.counted.chunks size (e.blocks ∙ o.0) (e.chunks tells) in
-    let turns = rw e.same at y.turns in
-    let calls = y.calls in
-    let writes = y.write_calls in
     record {
-      content = λ tells. y.content tells ∙ a.content tells;
-      frame = y.frame ∙ a.frame;
-      write_frame = y.write_frame ∙ b.frame;
-      blocks = e.blocks;
-      chunks = e.chunks;
-      long = omega (arith, z.long, h.whole);
-      within = omega (arith, y.within, h.whole, e.bounded.1);
-      grown = omega (arith, b.grown, y.grown);
-      front = λ tells. front_join _ _ _ _ _ b.grown y.grown (wrote_front _ _ _ _ _ h.ok (header tells)) (wrote_rest _ _ _ _ _ h.ok (header tells)) (rw (e.same, e.content tells) at (y.front tells));
-      whole = λ tells. whole_of _ _ _ _ _ _ h.ok (rw (e.same, e.content tells) at (z.whole tells)) (header tells);
-      image =
-          let written = rw (size, e.blocks) at h.ok in
-          let all = rw e.same at z.image in
-          rw e.blocks (header_chunks i.size i.blocks c.in-Ok.counted.chunks _ _ _ (omega (arith, i.some), i.words, omega (arith, i.window)) i.fits (omega arith) written all);
-      given = omega (arith, a.given, y.given);
-      received = omega (arith, a.received, s.steps, b.steps, y.received);
-      economy = λ tells. let more = rw e.same at (z.economy tells) in omega (arith, e.economy tells, more);
-      calls = omega (arith, a.calls, b.calls, calls, writes, a.given, y.given, b.grown, y.grown);
-      turns = omega (arith, a.turns, s.turns, b.turns, turns, a.given, y.given, b.grown, y.grown);
-      greatest = omega (arith, a.greatest, s.greatest, b.greatest, y.greatest);
-      faults = omega (arith, a.faults, y.faults);
-      write_faults = omega (arith, b.faults, y.write_faults);
-      clean = (z.clean.0 ∙ e.clean, z.clean.1 ∙ h.clean);
-      full_faults = omega (arith, z.full_faults, h.full_faults);
+      reads = reads_then e.reads (reads_ok _ z.reads);
+      writes = writes_then h.writes (writes_ok _ z.writes);
+      told = λ tells.
+          let o = raw_blocks i.blocks i.size i.length _ i.some i.covers i.last (c.requires.ready.opened tells) in
+          let header = header_first i.size c.args.most _ c.block_size-size.result c.in-Ok.counted.blocks
+          c.in-Ok.counted.chunks c.block_size-size.ensures (e.blocks ∙ o.0) (e.counts tells).chunks in
+          record {
+            chunks = (e.blocks ∙ o.0, (e.counts tells).chunks);
+            front = front_join _ _ _ _ _ b.writes.least y.writes.least (wrote_front _ _ _ _ _ h.put.ok header)
+                (wrote_rest _ _ _ _ _ h.put.ok header) (rw (e.reads.content tells) at (y.front tells));
+            whole = whole_of _ _ _ _ _ _ h.put.ok (rw (e.reads.content tells) at (z.whole tells)) header;
+            economy = omega (arith, e.economy tells, z.economy tells, c.requires.ready.opened tells);
+          };
+      sparse =
+          let written = rw (c.block_size-size.ensures, e.blocks) at h.put.ok in
+          record {
+            blocks = rw e.blocks (i.covers, i.last);
+            long = omega (arith, z.long, h.put.whole);
+            image = rw e.blocks (header_chunks i.size i.blocks c.in-Ok.counted.chunks _ _ _
+                (omega (arith, i.some), i.words, omega (arith, i.window)) i.fits (omega arith) written z.image);
+          };
+      within = omega (arith, y.within, h.put.whole, e.bounded.1);
+      costs = record {
+        given = omega (arith, a.costs.given, y.costs.given);
+        steps = omega (arith, a.costs.received, s.steps, b.no_step.steps, y.costs.received);
+        greatest = omega (arith, a.costs.greatest, s.greatest, b.no_step.greatest, y.costs.greatest);
+        calls = omega (
+          arith,
+          a.costs.calls,
+          b.costs.calls,
+          y.costs.calls,
+          y.costs.write_calls,
+          a.costs.given,
+          y.costs.given,
+          b.writes.least,
+          y.writes.least,
+        );
+        turns = omega (
+          arith,
+          a.costs.turns,
+          s.turns,
+          b.costs.turns,
+          y.costs.turns,
+          a.costs.given,
+          y.costs.given,
+          b.writes.least,
+          y.writes.least,
+        );
+      };
       full = λ says. absurd (not_full says);
       cause = tt;
     }
@@ -135,35 +135,49 @@ returns-in-Err-write_runs g c =
     let b = c.write_header.ensures in
     let y = c.write_runs.ensures in
     let z = c.in-Err-write_runs.ensures in
-    let size : c.block_size-size.result ≡ i.size = rw e.same at c.block_size-size.ensures in
-    let header = λ (tells : IsTrue g.S.Source.tells).
-    let o = raw_blocks i.blocks i.size i.length _ i.some i.covers i.last (c.requires.opened tells) in
-    header_first i.size c.args.most _ c.block_size-size.result c.in-Ok.counted.blocks c.in-Ok.counted.chunks size (e.blocks ∙ o.0) (e.chunks tells) in
-    let turns = rw e.same at y.turns in
-    let calls = y.calls in
-    let writes = y.write_calls in
     record {
-      content = λ tells. y.content tells ∙ a.content tells;
-      frame = y.frame ∙ a.frame;
-      write_frame = y.write_frame ∙ b.frame;
-      blocks = tt;
-      chunks = λ tells. tt;
-      long = tt;
-      within = omega (arith, y.within, h.whole, e.bounded.1);
-      grown = omega (arith, b.grown, y.grown);
-      front = λ tells. front_join _ _ _ _ _ b.grown y.grown (wrote_front _ _ _ _ _ h.ok (header tells)) (wrote_rest _ _ _ _ _ h.ok (header tells)) (rw (e.same, e.content tells) at (y.front tells));
-      whole = λ tells. tt;
-      image = tt;
-      given = omega (arith, a.given, y.given);
-      received = omega (arith, a.received, s.steps, b.steps, y.received);
-      economy = λ tells. tt;
-      calls = omega (arith, a.calls, b.calls, calls, writes, a.given, y.given, b.grown, y.grown);
-      turns = omega (arith, a.turns, s.turns, b.turns, turns, a.given, y.given, b.grown, y.grown);
-      greatest = omega (arith, a.greatest, s.greatest, b.greatest, y.greatest);
-      faults = omega (arith, a.faults, y.faults);
-      write_faults = omega (arith, b.faults, y.write_faults);
-      clean = tt;
-      full_faults = omega (arith, z.full_faults, h.full_faults);
+      reads = reads_then e.reads (reads_err _ z.reads);
+      writes = writes_then h.writes (writes_err _ z.writes);
+      told = λ tells.
+          let o = raw_blocks i.blocks i.size i.length _ i.some i.covers i.last (c.requires.ready.opened tells) in
+          let header = header_first i.size c.args.most _ c.block_size-size.result c.in-Ok.counted.blocks
+          c.in-Ok.counted.chunks c.block_size-size.ensures (e.blocks ∙ o.0) (e.counts tells).chunks in
+          record {
+            chunks = tt;
+            front = front_join _ _ _ _ _ b.writes.least y.writes.least (wrote_front _ _ _ _ _ h.put.ok header)
+                (wrote_rest _ _ _ _ _ h.put.ok header) (rw (e.reads.content tells) at (y.front tells));
+            whole = tt;
+            economy = tt;
+          };
+      sparse = tt;
+      within = omega (arith, y.within, h.put.whole, e.bounded.1);
+      costs = record {
+        given = omega (arith, a.costs.given, y.costs.given);
+        steps = omega (arith, a.costs.received, s.steps, b.no_step.steps, y.costs.received);
+        greatest = omega (arith, a.costs.greatest, s.greatest, b.no_step.greatest, y.costs.greatest);
+        calls = omega (
+          arith,
+          a.costs.calls,
+          b.costs.calls,
+          y.costs.calls,
+          y.costs.write_calls,
+          a.costs.given,
+          y.costs.given,
+          b.writes.least,
+          y.writes.least,
+        );
+        turns = omega (
+          arith,
+          a.costs.turns,
+          s.turns,
+          b.costs.turns,
+          y.costs.turns,
+          a.costs.given,
+          y.costs.given,
+          b.writes.least,
+          y.writes.least,
+        );
+      };
       full = z.full;
-      cause = cause_since c.in-Err-write_runs.fault _ _ _ _ _ _ _ a.faults b.faults z.cause;
+      cause = cause_since c.in-Err-write_runs.fault _ _ _ _ _ _ _ a.reads.faults b.writes.faults z.cause;
     }

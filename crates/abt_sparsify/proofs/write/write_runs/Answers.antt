@@ -1,5 +1,7 @@
 use Rattle.std.proofs.Common.{arith, refl, sym, ap, length, ◌∙◌, ◌≡◌, ◌+◌, ◌-◌, IsTrue}
 use Rattle.std.proofs.lemmas.Result.{err_from_is_err_and}
+use Rattle.abt_io.proofs.Lent.{reads_none, reads_then, reads_err, reads_ok, writes_none, writes_then, writes_err}
+use Rattle.abt_io.proofs.Lent.{writes_ok}
 use Rattle.abt_pieces.proofs.Counts.{silent_most}
 use Rattle.abt_pieces.proofs.Fronts.{front_join, rest_join, whole_join, no_bytes, cause_since, not_full, as_many, max_most, nothing_more, nothing_less}
 use Rattle.abt_pieces.proofs.Image.{leads_join, leads_whole, nothing_appended}
@@ -12,81 +14,102 @@ use Rattle.abt_sparsify.proofs.write.write_runs.Goals as goal
 pub loop-m-preserved : goal.loop-m-preserved
 loop-m-preserved g c =
     let i = c.loop-m.invariant in
-    let e = c.step.ensures in
+    let e = c.step.ensures.stepped in
     let o = c.in_ok-step.ensures in
+    let s = o.stepped in
     let r = c.args.runs.now in
     let going = c.if-not-branch.true in
-    let paid = rw i.same at (o.paid going) in
-    let words = rw i.same at o.words in
+    let paid = s.paid going in
     let place = is_end_place r.blocks r.size r.window in
     record {
-      same = e.same ∙ i.same;
-      kept = λ tells. e.content tells ∙ i.kept tells;
-      frame = e.frame ∙ i.frame;
-      write_frame = e.write_frame ∙ i.write_frame;
+      reads = reads_then i.reads (reads_ok tt s.reads);
+      writes = writes_then i.writes (writes_ok tt s.writes);
       first = e.segment.0 ∙ i.first;
       past = e.segment.1 ∙ i.past;
-      sound = rw i.same at o.sound;
-      told = λ tells. rw (i.same, i.kept tells) at (o.told tells);
-      grown = omega (arith, e.costs.grown, i.grown);
-      counted = omega (arith, o.counted, i.counted);
-      front = λ tells. front_join _ _ _ _ _ i.grown e.costs.grown (i.front tells) (i.rest tells) (rw (i.same, i.kept tells, i.first, i.past) at (e.front tells));
-      rest = λ tells. rest_join _ _ _ _ _ _ i.grown e.costs.grown (i.rest tells) (rw (i.same, i.kept tells, i.first, i.past) at (o.rest tells));
+      sound = s.sound;
+      told = λ tells. rw (i.reads.content tells) at (s.told tells);
+      counted = omega (arith, s.counted, i.counted);
+      front = λ tells. front_join _ _ _ _ _ i.writes.least e.writes.least (i.front tells) (i.rest tells)
+          (rw (i.reads.content tells, i.first, i.past) at (e.front tells));
+      rest = λ tells. rest_join _ _ _ _ _ _ i.writes.least e.writes.least (i.rest tells)
+          (rw (i.reads.content tells, i.first, i.past) at (s.rest tells));
       given = omega (arith, e.costs.given, i.given);
       received = omega (arith, e.costs.received, e.costs.steps, i.received);
       greatest = omega (arith, e.costs.received, e.costs.greatest, i.greatest);
-      reads = omega (arith, e.costs.calls, e.costs.given, e.costs.grown, paid, i.reads, i.given, i.grown);
-      writes = omega (arith, e.costs.write_calls, e.costs.given, e.costs.grown, paid, i.writes, i.given, i.grown);
-      turns = omega (arith, words, e.costs.given, e.costs.grown, paid, i.turns, i.given, i.grown, c.tick.ensures.turns);
+      calls = omega (arith, e.costs.calls, e.costs.given, e.writes.least, paid, i.calls, i.given, i.writes.least);
+      write_calls = omega (
+        arith,
+        e.costs.write_calls,
+        e.costs.given,
+        e.writes.least,
+        paid,
+        i.write_calls,
+        i.given,
+        i.writes.least,
+      );
+      turns = omega (
+        arith,
+        s.words,
+        e.costs.given,
+        e.writes.least,
+        paid,
+        i.turns,
+        i.given,
+        i.writes.least,
+        c.tick.ensures.turns,
+      );
       spends = λ tells.
-          let z = rw i.same at (o.spends tells (end_place r.blocks) (rw i.same place) (rw i.same place) (sym i.past) refl 16 (32 + (g.S.Source.given c.loop-m.source - g.S.Source.given c.args.source.now)) (rw i.same (i.spends tells))) in
+          let z = s.spends tells (end_place r.blocks) place place (sym i.past) refl 16
+          (32 + (g.S.Source.given c.loop-m.source - g.S.Source.given c.args.source.now)) (i.spends tells) in
           let t : 32 + (g.S.Source.given c.loop-m.source - g.S.Source.given c.args.source.now) + (g.S.Source.given c.step.new.source - g.S.Source.given c.loop-m.source) ≡ 32 + (g.S.Source.given c.step.new.source - g.S.Source.given c.args.source.now) = omega (arith, e.costs.given, i.given) in
           rw t at z;
-      faults = omega (arith, e.failing.read, i.faults);
-      write_faults = omega (arith, e.failing.write, i.write_faults);
-      clean = (o.failing.clean.0 ∙ i.clean.0, o.failing.clean.1 ∙ i.clean.1);
-      unfilled = omega (arith, o.full_faults, i.unfilled);
-      leads = leads_join (AreChunks r.size c.args.counted.chunks r.blocks) (MayCome r.size r.blocks c.loop-m.writer) (MayCome r.size r.blocks c.step.new.self) _ _ _ i.leads (rw i.same at (o.leads going));
+      leads = leads_join (AreChunks r.size c.args.counted.chunks r.blocks) (MayCome r.size r.blocks c.loop-m.writer)
+          (MayCome r.size r.blocks c.step.new.self) _ _ _ i.leads (s.leads going);
     }
 
 -- all is written
 pub returns : goal.returns
 returns g c =
     let i = c.loop-m.invariant in
-    let e = c.step.ensures in
+    let e = c.step.ensures.stepped in
     let o = c.in_ok-step.ensures in
+    let s = o.stepped in
     let r = c.args.runs.now in
     let test = c.if-not-branch.false in
     let done = o.ended test in
-    let turns = rw i.same at e.costs.turns in
-    let calls = e.costs.calls in
-    let writes = e.costs.write_calls in
     let place = is_end_place r.blocks r.size r.window in
     record {
-      same = e.same ∙ i.same;
-      content = λ tells. e.content tells ∙ i.kept tells;
-      frame = e.frame ∙ i.frame;
-      write_frame = e.write_frame ∙ i.write_frame;
-      grown = omega (arith, e.costs.grown, i.grown);
+      reads = reads_then i.reads (reads_ok tt s.reads);
+      writes = writes_then i.writes (writes_ok tt s.writes);
       within = omega (arith, e.within, i.counted);
       long = omega (arith, i.counted, done.0, ap length done.1);
-      front = λ tells. front_join _ _ _ _ _ i.grown e.costs.grown (i.front tells) (i.rest tells) (rw (i.same, i.kept tells, i.first, i.past) at (e.front tells));
-      whole = λ tells. done.1 ∙ whole_join _ _ _ i.grown (i.front tells) (sym (i.rest tells) ∙ no_bytes _ (let long = rw (i.first, i.past) at (i.told tells).long in omega (arith, long, done.0)));
-      image = leads_whole (AreChunks r.size c.args.counted.chunks r.blocks) (MayCome r.size r.blocks c.loop-m.writer) _ _ _ i.leads (rw i.same at (nothing_appended (MayCome c.loop-m.runs.size c.loop-m.runs.blocks c.loop-m.writer) _ _ done.1 (o.all test)));
-      given = omega (arith, e.costs.given, i.given);
-      received = omega (arith, e.costs.received, e.costs.steps, i.received);
+      front = λ tells. front_join _ _ _ _ _ i.writes.least e.writes.least (i.front tells) (i.rest tells)
+          (rw (i.reads.content tells, i.first, i.past) at (e.front tells));
+      whole = λ tells. done.1 ∙ whole_join _ _ _ i.writes.least (i.front tells) (sym (i.rest tells)
+          ∙ no_bytes _ (let long = rw (i.first, i.past) at (i.told tells).long in omega (arith, long, done.0)));
+      image = leads_whole (AreChunks r.size c.args.counted.chunks r.blocks) (MayCome r.size r.blocks c.loop-m.writer) _
+          _ _ i.leads (nothing_appended (MayCome r.size r.blocks c.loop-m.writer) _ _ done.1 (o.all test));
       economy = λ tells.
-          let z = rw i.same at (o.spent tells (end_place r.blocks) (rw i.same place) (rw i.same place) (sym i.past) refl 16 (32 + (g.S.Source.given c.loop-m.source - g.S.Source.given c.args.source.now)) (rw i.same (i.spends tells)) test) in
+          let z = o.spent tells (end_place r.blocks) place place (sym i.past) refl 16
+          (32 + (g.S.Source.given c.loop-m.source - g.S.Source.given c.args.source.now)) (i.spends tells) test in
           let y = all_read r.length r.blocks r.size (g.S.Source.given c.step.new.source - g.S.Source.given c.args.source.now) (omega (arith, z, e.costs.given, i.given)) in
           omega (arith, y, e.costs.given, i.given);
-      calls = omega (arith, i.reads, calls, i.given, e.costs.given, i.grown, e.costs.grown);
-      write_calls = omega (arith, i.writes, writes, i.given, e.costs.given, i.grown, e.costs.grown);
-      turns = omega (arith, i.turns, turns, i.given, e.costs.given, i.grown, e.costs.grown);
-      greatest = omega (arith, e.costs.received, e.costs.greatest, i.greatest);
-      faults = omega (arith, e.failing.read, i.faults);
-      write_faults = omega (arith, e.failing.write, i.write_faults);
-      clean = (o.failing.clean.0 ∙ i.clean.0, o.failing.clean.1 ∙ i.clean.1);
-      full_faults = omega (arith, o.full_faults, i.unfilled);
+      costs = record {
+        given = omega (arith, e.costs.given, i.given);
+        received = omega (arith, e.costs.received, e.costs.steps, i.received);
+        calls = omega (arith, i.calls, e.costs.calls, i.given, e.costs.given, i.writes.least, e.writes.least);
+        write_calls = omega (
+          arith,
+          i.write_calls,
+          e.costs.write_calls,
+          i.given,
+          e.costs.given,
+          i.writes.least,
+          e.writes.least,
+        );
+        turns = omega (arith, i.turns, e.costs.turns, i.given, e.costs.given, i.writes.least, e.writes.least);
+        greatest = omega (arith, e.costs.received, e.costs.greatest, i.greatest);
+      };
       full = λ says. absurd (not_full says);
       cause = tt;
     }
@@ -95,36 +118,37 @@ returns g c =
 pub returns-in_err-step : goal.returns-in_err-step
 returns-in_err-step g c =
     let i = c.loop-m.invariant in
-    let e = c.step.ensures in
-    let f = c.in_err-step.ensures in
+    let e = c.step.ensures.stepped in
+    let f = c.in_err-step.ensures.stepped in
     let p = err_from_is_err_and c.from_residual.result c.from_residual.ensures.1 in
-    let turns = rw i.same at e.costs.turns in
-    let calls = e.costs.calls in
-    let writes = e.costs.write_calls in
     record {
-      same = e.same ∙ i.same;
-      content = λ tells. e.content tells ∙ i.kept tells;
-      frame = e.frame ∙ i.frame;
-      write_frame = e.write_frame ∙ i.write_frame;
-      grown = omega (arith, e.costs.grown, i.grown);
+      reads = rw p.1 (reads_then i.reads (reads_err _ f.reads));
+      writes = rw (p.1, p.2) (writes_then i.writes (writes_err _ f.writes));
       within = omega (arith, e.within, i.counted);
       long = rw p.1 tt;
-      front = λ tells. front_join _ _ _ _ _ i.grown e.costs.grown (i.front tells) (i.rest tells) (rw (i.same, i.kept tells, i.first, i.past) at (e.front tells));
+      front = λ tells. front_join _ _ _ _ _ i.writes.least e.writes.least (i.front tells) (i.rest tells)
+          (rw (i.reads.content tells, i.first, i.past) at (e.front tells));
       whole = λ tells. rw p.1 tt;
       image = rw p.1 tt;
-      given = omega (arith, e.costs.given, i.given);
-      received = omega (arith, e.costs.received, e.costs.steps, i.received);
       economy = λ tells. rw p.1 tt;
-      calls = omega (arith, i.reads, calls, i.given, e.costs.given, i.grown, e.costs.grown);
-      write_calls = omega (arith, i.writes, writes, i.given, e.costs.given, i.grown, e.costs.grown);
-      turns = omega (arith, i.turns, turns, i.given, e.costs.given, i.grown, e.costs.grown);
-      greatest = omega (arith, e.costs.received, e.costs.greatest, i.greatest);
-      faults = omega (arith, e.failing.read, i.faults);
-      write_faults = omega (arith, e.failing.write, i.write_faults);
-      clean = rw p.1 tt;
-      full_faults = rw (p.1, p.2) (omega (arith, f.full_faults, i.unfilled));
+      costs = record {
+        given = omega (arith, e.costs.given, i.given);
+        received = omega (arith, e.costs.received, e.costs.steps, i.received);
+        calls = omega (arith, i.calls, e.costs.calls, i.given, e.costs.given, i.writes.least, e.writes.least);
+        write_calls = omega (
+          arith,
+          i.write_calls,
+          e.costs.write_calls,
+          i.given,
+          e.costs.given,
+          i.writes.least,
+          e.writes.least,
+        );
+        turns = omega (arith, i.turns, e.costs.turns, i.given, e.costs.given, i.writes.least, e.writes.least);
+        greatest = omega (arith, e.costs.received, e.costs.greatest, i.greatest);
+      };
       full = rw (p.1, p.2) (λ says. (f.full says).0);
-      cause = rw (p.1, p.2) (cause_since _ _ _ _ _ _ _ _ i.faults i.write_faults f.cause);
+      cause = rw (p.1, p.2) (cause_since _ _ _ _ _ _ _ _ i.reads.faults i.writes.faults f.cause);
     }
 
 -- before the first chunk
@@ -135,33 +159,29 @@ loop-m-init g c =
     let begun = rw c.blocks-count.ensures at c.writer_of-writer.ensures in
     let start = c.start.result in
     let silent = silent_most r.blocks r.blocks (first_gatherer start) in
-    let blocks = λ (tells : IsTrue g.S.Source.tells). raw_blocks r.blocks r.size r.length _ r.some r.covers r.last (c.requires.opened tells) in
+    let blocks = λ (tells : IsTrue g.S.Source.tells). raw_blocks r.blocks r.size r.length _ r.some r.covers r.last
+    (c.requires.ready.opened tells) in
     record {
-      same = refl;
-      kept = λ tells. refl;
-      frame = refl;
-      write_frame = refl;
+      reads = reads_none _ g.S.Source _;
+      writes = writes_none _ g.O.Output _;
       first = rw begun refl;
       past = rw begun refl;
-      sound = rw begun (first_sound r.blocks r.size _ start c.args.counted s.first s.within c.requires.some c.requires.small (omega arith));
-      told = λ tells. rw begun (first_told r.blocks r.size _ _ start c.args.counted s.first s.within (blocks tells).0 (c.requires.chunks tells) (c.requires.bytes tells));
-      grown = as_many _;
+      sound = rw begun (first_sound r.blocks r.size _ start c.args.counted s.first s.within c.requires.ready.some
+          c.requires.ready.small (omega arith));
+      told = λ tells. rw begun (first_told r.blocks r.size _ _ start c.args.counted s.first s.within (blocks tells).0
+          (c.requires.counts tells).chunks (c.requires.counts tells).bytes);
       counted = rw begun (omega (arith, c.requires.least));
       front = λ tells. nothing_more _ _;
       rest = λ tells. rw begun (first_rest r.blocks c.args.most _ start c.args.counted (blocks tells).0 ∙ nothing_less (g.O.Output.written c.args.output.now) _);
       given = as_many _;
       received = as_many _;
       greatest = max_most _ _;
-      reads = rw begun (omega (arith, silent));
-      writes = rw begun (omega (arith, silent));
+      calls = rw begun (omega (arith, silent));
+      write_calls = rw begun (omega (arith, silent));
       turns = rw begun (omega (arith, silent));
       spends = λ tells.
           let z = all_spent r.length r.blocks r.size c.args.most start c.args.counted s.first s.unused s.fresh r.covers in
           let t : 32 ≡ 32 + (g.S.Source.given c.args.source.now - g.S.Source.given c.args.source.now) = omega arith in
           rw begun (rw t at z);
-      faults = as_many _;
-      write_faults = as_many _;
-      clean = (refl, refl);
-      unfilled = refl;
       leads = rw begun (first_leads r.size r.blocks c.args.most start c.args.counted _ s.first);
     }

@@ -1,11 +1,13 @@
 use Rattle.std.proofs.Common.{◌≡◌, ◌≤◌, ◌+◌, ◌-◌, ◌*◌, ◌++◌, length, take, drop, max}
-use Rattle.std.specs.Prelude.{IsTrue}
+use Rattle.std.specs.Prelude.{IsTrue, Ok}
+use Rattle.abt_io.specs.Lent.{OnlyReads, OnlyWrites}
 use Rattle.abt_sparse.specs.Block.{classify}
 use Rattle.abt_runs.specs.Raw.{RawPlace, raw_charge, raw_before, raw_held}
 use Rattle.abt_pieces.specs.Gather.{frame}
 use Rattle.abt_pieces.specs.Image.{Leads, AreChunks, MayCome}
 use Rattle.abt_pieces.specs.Spent.{Spent}
 use Rattle.abt_pieces.specs.Write.{bytes_of, rest_of, SoundWriter, ToldWriter, silent_write, write_left, writer_words}
+use Rattle.abt_pieces.specs.declared.fault.PieceFault.{PieceFault}
 use Rattle.abt_sparsify.specs.Sparsify.{end_place}
 use Rattle.abt_sparsify.proofs.write.write_runs.Given as goal
 
@@ -19,29 +21,25 @@ invariant-loop-m g l =
     let b = l.fn.runs.size in
     let len = l.fn.runs.length in
     record {
-      same : l.runs ≡ l.fn.runs;
-      kept : IsTrue g.S.Source.tells → content l.source ≡ content l.fn.source;
-      frame : g.S.Source.read_frame l.source ≡ g.S.Source.read_frame l.fn.source;
-      write_frame : g.O.Output.write_frame l.output ≡ g.O.Output.write_frame l.fn.output;
+      reads : OnlyReads {X = Unit {0}} {E = PieceFault} (Ok tt) g.S.Source l.fn.source l.source;
+      writes : OnlyWrites {X = Unit {0}} {E = PieceFault} (Ok tt) 0 g.O.Output l.fn.output l.output;
       first : l.writer.first ≡ 0;
       past : l.writer.past ≡ n;
       sound : SoundWriter (λ c. RawPlace n b c) (λ c. (n - c.block) * b) n b l.writer;
       told : IsTrue g.S.Source.tells → ToldWriter (λ c. RawPlace n b c) (λ c. n - c.block) (classify b (content l.fn.source)) l.writer;
-      grown : length (written l.fn.output) ≤ length (written l.output);
       counted : length (written l.output) + l.writer.bytes + 28 ≡ length (written l.fn.output) + l.fn.counted.bytes;
       front : IsTrue g.S.Source.tells → written l.output ≡ written l.fn.output ++ take (length (written l.output) - length (written l.fn.output)) (bytes_of l.fn.most (classify b (content l.fn.source)));
       rest : IsTrue g.S.Source.tells → rest_of (framed (classify b (content l.fn.source)) 0 n) l.writer ≡ drop (length (written l.output) - length (written l.fn.output)) (bytes_of l.fn.most (classify b (content l.fn.source)));
       given : given' l.fn.source ≤ given' l.source;
       received : given' l.source + 65536 * l.fn.m.steps.number ≤ given' l.fn.source + 65536 * l.m.steps.number;
       greatest : l.m.greatest.number ≤ max l.fn.m.greatest.number 65536;
-      reads : g.S.Source.reads l.source + 2 * silent_write n l.writer ≤ g.S.Source.reads l.fn.source + 3 * (given' l.source - given' l.fn.source) + 2 * (length (written l.output) - length (written l.fn.output)) + 6;
-      writes : g.O.Output.writes l.output + silent_write n l.writer ≤ g.O.Output.writes l.fn.output + (given' l.source - given' l.fn.source) + 2 * (length (written l.output) - length (written l.fn.output)) + 3;
+      calls : g.S.Source.reads l.source + 2 * silent_write n l.writer ≤ g.S.Source.reads l.fn.source
+          + 3 * (given' l.source - given' l.fn.source) + 2 * (length (written l.output) - length (written l.fn.output))
+          + 6;
+      write_calls : g.O.Output.writes l.output + silent_write n l.writer ≤ g.O.Output.writes l.fn.output
+          + (given' l.source - given' l.fn.source) + 2 * (length (written l.output) - length (written l.fn.output)) + 3;
       turns : l.m.turns.number + 4 * silent_write n l.writer ≤ l.fn.m.turns.number + 6 * (given' l.source - given' l.fn.source) + 5 * (length (written l.output) - length (written l.fn.output)) + 12 + writer_words b n l.writer;
       spends : IsTrue g.S.Source.tells → Spent (λ c. RawPlace n b c × RawPlace n b c) (λ c. raw_charge len n b c) (λ c. raw_before len b c) (λ c k. raw_held len b c k) (end_place n) 16 (32 + (given' l.source - given' l.fn.source)) l.writer;
-      faults : g.S.Source.read_faults l.fn.source ≤ g.S.Source.read_faults l.source;
-      write_faults : g.O.Output.write_faults l.fn.output ≤ g.O.Output.write_faults l.output;
-      clean : (g.S.Source.read_faults l.source ≡ g.S.Source.read_faults l.fn.source) × (g.O.Output.write_faults l.output ≡ g.O.Output.write_faults l.fn.output);
-      unfilled : g.O.Output.full_faults l.output ≡ g.O.Output.full_faults l.fn.output;
       leads : Leads (AreChunks b l.fn.counted.chunks n) (MayCome b n l.writer) (written l.fn.output) (written l.output);
     }
 

@@ -1,5 +1,4 @@
-use Rattle.std.proofs.Common.{◌<◌, arith, refl}
-use Rattle.std.proofs.Common.{ap}
+use Rattle.std.proofs.Common.{◌<◌, arith, refl, ap}
 use Rattle.abt_chunks.proofs.Causes.{bounded_next}
 use Rattle.abt_chunks.proofs.Showing.{ended_header, shown_next, more_index}
 use Rattle.abt_chunks.proofs.listing.Chunks.next.Goals as goal
@@ -12,17 +11,22 @@ returns-in-Ok-clause-lists g c tells =
     let first = rw c.in-Ok-More.field-0-is at (c.in-Ok-More.ensures.lists tells) in
     let numbers = rw c.in-Ok-More.field-0-is at c.in-Ok-More.ensures.numbers in
     let stands = rw c.in-Ok-More.field-0-is at c.in-Ok-More.ensures.stands in
-    let index = more_index s.phase s s1 _ c.args.self.now.between refl (λ o. (c.step.ensures.again o).0) stands numbers in
+    let index = more_index s.phase s s1 _ c.args.self.now.between refl (λ o. (c.step.ensures.again o).0) stands numbers
+    in
     let some : 0 < s2.index = omega (arith, c.in-Ok.ensures.index, index.0) in
-    rw c.info.ensures (shown_next s s1 s2 _ _ _ first (c.in-Ok.ensures.passes tells) c.in-Ok.ensures.settles.1 c.in-Ok.ensures.settles.0 some)
+    let settles = c.in-Ok.ensures.settles in
+    rw c.info.ensures
+    (shown_next s s1 s2 _ _ _ first (c.in-Ok.ensures.passes tells) settles.1 settles.0 some)
 
 pub returns-in-Err-clause-bounded : goal.returns-in-Err-clause-bounded
 returns-in-Err-clause-bounded g c =
     let s = c.args.self.now.walk in
-    bounded_next c.in-Err.fault s.phase s (g.I.Input.given c.args.input.now) (g.I.Input.given c.step.new.input) refl c.args.self.now.between c.in-Err.ensures.refuses
-    (λ o. ap g.I.Input.given (c.step.ensures.again o).1) c.in-Err.ensures.wanted
+    bounded_next c.in-Err.fault s.phase s (g.I.Input.given c.args.input.now) (g.I.Input.given c.step.new.input) refl
+    c.args.self.now.between c.in-Err.ensures.refuses
+    (λ o. ap g.I.Input.given (c.step.ensures.again o).1) c.in-Err.ensures.input.wanted
 
 pub returns-in-Ok-Done-clause-header : goal.returns-in-Ok-Done-clause-header
 returns-in-Ok-Done-clause-header g c =
     let s = c.args.self.now.walk in
-    ended_header s.phase s c.step.new.walk refl (rw c.in-Ok-Done.field-0-is at c.in-Ok-Done.ensures.closes) c.step.ensures.header (λ o. (c.step.ensures.again o).0)
+    ended_header s.phase s c.step.new.walk refl (rw c.in-Ok-Done.field-0-is at c.in-Ok-Done.ensures.closes)
+    c.step.ensures.header (λ o. (c.step.ensures.again o).0)

@@ -1,13 +1,15 @@
-use Rattle.std.proofs.Common.{refl, rules, arith, ap, ◌∙◌, ◌≡◌, ◌+◌, ◌++◌, ℕ, List, inl, inr}
+use Rattle.std.proofs.Common.{refl, rules, arith, ap, sym, ◌∙◌, ◌≡◌, ◌+◌, ◌++◌, ℕ, List, inl, inr}
+use Rattle.abt_io.proofs.Lent.{reads_err, reads_none, reads_ok, reads_then, writes_err, writes_none, writes_ok}
+use Rattle.abt_io.proofs.Lent.{writes_then}
 use Rattle.abt_pieces.specs.declared.stage.Stage.TheVariants.{Between}
 use Rattle.abt_pieces.proofs.Fronts.{front_join, rest_join, nothing_more, nothing_less, as_many, max_most, not_full}
 use Rattle.abt_pieces.proofs.Stepping.{none_so_far, silent_unbegun, whole_front, piece_came}
 use Rattle.abt_pieces.proofs.Joining.{steps_join, greatest_join, counted_join, within_join, long_join, calls_join, writes_join, turns_join, words_join, costs_join, no_fault, from_between, more_no_end, piece_no_end, between_undone, between_unfailed}
-use Rattle.abt_pieces.specs.Fault.{full_cut}
 use Rattle.abt_pieces.specs.Image.{StageMayCome}
 use Rattle.abt_pieces.proofs.Image.{leads_same, leads_join, leads_whole, still_unfailed, between_image}
 use Rattle.abt_pieces.specs.SpentStage.{all_passes}
 use Rattle.abt_pieces.proofs.SpendingStages.{spent_unbegun, stage_joins}
+use Rattle.abt_pieces.proofs.Failures.{full_at_fresh, full_at_ok, still_refused, writes_as}
 use Rattle.abt_pieces.proofs.cutter.Cutter.next_piece.Goals as goal
 
 pub steps-init : goal.steps-init
@@ -19,12 +21,10 @@ steps-init g c =
       limit = refl;
       start = refl;
       made = refl;
-      kept = λ tells. refl;
-      frame = refl;
-      write_frame = refl;
-      told = c.requires.told;
+      reads = reads_none _ _ _;
+      writes = writes_none _ _ _;
+      told = c.requires.ready.told;
       fresh = inr (refl, refl, refl, refl);
-      grown = as_many _;
       counted = omega (arith, none);
       front = λ tells. nothing_more _ _;
       rest = λ tells. nothing_less _ _;
@@ -35,10 +35,6 @@ steps-init g c =
       write_calls = omega (arith, silent);
       turns = omega (arith, silent);
       spent = λ tells. spent_unbegun (λ x. g.R.BlockRuns.within c.args.self.now.runs x × g.R.BlockRuns.place c.args.self.now.runs (g.S.Source.content c.args.source.now) x) (g.R.BlockRuns.charge c.args.self.now.runs) (g.R.BlockRuns.copied c.args.self.now.runs) (g.R.BlockRuns.held c.args.self.now.runs) (g.R.BlockRuns.size c.args.self.now.runs) c.args.self.now.limit (g.R.BlockRuns.count c.args.self.now.runs) (g.R.BlockRuns.one c.args.self.now.runs) c.args.self.now.start (g.S.Source.given c.args.source.now) c.args.self.now.stage c.requires.unbegun;
-      faults = as_many _;
-      write_faults = as_many _;
-      clean = (refl, refl);
-      unfilled = λ h. refl;
       leads = leads_same _ _ _ _ refl (λ t h. h);
     }
 
@@ -59,30 +55,28 @@ steps-preserved g c =
       limit = e.same.1 ∙ i.limit;
       start = on.same_place ∙ i.start;
       made = on.same_number ∙ i.made;
-      kept = λ tells. e.content tells ∙ i.kept tells;
-      frame = e.frame ∙ i.frame;
-      write_frame = e.write_frame ∙ i.write_frame;
-      told = λ tells. rw (i.runs, i.kept tells) at (e.told tells);
+      reads = reads_ok tt (reads_then i.reads o.reads);
+      writes = writes_ok tt (writes_then i.writes (writes_as (full_at_ok _) o.writes));
+      told = λ tells. rw (i.runs, i.reads.content tells) at (e.told tells);
       fresh = inl (begun, between);
-      grown = omega (arith, e.costs.grown, i.grown);
-      counted = counted_join _ _ _ _ _ i.grown costs.grown on.counted i.counted;
-      front = λ tells. front_join _ _ _ _ _ i.grown e.costs.grown (i.front tells) (i.rest tells) (rw (i.runs, i.kept tells, i.limit, i.start) at (e.front tells));
+      counted = counted_join _ _ _ _ _ i.writes.least costs.grown on.counted i.counted;
+      front = λ tells. front_join _ _ _ _ _ i.writes.least e.costs.grown (i.front tells) (i.rest tells)
+          (rw (i.runs, i.reads.content tells, i.limit, i.start) at (e.front tells));
       rest = λ tells.
           let r = rw is at (o.rest tells) in
-          rest_join _ _ _ _ _ _ i.grown e.costs.grown (i.rest tells) (rw (i.runs, i.kept tells, i.limit, i.start) at r);
+          rest_join _ _ _ _ _ _ i.writes.least e.costs.grown (i.rest tells)
+          (rw (i.runs, i.reads.content tells, i.limit, i.start) at r);
       given = omega (arith, i.given, e.costs.given);
       steps = steps_join _ _ _ _ _ _ _ i.steps c.tick.ensures.steps costs.steps costs.received;
       greatest = greatest_join _ _ _ _ _ _ i.greatest c.tick.ensures.greatest costs.greatest costs.received;
-      calls = calls_join _ _ _ _ _ _ _ _ _ _ _ i.given costs.given i.grown costs.grown i.calls costs.calls paid;
-      write_calls = writes_join _ _ _ _ _ _ _ _ _ _ _ i.given costs.given i.grown costs.grown i.write_calls costs.write_calls paid;
-      turns = turns_join _ _ _ _ _ _ _ _ _ _ _ _ _ _ i.given costs.given i.grown costs.grown i.turns c.tick.ensures.turns words paid;
+      calls = calls_join _ _ _ _ _ _ _ _ _ _ _ i.given costs.given i.writes.least costs.grown i.calls costs.calls paid;
+      write_calls = writes_join _ _ _ _ _ _ _ _ _ _ _ i.given costs.given i.writes.least costs.grown i.write_calls
+          costs.write_calls paid;
+      turns = turns_join _ _ _ _ _ _ _ _ _ _ _ _ _ _ i.given costs.given i.writes.least costs.grown i.turns
+          c.tick.ensures.turns words paid;
       spent = λ tells.
-          let step = rw (i.runs, i.kept tells, i.limit, i.start) at (rw is at (o.spends tells)) in
+          let step = rw (i.runs, i.reads.content tells, i.limit, i.start) at (rw is at (o.spends tells)) in
           stage_joins (λ x. g.R.BlockRuns.within c.args.self.now.runs x × g.R.BlockRuns.place c.args.self.now.runs (g.S.Source.content c.args.source.now) x) (g.R.BlockRuns.charge c.args.self.now.runs) (g.R.BlockRuns.copied c.args.self.now.runs) (g.R.BlockRuns.held c.args.self.now.runs) (g.R.BlockRuns.size c.args.self.now.runs) c.args.self.now.limit (g.R.BlockRuns.count c.args.self.now.runs) (g.R.BlockRuns.one c.args.self.now.runs) c.args.self.now.start (all_passes (g.R.BlockRuns.charge c.args.self.now.runs) (g.R.BlockRuns.copied c.args.self.now.runs) c.args.self.now.start) (g.S.Source.given c.args.source.now) (g.S.Source.given c.steps.source) (g.S.Source.given c.step.new.source) c.step.new.self.stage i.given e.costs.given (step _ (i.spent tells));
-      faults = omega (arith, i.faults, e.failing.read);
-      write_faults = omega (arith, i.write_faults, e.failing.write);
-      clean = (o.failing.clean.0 ∙ i.clean.0, o.failing.clean.1 ∙ i.clean.1);
-      unfilled = λ h. let z = e.full_faults (still_unfailed _ _ i.fresh h) in let n : full_cut c.step.result ≡ 0 = rw c.in-Ok-More.is refl in omega (arith, z, n, i.unfilled h);
       leads = leads_join (StageMayCome (g.R.BlockRuns.size c.args.self.now.runs) (g.R.BlockRuns.count c.args.self.now.runs) c.args.self.now.stage) (StageMayCome (g.R.BlockRuns.size c.args.self.now.runs) (g.R.BlockRuns.count c.args.self.now.runs) c.steps.self.stage) (StageMayCome (g.R.BlockRuns.size c.args.self.now.runs) (g.R.BlockRuns.count c.args.self.now.runs) c.step.new.self.stage) _ _ _ i.leads (rw i.runs at (rw is at o.leads));
     }
 
@@ -98,50 +92,49 @@ returns-in-Ok-Piece g c =
     let ends = rw is at o.ends in
     record {
       cutter = record { same_image = e.same.0 ∙ i.runs; same_limit = e.same.1 ∙ i.limit; unbegun = rw is at o.begun };
-      content = λ tells. e.content tells ∙ i.kept tells;
-      frame = e.frame ∙ i.frame;
-      write_frame = e.write_frame ∙ i.write_frame;
-      told = λ tells. rw (i.runs, i.kept tells) at (e.told tells);
-      grown = omega (arith, e.costs.grown, i.grown);
-      within = within_join _ _ _ _ _ i.grown e.costs.grown (rw i.limit at e.within) i.counted;
-      front = λ tells. front_join _ _ _ _ _ i.grown e.costs.grown (i.front tells) (i.rest tells) (rw (i.runs, i.kept tells, i.limit, i.start) at (e.front tells));
-      image = between_image _ _ _ _ _ between (leads_whole _ _ _ _ _ i.leads (rw i.runs at (rw is at o.all)));
-      piece = record {
-        passed = rw i.runs at piece.passed;
-        begins = rw i.start at piece.begins;
-        ends = piece.ends;
-        least = piece.least;
-        most = rw i.limit at piece.most;
-        one_more = piece.one_more ∙ ap (λ (n : ℕ). n + 1) i.made;
+      reads = reads_ok _ (reads_then i.reads o.reads);
+      writes = writes_as (sym (full_at_ok c.args.self.now.stage))
+          (writes_ok _ (writes_then i.writes (writes_as (full_at_ok _) o.writes)));
+      told = λ tells. rw (i.runs, i.reads.content tells) at (e.told tells);
+      within = within_join _ _ _ _ _ i.writes.least e.costs.grown (rw i.limit at e.within) i.counted;
+      front = λ tells. front_join _ _ _ _ _ i.writes.least e.costs.grown (i.front tells) (i.rest tells)
+          (rw (i.runs, i.reads.content tells, i.limit, i.start) at (e.front tells));
+      made = record {
+        image = between_image _ _ _ _ _ between (leads_whole _ _ _ _ _ i.leads (rw i.runs at (rw is at o.all)));
+        piece = record {
+          passed = rw i.runs at piece.passed;
+          begins = rw i.start at piece.begins;
+          ends = piece.ends;
+          least = piece.least;
+          most = rw i.limit at piece.most;
+          one_more = piece.one_more ∙ ap (λ (n : ℕ). n + 1) i.made;
+        };
+        long = long_join _ _ _ _ _ i.writes.least e.costs.grown ends.long i.counted;
+        takes = rw (i.runs, i.start) at ends.takes;
+        words = words_join _ _ _ _ _ _ _ _ _ _ _ _ _ i.given e.costs.given i.writes.least e.costs.grown i.turns
+            c.tick.ensures.turns (rw i.runs at ends.words);
       };
-      long = long_join _ _ _ _ _ i.grown e.costs.grown ends.long i.counted;
       laid = λ tells.
           let came = rw is at (o.laid tells) in
-          let whole = whole_front _ _ _ _ _ _ (i.front tells) (i.rest tells) (rw (i.runs, i.kept tells, i.limit, i.start) at came.written) in
-          let greatest = rw (i.runs, i.kept tells, i.limit) at came.greatest in
+          let whole = whole_front _ _ _ _ _ _ (i.front tells) (i.rest tells)
+          (rw (i.runs, i.reads.content tells, i.limit, i.start) at came.written) in
+          let greatest = rw (i.runs, i.reads.content tells, i.limit) at came.greatest in
           record {
             written = whole ∙ ap (λ (y : List ℕ). g.O.Output.written c.args.output.now ++ y) (piece_came _ _ _ _ c.in-Ok-Piece.piece _ between (rw i.start at piece.begins) greatest);
             coming = rw between at whole;
-            exact = rw (i.runs, i.kept tells) at came.exact;
+            exact = rw (i.runs, i.reads.content tells) at came.exact;
             greatest = greatest;
           };
       none = tt;
       after_last = λ d. absurd (between_undone _ between d);
       again = λ f d. absurd (between_unfailed _ f between d);
       refused = tt;
-      costs = costs_join _ _ _ _ _ _ _ _ _ _ (rw i.runs at e.costs) i.given i.grown i.steps i.greatest i.calls i.write_calls i.turns c.tick.ensures.steps c.tick.ensures.greatest c.tick.ensures.turns;
-      takes = rw (i.runs, i.start) at ends.takes;
+      costs = costs_join _ _ _ _ _ _ _ _ _ _ (rw i.runs at e.costs) i.given i.writes.least i.steps i.greatest i.calls
+          i.write_calls i.turns c.tick.ensures.steps c.tick.ensures.greatest c.tick.ensures.turns;
       spent = λ tells.
-          let step = rw (i.runs, i.kept tells, i.limit, i.start) at (rw is at (o.spent tells)) in
+          let step = rw (i.runs, i.reads.content tells, i.limit, i.start) at (rw is at (o.spent tells)) in
           let z = step _ (i.spent tells) in
           record { most = omega (arith, z.most, i.given, e.costs.given); end = λ over. let y = z.end over in omega (arith, y, i.given, e.costs.given) };
-      words = words_join _ _ _ _ _ _ _ _ _ _ _ _ _ i.given e.costs.given i.grown e.costs.grown i.turns c.tick.ensures.turns (rw i.runs at ends.words);
-      failing = record {
-        read = omega (arith, i.faults, e.failing.read);
-        write = omega (arith, i.write_faults, e.failing.write);
-        clean = (o.failing.clean.0 ∙ i.clean.0, o.failing.clean.1 ∙ i.clean.1);
-      };
-      full_faults = λ h. let z = o.full_faults (still_unfailed _ _ i.fresh h) in omega (arith, z, i.unfilled h);
       full = λ h says. absurd (not_full says);
       cause = tt;
     }
@@ -155,31 +148,22 @@ returns-in-Ok-End g c =
     let is = c.in-Ok-End.field-0-is in
     record {
       cutter = record { same_image = e.same.0 ∙ i.runs; same_limit = e.same.1 ∙ i.limit; unbegun = rw is at o.begun };
-      content = λ tells. e.content tells ∙ i.kept tells;
-      frame = e.frame ∙ i.frame;
-      write_frame = e.write_frame ∙ i.write_frame;
-      told = λ tells. rw (i.runs, i.kept tells) at (e.told tells);
-      grown = omega (arith, e.costs.grown, i.grown);
-      within = within_join _ _ _ _ _ i.grown e.costs.grown (rw i.limit at e.within) i.counted;
-      front = λ tells. front_join _ _ _ _ _ i.grown e.costs.grown (i.front tells) (i.rest tells) (rw (i.runs, i.kept tells, i.limit, i.start) at (e.front tells));
-      image = tt;
-      piece = tt;
-      long = tt;
+      reads = reads_ok _ (reads_then i.reads o.reads);
+      writes = writes_as (sym (full_at_ok c.args.self.now.stage))
+          (writes_ok _ (writes_then i.writes (writes_as (full_at_ok _) o.writes)));
+      told = λ tells. rw (i.runs, i.reads.content tells) at (e.told tells);
+      within = within_join _ _ _ _ _ i.writes.least e.costs.grown (rw i.limit at e.within) i.counted;
+      front = λ tells. front_join _ _ _ _ _ i.writes.least e.costs.grown (i.front tells) (i.rest tells)
+          (rw (i.runs, i.reads.content tells, i.limit, i.start) at (e.front tells));
+      made = tt;
       laid = λ tells. tt;
       none = search rules;
       after_last = search rules;
       again = search rules;
       refused = tt;
-      costs = costs_join _ _ _ _ _ _ _ _ _ _ (rw i.runs at e.costs) i.given i.grown i.steps i.greatest i.calls i.write_calls i.turns c.tick.ensures.steps c.tick.ensures.greatest c.tick.ensures.turns;
-      takes = tt;
+      costs = costs_join _ _ _ _ _ _ _ _ _ _ (rw i.runs at e.costs) i.given i.writes.least i.steps i.greatest i.calls
+          i.write_calls i.turns c.tick.ensures.steps c.tick.ensures.greatest c.tick.ensures.turns;
       spent = λ tells. tt;
-      words = tt;
-      failing = record {
-        read = omega (arith, i.faults, e.failing.read);
-        write = omega (arith, i.write_faults, e.failing.write);
-        clean = (o.failing.clean.0 ∙ i.clean.0, o.failing.clean.1 ∙ i.clean.1);
-      };
-      full_faults = λ h. let z = o.full_faults (still_unfailed _ _ i.fresh h) in omega (arith, z, i.unfilled h);
       full = λ h says. absurd (not_full says);
       cause = tt;
     }
@@ -192,34 +176,24 @@ returns-in-Err g c =
     let o = c.in-Err.ensures.stepped in
     record {
       cutter = record { same_image = e.same.0 ∙ i.runs; same_limit = e.same.1 ∙ i.limit; unbegun = o.begun };
-      content = λ tells. e.content tells ∙ i.kept tells;
-      frame = e.frame ∙ i.frame;
-      write_frame = e.write_frame ∙ i.write_frame;
-      told = λ tells. rw (i.runs, i.kept tells) at (e.told tells);
-      grown = omega (arith, e.costs.grown, i.grown);
-      within = within_join _ _ _ _ _ i.grown e.costs.grown (rw i.limit at e.within) i.counted;
-      front = λ tells. front_join _ _ _ _ _ i.grown e.costs.grown (i.front tells) (i.rest tells) (rw (i.runs, i.kept tells, i.limit, i.start) at (e.front tells));
-      image = tt;
-      piece = tt;
-      long = tt;
+      reads = reads_err _ (reads_then i.reads o.reads);
+      writes = writes_as (full_at_fresh _ _ _ i.fresh) (writes_err _ (writes_then i.writes o.writes));
+      told = λ tells. rw (i.runs, i.reads.content tells) at (e.told tells);
+      within = within_join _ _ _ _ _ i.writes.least e.costs.grown (rw i.limit at e.within) i.counted;
+      front = λ tells. front_join _ _ _ _ _ i.writes.least e.costs.grown (i.front tells) (i.rest tells)
+          (rw (i.runs, i.reads.content tells, i.limit, i.start) at (e.front tells));
+      made = tt;
       laid = λ tells. tt;
       none = tt;
       after_last = search rules;
       again = search rules;
       refused = o.refused;
-      costs = costs_join _ _ _ _ _ _ _ _ _ _ (rw i.runs at e.costs) i.given i.grown i.steps i.greatest i.calls i.write_calls i.turns c.tick.ensures.steps c.tick.ensures.greatest c.tick.ensures.turns;
-      takes = tt;
+      costs = costs_join _ _ _ _ _ _ _ _ _ _ (rw i.runs at e.costs) i.given i.writes.least i.steps i.greatest i.calls
+          i.write_calls i.turns c.tick.ensures.steps c.tick.ensures.greatest c.tick.ensures.turns;
       spent = λ tells. tt;
-      words = tt;
-      failing = record {
-        read = omega (arith, i.faults, e.failing.read);
-        write = omega (arith, i.write_faults, e.failing.write);
-        clean = tt;
-      };
-      full_faults = λ h. let z = o.full_faults (still_unfailed _ _ i.fresh h) in omega (arith, z, i.unfilled h);
       full = λ h says.
           let z = o.full (still_unfailed _ _ i.fresh h) says in
           let few = rw i.limit at z.1 in
-          (z.0, omega (arith, few, i.counted, i.grown, e.costs.grown));
-      cause = search rules;
+          (z.0, omega (arith, few, i.counted, i.writes.least, e.costs.grown));
+      cause = still_refused _ _ _ i.fresh (rw (i.reads.clean, i.writes.clean) at o.cause);
     }

@@ -1,6 +1,7 @@
-use Rattle.std.proofs.Common.{◌≡◌, ◌≤◌, ◌+◌, ◌-◌, ◌*◌, ◌++◌, ◌⊎◌, length, take, drop, max, true, false}
-use Rattle.std.specs.Prelude.{IsTrue}
-use Rattle.abt_pieces.specs.Cutter.{ToldCutter, coming, so_far, is_begun, has_failed, cut_left, silent_cut, cut_words}
+use Rattle.std.proofs.Common.{◌≡◌, ◌≤◌, ◌+◌, ◌-◌, ◌*◌, ◌++◌, ◌⊎◌, length, take, drop, max, true}
+use Rattle.std.specs.Prelude.{IsTrue, Ok}
+use Rattle.abt_io.specs.Lent.{OnlyReads, OnlyWrites}
+use Rattle.abt_pieces.specs.Cutter.{ToldCutter, coming, so_far, is_begun, cut_left, silent_cut, cut_words}
 use Rattle.abt_pieces.specs.Image.{Leads, StageMayCome}
 use Rattle.abt_pieces.specs.SpentStage.{SpentStage, all_passes}
 use Rattle.abt_pieces.specs.declared.stage.Stage.TheVariants.{Between}
@@ -17,12 +18,10 @@ invariant-steps g l =
       limit : l.self.limit ≡ l.fn.self.limit;
       start : l.self.start ≡ l.fn.self.start;
       made : l.self.made ≡ l.fn.self.made;
-      kept : IsTrue g.S.Source.tells → content l.source ≡ content l.fn.source;
-      frame : g.S.Source.read_frame l.source ≡ g.S.Source.read_frame l.fn.source;
-      write_frame : g.O.Output.write_frame l.output ≡ g.O.Output.write_frame l.fn.output;
+      reads : OnlyReads {X = Unit {0}} {E = Unit {0}} (Ok tt) g.S.Source l.fn.source l.source;
+      writes : OnlyWrites {X = Unit {0}} {E = Unit {0}} (Ok tt) 0 g.O.Output l.fn.output l.output;
       told : IsTrue g.S.Source.tells → ToldCutter (g.R.BlockRuns.place l.fn.self.runs (content l.fn.source)) (g.R.BlockRuns.together l.fn.self.runs (content l.fn.source)) size blocks l.self.limit l.self.made l.self.start l.self.stage;
       fresh : ((is_begun l.self.stage ≡ true) × (l.fn.self.stage ≡ Between)) ⊎ ((l.self ≡ l.fn.self) × (l.output ≡ l.fn.output) × (l.source ≡ l.fn.source) × (l.self.stage ≡ l.fn.self.stage));
-      grown : length (written l.fn.output) ≤ length (written l.output);
       counted : so_far l.self.stage ≡ length (written l.output) - length (written l.fn.output);
       front : IsTrue g.S.Source.tells → written l.output ≡ written l.fn.output ++ take (length (written l.output) - length (written l.fn.output)) (coming size l.fn.self.limit blocks l.fn.self.start.block l.fn.self.stage);
       rest : IsTrue g.S.Source.tells → coming size l.fn.self.limit blocks l.fn.self.start.block l.self.stage ≡ drop (length (written l.output) - length (written l.fn.output)) (coming size l.fn.self.limit blocks l.fn.self.start.block l.fn.self.stage);
@@ -33,10 +32,6 @@ invariant-steps g l =
       write_calls : g.O.Output.writes l.output + silent_cut (g.R.BlockRuns.count l.fn.self.runs) l.self.stage ≤ g.O.Output.writes l.fn.output + (g.S.Source.given l.source - g.S.Source.given l.fn.source) + 2 * (length (written l.output) - length (written l.fn.output)) + 6;
       turns : l.m.turns.number + 4 * silent_cut (g.R.BlockRuns.count l.fn.self.runs) l.self.stage ≤ l.fn.m.turns.number + 6 * (g.S.Source.given l.source - g.S.Source.given l.fn.source) + 5 * (length (written l.output) - length (written l.fn.output)) + cut_words (g.R.BlockRuns.one l.fn.self.runs) (g.R.BlockRuns.count l.fn.self.runs) l.self.start l.self.stage + 24;
       spent : IsTrue g.S.Source.tells → SpentStage (λ c. g.R.BlockRuns.within l.fn.self.runs c × g.R.BlockRuns.place l.fn.self.runs (content l.fn.source) c) (g.R.BlockRuns.charge l.fn.self.runs) (g.R.BlockRuns.copied l.fn.self.runs) (g.R.BlockRuns.held l.fn.self.runs) size l.fn.self.limit (g.R.BlockRuns.count l.fn.self.runs) (g.R.BlockRuns.one l.fn.self.runs) l.fn.self.start (all_passes (g.R.BlockRuns.charge l.fn.self.runs) (g.R.BlockRuns.copied l.fn.self.runs) l.fn.self.start + (g.S.Source.given l.source - g.S.Source.given l.fn.source)) l.self.stage;
-      faults : g.S.Source.read_faults l.fn.source ≤ g.S.Source.read_faults l.source;
-      write_faults : g.O.Output.write_faults l.fn.output ≤ g.O.Output.write_faults l.output;
-      clean : (g.S.Source.read_faults l.source ≡ g.S.Source.read_faults l.fn.source) × (g.O.Output.write_faults l.output ≡ g.O.Output.write_faults l.fn.output);
-      unfilled : has_failed l.fn.self.stage ≡ false → g.O.Output.full_faults l.output ≡ g.O.Output.full_faults l.fn.output;
       leads : Leads (StageMayCome size (g.R.BlockRuns.count l.fn.self.runs) l.fn.self.stage) (StageMayCome size (g.R.BlockRuns.count l.fn.self.runs) l.self.stage) (written l.fn.output) (written l.output);
     }
 

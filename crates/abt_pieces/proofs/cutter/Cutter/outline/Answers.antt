@@ -1,4 +1,5 @@
-use Rattle.std.proofs.Common.{ap, arith, refl}
+use Rattle.std.proofs.Common.{ap, arith}
+use Rattle.abt_io.proofs.Lent.{reads_err, reads_none, reads_ok, reads_then}
 use Rattle.abt_pieces.proofs.Fronts.{not_told, run_causes}
 use Rattle.abt_pieces.proofs.Cutting.{moves}
 use Rattle.abt_pieces.proofs.Stepping.{piece_covers_plan}
@@ -9,21 +10,13 @@ pub returns-in-Err : goal.returns-in-Err
 returns-in-Err g c =
     let a = c.plan_piece.ensures in
     record {
-      runs = a.same;
-      rest = (refl, refl, refl, refl);
-      content = a.content;
-      frame = a.frame;
+      reads = reads_err _ c.in-Err.ensures.reads;
       sound = tt;
-      exact = λ tells. tt;
-      greatest = λ tells. tt;
-      place = λ tells. tt;
-      charged = tt;
-      charged_end = tt;
+      told = λ tells. tt;
+      charges = tt;
       takes = tt;
-      costs = record { given = a.given; steps = a.received; greatest = a.most_received; calls = a.calls; turns = a.turns };
+      costs = a.costs;
       words = tt;
-      faults = a.faults;
-      clean = tt;
       cause = run_causes _ _ _ _ _ _ _ c.run_fault.ensures c.in-Err.ensures.cause;
     }
 
@@ -34,26 +27,27 @@ returns-in-Ok-planned g c =
     let e = c.in-Ok.ensures in
     let o = c.in-Ok-planned.ensures in
     record {
-      runs = a.same;
-      rest = (refl, refl, refl, refl);
-      content = a.content;
-      frame = a.frame;
-      sound = rw (a.same, e.first) at o.sound;
-      exact = λ tells.
+      reads = reads_ok _ e.reads;
+      sound = rw e.sound.first at o.sound;
+      told = λ tells.
           let x = (c.requires.told tells).0 in
-          let exact = rw e.same at o.exact in
-          exact _ (g.met.R.BlockRuns.long c.args.self.now.runs _ x) (g.met.R.BlockRuns.are_blocks c.args.self.now.runs _ x) (e.planned tells);
-      greatest = λ tells. rw o.next.1 (e.greatest tells);
-      place = λ tells. rw o.next.0 (e.place tells);
-      charged = rw o.next.0 e.charged;
-      charged_end = λ over. let end = e.charged_end (rw o.next.1 at over) in rw o.next.0 end;
+          let exact = o.exact in
+          let runs = c.args.self.now.runs in
+          record {
+            exact = exact _ (g.met.R.BlockRuns.long runs _ x) (g.met.R.BlockRuns.are_blocks runs _ x)
+                (e.told tells).planned;
+            greatest = rw o.next.1 (e.greatest tells);
+            place = rw o.next.0 (e.told tells).place;
+          };
+      charges = record {
+        charged = rw o.next.0 e.charges.charged;
+        charged_end = λ over. let end = e.charges.charged_end (rw o.next.1 at over) in rw o.next.0 end;
+      };
       takes = let next = ap (g.R.BlockRuns.taken c.args.self.now.runs) o.next.0 in omega (arith, next, o.longer, e.takes);
-      costs = record { given = a.given; steps = a.received; greatest = a.most_received; calls = a.calls; turns = a.turns };
+      costs = a.costs;
       words =
           let z = piece_covers_plan (g.R.BlockRuns.one c.args.self.now.runs) (g.R.BlockRuns.count c.args.self.now.runs) c.in-Ok.planner.at.block in
           rw o.next.1 (omega (arith, e.words, z));
-      faults = a.faults;
-      clean = e.clean;
       cause = tt;
     }
 
@@ -62,24 +56,16 @@ pub returns-in-Err-planned : goal.returns-in-Err-planned
 returns-in-Err-planned g c =
     let a = c.plan_piece.ensures in
     let e = c.in-Ok.ensures in
-    let r = rw e.same at c.in-Err-planned.ensures.refused in
+    let r = c.in-Err-planned.ensures.refused in
     let size = g.met.R.BlockRuns.sized c.args.self.now.runs in
     record {
-      runs = a.same;
-      rest = (refl, refl, refl, refl);
-      content = a.content;
-      frame = a.frame;
+      reads = reads_then e.reads (reads_none _ _ _);
       sound = tt;
-      exact = λ tells. tt;
-      greatest = λ tells. tt;
-      place = λ tells. tt;
-      charged = tt;
-      charged_end = tt;
+      told = λ tells. tt;
+      charges = tt;
       takes = tt;
-      costs = record { given = a.given; steps = a.received; greatest = a.most_received; calls = a.calls; turns = a.turns };
+      costs = a.costs;
       words = tt;
-      faults = a.faults;
-      clean = tt;
       cause = rw r.0 (not_told _ (λ tells.
           let long = g.met.R.BlockRuns.long c.args.self.now.runs _ (c.requires.told tells).0 in
           moves _ _ _ c.in-Ok.planner size.0 c.args.self.now.sound.granted (e.ends tells) r.1 (rw long r.2)));

@@ -1,18 +1,21 @@
-use Rattle.std.proofs.Common.{arith, ◌*◌, sym, refl, inl, inr, ◌⊎◌, ◌≡◌, ◌≤◌, ◌+◌, ◌∙◌, ◌-◌, ℕ, List, true}
+use Rattle.std.proofs.Common.{arith, ◌*◌, sym, refl, inl, inr, ◌⊎◌, ◌≡◌, ◌≤◌, ◌+◌, ◌∙◌, ◌-◌, ℕ, List, false, true}
 use Rattle.abt_sparse.specs.Block.{Block}
+use Rattle.abt_io.proofs.Lent.{reads_err, reads_ok, writes_none}
 use Rattle.abt_runs.specs.declared.part.Cursor.{Cursor}
-use Rattle.abt_pieces.specs.Cutter.{coming, cut_left, cut_words, is_begun, planned_left, segments_left, silent_cut, so_far}
-use Rattle.abt_pieces.specs.Image.{IsImage, StageMayCome}
+use Rattle.abt_pieces.specs.Cutter.{coming, cut_left, cut_words, has_failed, is_begun, planned_left}
+use Rattle.abt_pieces.specs.Cutter.{segments_left, silent_cut, so_far}
+use Rattle.abt_pieces.specs.Image.{IsPlainImage, StageMayCome}
 use Rattle.abt_pieces.specs.Outline.{piece_at}
 use Rattle.abt_pieces.specs.Plan.{last_words}
 use Rattle.abt_pieces.specs.SpentStage.{SpentPlan, SpentStage}
 use Rattle.abt_pieces.specs.declared.plan.Planner.{Planner}
 use Rattle.abt_pieces.specs.declared.stage.Stage.{Stage}
 use Rattle.abt_pieces.specs.declared.stage.Stage.TheVariants.{Between, Plan, Begin, Done, Failed, Write}
-use Rattle.abt_pieces.proofs.Fronts.{as_many, nothing_more, nothing_less, none_more, not_full, unfilled_by, none_says, cause_unwritten}
+use Rattle.abt_pieces.proofs.Fronts.{nothing_more, nothing_less, not_full, none_says, cause_unwritten}
 use Rattle.abt_pieces.proofs.Stepping.{no_bytes_yet, told_moves, unwritten_costs}
 use Rattle.abt_pieces.proofs.SpendingStages.{plan_begins_spent}
 use Rattle.abt_pieces.proofs.Image.{leads_same}
+use Rattle.abt_pieces.proofs.WriterSteps.{none_written}
 use Rattle.abt_pieces.proofs.cutter.Cutter.plan_on.Goals as goal
 
 words_unwritten : (t t' w w' g k : ℕ) → t' + w ≤ t + 2 * g + 3 + w' → t' + w ≤ t + 2 * g + (k - k) + 3 + w'
@@ -31,16 +34,18 @@ still_to_cut b limit l s (Failed f) old begun same = absurd cc
 record Planning (st : Stage) (start : Cursor) (p : Planner) : Type 0 where
   same : (b limit : ℕ) (l : List Block) (s : ℕ) → segments_left b limit l s st ≡ segments_left b limit l s Between
   none : so_far st ≡ 0
+  going : has_failed st ≡ false
   silent : (n : ℕ) → silent_cut n st ≡ 6
   left : (L : Cursor → ℕ) (n : ℕ) → planned_left L start + L p.at ≤ cut_left L n start st
   words : (one n : ℕ) → cut_words one n start st ≡ last_words one n p.at.block
   coming : (b limit : ℕ) (l : List Block) (s : ℕ) → coming b limit l s st ≡ piece_at b limit l s
-  comes : (b n : ℕ) (t : List ℕ) → IsImage b n t → StageMayCome b n st t
+  comes : (b n : ℕ) (t : List ℕ) → IsPlainImage b n t → StageMayCome b n st t
 
 planning : (st : Stage) (start : Cursor) (p : Planner) → (st ≡ Plan p) ⊎ ((st ≡ Between) × (p.at ≡ start)) → Planning st start p
 planning st start p (inl is) = record {
   same = λ b limit l s. rw is refl;
   none = rw is refl;
+  going = rw is refl;
   silent = λ n. rw is refl;
   left = λ L n. rw is (omega arith);
   words = λ one n. rw is refl;
@@ -50,6 +55,7 @@ planning st start p (inl is) = record {
 planning st start p (inr is) = record {
   same = λ b limit l s. rw is.0 refl;
   none = rw is.0 refl;
+  going = rw is.0 refl;
   silent = λ n. rw is.0 refl;
   left = λ L n. rw (is.0, is.1) (omega arith);
   words = λ one n. rw (is.0, is.1) refl;
@@ -67,46 +73,47 @@ returns-in-Ok g c =
     let self = c.args.self.now in
     let p = c.plan.ensures in
     let o = c.in-Ok.ensures in
+    let turns = p.costs.turns in
     let granted = self.sound.granted in
     let k = planning self.stage self.start c.args.from c.requires.at in
     record {
       stepped = record {
         same = (p.runs, p.rest.0);
-        content = p.content;
-        frame = p.frame;
-        write_frame = refl;
+        reads = reads_ok _ o.reads;
+        writes = rw k.going (writes_none _ _ _);
         told = λ tells.
             let l = g.R.BlockRuns.list self.runs (g.S.Source.content c.args.source.now) in
             let b = g.R.BlockRuns.size self.runs in
             let same = k.same b self.limit l self.start.block in
-            rw (p.rest.0, p.rest.1, p.rest.2) (told_moves _ _ b l self.limit self.made self.start self.stage c.plan.new.self.stage (c.requires.told tells) (still_to_cut b self.limit l self.start.block c.plan.new.self.stage self.stage o.begun.0 same) (o.told tells));
-        begun = o.begun.0;
+            rw (p.rest.0, p.rest.1, p.rest.2) (told_moves _ _ b l self.limit self.made self.start self.stage
+            c.plan.new.self.stage (c.requires.told tells)
+            (still_to_cut b self.limit l self.start.block c.plan.new.self.stage self.stage o.goes_on.begun.0 same)
+            (o.told tells));
+        begun = o.goes_on.begun.0;
         goes_on = record {
           same_place = p.rest.1;
           same_number = p.rest.2;
-          counted = let z = o.begun.1 in omega (arith, z, k.none);
-          left = let z = k.left (g.R.BlockRuns.left self.runs) (g.R.BlockRuns.count self.runs) in omega (arith, o.left, z);
-          paid = let z = o.paid in let y = k.silent (g.R.BlockRuns.count self.runs) in omega (arith, z, y);
-          words = rw (k.words (g.R.BlockRuns.one self.runs) (g.R.BlockRuns.count self.runs), p.rest.1) (words_unwritten _ _ _ _ _ _ o.words);
+          counted = let z = o.goes_on.begun.1 in omega (arith, z, k.none);
+          left = let z = k.left (g.R.BlockRuns.left self.runs) (g.R.BlockRuns.count self.runs) in
+              omega (arith, o.goes_on.left, z);
+          paid = let z = o.goes_on.paid in let y = k.silent (g.R.BlockRuns.count self.runs) in omega (arith, z, y);
+          words = rw (k.words (g.R.BlockRuns.one self.runs) (g.R.BlockRuns.count self.runs), p.rest.1)
+              (words_unwritten _ _ _ _ _ _ o.goes_on.words);
         };
         within = rw k.none (no_bytes_yet _ _ _ granted);
         front = λ tells. nothing_more _ _;
         rest = λ tells. rw (k.coming (g.R.BlockRuns.size self.runs) self.limit (g.R.BlockRuns.list self.runs (g.S.Source.content c.args.source.now)) self.start.block) (o.coming tells ∙ nothing_less (g.O.Output.written c.args._output.now) _);
-        leads = leads_same _ _ _ _ refl (λ t h. k.comes _ _ t (o.comes t h));
+        leads = leads_same _ _ _ _ refl (λ t h. k.comes _ _ t (o.goes_on.comes t h));
         all = tt;
         piece = tt;
         ends = tt;
         laid = λ tells. tt;
         refused = tt;
-        costs = rw (k.words (g.R.BlockRuns.one self.runs) (g.R.BlockRuns.count self.runs)) (unwritten_costs _ _ _ _ _ _ refl refl p.given p.received p.steps p.greatest p.calls p.turns);
+        costs = rw (k.words (g.R.BlockRuns.one self.runs) (g.R.BlockRuns.count self.runs))
+            (unwritten_costs _ _ _ _ _ _ refl refl p.costs.given p.costs.received p.costs.one_step.steps
+            p.costs.one_step.greatest p.costs.calls (omega (arith, turns)));
         spends = λ tells t spent. o.spends t (planning_spends _ _ _ _ _ _ _ _ self.start t self.stage c.args.from c.requires.at spent);
         spent = λ tells t spent. tt;
-        failing = record {
-          read = p.faults;
-          write = as_many _;
-          clean = (o.clean, refl);
-        };
-        full_faults = λ going. none_more _;
         full = λ going says. absurd (not_full says);
         cause = tt;
       };
@@ -119,14 +126,14 @@ returns-in-Err g c =
     let self = c.args.self.now in
     let p = c.plan.ensures in
     let o = c.in-Err.ensures in
+    let turns = p.costs.turns in
     let granted = self.sound.granted in
     let k = planning self.stage self.start c.args.from c.requires.at in
     record {
       stepped = record {
         same = (p.runs, p.rest.0);
-        content = p.content;
-        frame = p.frame;
-        write_frame = refl;
+        reads = reads_err _ o.reads;
+        writes = rw k.going (none_written _ _ _ o.unwritten);
         told = λ tells.
             let l = g.R.BlockRuns.list self.runs (g.S.Source.content c.args.source.now) in
             let b = g.R.BlockRuns.size self.runs in
@@ -143,15 +150,11 @@ returns-in-Err g c =
         ends = tt;
         laid = λ tells. tt;
         refused = o.refused;
-        costs = rw (k.words (g.R.BlockRuns.one self.runs) (g.R.BlockRuns.count self.runs)) (unwritten_costs _ _ _ _ _ _ refl refl p.given p.received p.steps p.greatest p.calls p.turns);
+        costs = rw (k.words (g.R.BlockRuns.one self.runs) (g.R.BlockRuns.count self.runs))
+            (unwritten_costs _ _ _ _ _ _ refl refl p.costs.given p.costs.received p.costs.one_step.steps
+            p.costs.one_step.greatest p.costs.calls (omega (arith, turns)));
         spends = λ tells t spent. tt;
         spent = λ tells t spent. tt;
-        failing = record {
-          read = p.faults;
-          write = as_many _;
-          clean = tt;
-        };
-        full_faults = λ going. unfilled_by _ _ o.unwritten;
         full = λ going says. absurd (none_says _ o.unwritten says);
         cause = inr (cause_unwritten c.in-Err.fault _ _ _ _ _ o.cause);
       };

@@ -1,8 +1,9 @@
 use Rattle.std.proofs.Common.{arith, Bool, ◌<◌, rules, sym, ap, refl, inl, inr, Result, Err, ◌≡◌, ◌≤◌, ◌+◌, ◌∙◌, ◌-◌, ℕ, true, false}
 use Rattle.std.specs.Prelude.{IsTrue}
 use Rattle.std.proofs.lemmas.Bool.{true≢false}
+use Rattle.abt_io.proofs.Lent.{reads_none, writes_err, writes_none, writes_ok}
 use Rattle.abt_pieces.specs.Cutter.{has_failed, segments_left}
-use Rattle.abt_pieces.specs.Fault.{HasCause}
+use Rattle.abt_pieces.specs.Fault.{CutCause}
 use Rattle.abt_pieces.specs.declared.outline.Outline.{Outline}
 use Rattle.abt_pieces.specs.declared.plan.Planner.{Planner}
 use Rattle.abt_pieces.specs.declared.write.Writer.{Writer}
@@ -13,7 +14,7 @@ use Rattle.abt_pieces.specs.declared.fault.PieceFault.TheVariants as faults
 use Rattle.abt_pieces.specs.declared.stage.PieceProgress.{PieceProgress}
 use Rattle.abt_pieces.specs.declared.stage.Stage.{Stage}
 use Rattle.abt_pieces.specs.declared.stage.Stage.TheVariants.{Between, Plan, Begin, Done, Failed, Write}
-use Rattle.abt_pieces.proofs.Fronts.{wrote_rest, wrote_part, as_many, no_more, no_more_than, nothing_more, none_more, not_full}
+use Rattle.abt_pieces.proofs.Fronts.{wrote_rest, wrote_part, as_many, no_more, no_more_than, nothing_more, not_full}
 use Rattle.abt_pieces.proofs.Stepping.{begun_told, header_comes, first_left, plan_most, told_moves, no_bytes_yet, header_costs, unwritten_costs}
 use Rattle.abt_pieces.proofs.SpendingStages.{outline_writes, nothing_read, end_not}
 use Rattle.abt_sparse.specs.Chunk.{plain_header}
@@ -33,7 +34,7 @@ below_header : (limit b w0 w1 : ℕ) → 64 + b ≤ limit → w1 < w0 + 28 → 0
 below_header limit b w0 w1 granted few = omega (arith, granted, few)
 
 -- a header reads nothing
-cause_unread : (e : PieceFault) (tells : Bool) (r r' w w' : ℕ) → HasCause e true 0 0 w w' → HasCause e tells r r' w w'
+cause_unread : (e : PieceFault) (tells : Bool) (r r' w w' : ℕ) → CutCause e true 0 0 w w' → CutCause e tells r r' w w'
 cause_unread (Read f) tells r r' w w' h = absurd (omega (arith, h.0))
 cause_unread (faults.Write f) tells r r' w w' h = h
 cause_unread SourceChanged tells r r' w w' h = absurd (true≢false h)
@@ -81,14 +82,21 @@ returns-in-Plan g c =
       again = λ f d. absurd (plan_unfailed _ c.in-Plan.planner f c.in-Plan.is d);
     }
 
-pub plan_on-requires-clause-planned : goal.plan_on-requires-clause-planned
-plan_on-requires-clause-planned g c tells =
+pub plan_on-requires-clause-ready : goal.plan_on-requires-clause-ready
+plan_on-requires-clause-ready g c =
     let e = c.begin.ensures in
     let b = g.met.R.BlockRuns.bounded c.args.self.now.runs c.args.self.now.start c.args.self.now.sound.within in
-    let long = g.met.R.BlockRuns.long c.args.self.now.runs _ (c.requires.opened tells) in
     record {
-      place = rw e.at (c.requires.told tells).place;
-      planned = e.planned _ _ (omega (arith, b, long));
+      few = search rules;
+      sound = search rules;
+      taken = search rules;
+      opened = c.requires.ready.opened;
+      planned = λ tells.
+          let long = g.met.R.BlockRuns.long c.args.self.now.runs _ (c.requires.ready.opened tells) in
+          record {
+            place = rw e.at (c.requires.ready.told tells).place;
+            planned = e.planned _ _ (omega (arith, b, long));
+          };
     }
 
 -- the header of a piece
@@ -99,24 +107,30 @@ returns-in-Ok g c =
     let e = c.begin-in-Begin.ensures in
     let o = c.in-Ok.ensures in
     let is = c.in-Begin.is in
+    let greatest = e.one_step.greatest in
     let granted = self.sound.granted in
     let most = plan_most (g.R.BlockRuns.one r) (g.R.BlockRuns.count r) c.in-Begin.outline.piece.past in
     let size = g.met.R.BlockRuns.sized r in
     let some : 0 < g.R.BlockRuns.size r = omega (arith, size.0) in
     let room : 40 ≤ self.limit = omega (arith, granted) in
     let s = rw is at self.sound in
-    let header = λ (tells : IsTrue g.S.Source.tells). header_comes _ _ (g.R.BlockRuns.count r) _ _ self.start c.in-Begin.outline (sym (g.met.R.BlockRuns.long r _ (c.requires.opened tells))) s.stage.first (g.met.R.BlockRuns.are_blocks r _ (c.requires.opened tells)) some room s.stage.long (rw is at (c.requires.told tells)).stage in
+    let header = λ (tells : IsTrue g.S.Source.tells).
+    header_comes _ _ (g.R.BlockRuns.count r) _ _ self.start c.in-Begin.outline
+    (sym (g.met.R.BlockRuns.long r _ (c.requires.ready.opened tells))) s.stage.first
+    (g.met.R.BlockRuns.are_blocks r _ (c.requires.ready.opened tells)) some room s.stage.long
+    (rw is at (c.requires.ready.told tells)).stage in
     let whole = whole_header (plain_header (g.R.BlockRuns.size r) (g.R.BlockRuns.count r) c.in-Begin.outline.chunks) _ _ e.front o.whole in
     record {
       stepped = record {
         same = (e.runs, e.rest.0);
-        content = λ tells. refl;
-        frame = refl;
-        write_frame = e.write_frame;
+        reads = reads_none _ _ _;
+        writes = rw is (writes_ok _ o.writes);
         told = λ tells.
-            let long = g.met.R.BlockRuns.long r _ (c.requires.opened tells) in
-            let good = g.met.R.BlockRuns.are_blocks r _ (c.requires.opened tells) in
-            rw (e.rest.0, e.rest.1, e.rest.2, o.stage) (begun_told _ _ _ (g.R.BlockRuns.count r) _ _ _ self.start c.in-Begin.outline (sym long) s.stage.first good some room s.stage.long (rw is at (c.requires.told tells)));
+            let long = g.met.R.BlockRuns.long r _ (c.requires.ready.opened tells) in
+            let good = g.met.R.BlockRuns.are_blocks r _ (c.requires.ready.opened tells) in
+            rw (e.rest.0, e.rest.1, e.rest.2, o.stage)
+            (begun_told _ _ _ (g.R.BlockRuns.count r) _ _ _ self.start c.in-Begin.outline
+            (sym long) s.stage.first good some room s.stage.long (rw is at (c.requires.ready.told tells)));
         begun = rw o.stage refl;
         goes_on = record {
           same_place = e.rest.1;
@@ -135,11 +149,10 @@ returns-in-Ok g c =
         ends = tt;
         laid = λ tells. tt;
         refused = tt;
-        costs = rw is (header_costs _ _ _ _ _ _ refl refl most e.grown e.within e.steps e.greatest e.write_calls e.turns);
+        costs = rw is (header_costs _ _ _ _ _ _ refl refl most e.writes.least e.within e.one_step.steps
+            (omega (arith, greatest)) e.costs.calls e.costs.turns);
         spends = λ tells t spent. let h = rw is at spent in rw o.stage (nothing_read _ _ _ _ _ _ t _ c.in-Begin.outline _ (outline_writes _ _ _ _ _ _ self.start t _ c.in-Begin.outline s.stage.first h));
         spent = λ tells t spent. tt;
-        failing = record { read = as_many _; write = e.write_faults; clean = (refl, o.clean) };
-        full_faults = λ going. o.full_faults;
         full = λ going says. absurd (not_full says);
         cause = tt;
       };
@@ -156,24 +169,30 @@ returns-in-Err g c =
     let e = c.begin-in-Begin.ensures in
     let o = c.in-Err.ensures in
     let is = c.in-Begin.is in
+    let greatest = e.one_step.greatest in
     let granted = self.sound.granted in
     let most = plan_most (g.R.BlockRuns.one r) (g.R.BlockRuns.count r) c.in-Begin.outline.piece.past in
     let size = g.met.R.BlockRuns.sized r in
     let some : 0 < g.R.BlockRuns.size r = omega (arith, size.0) in
     let room : 40 ≤ self.limit = omega (arith, granted) in
     let s = rw is at self.sound in
-    let header = λ (tells : IsTrue g.S.Source.tells). header_comes _ _ (g.R.BlockRuns.count r) _ _ self.start c.in-Begin.outline (sym (g.met.R.BlockRuns.long r _ (c.requires.opened tells))) s.stage.first (g.met.R.BlockRuns.are_blocks r _ (c.requires.opened tells)) some room s.stage.long (rw is at (c.requires.told tells)).stage in
+    let header = λ (tells : IsTrue g.S.Source.tells).
+    header_comes _ _ (g.R.BlockRuns.count r) _ _ self.start c.in-Begin.outline
+    (sym (g.met.R.BlockRuns.long r _ (c.requires.ready.opened tells))) s.stage.first
+    (g.met.R.BlockRuns.are_blocks r _ (c.requires.ready.opened tells)) some room s.stage.long
+    (rw is at (c.requires.ready.told tells)).stage in
     record {
       stepped = record {
         same = (e.runs, e.rest.0);
-        content = λ tells. refl;
-        frame = refl;
-        write_frame = e.write_frame;
+        reads = reads_none _ _ _;
+        writes = rw is (writes_err _ o.writes);
         told = λ tells.
             let l = g.R.BlockRuns.list r (g.S.Source.content c.args.source.now) in
             let b = g.R.BlockRuns.size r in
             let same : segments_left b self.limit l self.start.block self.stage ≡ segments_left b self.limit l self.start.block Between = rw is refl in
-            rw (o.refused, e.rest.0, e.rest.1, e.rest.2) (told_moves _ _ b l self.limit self.made self.start self.stage (Failed c.in-Err.fault) (c.requires.told tells) (sym same) tt);
+            rw (o.refused, e.rest.0, e.rest.1, e.rest.2)
+            (told_moves _ _ b l self.limit self.made self.start self.stage (Failed c.in-Err.fault)
+            (c.requires.ready.told tells) (sym same) tt);
         begun = rw o.refused refl;
         goes_on = tt;
         within = rw is (within_header _ _ _ _ granted e.within);
@@ -185,11 +204,10 @@ returns-in-Err g c =
         ends = tt;
         laid = λ tells. tt;
         refused = o.refused;
-        costs = rw is (header_costs _ _ _ _ _ _ refl refl most e.grown e.within e.steps e.greatest e.write_calls e.turns);
+        costs = rw is (header_costs _ _ _ _ _ _ refl refl most e.writes.least e.within e.one_step.steps
+            (omega (arith, greatest)) e.costs.calls e.costs.turns);
         spends = λ tells t spent. tt;
         spent = λ tells t spent. tt;
-        failing = record { read = as_many _; write = e.write_faults; clean = tt };
-        full_faults = λ going. o.full_faults;
         full = λ going says. let z = o.full says in (z.0, rw is (below_header _ _ _ _ granted z.1));
         cause = inr (cause_unread c.in-Err.fault _ _ _ _ _ o.cause);
       };
@@ -218,10 +236,9 @@ returns-in-Done g c =
     record {
       stepped = record {
         same = (refl, refl);
-        content = λ tells. refl;
-        frame = refl;
-        write_frame = refl;
-        told = c.requires.told;
+        reads = reads_none _ _ _;
+        writes = rw c.in-Done.is (writes_none _ _ _);
+        told = c.requires.ready.told;
         begun = rw c.in-Done.is refl;
         goes_on = tt;
         within = rw c.in-Done.is (no_bytes_yet _ _ _ granted);
@@ -236,12 +253,6 @@ returns-in-Done g c =
         costs = rw c.in-Done.is (unwritten_costs _ _ _ _ _ _ refl refl (as_many _) (no_more _ _) s.steps (let z = s.greatest in omega (arith, z)) (no_more_than _ _ _) (let z = s.turns in omega (arith, z)));
         spends = λ tells t spent. tt;
         spent = λ tells t spent. tt;
-        failing = record {
-          read = as_many _;
-          write = as_many _;
-          clean = (refl, refl);
-        };
-        full_faults = λ going. none_more _;
         full = λ going says. absurd (not_full says);
         cause = tt;
       };
@@ -259,10 +270,9 @@ returns-in-Failed g c =
     record {
       stepped = record {
         same = (refl, refl);
-        content = λ tells. refl;
-        frame = refl;
-        write_frame = refl;
-        told = c.requires.told;
+        reads = reads_none _ _ _;
+        writes = rw c.in-Failed.is (writes_none _ _ _);
+        told = c.requires.ready.told;
         begun = rw c.in-Failed.is refl;
         goes_on = tt;
         within = rw c.in-Failed.is (no_bytes_yet _ _ _ granted);
@@ -277,12 +287,6 @@ returns-in-Failed g c =
         costs = rw c.in-Failed.is (unwritten_costs _ _ _ _ _ _ refl refl (as_many _) (no_more _ _) s.steps (let z = s.greatest in omega (arith, z)) (no_more_than _ _ _) (let z = s.turns in omega (arith, z)));
         spends = λ tells t spent. tt;
         spent = λ tells t spent. tt;
-        failing = record {
-          read = as_many _;
-          write = as_many _;
-          clean = tt;
-        };
-        full_faults = λ going. absurd (failed_goes_not _ c.in-Failed.fault c.in-Failed.is going);
         full = λ going says. absurd (failed_goes_not _ c.in-Failed.fault c.in-Failed.is going);
         cause = inl c.in-Failed.is;
       };

@@ -1,4 +1,5 @@
 use Rattle.std.proofs.Common.{sym, ap, refl, arith, ◌∙◌, ◌≡◌, inr, length, ℕ, List}
+use Rattle.abt_io.proofs.Lent.{reads_err, reads_ok, writes_err, writes_ok}
 use Rattle.abt_pieces.specs.declared.fault.PieceFault.{PieceFault}
 use Rattle.abt_pieces.specs.declared.stage.Stage.TheVariants.{Failed}
 use Rattle.abt_pieces.proofs.Fronts.{not_full, nothing_left}
@@ -17,44 +18,45 @@ returns-in-Ok-false g c =
     let is = c.requires.at in
     let s = (rw is at c.args.self.now.sound).stage in
     let most = plan_most (g.R.BlockRuns.one c.args.self.now.runs) (g.R.BlockRuns.count c.args.self.now.runs) c.args.outline.piece.past in
-    let words = e.words in
+    let words = e.stepped.words in
     record {
       stepped = record {
-        same = (a.same, refl);
-        content = a.content;
-        frame = a.frame;
-        write_frame = a.write_frame;
-        told = λ tells. let h = rw is at (c.requires.told tells) in record { place = h.place; cuts = h.cuts; stage = record { outline = h.stage.outline; writer = e.told tells } };
+        same = (refl, refl);
+        reads = reads_ok _ e.stepped.reads;
+        writes = rw is (writes_ok _ e.stepped.writes);
+        told = λ tells. let h = rw is at (c.requires.ready.told tells) in
+            record {
+              place = h.place;
+              cuts = h.cuts;
+              stage =
+                  record { outline = h.stage.outline; writer = e.stepped.told tells };
+            };
         begun = refl;
         goes_on = record {
           same_place = refl;
           same_number = refl;
-          counted = rw is (omega (arith, e.counted, a.costs.grown, s.rest));
-          left = rw is (e.left test);
-          paid = let z = e.paid test in rw is (omega (arith, z));
+          counted = rw is (omega (arith, e.stepped.counted, a.stepped.costs.grown, s.rest));
+          left = rw is (e.stepped.left test);
+          paid = let z = e.stepped.paid test in rw is (omega (arith, z));
           words = rw is (omega (arith, words));
         };
-        within = rw is (omega (arith, a.within, a.costs.grown, s.rest, s.outline.long));
-        front = λ tells. rw is (a.front tells);
-        rest = λ tells. rw (is, a.segment.0, a.segment.1) (e.rest tells);
-        leads = rw is (e.leads test);
+        within = rw is (omega (arith, a.stepped.within, a.stepped.costs.grown, s.rest, s.outline.long));
+        front = λ tells. rw is (a.stepped.front tells);
+        rest = λ tells. rw (is, a.stepped.segment.0, a.stepped.segment.1) (e.stepped.rest tells);
+        leads = rw is (e.stepped.leads test);
         all = tt;
         piece = tt;
         ends = tt;
         laid = λ tells. tt;
         refused = tt;
-        costs = rw is (write_costs _ _ _ _ _ _ _ most a.costs);
+        costs = rw is (write_costs _ _ _ _ _ _ _ most a.stepped.costs);
         spends = λ tells t spent.
-            let told = (rw is at (c.requires.told tells)).stage in
+            let told = (rw is at (c.requires.ready.told tells)).stage in
             let h = rw is at spent in
-            writing_goes _ _ _ _ _ _ t _ _ c.args.outline c.args.from c.step.new.self h (e.spends tells c.args.outline.next s.outline.within told.outline.place (sym (s.past ∙ s.outline.past)) h.fresh h.begun h.total h.spent);
+            writing_goes _ _ _ _ _ _ t _ _ c.args.outline c.args.from c.step.new.self h
+            (e.stepped.spends tells c.args.outline.next s.outline.within told.outline.place
+            (sym (s.past ∙ s.outline.past)) h.fresh h.begun h.total h.spent);
         spent = λ tells t spent. tt;
-        failing = record {
-          read = a.failing.read;
-          write = a.failing.write;
-          clean = e.failing.clean;
-        };
-        full_faults = λ going. e.full_faults;
         full = λ going says. absurd (not_full says);
         cause = tt;
       };
@@ -73,24 +75,24 @@ returns-in-Ok-true g c =
     let s = sound.stage in
     let ended = e.ended test in
     let same = ap (λ (x : List ℕ). length x) ended.1 in
-    let past : c.step.new.self.past ≡ c.args.outline.piece.past = a.segment.1 ∙ s.past in
-    let behind : Behind (g.R.BlockRuns.count c.args.self.now.runs) c.args.outline.piece.past c.pass.new.self.stage = record { end = s.outline.end; done = rw a.same at p.done; between = rw a.same at p.between } in
+    let past : c.step.new.self.past ≡ c.args.outline.piece.past = a.stepped.segment.1 ∙ s.past in
+    let behind : Behind (g.R.BlockRuns.count c.args.self.now.runs) c.args.outline.piece.past c.pass.new.self.stage =
+    record { end = s.outline.end; done = p.done; between = p.between } in
     let most = plan_most (g.R.BlockRuns.one c.args.self.now.runs) (g.R.BlockRuns.count c.args.self.now.runs) c.args.outline.piece.past in
-    let words = e.words in
+    let words = e.stepped.words in
     record {
       stepped = record {
-        same = (p.runs ∙ a.same, p.limit);
-        content = a.content;
-        frame = a.frame;
-        write_frame = a.write_frame;
+        same = (p.runs, p.limit);
+        reads = reads_ok _ e.stepped.reads;
+        writes = rw is (writes_ok _ e.stepped.writes);
         told = λ tells.
-            let long = g.met.R.BlockRuns.long c.args.self.now.runs _ (c.requires.opened tells) in
-            let h = rw is at (c.requires.told tells) in
+            let long = g.met.R.BlockRuns.long c.args.self.now.runs _ (c.requires.ready.opened tells) in
+            let h = rw is at (c.requires.ready.told tells) in
             rw (p.limit, p.made, p.start) (told_more _ _ (g.R.BlockRuns.within c.args.self.now.runs) _ (g.R.BlockRuns.count c.args.self.now.runs) _ _ _ c.args.self.now.start c.args.outline _ _ refl h s.outline (sym long) h.stage.outline.greatest h.stage.outline.place behind.done behind.between);
         begun = behind_unbegun _ _ _ behind;
         goes_on = tt;
-        within = rw is (omega (arith, a.within, a.costs.grown, s.rest, s.outline.long));
-        front = λ tells. rw is (a.front tells);
+        within = rw is (omega (arith, a.stepped.within, a.stepped.costs.grown, s.rest, s.outline.long));
+        front = λ tells. rw is (a.stepped.front tells);
         rest = λ tells. tt;
         leads = tt;
         all = rw is (nothing_appended _ _ _ ended.1 (e.all test));
@@ -109,25 +111,19 @@ returns-in-Ok-true g c =
               let z = piece_covers (g.R.BlockRuns.one c.args.self.now.runs) (g.R.BlockRuns.count c.args.self.now.runs) c.args.outline.piece.past c.step.new.self past in
               rw (is, p.piece) (omega (arith, words, z));
         };
-        laid = λ tells. let h = rw is at (c.requires.told tells) in record {
+        laid = λ tells. let h = rw is at (c.requires.ready.told tells) in record {
           written = rw is (nothing_left _ _ _ _ ended.1 h.stage.writer.long ended.0);
           exact = rw p.piece h.stage.outline.exact.is;
           greatest = rw (p.piece, s.outline.first) h.stage.outline.greatest;
         };
         refused = tt;
-        costs = rw is (write_costs _ _ _ _ _ _ _ most a.costs);
+        costs = rw is (write_costs _ _ _ _ _ _ _ most a.stepped.costs);
         spends = λ tells t spent. tt;
         spent = λ tells t spent.
-            let told = (rw is at (c.requires.told tells)).stage in
+            let told = (rw is at (c.requires.ready.told tells)).stage in
             let h = rw is at spent in
             let z = e.spent tells c.args.outline.next s.outline.within told.outline.place (sym (s.past ∙ s.outline.past)) h.fresh h.begun h.total h.spent test in
             rw (p.piece, p.start) (writing_ends _ _ _ _ _ _ t _ _ c.args.outline c.args.from h z);
-        failing = record {
-          read = a.failing.read;
-          write = a.failing.write;
-          clean = e.failing.clean;
-        };
-        full_faults = λ going. e.full_faults;
         full = λ going says. absurd (not_full says);
         cause = tt;
       };
@@ -145,15 +141,15 @@ returns-in-Err g c =
     let most = plan_most (g.R.BlockRuns.one c.args.self.now.runs) (g.R.BlockRuns.count c.args.self.now.runs) c.args.outline.piece.past in
     record {
       stepped = record {
-        same = (x.rest.0 ∙ a.same, x.rest.1);
-        content = a.content;
-        frame = a.frame;
-        write_frame = a.write_frame;
-        told = λ tells. let h = rw is at (c.requires.told tells) in rw (x.rest.1, x.rest.2, x.rest.3, x.stage) (record { place = h.place; cuts = h.cuts; stage = tt });
+        same = (x.rest.0, x.rest.1);
+        reads = reads_err _ e.stepped.reads;
+        writes = rw (is, x.fault) (writes_err _ e.stepped.writes);
+        told = λ tells. let h = rw is at (c.requires.ready.told tells) in
+            rw (x.rest.1, x.rest.2, x.rest.3, x.stage) (record { place = h.place; cuts = h.cuts; stage = tt });
         begun = rw x.stage refl;
         goes_on = tt;
-        within = rw is (omega (arith, a.within, a.costs.grown, s.rest, s.outline.long));
-        front = λ tells. rw is (a.front tells);
+        within = rw is (omega (arith, a.stepped.within, a.stepped.costs.grown, s.rest, s.outline.long));
+        front = λ tells. rw is (a.stepped.front tells);
         rest = λ tells. tt;
         leads = tt;
         all = tt;
@@ -161,17 +157,12 @@ returns-in-Err g c =
         ends = tt;
         laid = λ tells. tt;
         refused = x.stage ∙ ap (λ (f : PieceFault). Failed f) (sym x.fault);
-        costs = rw is (write_costs _ _ _ _ _ _ _ most a.costs);
+        costs = rw is (write_costs _ _ _ _ _ _ _ most a.stepped.costs);
         spends = λ tells t spent. tt;
         spent = λ tells t spent. tt;
-        failing = record {
-          read = a.failing.read;
-          write = a.failing.write;
-          clean = tt;
-        };
-        full_faults = λ going. rw x.fault e.full_faults;
-        full = λ going says. let z = e.full (rw x.fault at says) in (z.0, rw is (omega (arith, z.1, a.costs.grown, s.rest, s.outline.long)));
-        cause = inr (rw x.fault e.cause);
+        full = λ going says. let z = e.stepped.full (rw x.fault at says) in
+            (z.0, rw is (omega (arith, z.1, a.stepped.costs.grown, s.rest, s.outline.long)));
+        cause = inr (rw x.fault e.stepped.cause);
       };
       unended = tt;
     }

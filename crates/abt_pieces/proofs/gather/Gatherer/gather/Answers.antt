@@ -1,4 +1,5 @@
 use Rattle.std.proofs.Common.{arith}
+use Rattle.abt_io.proofs.Lent.{reads_err, reads_ok}
 use Rattle.abt_pieces.proofs.Gathering.{sound_on, grows_on, run_on, told_on, closed_on, left_on, same_at}
 use Rattle.abt_pieces.proofs.Counts.{paid_on}
 use Rattle.abt_pieces.proofs.Spending.{spent_on}
@@ -9,11 +10,9 @@ pub returns-in-Err : goal.returns-in-Err
 returns-in-Err g c =
     let a = c.framed_part.ensures in
     record {
-      same = a.same;
-      content = a.content;
-      frame = a.frame;
-      sound = c.requires.sound;
-      told = c.requires.told;
+      reads = reads_err _ c.in-Err.ensures.reads;
+      sound = c.requires.ready.sound;
+      told = c.requires.ready.told;
       grows = tt;
       run = tt;
       closed = λ tells. tt;
@@ -21,15 +20,8 @@ returns-in-Err g c =
       paid = λ going. tt;
       gathered = λ tells d within place is fresh. tt;
       spends = λ tells d within place is fresh s h. tt;
-      calls = a.calls;
-      turns = a.turns;
+      costs = a.costs;
       words = tt;
-      given = a.given;
-      received = a.received;
-      steps = a.steps;
-      greatest = a.greatest;
-      faults = a.faults;
-      clean = tt;
       cause = c.in-Err.ensures.cause;
     }
 
@@ -43,26 +35,54 @@ returns g c =
     let within = g.R.BlockRuns.within c.args.runs.now in
     let next = c.and_part-run.ensures in
     record {
-      same = a.same;
-      content = a.content;
-      frame = a.frame;
-      sound = rw next (sound_on _ _ _ _ self part c.requires.sound (record { next = e.on.0; bound = e.on.1; within = e.next; behind = e.behind; raw = e.raw; ended = e.ended }));
-      told = λ tells. rw next (told_on _ _ _ _ self part (c.requires.told tells) (e.part tells) (e.place tells) (e.raw_place tells));
-      grows = rw next (grows_on _ _ _ _ self part c.requires.sound (record { next = e.on.0; bound = e.on.1; within = e.next; behind = e.behind; raw = e.raw; ended = e.ended }));
-      run = rw next (run_on within _ _ self part (record { next = e.on.0; bound = e.on.1; within = e.next; behind = e.behind; raw = e.raw; ended = e.ended }));
-      closed = λ tells. rw next (closed_on _ self part (c.requires.told tells).gathered (e.part tells));
-      left = λ going. rw next (left_on (g.R.BlockRuns.left c.args.runs.now) within _ _ _ self part c.requires.sound going e.left e.tail e.at_end);
-      paid = λ going. rw next (paid_on within _ _ _ _ self part c.requires.sound going (λ low. let f = e.fetched low in omega (arith, f)) e.tail e.at_end);
-      gathered = λ tells d there place is fresh. rw (next, same_at self part) (e.gathered tells d there place is fresh);
-      spends = λ tells d there place is fresh s h. rw next (spent_on _ _ _ _ d s self part h (record { behind = e.behind_start tells d there place is fresh; next = e.on.0; unused = e.unused; raw = λ k. let r = e.raw k in let z = e.anew k in (r.0, r.1, z.0, z.1, z.2) }));
-      calls = a.calls;
-      turns = a.turns;
+      reads = reads_ok _ e.reads;
+      sound = rw next (sound_on _ _ _ _ self part c.requires.ready.sound
+          (record {
+            next = e.found.on.0;
+            bound = e.found.on.1;
+            within = e.found.next;
+            behind = e.found.behind;
+            raw =
+                e.found.raw;
+            ended = e.found.ended;
+          }));
+      told = λ tells. rw next (told_on _ _ _ _ self part (c.requires.ready.told tells) (e.told tells).part
+          (e.told tells).place (e.told tells).raw_place);
+      grows = rw next (grows_on _ _ _ _ self part c.requires.ready.sound
+          (record {
+            next = e.found.on.0;
+            bound = e.found.on.1;
+            within = e.found.next;
+            behind = e.found.behind;
+            raw =
+                e.found.raw;
+            ended = e.found.ended;
+          }));
+      run = rw next (run_on within _ _ self part (record {
+        next = e.found.on.0;
+        bound = e.found.on.1;
+        within =
+            e.found.next;
+        behind = e.found.behind;
+        raw = e.found.raw;
+        ended = e.found.ended;
+      }));
+      closed = λ tells. rw next (closed_on _ self part (c.requires.ready.told tells).gathered (e.told tells).part);
+      left = λ going. rw next (left_on (g.R.BlockRuns.left c.args.runs.now) within _ _ _ self part
+          c.requires.ready.sound going e.found.left e.found.tail e.found.at_end);
+      paid = λ going. rw next (paid_on within _ _ _ _ self part c.requires.ready.sound going
+          (λ low. let f = e.found.fetched low in omega (arith, f)) e.found.tail e.found.at_end);
+      gathered = λ tells d there place is fresh. rw (next, same_at self part)
+          ((e.told tells).gathered d there place is fresh);
+      spends = λ tells d there place is fresh s h. rw next
+          (spent_on _ _ _ _ d s self part h (record {
+            behind = (e.told tells).behind_start d there place is fresh;
+            next = e.found.on.0;
+            unused = e.found.unused;
+            raw = λ k. let r = e.found.raw k in let z = e.found.anew k in
+                (r.0, r.1, z.0, z.1, z.2);
+          }));
+      costs = a.costs;
       words = rw (next, same_at self part) e.words;
-      given = a.given;
-      received = a.received;
-      steps = a.steps;
-      greatest = a.greatest;
-      faults = a.faults;
-      clean = e.clean;
       cause = tt;
     }

@@ -1,5 +1,6 @@
 use Rattle.std.proofs.Common.{rules, arith, ap, refl, ◌-◌, ◌≡◌, ◌<◌, ◌∙◌, true, false}
 use Rattle.std.proofs.lemmas.Bool.{true≢false, false≢true}
+use Rattle.abt_io.proofs.Lent.{reads_err, reads_ok}
 use Rattle.abt_runs.specs.Part.{is_end}
 use Rattle.abt_pieces.proofs.Planning.{planned_on, planned_rests, planned_still, even_on, even_rests, even_still, ends_here, ends_last, ends_rests, last_ask, cap_some, fills_up, no_room}
 use Rattle.abt_pieces.specs.declared.contents.Contents.{Contents}
@@ -10,36 +11,15 @@ pub returns-in-Err : goal.returns-in-Err
 returns-in-Err g c =
     let e = c.next_part.ensures in
     record {
-      same = e.same;
-      first = refl;
-      content = e.content;
-      frame = e.frame;
-      within = c.requires.within;
-      place = λ tells. (c.requires.told tells).1;
-      planned = c.requires.planned;
-      room = c.requires.room;
-      even = c.requires.even;
-      ends = λ tells. tt;
-      on = tt;
-      given = e.costs.given;
-      charged = tt;
-      last = tt;
-      received = e.costs.received;
-      at_end = tt;
-      still = tt;
+      reads = reads_err _ c.in-Err.ensures.reads;
+      sound = c.requires.ready.sound;
+      told = c.requires.ready.told;
+      goes_on = tt;
       rests = tt;
+      ends = λ tells. tt;
       onward = tt;
-      inside = tt;
       stuck = λ used tail room. tt;
-      takes = tt;
-      fetched = tt;
-      calls = e.costs.calls;
-      turns = e.costs.turns;
-      words = tt;
-      steps = e.costs.steps;
-      greatest = e.costs.greatest;
-      faults = e.faults;
-      clean = tt;
+      costs = e.costs;
       cause = c.in-Err.ensures.cause;
     }
 
@@ -49,39 +29,32 @@ returns-in-End g c =
     let n = c.next_part.ensures in
     let e = c.in-Ok.ensures in
     let ended : is_end c.in-Ok.run'.kind ≡ true = rw c.in-End.is refl in
-    let here = g.met.R.BlockRuns.afresh_within c.args.runs.now c.args.self.now.at c.requires.within in
+    let here = g.met.R.BlockRuns.afresh_within c.args.runs.now c.args.self.now.at c.requires.ready.sound.within in
     let read = e.asked.ended ended in
     record {
-      same = n.same;
-      first = refl;
-      content = n.content;
-      frame = n.frame;
-      within = here.within;
-      place = λ tells. g.met.R.BlockRuns.afresh_place c.args.runs.now _ c.args.self.now.at (c.requires.told tells).1;
-      planned = λ tells. planned_rests _ _ c.args.self.now (c.requires.planned tells);
-      room = c.requires.room;
-      even = even_rests c.args.self.now c.requires.even;
+      reads = reads_ok _ e.reads;
+      sound = record {
+        first = refl;
+        within = here.within;
+        room = c.requires.ready.sound.room;
+        even =
+            even_rests c.args.self.now c.requires.ready.sound.even;
+      };
+      told = λ tells. record {
+        place = g.met.R.BlockRuns.afresh_place c.args.runs.now _ c.args.self.now.at (c.requires.ready.told tells).place;
+        planned = planned_rests _ _ c.args.self.now (c.requires.ready.told tells).planned;
+      };
+      goes_on = λ d. absurd (true≢false d);
+      rests = λ d. record {
+        last = omega (arith, read);
+        at_end = λ over. read;
+        still = refl;
+        rests = (here.charge, here.taken, here.left);
+      };
       ends = λ tells d. ends_rests _ _ _ c.args.self.now (ends_last _ _ _ c.args.self.now ((e.told tells).part.ended ended));
-      on = λ d. absurd (true≢false d);
-      given = n.costs.given;
-      charged = λ d. absurd (true≢false d);
-      last = λ d. omega (arith, read);
-      received = n.costs.received;
-      at_end = λ d over. read;
-      still = λ d. refl;
-      rests = λ d. (here.charge, here.taken, here.left);
       onward = here.copied;
-      inside = λ d. absurd (true≢false d);
       stuck = λ used tail room. refl;
-      takes = λ d. absurd (true≢false d);
-      fetched = λ d. absurd (true≢false d);
-      calls = n.costs.calls;
-      turns = n.costs.turns;
-      words = λ d. absurd (true≢false d);
-      steps = n.costs.steps;
-      greatest = n.costs.greatest;
-      faults = n.faults;
-      clean = e.clean;
+      costs = n.costs;
       cause = tt;
     }
 
@@ -97,36 +70,33 @@ returns-then-run-eq0 g c =
     let there : c.in-Ok.run'.next.block ≡ c.args.self.now.at.block = omega (arith, e.found.moved, none) in
     let p = g.met.R.BlockRuns.padded c.args.runs.now c.args.self.now.at in
     record {
-      same = n.same;
-      first = refl;
-      content = n.content;
-      frame = n.frame;
-      within = e.found.within;
-      place = λ tells. (e.told tells).place;
-      planned = λ tells. planned_still _ _ c.args.self.now _ there (c.requires.planned tells);
-      room = c.requires.room;
-      even = even_still c.args.self.now _ there c.requires.even;
-      ends = λ tells d. absurd (false≢true d);
-      on = λ d. e.found.on going;
-      given = n.costs.given;
-      charged = λ d. e.found.charged;
-      last = λ d. absurd (false≢true d);
-      received = n.costs.received;
-      at_end = λ d. absurd (false≢true d);
-      still = λ d. absurd (false≢true d);
+      reads = reads_ok _ e.reads;
+      sound = record {
+        first = refl;
+        within = e.found.within;
+        room = c.requires.ready.sound.room;
+        even =
+            even_still c.args.self.now _ there c.requires.ready.sound.even;
+      };
+      told = λ tells. record {
+        place = (e.told tells).place;
+        planned = planned_still _ _ c.args.self.now _ there (c.requires.ready.told tells).planned;
+      };
+      goes_on = λ d. record {
+        on = e.found.on going;
+        charged = e.found.charged;
+        inside = λ used. let s = (e.found.stops used).1 in let z =
+            cap_some c.args.self.now.tail (c.args.limit - c.args.self.now.weight) (g.R.BlockRuns.size c.args.runs.now)
+            (omega (arith, size)) in absurd (omega (arith, s, none, z, cap));
+        takes = omega (arith, e.found.takes);
+        fetched = e.asked.fetched going;
+        words = words_on _ _ _ _ _ c.in-Ok.run'.blocks p.0 p.1 e.found.filled_up e.found.moved;
+      };
       rests = λ d. absurd (false≢true d);
+      ends = λ tells d. absurd (false≢true d);
       onward = omega (arith, e.found.onward);
-      inside = λ d used. let s = (e.found.stops used).1 in let z = cap_some c.args.self.now.tail (c.args.limit - c.args.self.now.weight) (g.R.BlockRuns.size c.args.runs.now) (omega (arith, size)) in absurd (omega (arith, s, none, z, cap));
       stuck = λ used tail room. let s = (e.found.goes_on used).1 in absurd (omega (arith, s, none));
-      takes = λ d. omega (arith, e.found.takes);
-      fetched = λ d. e.asked.fetched going;
-      calls = n.costs.calls;
-      turns = n.costs.turns;
-      words = λ d. words_on _ _ _ _ _ c.in-Ok.run'.blocks p.0 p.1 e.found.filled_up e.found.moved;
-      steps = n.costs.steps;
-      greatest = n.costs.greatest;
-      faults = n.faults;
-      clean = e.clean;
+      costs = n.costs;
       cause = tt;
     }
 
@@ -137,7 +107,7 @@ returns-then-gain-room g c =
     let e = c.in-Ok.ensures in
     let size = g.met.R.BlockRuns.sized c.args.runs.now in
     let one = g.met.R.BlockRuns.one_fits c.args.runs.now in
-    let here = g.met.R.BlockRuns.afresh_within c.args.runs.now c.args.self.now.at c.requires.within in
+    let here = g.met.R.BlockRuns.afresh_within c.args.runs.now c.args.self.now.at c.requires.ready.sound.within in
     let room = c.args.limit - c.args.self.now.weight in
     let capped = rw (c.raw_cap-cap.ensures, c.block_size-size.ensures) at e.found.capped in
     let most = rw (c.raw_cap-cap.ensures, c.block_size-size.ensures) at e.most in
@@ -147,36 +117,31 @@ returns-then-gain-room g c =
     let last = last_ask c.args.self.now.tail c.in-Ok.run'.kind c.in-Ok.run'.blocks _ _ room (omega (arith, size)) one capped.raw (omega (arith, gain, over)) in
     let bound = g.met.R.BlockRuns.bounded c.args.runs.now c.in-Ok.run'.next e.found.within in
     record {
-      same = n.same;
-      first = refl;
-      content = n.content;
-      frame = n.frame;
-      within = here.within;
-      place = λ tells. g.met.R.BlockRuns.afresh_place c.args.runs.now _ c.args.self.now.at (c.requires.told tells).1;
-      planned = λ tells. planned_rests _ _ c.args.self.now (c.requires.planned tells);
-      room = c.requires.room;
-      even = even_rests c.args.self.now c.requires.even;
-      ends = λ tells d. ends_rests _ _ _ c.args.self.now (ends_here _ _ _ c.args.self.now c.in-Ok.run' _ (omega (arith, size)) (c.requires.planned tells) (e.told tells).part some c.requires.room capped gain over);
-      on = λ d. absurd (true≢false d);
-      given = n.costs.given;
-      charged = λ d. absurd (true≢false d);
-      last = λ d. omega (arith, last, most);
-      received = n.costs.received;
-      at_end = λ d end. absurd (omega (arith, end, bound, e.found.moved, some));
-      still = λ d. refl;
-      rests = λ d. (here.charge, here.taken, here.left);
+      reads = reads_ok _ e.reads;
+      sound = record {
+        first = refl;
+        within = here.within;
+        room = c.requires.ready.sound.room;
+        even =
+            even_rests c.args.self.now c.requires.ready.sound.even;
+      };
+      told = λ tells. record {
+        place = g.met.R.BlockRuns.afresh_place c.args.runs.now _ c.args.self.now.at (c.requires.ready.told tells).place;
+        planned = planned_rests _ _ c.args.self.now (c.requires.ready.told tells).planned;
+      };
+      goes_on = λ d. absurd (true≢false d);
+      rests = λ d. record {
+        last = omega (arith, last, most);
+        at_end = λ end. absurd (omega (arith, end, bound, e.found.moved, some));
+        still = refl;
+        rests = (here.charge, here.taken, here.left);
+      };
+      ends = λ tells d. ends_rests _ _ _ c.args.self.now
+          (ends_here _ _ _ c.args.self.now c.in-Ok.run' _ (omega (arith, size)) (c.requires.ready.told tells).planned
+          (e.told tells).part some c.requires.ready.sound.room capped gain over);
       onward = here.copied;
-      inside = λ d. absurd (true≢false d);
       stuck = λ used tail room. refl;
-      takes = λ d. absurd (true≢false d);
-      fetched = λ d. absurd (true≢false d);
-      calls = n.costs.calls;
-      turns = n.costs.turns;
-      words = λ d. absurd (true≢false d);
-      steps = n.costs.steps;
-      greatest = n.costs.greatest;
-      faults = n.faults;
-      clean = e.clean;
+      costs = n.costs;
       cause = tt;
     }
 
@@ -197,38 +162,36 @@ returns g c =
     let bytes = ap (λ (x : Contents). x.bytes) with in
     let takes = takes_on c.last-last.result c.in-Ok.run'.kind c.args.self.now.at.used c.in-Ok.run'.blocks _ c.args.self.now.contents.bytes _ _ (λ used. (e.found.goes_on used).0) going e.found.takes in
     record {
-      same = n.same;
-      first = refl;
-      content = n.content;
-      frame = n.frame;
-      within = e.found.within;
-      place = λ tells. (e.told tells).place;
-      planned = λ tells. planned_on _ _ c.args.self.now c.in-Ok.run' _ _ _ _ (c.requires.planned tells) (e.told tells).part some gain c.added-gain.ensures.tail c.last-last.ensures with;
-      room = omega (arith, c.requires.room, c.if-gain-room.false);
-      even = even_on c.args.self.now c.in-Ok.run' _ _ _ _ _ c.requires.even e.found.moved some going gain c.added-gain.ensures.tail c.last-last.ensures with;
-      ends = λ tells d. absurd (false≢true d);
-      on = λ d. e.found.on going;
-      given = n.costs.given;
-      charged = λ d. e.found.charged;
-      last = λ d. absurd (false≢true d);
-      received = n.costs.received;
-      at_end = λ d. absurd (false≢true d);
-      still = λ d. absurd (false≢true d);
+      reads = reads_ok _ e.reads;
+      sound = record {
+        first = refl;
+        within = e.found.within;
+        room =
+            omega (arith, c.requires.ready.sound.room, c.if-gain-room.false);
+        even =
+            even_on c.args.self.now c.in-Ok.run' _ _ _ _ _ c.requires.ready.sound.even e.found.moved some going gain
+            c.added-gain.ensures.tail c.last-last.ensures with;
+      };
+      told = λ tells. record {
+        place = (e.told tells).place;
+        planned = planned_on _ _ c.args.self.now c.in-Ok.run' _ _ _ _ (c.requires.ready.told tells).planned
+            (e.told tells).part some gain c.added-gain.ensures.tail c.last-last.ensures with;
+      };
+      goes_on = λ d. record {
+        on = e.found.on going;
+        charged = e.found.charged;
+        inside = λ used.
+            let s = e.found.stops used in
+            let f = fills_up c.args.self.now.tail _ _ _ room (omega (arith, size)) s.0 (s.1 ∙ cap) (rw gain at fits) in
+            (c.added-gain.ensures.tail ∙ f.0, omega (arith, f.1, gain));
+        takes = omega (arith, bytes, takes);
+        fetched = e.asked.fetched going;
+        words = words_on _ _ _ _ _ c.in-Ok.run'.blocks p.0 p.1 e.found.filled_up e.found.moved;
+      };
       rests = λ d. absurd (false≢true d);
+      ends = λ tells d. absurd (false≢true d);
       onward = omega (arith, e.found.onward);
-      inside = λ d used.
-          let s = e.found.stops used in
-          let f = fills_up c.args.self.now.tail _ _ _ room (omega (arith, size)) s.0 (s.1 ∙ cap) (rw gain at fits) in
-          (c.added-gain.ensures.tail ∙ f.0, omega (arith, f.1, gain));
       stuck = λ used tail little. absurd (no_room c.args.self.now.tail _ _ _ room some (e.found.goes_on used).0 tail little (rw gain at fits));
-      takes = λ d. omega (arith, bytes, takes);
-      fetched = λ d. e.asked.fetched going;
-      calls = n.costs.calls;
-      turns = n.costs.turns;
-      words = λ d. words_on _ _ _ _ _ c.in-Ok.run'.blocks p.0 p.1 e.found.filled_up e.found.moved;
-      steps = n.costs.steps;
-      greatest = n.costs.greatest;
-      faults = n.faults;
-      clean = e.clean;
+      costs = n.costs;
       cause = tt;
     }

@@ -1,50 +1,53 @@
-use Rattle.std.proofs.Common.{arith, sym, ◌∙◌, ◌≡◌, ◌≤◌, ◌+◌, ◌-◌, length, refl, IsTrue}
+use Rattle.std.proofs.Common.{arith, sym, ◌∙◌, ◌≡◌, ◌<◌, ◌≤◌, ◌+◌, ◌-◌, length, refl, IsTrue}
 use Rattle.std.proofs.lemmas.List.{take-append-drop}
-use Rattle.abt_pieces.proofs.Fronts.{wrote_front, wrote_rest, wrote_part, nothing_more, as_many, no_more, no_more_than, run_causes, run_unfilled, run_unsaid, says_full, not_full}
+use Rattle.abt_io.proofs.Lent.{reads_err, reads_none, reads_ok, reads_then}
+use Rattle.abt_pieces.proofs.Fronts.{wrote_front, wrote_rest, wrote_part, nothing_more, as_many, no_more, no_more_than}
+use Rattle.abt_pieces.proofs.Fronts.{run_causes, run_unsaid, says_full, not_full}
 use Rattle.abt_pieces.proofs.Going.{is_copying, copied_writer, copied_sound, part_front, write_copies, copied_fewer, copied_passes}
 use Rattle.abt_pieces.proofs.Counts.{writer_copies, writer_most, copied_paid}
 use Rattle.abt_pieces.proofs.Spending.{spent_copies}
 use Rattle.abt_pieces.proofs.Image.{copy_leads}
+use Rattle.abt_pieces.proofs.WriterSteps.{none_written, run_never_full}
+use Rattle.abt_pieces.specs.Write.{silent_write}
 use Rattle.abt_pieces.proofs.write.Writer.copy_bytes.Goals as goal
 
 -- the source has failed
 pub returns-in-Err : goal.returns-in-Err
 returns-in-Err g c =
     let k = c.copy.ensures in
-    let given = c.in-Err.ensures.given in
+    let given = c.in-Err.ensures.costs.given in
     let most = writer_most (g.R.BlockRuns.one c.args.runs.now) (g.R.BlockRuns.count c.args.runs.now) c.args.self.now in
     record {
-      same = k.same;
-      content = k.content;
-      frame = k.frame;
-      sound = tt;
-      told = λ tells. tt;
-      segment = (refl, refl, refl);
-      within = no_more _ _;
-      counted = tt;
-      front = λ tells. nothing_more _ _;
-      rest = λ tells. tt;
-      leads = tt;
-      write_frame = refl;
-      cause = run_causes _ _ _ _ _ _ _ c.run_fault.ensures c.in-Err.ensures.cause;
-      left = tt;
-      paid = tt;
-      spends = λ tells d within place is fresh s t spent. tt;
-      words = tt;
-      costs = record {
-        given = given.0;
-        received = omega (arith, given.1);
-        grown = as_many _;
-        few = no_more_than _ _ _;
-        steps = k.steps;
-        greatest = k.greatest;
-        calls = omega (arith, k.calls);
-        write_calls = no_more _ _;
-        turns = omega (arith, k.turns, most);
+      stepped = record {
+        reads = reads_err _ c.in-Err.ensures.reads;
+        writes = none_written _ _ _ (run_never_full _ _ c.run_fault.ensures);
+        sound = tt;
+        told = λ tells. tt;
+        segment = (refl, refl, refl);
+        within = no_more _ _;
+        counted = tt;
+        front = λ tells. nothing_more _ _;
+        rest = λ tells. tt;
+        leads = tt;
+        cause = run_causes _ _ _ _ _ _ _ c.run_fault.ensures c.in-Err.ensures.cause;
+        left = tt;
+        paid = tt;
+        spends = λ tells d within place is fresh s t spent. tt;
+        words = tt;
+        costs = record {
+          given = given.0;
+          received = omega (arith, given.1);
+          grown = as_many _;
+          few = no_more_than _ _ _;
+          steps = k.costs.one_step.steps;
+          greatest = k.costs.one_step.greatest;
+          calls = omega (arith, k.costs.calls);
+          write_calls = no_more _ _;
+          turns = omega (arith, k.costs.turns, most);
+        };
+        full = λ says. absurd (run_unsaid _ _ c.run_fault.ensures says);
       };
-      failing = record { read = k.faults; write = as_many _; clean = tt };
-      full_faults = run_unfilled _ _ _ c.run_fault.ensures;
-      full = λ says. absurd (run_unsaid _ _ c.run_fault.ensures says);
+      paid = tt;
     }
 
 -- the output has failed
@@ -58,45 +61,54 @@ returns-in-Err-write_out g c =
     let fits : c.args.copying.done + c.in-Ok.count ≤ c.args.copying.size = omega (arith, e.within, c.copy.auto.out, c.part_mut.ensures.long, c.min-ask.ensures, c.min.ensures, c.requires.more) in
     let left : c.in-Ok.count ≤ c.args.copying.left = omega (arith, e.within, c.copy.auto.out, c.part_mut.ensures.long, c.min-ask.ensures, c.min.ensures) in
     let window : c.in-Ok.count ≤ 65536 = omega (arith, e.within, c.copy.auto.out, c.part_mut.ensures.long, c.min-ask.ensures, c.min.ensures) in
-    let h = is_copying _ _ _ _ c.args.self.now c.args.copying c.requires.is c.requires.sound in
+    let h = is_copying _ _ _ _ c.args.self.now c.args.copying c.requires.is c.requires.ready.sound in
     let most = writer_most (g.R.BlockRuns.one c.args.runs.now) (g.R.BlockRuns.count c.args.runs.now) c.args.self.now in
     record {
-      same = k.same;
-      content = k.content;
-      frame = k.frame;
-      sound = tt;
-      told = λ tells. tt;
-      segment = (refl, refl, refl);
-      within = omega (arith, o.within, long, left, h.room);
-      counted = tt;
-      front = λ tells.
-          let o = c.requires.opened tells in
-          let x = copied_writer _ _ _ _ _ _ _ c.args.self.now c.args.copying c.in-Ok.count c.requires.is c.requires.sound (sym (g.met.R.BlockRuns.long c.args.runs.now _ o)) (g.met.R.BlockRuns.are_blocks c.args.runs.now _ o) (c.requires.told tells) fits left in
-          let t = rw c.requires.is at (c.requires.told tells).copies in
-          let these = c.part.ensures.value ∙ part_front c.in-Ok.count c.copy.new.out _ e.within ∙ e.bytes tells _ t.stands x.raw (omega (arith, fits, h.part)) ∙ x.bytes in
-          wrote_part _ _ _ _ _ (rw these at f.front) (sym (take-append-drop c.in-Ok.count _));
-      rest = λ tells. tt;
-      leads = tt;
-      write_frame = o.frame;
-      cause = f.cause;
-      left = tt;
-      paid = tt;
-      spends = λ tells d within place is fresh s t spent. tt;
-      words = tt;
-      costs = record {
-        given = e.given.0;
-        received = omega (arith, e.given.1, window);
-        grown = o.grown;
-        few = omega (arith, o.within, long, e.few);
-        steps = o.steps ∙ k.steps;
-        greatest = o.greatest ∙ k.greatest;
-        calls = omega (arith, k.calls);
-        write_calls = o.calls;
-        turns = omega (arith, o.turns, o.grown, k.turns, most);
+      stepped = record {
+        reads = reads_then e.reads (reads_none _ _ _);
+        writes = record {
+          least = o.grown;
+          frame = o.frame;
+          faults = o.faults;
+          clean = tt;
+          full_faults =
+              f.full_faults;
+        };
+        sound = tt;
+        told = λ tells. tt;
+        segment = (refl, refl, refl);
+        within = omega (arith, o.within, long, left, h.room);
+        counted = tt;
+        front = λ tells.
+            let o = c.requires.ready.opened tells in
+            let x = copied_writer _ _ _ _ _ _ _ c.args.self.now c.args.copying c.in-Ok.count c.requires.is
+            c.requires.ready.sound (sym (g.met.R.BlockRuns.long c.args.runs.now _ o))
+            (g.met.R.BlockRuns.are_blocks c.args.runs.now _ o) (c.requires.ready.told tells) fits left in
+            let t = rw c.requires.is at (c.requires.ready.told tells).copies in
+            let these = c.part.ensures.value ∙ part_front c.in-Ok.count c.copy.new.out _ e.within
+            ∙ e.bytes tells _ t.stands x.raw (omega (arith, fits, h.part)) ∙ x.bytes in
+            wrote_part _ _ _ _ _ (rw these at f.front) (sym (take-append-drop c.in-Ok.count _));
+        rest = λ tells. tt;
+        leads = tt;
+        cause = f.cause;
+        left = tt;
+        paid = tt;
+        spends = λ tells d within place is fresh s t spent. tt;
+        words = tt;
+        costs = record {
+          given = e.costs.given.0;
+          received = omega (arith, e.costs.given.1, window);
+          grown = o.grown;
+          few = omega (arith, o.within, long, e.few);
+          steps = o.steps ∙ k.costs.one_step.steps;
+          greatest = o.greatest ∙ k.costs.one_step.greatest;
+          calls = omega (arith, k.costs.calls);
+          write_calls = o.calls;
+          turns = omega (arith, o.turns, o.grown, k.costs.turns, most);
+        };
+        full = λ says. (f.full (says_full c.in-Err-write_out.fault says), omega (arith, f.short, long, left, h.room));
       };
-      failing = record { read = k.faults; write = o.faults; clean = tt };
-      full_faults = f.full_faults;
-      full = λ says. (f.full (says_full c.in-Err-write_out.fault says), omega (arith, f.short, long, left, h.room));
+      paid = tt;
     }
 
 -- the bytes are copied
@@ -112,53 +124,82 @@ returns g c =
     let left : c.in-Ok.count ≤ c.args.copying.left = omega (arith, e.within, c.copy.auto.out, c.part_mut.ensures.long, c.min-ask.ensures, c.min.ensures) in
     let window : c.in-Ok.count ≤ 65536 = omega (arith, e.within, c.copy.auto.out, c.part_mut.ensures.long, c.min-ask.ensures, c.min.ensures) in
     let some = e.some (omega (arith, c.copy.auto.out, c.part_mut.ensures.long, c.min-ask.ensures, c.min.ensures, c.requires.more, c.requires.remains)) in
-    let h = is_copying _ _ _ _ self c.args.copying c.requires.is c.requires.sound in
+    let h = is_copying _ _ _ _ self c.args.copying c.requires.is c.requires.ready.sound in
     let all : length (g.O.Output.written c.write_out.new.output) ≡ length (g.O.Output.written c.args.output.now) + c.in-Ok.count = omega (arith, w.all, long) in
-    let x = λ (tells : IsTrue g.S.Source.tells). copied_writer _ _ _ _ _ _ _ self c.args.copying c.in-Ok.count c.requires.is c.requires.sound (sym (g.met.R.BlockRuns.long c.args.runs.now _ (c.requires.opened tells))) (g.met.R.BlockRuns.are_blocks c.args.runs.now _ (c.requires.opened tells)) (c.requires.told tells) fits left in
+    let x = λ (tells : IsTrue g.S.Source.tells). copied_writer _ _ _ _ _ _ _ self c.args.copying c.in-Ok.count
+    c.requires.is c.requires.ready.sound (sym (g.met.R.BlockRuns.long c.args.runs.now _
+    (c.requires.ready.opened tells))) (g.met.R.BlockRuns.are_blocks c.args.runs.now _
+    (c.requires.ready.opened tells)) (c.requires.ready.told tells) fits left in
     let these = λ (tells : IsTrue g.S.Source.tells).
-    let t = rw c.requires.is at (c.requires.told tells).copies in
+    let t = rw c.requires.is at (c.requires.ready.told tells).copies in
     c.part.ensures.value ∙ part_front c.in-Ok.count c.copy.new.out _ e.within ∙ e.bytes tells _ t.stands (x tells).raw (omega (arith, fits, h.part)) ∙ (x tells).bytes in
     let most = writer_most (g.R.BlockRuns.one c.args.runs.now) (g.R.BlockRuns.count c.args.runs.now) c.args.self.now in
     let new = record self { copying = c.and_bytes-self.result; bytes = self.bytes - c.in-Ok.count } in
     let words = writer_copies (g.R.BlockRuns.one c.args.runs.now) (g.R.BlockRuns.count c.args.runs.now) self new refl refl (rw (c.and_bytes-self.ensures, c.requires.is) (copied_passes c.args.copying c.in-Ok.count _ h.until)) in
+    let paid : silent_write (g.R.BlockRuns.count c.args.runs.now) new < silent_write
+    (g.R.BlockRuns.count c.args.runs.now) self
+    + (length (g.O.Output.written c.write_out.new.output) - length (g.O.Output.written c.args.output.now)) =
+    copied_paid _ _ c.in-Ok.count self new c.args.copying refl refl c.requires.is c.and_bytes-self.ensures
+    (omega (arith, all, some)) in
     record {
-      same = k.same;
-      content = k.content;
-      frame = k.frame;
-      sound = record { gathering = c.requires.sound.gathering; copies = rw c.and_bytes-self.ensures (copied_sound _ _ _ _ _ _ _ c.in-Ok.count c.args.copying h left fits); most = c.requires.sound.most; small = c.requires.sound.small; fits = omega (arith, c.requires.sound.fits) };
-      told = λ tells. rw c.and_bytes-self.ensures (x tells).told;
-      segment = (refl, refl, refl);
-      within = omega (arith, all, left, h.room);
-      counted = omega (arith, all, left, h.room);
-      front = λ tells. wrote_front _ _ _ _ _ (rw (these tells) at w.ok) (sym (take-append-drop c.in-Ok.count _));
-      rest = λ tells. rw c.and_bytes-self.ensures ((x tells).rest ∙ wrote_rest _ _ _ _ _ (rw (these tells) at w.ok) (sym (take-append-drop c.in-Ok.count _)));
-      leads = rw c.and_bytes-self.ensures (copy_leads _ _ self c.args.copying c.in-Ok.count c.part.result.now _ _ c.requires.is long left w.ok);
-      write_frame = o.frame;
-      cause = tt;
-      left = write_copies _ _ self new refl refl (rw (c.and_bytes-self.ensures, c.requires.is) (copied_fewer _ self.bytes c.args.copying c.in-Ok.count some (omega (arith, left, h.room))));
-      paid = copied_paid _ _ c.in-Ok.count self new c.args.copying refl refl c.requires.is c.and_bytes-self.ensures (omega (arith, all, some));
-      spends = λ tells d within place is fresh s t spent.
-          let size = g.met.R.BlockRuns.sized c.args.runs.now in
-          let grows = g.met.R.BlockRuns.held_grows c.args.runs.now c.args.copying.here (c.args.copying.done + c.in-Ok.count) c.args.copying.size fits in
-          record {
-            gathering = spent.gathering;
-            copies = rw c.and_bytes-self.ensures (spent_copies _ _ _ _ _ _ _ _ _ _ _ s t _ _ _ c.in-Ok.count c.args.copying (omega (arith, size)) some h fits e.given.0 grows.0 e.read (rw c.requires.is at spent.copies));
-          };
-      words = omega (arith, words, o.turns, o.grown, k.turns);
-      costs = record {
-        given = e.given.0;
-        received = omega (arith, e.given.1, window);
-        grown = o.grown;
-        few = omega (arith, all, e.few);
-        steps = o.steps ∙ k.steps;
-        greatest = o.greatest ∙ k.greatest;
-        calls = omega (arith, k.calls);
-        write_calls = o.calls;
-        turns = omega (arith, o.turns, o.grown, k.turns, most);
+      stepped = record {
+        reads = reads_ok _ e.reads;
+        writes = record {
+          least = o.grown;
+          frame = o.frame;
+          faults = o.faults;
+          clean = w.clean;
+          full_faults =
+              w.full_faults;
+        };
+        sound = record {
+          gathering = c.requires.ready.sound.gathering;
+          copies =
+              rw c.and_bytes-self.ensures (copied_sound _ _ _ _ _ _ _ c.in-Ok.count c.args.copying h left fits);
+          most =
+              c.requires.ready.sound.most;
+          small = c.requires.ready.sound.small;
+          fits =
+              omega (arith, c.requires.ready.sound.fits);
+        };
+        told = λ tells. rw c.and_bytes-self.ensures (x tells).told;
+        segment = (refl, refl, refl);
+        within = omega (arith, all, left, h.room);
+        counted = omega (arith, all, left, h.room);
+        front = λ tells. wrote_front _ _ _ _ _ (rw (these tells) at w.ok) (sym (take-append-drop c.in-Ok.count _));
+        rest = λ tells. rw c.and_bytes-self.ensures
+            ((x tells).rest ∙ wrote_rest _ _ _ _ _ (rw (these tells) at w.ok) (sym (take-append-drop c.in-Ok.count _)));
+        leads = rw c.and_bytes-self.ensures (copy_leads _ _ self c.args.copying c.in-Ok.count c.part.result.now _ _
+            c.requires.is long left w.ok);
+        cause = tt;
+        left = write_copies _ _ self new refl refl (rw (c.and_bytes-self.ensures, c.requires.is)
+            (copied_fewer _ self.bytes c.args.copying c.in-Ok.count some (omega (arith, left, h.room))));
+        paid = omega (arith, paid);
+        spends = λ tells d within place is fresh s t spent.
+            let size = g.met.R.BlockRuns.sized c.args.runs.now in
+            let grows = g.met.R.BlockRuns.held_grows c.args.runs.now c.args.copying.here
+            (c.args.copying.done + c.in-Ok.count) c.args.copying.size fits in
+            record {
+              gathering = spent.gathering;
+              copies = rw c.and_bytes-self.ensures (spent_copies _ _ _ _ _ _ _ _ _ _ _ s t _ _ _ c.in-Ok.count
+                  c.args.copying (omega (arith, size)) some h fits e.costs.given.0 grows.0 e.costs.read
+                  (rw c.requires.is at spent.copies));
+            };
+        words = omega (arith, words, o.turns, o.grown, k.costs.turns);
+        costs = record {
+          given = e.costs.given.0;
+          received = omega (arith, e.costs.given.1, window);
+          grown = o.grown;
+          few = omega (arith, all, e.few);
+          steps = o.steps ∙ k.costs.one_step.steps;
+          greatest = o.greatest ∙ k.costs.one_step.greatest;
+          calls = omega (arith, k.costs.calls);
+          write_calls = o.calls;
+          turns = omega (arith, o.turns, o.grown, k.costs.turns, most);
+        };
+        full = λ says. absurd (not_full says);
       };
-      failing = record { read = k.faults; write = o.faults; clean = (e.clean, w.clean) };
-      full_faults = w.full_faults;
-      full = λ says. absurd (not_full says);
+      paid = paid;
     }
 
 pub and_bytes-self-requires-clause-left : goal.and_bytes-self-requires-clause-left

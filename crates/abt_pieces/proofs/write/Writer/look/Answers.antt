@@ -1,5 +1,7 @@
 use Rattle.std.proofs.Common.{arith, refl, ◌∙◌, ◌<◌, ◌≤◌, ◌+◌, ◌-◌, ◌*◌, length, IsTrue}
-use Rattle.abt_pieces.proofs.Fronts.{wrote_part, nothing_more, nothing_less, as_many, no_more, no_more_than, none_more, ok_both, run_causes, run_unfilled, run_unsaid, not_full}
+use Rattle.abt_io.proofs.Lent.{reads_err, reads_none, reads_ok, reads_then, writes_none}
+use Rattle.abt_pieces.proofs.Fronts.{wrote_part, nothing_more, nothing_less, as_many, no_more, no_more_than, run_causes}
+use Rattle.abt_pieces.proofs.Fronts.{run_unsaid, not_full}
 use Rattle.abt_pieces.proofs.Writing.{frame_blocks}
 use Rattle.abt_pieces.proofs.Going.{gathering, run_begins, run_sound, begun_ok, begun_rest, begun_left, run_counted, still_told, still_sound, chunk_causes, write_looks, none_small}
 use Rattle.abt_pieces.proofs.Counts.{run_words, run_paid, looks_paid, still_passes, writer_looks, writer_looked}
@@ -7,45 +9,44 @@ use Rattle.abt_pieces.specs.Spent.{Spent}
 use Rattle.abt_pieces.specs.Write.{SoundWriter, ToldWriter, run_begun, silent_write, write_left, writer_words}
 use Rattle.abt_pieces.proofs.Spending.{run_spent, spent_looks}
 use Rattle.abt_pieces.proofs.Image.{run_leads, look_comes, leads_same}
+use Rattle.abt_pieces.proofs.WriterSteps.{none_written, run_never_full}
 use Rattle.abt_pieces.proofs.write.Writer.look.Goals as goal
 
 -- the source has failed
 pub returns-in-Err : goal.returns-in-Err
 returns-in-Err g c =
     let a = c.gather.ensures in
-    let turns = a.turns in
+    let turns = a.costs.turns in
     record {
-      same = a.same;
-      content = a.content;
-      frame = a.frame;
-      sound = tt;
-      told = λ tells. tt;
-      segment = (refl, refl, refl);
-      within = no_more _ _;
-      counted = tt;
-      front = λ tells. nothing_more _ _;
-      rest = λ tells. tt;
-      leads = tt;
-      write_frame = refl;
-      cause = run_causes _ _ _ _ _ _ _ c.run_fault.ensures c.in-Err.ensures.cause;
-      left = tt;
-      paid = tt;
-      spends = λ tells d within place is fresh s t spent. tt;
-      words = tt;
-      costs = record {
-        given = a.given;
-        received = a.received;
-        grown = as_many _;
-        few = no_more_than _ _ _;
-        steps = a.steps;
-        greatest = a.greatest;
-        calls = a.calls;
-        write_calls = no_more _ _;
-        turns = writer_looked _ _ _ _ c.args.self.now (omega (arith, turns));
+      stepped = record {
+        reads = reads_err _ c.in-Err.ensures.reads;
+        writes = none_written _ _ _ (run_never_full _ _ c.run_fault.ensures);
+        sound = tt;
+        told = λ tells. tt;
+        segment = (refl, refl, refl);
+        within = no_more _ _;
+        counted = tt;
+        front = λ tells. nothing_more _ _;
+        rest = λ tells. tt;
+        leads = tt;
+        cause = run_causes _ _ _ _ _ _ _ c.run_fault.ensures c.in-Err.ensures.cause;
+        left = tt;
+        paid = tt;
+        spends = λ tells d within place is fresh s t spent. tt;
+        words = tt;
+        costs = record {
+          given = a.costs.given;
+          received = a.costs.received;
+          grown = as_many _;
+          few = no_more_than _ _ _;
+          steps = a.costs.one_step.steps;
+          greatest = a.costs.one_step.greatest;
+          calls = a.costs.calls;
+          write_calls = no_more _ _;
+          turns = writer_looked _ _ _ _ c.args.self.now (omega (arith, turns));
+        };
+        full = λ says. absurd (run_unsaid _ _ c.run_fault.ensures says);
       };
-      failing = record { read = a.faults; write = as_many _; clean = tt };
-      full_faults = run_unfilled _ _ _ c.run_fault.ensures;
-      full = λ says. absurd (run_unsaid _ _ c.run_fault.ensures says);
     }
 
 -- a run has ended, and is begun
@@ -60,57 +61,87 @@ returns-in-Some g c =
     let res = c.begin_run.result in
     let new = c.begin_run.new.self in
     let run = rw c.in-Some.is at e.run in
-    let sound = c.requires.sound.gathering in
+    let sound = c.requires.ready.sound.gathering in
     let runs = c.args.runs.now in
     let content = g.S.Source.content c.args.source.now in
     let count = g.R.BlockRuns.count runs in
     let one = g.R.BlockRuns.one c.args.runs.now in
-    let begun = run_sound _ _ _ _ self on x c.requires.none c.requires.sound e.sound run in
+    let begun = run_sound _ _ _ _ self on x c.requires.none c.requires.ready.sound e.sound run in
     let begins = λ (tells : IsTrue g.S.Source.tells).
     let closed = rw c.in-Some.is at (e.closed tells) in
-    let good = frame_blocks _ _ self.first self.past (g.met.R.BlockRuns.are_blocks c.args.runs.now _ (c.requires.opened tells)) in
-    run_begins _ _ _ _ _ _ _ self on x c.requires.none good c.requires.sound (c.requires.told tells) (e.told tells) closed run in
-    let turns = a.turns in
+    let good = frame_blocks _ _ self.first self.past
+    (g.met.R.BlockRuns.are_blocks c.args.runs.now _ (c.requires.ready.opened tells)) in
+    run_begins _ _ _ _ _ _ _ self on x c.requires.none good c.requires.ready.sound (c.requires.ready.told tells)
+    (e.told tells) closed run in
+    let turns = a.costs.turns in
     let words = e.words in
-    let more = b.turns in
+    let more = b.put.turns in
     let t = run_begun (gathering self on) x in
     record {
-      same = a.same;
-      content = a.content;
-      frame = a.frame;
-      sound = begun_ok (λ v. SoundWriter (g.R.BlockRuns.within runs) (g.R.BlockRuns.reach runs) count (g.R.BlockRuns.size runs) v) t res new begun b.ok;
-      told = λ tells. begun_ok (λ v. ToldWriter (g.R.BlockRuns.place runs content) (g.R.BlockRuns.together runs content) (g.R.BlockRuns.list runs content) v) t res new (begins tells).told b.ok;
-      segment = b.segment;
-      within = b.within;
-      counted = run_counted res (gathering self on) new x (length (g.O.Output.written c.args.output.now)) (length (g.O.Output.written c.begin_run.new.output)) b.ok b.room b.whole;
-      front = λ tells. wrote_part _ _ _ _ _ b.front (begins tells).chunk;
-      rest = λ tells. begun_rest _ self t _ res new (g.O.Output.written c.args.output.now) (g.O.Output.written c.begin_run.new.output) (begins tells).chunk b.ok b.written;
-      leads = run_leads _ _ _ self on x res new _ _ c.requires.none c.requires.going sound e.sound run b.ok b.some b.written b.whole;
-      write_frame = b.frame;
-      cause = chunk_causes res _ self.chunks self.bytes _ (g.S.Source.read_faults c.args.source.now) (g.S.Source.read_faults c.gather.new.source) (g.O.Output.write_faults c.args.output.now) (g.O.Output.write_faults c.begin_run.new.output) b.cause (λ tells. let z = begins tells in (z.enough, z.room));
-      left = begun_ok (λ v. write_left (g.R.BlockRuns.left c.args.runs.now) count v < write_left (g.R.BlockRuns.left c.args.runs.now) count self) t res new (begun_left _ (g.R.BlockRuns.within c.args.runs.now) (g.R.BlockRuns.reach c.args.runs.now) _ _ self on x (g.met.R.BlockRuns.left_fits c.args.runs.now) (e.left c.requires.going) begun) b.ok;
-      paid = begun_ok (λ v. silent_write count v < silent_write count self + (g.S.Source.given c.gather.new.source - g.S.Source.given c.args.source.now) + (length (g.O.Output.written c.begin_run.new.output) - length (g.O.Output.written c.args.output.now))) t res new
-          (let z = run_paid (g.R.BlockRuns.within c.args.runs.now) count _ self on x c.requires.none sound run (e.paid c.requires.going) in omega (arith, z)) b.ok;
-      spends = λ tells d within place is fresh s t' h.
-          begun_ok (λ v. Spent (λ y. g.R.BlockRuns.within runs y × g.R.BlockRuns.place runs content y) (g.R.BlockRuns.charge runs) (g.R.BlockRuns.copied runs) (g.R.BlockRuns.held runs) d s (t' + (g.S.Source.given c.gather.new.source - g.S.Source.given c.args.source.now)) v) t res new (run_spent _ _ _ _ _ _ d s t' _ _ self on x (λ y. let z = g.met.R.BlockRuns.held_grows c.args.runs.now y 0 0 (omega arith) in z.1)
-          (λ k q. ((sound.raw k q).within, (c.requires.told tells).gathering.raw k q)) c.requires.none sound run h
-          (record { read = e.gathered tells d within place is fresh; grown = e.given; gathering = e.spends tells d within place is fresh s h.gathering })) b.ok;
-      words = begun_ok (λ v. c.begin_run.new.m.turns.number + writer_words one count self ≤ c.args.m.now.turns.number + 2 * (g.S.Source.given c.gather.new.source - g.S.Source.given c.args.source.now) + (length (g.O.Output.written c.begin_run.new.output) - length (g.O.Output.written c.args.output.now)) + 3 + writer_words one count v) t res new
-          (run_words (g.R.BlockRuns.within c.args.runs.now) count one _ _ self on x c.requires.none sound run (omega (arith, words, more, b.grown))) b.ok;
-      costs = record {
-        given = a.given;
-        received = a.received;
-        grown = b.grown;
-        few = omega (arith, b.few);
-        steps = b.steps ∙ a.steps;
-        greatest = b.greatest ∙ a.greatest;
-        calls = a.calls;
-        write_calls = b.calls;
-        turns = writer_looked _ _ _ _ self (omega (arith, turns, more, b.grown));
+      stepped = record {
+        reads = reads_then e.reads (reads_none res _ _);
+        writes = b.put.writes;
+        sound = begun_ok (λ v. SoundWriter (g.R.BlockRuns.within runs) (g.R.BlockRuns.reach runs) count
+            (g.R.BlockRuns.size runs) v) t res new begun b.ok;
+        told = λ tells. begun_ok (λ v. ToldWriter (g.R.BlockRuns.place runs content)
+            (g.R.BlockRuns.together runs content) (g.R.BlockRuns.list runs content) v) t res new
+            (begins tells).told b.ok;
+        segment = b.put.segment;
+        within = b.put.within;
+        counted = run_counted res (gathering self on) new x (length (g.O.Output.written c.args.output.now))
+            (length (g.O.Output.written c.begin_run.new.output)) b.ok b.room b.put.whole;
+        front = λ tells. wrote_part _ _ _ _ _ b.put.front (begins tells).chunk;
+        rest = λ tells. begun_rest _ self t _ res new (g.O.Output.written c.args.output.now)
+            (g.O.Output.written c.begin_run.new.output) (begins tells).chunk b.ok b.put.written;
+        leads = run_leads _ _ _ self on x res new _ _ c.requires.none c.requires.going sound e.sound run b.ok b.some
+            b.put.written b.put.whole;
+        cause = chunk_causes res _ self.chunks self.bytes _ (g.S.Source.read_faults c.args.source.now)
+            (g.S.Source.read_faults c.gather.new.source) (g.O.Output.write_faults c.args.output.now)
+            (g.O.Output.write_faults c.begin_run.new.output) b.cause (λ tells. let z = begins tells in
+            (z.enough, z.room));
+        left = begun_ok (λ v. write_left (g.R.BlockRuns.left c.args.runs.now) count v < write_left
+            (g.R.BlockRuns.left c.args.runs.now) count self) t res new
+            (begun_left _ (g.R.BlockRuns.within c.args.runs.now) (g.R.BlockRuns.reach c.args.runs.now) _ _ self on x
+            (g.met.R.BlockRuns.left_fits c.args.runs.now) (e.left c.requires.going) begun) b.ok;
+        paid = begun_ok (λ v. silent_write count v < silent_write count self
+            + (g.S.Source.given c.gather.new.source - g.S.Source.given c.args.source.now)
+            + (length (g.O.Output.written c.begin_run.new.output) - length (g.O.Output.written c.args.output.now))) t
+            res new
+            (let z = run_paid (g.R.BlockRuns.within c.args.runs.now) count _ self on x c.requires.none sound run
+            (e.paid c.requires.going) in omega (arith, z)) b.ok;
+        spends = λ tells d within place is fresh s t' h.
+            begun_ok (λ v. Spent (λ y. g.R.BlockRuns.within runs y × g.R.BlockRuns.place runs content y)
+            (g.R.BlockRuns.charge runs) (g.R.BlockRuns.copied runs) (g.R.BlockRuns.held runs) d s
+            (t' + (g.S.Source.given c.gather.new.source - g.S.Source.given c.args.source.now)) v) t res new
+            (run_spent _ _ _ _ _ _ d s t' _ _ self on x
+            (λ y. let z = g.met.R.BlockRuns.held_grows c.args.runs.now y 0 0 (omega arith) in z.1)
+            (λ k q. ((sound.raw k q).within, (c.requires.ready.told tells).gathering.raw k q)) c.requires.none sound
+            run h
+            (record {
+              read = e.gathered tells d within place is fresh;
+              grown = e.costs.given;
+              gathering =
+                  e.spends tells d within place is fresh s h.gathering;
+            })) b.ok;
+        words = begun_ok (λ v. c.begin_run.new.m.turns.number + writer_words one count self ≤ c.args.m.now.turns.number
+            + 2 * (g.S.Source.given c.gather.new.source - g.S.Source.given c.args.source.now)
+            + (length (g.O.Output.written c.begin_run.new.output) - length (g.O.Output.written c.args.output.now)) + 3
+            + writer_words one count v) t res new
+            (run_words (g.R.BlockRuns.within c.args.runs.now) count one _ _ self on x c.requires.none sound run
+            (omega (arith, words, more, b.put.writes.least))) b.ok;
+        costs = record {
+          given = a.costs.given;
+          received = a.costs.received;
+          grown = b.put.writes.least;
+          few = omega (arith, b.put.few);
+          steps = b.no_step.steps ∙ a.costs.one_step.steps;
+          greatest = b.no_step.greatest ∙ a.costs.one_step.greatest;
+          calls = a.costs.calls;
+          write_calls = b.put.calls;
+          turns = writer_looked _ _ _ _ self (omega (arith, turns, more, b.put.writes.least));
+        };
+        full = b.put.full;
       };
-      failing = record { read = a.faults; write = b.faults; clean = ok_both res _ _ e.clean b.clean };
-      full_faults = b.full_faults;
-      full = b.full;
     }
 
 -- the run is still open
@@ -121,40 +152,49 @@ returns-in-None g c =
     let self = c.args.self.now in
     let on = c.gather.new.self in
     let grows = rw c.in-None.is at e.grows in
-    let still = λ (tells : IsTrue g.S.Source.tells). still_told _ _ _ _ _ self on c.requires.none c.requires.sound.gathering e.sound (c.requires.told tells) (e.told tells) grows in
-    let turns = a.turns in
+    let still = λ (tells : IsTrue g.S.Source.tells).
+    still_told _ _ _ _ _ self on c.requires.none c.requires.ready.sound.gathering e.sound
+    (c.requires.ready.told tells) (e.told tells) grows in
+    let turns = a.costs.turns in
     let words = e.words in
     record {
-      same = a.same;
-      content = a.content;
-      frame = a.frame;
-      sound = still_sound _ _ _ _ self on c.requires.none c.requires.sound e.sound;
-      told = λ tells. (still tells).1;
-      segment = (refl, refl, refl);
-      within = no_more _ _;
-      counted = refl;
-      front = λ tells. nothing_more _ _;
-      rest = λ tells. (still tells).0 ∙ nothing_less (g.O.Output.written c.args.output.now) _;
-      leads = leads_same _ _ _ _ refl (look_comes _ _ _ self on c.requires.sound.gathering e.sound grows);
-      write_frame = refl;
-      cause = tt;
-      left = write_looks _ _ self (gathering self on) on refl refl (e.left c.requires.going) (none_small _ self.bytes _ c.requires.none);
-      paid = looks_paid _ _ (length (g.O.Output.written c.args.output.now)) self on c.requires.none (e.paid c.requires.going);
-      spends = λ tells d within place is fresh s t h. spent_looks _ _ _ _ _ _ d s t _ _ self on c.requires.none c.requires.sound.gathering e.sound grows h
-          (record { read = e.gathered tells d within place is fresh; grown = e.given; gathering = e.spends tells d within place is fresh s h.gathering });
-      words = writer_looks _ _ _ _ self _ refl (still_passes self on c.requires.none c.requires.sound.gathering.behind_it e.sound.behind_it grows) (omega (arith, words));
-      costs = record {
-        given = a.given;
-        received = a.received;
-        grown = as_many _;
-        few = no_more_than _ _ _;
-        steps = a.steps;
-        greatest = a.greatest;
-        calls = a.calls;
-        write_calls = no_more _ _;
-        turns = writer_looked _ _ _ _ self (omega (arith, turns));
+      stepped = record {
+        reads = reads_ok _ e.reads;
+        writes = writes_none _ _ _;
+        sound = still_sound _ _ _ _ self on c.requires.none c.requires.ready.sound e.sound;
+        told = λ tells. (still tells).1;
+        segment = (refl, refl, refl);
+        within = no_more _ _;
+        counted = refl;
+        front = λ tells. nothing_more _ _;
+        rest = λ tells. (still tells).0 ∙ nothing_less (g.O.Output.written c.args.output.now) _;
+        leads = leads_same _ _ _ _ refl (look_comes _ _ _ self on c.requires.ready.sound.gathering e.sound grows);
+        cause = tt;
+        left = write_looks _ _ self (gathering self on) on refl refl (e.left c.requires.going)
+            (none_small _ self.bytes _ c.requires.none);
+        paid = looks_paid _ _ (length (g.O.Output.written c.args.output.now)) self on c.requires.none
+            (e.paid c.requires.going);
+        spends = λ tells d within place is fresh s t h.
+            spent_looks _ _ _ _ _ _ d s t _ _ self on c.requires.none c.requires.ready.sound.gathering e.sound grows h
+            (record {
+              read = e.gathered tells d within place is fresh;
+              grown = e.costs.given;
+              gathering =
+                  e.spends tells d within place is fresh s h.gathering;
+            });
+        words = writer_looks _ _ _ _ self _ refl (still_passes self on c.requires.none
+            c.requires.ready.sound.gathering.behind_it e.sound.behind_it grows) (omega (arith, words));
+        costs = record {
+          given = a.costs.given;
+          received = a.costs.received;
+          grown = as_many _;
+          few = no_more_than _ _ _;
+          steps = a.costs.one_step.steps;
+          greatest = a.costs.one_step.greatest;
+          calls = a.costs.calls;
+          write_calls = no_more _ _;
+          turns = writer_looked _ _ _ _ self (omega (arith, turns));
+        };
+        full = λ says. absurd (not_full says);
       };
-      failing = record { read = a.faults; write = as_many _; clean = (e.clean, refl) };
-      full_faults = none_more _;
-      full = λ says. absurd (not_full says);
     }

@@ -1,24 +1,28 @@
 use Rattle.std.proofs.Common.{arith, sym, ap, ◌∙◌, ◌≡◌, ◌<◌, Some, None, refl, ◌-◌, Option, IsTrue}
+use Rattle.abt_io.proofs.Lent.{reads_err, reads_none, reads_ok, reads_then}
 use Rattle.abt_runs.specs.declared.part.Cursor.{Cursor}
 use Rattle.abt_pieces.proofs.Fronts.{not_told, run_causes, run_not_full}
 use Rattle.abt_pieces.proofs.Going.{is_copying, some_of, next_sound, next_writer, write_copies, goes_on, next_keeps, raw_known}
 use Rattle.abt_pieces.proofs.Counts.{segment_words, segment_top, writer_passes, next_paid}
 use Rattle.abt_pieces.proofs.Spending.{spent_next}
 use Rattle.abt_pieces.proofs.Image.{part_comes}
+use Rattle.abt_pieces.proofs.WriterSteps.{part_words}
 use Rattle.abt_pieces.proofs.write.Writer.next_raw.Goals as goal
 
 some_no_none : {A : Type 0} (x : A) → ◌≡◌ {A = Option A} (Some x) None → ⊥
 some_no_none x h = absurd cc
 
 -- the source has failed
-pub returns-in-Err-clause-turns : goal.returns-in-Err-clause-turns
-returns-in-Err-clause-turns g c =
-    let h = is_copying _ _ _ _ c.args.self.now c.args.copying c.requires.is c.requires.sound in
+pub returns-in-Err-clause-reads : goal.returns-in-Err-clause-reads
+returns-in-Err-clause-reads g c = reads_err _ c.in-Err.ensures.reads
+
+pub returns-in-Err-clause-costs : goal.returns-in-Err-clause-costs
+returns-in-Err-clause-costs g c =
+    let h = is_copying _ _ _ _ c.args.self.now c.args.copying c.requires.is c.requires.ready.sound in
     let low : c.args.copying.next.block < c.args.self.now.past = let z = goes_on _ _ _ _ _ _ _ c.args.copying h c.requires.whole c.requires.remains in omega (arith, z, h.past) in
     let p = g.met.R.BlockRuns.padded c.args.runs.now c.args.copying.next in
     let top = segment_top _ (g.R.BlockRuns.one c.args.runs.now) (g.R.BlockRuns.count c.args.runs.now) c.args.copying.next.block c.args.self.now.past p.0 p.1 low in
-    let turns = c.next_raw.ensures.costs.turns in
-    omega (arith, top, turns)
+    part_words c.next_raw.ensures.costs top
 
 pub returns-in-Err-clause-unwritten : goal.returns-in-Err-clause-unwritten
 returns-in-Err-clause-unwritten g c = rw c.run_fault.ensures (run_not_full c.in-Err.fault)
@@ -34,25 +38,27 @@ returns-in-Some g c =
     let self = c.args.self.now in
     let one = g.R.BlockRuns.one c.args.runs.now in
     let count = g.R.BlockRuns.count c.args.runs.now in
-    let h = is_copying _ _ _ _ self c.args.copying c.requires.is c.requires.sound in
+    let h = is_copying _ _ _ _ self c.args.copying c.requires.is c.requires.ready.sound in
     let on = goes_on _ _ _ _ _ _ _ c.args.copying h c.requires.whole c.requires.remains in
     let low : c.args.copying.next.block < self.past = omega (arith, on, h.past) in
     let p = g.met.R.BlockRuns.padded c.args.runs.now c.args.copying.next in
     let top = segment_top _ one count c.args.copying.next.block self.past p.0 p.1 low in
-    let words = segment_words _ one count c.args.copying.next.block c.in-Ok.part.next.block c.in-Ok.part.blocks self.past p.0 p.1 e.found.filled_up e.found.moved low c.requires.sound.gathering.past in
+    let words = segment_words _ one count c.args.copying.next.block c.in-Ok.part.next.block c.in-Ok.part.blocks
+    self.past p.0 p.1 e.found.filled_up e.found.moved low c.requires.ready.sound.gathering.past in
     let turns = n.costs.turns in
     let is = sym (rw c.block_size-size.ensures at c.and_part.ensures) ∙ c.in-Some.is in
     let kept = next_keeps c.args.copying c.in-Some.next c.in-Ok.part _ is in
     let next = kept.0 in
-    let z = next_sound _ _ (g.R.BlockRuns.left c.args.runs.now) _ _ _ _ _ count c.args.copying c.in-Some.next c.in-Ok.part h c.requires.whole c.requires.remains (omega (arith, c.requires.sound.gathering.room))
+    let z = next_sound _ _ (g.R.BlockRuns.left c.args.runs.now) _ _ _ _ _ count c.args.copying c.in-Some.next
+    c.in-Ok.part h c.requires.whole c.requires.remains (omega (arith, c.requires.ready.sound.gathering.room))
     (record { next = e.found.moved; capped = e.found.capped.raw; within = e.found.within; here = (e.found.here.0, e.found.here.1); reached = e.found.reached; shorter = e.found.on; ended = λ q. (e.found.at_end q).0 }) is in
-    let x = λ (tells : IsTrue g.S.Source.tells). next_writer _ _ _ _ _ _ _ self c.args.copying c.in-Ok.part c.requires.is c.requires.sound (sym (g.met.R.BlockRuns.long c.args.runs.now _ (c.requires.opened tells))) (g.met.R.BlockRuns.are_blocks c.args.runs.now _ (c.requires.opened tells)) c.requires.whole c.requires.remains (c.requires.told tells)
+    let x = λ (tells : IsTrue g.S.Source.tells). next_writer _ _ _ _ _ _ _ self c.args.copying c.in-Ok.part
+    c.requires.is c.requires.ready.sound (sym (g.met.R.BlockRuns.long c.args.runs.now _
+    (c.requires.ready.opened tells))) (g.met.R.BlockRuns.are_blocks c.args.runs.now _
+    (c.requires.ready.opened tells)) c.requires.whole c.requires.remains (c.requires.ready.told tells)
     (e.told tells).part (e.told tells).place (e.told tells).here_place e.found.here.0 (e.told tells).stands e.found.capped.raw in
     record {
-      same = n.same;
-      content = n.content;
-      frame = n.frame;
-      sound = record { gathering = c.requires.sound.gathering; copies = z.sound; most = c.requires.sound.most; small = c.requires.sound.small; fits = c.requires.sound.fits };
+      reads = reads_ok _ e.reads;
       told = λ tells.
           let y = x tells in
           let same = some_of y.0 c.in-Some.next (sym y.1 ∙ is) in
@@ -64,23 +70,30 @@ returns-in-Some g c =
           let y = x tells in
           let same = some_of y.0 c.in-Some.next (sym y.1 ∙ is) in
           rw same at y.2.rest;
-      comes = λ t come. part_comes _ _ self (record self { copying = Some c.in-Some.next }) c.args.copying c.in-Some.next c.requires.is refl kept.1 kept.2 refl refl t come;
-      left = write_copies _ _ self (record self { copying = Some c.in-Some.next }) refl refl (let y = z.fewer in rw c.requires.is (omega (arith, y)));
-      given = n.costs.given;
-      paid = next_paid count _ _ self (record self { copying = Some c.in-Some.next }) c.args.copying c.in-Some.next refl refl c.requires.is refl on n.costs.given (λ none. let z = e.fetched none in let y = ap (λ (x : Cursor). x.block) next in omega (arith, z, y, e.found.moved, on));
       spends = λ tells d within place there fresh s t spent. record {
         gathering = spent.gathering;
         copies = spent_next _ _ _ _ _ _ _ _ _ _ c.args.copying c.in-Some.next c.in-Ok.part (omega (arith, on)) c.requires.whole
             (record { next = e.found.moved; charged = e.found.charged; onward = e.found.onward; copies = e.found.copies; stops = λ u. (e.found.stops u).1; first = (e.told tells).first; grown = e.costs.given }) is (rw c.requires.is at spent.copies);
       };
-      calls = n.costs.calls;
-      turns = omega (arith, top, turns);
-      words = writer_passes _ _ _ _ self _ refl refl (rw (c.requires.is, next) (omega (arith, words, turns)));
-      received = n.costs.received;
-      steps = n.costs.steps;
-      greatest = n.costs.greatest;
-      faults = n.faults;
-      clean = e.clean;
+      goes_on = record {
+        sound = record {
+          gathering = c.requires.ready.sound.gathering;
+          copies = z.sound;
+          most =
+              c.requires.ready.sound.most;
+          small = c.requires.ready.sound.small;
+          fits = c.requires.ready.sound.fits;
+        };
+        comes = λ t come. part_comes _ _ self (record self { copying = Some c.in-Some.next }) c.args.copying
+            c.in-Some.next c.requires.is refl kept.1 kept.2 refl refl t come;
+        left = write_copies _ _ self (record self { copying = Some c.in-Some.next }) refl refl
+            (let y = z.fewer in rw c.requires.is (omega (arith, y)));
+        paid = next_paid count _ _ self (record self { copying = Some c.in-Some.next }) c.args.copying c.in-Some.next
+            refl refl c.requires.is refl on n.costs.given (λ none. let z = e.fetched none in let y =
+            ap (λ (x : Cursor). x.block) next in omega (arith, z, y, e.found.moved, on));
+        words = writer_passes _ _ _ _ self _ refl refl (rw (c.requires.is, next) (omega (arith, words, turns)));
+      };
+      costs = part_words n.costs top;
       unwritten = refl;
       cause = tt;
     }
@@ -91,38 +104,27 @@ returns-in-None g c =
     let n = c.next_raw.ensures in
     let e = c.in-Ok.ensures in
     let self = c.args.self.now in
-    let h = is_copying _ _ _ _ self c.args.copying c.requires.is c.requires.sound in
+    let h = is_copying _ _ _ _ self c.args.copying c.requires.is c.requires.ready.sound in
     let low : c.args.copying.next.block < self.past = let z = goes_on _ _ _ _ _ _ _ c.args.copying h c.requires.whole c.requires.remains in omega (arith, z, h.past) in
     let p = g.met.R.BlockRuns.padded c.args.runs.now c.args.copying.next in
     let top = segment_top _ (g.R.BlockRuns.one c.args.runs.now) (g.R.BlockRuns.count c.args.runs.now) c.args.copying.next.block self.past p.0 p.1 low in
-    let turns = n.costs.turns in
     record {
-      same = n.same;
-      content = n.content;
-      frame = n.frame;
-      sound = tt;
+      reads = reads_then e.reads (reads_none _ _ _);
       told = λ tells. tt;
       segment = (refl, refl, refl);
       bytes = refl;
       rest = λ tells. tt;
-      comes = tt;
-      left = tt;
-      given = n.costs.given;
-      paid = tt;
+      goes_on = tt;
       spends = λ tells d within place is fresh s t spent. tt;
-      calls = n.costs.calls;
-      turns = omega (arith, top, turns);
-      words = tt;
-      received = n.costs.received;
-      steps = n.costs.steps;
-      greatest = n.costs.greatest;
-      faults = n.faults;
-      clean = tt;
+      costs = part_words n.costs top;
       unwritten = refl;
       cause = not_told _ (λ tells.
-          let o = c.requires.opened tells in
+          let o = c.requires.ready.opened tells in
           let is = sym (rw c.block_size-size.ensures at c.and_part.ensures) ∙ c.in-None.is in
-          let x = next_writer _ _ _ _ _ _ _ self c.args.copying c.in-Ok.part c.requires.is c.requires.sound (sym (g.met.R.BlockRuns.long c.args.runs.now _ o)) (g.met.R.BlockRuns.are_blocks c.args.runs.now _ o) c.requires.whole c.requires.remains (c.requires.told tells)
+          let x = next_writer _ _ _ _ _ _ _ self c.args.copying c.in-Ok.part c.requires.is c.requires.ready.sound
+          (sym (g.met.R.BlockRuns.long c.args.runs.now _ o))
+          (g.met.R.BlockRuns.are_blocks c.args.runs.now _ o) c.requires.whole c.requires.remains
+          (c.requires.ready.told tells)
           (e.told tells).part (e.told tells).place (e.told tells).here_place e.found.here.0 (e.told tells).stands e.found.capped.raw in
           some_no_none x.0 (sym x.1 ∙ is));
     }
@@ -130,9 +132,10 @@ returns-in-None g c =
 pub next_raw-requires-clause-inside : goal.next_raw-requires-clause-inside
 next_raw-requires-clause-inside g c =
     let self = c.args.self.now in
-    let h = is_copying _ _ _ _ self c.args.copying c.requires.is c.requires.sound in
-    omega (arith, h.until, h.past, c.requires.sound.gathering.past)
+    let h = is_copying _ _ _ _ self c.args.copying c.requires.is c.requires.ready.sound in
+    omega (arith, h.until, h.past, c.requires.ready.sound.gathering.past)
 
 pub next_raw-requires-clause-raw : goal.next_raw-requires-clause-raw
 next_raw-requires-clause-raw g c tells =
-    raw_known _ _ _ _ _ _ _ c.args.self.now c.args.copying c.requires.is c.requires.sound (sym (g.met.R.BlockRuns.long c.args.runs.now _ (c.requires.opened tells))) (c.requires.told tells)
+    raw_known _ _ _ _ _ _ _ c.args.self.now c.args.copying c.requires.is c.requires.ready.sound
+    (sym (g.met.R.BlockRuns.long c.args.runs.now _ (c.requires.ready.opened tells))) (c.requires.ready.told tells)

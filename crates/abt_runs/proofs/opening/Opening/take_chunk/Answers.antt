@@ -7,7 +7,8 @@ use Rattle.abt_runs.proofs.opening.Opening.take_chunk.Goals as goal
 pub returns-in-None-clause-keeps : goal.returns-in-None-clause-keeps
 returns-in-None-clause-keeps c x is v old =
     let s = c.args.self.now in
-    let o = from_chunks s.stage (view s.header) s.length s.index s.have s.at x v c.requires.here old in
-    let there : s.at + 12 ≤ length x = omega (arith, o.0, c.requires.there) in
-    let wrong = kind_ends (view s.header) s.index s.have s.at c.args.bytes.now x c.requires.more there is (no_kind c.args.bytes.now (sym c.head_at.ensures ∙ c.in-None.is)) in
+    let o = from_chunks s.stage (view s.header) s.length s.index s.have s.at x v c.requires.chunk.here old in
+    let there : s.at + 12 ≤ length x = omega (arith, o.0, c.requires.chunk.there) in
+    let wrong = kind_ends (view s.header) s.index s.have s.at c.args.bytes.now x c.requires.chunk.more there is
+    (no_kind c.args.bytes.now (sym c.head_at.ensures ∙ c.in-None.is)) in
     failed_is c.fail.new.self.stage _ _ _ _ _ _ x v c.fail.ensures.failed (ap (λ (n : ℕ). Err (ChunkType s.index n)) c.u16_at.ensures ∙ sym wrong ∙ o.1)

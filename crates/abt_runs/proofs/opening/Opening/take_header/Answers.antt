@@ -1,17 +1,10 @@
-use Rattle.std.proofs.Common.{arith, ap, sym, ◌∙◌, ◌≡◌, ◌<◌, ◌≤◌, ℕ, length, IfErr, Result, Err}
+use Rattle.std.proofs.Common.{arith, ap, sym, ◌∙◌, ◌<◌, ◌≤◌, ℕ, length, Err}
 use Rattle.abt_sparse.specs.View.{view}
-use Rattle.abt_sparse.specs.Number.{number_of}
-use Rattle.abt_sparse.specs.declared.fault.SparseFault.{SparseFault}
 use Rattle.abt_sparse.specs.declared.fault.SparseFault.TheVariants.{Truncated}
-use Rattle.abt_runs.specs.declared.part.RunFault.{RunFault}
-use Rattle.abt_runs.specs.declared.part.RunFault.TheVariants.{Sparse}
-use Rattle.abt_runs.specs.declared.stage.Progress.{Progress}
-use Rattle.abt_runs.specs.Verdict.{IsFormat, rest_ends}
-use Rattle.abt_runs.proofs.Opened.{bad_header, cut_header, past_header, header_low, failed_is, from_header}
+use Rattle.abt_runs.specs.Verdict.{rest_ends}
+use Rattle.abt_runs.proofs.Opened.{bad_header, cut_header, past_header, header_low, failed_is, failed_takes}
+use Rattle.abt_runs.proofs.Opened.{from_header}
 use Rattle.abt_runs.proofs.opening.Opening.take_header.Goals as goal
-
-own : (r : Result Progress RunFault) (f : SparseFault) → r ≡ Err (Sparse f) → number_of f ≤ 10 → IfErr r IsFormat
-own r f e low = rw e low
 
 pub returns-then-size-from-clause-keeps : goal.returns-then-size-from-clause-keeps
 returns-then-size-from-clause-keeps c x long is v old =
@@ -36,5 +29,7 @@ returns-in-Err-clause-keeps c x long is v old =
     let bad = bad_header c.in-Err.fault c.args.bytes.now x is (omega (arith, long, c.requires.long)) c.in-Err.ensures in
     failed_is c.fail-in-Err.new.self.stage _ _ _ _ _ _ x v c.fail-in-Err.ensures.failed (sym bad ∙ o)
 
-pub returns-in-Err-clause-own : goal.returns-in-Err-clause-own
-returns-in-Err-clause-own c = own c.fail-in-Err.result c.in-Err.fault c.fail-in-Err.ensures.answer (header_low c.args.bytes.now c.in-Err.fault c.in-Err.ensures)
+pub returns-in-Err-clause-takes : goal.returns-in-Err-clause-takes
+returns-in-Err-clause-takes c =
+    failed_takes c.fail-in-Err.result _ c.fail-in-Err.ensures.answer c.fail-in-Err.ensures.failed
+    (header_low c.args.bytes.now c.in-Err.fault c.in-Err.ensures)

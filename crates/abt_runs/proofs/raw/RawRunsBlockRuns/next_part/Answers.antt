@@ -4,8 +4,11 @@ use Rattle.abt_runs.specs.RawLaws.{raw_long, raw_count, raw_padded, own_size}
 use Rattle.abt_runs.specs.Raw.{RawPlace}
 use Rattle.abt_runs.specs.Part.{is_end}
 use Rattle.abt_runs.proofs.Chunked.{not_telling}
-use Rattle.abt_runs.proofs.Classes.{raw_all, never, if_none, none_is}
-use Rattle.abt_runs.proofs.Charges.{raw_charged, charge_fresh, charge_end, raw_turns, raw_takes, raw_copies, raw_onward, raw_first, minus_zero, raw_next, no_more, no_more_than, none_added, none_behind, nothing_read, read_some}
+use Rattle.abt_io.proofs.Lent.{reads_none, reads_err, reads_ok}
+use Rattle.abt_runs.proofs.Classes.{raw_all, never, if_none}
+use Rattle.abt_runs.proofs.Charges.{raw_charged, charge_fresh, charge_end, raw_turns, raw_takes, raw_copies, raw_onward}
+use Rattle.abt_runs.proofs.Charges.{raw_first, minus_zero, raw_next, no_more, no_more_than, none_added, none_behind}
+use Rattle.abt_runs.proofs.Charges.{nothing_read, load_costs}
 use Rattle.abt_runs.proofs.raw.RawRunsBlockRuns.next_part.Goals as goal
 
 -- no block is left
@@ -17,9 +20,7 @@ returns-then-from-self g c =
     let none : true ≡ false → ⊥ = true≢false in
     let fresh : 0 < c.args.from.used → ⊥ = λ used. omega (arith, w.used, used) in
     record {
-      same = refl;
-      content = λ tells. refl;
-      frame = refl;
+      reads = reads_none _ g.S.Source _;
       told = λ tells. record {
         part =
             let n = raw_long self.length self.blocks self.size _ self.some self.covers self.last (c.requires.told tells).0 in
@@ -61,8 +62,6 @@ returns-then-from-self g c =
       };
       costs = nothing_read _ _ _ _ _ s.turns s.steps s.greatest;
       most = no_more_than _ _ _;
-      faults = own_size _;
-      clean = refl;
       cause = tt;
     }
 
@@ -71,16 +70,12 @@ pub returns-then-length-self : goal.returns-then-length-self
 returns-then-length-self g c =
     let s = c.close_step-then-length-self.ensures in
     record {
-      same = refl;
-      content = λ tells. refl;
-      frame = refl;
+      reads = reads_none _ g.S.Source _;
       told = λ tells. tt;
       found = tt;
       asked = tt;
       costs = nothing_read _ _ _ _ _ s.turns s.steps s.greatest;
       most = no_more_than _ _ _;
-      faults = own_size _;
-      clean = tt;
       cause = not_telling g.S.Source.tells (λ t. c.if-length-self.true (c.length.ensures.told t ∙ sym (c.requires.told t).0));
     }
 
@@ -95,17 +90,14 @@ returns-in-Some g c =
     let capped : c.asked-asked.result * self.size ≤ c.args.cap * self.size = mul-le-mul_right self.size a.capped in
     let window : c.asked-asked.result * self.size ≤ c.args.from.ask * self.size = mul-le-mul_right self.size a.ask in
     record {
-      same = refl;
-      content = l.content;
-      frame = l.frame;
+      reads = reads_err _ (rw c.in-Some.is at l.loads.reads);
       told = λ tells. tt;
       found = tt;
       asked = tt;
-      costs = read_some _ _ _ c.load_filled-loaded.result.received _ _ _ _ (omega (arith, l.few, want, window, c.requires.within.window)) l.given (omega (arith, l.calls)) (omega (arith, l.turns, s.turns)) (omega (arith, s.steps, l.steps)) (omega (arith, s.greatest, l.greatest));
-      most = omega (arith, l.given, l.few, want, capped);
-      faults = l.faults;
-      clean = tt;
-      cause = rw c.in-Some.is at l.cause;
+      costs = load_costs l.loads (omega (arith, l.few, want, window, c.requires.within.window)) s.turns s.steps
+          s.greatest;
+      most = omega (arith, l.loads.given, l.few, want, capped);
+      cause = rw c.in-Some.is at l.loads.cause;
     }
 
 -- the blocks that are alike
@@ -134,9 +126,7 @@ returns g c =
     let over : is_end c.leading-kind.result.0 ≡ true → ⊥ = λ end. true≢false (sym end ∙ l.goes) in
     let reach : blocks * self.size ≤ (self.blocks - from.block) * self.size = mul-le-mul_right self.size (let z : blocks ≤ self.blocks - from.block = omega (arith, l.within, a.within) in z) in
     record {
-      same = refl;
-      content = f.content;
-      frame = f.frame;
+      reads = reads_ok _ (rw c.in_default.is at f.loads.reads);
       told = λ tells. record {
         part =
             let x = g.S.Source.content c.args.source.now in
@@ -169,7 +159,7 @@ returns g c =
         goes_on = λ used. absurd (omega (arith, w.used, used));
         at_end = λ end. absurd (over end);
         charged = let r = raw_charged self.length self.blocks self.size from c.after.result asked blocks c.min-want.result l.some l.within there a.within a.ask w.some w.passed self.covers self.last want n.block n.ask in
-            omega (arith, r, got, f.given);
+            omega (arith, r, got, f.loads.given);
         takes = raw_takes c.leading-kind.result.0 self.size from.used from.block blocks c.after.result.block l.some n.block;
         copies = λ kind. raw_copies self.length self.size from.block blocks c.after.result.block n.block;
         onward = (own_size _, raw_onward self.length self.size from.block c.after.result.block (omega (arith, n.block)));
@@ -177,23 +167,23 @@ returns g c =
       };
       asked = record {
         length = λ _. sym c.length.ensures.size ∙ c.if-length-self.false;
-        fetched = λ _. omega (arith, got, whole, self.some, want, at, below, f.given);
+        fetched = λ _. omega (arith, got, whole, self.some, want, at, below, f.loads.given);
         ended = λ end. absurd (over end);
       };
       costs = record {
-        given = omega (arith, f.given);
-        received = omega (arith, f.given, f.few, want, window, w.window);
-        calls = omega (arith, f.calls, f.given);
+        given = omega (arith, f.loads.given);
+        received = omega (arith, f.loads.given, f.few, want, window, w.window);
+        calls = omega (arith, f.loads.calls, f.loads.given);
         turns = let long : length c.part.result.now ≡ asked * self.size = c.part.ensures.long ∙ minus_zero (asked * self.size) in
             let t = c.leading-kind.new.m.turns.number - c.load_filled-loaded.new.m.turns.number in
             let r = raw_turns self.length self.blocks self.size from.block asked c.min-want.result t self.some self.words a.some a.within there self.last want (omega (arith, at, below)) (omega (arith, l.turns, long, whole)) in
-            omega (arith, r, got, s.turns, f.turns, f.given);
-        steps = omega (arith, s.steps, l.steps, f.steps);
-        greatest = omega (arith, s.greatest, l.greatest, f.greatest, f.given);
+            omega (arith, r, got, s.turns, f.loads.turns, f.loads.given);
+        one_step = record {
+          steps = omega (arith, s.steps, l.no_step.steps, f.loads.no_step.steps);
+          greatest = omega (arith, s.greatest, l.no_step.greatest, f.loads.no_step.greatest, f.loads.given);
+        };
       };
-      most = omega (arith, f.given, f.few, want, capped);
-      faults = f.faults;
-      clean = f.clean (none_is _ c.in_default.is);
+      most = omega (arith, f.loads.given, f.few, want, capped);
       cause = tt;
     }
 

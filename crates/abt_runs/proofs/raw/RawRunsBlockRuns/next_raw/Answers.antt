@@ -1,4 +1,5 @@
 use Rattle.std.proofs.Common.{arith, ◌+◌, ◌*◌, ◌≤◌, ◌-◌, refl, mul-le-mul_right}
+use Rattle.abt_io.proofs.Lent.{reads_none}
 use Rattle.abt_runs.specs.RawLaws.{raw_long, own_size}
 use Rattle.abt_runs.specs.Raw.{RawPlace}
 use Rattle.abt_runs.specs.declared.part.RunKind.TheVariants.{Raw}
@@ -18,9 +19,7 @@ returns g c =
     let next : RawPlace self.blocks self.size (record from { block = from.block + n; ask = 1 }) = record { within = c.requires.inside; some = omega arith; window = omega (arith, self.window); passed = omega arith; used = w.used } in
     let reach : n * self.size ≤ (self.blocks - from.block) * self.size = mul-le-mul_right self.size (let z : n ≤ self.blocks - from.block = omega (arith, c.requires.inside) in z) in
     record {
-      same = refl;
-      content = λ tells. refl;
-      frame = refl;
+      reads = reads_none _ g.S.Source _;
       told = λ tells. record {
         part =
             let long = raw_long self.length self.blocks self.size _ self.some self.covers self.last (c.requires.told tells).0 in
@@ -57,7 +56,5 @@ returns g c =
       };
       costs = nothing_read _ _ _ _ _ s.turns s.steps s.greatest;
       fetched = λ none. refl;
-      faults = own_size _;
-      clean = refl;
       cause = tt;
     }

@@ -1,13 +1,15 @@
-use Rattle.std.proofs.Common.{◌≡◌, ℕ, ◌+◌, ◌*◌, ◌-◌, ◌<◌, ◌≤◌, arith, ap, sym, ◌∙◌, subst, refl, mul-le-mul_right, Bool}
+use Rattle.std.proofs.Common.{◌≡◌, ℕ, ◌+◌, ◌*◌, ◌<◌, ◌≤◌, arith, ap, sym, ◌∙◌, subst, refl, mul-le-mul_right, Bool}
+use Rattle.abt_io.proofs.Lent.{reads_then, reads_err, reads_ok}
 use Rattle.abt_runs.specs.declared.part.Cursor.{Cursor}
 use Rattle.abt_runs.specs.declared.part.RunFault.{RunFault}
 use Rattle.abt_runs.specs.declared.part.RunFault.TheVariants.{Sparse, Read, TooLarge, SourceChanged, BadBlock}
-use Rattle.abt_runs.specs.Part.{Caused, entry}
+use Rattle.abt_runs.specs.Part.{RunCaused, entry}
 use Rattle.abt_runs.specs.Whole.{room_in}
+use Rattle.abt_runs.proofs.Charges.{costs_on, costs_end, no_more}
 use Rattle.abt_runs.proofs.Growing.{joins, rests, so_far, stops, is_full, next_is, blocks_are, here_is, none_is, end_is, none_left, rests_at, nowhere_is, raw_is, few_are, no_room, entry_after, room_most}
 use Rattle.abt_runs.proofs.runs.BlockRuns.next_run.Goals as goal
 
-later : (e : RunFault) (tells : Bool) (a b c : ℕ) → a ≤ b → Caused e tells b c → Caused e tells a c
+later : (e : RunFault) (tells : Bool) (a b c : ℕ) → a ≤ b → RunCaused e tells b c → RunCaused e tells a c
 later (Sparse f) tells a b c le h = h
 later (Read f) tells a b c le h = (omega (arith, h.0), h.1)
 later TooLarge tells a b c le h = h
@@ -16,9 +18,6 @@ later (BadBlock n) tells a b c le h = h
 
 at_least : (n size reach : ℕ) → 0 < n → n * size ≤ reach → size ≤ reach
 at_least n size reach some le = let m : 1 * size ≤ n * size = mul-le-mul_right size (let z : 1 ≤ n = omega arith in z) in omega arith
-
-turns_more : (t t0 t1 g g0 g1 s0 s1 one padding : ℕ) → t0 ≡ t → t1 ≤ t0 + 1 + 2 * (g1 - g) + 2 + padding → 4 * padding ≤ one → g0 ≤ g → g ≤ g1 → (a : ℕ) → t + (3 + one) * s0 ≤ a + 2 * (g - g0) + (3 + one) * s1 → t1 + (3 + one) * s0 ≤ a + 2 * (g1 - g0) + (3 + one) * (s1 + 1)
-turns_more t t0 t1 g g0 g1 s0 s1 one padding e few small le ge a h = let d : (3 + one) * (s1 + 1) ≡ (3 + one) * s1 + (3 + one) = omega arith in omega arith
 
 pub parts-preserved : goal.parts-preserved
 parts-preserved g c =
@@ -37,22 +36,27 @@ parts-preserved g c =
     let same : s.next ≡ p.next = next_is r p s j in
     let blocks : s.blocks ≡ r.blocks + p.blocks = blocks_are r p s j in
     let tick = c.tick.ensures in
-    let steps : c.next_part.new.m.steps.number ≡ c.parts.m.steps.number + 1 = e.costs.steps ∙ ap (λ (n : ℕ). n + 1) tick.steps in
     let room : 0 < room_in r.kind r.blocks c.args.cap = omega (arith, c.if-room-eq0.false, c.room-room.ensures) in
-    let read : g.S.Source.given c.next_part.new.source + runs.charge self r.next ≤ g.S.Source.given c.parts.source + runs.charge self p.next + entry r.next = rw i.same at e.found.charged in
-    let paid : g.S.Source.given c.next_part.new.source + runs.charge self c.args.from ≤ g.S.Source.given c.args.source.now + runs.charge self p.next + entry c.args.from = omega (arith, read, i.going room) in
-    let padded = (g.met.Self.BlockRuns.padded c.parts.self r.next).0 in
+    let paid : g.S.Source.given c.next_part.new.source + runs.charge self c.args.from
+    ≤ g.S.Source.given c.args.source.now + runs.charge self p.next + entry c.args.from =
+    omega (arith, e.found.charged, i.going room) in
+    let padded = (g.met.Self.BlockRuns.padded self r.next).0 in
     record {
-      same = e.same ∙ i.same;
-      kept = λ t. e.content t ∙ i.kept t;
-      frame = e.frame ∙ i.frame;
-      so_far = λ t. so_far (runs.list self x) c.args.from.block r p s j (i.so_far t) (rw (i.same, i.kept t) at (e.told t).part);
-      here_place = λ t. here_is (λ (h : Cursor). runs.place self x h) r p s j (i.here_place t) (λ z. rw (i.same, i.kept t) at (e.told t).here_place) (λ z n. rw (i.same, i.kept t) at (e.told t).place);
-      next_place = λ t. subst (λ (h : Cursor). runs.place self x h) (sym same) (rw (i.same, i.kept t) at (e.told t).place);
-      stands = λ t k. raw_is (λ (h : Cursor). 0 < runs.together self x h) r p s j i.none (i.stands t) (λ k' some. let f : p.blocks ≤ runs.together self x p.here = rw (i.same, i.kept t) at ((e.told t).stands k') in omega arith) k;
-      here_within = here_is (λ (h : Cursor). runs.within self h) r p s j i.here_within (λ z. rw i.same at e.found.here.1) (λ z n. rw i.same at e.found.within);
-      next_within = subst (λ (h : Cursor). runs.within self h) (sym same) (rw i.same at e.found.within);
-      reached = λ k. raw_is (λ (h : Cursor). runs.size self ≤ runs.reach self h) r p s j i.none i.reached (λ k' some. at_least p.blocks (runs.size self) (runs.reach self p.here) some (rw i.same at (e.found.reached k'))) k;
+      reads = reads_then i.reads (reads_ok tt e.reads);
+      so_far = λ t. so_far (runs.list self x) c.args.from.block r p s j (i.so_far t)
+          (rw (i.reads.content t) at (e.told t).part);
+      here_place = λ t. here_is (λ (h : Cursor). runs.place self x h) r p s j (i.here_place t)
+          (λ z. rw (i.reads.content t) at (e.told t).here_place) (λ z n. rw (i.reads.content t) at (e.told t).place);
+      next_place = λ t. subst (λ (h : Cursor). runs.place self x h) (sym same)
+          (rw (i.reads.content t) at (e.told t).place);
+      stands = λ t k. raw_is (λ (h : Cursor). 0 < runs.together self x h) r p s j i.none (i.stands t)
+          (λ k' some. let f : p.blocks ≤ runs.together self x p.here =
+          rw (i.reads.content t) at ((e.told t).stands k') in omega arith) k;
+      here_within = here_is (λ (h : Cursor). runs.within self h) r p s j i.here_within (λ z. e.found.here.1)
+          (λ z n. e.found.within);
+      next_within = subst (λ (h : Cursor). runs.within self h) (sym same) (e.found.within);
+      reached = λ k. raw_is (λ (h : Cursor). runs.size self ≤ runs.reach self h) r p s j i.none i.reached
+          (λ k' some. at_least p.blocks (runs.size self) (runs.reach self p.here) some (e.found.reached k')) k;
       here = here_is (λ (h : Cursor). h.block ≡ c.args.from.block) r p s j i.here (λ z. omega arith) (λ z n. omega arith);
       next = ap (λ (h : Cursor). h.block) same ∙ (let z : p.next.block ≡ c.args.from.block + s.blocks = omega arith in z);
       none = none_is r p s j i.none;
@@ -61,13 +65,7 @@ parts-preserved g c =
       few = few_are c.args.cap r p s j i.none i.few (λ k. let f = e.found.capped.raw k in omega (arith, f, c.room-room.ensures));
       charged = omega (arith, paid, ap (λ (h : Cursor). runs.charge self h) same);
       going = λ more. let none : entry s.next ≡ 0 = ap entry same ∙ entry_after c.args.cap r p s j i.none room (λ u. let f = e.found.stops u in (f.0, f.1 ∙ c.room-room.ensures)) more in omega (arith, paid, none, ap (λ (h : Cursor). runs.charge self h) same);
-      more = omega (arith, i.more, e.costs.given);
-      received = let a = i.received in let b = e.costs.received in omega (arith, a, b, steps);
-      calls = let a = i.calls in let b = e.costs.calls in omega (arith, a, b, steps, i.more, e.costs.given);
-      turns = let a = i.turns in let b = e.costs.turns in rw steps (rw i.same at (turns_more c.parts.m.turns.number c.parts.m.turns.number c.next_part.new.m.turns.number (g.S.Source.given c.parts.source) (g.S.Source.given c.args.source.now) (g.S.Source.given c.next_part.new.source) c.args.m.now.steps.number c.parts.m.steps.number (runs.one c.parts.self) (runs.padding c.parts.self r.next) (let z : c.parts.m.turns.number ≡ c.parts.m.turns.number = omega arith in z) (omega (arith, b, tick.turns)) padded i.more e.costs.given c.args.m.now.turns.number (rw i.same a)));
-      greatest = let a = i.greatest in let b = e.costs.greatest in let d = e.costs.received in omega (arith, a, b, d, tick.greatest);
-      faults = omega (arith, i.faults, e.faults);
-      clean = e.clean ∙ i.clean;
+      costs = costs_on i.costs tick.turns tick.steps tick.greatest e.costs padded;
     }
 
 -- as many blocks as are wanted
@@ -80,26 +78,24 @@ returns-then-room-eq0 g c =
     let n = no_room c.args.cap r.blocks r.kind c.requires.some (sym c.room-room.ensures ∙ c.if-room-eq0.true) in
     let few = i.few n.0 in
     record {
-      same = i.same;
-      content = i.kept;
-      frame = i.frame;
-      run = λ t. is_full c.args.cap _ c.args.from.block r (i.so_far t) n.0 (omega (arith, n.1, few)) c.requires.some;
-      places = λ t. (i.here_place t, i.next_place t);
-      nowhere = i.nowhere;
-      stands = i.stands;
-      within = (i.here_within, i.next_within);
-      reached = i.reached;
-      moved = (i.here, i.next);
-      capped = record { raw = i.few };
-      end = none_left r c.args.from.block r.next.block _ i.none i.ended i.next (g.met.Self.BlockRuns.bounded self r.next i.next_within) (λ z. absurd (omega (arith, n.1, z, c.requires.some)));
-      charged = omega (arith, i.charged);
-      given = i.more;
-      received = omega (arith, i.received, tick.steps);
-      calls = omega (arith, i.calls, tick.steps);
-      turns = rw tick.steps (omega (arith, i.turns, tick.turns));
-      greatest = omega (arith, i.greatest, tick.greatest);
-      faults = i.faults;
-      clean = i.clean;
+      reads = reads_ok _ i.reads;
+      told = λ t. record {
+        run = is_full c.args.cap _ c.args.from.block r (i.so_far t) n.0 (omega (arith, n.1, few)) c.requires.some;
+        places = (i.here_place t, i.next_place t);
+        stands = i.stands t;
+      };
+      found = record {
+        nowhere = i.nowhere;
+        within = (i.here_within, i.next_within);
+        reached = i.reached;
+        moved = (i.here, i.next);
+        capped = record { raw = i.few };
+        end = none_left r c.args.from.block r.next.block _ i.none i.ended i.next
+            (g.met.Self.BlockRuns.bounded self r.next i.next_within)
+            (λ z. absurd (omega (arith, n.1, z, c.requires.some)));
+        charged = omega (arith, i.charged);
+      };
+      costs = costs_end i.costs (omega (arith, tick.turns)) tick.steps tick.greatest;
       cause = tt;
     }
 
@@ -114,52 +110,45 @@ returns-in-None g c =
     let r = c.parts.run in
     let p = c.in-Ok.part in
     let rest = rests r p (sym c.joined.ensures ∙ c.in-None.is) in
-    let steps : c.next_part.new.m.steps.number ≡ c.parts.m.steps.number + 1 = e.costs.steps ∙ ap (λ (n : ℕ). n + 1) tick.steps in
-    let padded = (g.met.Self.BlockRuns.padded c.parts.self r.next).0 in
-    let one : runs.one c.parts.self ≡ runs.one self = rw i.same refl in
+    let padded = (g.met.Self.BlockRuns.padded self r.next).0 in
     record {
-      same = e.same ∙ i.same;
-      content = λ t. e.content t ∙ i.kept t;
-      frame = e.frame ∙ i.frame;
-      run = λ t. stops c.args.cap _ c.args.from.block r p rest (i.so_far t) (rw (i.same, i.kept t) at (e.told t).part) i.none i.few;
-      places = λ t. (i.here_place t, i.next_place t);
-      nowhere = i.nowhere;
-      stands = i.stands;
-      within = (i.here_within, i.next_within);
-      reached = i.reached;
-      moved = (i.here, i.next);
-      capped = record { raw = i.few };
-      end = none_left r c.args.from.block r.next.block (runs.count self) i.none i.ended i.next (g.met.Self.BlockRuns.bounded self r.next i.next_within) (λ z. rw i.same at ((e.found.at_end (rests_at r p rest z)).0));
-      charged =
-          let few : c.room-room.result * runs.one self ≤ c.args.cap * runs.one self = mul-le-mul_right (runs.one self) (let z : c.room-room.result ≤ c.args.cap = omega (arith, c.room-room.ensures, room_most c.args.cap r.blocks r.kind) in z) in
-          let most : g.S.Source.given c.next_part.new.source ≤ g.S.Source.given c.parts.source + 16 + c.room-room.result * runs.one self = rw i.same at e.most in
-          omega (arith, few, most, e.costs.received, i.charged);
-      given = omega (arith, i.more, e.costs.given);
-      received = omega (arith, i.received, e.costs.received, steps);
-      calls = omega (arith, i.calls, e.costs.calls, steps, i.more, e.costs.given);
-      turns = rw steps (omega (arith, i.turns, e.costs.turns, tick.turns, padded, one, i.more, e.costs.given));
-      greatest = let a = i.greatest in let b = e.costs.greatest in let d = e.costs.received in omega (arith, a, b, d, tick.greatest);
-      faults = omega (arith, i.faults, e.faults);
-      clean = e.clean ∙ i.clean;
+      reads = reads_then i.reads (reads_ok _ e.reads);
+      told = λ t. record {
+        run = stops c.args.cap _ c.args.from.block r p rest (i.so_far t) (rw (i.reads.content t) at (e.told t).part)
+            i.none i.few;
+        places = (i.here_place t, i.next_place t);
+        stands = i.stands t;
+      };
+      found = record {
+        nowhere = i.nowhere;
+        within = (i.here_within, i.next_within);
+        reached = i.reached;
+        moved = (i.here, i.next);
+        capped = record { raw = i.few };
+        end = none_left r c.args.from.block r.next.block (runs.count self) i.none i.ended i.next
+            (g.met.Self.BlockRuns.bounded self r.next i.next_within) (λ z. (e.found.at_end (rests_at r p rest z)).0);
+        charged =
+            let few : c.room-room.result * runs.one self ≤ c.args.cap * runs.one self =
+            mul-le-mul_right (runs.one self) (let z : c.room-room.result ≤ c.args.cap =
+            omega (arith, c.room-room.ensures, room_most c.args.cap r.blocks r.kind) in z) in
+            omega (arith, few, e.most, e.costs.received, i.charged);
+      };
+      costs = costs_end (costs_on i.costs tick.turns tick.steps tick.greatest e.costs padded) (no_more _ 1) refl refl;
       cause = tt;
     }
 
-pub returns-in-Err-clause-cause : goal.returns-in-Err-clause-cause
-returns-in-Err-clause-cause g c = later c.in-Err.fault _ _ _ _ c.parts.invariant.faults c.in-Err.ensures.cause
-
-pub returns-in-Err-clause-received : goal.returns-in-Err-clause-received
-returns-in-Err-clause-received g c = let i = c.parts.invariant in let e = c.in-Err.ensures in let steps : c.next_part.new.m.steps.number ≡ c.parts.m.steps.number + 1 = e.costs.steps ∙ ap (λ (n : ℕ). n + 1) c.tick.ensures.steps in omega (arith, i.received, e.costs.received, steps)
-
-pub returns-in-Err-clause-calls : goal.returns-in-Err-clause-calls
-returns-in-Err-clause-calls g c = let i = c.parts.invariant in let e = c.in-Err.ensures in let steps : c.next_part.new.m.steps.number ≡ c.parts.m.steps.number + 1 = e.costs.steps ∙ ap (λ (n : ℕ). n + 1) c.tick.ensures.steps in omega (arith, i.calls, e.costs.calls, steps, i.more, e.costs.given)
-
-pub returns-in-Err-clause-turns : goal.returns-in-Err-clause-turns
-returns-in-Err-clause-turns g c =
+-- the source has failed, or is another
+pub returns-in-Err : goal.returns-in-Err
+returns-in-Err g c =
     let runs = g.Self.BlockRuns in
     let i = c.parts.invariant in
     let e = c.in-Err.ensures in
     let tick = c.tick.ensures in
-    let steps : c.next_part.new.m.steps.number ≡ c.parts.m.steps.number + 1 = e.costs.steps ∙ ap (λ (n : ℕ). n + 1) tick.steps in
-    let padded = (g.met.Self.BlockRuns.padded c.parts.self c.parts.run.next).0 in
-    let one : runs.one c.parts.self ≡ runs.one c.args.self.now = rw i.same refl in
-    rw steps (omega (arith, i.turns, e.costs.turns, tick.turns, padded, one, i.more, e.costs.given))
+    let padded = (g.met.Self.BlockRuns.padded c.args.self.now c.parts.run.next).0 in
+    record {
+      reads = reads_then i.reads (reads_err _ e.reads);
+      told = λ t. tt;
+      found = tt;
+      costs = costs_end (costs_on i.costs tick.turns tick.steps tick.greatest e.costs padded) (no_more _ 1) refl refl;
+      cause = later c.in-Err.fault _ _ _ _ i.reads.faults e.cause;
+    }

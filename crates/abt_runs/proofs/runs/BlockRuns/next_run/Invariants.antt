@@ -1,8 +1,11 @@
-use Rattle.std.proofs.Common.{◌≡◌, true, ◌≤◌, ◌<◌, ◌+◌, ◌*◌, ◌-◌, max}
-use Rattle.std.specs.Prelude.{IsTrue}
+use Rattle.std.proofs.Common.{◌≡◌, true, ◌≤◌, ◌<◌, ◌+◌}
+use Rattle.std.specs.Prelude.{IsTrue, Ok}
+use Rattle.abt_io.specs.Lent.{OnlyReads}
+use Rattle.abt_runs.specs.declared.part.RunFault.{RunFault}
 use Rattle.abt_runs.specs.declared.part.RunKind.TheVariants as kinds
 use Rattle.abt_runs.specs.Part.{entry, is_end}
 use Rattle.abt_runs.specs.Whole.{room_in}
+use Rattle.abt_runs.proofs.Charges.{CostSoFar}
 use Rattle.abt_runs.proofs.Growing.{SoFar}
 use Rattle.abt_runs.proofs.runs.BlockRuns.next_run.Given as goal
 
@@ -12,9 +15,7 @@ invariant-parts g l =
     let content = g.S.Source.content in
     let self = l.fn.self in
     record {
-      same : l.self ≡ self;
-      kept : IsTrue g.S.Source.tells → content l.source ≡ content l.fn.source;
-      frame : g.S.Source.read_frame l.source ≡ g.S.Source.read_frame l.fn.source;
+      reads : OnlyReads {X = Unit {0}} {E = RunFault} (Ok tt) g.S.Source l.fn.source l.source;
       so_far : IsTrue g.S.Source.tells → SoFar (runs.list self (content l.fn.source)) l.fn.from.block l.run;
       here_place : IsTrue g.S.Source.tells → runs.place self (content l.fn.source) l.run.here;
       next_place : IsTrue g.S.Source.tells → runs.place self (content l.fn.source) l.run.next;
@@ -30,14 +31,9 @@ invariant-parts g l =
       few : l.run.kind ≡ kinds.Raw → l.run.blocks ≤ l.cap;
       charged : g.S.Source.given l.source + runs.charge self l.fn.from ≤ g.S.Source.given l.fn.source + runs.charge self l.run.next + entry l.fn.from;
       going : 0 < room_in l.run.kind l.run.blocks l.cap → g.S.Source.given l.source + runs.charge self l.fn.from + entry l.run.next ≤ g.S.Source.given l.fn.source + runs.charge self l.run.next + entry l.fn.from;
-      more : g.S.Source.given l.fn.source ≤ g.S.Source.given l.source;
-      received : g.S.Source.given l.source + 65536 * l.fn.m.steps.number ≤ g.S.Source.given l.fn.source + 65536 * l.m.steps.number;
-      calls : g.S.Source.reads l.source + 2 * l.fn.m.steps.number ≤ g.S.Source.reads l.fn.source + (g.S.Source.given l.source - g.S.Source.given l.fn.source) + 2 * l.m.steps.number;
-      turns : l.m.turns.number + (3 + runs.one self) * l.fn.m.steps.number ≤ l.fn.m.turns.number + 2 * (g.S.Source.given l.source - g.S.Source.given l.fn.source) + (3 + runs.one self) * l.m.steps.number;
-      greatest : l.m.greatest.number ≤ max l.fn.m.greatest.number 65536;
-      faults : g.S.Source.read_faults l.fn.source ≤ g.S.Source.read_faults l.source;
-      clean : g.S.Source.read_faults l.source ≡ g.S.Source.read_faults l.fn.source;
+      costs : CostSoFar (runs.one self) (g.S.Source.reads l.fn.source) (g.S.Source.given l.fn.source)
+          (g.S.Source.reads l.source) (g.S.Source.given l.source) l.fn.m l.m;
     }
 
 abbrev pub decreases-parts : goal.decreases-parts
-decreases-parts g l = g.Self.BlockRuns.left l.self l.run.next
+decreases-parts g l = g.Self.BlockRuns.left l.fn.self l.run.next

@@ -9,11 +9,12 @@ use Rattle.abt_runs.specs.SparseLaws.{sparse_long}
 use Rattle.abt_sparse.specs.declared.chunk_header.ChunkHeader.{ChunkHeader}
 use Rattle.abt_runs.specs.declared.part.Cursor.{Cursor}
 use Rattle.abt_runs.specs.declared.part.Run.{Run}
-use Rattle.abt_runs.proofs.Classes.{if_none, none_is}
+use Rattle.abt_io.proofs.Lent.{reads_none, reads_then, reads_err, reads_ok}
+use Rattle.abt_runs.proofs.Classes.{if_none}
 use Rattle.abt_runs.proofs.Chunked.{Parts, parts, standing, standing_as, part_is, next_place, here_place, stand_together, at_last, not_telling}
 use Rattle.abt_runs.proofs.Passing.{next_within, here_within, here_block, here_used, here_charge, raw_reach, adds, read_charged, takes, here_next, raw_copies, not_end, nowhere_else, next_block, raw_few, left_less, stops_full, goes_raw}
 use Rattle.abt_runs.specs.RawLaws.{own_size}
-use Rattle.abt_runs.proofs.Charges.{no_more, no_more_than, none_added, none_behind, nothing_read, read_some}
+use Rattle.abt_runs.proofs.Charges.{no_more, no_more_than, none_added, none_behind, nothing_read, load_costs, both_cost}
 use Rattle.abt_runs.proofs.Ordered.{next_first, not_past}
 use Rattle.abt_runs.proofs.sparse_parts.SparseRunsBlockRuns.next_part.Goals as goal
 
@@ -26,16 +27,12 @@ returns-then-from-self-2 g c =
     let self = c.args.self.now in
     let s = c.close_step.ensures in
     record {
-      same = refl;
-      content = λ tells. refl;
-      frame = refl;
+      reads = reads_none _ g.S.Source _;
       told = λ tells. tt;
       found = tt;
       asked = tt;
       costs = nothing_read _ _ _ _ _ s.turns s.steps s.greatest;
       most = no_more_than _ _ _;
-      faults = own_size _;
-      clean = tt;
       cause = not_telling g.S.Source.tells (λ t. c.if-from-self-2.true (at_last (view self.header) (g.S.Source.content c.args.source.now) c.args.from (c.requires.told t).1 c.if-from-self.true));
     }
 
@@ -48,9 +45,7 @@ returns-then-from-self g c =
     let fresh : 0 < c.args.from.used → ⊥ = λ used. let z = w.going used in omega (arith, z, c.if-from-self.true) in
     let none : true ≡ false → ⊥ = true≢false in
     record {
-      same = refl;
-      content = λ tells. refl;
-      frame = refl;
+      reads = reads_none _ g.S.Source _;
       told = λ tells. record {
         part =
             let long = sparse_long (view self.header) self.length self.image (g.S.Source.content c.args.source.now) (c.requires.told tells).0 in
@@ -92,8 +87,6 @@ returns-then-from-self g c =
       };
       costs = nothing_read _ _ _ _ _ s.turns s.steps s.greatest;
       most = no_more_than _ _ _;
-      faults = own_size _;
-      clean = refl;
       cause = tt;
     }
 
@@ -102,16 +95,12 @@ pub returns-then-length-self : goal.returns-then-length-self
 returns-then-length-self g c =
     let s = c.close_step-then-length-self.ensures in
     record {
-      same = refl;
-      content = λ tells. refl;
-      frame = refl;
+      reads = reads_none _ g.S.Source _;
       told = λ tells. tt;
       found = tt;
       asked = tt;
       costs = nothing_read _ _ _ _ _ s.turns s.steps s.greatest;
       most = no_more_than _ _ _;
-      faults = own_size _;
-      clean = tt;
       cause = not_telling g.S.Source.tells (λ t. c.if-length-self.true (c.length.ensures.told t ∙ (c.requires.told t).0.long_is));
     }
 
@@ -122,16 +111,12 @@ returns-then-self-from g c =
     let s = c.close_step-then-self-from.ensures in
     let lt : c.args.from.chunk < self.header.total_chunks = omega (arith, c.if-from-self.false, c.requires.within.chunk) in
     record {
-      same = refl;
-      content = λ tells. refl;
-      frame = refl;
+      reads = reads_none _ g.S.Source _;
       told = λ tells. tt;
       found = tt;
       asked = tt;
       costs = nothing_read _ _ _ _ _ s.turns s.steps s.greatest;
       most = no_more_than _ _ _;
-      faults = own_size _;
-      clean = tt;
       cause = not_telling g.S.Source.tells (λ t.
           let x = g.S.Source.content c.args.source.now in
           let o = (c.requires.told t).0 in
@@ -145,17 +130,13 @@ returns-in-Some g c =
     let h = c.load-head.ensures in
     let s = c.close_step-in-Some.ensures in
     record {
-      same = refl;
-      content = h.content;
-      frame = h.frame;
+      reads = reads_err _ (rw c.in-Some.is at h.loads.reads);
       told = λ tells. tt;
       found = tt;
       asked = tt;
-      costs = read_some _ _ _ c.load-head.result.received _ _ _ _ (omega (arith, h.few)) h.given (omega (arith, h.calls)) (omega (arith, h.turns, s.turns)) (omega (arith, s.steps, h.steps)) (omega (arith, s.greatest, h.greatest));
-      most = omega (arith, h.given, h.few);
-      faults = h.faults;
-      clean = tt;
-      cause = rw c.in-Some.is at h.cause;
+      costs = load_costs h.loads (omega (arith, h.few)) s.turns s.steps s.greatest;
+      most = omega (arith, h.loads.given, h.few);
+      cause = rw c.in-Some.is at h.loads.cause;
     }
 
 -- it is another header
@@ -166,16 +147,12 @@ returns-in-None g c =
     let s = c.close_step-in-None.ensures in
     let lt : c.args.from.chunk < self.header.total_chunks = omega (arith, c.if-from-self.false, c.requires.within.chunk) in
     record {
-      same = refl;
-      content = h.content;
-      frame = h.frame;
+      reads = reads_then (rw c.in_default.is at h.loads.reads) (reads_none _ g.S.Source _);
       told = λ tells. tt;
       found = tt;
       asked = tt;
-      costs = read_some _ _ _ c.load-head.result.received _ _ _ _ (omega (arith, h.few)) h.given (omega (arith, h.calls)) (omega (arith, h.turns, s.turns)) (omega (arith, s.steps, h.steps)) (omega (arith, s.greatest, h.greatest));
-      most = omega (arith, h.given, h.few);
-      faults = h.faults;
-      clean = tt;
+      costs = load_costs h.loads (omega (arith, h.few)) s.turns s.steps s.greatest;
+      most = omega (arith, h.loads.given, h.few);
       cause = not_telling g.S.Source.tells (λ t.
           let x = g.S.Source.content c.args.source.now in
           let is = c.part.ensures.value ∙ if_none c.load-head.result.fault c.in_default.is (h.bytes t) in
@@ -191,17 +168,13 @@ returns-in-Some-fault g c =
     let w = c.load_word-word.ensures in
     let s = c.close_step-in-Some-chunk_here.ensures in
     record {
-      same = refl;
-      content = λ tells. w.content tells ∙ h.content tells;
-      frame = w.frame ∙ h.frame;
+      reads = reads_then (rw c.in_default.is at h.loads.reads) (reads_err _ (rw c.in-Some-fault.is at w.loads.reads));
       told = λ tells. tt;
       found = tt;
       asked = tt;
-      costs = read_some _ _ _ (c.load-head.result.received + c.load_word-word.result.received) _ _ _ _ (omega (arith, h.few, w.few)) (omega (arith, h.given, w.given)) (omega (arith, h.calls, w.calls)) (omega (arith, h.turns, w.turns, s.turns)) (omega (arith, s.steps, h.steps, w.steps)) (omega (arith, s.greatest, h.greatest, w.greatest));
-      most = omega (arith, h.given, h.few, w.given, w.few);
-      faults = omega (arith, h.faults, w.faults);
-      clean = tt;
-      cause = rw (h.clean (none_is _ c.in_default.is), c.in-Some-fault.is) at w.cause;
+      costs = both_cost h.loads w.loads (omega (arith, h.few, w.few)) s.turns s.steps s.greatest;
+      most = omega (arith, h.loads.given, h.few, w.loads.given, w.few);
+      cause = let first = rw c.in_default.is at h.loads.reads in rw (first.clean, c.in-Some-fault.is) at w.loads.cause;
     }
 
 -- the part, by its cases
@@ -230,14 +203,14 @@ returns-in-None-fault g c =
     let is = c.part.ensures.value ∙ if_none c.load-head.result.fault c.in_default.is (h.bytes tells) in
     standing_as v self.length self.image (g.S.Source.content c.args.source.now) c.part.result.now from k (c.requires.told tells).0 (c.requires.told tells).1 lt is c.in-Some-chunk_here.ensures.read in
     record {
-      same = refl;
-      content = λ tells. w.content tells ∙ h.content tells;
-      frame = w.frame ∙ h.frame;
+      reads = reads_then (rw c.in_default.is at h.loads.reads) (reads_ok _ (rw c.in-None-fault.is at w.loads.reads));
       told = λ tells. record {
         part =
             let x = g.S.Source.content c.args.source.now in
             let bytes : has_word k.kind k.blocks ≡ true → word ≡ take 4 (drop (from.at + self.header.chunk_hdr_sz) x) =
-            λ q. if_none c.load_word-word.result.fault c.in-None-fault.is (w.bytes tells) q ∙ ap (λ (y : List ℕ). take 4 (drop (from.at + c.from.result) y)) (h.content tells) ∙ ap (λ (n : ℕ). take 4 (drop (from.at + n) x)) c.from.ensures in
+            λ q. if_none c.load_word-word.result.fault c.in-None-fault.is (w.bytes tells) q
+            ∙ ap (λ (y : List ℕ). take 4 (drop (from.at + c.from.result) y)) (h.loads.reads.content tells)
+            ∙ ap (λ (n : ℕ). take 4 (drop (from.at + n) x)) c.from.ensures in
             part_is v x self.image from k word c.args.cap r (stands tells) c.requires.within.used c.requires.some bytes p;
         place = next_place v (g.S.Source.content c.args.source.now) self.image from k word c.args.cap r (stands tells) p;
         here_place = here_place v (g.S.Source.content c.args.source.now) self.image from k word c.args.cap r (stands tells) (c.requires.told tells).1 p;
@@ -261,7 +234,7 @@ returns-in-None-fault g c =
         goes_on = goes_raw v self.image k word from c.args.cap r f c.requires.some p;
         at_end = λ end. absurd (not_over end);
         charged = let read = read_charged v self.image from k (c.load-head.result.received + c.load_word-word.result.received) (sparse_charge v from) (sparse_charge v r.next) r self.chunk_header f (λ t. omega (arith, h.few, w.few)) (λ t. omega (arith, h.few, w.none t)) more in
-            omega (arith, read, w.given, h.given);
+            omega (arith, read, w.loads.given, h.loads.given);
         takes = takes v self.image from k word c.args.cap r (sparse_charge v from) (sparse_charge v r.next) self.chunk_header f p more;
         copies = raw_copies v self.image from k word c.args.cap r self.chunk_header f c.requires.some p;
         onward = (here_charge v self.image from k word c.args.cap r self.chunk_header f p, here_next v self.image from k word c.args.cap r f c.requires.some p);
@@ -271,13 +244,11 @@ returns-in-None-fault g c =
         length = λ _. sym c.length.ensures.size ∙ c.if-length-self.false;
         fetched = λ _.
             let whole = if_none c.load-head.result.fault c.in_default.is h.whole in
-            omega (arith, whole, h.given, w.given);
+            omega (arith, whole, h.loads.given, w.loads.given);
         ended = λ end. absurd (not_over end);
       };
-      costs = read_some _ _ _ (c.load-head.result.received + c.load_word-word.result.received) _ _ _ _ (omega (arith, h.few, w.few)) (omega (arith, h.given, w.given)) (omega (arith, h.calls, w.calls)) (omega (arith, h.turns, w.turns, s.turns)) (omega (arith, s.steps, h.steps, w.steps)) (omega (arith, s.greatest, h.greatest, w.greatest));
-      most = omega (arith, h.given, h.few, w.given, w.few);
-      faults = omega (arith, h.faults, w.faults);
-      clean = w.clean (none_is _ c.in-None-fault.is) ∙ h.clean (none_is _ c.in_default.is);
+      costs = both_cost h.loads w.loads (omega (arith, h.few, w.few)) s.turns s.steps s.greatest;
+      most = omega (arith, h.loads.given, h.few, w.loads.given, w.few);
       cause = tt;
     }
 

@@ -1,0 +1,42 @@
+-- What a step of an opening leaves and costs.
+use Rattle.std.specs.Prelude.{◌≡◌, ℕ, ◌+◌, ◌-◌, ◌≤◌, ◌<◌, Bool, true, IsTrue, List, length, Result, OnOk, IfErr}
+use Rattle.abt_io.specs.Lent.{OneStep}
+use Rattle.abt_io.specs.declared.meter.Meter.{Meter}
+use Rattle.abt_sparse.specs.Chunk.{Header}
+use Rattle.abt_sparse.specs.declared.fault.SparseFault.{SparseFault}
+use Rattle.abt_runs.specs.declared.opening.Opening.{Opening}
+use Rattle.abt_runs.specs.declared.part.RunFault.{RunFault}
+use Rattle.abt_runs.specs.declared.stage.Progress.{Progress}
+use Rattle.abt_runs.specs.declared.stage.Stage.TheVariants.{Chunks}
+use Rattle.abt_runs.specs.Stage.{OpeningLeaves, is_more}
+use Rattle.abt_runs.specs.Verdict.{ComesTo, IsFormat, to_do}
+
+-- An opening stands before a chunk whose header is within the source, and has these bytes.
+pub record AtChunk (o : Opening) (bytes : List ℕ) : Type 0 where
+  pub here : o.stage ≡ Chunks
+  pub more : o.index < o.header.total_chunks
+  pub there : o.at + 12 ≤ o.length
+  pub whole : length bytes ≡ 12
+
+-- A header was taken: the next one is at `least` or behind it, and refused was what its own bytes say.
+pub record Takes (least : ℕ) (r : Result Progress RunFault) (o o' : Opening) : Type 0 where
+  pub leaves : OpeningLeaves r o'.stage
+  pub on : OnOk r ((is_more r ≡ true) × (least ≤ o'.at) × (to_do o' < to_do o))
+  pub own : IfErr r IsFormat
+
+-- The opening has gone on by what was read, the source having given g bytes before and g' then; what the bytes x of a
+-- source that tells come to stands.
+pub record Advances (tells : Bool) (x : List ℕ) (g g' : ℕ) (r : Result Progress RunFault) (o o' : Opening) : Type 0
+  where
+    pub keeps : IsTrue tells → (v : Result (Header × ℕ) SparseFault) → ComesTo o x v → ComesTo o' x v
+    pub leaves : OpeningLeaves r o'.stage
+    pub fewer : is_more r ≡ true → to_do o' < to_do o
+    pub charged : OnOk r (g' + o.at ≤ g + o'.at)
+    pub some : is_more r ≡ true → g + 12 ≤ g'
+
+-- What reading one header costs, one step in all: the source went from c calls and g bytes that it gave to c' and g'.
+pub record HeaderCosts (c g c' g' : ℕ) (m m' : Meter) : Type 0 where
+  pub given : (g ≤ g') × (g' ≤ g + 28)
+  pub calls : c' ≤ c + (g' - g) + 1
+  pub turns : m'.turns.number ≤ m.turns.number + (g' - g) + 1
+  pub one_step : OneStep (g' - g) m m'

@@ -1,0 +1,22 @@
+-- What loading bytes of a source into the window leaves and costs.
+use Rattle.std.specs.Prelude.{◌≡◌, ℕ, ◌+◌, ◌≤◌, ⊤, Option, Some, None, Result, Ok, Err, IfSome}
+use Rattle.abt_io.specs.Lent.{OnlyReads, NoStep}
+use Rattle.abt_io.specs.declared.device.Source as sources
+use Rattle.abt_io.specs.declared.meter.Meter.{Meter}
+use Rattle.abt_runs.specs.declared.part.RunFault.{RunFault}
+use Rattle.abt_runs.specs.Part.{RunCaused}
+
+-- A fault, or none, as an answer.
+abbrev pub answer_with : Option RunFault → Result ⊤ RunFault
+answer_with None = Ok tt
+answer_with (Some f) = Err f
+
+-- Of a source that is only read n bytes came, with at most one call and one turn more than these; no step ends.
+pub record Loads (fault : Option RunFault) (n : ℕ) {A : Type 0} (s : sources.Ghosts A) (old new : A) (m m' : Meter)
+    : Type 0 where
+  pub reads : OnlyReads (answer_with fault) s old new
+  pub given : s.given new ≡ s.given old + n
+  pub calls : s.reads new ≤ s.reads old + n + 1
+  pub turns : m'.turns.number ≤ m.turns.number + n + 1
+  pub no_step : NoStep m m'
+  pub cause : IfSome fault (λ e. RunCaused e s.tells (s.read_faults old) (s.read_faults new))
