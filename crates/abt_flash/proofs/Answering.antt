@@ -1,5 +1,5 @@
 -- What a step answers to a part that is laid, clause by clause.
-use Rattle.std.proofs.Common.{◌≡◌, ℕ, ◌+◌, ◌*◌, ◌≤◌, ◌<◌, ◌||◌, Bool, List, [], true, false, Ok, Err, refl, sym, ap, ◌∙◌, arith, nat_lt, inl, inr}
+use Rattle.std.proofs.Common.{◌≡◌, ℕ, ◌≤◌, ◌<◌, ◌||◌, Bool, List, [], true, false, Ok, Err, refl, sym, ◌∙◌, arith, nat_lt, inl, inr}
 use Rattle.std.specs.Prelude.{IsTrue, if◌then◌else◌}
 use Rattle.std.proofs.lemmas.Bool.{cases_Bool, lt-ltb}
 use Rattle.abt_io.specs.declared.device.DeviceFault.TheVariants as devices
@@ -10,19 +10,21 @@ use Rattle.abt_chunks.specs.declared.walk.Phase.{Phase}
 use Rattle.abt_chunks.specs.declared.walk.Phase.TheVariants as phases
 use Rattle.abt_chunks.specs.declared.walk.Walk.{Walk}
 use Rattle.abt_chunks.specs.Expanding.{IsGoing}
-use Rattle.abt_chunks.specs.Turns.{IsOver}
-use Rattle.abt_chunks.specs.Parts.{Leaves as PartLeaves, goes_on}
+use Rattle.abt_chunks.specs.Turns.{IsWalkOver}
+use Rattle.abt_chunks.specs.Parts.{PartLeaves, goes_on}
 use Rattle.abt_chunks.specs.ListingAhead.{Closes, Numbers, at_end}
 use Rattle.abt_flash.specs.declared.fault.FlashFault.{FlashFault}
 use Rattle.abt_flash.specs.declared.fault.FlashFault.TheVariants as fails
 use Rattle.abt_flash.specs.Fault.{PutCause, refused_syncs}
 use Rattle.abt_flash.specs.Laying.{Settles, syncs_by}
-use Rattle.abt_flash.specs.Stepping.{Leaves, Measures, OnDone, OnMore, OnShort, answer_of, is_done, need_of, passed, passed_in}
+use Rattle.abt_flash.specs.Stepping.{Leaves, Measures, OnShort, is_done, need_of, passed, passed_in}
 use Rattle.abt_flash.specs.declared.stage.Stage.TheVariants as stages
 use Rattle.abt_flash.proofs.Steps.{refused_measures}
+use Rattle.abt_chunks.specs.Expanding.{OnMoreExpanding, OnDone, answer_by}
+use Rattle.abt_flash.specs.Fault.{fault_of_sparse}
 
 -- where the answer is more, the part goes on
-pub on_more : (q : Part) (P : Type 0) → (IsTrue (goes_on q) → P) → OnMore (answer_of q) P
+pub on_more : (q : Part) (P : Type 0) → (IsTrue (goes_on q) → P) → OnMoreExpanding (answer_by fault_of_sparse q) P
 on_more (parts.Raw n) P h = h refl
 on_more (parts.Words word n) P h = h refl
 on_more (parts.Skip n) P h = h refl
@@ -31,7 +33,7 @@ on_more parts.End P h = tt
 on_more (parts.Fault f) P h = tt
 
 -- no part says that the partition is too small
-pub never_short : (q : Part) (P : Type 0) → OnShort (answer_of q) P
+pub never_short : (q : Part) (P : Type 0) → OnShort (answer_by fault_of_sparse q) P
 never_short (parts.Raw n) P = tt
 never_short (parts.Words word n) P = tt
 never_short (parts.Skip n) P = tt
@@ -41,7 +43,7 @@ never_short (parts.Fault (faults.Read d)) P = tt
 never_short (parts.Fault (faults.Write d)) P = tt
 never_short (parts.Fault f) P = tt
 
-pub answer_leaves : (q : Part) (p : Phase) → PartLeaves q p → Leaves (answer_of q) p
+pub answer_leaves : (q : Part) (p : Phase) → PartLeaves q p → Leaves (answer_by fault_of_sparse q) p
 answer_leaves (parts.Raw n) p h = h
 answer_leaves (parts.Words word n) p h = h
 answer_leaves (parts.Skip n) p h = h
@@ -64,7 +66,7 @@ or_true true = refl
 or_true false = refl
 
 -- a chunk is begun only behind the header
-begins_in : (p : Phase) (s s' : Walk) (r : ℕ) → s'.phase ≡ phases.Body → Numbers p s s' r → (IsOver p → s'.phase ≡ p) → 0 < s'.index → passed_in p s ≡ true
+begins_in : (p : Phase) (s s' : Walk) (r : ℕ) → s'.phase ≡ phases.Body → Numbers p s s' r → (IsWalkOver p → s'.phase ≡ p) → 0 < s'.index → passed_in p s ≡ true
 begins_in phases.Header s s' r body n over some = absurd (omega (arith, n, some))
 begins_in phases.Body s s' r body n over some = elim (cases_Bool (at_end s)) [
   | inl t ↦ rw t (or_true (nat_lt 0 s.index))
@@ -76,7 +78,7 @@ begins_in phases.Body s s' r body n over some = elim (cases_Bool (at_end s)) [
 begins_in phases.Done s s' r body n over some = absurd (let z : phases.Body ≡ phases.Done = sym body ∙ over tt in cc)
 begins_in (phases.Failed f) s s' r body n over some = absurd (let z : phases.Body ≡ phases.Failed f = sym body ∙ over tt in cc)
 
-pub begins_of : (q : Part) (s s' : Walk) (r : ℕ) → PartLeaves q s'.phase → (IsTrue (goes_on q) → Numbers s.phase s s' r) → (IsOver s.phase → s'.phase ≡ s.phase) → OnMore (answer_of q) (0 < s'.index → passed s ≡ true)
+pub begins_of : (q : Part) (s s' : Walk) (r : ℕ) → PartLeaves q s'.phase → (IsTrue (goes_on q) → Numbers s.phase s s' r) → (IsWalkOver s.phase → s'.phase ≡ s.phase) → OnMoreExpanding (answer_by fault_of_sparse q) (0 < s'.index → passed s ≡ true)
 begins_of q s s' r leaves numbers over = on_more q _ (λ goes. begins_in s.phase s s' r (goes_body q s'.phase goes leaves) (numbers goes) over)
 
 pub faults_rise : (f : FlashFault) (p p' : ℕ) → PutCause {X = Unit {0}} (Err f) p p' → p ≤ p'
@@ -91,7 +93,7 @@ refused_short (fails.Sync d) P p p' h = tt
 refused_short f P p p' h = absurd h
 
 -- a partition that is not too small, and at the end of the image the header has been passed
-pub answer_measures : (q : Part) (s : Walk) (size : ℕ) → IsGoing s.phase → Closes q s.phase s → (passed s ≡ true → need_of s ≤ size) → Measures (answer_of q) s size
+pub answer_measures : (q : Part) (s : Walk) (size : ℕ) → IsGoing s.phase → Closes q s.phase s → (passed s ≡ true → need_of s ≤ size) → Measures (answer_by fault_of_sparse q) s size
 answer_measures (parts.Raw n) s size going closes all = all
 answer_measures (parts.Words word n) s size going closes all = all
 answer_measures (parts.Skip n) s size going closes all = all
@@ -102,7 +104,7 @@ answer_measures (parts.Fault (faults.Write d)) s size going closes all = all
 answer_measures (parts.Fault f) s size going closes all = all
 
 -- the sync of the end, which has succeeded
-pub answer_done : (q : Part) → syncs_by q (Ok tt) ≡ (if is_done stages.Going (answer_of q) then 1 else 0)
+pub answer_done : (q : Part) → syncs_by q (Ok tt) ≡ (if is_done stages.Going (answer_by fault_of_sparse q) then 1 else 0)
 answer_done (parts.Raw n) = refl
 answer_done (parts.Words word n) = refl
 answer_done (parts.Skip n) = refl
@@ -118,7 +120,7 @@ refused_none parts.Nothing f = refl
 refused_none parts.End f = refl
 refused_none (parts.Fault e) f = refl
 
-pub answer_refused : (q : Part) → refused_syncs (answer_of q) ≡ 0
+pub answer_refused : (q : Part) → refused_syncs (answer_by fault_of_sparse q) ≡ 0
 answer_refused (parts.Raw n) = refl
 answer_refused (parts.Words word n) = refl
 answer_refused (parts.Skip n) = refl
@@ -128,7 +130,7 @@ answer_refused (parts.Fault (faults.Read d)) = refl
 answer_refused (parts.Fault (faults.Write d)) = refl
 answer_refused (parts.Fault f) = refl
 
-pub answer_settles : (q : Part) (pending : List (ℕ × ℕ)) → Settles q pending → OnDone (answer_of q) (pending ≡ [])
+pub answer_settles : (q : Part) (pending : List (ℕ × ℕ)) → Settles q pending → OnDone (answer_by fault_of_sparse q) (pending ≡ [])
 answer_settles (parts.Raw n) pending h = tt
 answer_settles (parts.Words word n) pending h = tt
 answer_settles (parts.Skip n) pending h = tt

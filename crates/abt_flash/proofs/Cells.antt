@@ -11,7 +11,8 @@ use Rattle.abt_sparse.proofs.Lay.{nones, over-nones, over_behind}
 use Rattle.abt_io.proofs.Words.{length_words}
 use Rattle.abt_chunks.specs.Ahead.{somes, gaps}
 use Rattle.abt_pieces.specs.Contents.{written_in}
-use Rattle.abt_flash.specs.Laying.{from_place, writes, written_by}
+use Rattle.abt_flash.specs.Laying.{writes}
+use Rattle.abt_chunks.specs.Places.{from_place, said_by}
 
 -- ---- what is put at a place
 
@@ -88,26 +89,26 @@ unwritten_behind (c ∷ cs) ds (suc i) e = unwritten_behind cs ds i e
 
 -- ---- how many
 
-pub written_by-append : (cs ds : List (Option ℕ)) → written_by (cs ++ ds) ≡ written_by cs + written_by ds
+pub written_by-append : (cs ds : List (Option ℕ)) → said_by (cs ++ ds) ≡ said_by cs + said_by ds
 written_by-append [] ds = omega arith
 written_by-append (None ∷ cs) ds = written_by-append cs ds
 written_by-append (Some x ∷ cs) ds = omega (arith, written_by-append cs ds)
 
-pub written_somes : (bytes : List ℕ) → written_by (somes bytes) ≡ length bytes
+pub written_somes : (bytes : List ℕ) → said_by (somes bytes) ≡ length bytes
 written_somes [] = refl
 written_somes (x ∷ bytes) = omega (arith, written_somes bytes)
 
-pub written_nones : (n : ℕ) → written_by (nones n) ≡ 0
+pub written_nones : (n : ℕ) → said_by (nones n) ≡ 0
 written_nones zero = refl
 written_nones (suc n) = written_nones n
 
-written_block : (b : ℕ) (x : Block) → b % 4 ≡ 0 → IsBlock b x → written_by (cells_of b (block_bytes b x)) ≡ b * written_in (x ∷ [])
+written_block : (b : ℕ) (x : Block) → b % 4 ≡ 0 → IsBlock b x → said_by (cells_of b (block_bytes b x)) ≡ b * written_in (x ∷ [])
 written_block b (Raw bytes) four h = written_somes bytes ∙ omega (arith, h)
 written_block b (Fill word) four h = let long = length_words (b / 4) word h in written_somes (concat (replicate (b / 4) word)) ∙ omega (arith, long)
 written_block b Skip four h = written_nones b ∙ omega arith
 
 -- of blocks: each raw and fill one has its b bytes
-pub written_cells : (b : ℕ) (l : List Block) → b % 4 ≡ 0 → AreBlocks b l → written_by (cells b l) ≡ b * written_in l
+pub written_cells : (b : ℕ) (l : List Block) → b % 4 ≡ 0 → AreBlocks b l → said_by (cells b l) ≡ b * written_in l
 written_cells b [] four h = omega arith
 written_cells b (x ∷ l) four h =
     let sum : b * written_in (x ∷ l) ≡ b * written_in (x ∷ []) + b * written_in l = omega arith in

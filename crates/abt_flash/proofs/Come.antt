@@ -35,20 +35,21 @@ use Rattle.abt_flash.specs.declared.fault.FlashFault.TheVariants as fails
 use Rattle.abt_flash.specs.declared.stage.Flashed.{Flashed}
 use Rattle.abt_flash.specs.declared.stage.Stage.{Stage}
 use Rattle.abt_flash.specs.declared.stage.Stage.TheVariants as stages
-use Rattle.abt_flash.specs.Laying.{During, from_place, writes, written_by}
-use Rattle.abt_flash.specs.Stepping.{Goes, Heads, IsFresh, IsFresh_in, Laid, Leaves, Measures, OnShort, Unless, UnlessDevice, need_of, passed, passed_in}
-use Rattle.abt_flash.specs.Flashing.{Flashes, Holds, Refused, Whole}
+use Rattle.abt_flash.specs.Laying.{During, writes}
+use Rattle.abt_flash.specs.Stepping.{Goes, Heads, IsFresh, IsFresh_in, Laid, Leaves, Measures, OnShort, UnlessFlashing, UnlessFlashingDevice, need_of, passed, passed_in}
+use Rattle.abt_flash.specs.Flashing.{Flashes, Holds, RefusedFlash, WholeFlash}
 use Rattle.abt_flash.proofs.Cells.{over_more, unwritten_behind, unwritten_front, written_by-append, written_cells, written_le_blocks}
 use Rattle.abt_flash.proofs.Heads.{head_spelled, passed_head, spelled_head}
 use Rattle.abt_flash.proofs.Moments.{during_then, during_within, unsynced_during, unsynced_within}
+use Rattle.abt_chunks.specs.Places.{from_place, said_by}
 
 -- After k bytes of x these cells have been laid, and the walk stands at s.
 pub record Come (tells : Bool) (s : Walk) (k : ℕ) (x : List ℕ) (size : ℕ) (past0 past : Past) (p0 p : List ℕ) (taken0 taken laid : ℕ) : Type 0 where
   pub cells : List (Option ℕ)
   pub told : (t : List ℕ) → seen (outcome (take k x ++ t)) ≡ before cells (ahead s t)
   pub placed : place_of s ≡ length cells
-  pub counted : taken ≡ taken0 + written_by cells
-  pub noted : laid ≡ min (written_by cells) (2 ^ 64 - 1)
+  pub counted : taken ≡ taken0 + said_by cells
+  pub noted : laid ≡ min (said_by cells) (2 ^ 64 - 1)
   pub content : IsTrue tells → p ≡ over p0 cells
   pub kept : IsTrue tells → Keeps (writes cells) (moment_of past0 p0) (moment_of past p)
   pub moments : IsTrue tells → EachSince past0.moments past.moments (KeepsUnsynced (writes cells) (moment_of past0 p0))
@@ -77,12 +78,12 @@ come_first tells s k x size past p taken laid first none fine = record {
   fits = λ body some h e. absurd (let q : phases.Header ≡ phases.Body = sym first ∙ body in cc);
 }
 
-unless_fault : (f : FlashFault) (P Q : Type 0) → (P → Q) → UnlessDevice f P → UnlessDevice f Q
+unless_fault : (f : FlashFault) (P Q : Type 0) → (P → Q) → UnlessFlashingDevice f P → UnlessFlashingDevice f Q
 unless_fault (fails.Read d) P Q go h = tt
 unless_fault (fails.Write d) P Q go h = tt
 unless_fault f P Q go h = go h
 
-pub unless_map : {X : Type 0} (r : Result X FlashFault) (P Q : Type 0) → (P → Q) → Unless r P → Unless r Q
+pub unless_map : {X : Type 0} (r : Result X FlashFault) (P Q : Type 0) → (P → Q) → UnlessFlashing r P → UnlessFlashing r Q
 unless_map (Ok v) P Q go h = go h
 unless_map (Err f) P Q go h = unless_fault f P Q go h
 
@@ -96,10 +97,10 @@ pub record Ends (tells : Bool) (r : Result Progress FlashFault) (s' : Walk) (x r
   pub more : List ℕ → List (Option ℕ)
   pub front : (t : List ℕ) → given (outcome (read ++ t)) ≡ all ++ more t
   pub whole : read ++ rest ≡ x
-  pub told : Unless r (seen (outcome x) ≡ before all (ahead s' rest))
-  pub counted : Unless r (taken' ≡ taken0 + written_by all)
-  pub noted : OnOk r (laid' ≡ min (written_by all) (2 ^ 64 - 1))
-  pub content : IsTrue tells → Unless r (p' ≡ over p0 all)
+  pub told : UnlessFlashing r (seen (outcome x) ≡ before all (ahead s' rest))
+  pub counted : UnlessFlashing r (taken' ≡ taken0 + said_by all)
+  pub noted : OnOk r (laid' ≡ min (said_by all) (2 ^ 64 - 1))
+  pub content : IsTrue tells → UnlessFlashing r (p' ≡ over p0 all)
   pub kept : IsTrue tells → Keeps (writes all) (moment_of past0 p0) (moment_of past' p')
   pub moments : IsTrue tells → EachSince past0.moments past'.moments (During (writes all) (moment_of past0 p0) (moment_of past' p'))
 
@@ -133,7 +134,7 @@ module _ (tells : Bool) (stage : Stage) (s s' : Walk) (x x' rest : List ℕ) (k 
       ap (λ (l : List ℕ). seen (outcome l)) (split_at t) ∙ i.told (take n x' ++ t)
       ∙ ap (λ (a : Ahead). before i.cells a) q ∙ sym (before-append i.cells e.cells (ahead s' t))
 
-  pub all_told : (t : List ℕ) → (IsTrue (is_err r) → t ≡ rest) → Unless r (seen (outcome (take j x ++ t)) ≡ before All (ahead s' t))
+  pub all_told : (t : List ℕ) → (IsTrue (is_err r) → t ≡ rest) → UnlessFlashing r (seen (outcome (take j x ++ t)) ≡ before All (ahead s' t))
   all_told t h = unless_map r _ _ (all_from t) (e.told t h)
 
   behind : (m : ℕ) → writes All m ≡ false → writes (from_place (place_of s) e.cells) m ≡ false
@@ -150,17 +151,17 @@ module _ (tells : Bool) (stage : Stage) (s s' : Walk) (x x' rest : List ℕ) (k 
       during_then (writes All) _ First (moment_of past p) Last past0.moments past.moments past'.moments behind (kept_before t) unsynced
       (unsynced_within (writes i.cells) (writes All) First past0.moments past.moments (unwritten_front i.cells e.cells) (i.moments t)) (e.moments t)
 
-  pub all_content : IsTrue tells → Unless r (p' ≡ over p0 All)
+  pub all_content : IsTrue tells → UnlessFlashing r (p' ≡ over p0 All)
   all_content t = unless_map r _ _ (λ q. over_more p0 p p' i.cells e.cells (place_of s) (i.content t) i.placed q) (e.content t)
 
-  pub all_counted : Unless r (taken' ≡ taken0 + written_by All)
+  pub all_counted : UnlessFlashing r (taken' ≡ taken0 + said_by All)
   all_counted = unless_map r _ _ (λ q. omega (arith, q, i.counted, written_by-append i.cells e.cells)) e.counted
 
-  on_ok : {X : Type 0} (q : Result X FlashFault) (A B C : Type 0) → (A → B → C) → Unless q A → OnOk q B → OnOk q C
+  on_ok : {X : Type 0} (q : Result X FlashFault) (A B C : Type 0) → (A → B → C) → UnlessFlashing q A → OnOk q B → OnOk q C
   on_ok (Ok v) A B C go a b = go a b
   on_ok (Err f) A B C go a b = tt
 
-  pub all_noted : (laid' : ℕ) → OnOk r (laid' ≡ min (laid + (taken' - taken)) (2 ^ 64 - 1)) → OnOk r (laid' ≡ min (written_by All) (2 ^ 64 - 1))
+  pub all_noted : (laid' : ℕ) → OnOk r (laid' ≡ min (laid + (taken' - taken)) (2 ^ 64 - 1)) → OnOk r (laid' ≡ min (said_by All) (2 ^ 64 - 1))
   all_noted laid' note = on_ok r _ _ _ (λ a b. omega (arith, a, b, i.noted, written_by-append i.cells e.cells)) e.counted note
 
   pub ends : (laid' : ℕ) → rest ≡ drop j x → OnOk r (laid' ≡ min (laid + (taken' - taken)) (2 ^ 64 - 1)) → Ends tells r s' x (take j x) rest past0 past' p0 p' taken0 taken' laid'
@@ -285,7 +286,7 @@ module _ (tells : Bool) (r : Result Progress FlashFault) (s' : Walk) (x read res
 -- ---- an image
 
 image_of : (x : List ℕ) (all : List (Option ℕ)) (rest : List ℕ) (hs ht : SparseHeader) (e : Flashed) (size taken0 taken' laid' : ℕ) (o : Outcome) → IsOutcome x o → seen o ≡ before all (record { cells = []; ending = Ok (view ht, rest) })
-    → (listing_of x).head ≡ Some (view hs) → hs.total_blks * hs.blk_sz ≤ size → taken' ≡ taken0 + written_by all → laid' ≡ min (written_by all) (2 ^ 64 - 1) → e.blocks ≡ min (laid' / ht.blk_sz) ht.total_blks → Whole e size taken0 taken' x rest
+    → (listing_of x).head ≡ Some (view hs) → hs.total_blks * hs.blk_sz ≤ size → taken' ≡ taken0 + said_by all → laid' ≡ min (said_by all) (2 ^ 64 - 1) → e.blocks ≡ min (laid' / ht.blk_sz) ht.total_blks → WholeFlash e size taken0 taken' x rest
 image_of x all rest hs ht e size taken0 taken' laid' (Image h cs left) is q known fits count note blocks =
     let b = h.blk_sz in
     let w = written_in (classed cs) in
@@ -297,7 +298,7 @@ image_of x all rest hs ht e size taken0 taken' laid' (Image h cs left) is q know
     let ok = is.front.header.fits in
     let bs = spelled_blocks x h cs left is in
     let cells_are : cells b (classed cs) ≡ all = ap (λ (a : Ahead). a.cells) q ∙ append-nil all in
-    let bytes : written_by all ≡ b * w = ap written_by (sym cells_are) ∙ written_cells b (classed cs) ok.blk_sz.1 bs.0 in
+    let bytes : said_by all ≡ b * w = ap said_by (sym cells_are) ∙ written_cells b (classed cs) ok.blk_sz.1 bs.0 in
     let few : w ≤ h.total_blks = omega (arith, written_le_blocks (classed cs), bs.1) in
     let again : min (min (b * w) (2 ^ 64 - 1) / b) h.total_blks ≡ w = counted_back b w h.total_blks ok.blk_sz.0 ok.blk_sz.2 ok.total_blks few in
     let noted : laid' ≡ min (b * w) (2 ^ 64 - 1) = note ∙ ap (λ (n : ℕ). min n (2 ^ 64 - 1)) bytes in
@@ -320,7 +321,7 @@ module _ (tells : Bool) (s s' : Walk) (x read rest : List ℕ) (past0 past' : Pa
   done_told = e.told ∙ ap (λ (a : Ahead). before e.all a) (at_done s' rest ended)
 
   -- the end of an image that fits
-  pub done_whole : (f : Flashed) (size : ℕ) → IsBytes x → (listing_of x).head ≡ Some (view s.header) → need_of s ≤ size → f.blocks ≡ min (laid' / s'.header.blk_sz) s'.header.total_blks → Whole f size taken0 taken' x rest
+  pub done_whole : (f : Flashed) (size : ℕ) → IsBytes x → (listing_of x).head ≡ Some (view s.header) → need_of s ≤ size → f.blocks ≡ min (laid' / s'.header.blk_sz) s'.header.total_blks → WholeFlash f size taken0 taken' x rest
   done_whole f size bytes known fits blocks = image_of x e.all rest s.header s'.header f size taken0 taken' laid' (outcome x) (is_so x bytes) done_told known fits e.counted e.noted blocks
 
   pub done_holds : IsTrue tells → p' ≡ flashed p0 x
@@ -330,7 +331,7 @@ module _ (tells : Bool) (s s' : Walk) (x read rest : List ℕ) (past0 past' : Pa
 
 -- ---- a fault
 
-refused_of : (f : SparseFault) (x : List ℕ) (all : List (Option ℕ)) (size : ℕ) (o : Outcome) → IsOutcome x o → seen o ≡ before all (stopping f) → ((h : Header) (y : List ℕ) → SpellsHeader x h y → h.total_blks * h.blk_sz ≤ size) → Refused f size x
+refused_of : (f : SparseFault) (x : List ℕ) (all : List (Option ℕ)) (size : ℕ) (o : Outcome) → IsOutcome x o → seen o ≡ before all (stopping f) → ((h : Header) (y : List ℕ) → SpellsHeader x h y → h.total_blks * h.blk_sz ≤ size) → RefusedFlash f size x
 refused_of f x all size (Image h cs left) is q fits = absurd (ok_err f h left (ap (λ (a : Ahead). a.ending) q))
 refused_of f x all size (Fault g cs) is q fits =
     let same : g ≡ f = err_err g f (ap (λ (a : Ahead). a.ending) q) in
@@ -394,7 +395,7 @@ module _ (tells : Bool) (s s' : Walk) (x x' read rest : List ℕ) (k size : ℕ)
   fault_flashes (fails.PartitionTooSmall need) e leaves heads measures none =
       let at = known measures.0 in
       let zero = short_none measures.0 (rw (← measures.1) measures.2) in
-      let count : written_by i.cells ≡ 0 = ap written_by zero in
+      let count : said_by i.cells ≡ 0 = ap said_by zero in
       record {
         header = view s.header;
         behind = drop s.header.file_hdr_sz x;
@@ -404,7 +405,7 @@ module _ (tells : Bool) (s s' : Walk) (x x' read rest : List ℕ) (k size : ℕ)
         none = omega (arith, none, i.counted, count);
       }
   fault_flashes (fails.Sync d) e leaves heads measures none =
-      let laid = min (written_by e.all) (2 ^ 64 - 1) in
+      let laid = min (said_by e.all) (2 ^ 64 - 1) in
       let answer : Flashed = record { blocks = min (laid / s'.header.blk_sz) s'.header.total_blks } in
       (answer, image_of x e.all rest s.header s'.header answer size taken0 taken' laid (outcome x) (is_so x bytes) (e.told ∙ ap (λ (a : Ahead). before e.all a) (at_done s' rest leaves)) (known measures.0) measures.1 e.counted refl refl)
   fault_flashes f e leaves heads measures none = tt

@@ -1,5 +1,5 @@
 -- How many bytes a delivery reads of its source.
-use Rattle.std.proofs.Common.{mul-le-mul_right, mul_comm, inl, inr, nat_lt, ltb-true, ltb-false, List, length, ◌≡◌, ℕ, ◌+◌, ◌-◌, ◌*◌, ◌≤◌, ◌<◌, subst, IfOk, Result, Ok, Err, arith, max, min, ap, sym, refl, ◌∙◌}
+use Rattle.std.proofs.Common.{mul-le-mul_right, mul_comm, inl, inr, nat_lt, ltb-true, ltb-false, List, length, ◌≡◌, ℕ, ◌+◌, ◌-◌, ◌*◌, ◌≤◌, ◌<◌, subst, IfOk, Result, Ok, Err, arith, max, ap, ◌∙◌}
 use Rattle.abt_sparse.specs.Chunk.{Header}
 use Rattle.abt_sparse.specs.Reading.{Outcome, outcome}
 use Rattle.std.proofs.lemmas.Bool.{cases_Bool}

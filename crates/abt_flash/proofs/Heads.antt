@@ -16,12 +16,13 @@ use Rattle.abt_chunks.specs.declared.walk.Walk.{Walk}
 use Rattle.abt_chunks.specs.declared.walk.Part.{Part}
 use Rattle.abt_chunks.specs.declared.walk.Part.TheVariants as parts
 use Rattle.abt_chunks.specs.Listing.{Listing, listed, listing_behind, listing_from, listing_of}
-use Rattle.abt_chunks.specs.Parts.{Leaves as PartLeaves}
+use Rattle.abt_chunks.specs.Parts.{PartLeaves}
 use Rattle.abt_chunks.specs.ListingAhead.{Lists, at_end, begun_listing, lacking, upcoming, upcoming_in, with_begun, upcoming_ended}
 use Rattle.abt_chunks.proofs.Listed.{ended_listing}
 use Rattle.abt_chunks.proofs.ListingLaws.{listing_behind_header}
 use Rattle.abt_flash.specs.Fault.{fault_of_sparse}
-use Rattle.abt_flash.specs.Stepping.{Heads, answer_of, passed, passed_in}
+use Rattle.abt_flash.specs.Stepping.{Heads, passed, passed_in}
+use Rattle.abt_chunks.specs.Expanding.{answer_by}
 
 listed_head : (h : Header) (i : ℕ) (r : ChunksRead) → (listed h i r).head ≡ Some h
 listed_head h i (Done cs rest) = refl
@@ -101,7 +102,7 @@ heads_fault (faults.Read d) s s' c t x e h = tt
 heads_fault (faults.Write d) s s' c t x e h = tt
 heads_fault f s s' c t x e h = ap (λ (l : Listing). l.head) (ap (λ (l : List ℕ). upcoming s l) (sym e) ∙ h)
 
-pub heads : (q : Part) (s s' : Walk) (c t x : List ℕ) → c ++ t ≡ x → PartLeaves q s'.phase → Lists q s s' c t → Heads (answer_of q) s s' x t
+pub heads : (q : Part) (s s' : Walk) (c t x : List ℕ) → c ++ t ≡ x → PartLeaves q s'.phase → Lists q s s' c t → Heads (answer_by fault_of_sparse q) s s' x t
 heads (parts.Raw n) s s' c t x e leaves h = on_more s s' x t leaves (ap (λ (l : List ℕ). upcoming s l) (sym e) ∙ h)
 heads (parts.Words word n) s s' c t x e leaves h = on_more s s' x t leaves (ap (λ (l : List ℕ). upcoming s l) (sym e) ∙ h)
 heads (parts.Skip n) s s' c t x e leaves h = on_more s s' x t leaves (ap (λ (l : List ℕ). upcoming s l) (sym e) ∙ h)

@@ -22,12 +22,12 @@ use Rattle.abt_pieces.specs.declared.stage.Stage.TheVariants.{Between, Done}
 use Rattle.abt_pieces.proofs.Counting.{written-append}
 use Rattle.abt_pieces.proofs.Cutting.{piece_is}
 use Rattle.abt_flash.specs.Delivering.{blocks_in_first, blocks_behind, blocks_up_to, pieces_behind}
-use Rattle.abt_flash.specs.Going.{StandsAt, frames_left, pieces_left}
+use Rattle.abt_flash.specs.Going.{IsBehindPiece, frames_left, pieces_left}
 
 -- ---- one piece more
 
 -- the segments that are left: that of the next piece, and those behind it
-pub segments_more : (limit b : ℕ) (l : List Block) (s e : ℕ) (st : Stage) → FirstPiece b l limit s e → StandsAt (length l) e st → segments_left b limit l s Between ≡ between l s e ∷ segments_left b limit l e st
+pub segments_more : (limit b : ℕ) (l : List Block) (s e : ℕ) (st : Stage) → FirstPiece b l limit s e → IsBehindPiece (length l) e st → segments_left b limit l s Between ≡ between l s e ∷ segments_left b limit l e st
 segments_more limit b l s e st h at = h.cut ∙ ap (λ (x : List (List Block)). between l s e ∷ x) (left (drop e l) refl)
   where
     left : (rest : List Block) → drop e l ≡ rest → tail_parts (λ part. nat_le (weight b part) limit) rest ≡ segments_left b limit l e st
@@ -46,7 +46,7 @@ pub joined_left : (limit b : ℕ) (l : List Block) (e : ℕ) (st : Stage) → (s
 joined_left limit b l e st (inl d) = rw d (joined-greedy (λ part. nat_le (weight b part) limit) (drop e l) [])
 joined_left limit b l e st (inr d) = rw (d.0) (sym (nothing_behind e l d.1))
 
-pub stands_left : (n e : ℕ) (st : Stage) → StandsAt n e st → (st ≡ Between) ⊎ ((st ≡ Done) × (n ≤ e))
+pub stands_left : (n e : ℕ) (st : Stage) → IsBehindPiece n e st → (st ≡ Between) ⊎ ((st ≡ Done) × (n ≤ e))
 stands_left n e st at = elim (cases_Bool (nat_lt e n)) [
   | inl t ↦ inl (at.between (ltb-true e n t))
   | inr t ↦ let le = ltb-false e n t in inr (at.done le, le)
@@ -55,7 +55,7 @@ stands_left n e st at = elim (cases_Bool (nat_lt e n)) [
 between_long : (l : List Block) (s e : ℕ) → s ≤ e → e ≤ length l → length (between l s e) ≡ e - s
 between_long l s e order within = length-take-le (e - s) (drop s l) (omega (arith, within, length-drop s l))
 
-pub frames_more : (limit b : ℕ) (l : List Block) (s e : ℕ) (st : Stage) → FirstPiece b l limit s e → StandsAt (length l) e st → frames_left limit b l s Between ≡ frame l s e ∷ frames_left limit b l e st
+pub frames_more : (limit b : ℕ) (l : List Block) (s e : ℕ) (st : Stage) → FirstPiece b l limit s e → IsBehindPiece (length l) e st → frames_left limit b l s Between ≡ frame l s e ∷ frames_left limit b l e st
 frames_more limit b l s e st h at =
     let rest = segments_left b limit l e st in
     let behind : length (joined rest) ≡ length l - e = ap length (joined_left limit b l e st (stands_left (length l) e st at)) ∙ length-drop e l in
@@ -64,7 +64,7 @@ frames_more limit b l s e st h at =
     ∙ ap (λ (n : ℕ). framed s (between l s e) n ∷ frames (s + length (between l s e)) rest) behind
     ∙ ap (λ (n : ℕ). frame l s e ∷ frames n rest) end
 
-pub pieces_more : (limit b : ℕ) (l : List Block) (s e : ℕ) (st : Stage) → FirstPiece b l limit s e → StandsAt (length l) e st → pieces_left limit b l s Between ≡ piece_at b limit l s ∷ pieces_left limit b l e st
+pub pieces_more : (limit b : ℕ) (l : List Block) (s e : ℕ) (st : Stage) → FirstPiece b l limit s e → IsBehindPiece (length l) e st → pieces_left limit b l s Between ≡ piece_at b limit l s ∷ pieces_left limit b l e st
 pieces_more limit b l s e st h at =
     ap (map (piece b)) (frames_more limit b l s e st h at)
     ∙ ap (λ (x : List ℕ). x ∷ pieces_left limit b l e st) (piece_is b limit l s e h)

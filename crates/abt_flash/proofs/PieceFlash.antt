@@ -21,12 +21,12 @@ use Rattle.abt_pieces.specs.Plan.{between, FirstPiece}
 use Rattle.abt_pieces.specs.declared.fault.PieceFault.{PieceFault}
 use Rattle.abt_pieces.specs.declared.fault.PieceFault.TheVariants as cuts
 use Rattle.abt_io.specs.declared.device.DeviceFault.TheVariants as devices
-use Rattle.abt_pieces.specs.Fault.{HasCause as CutCause}
-use Rattle.abt_pieces.specs.Image.{IsImage}
+use Rattle.abt_pieces.specs.Fault.{CutCause}
+use Rattle.abt_pieces.specs.Image.{IsPlainImage}
 use Rattle.abt_flash.specs.declared.fault.Cause.{Cause}
 use Rattle.abt_flash.specs.declared.fault.Cause.TheVariants as causes
-use Rattle.abt_flash.specs.Fault.{HasCause, refused_syncs}
-use Rattle.abt_flash.specs.Flashing.{Whole, Refused, Short, Flashes, Holds}
+use Rattle.abt_flash.specs.Fault.{FlashCause, refused_syncs}
+use Rattle.abt_flash.specs.Flashing.{WholeFlash, RefusedFlash, Short, Flashes, Holds}
 use Rattle.abt_flash.specs.Devices.{Counts}
 use Rattle.abt_flash.specs.Delivering.{OnFlashed, StopsFor, unsynced_by}
 use Rattle.abt_flash.specs.Causes.{cutting_cause, flashing_cause}
@@ -98,7 +98,7 @@ pub record AllFlashed (b had has : ℕ) (f : List Block) (rest : List ℕ) : Typ
   pub none : rest ≡ []
   pub taken : has ≡ had + b * written_in f
 
-pub all_flashed : (b n : ℕ) (f : List Block) (y rest : List ℕ) (e : Flashed) (size had has : ℕ) → Reads b n f y → Whole e size had has y rest → AllFlashed b had has f rest
+pub all_flashed : (b n : ℕ) (f : List Block) (y rest : List ℕ) (e : Flashed) (size had has : ℕ) → Reads b n f y → WholeFlash e size had has y rest → AllFlashed b had has f rest
 all_flashed b n f y rest e size had has r w =
     let is : Image w.header w.chunks rest ≡ Image r.header r.chunks [] = sym (spelled_is y w.header w.chunks rest w.spelled) ∙ spelled_is y r.header r.chunks [] r.spelled in
     let blk : w.header.blk_sz ≡ b = ap (λ (h : Header). h.blk_sz) (same_header is) ∙ r.size in
@@ -111,7 +111,7 @@ IsDevices (Sparse f) = ⊥
 IsDevices (PartitionTooSmall n) = ⊥
 IsDevices e = Unit {0}
 
-never_faulty : (b n : ℕ) (f : List Block) (y : List ℕ) (e : SparseFault) (size : ℕ) → Reads b n f y → Refused e size y → ⊥
+never_faulty : (b n : ℕ) (f : List Block) (y : List ℕ) (e : SparseFault) (size : ℕ) → Reads b n f y → RefusedFlash e size y → ⊥
 never_faulty b n f y e size r h = let is : Image r.header r.chunks [] ≡ Fault e h.given = sym (spelled_is y r.header r.chunks [] r.spelled) ∙ failed_is y e h.given h.fails in cc
 
 ok_header : {h h' : Header} → (let r : Result Header SparseFault = Ok h in r) ≡ Ok h' → h ≡ h'
@@ -138,7 +138,7 @@ only_devices b n f y rest (LimitTooSmall k) size had has r room h = tt
 only_devices b n f y rest (Stopped k c) size had has r room h = tt
 only_devices b n f y rest (NoSuchPiece k) size had has r room h = tt
 
-pub flash_stops : (e : FlashFault) (source spool : Bool) (a z : Counts) (g : ℕ) → a.spool_faults ≤ g → HasCause e g z.spool_faults a.put_faults z.put_faults → (IsTrue spool → IsDevices e) → StopsFor (flashing_cause e) source spool a z
+pub flash_stops : (e : FlashFault) (source spool : Bool) (a z : Counts) (g : ℕ) → a.spool_faults ≤ g → FlashCause e g z.spool_faults a.put_faults z.put_faults → (IsTrue spool → IsDevices e) → StopsFor (flashing_cause e) source spool a z
 flash_stops (Sparse f) source spool a z g le h only = only
 flash_stops (PartitionTooSmall n) source spool a z g le h only = only
 flash_stops (Read d) source spool a z g le h only = let x = h.0 in (omega (arith, x, le), h.1)
@@ -162,7 +162,7 @@ cut_stops (cuts.BadBlock n) source spool a z w w' h more full = absurd h
 cut_stops (cuts.LimitTooSmall n) source spool a z w w' h more full = absurd h
 
 -- an image of n blocks, whatever these are
-pub image_reads : (b n : ℕ) (y : List ℕ) (i : IsImage b n y) → Reads b n (classed i.chunks) y
+pub image_reads : (b n : ℕ) (y : List ℕ) (i : IsPlainImage b n y) → Reads b n (classed i.chunks) y
 image_reads b n y i = record { header = plain_header b n (length i.chunks); chunks = i.chunks; spelled = i.spelled; size = refl; count = refl; blocks = refl }
 
 -- a piece that was refused is flashed whole where its sync was
@@ -180,7 +180,7 @@ laid_stops (Stopped n c) p p' x cs h same = tt
 laid_stops (NoSuchPiece n) p p' x cs h same = tt
 
 -- and only then a sync was refused
-pub unsynced_stops : (e : FlashFault) (r r' p p' : ℕ) → HasCause e r r' p p' → unsynced_by (Err (flashing_cause e)) ≡ refused_syncs {X = Flashed} (Err e)
+pub unsynced_stops : (e : FlashFault) (r r' p p' : ℕ) → FlashCause e r r' p p' → unsynced_by (Err (flashing_cause e)) ≡ refused_syncs {X = Flashed} (Err e)
 unsynced_stops (Sync d) r r' p p' h = refl
 unsynced_stops (Sparse f) r r' p p' h = refl
 unsynced_stops (PartitionTooSmall n) r r' p p' h = refl

@@ -9,11 +9,13 @@ use Rattle.abt_chunks.specs.declared.walk.Walk.{Walk}
 use Rattle.abt_chunks.specs.declared.walk.Part.{Part}
 use Rattle.abt_chunks.specs.declared.walk.Part.TheVariants as parts
 use Rattle.abt_chunks.specs.Expanding.{IsGoing}
-use Rattle.abt_chunks.specs.Parts.{Moved, Within, given_by, goes_on, Leaves as PartLeaves}
+use Rattle.abt_chunks.specs.Parts.{Moved, Within, given_by, goes_on, PartLeaves}
 use Rattle.abt_chunks.specs.Places.{place_in, place_of, upto_in, upto_of}
 use Rattle.abt_chunks.specs.ListingAhead.{Numbers, at_end}
 use Rattle.abt_flash.specs.Laying.{IsStill, put_by}
-use Rattle.abt_flash.specs.Stepping.{IsFresh, IsFresh_in, OnMore, answer_of, is_short_of, need_of, passed_in}
+use Rattle.abt_flash.specs.Stepping.{IsFresh, IsFresh_in, is_short_of, need_of, passed_in}
+use Rattle.abt_chunks.specs.Expanding.{OnMoreExpanding, answer_by}
+use Rattle.abt_flash.specs.Fault.{fault_of_sparse}
 
 -- ---- room
 
@@ -76,7 +78,7 @@ fresh_index s' body f = let P : Phase → Type 0 = λ ph. IsFresh_in ph s' in su
 
 -- so the partition is not called before the first chunk is begun
 pub fresh_goes : (q : Part) (s s' : Walk) (r m : ℕ) (A : Type 0) → IsGoing s.phase → (IsTrue (goes_on q) → Numbers s.phase s s' r) → PartLeaves q s'.phase → Moved q r → Within q m m → place_of s + given_by q ≤ upto_of s → (IsStill q → A)
-    → OnMore (answer_of q) (IsFresh s' → IsFresh s × A)
+    → OnMoreExpanding (answer_by fault_of_sparse q) (IsFresh s' → IsFresh s × A)
 fresh_goes (parts.Raw n) s s' r m A going numbers leaves moved within inside still = λ f. let b = fresh_before s.phase s s' r n going (numbers refl) inside (fresh_index s' leaves f) in absurd (omega (arith, b.1, moved.1))
 fresh_goes (parts.Words word n) s s' r m A going numbers leaves moved within inside still = λ f. let b = fresh_before s.phase s s' r (4 * n) going (numbers refl) inside (fresh_index s' leaves f) in absurd (omega (arith, b.1, within.0))
 fresh_goes (parts.Skip n) s s' r m A going numbers leaves moved within inside still = λ f. let b = fresh_before s.phase s s' r (4 * n) going (numbers refl) inside (fresh_index s' leaves f) in (b.0, still tt)

@@ -1,8 +1,8 @@
 -- What a call promises where it is refused before its first piece, and over the same image in other words.
-use Rattle.std.proofs.Common.{false, ◌≡◌, ℕ, ◌+◌, ◌-◌, ◌*◌, ◌≤◌, ◌<◌, ◌++◌, Bool, List, [], length, Result, Ok, Err, refl, sym, ap, subst, ◌∙◌, arith}
+use Rattle.std.proofs.Common.{false, ◌≡◌, ℕ, ◌+◌, ◌-◌, ◌*◌, ◌≤◌, ◌<◌, ◌++◌, Bool, List, [], length, Result, Ok, Err, refl, ap, subst, ◌∙◌, arith}
 use Rattle.std.specs.Prelude.{IsTrue, IfErr, IfOk, OnOk}
 use Rattle.std.specs.List.{concat}
-use Rattle.abt_io.specs.Moment.{MayLeave, Past, moment_of}
+use Rattle.abt_io.specs.Moment.{Past, moment_of}
 use Rattle.abt_sparse.specs.Block.{Block, cells, over}
 use Rattle.abt_sparse.specs.Mending.{Mendable}
 use Rattle.abt_pieces.specs.Contents.{written_in}
@@ -15,7 +15,7 @@ use Rattle.abt_flash.specs.Fault.{refused_syncs}
 use Rattle.abt_flash.specs.Devices.{Counts, PartitionState, SpoolState}
 use Rattle.abt_io.specs.declared.meter.Meter.{Meter}
 use Rattle.abt_flash.proofs.Ways.{ends_none, no_part_none}
-use Rattle.abt_flash.specs.Delivering.{AlwaysMendable, Begins, Costs, CountsTo, EndsWhole, GaveNoPart, GivesPieces, HasBegun, ImageBlocks, IsLeast, LaysBlocks, LeavesMendable, MendsBlocks, OnEarly, OnStop, OnUnsyncedPiece, Refused, Room, StaysMendable, begun, blocks_behind, blocks_in_first, blocks_up_to, finished, pieces_behind, pieces_in, with_cuts}
+use Rattle.abt_flash.specs.Delivering.{AlwaysMendable, Begins, DeliveryCosts, CountsTo, EndsWhole, GaveNoPart, GivesPieces, HasBegun, ImageBlocks, IsLeast, LaysBlocks, LeavesMendable, MendsBlocks, OnEarly, OnStop, OnUnsyncedPiece, RefusedDelivery, Room, StaysMendable, begun, blocks_behind, blocks_in_first, blocks_up_to, finished, pieces_behind, pieces_in, with_cuts}
 use Rattle.abt_flash.specs.Going.{PlanRefused, StopsIn}
 use Rattle.abt_flash.specs.declared.answer.Delivered.{Delivered}
 use Rattle.abt_flash.specs.declared.fault.Cause.{Cause}
@@ -173,7 +173,7 @@ pub mendable_none : (i : ImageBlocks) (limit : ℕ) (s : PartitionState) → s.p
 mendable_none i limit s none = from_fresh i limit s s none (stays_none limit i.size i.blocks 0 s.past s.content)
 
 -- an image that has room is refused as planning was
-pub plan_refuses : (e : FlashFault) (limit b n size made : ℕ) (source spool : Bool) (a z : Counts) → Room limit b n size → PlanRefused e made source a.read_faults z.read_faults → Refused e limit b n size made source spool a z
+pub plan_refuses : (e : FlashFault) (limit b n size made : ℕ) (source spool : Bool) (a z : Counts) → Room limit b n size → PlanRefused e made source a.read_faults z.read_faults → RefusedDelivery e limit b n size made source spool a z
 plan_refuses (Read d) limit b n size made source spool a z room h = (room, h.0, h.1)
 plan_refuses SourceChanged limit b n size made source spool a z room h = (room, h)
 plan_refuses (NoSuchPiece k) limit b n size made source spool a z room h = (room, h.0, h.1)
@@ -187,7 +187,7 @@ plan_refuses (Sync d) limit b n size made source spool a z room h = absurd h
 plan_refuses (Stopped k c) limit b n size made source spool a z room h = absurd h
 
 -- and where its cutter was not opened, for its limit
-pub opening_refuses : (f : PieceFault) (limit b n size made : ℕ) (source spool : Bool) (a z : Counts) → f ≡ cuts.LimitTooSmall (64 + b) → limit < 64 + b → Refused (opening_fault f) limit b n size made source spool a z
+pub opening_refuses : (f : PieceFault) (limit b n size made : ℕ) (source spool : Bool) (a z : Counts) → f ≡ cuts.LimitTooSmall (64 + b) → limit < 64 + b → RefusedDelivery (opening_fault f) limit b n size made source spool a z
 opening_refuses f limit b n size made source spool a z is small = rw is (refl, small)
 
 pub opening_counts : (f : PieceFault) (made k : ℕ) → CountsTo (Err (opening_fault f)) made k
@@ -281,7 +281,7 @@ rest_more made (Err (PartitionTooSmall n)) l s a z h = absurd h
 rest_more made (Err (Sync d)) l s a z h = absurd h
 
 -- the public calls promise less than the private one
-pub costs_more : (source : Bool) (i : ImageBlocks) (limit words made : ℕ) (r : Result Delivered FlashFault) (a z : Counts) (m m' : Meter) → Costs source i limit words 400 made r a z m m' → Costs source i limit words 512 made r a z m m'
+pub costs_more : (source : Bool) (i : ImageBlocks) (limit words made : ℕ) (r : Result Delivered FlashFault) (a z : Counts) (m m' : Meter) → DeliveryCosts source i limit words 400 made r a z m m' → DeliveryCosts source i limit words 512 made r a z m m'
 costs_more source i limit words made r a z m m' h =
     let calls = h.calls in
     let turns = h.turns in

@@ -7,9 +7,9 @@ use Rattle.abt_sparse.specs.Block.{classify}
 use Rattle.abt_runs.specs.Sparse.{blocks_in}
 use Rattle.abt_flash.specs.Raw.{FillsBlocks, IsAllowed, IsFilled, RawRefused}
 use Rattle.abt_flash.specs.Devices.{Counts}
-use Rattle.abt_flash.specs.Delivering.{Refused, Room, StopsFor}
+use Rattle.abt_flash.specs.Delivering.{RefusedDelivery, Room, StopsFor}
 use Rattle.abt_flash.specs.Going.{StopsIn}
-use Rattle.abt_flash.specs.Sparse.{Fits, IsImage, SparseRefused, size_in}
+use Rattle.abt_flash.specs.Sparse.{Fits, IsImageOutcome, SparseRefused, size_in}
 use Rattle.abt_flash.specs.declared.fault.Cause.{Cause}
 use Rattle.abt_flash.specs.declared.fault.Cause.TheVariants as causes
 use Rattle.abt_flash.specs.declared.answer.Delivered.{Delivered}
@@ -18,7 +18,7 @@ use Rattle.abt_flash.specs.declared.fault.FlashFault.TheVariants.{Sparse, Read, 
 
 -- an opened image is the one that is read
 pub record Opens (x : List ℕ) (b n : ℕ) : Type 0 where
-  pub image : IsImage (outcome x)
+  pub image : IsImageOutcome (outcome x)
   pub size : size_in (outcome x) ≡ b
   pub count : length (blocks_in (outcome x)) ≡ n
 
@@ -42,7 +42,7 @@ stops_since (causes.SpoolRead d) source spool a b z le h = let x = le.spool in l
 stops_since causes.SpoolChanged source spool a b z le h = h
 
 -- an image that has room is refused behind its first pieces by a stop alone
-pub rest_refuses : (r : Result Delivered FlashFault) (limit b n size made : ℕ) (source spool : Bool) (a c z : Counts) → NoFewer a c → Room limit b n size → IfErr r (λ e. StopsIn e made source spool c z) → IfErr r (λ e. Refused e limit b n size made source spool a z)
+pub rest_refuses : (r : Result Delivered FlashFault) (limit b n size made : ℕ) (source spool : Bool) (a c z : Counts) → NoFewer a c → Room limit b n size → IfErr r (λ e. StopsIn e made source spool c z) → IfErr r (λ e. RefusedDelivery e limit b n size made source spool a z)
 rest_refuses (Ok d) limit b n size made source spool a c z le room h = tt
 rest_refuses (Err (Stopped j s)) limit b n size made source spool a c z le room h = (room, h.0, stops_since s source spool a c z le h.1)
 rest_refuses (Err (NoSuchPiece j)) limit b n size made source spool a c z le room h = absurd h
@@ -56,7 +56,7 @@ rest_refuses (Err (LimitTooSmall k)) limit b n size made source spool a c z le r
 rest_refuses (Err (PartitionTooSmall k)) limit b n size made source spool a c z le room h = absurd h
 rest_refuses (Err (Sync d)) limit b n size made source spool a c z le room h = absurd h
 
-pub sparse_fault : (e : FlashFault) (x : List ℕ) (limit b n size made : ℕ) (source spool : Bool) (a c z : Counts) → NoFewer a c → (IsTrue source → Opens x b n) → Refused e limit b n size made source spool c z → SparseRefused e x limit size made source spool a z
+pub sparse_fault : (e : FlashFault) (x : List ℕ) (limit b n size made : ℕ) (source spool : Bool) (a c z : Counts) → NoFewer a c → (IsTrue source → Opens x b n) → RefusedDelivery e limit b n size made source spool c z → SparseRefused e x limit size made source spool a z
 sparse_fault (LimitTooSmall least) x limit b n size made source spool a c z le o h = (h.1, λ t. ((o t).image, h.0 ∙ ap (λ (k : ℕ). 64 + k) (sym (o t).size)))
 sparse_fault (PartitionTooSmall need) x limit b n size made source spool a c z le o h = (h.2, λ t. let y = o t in (y.image, rw y.size h.0, rw (y.size, y.count) h.1))
 sparse_fault (Read d) x limit b n size made source spool a c z le o h = let y = h.1 in let m = le.read in (omega (arith, y, m), h.2)
@@ -70,7 +70,7 @@ sparse_fault (BadBlock k) x limit b n size made source spool a c z le o h = absu
 sparse_fault (Sync d) x limit b n size made source spool a c z le o h = absurd h
 
 pub sparse_refused : (r : Result Delivered FlashFault) (x : List ℕ) (limit b n size made : ℕ) (source spool : Bool) (a c z : Counts) → NoFewer a c → (IsTrue source → Opens x b n)
-    → IfErr r (λ e. Refused e limit b n size made source spool c z) → IfErr r (λ e. SparseRefused e x limit size made source spool a z)
+    → IfErr r (λ e. RefusedDelivery e limit b n size made source spool c z) → IfErr r (λ e. SparseRefused e x limit size made source spool a z)
 sparse_refused (Ok d) x limit b n size made source spool a c z le o h = tt
 sparse_refused (Err e) x limit b n size made source spool a c z le o h = sparse_fault e x limit b n size made source spool a c z le o h
 
@@ -107,7 +107,7 @@ allowed_in b n x long limit size source o room = record {
   room = λ t. rw (o.told t) room;
 }
 
-raw_fault : (e : FlashFault) (x : List ℕ) (long limit b n size made : ℕ) (source spool : Bool) (a z : Counts) → OpensRaw b n x long source → Refused e limit b n size made source spool a z → RawRefused e b x long limit size made source spool a z
+raw_fault : (e : FlashFault) (x : List ℕ) (long limit b n size made : ℕ) (source spool : Bool) (a z : Counts) → OpensRaw b n x long source → RefusedDelivery e limit b n size made source spool a z → RawRefused e b x long limit size made source spool a z
 raw_fault (LimitTooSmall least) x long limit b n size made source spool a z o h = (o.fills, h.0, h.1)
 raw_fault (PartitionTooSmall need) x long limit b n size made source spool a z o h = (o.fills, h.0, h.2, (n, o.filled, h.1), λ t. rw (o.told t) h.1)
 raw_fault (Read d) x long limit b n size made source spool a z o h = (allowed_in b n x long limit size source o h.0, h.1, h.2)
@@ -121,7 +121,7 @@ raw_fault (BadBlock k) x long limit b n size made source spool a z o h = absurd 
 raw_fault (Sync d) x long limit b n size made source spool a z o h = absurd h
 
 pub raw_refused : (r : Result Delivered FlashFault) (x : List ℕ) (long limit b n size made : ℕ) (source spool : Bool) (a z : Counts) → OpensRaw b n x long source
-    → IfErr r (λ e. Refused e limit b n size made source spool a z) → IfErr r (λ e. RawRefused e b x long limit size made source spool a z)
+    → IfErr r (λ e. RefusedDelivery e limit b n size made source spool a z) → IfErr r (λ e. RawRefused e b x long limit size made source spool a z)
 raw_refused (Ok d) x long limit b n size made source spool a z o h = tt
 raw_refused (Err e) x long limit b n size made source spool a z o h = raw_fault e x long limit b n size made source spool a z o h
 

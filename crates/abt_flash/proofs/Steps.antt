@@ -17,9 +17,9 @@ use Rattle.abt_chunks.specs.declared.walk.Walk.{Walk}
 use Rattle.abt_chunks.specs.declared.walk.Part.{Part}
 use Rattle.abt_chunks.specs.declared.walk.Part.TheVariants as parts
 use Rattle.abt_chunks.specs.Ahead.{Ahead, before, somes}
-use Rattle.abt_chunks.specs.Parts.{Told, Leaves as PartLeaves, Caused, Moved, Within, is_fault, goes_on, given_by, ahead}
+use Rattle.abt_chunks.specs.Parts.{SaysUnlessDevice, PartLeaves, Caused, Moved, Within, is_fault, goes_on, given_by, ahead}
 use Rattle.abt_chunks.specs.Places.{place_of, owed}
-use Rattle.abt_chunks.specs.ListingAhead.{Closes, MayEnd, at_end}
+use Rattle.abt_chunks.specs.ListingAhead.{Closes, MayEnd}
 use Rattle.abt_chunks.proofs.Finishing.{owed_at}
 use Rattle.abt_flash.specs.declared.fault.FlashFault.{FlashFault}
 use Rattle.abt_flash.specs.declared.fault.FlashFault.TheVariants as fails
@@ -28,15 +28,17 @@ use Rattle.abt_io.specs.declared.device.DeviceFault.{DeviceFault}
 use Rattle.abt_io.specs.declared.device.DeviceFault.TheVariants as devices
 use Rattle.abt_io.specs.Count.{full_in}
 use Rattle.abt_chunks.specs.Cause.{CleanPart, full_in_part}
-use Rattle.abt_flash.specs.Fault.{HasCause, OnUnsynced, PutCause, Rises, UnlessUnwritten, fault_of_sparse}
-use Rattle.abt_flash.specs.Laying.{During, cells_by, from_place, put_by, writes, written_by}
+use Rattle.abt_flash.specs.Fault.{FlashCause, OnUnsynced, PutCause, FlashingRises, UnlessUnwritten, fault_of_sparse}
+use Rattle.abt_flash.specs.Laying.{During, put_by, writes}
 use Rattle.abt_chunks.specs.Expanding.{IsGoing}
-use Rattle.abt_flash.specs.Stepping.{Goes, Heads, Laid, Leaves, Measures, OnMore, Unless, UnlessDevice, answer_of, need_of, passed, passed_in}
+use Rattle.abt_flash.specs.Stepping.{Goes, Heads, Laid, Leaves, Measures, UnlessFlashing, UnlessFlashingDevice, need_of, passed, passed_in}
 use Rattle.abt_flash.proofs.Cells.{empty_range, nothing_over, unwritten_range, written_nones, written_somes}
 use Rattle.abt_flash.proofs.Moments.{during_none, during_within}
+use Rattle.abt_chunks.specs.Expanding.{OnMoreExpanding, answer_by, cells_by}
+use Rattle.abt_chunks.specs.Places.{from_place, said_by}
 
 -- a part is as long as its cells, and so many bytes of them are written
-cells_written : (q : Part) (win : List ℕ) (r m : ℕ) → Moved q r → r ≤ length win → Within q m m → written_by (cells_by q win) ≡ put_by q
+cells_written : (q : Part) (win : List ℕ) (r m : ℕ) → Moved q r → r ≤ length win → Within q m m → said_by (cells_by q win) ≡ put_by q
 cells_written (parts.Raw n) win r m moved le within = written_somes (take n win) ∙ length-take-le n win (omega (arith, moved.0, le))
 cells_written (parts.Words word n) win r m moved le within = written_somes (concat (replicate n word)) ∙ length_words n word within.2
 cells_written (parts.Skip n) win r m moved le within = written_nones (4 * n)
@@ -62,7 +64,7 @@ outside parts.End win r m at i moved le within e = empty_range at i
 outside (parts.Fault f) win r m at i moved le within e = empty_range at i
 
 -- what a part says, as cells before what is ahead
-as_cells : (q : Part) (s s' : Walk) (c t win : List ℕ) (r : ℕ) → take r win ≡ c → Moved q r → is_fault q ≡ false → PartLeaves q s'.phase → Told q s s' c t → ahead s (c ++ t) ≡ before (cells_by q win) (ahead s' t)
+as_cells : (q : Part) (s s' : Walk) (c t win : List ℕ) (r : ℕ) → take r win ≡ c → Moved q r → is_fault q ≡ false → PartLeaves q s'.phase → SaysUnlessDevice q s s' c t → ahead s (c ++ t) ≡ before (cells_by q win) (ahead s' t)
 as_cells (parts.Raw n) s s' c t win r w moved sound leaves told = told.1 ∙ ap (λ (x : List ℕ). before (somes x) (ahead s' t)) (sym w ∙ ap (λ (k : ℕ). take k win) (sym moved.0))
 as_cells (parts.Words word n) s s' c t win r w moved sound leaves told = told
 as_cells (parts.Skip n) s s' c t win r w moved sound leaves told = told
@@ -76,12 +78,12 @@ owed_now s' e = owed_at s'.phase s' (rw e tt)
 owed_done : (s' : Walk) → s'.phase ≡ phases.Done → (ahead s' []).cells ≡ owed s'
 owed_done s' e = owed_at s'.phase s' (rw e tt)
 
-unless_fault : (f : FlashFault) (P : Type 0) → P → UnlessDevice f P
+unless_fault : (f : FlashFault) (P : Type 0) → P → UnlessFlashingDevice f P
 unless_fault (fails.Read d) P h = tt
 unless_fault (fails.Write d) P h = tt
 unless_fault f P h = h
 
-pub unless_all : {X : Type 0} (r : Result X FlashFault) (P : Type 0) → P → Unless r P
+pub unless_all : {X : Type 0} (r : Result X FlashFault) (P : Type 0) → P → UnlessFlashing r P
 unless_all (Ok x) P h = h
 unless_all (Err f) P h = unless_fault f P h
 
@@ -103,7 +105,7 @@ module _ (tells : Bool) (stage : Stage) (s s' : Walk) (c rest win : List ℕ) (p
   abbrev Content_put : Part → Type 0
   Content_put q = IsTrue tells → p' ≡ over p (from_place (place_of s) (cells_by q win))
 
-  goes_laid : (q : Part) (a : Progress) → Moved q r → Within q m m → ((t : List ℕ) → ahead s (c ++ t) ≡ before (cells_by q win) (ahead s' t)) → OnMore (Ok a) (place_of s' ≡ place_of s + length (cells_by q win))
+  goes_laid : (q : Part) (a : Progress) → Moved q r → Within q m m → ((t : List ℕ) → ahead s (c ++ t) ≡ before (cells_by q win) (ahead s' t)) → OnMoreExpanding {E = FlashFault} (Ok a) (place_of s' ≡ place_of s + length (cells_by q win))
       → ((ahead s' []).cells ≡ owed s') → taken' ≡ taken + put_by q → Content_put q → Keeps_put q → Moments_put q → Laid tells stage (Ok a) s s' c rest past past' p p' taken taken'
   goes_laid q a moved within told placed fine put content kept moments = record {
     cells = cells_by q win;
@@ -118,7 +120,7 @@ module _ (tells : Bool) (stage : Stage) (s s' : Walk) (c rest win : List ℕ) (p
     held = λ goes. fine;
   }
 
-  fault_laid : (f : SparseFault) → ((t : List ℕ) → t ≡ rest → Told (parts.Fault f) s s' c t) → s'.phase ≡ phases.Failed f → taken' ≡ taken + 0 → Content_put (parts.Fault f) → Keeps_put (parts.Fault f) → Moments_put (parts.Fault f)
+  fault_laid : (f : SparseFault) → ((t : List ℕ) → t ≡ rest → SaysUnlessDevice (parts.Fault f) s s' c t) → s'.phase ≡ phases.Failed f → taken' ≡ taken + 0 → Content_put (parts.Fault f) → Keeps_put (parts.Fault f) → Moments_put (parts.Fault f)
       → Laid tells stage (Err (fault_of_sparse f)) s s' c rest past past' p p' taken taken'
   fault_laid (faults.Read d) says leaves put content kept moments = record {
     cells = [];
@@ -157,8 +159,8 @@ module _ (tells : Bool) (stage : Stage) (s s' : Walk) (c rest win : List ℕ) (p
     held = λ goes. tt;
   }
 
-  pub laid_part : (q : Part) → Moved q r → Within q m m → PartLeaves q s'.phase → ((t : List ℕ) → (is_fault q ≡ true → t ≡ rest) → Told q s s' c t) → (IsTrue (goes_on q) → place_of s' ≡ place_of s + given_by q)
-      → taken' ≡ taken + put_by q → Content_put q → Keeps_put q → Moments_put q → Laid tells stage (answer_of q) s s' c rest past past' p p' taken taken'
+  pub laid_part : (q : Part) → Moved q r → Within q m m → PartLeaves q s'.phase → ((t : List ℕ) → (is_fault q ≡ true → t ≡ rest) → SaysUnlessDevice q s s' c t) → (IsTrue (goes_on q) → place_of s' ≡ place_of s + given_by q)
+      → taken' ≡ taken + put_by q → Content_put q → Keeps_put q → Moments_put q → Laid tells stage (answer_by fault_of_sparse q) s s' c rest past past' p p' taken taken'
   laid_part (parts.Raw n) moved within leaves says placed put content kept moments =
       goes_laid (parts.Raw n) answers.More moved within (λ t. as_cells (parts.Raw n) s s' c t win r in_window moved refl leaves (says t (λ e. absurd cc)))
       (placed refl ∙ ap (λ (k : ℕ). place_of s + k) (sym (length_cells (parts.Raw n) win r m moved long within))) (owed_now s' leaves) put content kept moments
@@ -192,19 +194,19 @@ module _ (tells : Bool) (stage : Stage) (s s' : Walk) (c rest win : List ℕ) (p
     held = λ goes. tt;
   }
 
-  unwritten_part : (q : Part) (d : DeviceFault) → Moved q r → Within q m m → is_fault q ≡ false → PartLeaves q s'.phase → ((t : List ℕ) → (is_fault q ≡ true → t ≡ rest) → Told q s s' c t)
+  unwritten_part : (q : Part) (d : DeviceFault) → Moved q r → Within q m m → is_fault q ≡ false → PartLeaves q s'.phase → ((t : List ℕ) → (is_fault q ≡ true → t ≡ rest) → SaysUnlessDevice q s s' c t)
       → Keeps_put q → Moments_put q → Laid tells stage (Err (fails.Write d)) s s' c rest past past' p p' taken taken'
   unwritten_part q d moved within sound leaves says kept moments =
       unwritten_front q d (cells_by q win) (λ t. (ahead s' t).cells) (λ t. ap (λ (x : Ahead). x.cells) (as_cells q s s' c t win r in_window moved sound leaves (says t (λ e. absurd (let b : true ≡ false = sym e ∙ sound in cc)))))
       (λ i. outside q win r m (place_of s) i moved long within) kept moments
 
-  unwritten_laid : (q : Part) (d : DeviceFault) → Moved q r → Within q m m → PartLeaves q s'.phase → ((t : List ℕ) → (is_fault q ≡ true → t ≡ rest) → Told q s s' c t)
+  unwritten_laid : (q : Part) (d : DeviceFault) → Moved q r → Within q m m → PartLeaves q s'.phase → ((t : List ℕ) → (is_fault q ≡ true → t ≡ rest) → SaysUnlessDevice q s s' c t)
       → Keeps_put q → Moments_put q → Laid tells stage (Err (fails.Write d)) s s' c rest past past' p p' taken taken'
   unwritten_laid (parts.Fault g) d moved within leaves says kept moments = unwritten_front (parts.Fault g) d [] (λ t. (ahead s (c ++ t)).cells) (λ t. refl) (λ i e. empty_range (place_of s) i) kept moments
   unwritten_laid q d moved within leaves says kept moments = unwritten_part q d moved within refl leaves says kept moments
 
   -- where it was not synced, all is laid
-  unsynced_laid : (d : DeviceFault) → Moved parts.End r → s'.phase ≡ phases.Done → ((t : List ℕ) → (is_fault parts.End ≡ true → t ≡ rest) → Told parts.End s s' c t) → taken' ≡ taken + put_by parts.End
+  unsynced_laid : (d : DeviceFault) → Moved parts.End r → s'.phase ≡ phases.Done → ((t : List ℕ) → (is_fault parts.End ≡ true → t ≡ rest) → SaysUnlessDevice parts.End s s' c t) → taken' ≡ taken + put_by parts.End
       → Content_put parts.End → Keeps_put parts.End → Moments_put parts.End → Laid tells stage (Err (fails.Sync d)) s s' c rest past past' p p' taken taken'
   unsynced_laid d moved leaves says put content kept moments = record {
     cells = [];
@@ -219,7 +221,7 @@ module _ (tells : Bool) (stage : Stage) (s s' : Walk) (c rest win : List ℕ) (p
     held = λ goes. tt;
   }
 
-  pub refused_laid : (q : Part) (f : FlashFault) (n n' : ℕ) → Moved q r → Within q m m → PartLeaves q s'.phase → ((t : List ℕ) → (is_fault q ≡ true → t ≡ rest) → Told q s s' c t)
+  pub refused_laid : (q : Part) (f : FlashFault) (n n' : ℕ) → Moved q r → Within q m m → PartLeaves q s'.phase → ((t : List ℕ) → (is_fault q ≡ true → t ≡ rest) → SaysUnlessDevice q s s' c t)
       → PutCause {X = Unit {0}} (Err f) n n' → OnUnsynced {X = Unit {0}} (Err f) (q ≡ parts.End) → UnlessUnwritten {X = Unit {0}} (Err f) (taken' ≡ taken + put_by q)
       → (IsTrue tells → UnlessUnwritten {X = Unit {0}} (Err f) (p' ≡ over p (from_place (place_of s) (cells_by q win)))) → Keeps_put q → Moments_put q → Laid tells stage (Err f) s s' c rest past past' p p' taken taken'
   refused_laid q (fails.Write d) n n' moved within leaves says cause is put content kept moments = unwritten_laid q d moved within leaves says kept moments
@@ -232,7 +234,7 @@ refused_leaves q (fails.Write d) ph n n' cause is leaves = tt
 refused_leaves q (fails.Sync d) ph n n' cause is leaves = rw is at leaves
 refused_leaves q f ph n n' cause is leaves = absurd cause
 
-pub refused_heads : (q : Part) (f : FlashFault) (s s' : Walk) (x y : List ℕ) (n n' : ℕ) → PutCause {X = Unit {0}} (Err f) n n' → OnUnsynced {X = Unit {0}} (Err f) (q ≡ parts.End) → Heads (answer_of q) s s' x y → Heads (Err f) s s' x y
+pub refused_heads : (q : Part) (f : FlashFault) (s s' : Walk) (x y : List ℕ) (n n' : ℕ) → PutCause {X = Unit {0}} (Err f) n n' → OnUnsynced {X = Unit {0}} (Err f) (q ≡ parts.End) → Heads (answer_by fault_of_sparse q) s s' x y → Heads (Err f) s s' x y
 refused_heads q (fails.Write d) s s' x y n n' cause is h = tt
 refused_heads q (fails.Sync d) s s' x y n n' cause is h = rw is at h
 refused_heads q f s s' x y n n' cause is h = absurd cause
@@ -270,7 +272,7 @@ write_caused d phases.Body r r' going h = h
 write_caused d phases.Done r r' going h = going
 write_caused d (phases.Failed f) r r' going h = going
 
-pub answer_cause : (q : Part) (ph : Phase) (r r' p p' : ℕ) → IsGoing ph → Caused q ph r r' → CleanPart q r r' → full_in_part q ≡ 0 → p' ≡ p → Rises (answer_of q) r r' p p'
+pub answer_cause : (q : Part) (ph : Phase) (r r' p p' : ℕ) → IsGoing ph → Caused q ph r r' → CleanPart q r r' → full_in_part q ≡ 0 → p' ≡ p → FlashingRises (answer_by fault_of_sparse q) r r' p p'
 answer_cause (parts.Raw n) ph r r' p p' going h clean full put = (clean, put)
 answer_cause (parts.Words word n) ph r r' p p' going h clean full put = (clean, put)
 answer_cause (parts.Skip n) ph r r' p p' going h clean full put = (clean, put)
@@ -288,13 +290,13 @@ sound_clean parts.Nothing r r' sound h = h
 sound_clean parts.End r r' sound h = h
 sound_clean (parts.Fault f) r r' sound h = absurd (let b : true ≡ false = sound in cc)
 
-pub refused_cause : (q : Part) (f : FlashFault) (r r' p p' : ℕ) → PutCause {X = Unit {0}} (Err f) p p' → is_fault q ≡ false → CleanPart q r r' → HasCause f r r' p p'
+pub refused_cause : (q : Part) (f : FlashFault) (r r' p p' : ℕ) → PutCause {X = Unit {0}} (Err f) p p' → is_fault q ≡ false → CleanPart q r r' → FlashCause f r r' p p'
 refused_cause q (fails.Write d) r r' p p' cause sound clean = (cause.0, cause.1, sound_clean q r r' sound clean)
 refused_cause q (fails.Sync d) r r' p p' cause sound clean = (cause.0, cause.1, sound_clean q r r' sound clean)
 refused_cause q f r r' p p' cause sound clean = absurd cause
 
 -- a step in which nothing happens
-pub nothing_laid : (tells : Bool) (stage : Stage) (r : Result Progress FlashFault) (s s' : Walk) (c rest : List ℕ) (past : Past) (p : List ℕ) (taken : ℕ) → c ≡ [] → s' ≡ s → (Goes stage s.phase → OnOk r ((ahead s []).cells ≡ owed s')) → OnMore r (place_of s' ≡ place_of s + 0)
+pub nothing_laid : (tells : Bool) (stage : Stage) (r : Result Progress FlashFault) (s s' : Walk) (c rest : List ℕ) (past : Past) (p : List ℕ) (taken : ℕ) → c ≡ [] → s' ≡ s → (Goes stage s.phase → OnOk r ((ahead s []).cells ≡ owed s')) → OnMoreExpanding r (place_of s' ≡ place_of s + 0)
     → Laid tells stage r s s' c rest past past p p taken taken
 nothing_laid tells stage r s s' c rest past p taken none same held moved = record {
   cells = [];

@@ -1,9 +1,11 @@
 -- Where nothing more was called: what a spool and a partition are left with.
-use Rattle.std.proofs.Common.{◌≡◌, ℕ, ◌+◌, ◌++◌, List, [], Option, length, refl, sym, ap, inl, inr}
+use Rattle.std.proofs.Common.{◌≡◌, ℕ, ◌+◌, ◌++◌, List, [], Option, length, sym, ap, ◌∙◌}
 use Rattle.abt_io.specs.Moment.{Past, moment_of}
 use Rattle.abt_io.proofs.Moments.{keeps_same}
 use Rattle.abt_pieces.specs.Cutter.{Passed}
 use Rattle.abt_pieces.specs.declared.stage.Stage.{Stage}
+use Rattle.abt_io.specs.declared.device.Source as sources
+use Rattle.abt_flash.specs.Devices.{LeavesUnread}
 use Rattle.abt_flash.specs.Laying.{writes}
 use Rattle.abt_flash.specs.Delivering.{Begins, PiecesFit}
 use Rattle.abt_flash.specs.Flashing.{TouchesOnly}
@@ -27,3 +29,13 @@ pub goes_behind : (n k k' s e first past : ℕ) (st : Stage) → k' ≡ k + 1 �
 goes_behind n k k' s e first past st made begins ends h =
     let at = rw (begins, ends) at h in
     record { made = made; stands = passed_stands n s e st at; moves = at.moves }
+
+-- of a partition nothing was read, one call after the other
+pub unread_then : {C : Type 0} {s : sources.Ghosts C} {a b z : C} → LeavesUnread s a b → LeavesUnread s b z
+    → LeavesUnread s a z
+unread_then k d = record {
+  size = d.size ∙ k.size;
+  reads = d.reads ∙ k.reads;
+  given = d.given ∙ k.given;
+  faults = d.faults ∙ k.faults;
+}

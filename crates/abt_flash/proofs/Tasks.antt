@@ -1,5 +1,5 @@
 -- From what is done for a task to what is done for a part.
-use Rattle.std.proofs.Common.{◌≡◌, ℕ, ◌+◌, ◌*◌, ◌<◌, true, false, List, Option, Result, Ok, Err, refl, sym, ◌∙◌}
+use Rattle.std.proofs.Common.{◌≡◌, ℕ, ◌<◌, true, false, List, Result, Ok, Err, refl, sym, ◌∙◌}
 use Rattle.std.specs.Prelude.{IsTrue, OnErr, OnOk, IfErr, is_ok}
 use Rattle.abt_io.specs.declared.device.DeviceFault.{DeviceFault}
 use Rattle.abt_io.specs.declared.device.DeviceFault.TheVariants as devices
@@ -9,12 +9,13 @@ use Rattle.abt_chunks.specs.declared.walk.Part.TheVariants as parts
 use Rattle.abt_chunks.specs.Ahead.{somes}
 use Rattle.abt_chunks.specs.Expanding.{IsWritable}
 use Rattle.abt_chunks.specs.Parts.{is_fault}
-use Rattle.abt_flash.specs.declared.fault.FlashFault.{FlashFault}
 use Rattle.abt_flash.specs.declared.laying.Task.{Task}
 use Rattle.abt_flash.specs.declared.laying.Task.TheVariants as tasks
 use Rattle.abt_flash.specs.Fault.{OnUnsynced, PutCause, UnlessUnwritten, refused_syncs}
-use Rattle.abt_flash.specs.Laying.{CanDo, IsIdle, IsStill, Settles, SettlesIn, UnlessUndone, answered, bytes_by, cells_by, from_place, put_by, put_in, refused_in, syncs_by, syncs_in, task_of}
+use Rattle.abt_flash.specs.Laying.{CanDo, IsIdle, IsStill, Settles, SettlesIn, UnlessUndone, answered, bytes_by, put_by, put_in, refused_in, syncs_by, syncs_in, task_of}
 use Rattle.abt_flash.proofs.Cells.{gap_over, nothing_over}
+use Rattle.abt_chunks.specs.Expanding.{cells_by}
+use Rattle.abt_chunks.specs.Places.{from_place}
 
 pub can_do : (q : Part) → IsWritable q → CanDo (task_of q)
 can_do (parts.Raw n) h = h

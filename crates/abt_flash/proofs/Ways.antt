@@ -1,5 +1,5 @@
 -- How a piece is written to the spool: what stands there, headers last.
-use Rattle.std.proofs.Common.{nat_lt, ltb-true, ltb-false, ◌-◌, ◌*◌, ◌≤◌, ◌<◌, zero, suc, ◌+◌, ◌≡◌, ℕ, ◌⊎◌, List, [], ◌∷◌, ◌++◌, length, take, drop, refl, sym, ap, subst, ◌∙◌, inl, inr, append-nil, append_assoc, arith}
+use Rattle.std.proofs.Common.{nat_lt, ltb-true, ltb-false, ◌-◌, ◌*◌, ◌≤◌, ◌<◌, zero, suc, ◌+◌, ◌≡◌, ℕ, ◌⊎◌, List, [], ◌∷◌, ◌++◌, length, take, drop, sym, ap, subst, ◌∙◌, inl, inr, append-nil, append_assoc, arith}
 use Rattle.std.specs.List.{concat}
 use Rattle.std.proofs.lemmas.List.{append_cancel_right, drop_all, take_all, take-append-drop}
 use Rattle.std.proofs.lemmas.List.Folds.{concat-append}
@@ -7,7 +7,7 @@ use Rattle.std.proofs.Math.Seq.{drop-append_seam, take-add}
 use Rattle.abt_io.specs.Frame.{last_cut}
 use Rattle.std.proofs.lemmas.Bool.{cases_Bool}
 use Rattle.abt_pieces.specs.Cutter.{piece_words}
-use Rattle.abt_pieces.specs.Image.{Appended, IsImage}
+use Rattle.abt_pieces.specs.Image.{Appended, IsPlainImage}
 use Rattle.abt_placed.specs.Unfinished.{IsNoImage}
 use Rattle.abt_flash.specs.Delivering.{EndsWhole, GaveNoPart, GaveWhole, IsWholeOrNone}
 
@@ -32,10 +32,10 @@ ends_none b old new old_cuts new_cuts e k = inl (e, k)
 pub no_part_one : (old new cuts x : List ℕ) → new ≡ old ++ x → GaveNoPart old new cuts (x ∷ [])
 no_part_one old new cuts x e = inl (gave_one old new x e)
 
-pub ends_one : (b n : ℕ) (old new old_cuts new_cuts cuts : List ℕ) → new_cuts ≡ length old ∷ cuts → Appended (IsImage b n) old new → EndsWhole b old new old_cuts new_cuts
+pub ends_one : (b n : ℕ) (old new old_cuts new_cuts cuts : List ℕ) → new_cuts ≡ length old ∷ cuts → Appended (IsPlainImage b n) old new → EndsWhole b old new old_cuts new_cuts
 ends_one b n old new old_cuts new_cuts cuts k h =
     let at : drop (last_cut new_cuts) new ≡ h.wrote = ap (λ (c : List ℕ). drop (last_cut c) new) k ∙ ap (drop (length old)) h.behind ∙ drop-append_seam old h.wrote in
-    inr (inr (inl (n, subst (IsImage b n) (sym at) h.is)))
+    inr (inr (inl (n, subst (IsPlainImage b n) (sym at) h.is)))
 
 -- a piece was not finished
 pub no_part_late : (old new new_cuts cuts : List ℕ) (xs : List (List ℕ)) → new_cuts ≡ length old ∷ cuts → take (length old) new ≡ old → (new ≡ old) ⊎ IsNoImage (drop (length old) new) → GaveNoPart old new new_cuts xs

@@ -1,6 +1,6 @@
 -- What delivering an image piece by piece promises: of the spool, of the partition, and of every moment on the way.
 use Rattle.std.specs.Prelude.{◌≡◌, ℕ, ◌+◌, ◌-◌, ◌*◌, ◌≤◌, ◌<◌, List, [], ◌∷◌, ◌++◌, length, take, drop, replicate, max}
-use Rattle.std.specs.Prelude.{Bool, false, IsTrue, Result, Ok, Err, OnOk, ◌⊎◌}
+use Rattle.std.specs.Prelude.{Bool, false, IsTrue, Result, Ok, Err, OnOk, IfOk, ◌⊎◌}
 use Rattle.std.specs.List.{concat}
 use Rattle.abt_io.specs.Frame.{last_cut}
 use Rattle.abt_io.specs.declared.device.DeviceFault.TheVariants.{Failed}
@@ -11,7 +11,7 @@ use Rattle.abt_sparse.specs.Runs.{segments, joined, Division}
 use Rattle.abt_sparse.specs.Pieces.{pieces}
 use Rattle.abt_sparse.specs.Mending.{Mendable}
 use Rattle.abt_pieces.specs.Contents.{written_in}
-use Rattle.abt_pieces.specs.Image.{IsImage}
+use Rattle.abt_pieces.specs.Image.{IsPlainImage}
 use Rattle.abt_placed.specs.Unfinished.{IsNoImage}
 use Rattle.abt_flash.specs.Devices.{Counts, PartitionState, SpoolState, all_bytes, all_calls}
 use Rattle.abt_flash.specs.Fault.{refused_syncs}
@@ -60,7 +60,7 @@ GaveNoPart old new cuts pieces = GaveWhole old new pieces
 
 -- nothing, an image of blocks of b bytes with nothing behind it, or what is no image, whatever follows it
 abbrev pub IsWholeOrNone : ℕ → List ℕ → Type 0
-IsWholeOrNone b x = (x ≡ []) ⊎ (((n : ℕ) × IsImage b n x) ⊎ IsNoImage x)
+IsWholeOrNone b x = (x ≡ []) ⊎ (((n : ℕ) × IsPlainImage b n x) ⊎ IsNoImage x)
 
 -- Nothing was written, nor cleared; or that stands behind the last clear.
 abbrev pub EndsWhole : ℕ → List ℕ → List ℕ → List ℕ → List ℕ → Type 0
@@ -182,21 +182,21 @@ pub record Room (limit b n size : ℕ) : Type 0 where
 
 -- Why an opened image of n blocks of b bytes is not delivered behind its first pieces, in this order: the limit, the
 -- partition, planning, and then a stop alone.
-abbrev pub Refused : FlashFault → ℕ → ℕ → ℕ → ℕ → ℕ → Bool → Bool → Counts → Counts → Type 0
-Refused (LimitTooSmall least) limit b n size made source spool a z = (least ≡ 64 + b) × (limit < least)
-Refused (PartitionTooSmall need) limit b n size made source spool a z =
+abbrev pub RefusedDelivery : FlashFault → ℕ → ℕ → ℕ → ℕ → ℕ → Bool → Bool → Counts → Counts → Type 0
+RefusedDelivery (LimitTooSmall least) limit b n size made source spool a z = (least ≡ 64 + b) × (limit < least)
+RefusedDelivery (PartitionTooSmall need) limit b n size made source spool a z =
     (64 + b ≤ limit) × (need ≡ n * b) × (size < need)
-Refused (Read d) limit b n size made source spool a z =
+RefusedDelivery (Read d) limit b n size made source spool a z =
     Room limit b n size × (a.read_faults < z.read_faults) × (d ≡ Failed)
-Refused SourceChanged limit b n size made source spool a z = Room limit b n size × (source ≡ false)
-Refused (NoSuchPiece k) limit b n size made source spool a z = Room limit b n size × (0 < k) × (k ≤ made)
-Refused (Stopped j c) limit b n size made source spool a z =
+RefusedDelivery SourceChanged limit b n size made source spool a z = Room limit b n size × (source ≡ false)
+RefusedDelivery (NoSuchPiece k) limit b n size made source spool a z = Room limit b n size × (0 < k) × (k ≤ made)
+RefusedDelivery (Stopped j c) limit b n size made source spool a z =
     Room limit b n size × (made < j) × StopsFor c source spool a z
-Refused (Sparse f) limit b n size made source spool a z = ⊥
-Refused (Write d) limit b n size made source spool a z = ⊥
-Refused TooLarge limit b n size made source spool a z = ⊥
-Refused (BadBlock q) limit b n size made source spool a z = ⊥
-Refused (Sync d) limit b n size made source spool a z = ⊥
+RefusedDelivery (Sparse f) limit b n size made source spool a z = ⊥
+RefusedDelivery (Write d) limit b n size made source spool a z = ⊥
+RefusedDelivery TooLarge limit b n size made source spool a z = ⊥
+RefusedDelivery (BadBlock q) limit b n size made source spool a z = ⊥
+RefusedDelivery (Sync d) limit b n size made source spool a z = ⊥
 
 -- ---- what a delivery does
 
@@ -212,6 +212,17 @@ pieces_in limit i = length (pieces limit i.size i.blocks)
 -- no division of it has fewer than k parts
 abbrev pub IsLeast : ℕ → ℕ → ImageBlocks → Type 0
 IsLeast limit k i = (parts : List (List Block)) → Division limit i.size i.blocks parts → k ≤ length parts
+
+-- What a delivery of an image behind its first pieces, `made`, answers. Where it was refused before its first piece,
+-- nothing was touched; and after an Ok no device has failed.
+pub record Delivers (source : Bool) (i : ImageBlocks) (limit made : ℕ) (untouched : Type 0)
+    (r : Result Delivered FlashFault) (old new : Counts) : Type 0 where
+  pub early : OnEarly r untouched
+  pub some : IfOk r (λ d. 0 < d.pieces)
+  pub counted : IsTrue source → CountsTo r made (pieces_in limit i)
+  -- no division of the image within the limit has fewer parts
+  pub least : IsTrue source → IfOk r (λ d. IsLeast limit (made + d.pieces) i)
+  pub clean : OnOk r (NoneFailed old new)
 
 -- What a spool was given by a call that delivers an image behind its first pieces.
 -- Forward, each from its front on; or each with its headers last.
@@ -295,7 +306,7 @@ HasBegun source k (Err f) made n = n ≡ 0
 -- The calls of all devices, and the turns of loops, are at most 8 for each byte that a device gave or took, and so
 -- many for each piece that was begun and once more; of a raw image some words may be compared that were not read. No
 -- step receives more than 65,580 bytes.
-pub record Costs (source : Bool) (i : ImageBlocks) (limit words each made : ℕ) (r : Result Delivered FlashFault)
+pub record DeliveryCosts (source : Bool) (i : ImageBlocks) (limit words each made : ℕ) (r : Result Delivered FlashFault)
     (old new : Counts) (m m' : Meter) : Type 0 where
   pub begun : ℕ
   pub counted : HasBegun source (pieces_in limit i) r made begun

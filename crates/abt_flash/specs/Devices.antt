@@ -133,11 +133,18 @@ flow i p input partition = record {
 }
 
 -- what only grows
-pub record Grows (old new : Flow) : Type 0 where
+pub record FlowGrows (old new : Flow) : Type 0 where
   pub given : old.given ≤ new.given
   pub taken : old.taken ≤ new.taken
   pub read_faults : old.read_faults ≤ new.read_faults
   pub put_faults : old.put_faults ≤ new.put_faults
+
+-- Of a partition nothing is read, and its length stays.
+pub record LeavesUnread {C : Type 0} (s : sources.Ghosts C) (old new : C) : Type 0 where
+  pub size : s.size new ≡ s.size old
+  pub reads : s.reads new ≡ s.reads old
+  pub given : s.given new ≡ s.given old
+  pub faults : s.read_faults new ≡ s.read_faults old
 
 -- What was read of an input that held x and holds y.
 pub record Reads (tells : Bool) (given given' : ℕ) (x y : List ℕ) : Type 0 where

@@ -1,7 +1,7 @@
 -- What flashing a whole input answers, and what the partition holds then.
 use Rattle.std.specs.Prelude.{◌≡◌, ℕ, ◌+◌, ◌*◌, ◌<◌, ◌≤◌, Bool, IsTrue, List, [], Option, Result, Ok, Err, OnOk, is_ok}
 use Rattle.std.specs.Prelude.{max, if◌then◌else◌}
-use Rattle.abt_io.specs.Moment.{EachSince, Keeps, Past, moment_of}
+use Rattle.abt_io.specs.Moment.{Past}
 use Rattle.abt_io.specs.declared.meter.Meter.{Meter}
 use Rattle.abt_sparse.specs.declared.fault.SparseFault.{SparseFault}
 use Rattle.abt_sparse.specs.Chunk.{Header, Chunk, classed}
@@ -10,14 +10,14 @@ use Rattle.abt_sparse.specs.Pieces.{flashed}
 use Rattle.abt_pieces.specs.Contents.{written_in}
 use Rattle.abt_flash.specs.Devices.{Flow}
 use Rattle.abt_flash.specs.Fault.{refused_syncs}
-use Rattle.abt_flash.specs.Laying.{During, writes}
+use Rattle.abt_flash.specs.Laying.{Touches, writes}
 use Rattle.abt_flash.specs.declared.fault.FlashFault.{FlashFault}
 use Rattle.abt_flash.specs.declared.fault.FlashFault.TheVariants.{Sparse, Sync, PartitionTooSmall}
 use Rattle.abt_flash.specs.declared.stage.Flashed.{Flashed}
 
 -- An image that fits a partition of this size stands at the front of x, and rest behind it. The answer counts its raw
 -- and fill blocks, and each of their bytes was written once.
-pub record Whole (e : Flashed) (size taken taken' : ℕ) (x rest : List ℕ) : Type 0 where
+pub record WholeFlash (e : Flashed) (size taken taken' : ℕ) (x rest : List ℕ) : Type 0 where
   pub header : Header
   pub chunks : List Chunk
   pub spelled : Spells x header chunks rest
@@ -26,7 +26,7 @@ pub record Whole (e : Flashed) (size taken taken' : ℕ) (x rest : List ℕ) : T
   pub once : taken' ≡ taken + header.blk_sz * e.blocks
 
 -- x has this fault, and where a header stands at its front, the image's blocks fit
-pub record Refused (f : SparseFault) (size : ℕ) (x : List ℕ) : Type 0 where
+pub record RefusedFlash (f : SparseFault) (size : ℕ) (x : List ℕ) : Type 0 where
   pub given : List (Option ℕ)
   pub fails : Fails x f given
   pub fits : (h : Header) (y : List ℕ) → SpellsHeader x h y → h.total_blks * h.blk_sz ≤ size
@@ -43,10 +43,10 @@ pub record Short (need size taken taken' : ℕ) (x : List ℕ) : Type 0 where
 -- what is answered over an input x of which rest is left, and a partition of this size, save where bytes were not read
 -- or not written. A sync is refused behind the whole image.
 abbrev pub Flashes : Result Flashed FlashFault → ℕ → ℕ → ℕ → List ℕ → List ℕ → Type 0
-Flashes (Ok e) size taken taken' x rest = Whole e size taken taken' x rest
-Flashes (Err (Sparse f)) size taken taken' x rest = Refused f size x
+Flashes (Ok e) size taken taken' x rest = WholeFlash e size taken taken' x rest
+Flashes (Err (Sparse f)) size taken taken' x rest = RefusedFlash f size x
 Flashes (Err (PartitionTooSmall need)) size taken taken' x rest = Short need size taken taken' x
-Flashes (Err (Sync d)) size taken taken' x rest = (e : Flashed) × Whole e size taken taken' x rest
+Flashes (Err (Sync d)) size taken taken' x rest = (e : Flashed) × WholeFlash e size taken taken' x rest
 Flashes (Err f) size taken taken' x rest = Unit {0}
 
 -- What a partition that held p holds behind it: what x gives is laid over it, an image or what comes before a fault.
@@ -60,9 +60,8 @@ Holds (Err (Sync d)) p p' x = p' ≡ flashed p x
 Holds (Err f) p p' x = Unit {0}
 
 -- At every moment from the first to the last no byte was touched but those that the cells write.
-pub record TouchesOnly (cells : List (Option ℕ)) (past past' : Past) (p p' : List ℕ) : Type 0 where
-  pub kept : Keeps (writes cells) (moment_of past p) (moment_of past' p')
-  pub moments : EachSince past.moments past'.moments (During (writes cells) (moment_of past p) (moment_of past' p'))
+abbrev pub TouchesOnly : List (Option ℕ) → Past → Past → List ℕ → List ℕ → Type 0
+TouchesOnly cells past past' p p' = Touches (writes cells) past past' p p'
 
 -- A sync has succeeded where the answer is Ok, and then nothing is pending; every other one that was called was
 -- refused, as the answer says.

@@ -1,6 +1,6 @@
 -- Delivering between two pieces: what is still to come.
 use Rattle.std.specs.Prelude.{◌≡◌, ℕ, ◌+◌, ◌-◌, ◌*◌, ◌≤◌, ◌<◌, ◌⊎◌, Bool, false, Result, Ok, Err, List, length, map}
-use Rattle.std.specs.Prelude.{if◌then◌else◌, nat_lt, None, slice_index_or}
+use Rattle.std.specs.Prelude.{if◌then◌else◌, nat_lt, None, slice_index_or, max}
 use Rattle.abt_io.specs.Moment.{Moment, Past, EachSince, moment_of, is_pending}
 use Rattle.abt_sparse.specs.Block.{Block, cells}
 use Rattle.abt_sparse.specs.Runs.{frames, framed}
@@ -20,14 +20,14 @@ use Rattle.abt_flash.specs.declared.fault.FlashFault.TheVariants as flashes
 -- ---- where a cutter stands
 
 -- behind a piece that ends before block e of n
-pub record StandsAt (n e : ℕ) (st : Stage) : Type 0 where
+pub record IsBehindPiece (n e : ℕ) (st : Stage) : Type 0 where
   pub between : e < n → st ≡ Between
   pub done : n ≤ e → st ≡ Done
 
 -- from block s on, one piece more was made, up to block e of n
 pub record GoesBehind (n k k' s e : ℕ) (st : Stage) : Type 0 where
   pub made : k' ≡ k + 1
-  pub stands : StandsAt n e st
+  pub stands : IsBehindPiece n e st
   pub moves : e < n → s < e
 
 -- between pieces or behind the last, with so many pieces made up to block e of n
@@ -94,12 +94,15 @@ HasPlanned tells k (Ok u) before n = n ≡ before
 HasPlanned tells k (Err f) before n = HasBegun tells k (Err f) before n
 
 -- what planning costs
-pub record PlanCosts (tells : Bool) (k before one : ℕ) (r : Result (Unit {0}) FlashFault)
+pub record PlanningCosts (tells : Bool) (k before one : ℕ) (r : Result (Unit {0}) FlashFault)
     (reads given reads' given' : ℕ) (m m' : Meter) : Type 0 where
   pub begun : ℕ
   pub counted : HasPlanned tells k r before begun
   pub calls : reads' + 8 * given ≤ reads + 8 * given' + 128 * (begun + 1)
   pub turns : m'.turns.number + 8 * given ≤ m.turns.number + 8 * given' + 4 * one + 129 * (begun + 1) + 1
+  pub read : given ≤ given'
+  pub steps : given' + 65580 * m.steps.number ≤ given + 65580 * m'.steps.number
+  pub greatest : m'.greatest.number ≤ max m.greatest.number 65580
 
 -- from the first piece on there are stops alone
 abbrev pub StopsIn : FlashFault → ℕ → Bool → Bool → Counts → Counts → Type 0

@@ -1,9 +1,12 @@
 -- What a part of an image lays over a partition, and what a call may touch of it.
-use Rattle.std.specs.Prelude.{◌≡◌, ℕ, ◌+◌, ◌*◌, ◌≤◌, ◌<◌, Bool, List, [], ◌∷◌, ◌++◌, take, replicate, Option, Some}
-use Rattle.std.specs.Prelude.{None, is_some, slice_index_or, ◌⊎◌, Result, Ok, Err}
+use Rattle.std.specs.Prelude.{◌≡◌, ℕ, ◌+◌, ◌*◌, ◌≤◌, ◌<◌, Bool, List, [], take, replicate, Option}
+use Rattle.std.specs.Prelude.{None, is_some, slice_index_or, ◌⊎◌, Result, Ok, Err, OnOk, OnErr, IfErr}
 use Rattle.std.specs.List.{concat}
-use Rattle.abt_io.specs.Moment.{Moment, Keeps}
-use Rattle.abt_chunks.specs.Ahead.{somes, fills, gaps}
+use Rattle.abt_io.specs.Moment.{EachSince, Keeps, Moment, Past, moment_of}
+use Rattle.abt_io.specs.declared.device.DeviceFault.TheVariants.{Failed}
+use Rattle.abt_io.specs.declared.device.Partition as partitions
+use Rattle.abt_io.specs.declared.meter.Meter.{Meter}
+use Rattle.abt_io.specs.Lent.{NoStep}
 use Rattle.abt_chunks.specs.declared.walk.Part.{Part}
 use Rattle.abt_chunks.specs.declared.walk.Part.TheVariants as parts
 use Rattle.abt_io.specs.declared.device.DeviceFault.{DeviceFault}
@@ -12,19 +15,9 @@ use Rattle.abt_flash.specs.declared.fault.FlashFault.TheVariants as flashes
 use Rattle.abt_flash.specs.declared.laying.Task.{Task}
 use Rattle.abt_flash.specs.declared.laying.Task.TheVariants as tasks
 
--- cells from a place on
-abbrev pub from_place : ℕ → List (Option ℕ) → List (Option ℕ)
-from_place at cs = replicate at None ++ cs
-
 -- byte i of a device is written by cells that are laid from its first byte on
 abbrev pub writes : List (Option ℕ) → ℕ → Bool
 writes cs i = is_some (slice_index_or cs i None)
-
--- how many bytes cells write
-abbrev pub written_by : List (Option ℕ) → ℕ
-written_by [] = 0
-written_by (None ∷ cs) = written_by cs
-written_by (Some x ∷ cs) = 1 + written_by cs
 
 -- ---- what is done for a part
 
@@ -97,13 +90,7 @@ UnlessUndone t (Err e) P = Unit {0}
 
 -- ---- the same of a part
 
--- its cells, raw ones from the front of the window, and how many bytes are written of it
-abbrev pub cells_by : Part → List ℕ → List (Option ℕ)
-cells_by (parts.Raw n) window = somes (take n window)
-cells_by (parts.Words word n) window = fills n word
-cells_by (parts.Skip n) window = gaps n
-cells_by q window = []
-
+-- how many bytes are written of it
 abbrev pub put_by : Part → ℕ
 put_by (parts.Raw n) = n
 put_by (parts.Words word n) = 4 * n
@@ -132,3 +119,25 @@ Settles q pending = Unit {0}
 pub record During (touched : ℕ → Bool) (m e n : Moment) : Type 0 where
   pub kept : Keeps touched m n
   pub synced : (n.synced ≡ m.synced) ⊎ (n ≡ e)
+
+-- At every moment of a call, from the first to the last, no byte is touched but these.
+pub record Touches (touched : ℕ → Bool) (past past' : Past) (p p' : List ℕ) : Type 0 where
+  pub kept : Keeps touched (moment_of past p) (moment_of past' p')
+  pub moments : EachSince past.moments past'.moments (During touched (moment_of past p) (moment_of past' p'))
+
+-- ---- what writing a part costs
+
+-- The calls of the partition, and the turns of loops, in the bytes that it took; no step ends.
+pub record PutCosts {X E : Type 0} (r : Result X E) (more : ℕ) {C : Type 0} (p : partitions.Ghosts C) (old new : C)
+    (m m' : Meter) : Type 0 where
+  pub taken : p.taken old ≤ p.taken new
+  pub calls : p.puts new + p.syncs new + 2 * p.taken old ≤ p.puts old + p.syncs old + 2 * p.taken new + 1
+  pub turns : m'.turns.number + 2 * p.taken old ≤ m.turns.number + 2 * p.taken new + 16
+  pub few : OnOk r (m'.turns.number + 2 * p.taken old ≤ m.turns.number + 2 * p.taken new + more)
+  pub no_step : NoStep m m'
+
+-- It is refused where the partition has failed, and for no other reason.
+pub record PutFails {X : Type 0} (r : Result X DeviceFault) (old new : ℕ) : Type 0 where
+  pub cause : OnErr r (old < new)
+  pub clean : OnOk r (new ≡ old)
+  pub failed : IfErr r (λ e. e ≡ Failed)

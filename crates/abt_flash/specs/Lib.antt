@@ -9,3 +9,4 @@ pub mod Causes
 pub mod Sparse
 pub mod Raw
 pub mod Way
+pub mod OnePiece

@@ -12,9 +12,9 @@ use Rattle.abt_flash.specs.declared.fault.FlashFault.TheVariants.{BadBlock, Limi
 use Rattle.abt_flash.specs.declared.fault.FlashFault.TheVariants.{Stopped, NoSuchPiece}
 
 -- the bytes begin with an image
-abbrev pub IsImage : Outcome → Type 0
-IsImage (Image h cs rest) = Unit {0}
-IsImage (Fault f cells) = ⊥
+abbrev pub IsImageOutcome : Outcome → Type 0
+IsImageOutcome (Image h cs rest) = Unit {0}
+IsImageOutcome (Fault f cells) = ⊥
 
 -- how many bytes its blocks have, and what stands behind it
 abbrev pub size_in : Outcome → ℕ
@@ -35,7 +35,7 @@ sparse_image x = record { size = size_in (outcome x); blocks = blocks_in (outcom
 
 -- x begins with an image, the limit has room for each of its blocks, and the partition for all
 pub record Fits (x : List ℕ) (limit size : ℕ) : Type 0 where
-  pub image : IsImage (outcome x)
+  pub image : IsImageOutcome (outcome x)
   pub room : Room limit (size_in (outcome x)) (length (blocks_in (outcome x))) size
 
 -- Why the sparse image at the front of x is not delivered behind its first pieces, in order: its own fault, the limit,
@@ -46,9 +46,9 @@ SparseRefused (Sparse f) x limit size made source spool a z =
 SparseRefused (Read d) x limit size made source spool a z = (a.read_faults < z.read_faults) × (d ≡ Failed)
 SparseRefused SourceChanged x limit size made source spool a z = source ≡ false
 SparseRefused (LimitTooSmall least) x limit size made source spool a z =
-    (limit < least) × (IsTrue source → IsImage (outcome x) × (least ≡ 64 + size_in (outcome x)))
+    (limit < least) × (IsTrue source → IsImageOutcome (outcome x) × (least ≡ 64 + size_in (outcome x)))
 SparseRefused (PartitionTooSmall need) x limit size made source spool a z =
-    (size < need) × (IsTrue source → IsImage (outcome x) × (64 + size_in (outcome x) ≤ limit)
+    (size < need) × (IsTrue source → IsImageOutcome (outcome x) × (64 + size_in (outcome x) ≤ limit)
     × (need ≡ length (blocks_in (outcome x)) * size_in (outcome x)))
 SparseRefused (NoSuchPiece k) x limit size made source spool a z =
     (0 < k) × (k ≤ made) × (IsTrue source → Fits x limit size)

@@ -1,6 +1,7 @@
 -- One step of a flasher: what it lays, and where it stands behind it.
 use Rattle.std.specs.Prelude.{◌≡◌, ℕ, ◌+◌, ◌-◌, ◌*◌, ◌<◌, ◌≤◌, Bool, true, false, List, [], ◌++◌, length, Option, Some}
 use Rattle.std.specs.Prelude.{Result, Ok, Err, IsTrue, is_err, OnOk, nat_lt, ◌&&◌, ◌||◌, if◌then◌else◌}
+use Rattle.std.specs.Prelude.{◌^◌, take, drop, min}
 use Rattle.abt_io.specs.Moment.{Past, Keeps, EachSince, moment_of}
 use Rattle.abt_sparse.specs.Block.{over}
 use Rattle.abt_sparse.specs.View.{view}
@@ -16,44 +17,39 @@ use Rattle.abt_chunks.specs.Expanding.{IsGoing}
 use Rattle.abt_chunks.specs.Parts.{ahead}
 use Rattle.abt_chunks.specs.Places.{owed, place_of}
 use Rattle.abt_chunks.specs.ListingAhead.{at_end, head_in, upcoming}
+use Rattle.abt_io.specs.declared.device.Input as inputs
+use Rattle.abt_io.specs.declared.device.Source as sources
+use Rattle.abt_io.specs.declared.device.Partition as partitions
 use Rattle.abt_io.specs.declared.meter.Meter.{Meter}
-use Rattle.abt_flash.specs.Devices.{Flow}
-use Rattle.abt_flash.specs.Fault.{fault_of_sparse, refused_syncs}
-use Rattle.abt_flash.specs.Laying.{During, from_place, writes, written_by}
+use Rattle.abt_chunks.specs.Turns.{todo}
+use Rattle.abt_io.specs.Lent.{OneStep}
+use Rattle.abt_flash.specs.declared.flasher.Flasher.{Flasher}
+use Rattle.abt_flash.specs.Devices.{Flow, FlowGrows, LeavesUnread, flow}
+use Rattle.abt_flash.specs.Fault.{FlashingRises, refused_syncs}
+use Rattle.abt_flash.specs.Laying.{During, writes}
 use Rattle.abt_flash.specs.declared.fault.FlashFault.{FlashFault}
 use Rattle.abt_flash.specs.declared.fault.FlashFault.TheVariants.{Sparse, Read, Write, Sync, PartitionTooSmall}
 use Rattle.abt_flash.specs.declared.stage.Stage.{Stage}
 use Rattle.abt_flash.specs.declared.stage.Stage.TheVariants as stages
+use Rattle.abt_chunks.specs.Expanding.{OnMoreExpanding, OnDone}
+use Rattle.abt_chunks.specs.ListingAhead.{idle}
+use Rattle.abt_chunks.specs.Places.{from_place, said_by}
 
--- what is answered to a part that was laid, and the stage that it leaves
-abbrev pub answer_of : Part → Result Progress FlashFault
-answer_of parts.End = Ok answers.Done
-answer_of (parts.Fault f) = Err (fault_of_sparse f)
-answer_of q = Ok answers.More
-
+-- the stage that an answer leaves
 abbrev pub stage_of : Result Progress FlashFault → Stage
 stage_of (Ok answers.More) = stages.Going
 stage_of (Ok answers.Done) = stages.Done
 stage_of (Err f) = stages.Failed f
 
--- P, where the flasher has more to do, and where it has ended
-abbrev pub OnMore : Result Progress FlashFault → Type 0 → Type 0
-OnMore (Ok answers.More) P = P
-OnMore r P = Unit {0}
-
-abbrev pub OnDone : Result Progress FlashFault → Type 0 → Type 0
-OnDone (Ok answers.Done) P = P
-OnDone r P = Unit {0}
-
 -- P, save where bytes were not read or not written
-abbrev pub UnlessDevice : FlashFault → Type 0 → Type 0
-UnlessDevice (Read d) P = Unit {0}
-UnlessDevice (Write d) P = Unit {0}
-UnlessDevice f P = P
+abbrev pub UnlessFlashingDevice : FlashFault → Type 0 → Type 0
+UnlessFlashingDevice (Read d) P = Unit {0}
+UnlessFlashingDevice (Write d) P = Unit {0}
+UnlessFlashingDevice f P = P
 
-abbrev pub Unless : {X : Type 0} → Result X FlashFault → Type 0 → Type 0
-Unless (Ok x) P = P
-Unless (Err f) P = UnlessDevice f P
+abbrev pub UnlessFlashing : {X : Type 0} → Result X FlashFault → Type 0 → Type 0
+UnlessFlashing (Ok x) P = P
+UnlessFlashing (Err f) P = UnlessFlashingDevice f P
 
 -- the flasher has neither ended nor failed, nor has its walk
 abbrev pub Goes : Stage → Phase → Type 0
@@ -111,14 +107,6 @@ abbrev pub OnShort : {X : Type 0} → Result X FlashFault → Type 0 → Type 0
 OnShort (Err (PartitionTooSmall need)) P = P
 OnShort r P = Unit {0}
 
--- 1 where the next step may pass a gap, which reads and writes nothing. One may follow each header of a chunk.
-abbrev pub idle_in : Phase → Walk → ℕ
-idle_in phases.Body s = if at_end s then 0 else 1
-idle_in p s = 0
-
-abbrev pub idle : Walk → ℕ
-idle s = idle_in s.phase s
-
 -- What a step from walk s to walk s' lays over a partition that held p, once the bytes c are read and rest is left.
 pub record Laid (tells : Bool) (stage : Stage) (r : Result Progress FlashFault) (s s' : Walk) (c rest : List ℕ)
     (past past' : Past) (p p' : List ℕ) (taken taken' : ℕ) : Type 0 where
@@ -127,11 +115,12 @@ pub record Laid (tells : Bool) (stage : Stage) (r : Result Progress FlashFault) 
   pub more : List ℕ → List (Option ℕ)
   pub front : (t : List ℕ) → (ahead s (c ++ t)).cells ≡ cells ++ more t
   -- what lay ahead is what it lays, and then what lies ahead behind it
-  pub told : (t : List ℕ) → (IsTrue (is_err r) → t ≡ rest) → Unless r (ahead s (c ++ t) ≡ before cells (ahead s' t))
-  pub moved : OnMore r (place_of s' ≡ place_of s + length cells)
+  pub told : (t : List ℕ) → (IsTrue (is_err r) → t ≡ rest)
+      → UnlessFlashing r (ahead s (c ++ t) ≡ before cells (ahead s' t))
+  pub moved : OnMoreExpanding r (place_of s' ≡ place_of s + length cells)
   -- each byte of them is written, and written once
-  pub counted : Unless r (taken' ≡ taken + written_by cells)
-  pub content : IsTrue tells → Unless r (p' ≡ over p (from_place (place_of s) cells))
+  pub counted : UnlessFlashing r (taken' ≡ taken + said_by cells)
+  pub content : IsTrue tells → UnlessFlashing r (p' ≡ over p (from_place (place_of s) cells))
   -- nothing else is touched
   pub kept : IsTrue tells → Keeps (writes (from_place (place_of s) cells)) (moment_of past p) (moment_of past' p')
   pub moments : IsTrue tells → EachSince past.moments past'.moments
@@ -150,9 +139,9 @@ Heads (Err f) s s' x y = Unit {0}
 -- Where the flasher goes on: no chunk has been begun only where none had been and the partition was not called, the
 -- header stays, and the first chunk is begun behind the header.
 pub record GoesOn (r : Result Progress FlashFault) (stage : Stage) (s s' : Walk) (untouched : Type 0) : Type 0 where
-  pub fresh : Goes stage s.phase → OnMore r (IsFresh s' → IsFresh s × untouched)
-  pub header : OnMore r (s.phase ≡ phases.Body → s'.header ≡ s.header)
-  pub begins : OnMore r (0 < s'.index → passed s ≡ true)
+  pub fresh : Goes stage s.phase → OnMoreExpanding r (IsFresh s' → IsFresh s × untouched)
+  pub header : OnMoreExpanding r (s.phase ≡ phases.Body → s'.header ≡ s.header)
+  pub begins : OnMoreExpanding r (0 < s'.index → passed s ≡ true)
 
 -- A sync that was called has succeeded, save where the answer says that it was refused, and then nothing is pending.
 pub record StepSyncs (tells : Bool) (stage : Stage) (s : Walk) (r : Result Progress FlashFault) (past past' : Past)
@@ -167,5 +156,47 @@ pub record StepCosts (r : Result Progress FlashFault) (s s' : Walk) (old new : F
   pub reads : new.reads ≤ old.reads + (new.given - old.given) + 1
   pub puts : new.puts + new.syncs + 2 * old.taken ≤ old.puts + old.syncs + 2 * new.taken + 1
   pub turns : m'.turns.number + 2 * old.taken ≤ m.turns.number + (new.given - old.given) + 2 * new.taken + 17
-  pub few : OnMore r (m'.turns.number + 2 * old.taken ≤ m.turns.number + (new.given - old.given) + 2 * new.taken + 2)
-  pub progress : OnMore r (idle s' + 1 ≤ idle s + 2 * (new.given - old.given) + 2 * (new.taken - old.taken))
+  pub few : OnMoreExpanding r
+      (m'.turns.number + 2 * old.taken ≤ m.turns.number + (new.given - old.given) + 2 * new.taken + 2)
+  pub progress : OnMoreExpanding r (idle s' + 1 ≤ idle s + 2 * (new.given - old.given) + 2 * (new.taken - old.taken))
+
+-- ---- a step
+
+-- At most a window is read of an input, from its front on.
+pub record StepReads {A : Type 0} (i : inputs.Ghosts A) (old new : A) : Type 0 where
+  pub asked : i.given new ≤ i.given old + 65536
+  pub present : IsTrue i.tells → i.given new - i.given old ≤ length (i.remaining old)
+  pub rest : IsTrue i.tells → i.remaining new ≡ drop (i.given new - i.given old) (i.remaining old)
+  pub frame : i.read_frame new ≡ i.read_frame old
+
+-- what a step of a flasher does
+pub record FlashStep {A C : Type 0} (i : inputs.Ghosts A) (s : sources.Ghosts C) (p : partitions.Ghosts C)
+    (r : Result Progress FlashFault) (old new : Flasher) (input input' : A) (partition partition' : C) (m m' : Meter)
+    : Type 0 where
+  -- what is read: at most a window, and of the partition nothing
+  pub read : StepReads i input input'
+  pub unread : LeavesUnread s partition partition'
+  -- what it lays over the partition, and that it touches nothing else
+  pub told : IsTrue i.tells → Laid s.tells old.stage r old.walk new.walk
+      (take (i.given input' - i.given input) (i.remaining input)) (i.remaining input') (p.past partition)
+      (p.past partition') (s.content partition) (s.content partition') (p.taken partition) (p.taken partition')
+  pub heads : IsTrue i.tells → Goes old.stage old.walk.phase
+      → Heads r old.walk new.walk (i.remaining input) (i.remaining input')
+  pub syncs : StepSyncs s.tells old.stage old.walk r (p.past partition) (p.past partition') (p.syncs partition)
+      (p.syncs partition')
+  -- it is too small only before the first chunk, and until then it is not called
+  pub measures : Goes old.stage old.walk.phase → Measures r old.walk (s.size partition)
+  pub short : OnShort r (partition' ≡ partition)
+  -- where the flasher stands
+  pub goes_on : GoesOn r old.stage old.walk new.walk (partition' ≡ partition)
+  pub laid : Goes old.stage old.walk.phase
+      → OnOk r (new.laid ≡ min (old.laid + (p.taken partition' - p.taken partition)) (2 ^ 64 - 1))
+  pub stage : new.stage ≡ stage_of r
+  pub leaves : Goes old.stage old.walk.phase → Leaves r new.walk.phase
+  pub cause : Goes old.stage old.walk.phase → FlashingRises r (i.read_faults input) (i.read_faults input')
+      (p.put_faults partition) (p.put_faults partition')
+  -- what it costs
+  pub grows : FlowGrows (flow i p input partition) (flow i p input' partition')
+  pub fewer : OnMoreExpanding r (todo new.walk < todo old.walk)
+  pub costs : StepCosts r old.walk new.walk (flow i p input partition) (flow i p input' partition') m m'
+  pub one_step : OneStep (i.given input' - i.given input) m m'

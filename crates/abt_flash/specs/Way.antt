@@ -4,8 +4,14 @@ use Rattle.abt_io.specs.declared.meter.Meter.{Meter}
 use Rattle.abt_runs.specs.Raw.{RawPlace, raw_charge}
 use Rattle.abt_runs.specs.declared.part.Cursor.{Cursor}
 use Rattle.abt_runs.specs.declared.raw.RawRuns.{RawRuns}
+use Rattle.abt_runs.specs.declared.runs.BlockRuns as images
 use Rattle.abt_pieces.specs.Calls.{Devices}
+use Rattle.abt_pieces.specs.Cutter.{piece_words}
+use Rattle.abt_pieces.specs.Image.{Appended, IsPlainImage}
+use Rattle.abt_pieces.specs.NextPiece.{IsNext}
 use Rattle.abt_pieces.specs.declared.fault.PieceFault.{PieceFault}
+use Rattle.abt_pieces.specs.declared.outline.Piece.{Piece}
+use Rattle.abt_pieces.specs.declared.stage.Stage.{Stage}
 use Rattle.std.proofs.Common.{arith}
 use Rattle.abt_placed.specs.Unfinished.{IsNoImage}
 use Rattle.abt_placed.specs.Whole.{read_of}
@@ -18,6 +24,21 @@ pub record WayCosts (one : ℕ) (a z : Devices) (m m' : Meter) : Type 0 where
   pub greatest : m'.greatest.number ≤ max m.greatest.number 65536
   pub calls : z.reads + z.writes + 8 * (a.given + a.written) ≤ a.reads + a.writes + 8 * (z.given + z.written) + 140
   pub turns : m'.turns.number + 8 * (a.given + a.written) ≤ m.turns.number + 8 * (z.given + z.written) + 140 + 3 * one
+
+-- Whatever the source gave, the piece p was written behind what stood there: an image, the next one. The source had
+-- given d bytes before, and d' then.
+pub record WritesNext {R : Type 0} (g : images.Ghosts R) (runs : R) (limit : ℕ) (start start' : Cursor)
+    (made made' : ℕ) (st' : Stage) (d d' : ℕ) (old new : List ℕ) (m m' : Meter) (p : Piece) : Type 0 where
+  pub image : Appended (IsPlainImage (g.size runs) (g.count runs)) old new
+  pub piece : IsNext (g.count runs) limit start.block start'.block made made' st' p
+  pub words : m'.turns.number ≤ m.turns.number + 8 * ((d' - d) + (length new - length old)) + 140
+      + piece_words (g.one runs) (g.count runs) p.past
+  pub takes : length new + g.taken runs start ≤ length old + g.taken runs start' + 80
+
+-- what was read for it, also where it is the last of n blocks
+pub record WaySpent (before : Cursor → ℕ) (n each last : ℕ) (start start' : Cursor) (d d' : ℕ) : Type 0 where
+  pub piece : d' + before start ≤ d + before start' + each
+  pub end : n ≤ start'.block → d' + before start ≤ d + before start' + last
 
 -- Headers last: what stood there stays, and where the piece is not finished, nothing stands behind it, or what is no
 -- image whatever follows it.

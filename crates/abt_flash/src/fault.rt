@@ -1,7 +1,7 @@
 //! Why flashing or delivering is refused.
 
 ghost use Rattle.std.specs.Prelude.{◌≡◌};
-ghost use Rattle.abt_flash.specs.Fault.{cause_number, fault_number, fault_of_sparse};
+ghost use Rattle.abt_flash.specs.Fault.{cause_number, flash_fault_number, fault_of_sparse};
 
 use abt_io::DeviceFault;
 use abt_sparse::SparseFault;
@@ -91,7 +91,7 @@ pub enum FlashFault {
 impl FlashFault {
     /// The number of the fault in the list of all faults.
     pub fn number(&self) -> u32
-        ensures { result ≡ fault_number self.now }
+        ensures { result ≡ flash_fault_number self.now }
     {
         match self {
             FlashFault::Sparse(fault) => fault.number(),

@@ -1,15 +1,14 @@
 //! Flashing a sparse image in steps.
 
-ghost use Rattle.std.specs.Prelude.{◌≡◌, ◌<◌, ◌≤◌, ◌+◌, ◌-◌, ◌*◌, ◌/◌, ◌^◌, ℕ, List, [], true, IsTrue, OnOk, Err};
-ghost use Rattle.std.specs.Prelude.{length, take, drop, max, min, nat_lt, ◌||◌, if◌then◌else◌};
-ghost use Rattle.abt_chunks.specs.Turns.{todo};
+ghost use Rattle.std.specs.Prelude.{◌≡◌, ◌<◌, ◌≤◌, ◌+◌, ◌-◌, ◌*◌, ◌/◌, ◌^◌, [], Err};
+ghost use Rattle.std.specs.Prelude.{length, max, min, nat_lt, ◌||◌, if◌then◌else◌};
 ghost use Rattle.abt_chunks.specs.ListingAhead.{at_end};
-ghost use Rattle.abt_flash.specs.Devices.{Grows, Reads, flow};
-ghost use Rattle.abt_flash.specs.Fault.{Rises, refused_syncs};
 ghost use Rattle.abt_flash.specs.Laying.{put_by};
-ghost use Rattle.abt_flash.specs.Stepping.{Goes, GoesOn, Heads, IsFresh, IsOver, Laid, Leaves, Measures, OnDone};
-ghost use Rattle.abt_flash.specs.Stepping.{OnMore, OnShort, StepCosts, StepSyncs, answer_of, idle, is_done};
+ghost use Rattle.abt_flash.specs.Stepping.{IsOver};
 ghost use Rattle.abt_flash.specs.Stepping.{is_short_of, need_of, passed, stage_of};
+ghost use Rattle.abt_flash.specs.Stepping.{FlashStep};
+ghost use Rattle.abt_chunks.specs.Expanding.{answer_by};
+ghost use Rattle.abt_flash.specs.Fault.{fault_of_sparse};
 
 use crate::fault::{FlashFault, sparse_fault};
 use crate::laying::lay_part;
@@ -69,7 +68,7 @@ fn most_asked() -> usize
 /// What a step answers once its part has been laid.
 #[inline(always)]
 fn answer(part: Part) -> Result<Progress, FlashFault>
-    ensures { result ≡ answer_of part }
+    ensures { result ≡ answer_by fault_of_sparse part }
 {
     match part {
         Part::End => Ok(Progress::Done),
@@ -161,63 +160,8 @@ impl Flasher {
         m: &mut Meter,
     ) -> Result<Progress, FlashFault>
         requires going { self.old.stage ≡ Stage.Going }
-        ensures asked { I.given input.old ≤ I.given input.new × I.given input.new ≤ I.given input.old + 65536 }
-        ensures present { IsTrue I.tells → I.given input.new - I.given input.old ≤ length (I.remaining input.old) }
-        ensures rest { IsTrue I.tells → I.remaining input.new
-            ≡ drop (I.given input.new - I.given input.old) (I.remaining input.old) }
-        // Of the partition nothing is read.
-        ensures unread { (P.reads partition.new ≡ P.reads partition.old)
-            × (P.given partition.new ≡ P.given partition.old)
-            × (P.read_faults partition.new ≡ P.read_faults partition.old) }
-        ensures size { P.size partition.new ≡ P.size partition.old }
-        // What it lays over the partition, and that it touches nothing else.
-        ensures told { IsTrue I.tells → Laid P.tells self.old.stage result self.old.walk self.new.walk
-            (take (I.given input.new - I.given input.old) (I.remaining input.old)) (I.remaining input.new)
-            (P.past partition.old) (P.past partition.new) (P.content partition.old) (P.content partition.new)
-            (P.taken partition.old) (P.taken partition.new) }
-        ensures heads { IsTrue I.tells → Goes self.old.stage self.old.walk.phase →
-            Heads result self.old.walk self.new.walk (I.remaining input.old) (I.remaining input.new) }
-        ensures measures { Goes self.old.stage self.old.walk.phase →
-            Measures result self.old.walk (P.size partition.old) }
-        // It is too small only before the first chunk, and until then it is not called.
-        ensures short { OnShort result (partition.new ≡ partition.old) }
-        ensures fresh { Goes self.old.stage self.old.walk.phase →
-            OnMore result (IsFresh self.new.walk → IsFresh self.old.walk × (partition.new ≡ partition.old)) }
-        ensures header { OnMore result (self.old.walk.phase ≡ Phase.Body → self.new.walk.header
-            ≡ self.old.walk.header) }
-        ensures laid { Goes self.old.stage self.old.walk.phase →
-            OnOk result (self.new.laid ≡ min (self.old.laid + (P.taken partition.new - P.taken partition.old))
-            (2 ^ 64 - 1)) }
-        ensures stage { self.new.stage ≡ stage_of result }
-        ensures leaves { Goes self.old.stage self.old.walk.phase → Leaves result self.new.walk.phase }
-        ensures settled { Goes self.old.stage self.old.walk.phase → IsTrue P.tells →
-            OnDone result ((P.past partition.new).pending ≡ []) }
-        ensures synced { (P.past partition.new).synced
-            ≡ (P.past partition.old).synced + (if is_done self.old.stage result then 1 else 0) }
-        // A sync that was called has succeeded, save where the answer says that it was refused.
-        ensures refused_syncs { Goes self.old.stage self.old.walk.phase →
-            P.syncs partition.new + (P.past partition.old).synced
-            ≡ P.syncs partition.old + (P.past partition.new).synced + refused_syncs result }
-        ensures cause { Goes self.old.stage self.old.walk.phase → Rises result (I.read_faults input.old)
-            (I.read_faults input.new) (P.put_faults partition.old) (P.put_faults partition.new) }
-        ensures taken { P.taken partition.old ≤ P.taken partition.new }
-        ensures frame { I.read_frame input.new ≡ I.read_frame input.old }
-        ensures read_faults { I.read_faults input.old ≤ I.read_faults input.new }
-        ensures put_faults { P.put_faults partition.old ≤ P.put_faults partition.new }
-        ensures begins { OnMore result (0 < self.new.walk.index → passed self.old.walk ≡ true) }
-        ensures fewer { OnMore result (todo self.new.walk < todo self.old.walk) }
-        ensures progress { OnMore result
-            (idle self.new.walk + 1 ≤ idle self.old.walk + 2 * (I.given input.new - I.given input.old)
-            + 2 * (P.taken partition.new - P.taken partition.old)) }
-        ensures reads { I.reads input.new ≤ I.reads input.old + (I.given input.new - I.given input.old) + 1 }
-        ensures puts { P.puts partition.new + P.syncs partition.new + 2 * P.taken partition.old
-            ≤ P.puts partition.old + P.syncs partition.old + 2 * P.taken partition.new + 1 }
-        ensures turns { m.new.turns.number + 2 * P.taken partition.old
-            ≤ m.old.turns.number + (I.given input.new - I.given input.old) + 2 * P.taken partition.new + 17 }
-        ensures few { OnMore result (m.new.turns.number + 2 * P.taken partition.old
-            ≤ m.old.turns.number + (I.given input.new - I.given input.old) + 2 * P.taken partition.new + 2) }
-        ensures steps { m.new.steps.number ≡ m.old.steps.number + 1 }
-        ensures greatest { m.new.greatest.number ≡ max m.old.greatest.number (I.given input.new - I.given input.old) }
+        ensures stepped { FlashStep I.Input P.Source P.Partition.own result self.old self.new input.old input.new
+            partition.old partition.new m.old m.new }
     {
         let need = self.need();
         if self.is_short(partition.length()) {
@@ -257,49 +201,10 @@ impl Flasher {
         w: &mut Window,
         m: &mut Meter,
     ) -> Result<Progress, FlashFault>
-        // What is read: at most a window, and of the partition nothing.
-        ensures asked { I.given input.new ≤ I.given input.old + 65536 }
-        ensures read { Reads I.tells (I.given input.old) (I.given input.new) (I.remaining input.old)
-            (I.remaining input.new) }
-        ensures unread { (P.reads partition.new ≡ P.reads partition.old)
-            × (P.given partition.new ≡ P.given partition.old)
-            × (P.read_faults partition.new ≡ P.read_faults partition.old) }
-        ensures size { P.size partition.new ≡ P.size partition.old }
-        // What it lays over the partition, and that it touches nothing else.
-        ensures told { IsTrue I.tells → Laid P.tells self.old.stage result self.old.walk self.new.walk
-            (take (I.given input.new - I.given input.old) (I.remaining input.old)) (I.remaining input.new)
-            (P.past partition.old) (P.past partition.new) (P.content partition.old) (P.content partition.new)
-            (P.taken partition.old) (P.taken partition.new) }
-        ensures heads { IsTrue I.tells → Goes self.old.stage self.old.walk.phase →
-            Heads result self.old.walk self.new.walk (I.remaining input.old) (I.remaining input.new) }
-        ensures syncs { StepSyncs P.tells self.old.stage self.old.walk result (P.past partition.old)
-            (P.past partition.new)
-            (P.syncs partition.old) (P.syncs partition.new) }
-        // It is too small only before the first chunk, and until then it is not called.
-        ensures measures { Goes self.old.stage self.old.walk.phase →
-            Measures result self.old.walk (P.size partition.old) }
-        ensures short { OnShort result (partition.new ≡ partition.old) }
-        // Where the flasher stands.
-        ensures goes_on { GoesOn result self.old.stage self.old.walk self.new.walk (partition.new ≡ partition.old) }
-        ensures laid { Goes self.old.stage self.old.walk.phase → OnOk result (self.new.laid
-            ≡ min (self.old.laid + (P.taken partition.new - P.taken partition.old)) (2 ^ 64 - 1)) }
-        ensures stage { self.new.stage ≡ stage_of result }
-        ensures leaves { Goes self.old.stage self.old.walk.phase → Leaves result self.new.walk.phase }
+        ensures stepped { FlashStep I.Input P.Source P.Partition.own result self.old self.new input.old input.new
+            partition.old partition.new m.old m.new }
         ensures again { IsOver self.old.stage →
             (self.new ≡ self.old) × (input.new ≡ input.old) × (partition.new ≡ partition.old) }
-        ensures cause { Goes self.old.stage self.old.walk.phase → Rises result
-            (I.read_faults input.old) (I.read_faults input.new) (P.put_faults partition.old)
-            (P.put_faults partition.new) }
-        ensures frame { I.read_frame input.new ≡ I.read_frame input.old }
-        // What it costs.
-        ensures grows { Grows (flow I.Input P.Partition.own input.old partition.old)
-            (flow I.Input P.Partition.own input.new partition.new) }
-        ensures fewer { OnMore result (todo self.new.walk < todo self.old.walk) }
-        ensures costs { StepCosts result self.old.walk self.new.walk
-            (flow I.Input P.Partition.own input.old partition.old)
-            (flow I.Input P.Partition.own input.new partition.new) m.old m.new }
-        ensures steps { m.new.steps.number ≡ m.old.steps.number + 1 }
-        ensures greatest { m.new.greatest.number ≡ max m.old.greatest.number (I.given input.new - I.given input.old) }
     {
         match self.stage {
             Stage::Done => {

@@ -4,11 +4,12 @@ ghost use Rattle.std.specs.Prelude.{◌≡◌, ◌-◌, IsTrue, take};
 ghost use Rattle.abt_io.specs.Moment.{Keeps, moment_of};
 ghost use Rattle.abt_sparse.specs.Pieces.{given};
 ghost use Rattle.abt_sparse.specs.Reading.{outcome};
-ghost use Rattle.abt_flash.specs.Devices.{Grows, Reads, flow};
-ghost use Rattle.abt_flash.specs.Fault.{Rises};
+ghost use Rattle.abt_flash.specs.Devices.{FlowGrows, Reads, flow};
+ghost use Rattle.abt_flash.specs.Fault.{FlashingRises};
 ghost use Rattle.abt_flash.specs.Laying.{writes};
 ghost use Rattle.abt_flash.specs.Flashing.{FlashCosts, Flashes, Holds, Syncs, TouchesOnly};
 ghost use Rattle.abt_flash.specs.Stepping.{OnShort};
+ghost use Rattle.abt_flash.specs.Devices.{LeavesUnread};
 
 use crate::fault::FlashFault;
 use crate::flasher::Flasher;
@@ -46,14 +47,11 @@ pub fn flash<I: Input, P: Partition>(
         (P.syncs partition.old) (P.syncs partition.new) }
     // One that is too small is not called.
     ensures untouched { OnShort result (partition.new ≡ partition.old) }
-    ensures size { P.size partition.new ≡ P.size partition.old }
-    ensures unread { (P.reads partition.new ≡ P.reads partition.old)
-        × (P.given partition.new ≡ P.given partition.old)
-        × (P.read_faults partition.new ≡ P.read_faults partition.old) }
-    ensures cause { Rises result (I.read_faults input.old) (I.read_faults input.new)
+    ensures unread { LeavesUnread P.Source partition.old partition.new }
+    ensures cause { FlashingRises result (I.read_faults input.old) (I.read_faults input.new)
         (P.put_faults partition.old) (P.put_faults partition.new) }
     ensures frame { I.read_frame input.new ≡ I.read_frame input.old }
-    ensures grows { Grows (flow I.Input P.Partition.own input.old partition.old)
+    ensures grows { FlowGrows (flow I.Input P.Partition.own input.old partition.old)
         (flow I.Input P.Partition.own input.new partition.new) }
     ensures costs { FlashCosts (flow I.Input P.Partition.own input.old partition.old)
         (flow I.Input P.Partition.own input.new partition.new) m.old m.new }

@@ -1,6 +1,6 @@
 //! Writing what a part of an image gives to its place on a partition.
 
-ghost use Rattle.std.specs.Prelude.{◌≡◌, ◌<◌, ◌≤◌, ◌+◌, ◌*◌, ◌^◌, IsTrue, OnOk, OnErr, IfErr, false, is_ok, replicate};
+ghost use Rattle.std.specs.Prelude.{◌≡◌, ◌<◌, ◌≤◌, ◌+◌, ◌*◌, ◌^◌, IsTrue, OnOk, OnErr, false, is_ok, replicate};
 ghost use Rattle.std.specs.List.{concat};
 ghost use Rattle.abt_io.specs.Moment.{EachSince, Keeps, KeepsUnsynced, in_range, moment_of, put_at};
 ghost use Rattle.abt_sparse.specs.Block.{over};
@@ -8,10 +8,14 @@ ghost use Rattle.abt_chunks.specs.Ahead.{somes};
 ghost use Rattle.abt_chunks.specs.Expanding.{IsWritable};
 ghost use Rattle.abt_chunks.specs.Parts.{is_fault};
 ghost use Rattle.abt_flash.specs.Fault.{OnUnsynced, PutCause, UnlessUnwritten, refused_syncs};
-ghost use Rattle.abt_flash.specs.Laying.{CanDo, During, IsIdle, IsStill, Settles, SettlesIn, UnlessUndone};
-ghost use Rattle.abt_flash.specs.Laying.{answered, bytes_by, cells_by, from_place, put_by, put_in, refused_in};
+ghost use Rattle.abt_flash.specs.Laying.{CanDo, IsIdle, IsStill, Settles, SettlesIn, UnlessUndone};
+ghost use Rattle.abt_flash.specs.Laying.{answered, bytes_by, put_by, put_in, refused_in};
 ghost use Rattle.abt_flash.specs.Laying.{syncs_by};
 ghost use Rattle.abt_flash.specs.Laying.{syncs_in, task_of};
+ghost use Rattle.abt_flash.specs.Devices.{LeavesUnread};
+ghost use Rattle.abt_flash.specs.Laying.{Touches, PutCosts, PutFails};
+ghost use Rattle.abt_chunks.specs.Expanding.{cells_by};
+ghost use Rattle.abt_chunks.specs.Places.{from_place};
 
 use crate::fault::FlashFault;
 use abt_chunks::Part;
@@ -90,7 +94,7 @@ fn lay_words<P: Partition>(
     requires some { 0 < n }
     requires fits { at + 4 * n ≤ P.size partition.old }
     requires below { at + 4 * n < 2 ^ 64 }
-    ensures size { P.size partition.new ≡ P.size partition.old }
+    ensures unread { LeavesUnread P.Source partition.old partition.new }
     ensures written { IsTrue P.tells →
         OnOk result (P.content partition.new ≡ put_at (P.content partition.old) at (concat (replicate n word))) }
     ensures kept { IsTrue P.tells →
@@ -99,23 +103,10 @@ fn lay_words<P: Partition>(
     ensures moments { IsTrue P.tells → EachSince (P.past partition.old).moments (P.past partition.new).moments
         (KeepsUnsynced (in_range at (4 * n)) (moment_of (P.past partition.old) (P.content partition.old))) }
     ensures synced { (P.past partition.new).synced ≡ (P.past partition.old).synced }
-    ensures reads { P.reads partition.new ≡ P.reads partition.old }
-    ensures given { P.given partition.new ≡ P.given partition.old }
-    ensures read_faults { P.read_faults partition.new ≡ P.read_faults partition.old }
     ensures syncs { P.syncs partition.new ≡ P.syncs partition.old }
     ensures all { OnOk result (P.taken partition.new ≡ P.taken partition.old + 4 * n) }
-    ensures taken { P.taken partition.old ≤ P.taken partition.new }
-    ensures cause { OnErr result (P.put_faults partition.old < P.put_faults partition.new) }
-    ensures clean { OnOk result (P.put_faults partition.new ≡ P.put_faults partition.old) }
-    ensures failed { IfErr result (λ e. e ≡ DeviceFault.Failed) }
-    ensures calls { P.puts partition.new + 2 * P.taken partition.old ≤ P.puts partition.old + 2 * P.taken partition.new
-        + 1 }
-    ensures turns { m.new.turns.number + 2 * P.taken partition.old ≤ m.old.turns.number + 2 * P.taken partition.new
-        + 16 }
-    ensures few { OnOk result (m.new.turns.number + 2 * P.taken partition.old
-        ≤ m.old.turns.number + 2 * P.taken partition.new) }
-    ensures steps { m.new.steps.number ≡ m.old.steps.number }
-    ensures greatest { m.new.greatest.number ≡ m.old.greatest.number }
+    ensures costs { PutCosts result 0 P.Partition.own partition.old partition.new m.old m.new }
+    ensures fails { PutFails result (P.put_faults partition.old) (P.put_faults partition.new) }
 {
     let most = n.min(WORDS as u64) as usize;
     lay_word(w, word, most, m);
@@ -145,39 +136,22 @@ fn carry_out<P: Partition>(
     requires can { CanDo task }
     requires fits { at + put_in task ≤ P.size partition.old }
     requires below { at + put_in task < 2 ^ 64 }
-    ensures size { P.size partition.new ≡ P.size partition.old }
+    ensures unread { LeavesUnread P.Source partition.old partition.new }
     ensures laid { IsTrue P.tells → UnlessUndone task result
         (P.content partition.new ≡ over (P.content partition.old) (from_place at (somes (bytes_by task w.old.bytes)))) }
     // No byte outside the range that is written is touched at any moment.
-    ensures kept { IsTrue P.tells → Keeps (in_range at (put_in task))
-        (moment_of (P.past partition.old) (P.content partition.old))
-        (moment_of (P.past partition.new) (P.content partition.new)) }
-    ensures moments { IsTrue P.tells → EachSince (P.past partition.old).moments (P.past partition.new).moments
-        (During (in_range at (put_in task)) (moment_of (P.past partition.old) (P.content partition.old))
-        (moment_of (P.past partition.new) (P.content partition.new))) }
+    ensures touches { IsTrue P.tells → Touches (in_range at (put_in task)) (P.past partition.old)
+        (P.past partition.new) (P.content partition.old) (P.content partition.new) }
     ensures settled { IsTrue P.tells → OnOk result (SettlesIn task (P.past partition.new).pending) }
     ensures synced { (P.past partition.new).synced ≡ (P.past partition.old).synced + syncs_in task result }
     ensures refused_syncs { P.syncs partition.new + (P.past partition.old).synced
         ≡ P.syncs partition.old + (P.past partition.new).synced + refused_in task result }
-    ensures reads { P.reads partition.new ≡ P.reads partition.old }
-    ensures given { P.given partition.new ≡ P.given partition.old }
-    ensures read_faults { P.read_faults partition.new ≡ P.read_faults partition.old }
     ensures all { UnlessUndone task result (P.taken partition.new ≡ P.taken partition.old + put_in task) }
-    ensures taken { P.taken partition.old ≤ P.taken partition.new }
+    ensures costs { PutCosts result 1 P.Partition.own partition.old partition.new m.old m.new }
     // Where nothing is to be done it isn't called.
     ensures still { IsIdle task → partition.new ≡ partition.old }
     ensures sound { IsIdle task → IsTrue (is_ok result) }
-    ensures cause { OnErr result (P.put_faults partition.old < P.put_faults partition.new) }
-    ensures clean { OnOk result (P.put_faults partition.new ≡ P.put_faults partition.old) }
-    ensures failed { IfErr result (λ e. e ≡ DeviceFault.Failed) }
-    ensures calls { P.puts partition.new + P.syncs partition.new + 2 * P.taken partition.old
-        ≤ P.puts partition.old + P.syncs partition.old + 2 * P.taken partition.new + 1 }
-    ensures turns { m.new.turns.number + 2 * P.taken partition.old
-        ≤ m.old.turns.number + 2 * P.taken partition.new + 16 }
-    ensures few { OnOk result (m.new.turns.number + 2 * P.taken partition.old
-        ≤ m.old.turns.number + 2 * P.taken partition.new + 1) }
-    ensures steps { m.new.steps.number ≡ m.old.steps.number }
-    ensures greatest { m.new.greatest.number ≡ m.old.greatest.number }
+    ensures fails { PutFails result (P.put_faults partition.old) (P.put_faults partition.new) }
 {
     match task {
         Task::Bytes(n) => write_all_at(partition, at, w.part(0, n), m),
@@ -200,39 +174,24 @@ pub(crate) fn lay_part<P: Partition>(
     requires writable { IsWritable part }
     requires fits { at + put_by part ≤ P.size partition.old }
     requires below { at + put_by part < 2 ^ 64 }
-    ensures size { P.size partition.new ≡ P.size partition.old }
+    ensures unread { LeavesUnread P.Source partition.old partition.new }
     ensures laid { IsTrue P.tells →
         UnlessUnwritten result (P.content partition.new
         ≡ over (P.content partition.old) (from_place at (cells_by part w.old.bytes))) }
     // No byte outside the range that is written is touched at any moment.
-    ensures kept { IsTrue P.tells → Keeps (in_range at (put_by part))
-        (moment_of (P.past partition.old) (P.content partition.old))
-        (moment_of (P.past partition.new) (P.content partition.new)) }
-    ensures moments { IsTrue P.tells → EachSince (P.past partition.old).moments (P.past partition.new).moments
-        (During (in_range at (put_by part)) (moment_of (P.past partition.old) (P.content partition.old))
-        (moment_of (P.past partition.new) (P.content partition.new))) }
+    ensures touches { IsTrue P.tells → Touches (in_range at (put_by part)) (P.past partition.old)
+        (P.past partition.new) (P.content partition.old) (P.content partition.new) }
     ensures settled { IsTrue P.tells → OnOk result (Settles part (P.past partition.new).pending) }
     ensures synced { (P.past partition.new).synced ≡ (P.past partition.old).synced + syncs_by part result }
-    ensures reads { P.reads partition.new ≡ P.reads partition.old }
-    ensures given { P.given partition.new ≡ P.given partition.old }
-    ensures read_faults { P.read_faults partition.new ≡ P.read_faults partition.old }
     ensures sound { OnErr result (is_fault part ≡ false) }
     // A sync is refused behind the end of the image, and leaves what is written.
     ensures ends { OnUnsynced result (part ≡ Part.End) }
     ensures refused_syncs { P.syncs partition.new + (P.past partition.old).synced
         ≡ P.syncs partition.old + (P.past partition.new).synced + refused_syncs result }
     ensures all { UnlessUnwritten result (P.taken partition.new ≡ P.taken partition.old + put_by part) }
-    ensures taken { P.taken partition.old ≤ P.taken partition.new }
+    ensures costs { PutCosts result 1 P.Partition.own partition.old partition.new m.old m.new }
     ensures still { IsStill part → partition.new ≡ partition.old }
     ensures cause { PutCause result (P.put_faults partition.old) (P.put_faults partition.new) }
-    ensures calls { P.puts partition.new + P.syncs partition.new + 2 * P.taken partition.old
-        ≤ P.puts partition.old + P.syncs partition.old + 2 * P.taken partition.new + 1 }
-    ensures turns { m.new.turns.number + 2 * P.taken partition.old ≤ m.old.turns.number + 2 * P.taken partition.new
-        + 16 }
-    ensures few { OnOk result (m.new.turns.number + 2 * P.taken partition.old
-        ≤ m.old.turns.number + 2 * P.taken partition.new + 1) }
-    ensures steps { m.new.steps.number ≡ m.old.steps.number }
-    ensures greatest { m.new.greatest.number ≡ m.old.greatest.number }
 {
     let task = task_for(part);
     let done = carry_out(task, at, partition, w, m);

@@ -3,10 +3,12 @@
 ghost use Rattle.std.specs.Prelude.{◌≡◌, ◌<◌, ◌≤◌, ◌+◌, ◌-◌, ◌*◌, ◌^◌, [], IsTrue, IfOk, IfErr, MatchBool, OnOk};
 ghost use Rattle.std.specs.Prelude.{length, max, true};
 ghost use Rattle.abt_flash.specs.Devices.{counts, partition_state, spool_state};
-ghost use Rattle.abt_flash.specs.Delivering.{AlwaysMendable, Costs, CountsTo, GivesPieces, IsLeast, LaysBlocks};
-ghost use Rattle.abt_flash.specs.Delivering.{MendsBlocks, NoneFailed, OnEarly, Refused, Room, blocks_in_first, pieces_in};
+ghost use Rattle.abt_flash.specs.Delivering.{AlwaysMendable, DeliveryCosts, GivesPieces, LaysBlocks};
+ghost use Rattle.abt_flash.specs.Delivering.{MendsBlocks, RefusedDelivery, Room, blocks_in_first};
 ghost use Rattle.abt_flash.specs.Way.{ReadFor};
 ghost use Rattle.abt_flash.specs.Causes.{opening_fault};
+ghost use Rattle.abt_io.specs.Lent.{OnlyReads};
+ghost use Rattle.abt_flash.specs.Delivering.{Delivers};
 
 use crate::answer::Delivered;
 use crate::delivering::{deliver_rest, plan_pieces};
@@ -53,20 +55,16 @@ pub(crate) fn deliver_behind<W: Way<R, L>, R: BlockRuns + Drop, S: Source, L: Sp
     requires opened { IsTrue S.tells → R.opened runs (S.content source.old) }
     // What is answered.
     ensures granted { OnOk result (Room limit (R.size runs) (R.count runs) (P.size partition.old)) }
-    ensures refused { IfErr result (λ e. Refused e limit (R.size runs) (R.count runs) (P.size partition.old) before
+    ensures refused { IfErr result
+        (λ e. RefusedDelivery e limit (R.size runs) (R.count runs) (P.size partition.old) before
         S.tells L.tells
         (counts S.Source L.Input L.Output L.Spool.own P.Partition.own source.old spool.old partition.old)
         (counts S.Source L.Input L.Output L.Spool.own P.Partition.own source.new spool.new partition.new)) }
-    ensures early { OnEarly result ((spool.new ≡ spool.old) × (partition.new ≡ partition.old)) }
-    ensures some { IfOk result (λ d. 0 < d.pieces) }
-    ensures counted { IsTrue S.tells → CountsTo result before (pieces_in limit
-        (record { size = R.size runs; blocks = R.list runs (S.content source.old) })) }
-    // No division of the image within the limit has fewer parts.
-    ensures least { IsTrue S.tells → IfOk result (λ d. IsLeast limit (before + d.pieces)
-        (record { size = R.size runs; blocks = R.list runs (S.content source.old) })) }
-    ensures clean { OnOk result (NoneFailed
+    ensures delivers { Delivers S.tells
+        (record { size = R.size runs; blocks = R.list runs (S.content source.old) }) limit before
+        ((spool.new ≡ spool.old) × (partition.new ≡ partition.old)) result
         (counts S.Source L.Input L.Output L.Spool.own P.Partition.own source.old spool.old partition.old)
-        (counts S.Source L.Input L.Output L.Spool.own P.Partition.own source.new spool.new partition.new)) }
+        (counts S.Source L.Input L.Output L.Spool.own P.Partition.own source.new spool.new partition.new) }
     // What it wrote.
     ensures spool { GivesPieces W.is_forward S.tells L.tells
         (record { size = R.size runs; blocks = R.list runs (S.content source.old) }) limit before result
@@ -85,26 +83,23 @@ pub(crate) fn deliver_behind<W: Way<R, L>, R: BlockRuns + Drop, S: Source, L: Sp
         (record { size = R.size runs; blocks = R.list runs (S.content source.old) }) limit
         (partition_state P.Source P.Partition.own partition.old)
         (partition_state P.Source P.Partition.own partition.new) }
-    ensures content { IsTrue S.tells → S.content source.new ≡ S.content source.old }
-    ensures frame { S.read_frame source.new ≡ S.read_frame source.old }
+    ensures source { OnlyReads result S.Source source.old source.new }
     // What it cost.
     ensures reads { IsTrue S.tells →
-        IfOk result (λ d. ReadFor (R.within runs) (R.charge runs) (W.before runs) (R.one runs) (W.each runs) (W.last runs)
-        (W.all runs) (blocks_in_first limit (R.size runs) (R.list runs (S.content source.old)) before) before d.pieces
+        IfOk result (λ d. ReadFor (R.within runs) (R.charge runs) (W.before runs) (R.one runs) (W.each runs)
+        (W.last runs) (W.all runs) (blocks_in_first limit (R.size runs) (R.list runs (S.content source.old)) before) before d.pieces
         (S.given source.old) (S.given source.new)) }
     ensures few { IfOk result (λ d. before + d.pieces ≤ max 1 (R.count runs)) }
     ensures long { IfOk result (λ d. length (L.written spool.new) ≤ length (L.written spool.old) + R.most_taken runs
         + 80 * d.pieces) }
-    ensures costs { Costs S.tells
+    ensures costs { DeliveryCosts S.tells
         (record { size = R.size runs; blocks = R.list runs (S.content source.old) }) limit (R.one runs) 400 before
         result
         (counts S.Source L.Input L.Output L.Spool.own P.Partition.own source.old spool.old partition.old)
         (counts S.Source L.Input L.Output L.Spool.own P.Partition.own source.new spool.new partition.new) m.old m.new }
-    // What only grows.
     ensures grown { S.given source.old ≤ S.given source.new × L.given spool.old
         ≤ L.given spool.new × length (L.written spool.old) ≤ length (L.written spool.new) × P.taken partition.old
         ≤ P.taken partition.new }
-    ensures faults { S.read_faults source.old ≤ S.read_faults source.new }
 {
     let mut cutter = match Cutter::open(runs, limit) {
         Ok(cutter) => cutter,
@@ -136,20 +131,16 @@ pub fn deliver_runs<R: BlockRuns + Drop, S: Source, L: Spool, P: Partition>(
     requires opened { IsTrue S.tells → R.opened runs (S.content source.old) }
     // What is answered.
     ensures granted { OnOk result (Room limit (R.size runs) (R.count runs) (P.size partition.old)) }
-    ensures refused { IfErr result (λ e. Refused e limit (R.size runs) (R.count runs) (P.size partition.old) 0 S.tells
+    ensures refused { IfErr result
+        (λ e. RefusedDelivery e limit (R.size runs) (R.count runs) (P.size partition.old) 0 S.tells
         L.tells
         (counts S.Source L.Input L.Output L.Spool.own P.Partition.own source.old spool.old partition.old)
         (counts S.Source L.Input L.Output L.Spool.own P.Partition.own source.new spool.new partition.new)) }
-    ensures early { OnEarly result ((spool.new ≡ spool.old) × (partition.new ≡ partition.old)) }
-    ensures some { IfOk result (λ d. 0 < d.pieces) }
-    ensures counted { IsTrue S.tells → CountsTo result 0 (pieces_in limit
-        (record { size = R.size runs; blocks = R.list runs (S.content source.old) })) }
-    // No division of the image within the limit has fewer parts.
-    ensures least { IsTrue S.tells → IfOk result (λ d. IsLeast limit (d.pieces)
-        (record { size = R.size runs; blocks = R.list runs (S.content source.old) })) }
-    ensures clean { OnOk result (NoneFailed
+    ensures delivers { Delivers S.tells
+        (record { size = R.size runs; blocks = R.list runs (S.content source.old) }) limit 0
+        ((spool.new ≡ spool.old) × (partition.new ≡ partition.old)) result
         (counts S.Source L.Input L.Output L.Spool.own P.Partition.own source.old spool.old partition.old)
-        (counts S.Source L.Input L.Output L.Spool.own P.Partition.own source.new spool.new partition.new)) }
+        (counts S.Source L.Input L.Output L.Spool.own P.Partition.own source.new spool.new partition.new) }
     // What it wrote.
     ensures spool { GivesPieces true S.tells L.tells
         (record { size = R.size runs; blocks = R.list runs (S.content source.old) }) limit 0 result
@@ -168,15 +159,14 @@ pub fn deliver_runs<R: BlockRuns + Drop, S: Source, L: Spool, P: Partition>(
         (record { size = R.size runs; blocks = R.list runs (S.content source.old) }) limit
         (partition_state P.Source P.Partition.own partition.old)
         (partition_state P.Source P.Partition.own partition.new) }
-    ensures content { IsTrue S.tells → S.content source.new ≡ S.content source.old }
-    ensures frame { S.read_frame source.new ≡ S.read_frame source.old }
+    ensures source { OnlyReads result S.Source source.old source.new }
     // What it cost.
     ensures reads { IsTrue S.tells →
         IfOk result (λ d. S.given source.new + R.opening runs
         ≤ S.given source.old + 8 * R.image runs + 128 * (d.pieces + 1)) }
     ensures long { IfOk result (λ d. length (L.written spool.new) ≤ length (L.written spool.old) + R.most_taken runs
         + 80 * d.pieces) }
-    ensures costs { Costs S.tells
+    ensures costs { DeliveryCosts S.tells
         (record { size = R.size runs; blocks = R.list runs (S.content source.old) }) limit (R.one runs) 400 0 result
         (counts S.Source L.Input L.Output L.Spool.own P.Partition.own source.old spool.old partition.old)
         (counts S.Source L.Input L.Output L.Spool.own P.Partition.own source.new spool.new partition.new) m.old m.new }

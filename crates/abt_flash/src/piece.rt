@@ -1,21 +1,20 @@
 //! One piece, from the source through the spool to the partition.
 
 ghost use Rattle.std.specs.Prelude.{◌≡◌, ◌<◌, ◌≤◌, ◌+◌, ◌-◌, ◌*◌, ◌++◌, [], ◌∷◌, IsTrue, Err, IfErr, OnErr, OnOk};
-ghost use Rattle.std.specs.Prelude.{false, is_ok};
 ghost use Rattle.std.specs.Prelude.{length, if◌then◌else◌};
-ghost use Rattle.abt_sparse.specs.Block.{cells, over};
-ghost use Rattle.abt_pieces.specs.Contents.{written_in};
 ghost use Rattle.abt_pieces.specs.Cutter.{ToldCutter, piece_words};
 ghost use Rattle.abt_pieces.specs.Gather.{frame};
 ghost use Rattle.abt_pieces.specs.Outline.{piece_at};
 ghost use Rattle.abt_pieces.specs.Plan.{FirstPiece};
 ghost use Rattle.abt_pieces.specs.declared.stage.Stage.{Stage};
-ghost use Rattle.abt_flash.specs.Devices.{NoFaultFalls, Work, counts};
-ghost use Rattle.abt_flash.specs.Flashing.{TouchesOnly};
-ghost use Rattle.abt_flash.specs.Delivering.{Begins, EndsWhole, GaveNoPart, NoneFailed, OnFlashed, PiecesFit};
-ghost use Rattle.abt_flash.specs.Delivering.{StopsFor, unsynced_by};
-ghost use Rattle.abt_flash.specs.Going.{GoesBehind, blocks_at, bytes_in, calls_in};
+ghost use Rattle.abt_flash.specs.Devices.{counts};
+ghost use Rattle.abt_flash.specs.Delivering.{OnFlashed};
+ghost use Rattle.abt_flash.specs.Going.{GoesBehind, blocks_at};
 ghost use Rattle.abt_flash.specs.Causes.{cutting_cause, flashing_cause};
+ghost use Rattle.abt_io.specs.Lent.{OnlyReads};
+ghost use Rattle.abt_pieces.specs.Ready.{ReadyCutter};
+ghost use Rattle.abt_flash.specs.OnePiece.{GivesPiece, LaysPiece, PieceTakes, PieceWork, PieceFails};
+ghost use Rattle.abt_flash.specs.Devices.{spool_state, partition_state};
 
 use crate::fault::{Cause, FlashFault};
 use crate::flashing::flash;
@@ -93,11 +92,8 @@ pub(crate) fn deliver_piece<W: Way<R, L>, R: BlockRuns + Drop, S: Source, L: Spo
     m: &mut Meter,
 ) -> Result<(), Cause>
     requires between { cutter.old.stage ≡ Stage.Between }
-    requires opened { IsTrue S.tells → R.opened cutter.old.runs (S.content source.old) }
-    requires told { IsTrue S.tells → ToldCutter (R.place cutter.old.runs (S.content source.old))
-        (R.together cutter.old.runs (S.content source.old)) (R.size cutter.old.runs)
-        (R.list cutter.old.runs (S.content source.old)) cutter.old.limit cutter.old.made cutter.old.start
-        cutter.old.stage }
+    requires ready { ReadyCutter R.BlockRuns S.Source cutter.old.runs source.old cutter.old.limit cutter.old.made
+        cutter.old.start cutter.old.stage }
     requires capacity { cutter.old.limit ≤ L.size spool.old }
     requires room { R.count cutter.old.runs * R.size cutter.old.runs ≤ P.size partition.old }
     // The cutter goes behind the piece.
@@ -111,83 +107,28 @@ pub(crate) fn deliver_piece<W: Way<R, L>, R: BlockRuns + Drop, S: Source, L: Spo
     ensures greatest_end { IsTrue S.tells →
         OnFlashed result (FirstPiece (R.size cutter.old.runs) (R.list cutter.old.runs (S.content source.old))
         cutter.old.limit cutter.old.start.block cutter.new.start.block) }
-    // The source.
-    ensures content { IsTrue S.tells → S.content source.new ≡ S.content source.old }
-    ensures frame { S.read_frame source.new ≡ S.read_frame source.old }
-    // The spool is given that piece behind a clear, or a beginning of it, or what is no image.
-    ensures capacity { L.size spool.new ≡ L.size spool.old }
-    ensures fits { PiecesFit cutter.old.limit (L.cuts spool.old) (L.cuts spool.new) (length (L.written spool.old))
-        (length (L.written spool.new)) }
-    ensures cut { OnOk result (L.cuts spool.new ≡ length (L.written spool.old) ∷ L.cuts spool.old) }
-    ensures written { IsTrue S.tells →
-        OnOk result (L.written spool.new ≡ L.written spool.old ++ piece_at (R.size cutter.old.runs) cutter.old.limit
-        (R.list cutter.old.runs (S.content source.old)) cutter.old.start.block) }
-    ensures begins { IsTrue W.is_forward → IsTrue S.tells →
-        Begins (L.written spool.new) (L.written spool.old ++ piece_at (R.size cutter.old.runs) cutter.old.limit
-        (R.list cutter.old.runs (S.content source.old)) cutter.old.start.block) }
-    ensures no_part { W.is_forward ≡ false → IsTrue S.tells → GaveNoPart (L.written spool.old) (L.written spool.new)
-        (L.cuts spool.new) (piece_at (R.size cutter.old.runs) cutter.old.limit
-        (R.list cutter.old.runs (S.content source.old)) cutter.old.start.block ∷ []) }
-    ensures ends { W.is_forward ≡ false → EndsWhole (R.size cutter.old.runs) (L.written spool.old)
-        (L.written spool.new) (L.cuts spool.old) (L.cuts spool.new) }
-    // The partition gets its blocks, and nothing else is touched.
-    ensures size { P.size partition.new ≡ P.size partition.old }
-    ensures unread { (P.reads partition.new ≡ P.reads partition.old) × (P.given partition.new ≡ P.given partition.old) }
-    ensures laid { IsTrue S.tells → IsTrue L.tells → IsTrue P.tells →
-        OnFlashed result (P.content partition.new
-        ≡ over (P.content partition.old)
-        (cells (R.size cutter.old.runs)
-        (frame (R.list cutter.old.runs (S.content source.old)) cutter.old.start.block cutter.new.start.block))) }
-    ensures touches { IsTrue S.tells → IsTrue L.tells → IsTrue P.tells → TouchesOnly (cells (R.size cutter.old.runs)
+    ensures source { OnlyReads result S.Source source.old source.new }
+    ensures spool { GivesPiece W.is_forward S.tells L.tells (R.size cutter.old.runs) cutter.old.limit
+        (piece_at (R.size cutter.old.runs) cutter.old.limit (R.list cutter.old.runs (S.content source.old))
+        cutter.old.start.block) result
+        (spool_state L.Input L.Output L.Spool.own spool.old) (spool_state L.Input L.Output L.Spool.own spool.new) }
+    ensures partition { LaysPiece S.tells L.tells P.tells (R.size cutter.old.runs)
+        (frame (R.list cutter.old.runs (S.content source.old)) cutter.old.start.block cutter.new.start.block)
         (blocks_at cutter.old.limit (R.size cutter.old.runs) (R.list cutter.old.runs (S.content source.old))
-        cutter.old.start.block)) (P.past partition.old) (P.past partition.new) (P.content partition.old)
-        (P.content partition.new) }
-    ensures settled { IsTrue P.tells → OnOk result ((P.past partition.new).pending ≡ []) }
-    ensures synced { (P.past partition.new).synced ≡ (P.past partition.old).synced + (if is_ok result then 1 else 0) }
-    ensures unsynced { P.syncs partition.new + (P.past partition.old).synced
-        ≡ P.syncs partition.old + (P.past partition.new).synced + unsynced_by result }
-    ensures blocks { IsTrue S.tells → IsTrue L.tells →
-        OnOk result (P.taken partition.new ≡ P.taken partition.old + R.size cutter.old.runs * written_in
-        (frame (R.list cutter.old.runs (S.content source.old)) cutter.old.start.block cutter.new.start.block)) }
-    // Bytes.
-    ensures takes { OnOk result (length (L.written spool.new) + R.taken cutter.old.runs cutter.old.start
-        ≤ length (L.written spool.old) + R.taken cutter.old.runs cutter.new.start + 80) }
-    ensures back { IsTrue S.tells → IsTrue L.tells → OnOk result (L.given spool.new + length (L.written spool.old)
-        ≡ L.given spool.old + length (L.written spool.new)) }
-    ensures spent { IsTrue S.tells →
-        OnOk result (S.given source.new + W.before cutter.old.runs cutter.old.start
-        ≤ S.given source.old + W.before cutter.old.runs cutter.new.start + W.each cutter.old.runs) }
-    ensures spent_end { IsTrue S.tells →
-        OnOk result (R.count cutter.old.runs ≤ cutter.new.start.block →
-        S.given source.new + W.before cutter.old.runs cutter.old.start
-        ≤ S.given source.old + W.before cutter.old.runs cutter.new.start + W.last cutter.old.runs) }
-    // Work.
-    ensures calls { calls_in (S.reads source.new) (L.reads spool.new) (L.writes spool.new) (L.clears spool.new)
-        (P.puts partition.new) (P.syncs partition.new) + 8 * bytes_in (S.given source.old) (L.given spool.old)
-        (length (L.written spool.old)) (P.taken partition.old)
-        ≤ calls_in (S.reads source.old) (L.reads spool.old) (L.writes spool.old) (L.clears spool.old)
-        (P.puts partition.old) (P.syncs partition.old) + 8 * bytes_in (S.given source.new) (L.given spool.new)
-        (length (L.written spool.new)) (P.taken partition.new) + 373 }
-    ensures turns { m.new.turns.number + 8 * bytes_in (S.given source.old) (L.given spool.old)
-        (length (L.written spool.old)) (P.taken partition.old) ≤ m.old.turns.number + 8 * bytes_in (S.given source.new)
-        (L.given spool.new) (length (L.written spool.new)) (P.taken partition.new) + 364 + 3 * R.one cutter.old.runs }
-    ensures words { OnOk result (m.new.turns.number + 8 * bytes_in (S.given source.old) (L.given spool.old)
-        (length (L.written spool.old)) (P.taken partition.old) ≤ m.old.turns.number + 8 * bytes_in (S.given source.new)
-        (L.given spool.new) (length (L.written spool.new)) (P.taken partition.new) + 364 + piece_words
-        (R.one cutter.old.runs) (R.count cutter.old.runs) cutter.new.start.block) }
-    ensures work { Work
-        (counts S.Source L.Input L.Output L.Spool.own P.Partition.own source.old spool.old partition.old)
-        (counts S.Source L.Input L.Output L.Spool.own P.Partition.own source.new spool.new partition.new) m.old m.new }
-    // Who failed.
-    ensures faults { NoFaultFalls
+        cutter.old.start.block) result
+        (partition_state P.Source P.Partition.own partition.old)
+        (partition_state P.Source P.Partition.own partition.new) }
+    ensures takes { PieceTakes S.tells (R.taken cutter.old.runs) (W.before cutter.old.runs) (R.count cutter.old.runs)
+        (W.each cutter.old.runs) (W.last cutter.old.runs) cutter.old.start cutter.new.start result
         (counts S.Source L.Input L.Output L.Spool.own P.Partition.own source.old spool.old partition.old)
         (counts S.Source L.Input L.Output L.Spool.own P.Partition.own source.new spool.new partition.new) }
-    ensures cause { IfErr result (λ e. StopsFor e S.tells L.tells
+    ensures work { PieceWork (R.one cutter.old.runs)
+        (piece_words (R.one cutter.old.runs) (R.count cutter.old.runs) cutter.new.start.block) result
         (counts S.Source L.Input L.Output L.Spool.own P.Partition.own source.old spool.old partition.old)
-        (counts S.Source L.Input L.Output L.Spool.own P.Partition.own source.new spool.new partition.new)) }
-    ensures clean { OnOk result (NoneFailed
+        (counts S.Source L.Input L.Output L.Spool.own P.Partition.own source.new spool.new partition.new) m.old m.new }
+    ensures fails { PieceFails S.tells L.tells result
         (counts S.Source L.Input L.Output L.Spool.own P.Partition.own source.old spool.old partition.old)
-        (counts S.Source L.Input L.Output L.Spool.own P.Partition.own source.new spool.new partition.new)) }
+        (counts S.Source L.Input L.Output L.Spool.own P.Partition.own source.new spool.new partition.new) }
 {
     let _limit = cutter.limit;
     let _count = cutter.runs.blocks();

@@ -3,9 +3,11 @@
 ghost use Rattle.std.specs.Prelude.{◌≡◌, ◌<◌, ◌≤◌, ◌+◌, ◌-◌, ◌*◌, ◌^◌, [], IsTrue, IfOk, IfErr, OnOk, length, false};
 ghost use Rattle.abt_sparse.specs.Block.{classify};
 ghost use Rattle.abt_flash.specs.Devices.{counts, partition_state, spool_state};
-ghost use Rattle.abt_flash.specs.Delivering.{AlwaysMendable, Costs, CountsTo, GivesPieces, IsLeast, LaysBlocks};
-ghost use Rattle.abt_flash.specs.Delivering.{MendsBlocks, NoneFailed, OnEarly, Room, blocks_in_first, pieces_in};
+ghost use Rattle.abt_flash.specs.Delivering.{AlwaysMendable, DeliveryCosts, GivesPieces, LaysBlocks};
+ghost use Rattle.abt_flash.specs.Delivering.{MendsBlocks, blocks_in_first};
 ghost use Rattle.abt_flash.specs.Raw.{IsAllowed, RawRefused, raw_image};
+ghost use Rattle.abt_io.specs.Lent.{OnlyReads};
+ghost use Rattle.abt_flash.specs.Delivering.{Delivers};
 
 use crate::answer::Delivered;
 use crate::delivering::pieces_before;
@@ -30,22 +32,16 @@ pub fn deliver_raw_at<S: Source, L: Spool + Overwrite, P: Partition>(
 ) -> Result<Delivered, FlashFault>
     requires capacity { limit ≤ L.size spool.old }
     // What is answered.
-    ensures granted { IsTrue S.tells →
-        OnOk result (Room limit b (length (classify b (S.content source.old))) (P.size partition.old)) }
     ensures allowed { OnOk result
         (IsAllowed b (S.content source.old) (S.size source.old) limit (P.size partition.old) S.tells) }
     ensures refused { IfErr result (λ e. RawRefused e b (S.content source.old) (S.size source.old) limit
         (P.size partition.old) 0 S.tells L.tells
         (counts S.Source L.Input L.Output L.Spool.own P.Partition.own source.old spool.old partition.old)
         (counts S.Source L.Input L.Output L.Spool.own P.Partition.own source.new spool.new partition.new)) }
-    ensures early { OnEarly result ((spool.new ≡ spool.old) × (partition.new ≡ partition.old)) }
-    ensures some { IfOk result (λ d. 0 < d.pieces) }
-    ensures counted { IsTrue S.tells → CountsTo result 0 (pieces_in limit (raw_image b (S.content source.old))) }
-    // No division of the image within the limit has fewer parts.
-    ensures least { IsTrue S.tells → IfOk result (λ d. IsLeast limit (d.pieces) (raw_image b (S.content source.old))) }
-    ensures clean { OnOk result (NoneFailed
+    ensures delivers { Delivers S.tells (raw_image b (S.content source.old)) limit 0
+        ((spool.new ≡ spool.old) × (partition.new ≡ partition.old)) result
         (counts S.Source L.Input L.Output L.Spool.own P.Partition.own source.old spool.old partition.old)
-        (counts S.Source L.Input L.Output L.Spool.own P.Partition.own source.new spool.new partition.new)) }
+        (counts S.Source L.Input L.Output L.Spool.own P.Partition.own source.new spool.new partition.new) }
     // What it wrote.
     ensures spool { GivesPieces false S.tells L.tells (raw_image b (S.content source.old)) limit 0 result
         (spool_state L.Input L.Output L.Spool.own spool.old) (spool_state L.Input L.Output L.Spool.own spool.new) }
@@ -62,15 +58,14 @@ pub fn deliver_raw_at<S: Source, L: Spool + Overwrite, P: Partition>(
         (raw_image b (S.content source.old)) limit
         (partition_state P.Source P.Partition.own partition.old)
         (partition_state P.Source P.Partition.own partition.new) }
-    ensures content { IsTrue S.tells → S.content source.new ≡ S.content source.old }
-    ensures frame { S.read_frame source.new ≡ S.read_frame source.old }
+    ensures source { OnlyReads result S.Source source.old source.new }
     // What it cost.
     ensures reads { IsTrue S.tells →
         IfOk result (λ d. S.given source.new ≤ S.given source.old + length (S.content source.old)
         + 65536 * d.pieces) }
     ensures long { IsTrue S.tells → IfOk result (λ d. length (L.written spool.new)
         ≤ length (L.written spool.old) + length (classify b (S.content source.old)) * (b + 16) + 80 * d.pieces) }
-    ensures costs { Costs S.tells (raw_image b (S.content source.old)) limit b 512 0 result
+    ensures costs { DeliveryCosts S.tells (raw_image b (S.content source.old)) limit b 512 0 result
         (counts S.Source L.Input L.Output L.Spool.own P.Partition.own source.old spool.old partition.old)
         (counts S.Source L.Input L.Output L.Spool.own P.Partition.own source.new spool.new partition.new) m.old m.new }
 {
@@ -92,24 +87,16 @@ pub fn resume_raw_at<S: Source, L: Spool + Overwrite, P: Partition>(
     requires some { 1 ≤ from_piece }
     requires capacity { limit ≤ L.size spool.old }
     // What is answered.
-    ensures granted { IsTrue S.tells →
-        OnOk result (Room limit b (length (classify b (S.content source.old))) (P.size partition.old)) }
     ensures allowed { OnOk result
         (IsAllowed b (S.content source.old) (S.size source.old) limit (P.size partition.old) S.tells) }
     ensures refused { IfErr result (λ e. RawRefused e b (S.content source.old) (S.size source.old) limit
         (P.size partition.old) (from_piece - 1) S.tells L.tells
         (counts S.Source L.Input L.Output L.Spool.own P.Partition.own source.old spool.old partition.old)
         (counts S.Source L.Input L.Output L.Spool.own P.Partition.own source.new spool.new partition.new)) }
-    ensures early { OnEarly result ((spool.new ≡ spool.old) × (partition.new ≡ partition.old)) }
-    ensures some { IfOk result (λ d. 0 < d.pieces) }
-    ensures counted { IsTrue S.tells → CountsTo result (from_piece - 1) (pieces_in limit
-        (raw_image b (S.content source.old))) }
-    // No division of the image within the limit has fewer parts.
-    ensures least { IsTrue S.tells → IfOk result (λ d. IsLeast limit ((from_piece - 1) + d.pieces)
-        (raw_image b (S.content source.old))) }
-    ensures clean { OnOk result (NoneFailed
+    ensures delivers { Delivers S.tells (raw_image b (S.content source.old)) limit (from_piece - 1)
+        ((spool.new ≡ spool.old) × (partition.new ≡ partition.old)) result
         (counts S.Source L.Input L.Output L.Spool.own P.Partition.own source.old spool.old partition.old)
-        (counts S.Source L.Input L.Output L.Spool.own P.Partition.own source.new spool.new partition.new)) }
+        (counts S.Source L.Input L.Output L.Spool.own P.Partition.own source.new spool.new partition.new) }
     // What it wrote.
     ensures spool { GivesPieces false S.tells L.tells (raw_image b (S.content source.old)) limit (from_piece - 1) result
         (spool_state L.Input L.Output L.Spool.own spool.old) (spool_state L.Input L.Output L.Spool.own spool.new) }
@@ -122,8 +109,7 @@ pub fn resume_raw_at<S: Source, L: Spool + Overwrite, P: Partition>(
         (raw_image b (S.content source.old)) limit (from_piece - 1) result
         (partition_state P.Source P.Partition.own partition.old)
         (partition_state P.Source P.Partition.own partition.new) }
-    ensures content { IsTrue S.tells → S.content source.new ≡ S.content source.old }
-    ensures frame { S.read_frame source.new ≡ S.read_frame source.old }
+    ensures source { OnlyReads result S.Source source.old source.new }
     // What it cost.
     ensures reads { IsTrue S.tells →
         IfOk result (λ d. S.given source.new ≤ S.given source.old + length (S.content source.old) + 65536 * d.pieces
@@ -131,7 +117,7 @@ pub fn resume_raw_at<S: Source, L: Spool + Overwrite, P: Partition>(
         + (from_piece - 1) * (48 + b)) }
     ensures long { IsTrue S.tells → IfOk result (λ d. length (L.written spool.new)
         ≤ length (L.written spool.old) + length (classify b (S.content source.old)) * (b + 16) + 80 * d.pieces) }
-    ensures costs { Costs S.tells (raw_image b (S.content source.old)) limit b 512 (from_piece - 1) result
+    ensures costs { DeliveryCosts S.tells (raw_image b (S.content source.old)) limit b 512 (from_piece - 1) result
         (counts S.Source L.Input L.Output L.Spool.own P.Partition.own source.old spool.old partition.old)
         (counts S.Source L.Input L.Output L.Spool.own P.Partition.own source.new spool.new partition.new) m.old m.new }
 {

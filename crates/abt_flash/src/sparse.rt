@@ -3,10 +3,12 @@
 ghost use Rattle.std.specs.Prelude.{true};
 ghost use Rattle.std.specs.Prelude.{◌≡◌, ◌<◌, ◌≤◌, ◌+◌, ◌-◌, ◌*◌, ◌^◌, [], IsTrue, IfOk, IfErr, OnOk, length};
 ghost use Rattle.abt_flash.specs.Devices.{counts, partition_state, spool_state};
-ghost use Rattle.abt_flash.specs.Delivering.{AlwaysMendable, Costs, CountsTo, GivesPieces, IsLeast, LaysBlocks};
-ghost use Rattle.abt_flash.specs.Delivering.{MendsBlocks, NoneFailed, OnEarly, pieces_in};
+ghost use Rattle.abt_flash.specs.Delivering.{AlwaysMendable, DeliveryCosts, GivesPieces, LaysBlocks};
+ghost use Rattle.abt_flash.specs.Delivering.{MendsBlocks};
 ghost use Rattle.abt_flash.specs.Sparse.{Fits, SparseRefused, image_length, sparse_image};
 ghost use Rattle.abt_flash.specs.Causes.{run_fault_of};
+ghost use Rattle.abt_io.specs.Lent.{OnlyReads};
+ghost use Rattle.abt_flash.specs.Delivering.{Delivers};
 
 use crate::answer::Delivered;
 use crate::delivering::pieces_before;
@@ -46,15 +48,10 @@ pub(crate) fn sparse_behind<S: Source, L: Spool, P: Partition>(
         S.tells L.tells
         (counts S.Source L.Input L.Output L.Spool.own P.Partition.own source.old spool.old partition.old)
         (counts S.Source L.Input L.Output L.Spool.own P.Partition.own source.new spool.new partition.new)) }
-    ensures early { OnEarly result ((spool.new ≡ spool.old) × (partition.new ≡ partition.old)) }
-    ensures some { IfOk result (λ d. 0 < d.pieces) }
-    ensures counted { IsTrue S.tells → CountsTo result before (pieces_in limit (sparse_image (S.content source.old))) }
-    // No division of the image within the limit has fewer parts.
-    ensures least { IsTrue S.tells → IfOk result (λ d. IsLeast limit (before + d.pieces)
-        (sparse_image (S.content source.old))) }
-    ensures clean { OnOk result (NoneFailed
+    ensures delivers { Delivers S.tells (sparse_image (S.content source.old)) limit before
+        ((spool.new ≡ spool.old) × (partition.new ≡ partition.old)) result
         (counts S.Source L.Input L.Output L.Spool.own P.Partition.own source.old spool.old partition.old)
-        (counts S.Source L.Input L.Output L.Spool.own P.Partition.own source.new spool.new partition.new)) }
+        (counts S.Source L.Input L.Output L.Spool.own P.Partition.own source.new spool.new partition.new) }
     // What it wrote.
     ensures spool { GivesPieces true S.tells L.tells (sparse_image (S.content source.old)) limit before result
         (spool_state L.Input L.Output L.Spool.own spool.old) (spool_state L.Input L.Output L.Spool.own spool.new) }
@@ -71,8 +68,7 @@ pub(crate) fn sparse_behind<S: Source, L: Spool, P: Partition>(
         (sparse_image (S.content source.old)) limit
         (partition_state P.Source P.Partition.own partition.old)
         (partition_state P.Source P.Partition.own partition.new) }
-    ensures content { IsTrue S.tells → S.content source.new ≡ S.content source.old }
-    ensures frame { S.read_frame source.new ≡ S.read_frame source.old }
+    ensures source { OnlyReads result S.Source source.old source.new }
     // What it cost.
     ensures reads { IsTrue S.tells →
         IfOk result (λ d. S.given source.new ≤ S.given source.old + 8 * image_length (S.content source.old)
@@ -80,7 +76,7 @@ pub(crate) fn sparse_behind<S: Source, L: Spool, P: Partition>(
     ensures long { IsTrue S.tells →
         IfOk result (λ d. length (L.written spool.new)
         ≤ length (L.written spool.old) + image_length (S.content source.old) + 80 * d.pieces) }
-    ensures costs { Costs S.tells (sparse_image (S.content source.old)) limit 0 512 before result
+    ensures costs { DeliveryCosts S.tells (sparse_image (S.content source.old)) limit 0 512 before result
         (counts S.Source L.Input L.Output L.Spool.own P.Partition.own source.old spool.old partition.old)
         (counts S.Source L.Input L.Output L.Spool.own P.Partition.own source.new spool.new partition.new) m.old m.new }
 {
@@ -117,14 +113,10 @@ pub fn deliver<S: Source, L: Spool, P: Partition>(
         L.tells
         (counts S.Source L.Input L.Output L.Spool.own P.Partition.own source.old spool.old partition.old)
         (counts S.Source L.Input L.Output L.Spool.own P.Partition.own source.new spool.new partition.new)) }
-    ensures early { OnEarly result ((spool.new ≡ spool.old) × (partition.new ≡ partition.old)) }
-    ensures some { IfOk result (λ d. 0 < d.pieces) }
-    ensures counted { IsTrue S.tells → CountsTo result 0 (pieces_in limit (sparse_image (S.content source.old))) }
-    // No division of the image within the limit has fewer parts.
-    ensures least { IsTrue S.tells → IfOk result (λ d. IsLeast limit (d.pieces) (sparse_image (S.content source.old))) }
-    ensures clean { OnOk result (NoneFailed
+    ensures delivers { Delivers S.tells (sparse_image (S.content source.old)) limit 0
+        ((spool.new ≡ spool.old) × (partition.new ≡ partition.old)) result
         (counts S.Source L.Input L.Output L.Spool.own P.Partition.own source.old spool.old partition.old)
-        (counts S.Source L.Input L.Output L.Spool.own P.Partition.own source.new spool.new partition.new)) }
+        (counts S.Source L.Input L.Output L.Spool.own P.Partition.own source.new spool.new partition.new) }
     // What it wrote.
     ensures spool { GivesPieces true S.tells L.tells (sparse_image (S.content source.old)) limit 0 result
         (spool_state L.Input L.Output L.Spool.own spool.old) (spool_state L.Input L.Output L.Spool.own spool.new) }
@@ -141,8 +133,7 @@ pub fn deliver<S: Source, L: Spool, P: Partition>(
         (sparse_image (S.content source.old)) limit
         (partition_state P.Source P.Partition.own partition.old)
         (partition_state P.Source P.Partition.own partition.new) }
-    ensures content { IsTrue S.tells → S.content source.new ≡ S.content source.old }
-    ensures frame { S.read_frame source.new ≡ S.read_frame source.old }
+    ensures source { OnlyReads result S.Source source.old source.new }
     // What it cost.
     ensures reads { IsTrue S.tells →
         IfOk result (λ d. S.given source.new ≤ S.given source.old + 8 * image_length (S.content source.old)
@@ -150,7 +141,7 @@ pub fn deliver<S: Source, L: Spool, P: Partition>(
     ensures long { IsTrue S.tells →
         IfOk result (λ d. length (L.written spool.new)
         ≤ length (L.written spool.old) + image_length (S.content source.old) + 80 * d.pieces) }
-    ensures costs { Costs S.tells (sparse_image (S.content source.old)) limit 0 512 0 result
+    ensures costs { DeliveryCosts S.tells (sparse_image (S.content source.old)) limit 0 512 0 result
         (counts S.Source L.Input L.Output L.Spool.own P.Partition.own source.old spool.old partition.old)
         (counts S.Source L.Input L.Output L.Spool.own P.Partition.own source.new spool.new partition.new) m.old m.new }
 {
@@ -177,16 +168,10 @@ pub fn resume<S: Source, L: Spool, P: Partition>(
         (from_piece - 1) S.tells L.tells
         (counts S.Source L.Input L.Output L.Spool.own P.Partition.own source.old spool.old partition.old)
         (counts S.Source L.Input L.Output L.Spool.own P.Partition.own source.new spool.new partition.new)) }
-    ensures early { OnEarly result ((spool.new ≡ spool.old) × (partition.new ≡ partition.old)) }
-    ensures some { IfOk result (λ d. 0 < d.pieces) }
-    ensures counted { IsTrue S.tells → CountsTo result (from_piece - 1) (pieces_in limit
-        (sparse_image (S.content source.old))) }
-    // No division of the image within the limit has fewer parts.
-    ensures least { IsTrue S.tells → IfOk result (λ d. IsLeast limit ((from_piece - 1) + d.pieces)
-        (sparse_image (S.content source.old))) }
-    ensures clean { OnOk result (NoneFailed
+    ensures delivers { Delivers S.tells (sparse_image (S.content source.old)) limit (from_piece - 1)
+        ((spool.new ≡ spool.old) × (partition.new ≡ partition.old)) result
         (counts S.Source L.Input L.Output L.Spool.own P.Partition.own source.old spool.old partition.old)
-        (counts S.Source L.Input L.Output L.Spool.own P.Partition.own source.new spool.new partition.new)) }
+        (counts S.Source L.Input L.Output L.Spool.own P.Partition.own source.new spool.new partition.new) }
     // What it wrote.
     ensures spool { GivesPieces true S.tells L.tells (sparse_image (S.content source.old)) limit (from_piece - 1) result
         (spool_state L.Input L.Output L.Spool.own spool.old) (spool_state L.Input L.Output L.Spool.own spool.new) }
@@ -199,8 +184,7 @@ pub fn resume<S: Source, L: Spool, P: Partition>(
         (sparse_image (S.content source.old)) limit (from_piece - 1) result
         (partition_state P.Source P.Partition.own partition.old)
         (partition_state P.Source P.Partition.own partition.new) }
-    ensures content { IsTrue S.tells → S.content source.new ≡ S.content source.old }
-    ensures frame { S.read_frame source.new ≡ S.read_frame source.old }
+    ensures source { OnlyReads result S.Source source.old source.new }
     // What it cost.
     ensures reads { IsTrue S.tells →
         IfOk result (λ d. S.given source.new ≤ S.given source.old + 8 * image_length (S.content source.old)
@@ -208,7 +192,7 @@ pub fn resume<S: Source, L: Spool, P: Partition>(
     ensures long { IsTrue S.tells →
         IfOk result (λ d. length (L.written spool.new)
         ≤ length (L.written spool.old) + image_length (S.content source.old) + 80 * d.pieces) }
-    ensures costs { Costs S.tells (sparse_image (S.content source.old)) limit 0 512 (from_piece - 1) result
+    ensures costs { DeliveryCosts S.tells (sparse_image (S.content source.old)) limit 0 512 (from_piece - 1) result
         (counts S.Source L.Input L.Output L.Spool.own P.Partition.own source.old spool.old partition.old)
         (counts S.Source L.Input L.Output L.Spool.own P.Partition.own source.new spool.new partition.new) m.old m.new }
 {

@@ -1,19 +1,21 @@
 //! How a piece is written to the spool: forward, in repeated passes, or in one pass, its headers last.
 
-ghost use Rattle.std.specs.Prelude.{◌≡◌, ℕ, ◌<◌, ◌≤◌, ◌+◌, ◌-◌, ◌*◌, ◌++◌, Bool, IsTrue, IfOk, IfErr, OnErr, length, take};
-ghost use Rattle.std.specs.Prelude.{drop, true, false, ◌⊎◌};
+ghost use Rattle.std.specs.Prelude.{◌≡◌, ℕ, ◌<◌, ◌≤◌, ◌+◌, ◌-◌, ◌*◌, ◌++◌, Bool, IsTrue, IfOk, IfErr, length};
+ghost use Rattle.std.specs.Prelude.{true, false, ◌⊎◌};
 ghost use Rattle.abt_runs.specs.declared.part.Cursor.{Cursor};
-ghost use Rattle.abt_pieces.specs.Calls.{Failing, devices};
-ghost use Rattle.abt_pieces.specs.Cutter.{ToldCutter, piece_words};
-ghost use Rattle.abt_pieces.specs.Fault.{HasCause, full_cut};
-ghost use Rattle.abt_pieces.specs.Image.{Appended, IsImage};
-ghost use Rattle.abt_pieces.specs.NextPiece.{IsNext, LaidNext, SameCutter};
+ghost use Rattle.abt_pieces.specs.Calls.{devices};
+ghost use Rattle.abt_pieces.specs.Cutter.{ToldCutter};
+ghost use Rattle.abt_pieces.specs.Fault.{CutCause, full_cut};
+ghost use Rattle.abt_pieces.specs.NextPiece.{LaidNext, SameCutter};
 ghost use Rattle.abt_pieces.specs.Outline.{piece_at};
 ghost use Rattle.abt_pieces.specs.SpentStage.{all_passes};
 ghost use Rattle.abt_pieces.specs.declared.stage.Stage.{Stage};
 ghost use Rattle.abt_placed.specs.Whole.{read_of};
 ghost use Rattle.abt_flash.specs.Delivering.{Begins};
 ghost use Rattle.abt_flash.specs.Way.{GrowsLate, WayCosts, forward_bounded, late_bounded};
+ghost use Rattle.abt_io.specs.Lent.{OnlyReads, OnlyWrites};
+ghost use Rattle.abt_pieces.specs.Ready.{ReadyCutter};
+ghost use Rattle.abt_flash.specs.Way.{WritesNext, WaySpent};
 
 use abt_io::{Meter, Overwrite, Source, Spool, Window};
 use abt_pieces::{Cutter, Piece, PieceFault};
@@ -47,53 +49,37 @@ pub(crate) trait Way<R: BlockRuns + Drop, L: Spool> {
         m: &mut Meter,
     ) -> Result<Piece, PieceFault>
         requires between { cutter.old.stage ≡ Stage.Between }
-        requires opened { IsTrue S.tells → R.opened cutter.old.runs (S.content source.old) }
-        requires told { IsTrue S.tells → ToldCutter (R.place cutter.old.runs (S.content source.old))
-            (R.together cutter.old.runs (S.content source.old)) (R.size cutter.old.runs)
-            (R.list cutter.old.runs (S.content source.old)) cutter.old.limit cutter.old.made cutter.old.start
-            cutter.old.stage }
+        requires ready { ReadyCutter R.BlockRuns S.Source cutter.old.runs source.old cutter.old.limit cutter.old.made
+            cutter.old.start cutter.old.stage }
         ensures cutter { SameCutter cutter.old.runs cutter.new.runs cutter.old.limit cutter.new.limit
             cutter.new.stage }
         ensures told { IsTrue S.tells → ToldCutter (R.place cutter.old.runs (S.content source.old))
             (R.together cutter.old.runs (S.content source.old)) (R.size cutter.old.runs)
             (R.list cutter.old.runs (S.content source.old)) cutter.new.limit cutter.new.made cutter.new.start
             cutter.new.stage }
-        ensures content { IsTrue S.tells → S.content source.new ≡ S.content source.old }
-        ensures frame { S.read_frame source.new ≡ S.read_frame source.old }
-        ensures write_frame { L.write_frame spool.new ≡ L.write_frame spool.old }
+        ensures source { OnlyReads result S.Source source.old source.new }
+        ensures writes { OnlyWrites result (full_cut result) L.Output spool.old spool.new }
         // What stands in the spool, and the piece that it is told to be.
-        ensures grown { length (L.written spool.old) ≤ length (L.written spool.new) }
         ensures within { length (L.written spool.new) ≤ length (L.written spool.old) + cutter.old.limit }
         ensures begins { IsTrue is_forward → IsTrue S.tells → Begins (L.written spool.new)
             (L.written spool.old ++ piece_at (R.size cutter.old.runs) cutter.old.limit
             (R.list cutter.old.runs (S.content source.old)) cutter.old.start.block) }
         ensures late { is_forward ≡ false → GrowsLate result (L.written spool.old) (L.written spool.new) }
-        ensures image { IfOk result (λ p. Appended (IsImage (R.size cutter.old.runs) (R.count cutter.old.runs))
-            (L.written spool.old) (L.written spool.new)) }
-        ensures piece { IfOk result (λ p. IsNext (R.count cutter.old.runs) cutter.old.limit cutter.old.start.block
-            cutter.new.start.block cutter.old.made cutter.new.made cutter.new.stage p) }
+        ensures made { IfOk result (λ p. WritesNext R.BlockRuns cutter.old.runs cutter.old.limit cutter.old.start
+            cutter.new.start cutter.old.made cutter.new.made cutter.new.stage (S.given source.old) (S.given source.new)
+            (L.written spool.old) (L.written spool.new) m.old m.new p) }
         ensures laid { IsTrue S.tells → IfOk result (λ p. LaidNext (R.size cutter.old.runs) cutter.old.limit
             (R.list cutter.old.runs (S.content source.old)) cutter.old.start.block p (L.written spool.old)
             (L.written spool.new)) }
         // What it costs, and what has failed.
         ensures costs { WayCosts (R.one cutter.old.runs) (devices S.Source L.Output source.old spool.old)
             (devices S.Source L.Output source.new spool.new) m.old m.new }
-        ensures words { IfOk result (λ p. m.new.turns.number
-            ≤ m.old.turns.number + 8 * ((S.given source.new - S.given source.old) + (length (L.written spool.new)
-            - length (L.written spool.old))) + 140 + piece_words (R.one cutter.old.runs) (R.count cutter.old.runs)
-            p.past) }
-        ensures takes { IfOk result (λ p. length (L.written spool.new) + R.taken cutter.old.runs cutter.old.start
-            ≤ length (L.written spool.old) + R.taken cutter.old.runs cutter.new.start + 80) }
-        ensures spent { IsTrue S.tells → IfOk result (λ p. S.given source.new + before cutter.old.runs cutter.old.start
-            ≤ S.given source.old + before cutter.old.runs cutter.new.start + each cutter.old.runs) }
-        ensures spent_end { IsTrue S.tells → IfOk result (λ p. R.count cutter.old.runs ≤ cutter.new.start.block →
-            S.given source.new + before cutter.old.runs cutter.old.start
-            ≤ S.given source.old + before cutter.old.runs cutter.new.start + last cutter.old.runs) }
-        ensures failing { Failing result (devices S.Source L.Output source.old spool.old)
-            (devices S.Source L.Output source.new spool.new) }
+        ensures spent { IsTrue S.tells → IfOk result (λ p. WaySpent (before cutter.old.runs) (R.count cutter.old.runs)
+            (each cutter.old.runs) (last cutter.old.runs) cutter.old.start cutter.new.start (S.given source.old)
+            (S.given source.new)) }
         ensures full { full_cut result ≡ 1 → IsTrue (L.is_full spool.new) ×
             (length (L.written spool.new) < length (L.written spool.old) + cutter.old.limit) }
-        ensures cause { IfErr result (λ e. HasCause e S.tells (S.read_faults source.old) (S.read_faults source.new)
+        ensures cause { IfErr result (λ e. CutCause e S.tells (S.read_faults source.old) (S.read_faults source.new)
             (L.write_faults spool.old) (L.write_faults spool.new)) };
 
     /// What is read for a part of the image is no more than for all of it.

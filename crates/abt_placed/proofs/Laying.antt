@@ -23,7 +23,7 @@ use Rattle.abt_pieces.proofs.Counting.{skips_all}
 use Rattle.abt_pieces.proofs.Writing.{blocks_skips, blocks_append, blocks_drop, length_raw, raw-append, run_data}
 use Rattle.abt_sparsify.specs.Sparsify.{bytes_of}
 use Rattle.abt_sparsify.proofs.SparseSteps.{header_first}
-use Rattle.abt_placed.specs.Placer.{SoundPlacer, kept_for, data_for, closed, closed_as, closing, closing_as, goes_on, goes_on_as, longer, begun, with_part, beginning, taking}
+use Rattle.abt_placed.specs.Placer.{SoundPlacer, kept_for, data_for, closed, closed_as, closing, closing_as, goes_on_with, goes_on_as, longer, with_chunk_begun, with_part, beginning, taking}
 use Rattle.abt_placed.specs.Placed.{Placed, classes, skips, open_bytes}
 use Rattle.abt_placed.specs.declared.placer.Placer.{Placer}
 use Rattle.abt_placed.proofs.Numbers.{goes}
@@ -170,7 +170,7 @@ longer_placed k b g h now x s q is long all good same_data p =
     }
 
 begun_placed : (P : List Block → Type 0) (k : RunKind) (b r : ℕ) (g h : List Block) (old now x : List ℕ) (t : Placer) (q : ℕ) → length h ≡ q → AllOf k h → AreBlocks b g → AreBlocks b h → data_for k x ≡ data_for k (raw_of h) → ((rest : List Block) → P (h ++ rest)) → Shut P b r g old now t
-    → Placed b (g ++ h) ((now ++ kept_for k) ++ data_for k x) (begun t k q)
+    → Placed b (g ++ h) ((now ++ kept_for k) ++ data_for k x) (with_chunk_begun t k q)
 begun_placed P k b r g h old now x t q long all fine good same_data ends p =
     let base = old ++ (replicate 28 0 ++ p.done) in
     let new : drop t.blocks (g ++ h) ≡ h = ap (λ (n : ℕ). drop n (g ++ h)) p.blocks ∙ drop-append_seam g h in
@@ -195,14 +195,14 @@ full (kinds.Fill v) s is few e same = absurd (let z : true ≡ false = sym same 
 full kinds.Skip s is few e same = absurd (let z : true ≡ false = sym same ∙ e in cc)
 full kinds.End s is few e same = absurd (let z : true ≡ false = sym same ∙ e in cc)
 
-next_ends : (s : Placer) (k : RunKind) (h rest : List Block) → goes_on s k ≡ false → 0 < length h → AllOf k h → (s.kind ≡ kinds.Raw → s.count ≤ s.most) → EndedBy s (h ++ rest)
+next_ends : (s : Placer) (k : RunKind) (h rest : List Block) → goes_on_with s k ≡ false → 0 < length h → AllOf k h → (s.kind ≡ kinds.Raw → s.count ≤ s.most) → EndedBy s (h ++ rest)
 next_ends s k h rest e some all few on = elim (cases_Bool (alike_kinds s.kind k)) [
   | inl y ↦ let w = alike_same s.kind k y in let fl = full k s w (λ r. few (w ∙ r)) e y in inr (w ∙ fl.0, fl.1)
   | inr n ↦ inl (ended_by s.kind k (h ++ rest) 0 (length h) n (subst (λ (l : List Block). AllOf k l) (sym (take-append_seam h rest)) all) (inl some))
 ]
 
-taken_as : (t : Bool) (b : ℕ) (g h : List Block) (now x : List ℕ) (s : Placer) (k : RunKind) (q : ℕ) → goes_on s k ≡ t → 0 < q → length h ≡ q → AllOf k h → AreBlocks b h → data_for k x ≡ data_for k (raw_of h) → SoundPlacer b (length now) s → Placed b g now s
-    → Placed b (g ++ h) ((if t then now else closing s b now ++ kept_for k) ++ data_for k x) (if t then longer s q else begun (closed s) k q)
+taken_as : (t : Bool) (b : ℕ) (g h : List Block) (now x : List ℕ) (s : Placer) (k : RunKind) (q : ℕ) → goes_on_with s k ≡ t → 0 < q → length h ≡ q → AllOf k h → AreBlocks b h → data_for k x ≡ data_for k (raw_of h) → SoundPlacer b (length now) s → Placed b g now s
+    → Placed b (g ++ h) ((if t then now else closing s b now ++ kept_for k) ++ data_for k x) (if t then longer s q else with_chunk_begun (closed s) k q)
 taken_as true b g h now x s k q e some long all good same_data sound p = longer_placed k b g h now x s q (goes s k e).same long all good same_data p
 taken_as false b g h now x s k q e some long all good same_data sound p =
     begun_placed (EndedBy s) k b s.most g h p.before (closing s b now) x (closed s) q long all p.good good same_data (λ rest. next_ends s k h rest e (omega (arith, long, some)) all sound.raw) (shut_all b g now s sound p)
@@ -231,7 +231,7 @@ data_of_classes kinds.End b q x long all = refl
 pub taken_placed : (b : ℕ) (g : List Block) (w w' x : List ℕ) (s s' : Placer) (k : RunKind) (q : ℕ) → 0 < q → 4 ≤ b → length x ≡ q * b → AllOf k (classes b q x) → SoundPlacer b (length w) s → s' ≡ with_part s k q → w' ≡ taking s k b x w → Placed b g w s
     → Placed b (g ++ classes b q x) w' s'
 taken_placed b g w w' x s s' k q more some long all sound e f p =
-    rw (e, f) (taken_as (goes_on s k) b g (classes b q x) w x s k q refl more (classes_long b q x) all (classes_good b q x some long) (data_of_classes k b q x long all) sound p)
+    rw (e, f) (taken_as (goes_on_with s k) b g (classes b q x) w x s k q refl more (classes_long b q x) all (classes_good b q x some long) (data_of_classes k b q x long all) sound p)
 
 split_joined : (b d n : ℕ) (w : List ℕ) → split b d w ++ split b n (drop (d * b) w) ≡ split b (d + n) w
 split_joined b zero n w = ap (λ (m : ℕ). split b n (drop m w)) (let z : 0 * b ≡ 0 = omega arith in z) ∙ ap (λ (m : ℕ). split b m w) (let z : n ≡ 0 + n = omega arith in z)
@@ -276,7 +276,7 @@ placed_whole b g now now' s s' sound p e f =
 -- so many skipped blocks more
 pub skipped_placed : (b n : ℕ) (g : List Block) (w w' : List ℕ) (s s' : Placer) → 0 < n → SoundPlacer b (length w) s → s' ≡ with_part s kinds.Skip n → w' ≡ beginning s kinds.Skip b w → Placed b g w s → Placed b (g ++ skips n) w' s'
 skipped_placed b n g w w' s s' some sound e f p =
-    rw (e, f) (subst (λ (l : List ℕ). Placed b (g ++ skips n) l (with_part s kinds.Skip n)) (append-nil (beginning s kinds.Skip b w)) (taken_as (goes_on s kinds.Skip) b g (skips n) w [] s kinds.Skip n refl some (length-replicate n Skip) (skips_all n) (blocks_skips b n) refl sound p))
+    rw (e, f) (subst (λ (l : List ℕ). Placed b (g ++ skips n) l (with_part s kinds.Skip n)) (append-nil (beginning s kinds.Skip b w)) (taken_as (goes_on_with s kinds.Skip) b g (skips n) w [] s kinds.Skip n refl some (length-replicate n Skip) (skips_all n) (blocks_skips b n) refl sound p))
 
 -- before the first block of a segment
 pub begun_behind : (b at first r : ℕ) (k : RunKind) (old now : List ℕ) → at ≡ length old → now ≡ old ++ replicate 28 0 → (first ≡ 0 → k ≡ kinds.End) → (0 < first → k ≡ kinds.Skip) → Placed b (skips first ++ []) now (record { front = at; most = r; chunks = 0; blocks = 0; kind = k; count = first })

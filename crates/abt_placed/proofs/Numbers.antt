@@ -10,7 +10,7 @@ use Rattle.abt_runs.proofs.Alike.{alike_same}
 use Rattle.abt_runs.specs.declared.part.RunKind.{RunKind}
 use Rattle.abt_runs.specs.declared.part.RunKind.TheVariants as kinds
 use Rattle.abt_pieces.specs.Write.{front_bytes}
-use Rattle.abt_placed.specs.Placer.{SoundPlacer, open_len, closed_as, closed, goes_on, longer, begun, with_part, room_of, closing_as, closing, kept_for, data_for, beginning}
+use Rattle.abt_placed.specs.Placer.{SoundPlacer, open_len, closed_as, closed, goes_on_with, longer, with_chunk_begun, with_part, room_of, closing_as, closing, kept_for, data_for, beginning}
 use Rattle.abt_placed.specs.declared.placer.Placer.{Placer}
 
 -- with the open chunk whole
@@ -60,7 +60,7 @@ both : (x y : Bool) → x && y ≡ true → (x ≡ true) × (y ≡ true)
 both true y e = (refl, e)
 both false y e = absurd cc
 
-pub goes : (s : Placer) (k : RunKind) → goes_on s k ≡ true → GoesOn s k
+pub goes : (s : Placer) (k : RunKind) → goes_on_with s k ≡ true → GoesOn s k
 goes s kinds.Raw e = let h = both _ _ e in record { same = alike_same s.kind kinds.Raw h.1; room = λ _. ltb-true s.count s.most h.0 }
 goes s (kinds.Fill v) e = record { same = alike_same s.kind (kinds.Fill v) e; room = λ r. absurd cc }
 goes s kinds.Skip e = record { same = alike_same s.kind kinds.Skip e; room = λ r. absurd cc }
@@ -81,9 +81,9 @@ room_most s q le = elim (cases_Bool (nat_lt s.count s.most)) [
 sums : (x y z b : ℕ) → x + y ≡ z → z * (b + 16) ≡ x * (b + 16) + y * (b + 16)
 sums x y z b e = ap (λ (n : ℕ). n * (b + 16)) (sym e) ∙ (let d : (x + y) * (b + 16) ≡ x * (b + 16) + y * (b + 16) = omega arith in d)
 
-sound_as : (t : Bool) (b q : ℕ) (w x : List ℕ) (s : Placer) (k : RunKind) → goes_on s k ≡ t → 0 < q → is_end k ≡ false → (k ≡ kinds.Raw → q ≤ room_of s) → (k ≡ kinds.Raw → length x ≡ q * b)
+sound_as : (t : Bool) (b q : ℕ) (w x : List ℕ) (s : Placer) (k : RunKind) → goes_on_with s k ≡ t → 0 < q → is_end k ≡ false → (k ≡ kinds.Raw → q ≤ room_of s) → (k ≡ kinds.Raw → length x ≡ q * b)
     → length (if t then w else closing s b w ++ kept_for k) + open_len s.kind s.count b ≤ length w + s.count * (b + 16) + length (kept_for k) → SoundPlacer b (length w) s
-    → let s' = if t then longer s q else begun (closed s) k q in SoundPlacer b (length ((if t then w else closing s b w ++ kept_for k) ++ data_for k x)) s'
+    → let s' = if t then longer s q else with_chunk_begun (closed s) k q in SoundPlacer b (length ((if t then w else closing s b w ++ kept_for k) ++ data_for k x)) s'
 sound_as true b q w x s k e some on cap long wide h =
     let g = goes s k e in
     let m : open_len s.kind (s.count + q) b ≡ open_len s.kind s.count b + length (data_for k x) = rw g.same (open_more k s.count q b x long) in
@@ -119,7 +119,7 @@ sound_as false b q w x s k e some on cap long wide h =
 
 pub sound_taken : (b q : ℕ) (w w1 w' x : List ℕ) (s s' : Placer) (k : RunKind) → 0 < q → is_end k ≡ false → q ≤ room_of s → length x ≡ q * b → length w1 + open_len s.kind s.count b ≤ length w + s.count * (b + 16) + length (kept_for k) → SoundPlacer b (length w) s
     → s' ≡ with_part s k q → w1 ≡ beginning s k b w → w' ≡ w1 ++ data_for k x → SoundPlacer b (length w') s'
-sound_taken b q w w1 w' x s s' k some on cap long wide h e f g = rw (e, g, f) (sound_as (goes_on s k) b q w x s k refl some on (λ _. cap) (λ _. long) (rw f at wide) h)
+sound_taken b q w w1 w' x s s' k some on cap long wide h e f g = rw (e, g, f) (sound_as (goes_on_with s k) b q w x s k refl some on (λ _. cap) (λ _. long) (rw f at wide) h)
 
 -- so many blocks of those in the window
 pub blocks_fit : (d c n b : ℕ) → d + c ≤ n → n * b ≤ 65536 → d * b + c * b ≤ 65536
@@ -138,7 +138,7 @@ closes_raw (Ok y) s b end w new is e h = h ∙ ap (λ (n : ℕ). put_at w (n - (
 closes_raw (Err f) s b end w new is e h = tt
 
 -- the place that is kept for it
-pub begins_raw : {X : Type 0} (res : Result X DeviceFault) (s : Placer) (k : RunKind) (b : ℕ) (w mid new : List ℕ) → k ≡ kinds.Raw → goes_on s k ≡ false → mid ≡ closing s b w → OnOk res (new ≡ mid ++ replicate 12 0) → OnOk res (new ≡ beginning s k b w)
+pub begins_raw : {X : Type 0} (res : Result X DeviceFault) (s : Placer) (k : RunKind) (b : ℕ) (w mid new : List ℕ) → k ≡ kinds.Raw → goes_on_with s k ≡ false → mid ≡ closing s b w → OnOk res (new ≡ mid ++ replicate 12 0) → OnOk res (new ≡ beginning s k b w)
 begins_raw (Ok y) s k b w mid new is other e h =
     let z : beginning s k b w ≡ closing s b w ++ kept_for k = rw other refl in
     h ∙ ap (λ (l : List ℕ). l ++ replicate 12 0) e ∙ ap (λ (j : RunKind). closing s b w ++ kept_for j) (sym is) ∙ sym z
@@ -146,4 +146,4 @@ begins_raw (Err f) s k b w mid new is other e h = tt
 
 -- with skipped blocks more
 pub sound_skipped : (b q : ℕ) (w w' : List ℕ) (s s' : Placer) → 0 < q → length w' + open_len s.kind s.count b ≤ length w + s.count * (b + 16) + 0 → SoundPlacer b (length w) s → s' ≡ with_part s kinds.Skip q → w' ≡ beginning s kinds.Skip b w → SoundPlacer b (length w') s'
-sound_skipped b q w w' s s' some wide h e f = rw (e, f) (subst (λ (l : List ℕ). SoundPlacer b (length l) (with_part s kinds.Skip q)) (append-nil (beginning s kinds.Skip b w)) (sound_as (goes_on s kinds.Skip) b q w [] s kinds.Skip refl some refl (λ raw. absurd cc) (λ raw. absurd cc) (rw f at wide) h))
+sound_skipped b q w w' s s' some wide h e f = rw (e, f) (subst (λ (l : List ℕ). SoundPlacer b (length l) (with_part s kinds.Skip q)) (append-nil (beginning s kinds.Skip b w)) (sound_as (goes_on_with s kinds.Skip) b q w [] s kinds.Skip refl some refl (λ raw. absurd cc) (λ raw. absurd cc) (rw f at wide) h))

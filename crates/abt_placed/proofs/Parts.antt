@@ -8,13 +8,13 @@ use Rattle.abt_io.specs.declared.device.DeviceFault.TheVariants.{Failed, Full}
 use Rattle.abt_runs.specs.Part.{is_end}
 use Rattle.abt_runs.specs.declared.part.RunKind.{RunKind}
 use Rattle.abt_runs.specs.declared.part.RunKind.TheVariants as kinds
-use Rattle.abt_pieces.specs.Contents.{data_len}
-use Rattle.abt_placed.specs.Placer.{SoundPlacer, open_len, data_for, kept_for, goes_on, longer, begun, closed, with_part}
+use Rattle.abt_pieces.specs.Contents.{copy_len}
+use Rattle.abt_placed.specs.Placer.{SoundPlacer, open_len, data_for, kept_for, goes_on_with, longer, with_chunk_begun, closed, with_part}
 use Rattle.abt_placed.specs.declared.placer.Placer.{Placer}
 use Rattle.abt_placed.proofs.Numbers.{closed_numbers}
 
 -- how long the bytes of a part are
-pub data_long : (k : RunKind) (q b : ℕ) (x : List ℕ) → length x ≡ q * b → length (data_for k x) ≡ data_len k q b
+pub data_long : (k : RunKind) (q b : ℕ) (x : List ℕ) → length x ≡ q * b → length (data_for k x) ≡ copy_len k q b
 data_long kinds.Raw q b x e = e
 data_long (kinds.Fill w) q b x e = refl
 data_long kinds.Skip q b x e = refl
@@ -35,13 +35,13 @@ begun_within b q long long' long'' x s k h e some wide more =
     omega (arith, o, d, h.few, wide, more)
 
 passed_as : (t : Bool) (s : Placer) (k : RunKind) (q : ℕ) → s.chunks ≤ s.blocks → (is_end s.kind ≡ true → s.count ≡ 0) → (is_end s.kind ≡ false → 0 < s.count)
-    → let s' = if t then longer s q else begun (closed s) k q in (s'.blocks + s'.count ≡ s.blocks + s.count + q) × ((s'.most ≡ s.most) × (s'.front ≡ s.front))
+    → let s' = if t then longer s q else with_chunk_begun (closed s) k q in (s'.blocks + s'.count ≡ s.blocks + s.count + q) × ((s'.most ≡ s.most) × (s'.front ≡ s.front))
 passed_as true s k q c none some = (omega arith, (refl, refl))
 passed_as false s k q c none some = let n = closed_numbers s.kind s c none some in (omega (arith, n.blocks), (n.most, n.front))
 
 -- what stands of a placer that goes on
 pub part_passed : (b long q : ℕ) (s s' : Placer) (k : RunKind) → SoundPlacer b long s → s' ≡ with_part s k q → (s'.blocks + s'.count ≡ s.blocks + s.count + q) × ((s'.most ≡ s.most) × (s'.front ≡ s.front))
-part_passed b long q s s' k h e = rw e (passed_as (goes_on s k) s k q h.chunks h.none h.some)
+part_passed b long q s s' k h e = rw e (passed_as (goes_on_with s k) s k q h.chunks h.none h.some)
 
 -- ---- the open chunk is made whole
 

@@ -1,13 +1,14 @@
 -- Calls that lay what they read, one after another.
-use Rattle.std.proofs.Common.{◌≡◌, ◌∙◌, ℕ, ◌+◌, ◌≤◌, max, Bool, IsTrue, Result, Ok, Err, OnOk, refl, arith}
+use Rattle.std.proofs.Common.{◌≡◌, ◌∙◌, ℕ, ◌+◌, ◌≤◌, max, Bool, Result, Ok, Err, OnOk, refl, arith}
 use Rattle.std.proofs.Math.Nat.{le_refl, le_trans}
 use Rattle.std.specs.Prelude.{IfErr}
 use Rattle.abt_io.specs.declared.device.DeviceFault.{DeviceFault}
 use Rattle.abt_io.specs.declared.device.Output as outputs
 use Rattle.abt_io.specs.declared.device.Source as sources
 use Rattle.abt_io.specs.declared.meter.Meter.{Meter}
+use Rattle.abt_io.specs.Lent.{OnlyReads}
 use Rattle.abt_pieces.proofs.Fronts.{says_full}
-use Rattle.abt_pieces.specs.Fault.{HasCause, full_cut}
+use Rattle.abt_pieces.specs.Fault.{CutCause, full_cut}
 use Rattle.abt_pieces.specs.declared.fault.PieceFault.{PieceFault}
 use Rattle.abt_pieces.specs.declared.fault.PieceFault.TheVariants.{Write}
 use Rattle.abt_placed.proofs.Onward.{still}
@@ -17,7 +18,7 @@ clean_on : {X : Type 0} (r : Result X PieceFault) (a m z : Scene) → (m.faults 
 clean_on (Ok x) a m z e h = (h.0 ∙ e.0, h.1 ∙ e.1)
 clean_on (Err f) a m z e h = tt
 
-cause_on : {X : Type 0} (r : Result X PieceFault) (tells : Bool) (a m z : Scene) → (m.faults ≡ a.faults) × (m.output.faults ≡ a.output.faults) → IfErr r (λ e. HasCause e tells m.faults z.faults m.output.faults z.output.faults) → IfErr r (λ e. HasCause e tells a.faults z.faults a.output.faults z.output.faults)
+cause_on : {X : Type 0} (r : Result X PieceFault) (tells : Bool) (a m z : Scene) → (m.faults ≡ a.faults) × (m.output.faults ≡ a.output.faults) → IfErr r (λ e. CutCause e tells m.faults z.faults m.output.faults z.output.faults) → IfErr r (λ e. CutCause e tells a.faults z.faults a.output.faults z.output.faults)
 cause_on (Ok x) tells a m z e h = tt
 cause_on (Err f) tells a m z e h = rw (e.0, e.1) at h
 
@@ -25,6 +26,7 @@ cause_on (Err f) tells a m z e h = rw (e.0, e.1) at h
 pub lays_then : {X Y : Type 0} {x : X} {r : Result Y PieceFault} {tells : Bool} {a m z : Scene} → LaysOn (Ok x) tells a m → LaysOn r tells m z → LaysOn r tells a z
 lays_then {r = r} {tells = tells} {a = a} {m = m} {z = z} h g = record {
   content = λ t. g.content t ∙ h.content t;
+  size = λ t. g.size t ∙ h.size t;
   read_frame = g.read_frame ∙ h.read_frame;
   write_frame = g.write_frame ∙ h.write_frame;
   grown = le_trans h.grown g.grown;
@@ -43,6 +45,7 @@ lays_then {r = r} {tells = tells} {a = a} {m = m} {z = z} h g = record {
 pub lays_fault : {X Y : Type 0} {f : PieceFault} {tells : Bool} {a z : Scene} → LaysOn {X = X} (Err f) tells a z → LaysOn {X = Y} (Err f) tells a z
 lays_fault h = record {
   content = h.content;
+  size = h.size;
   read_frame = h.read_frame;
   write_frame = h.write_frame;
   grown = h.grown;
@@ -59,11 +62,12 @@ lays_fault h = record {
 
 -- a call of the output alone
 abbrev over : Scene → Stand → Scene
-over a z = record { content = a.content; frame = a.frame; given = a.given; faults = a.faults; output = z }
+over a z = record { content = a.content; size = a.size; frame = a.frame; given = a.given; faults = a.faults; output = z }
 
 pub lays_written : {X Y : Type 0} {x : X} {y : Y} {k j : ℕ} {tells : Bool} (a : Scene) (z : Stand) → Writes (Ok x) k j a.output z → LaysOn (Ok y) tells a (over a z)
 lays_written a z h = record {
   content = λ t. refl;
+  size = λ t. refl;
   read_frame = refl;
   write_frame = h.frame;
   grown = h.grown;
@@ -81,6 +85,7 @@ lays_written a z h = record {
 pub lays_unwritten : {X Y : Type 0} {f : DeviceFault} {k j : ℕ} {tells : Bool} (a : Scene) (z : Stand) → Writes {X = X} (Err f) k j a.output z → LaysOn {X = Y} (Err (Write f)) tells a (over a z)
 lays_unwritten {f = f} a z h = record {
   content = λ t. refl;
+  size = λ t. refl;
   read_frame = refl;
   write_frame = h.frame;
   grown = h.grown;
@@ -102,18 +107,19 @@ pub lays_value : {X Y : Type 0} {x : X} {y : Y} {tells : Bool} {a z : Scene} →
 lays_value h = lays_then h lays_still
 
 -- a step that reads, and writes nothing
-pub reads : {A B X : Type 0} {r : Result X PieceFault} {tells : Bool} (s : sources.Ghosts A) (o : outputs.Ghosts B) (source source' : A) (output : B) (m m1 m2 : Meter) (got : ℕ) → (IsTrue tells → s.content source' ≡ s.content source) → s.read_frame source' ≡ s.read_frame source → s.given source' ≡ s.given source + got → got ≤ 65536
-    → m1.steps.number ≡ m.steps.number → m1.greatest.number ≡ m.greatest.number → m2.steps.number ≡ m1.steps.number + 1 → m2.greatest.number ≡ max m1.greatest.number got → s.read_faults source ≤ s.read_faults source' → OnOk r (s.read_faults source' ≡ s.read_faults source) → full_cut r ≡ 0
-    → IfErr r (λ e. HasCause e tells (s.read_faults source) (s.read_faults source') (o.write_faults output) (o.write_faults output)) → LaysOn r tells (scene s o source output m) (scene s o source' output m2)
-reads {r = r} s o source source' output m m1 m2 got content frame given few steps greatest step more faults clean none cause = record {
-  content = content;
-  read_frame = frame;
+pub reads : {A B X Y E : Type 0} {r : Result X PieceFault} {q : Result Y E} (s : sources.Ghosts A) (o : outputs.Ghosts B) (source source' : A) (output : B) (m m1 m2 : Meter) (got : ℕ) → OnlyReads q s source source' → s.given source' ≡ s.given source + got → got ≤ 65536
+    → m1.steps.number ≡ m.steps.number → m1.greatest.number ≡ m.greatest.number → m2.steps.number ≡ m1.steps.number + 1 → m2.greatest.number ≡ max m1.greatest.number got → OnOk r (s.read_faults source' ≡ s.read_faults source) → full_cut r ≡ 0
+    → IfErr r (λ e. CutCause e s.tells (s.read_faults source) (s.read_faults source') (o.write_faults output) (o.write_faults output)) → LaysOn r s.tells (scene s o source output m) (scene s o source' output m2)
+reads {r = r} s o source source' output m m1 m2 got k given few steps greatest step more clean none cause = record {
+  content = k.content;
+  size = k.size;
+  read_frame = k.frame;
   write_frame = refl;
   grown = le_refl _;
   given = omega (arith, given);
   received = omega (arith, given, few, steps, step);
   greatest = omega (arith, few, greatest, more);
-  faults = faults;
+  faults = k.faults;
   write_faults = le_refl _;
   clean = both_clean r clean;
   full_faults = omega (arith, none);

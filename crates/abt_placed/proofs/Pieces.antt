@@ -14,8 +14,8 @@ use Rattle.abt_sparse.proofs.Spelling.{reads_back}
 use Rattle.abt_runs.specs.RawLaws.{raw_long}
 use Rattle.abt_pieces.specs.Contents.{written_in}
 use Rattle.abt_pieces.specs.Gather.{frame}
-use Rattle.abt_pieces.specs.Image.{Appended, IsImage}
-use Rattle.abt_pieces.specs.Outline.{IsPiece}
+use Rattle.abt_pieces.specs.Image.{Appended, IsPlainImage}
+use Rattle.abt_pieces.specs.Outline.{IsPieceOf}
 use Rattle.abt_pieces.specs.declared.outline.Piece.{Piece}
 use Rattle.abt_pieces.specs.Plan.{between}
 use Rattle.abt_pieces.proofs.Counting.{written-append}
@@ -23,7 +23,7 @@ use Rattle.abt_pieces.proofs.Planning.{first_piece}
 use Rattle.abt_placed.specs.Placer.{SoundPlacer, closed, closing}
 use Rattle.abt_placed.specs.Placed.{Placed, skips}
 use Rattle.abt_placed.specs.Whole.{taken}
-use Rattle.abt_placed.specs.Segment.{SoundSegment, IsUncut, LaidSegment, ToldSegment, EndedSegment, IsHeld}
+use Rattle.abt_placed.specs.Segment.{SoundSegment, IsUncut, LaidSegment, ToldSegment, EndedSegment, IsHeldBlock}
 use Rattle.abt_placed.specs.Piece.{LaidPiece, WholePiece}
 use Rattle.abt_placed.specs.declared.placer.Placer.{Placer}
 use Rattle.abt_placed.specs.declared.segment.Segment.{Segment}
@@ -81,7 +81,7 @@ whole_piece tells x b len n limit r first past chunks old now old' new s four co
 })
 
 -- it reads as an image, whatever the source gave
-pub piece_image : (tells : Bool) (x : List ℕ) (b n limit r first past chunks : ℕ) (old new : List ℕ) → (0 < b) × (b % 4 ≡ 0) × (b < 2 ^ 32) → 1 ≤ r → 12 + r * b < 2 ^ 32 → n < 2 ^ 32 → WholePiece tells x b n limit r first past chunks old new → Appended (IsImage b n) old new
+pub piece_image : (tells : Bool) (x : List ℕ) (b n limit r first past chunks : ℕ) (old new : List ℕ) → (0 < b) × (b % 4 ≡ 0) × (b < 2 ^ 32) → 1 ≤ r → 12 + r * b < 2 ^ 32 → n < 2 ^ 32 → WholePiece tells x b n limit r first past chunks old new → Appended (IsPlainImage b n) old new
 piece_image tells x b n limit r first past chunks old new good some small few w =
     let f = framed first w.blocks (n - past) in
     let l = w.laid in
@@ -110,7 +110,7 @@ piece_told tells x b n limit r first past chunks old new few t long w =
     w.laid.stands ∙ ap (λ (y : List ℕ). old ++ y) (uncut_spelling b r f (uncut b r f w.laid.good (omega (arith, le, all, w.fits, few))))
     ∙ ap (λ (g : List Block). old ++ piece b (framed first g (n - past))) (w.told t).0 ∙ ap (λ (m : ℕ). old ++ piece b (framed first (between (classify b x) first past) (m - past))) long
 
-all_held : (g : List Block) → AllByRecursion IsHeld g → written_in g ≡ length g
+all_held : (g : List Block) → AllByRecursion IsHeldBlock g → written_in g ≡ length g
 all_held [] h = refl
 all_held (Raw x ∷ g) h = let y = all_held g h.1 in omega (arith, y)
 all_held (Fill w ∷ g) h = let y = all_held g h.1 in omega (arith, y)
@@ -124,7 +124,7 @@ pub piece_held : (tells : Bool) (x : List ℕ) (b n limit r first past chunks : 
 piece_held tells x b n limit r first past chunks old new t long order within w =
     let l = classify b x in
     let g = between l first past in
-    let held : AllByRecursion IsHeld g = subst (λ (y : List Block). AllByRecursion IsHeld y) (w.told t).0 w.held in
+    let held : AllByRecursion IsHeldBlock g = subst (λ (y : List Block). AllByRecursion IsHeldBlock y) (w.told t).0 w.held in
     let a = written-append (skips first ++ g) (skips (length l - past)) in
     let c = written-append (skips first) g in
     omega (arith, a, c, none_held first, none_held (length l - past), all_held g held, length-between l refl)
@@ -164,7 +164,7 @@ unfinished_at f old new at h = subst (λ (n : ℕ). IsUnfinished (drop n new)) a
 
 -- ---- what is answered
 
-pub piece_exact : (tells : Bool) (x : List ℕ) (b n limit r first chunks : ℕ) (old new : List ℕ) (p : Piece) → IsUncut b limit r → IsTrue tells → n ≡ length (classify b x) → p.first ≡ first → p.first ≤ p.past → p.past ≤ n → p.written ≡ p.past - p.first → length new ≡ length old + p.bytes → WholePiece tells x b n limit r first p.past chunks old new → IsPiece b (classify b x) p
+pub piece_exact : (tells : Bool) (x : List ℕ) (b n limit r first chunks : ℕ) (old new : List ℕ) (p : Piece) → IsUncut b limit r → IsTrue tells → n ≡ length (classify b x) → p.first ≡ first → p.first ≤ p.past → p.past ≤ n → p.written ≡ p.past - p.first → length new ≡ length old + p.bytes → WholePiece tells x b n limit r first p.past chunks old new → IsPieceOf b (classify b x) p
 piece_exact tells x b n limit r first chunks old new p few t long at order within held bytes w =
     let l = classify b x in
     let q : WholePiece tells x b n limit r p.first p.past chunks old new = rw at w in

@@ -18,9 +18,9 @@ use Rattle.abt_pieces.specs.Plan.{between, head_of, fill_gain_of, cap_of, gain_o
 use Rattle.abt_pieces.proofs.Planning.{part_gains, over}
 use Rattle.abt_pieces.specs.declared.segment_tail.Tail.{Tail}
 use Rattle.abt_pieces.specs.declared.segment_tail.Tail.TheVariants as tails
-use Rattle.abt_placed.specs.Placer.{SoundPlacer, goes_on, with_part, longer, begun, closed, closing_len, taking_len}
+use Rattle.abt_placed.specs.Placer.{SoundPlacer, goes_on_with, with_part, longer, with_chunk_begun, closed, closing_len, taking_len}
 use Rattle.abt_placed.specs.Placed.{Placed, classes, skips}
-use Rattle.abt_placed.specs.Segment.{tail_of_open, is_fresh, to_come, SoundSegment, IsUncut, IsHeld, LaidSegment, IsOver}
+use Rattle.abt_placed.specs.Segment.{tail_of_open, is_fresh, to_come, SoundSegment, IsUncut, IsHeldBlock, LaidSegment, OneMoreExceeds}
 use Rattle.abt_placed.specs.Whole.{taken}
 use Rattle.abt_placed.specs.declared.placer.Placer.{Placer}
 use Rattle.abt_placed.specs.declared.segment.Segment.{Segment}
@@ -73,16 +73,16 @@ raw_room b gain q s long h uncut some e fits raw = elim (cases_Bool (nat_lt s.pl
 -- the open chunk of a placer that has taken blocks
 pub record PartNumbers (s t : Placer) (k : RunKind) (q : ℕ) : Type 0 where
   pub kind : t.kind ≡ k
-  pub count : ((s.kind ≡ k) × (t.count ≡ s.count + q)) ⊎ ((goes_on s k ≡ false) × (t.count ≡ q))
+  pub count : ((s.kind ≡ k) × (t.count ≡ s.count + q)) ⊎ ((goes_on_with s k ≡ false) × (t.count ≡ q))
 
-part_as : (u : Bool) (s : Placer) (k : RunKind) (q : ℕ) → goes_on s k ≡ u → PartNumbers s (if u then longer s q else begun (closed s) k q) k q
+part_as : (u : Bool) (s : Placer) (k : RunKind) (q : ℕ) → goes_on_with s k ≡ u → PartNumbers s (if u then longer s q else with_chunk_begun (closed s) k q) k q
 part_as true s k q e = let g = goes s k e in record { kind = g.same; count = inl (g.same, refl) }
 part_as false s k q e = record { kind = refl; count = inr (e, refl) }
 
 pub part_numbers : (s t : Placer) (k : RunKind) (q : ℕ) → t ≡ with_part s k q → PartNumbers s t k q
-part_numbers s t k q e = rw e (part_as (goes_on s k) s k q refl)
+part_numbers s t k q e = rw e (part_as (goes_on_with s k) s k q refl)
 
-raw_goes : (s : Placer) → s.kind ≡ kinds.Raw → s.count < s.most → goes_on s kinds.Raw ≡ true
+raw_goes : (s : Placer) → s.kind ≡ kinds.Raw → s.count < s.most → goes_on_with s kinds.Raw ≡ true
 raw_goes s is lt = elim (cases_Bool (nat_lt s.count s.most)) [
   | inl y ↦ rw (y, is) refl
   | inr y ↦ let g = ltb-false s.count s.most y in absurd (omega (arith, g, lt))
@@ -209,18 +209,18 @@ first_fits b q s long k four h fresh some cap = by_kind s.placer.kind refl
 
 -- ---- the blocks of a raw image
 
-class_held : (x : List ℕ) → IsHeld (class_of x)
+class_held : (x : List ℕ) → IsHeldBlock (class_of x)
 class_held x = elim (cases_Bool (list_all (bytes_eq (take 4 x)) (split 4 (length x / 4) x))) [ inl e ↦ rw e tt | inr e ↦ rw e tt ]
 
-classes_held : (xs : List (List ℕ)) → AllByRecursion IsHeld (map class_of xs)
+classes_held : (xs : List (List ℕ)) → AllByRecursion IsHeldBlock (map class_of xs)
 classes_held [] = tt
 classes_held (x ∷ xs) = (class_held x, classes_held xs)
 
-held_both : (xs ys : List Block) → AllByRecursion IsHeld xs → AllByRecursion IsHeld ys → AllByRecursion IsHeld (xs ++ ys)
+held_both : (xs ys : List Block) → AllByRecursion IsHeldBlock xs → AllByRecursion IsHeldBlock ys → AllByRecursion IsHeldBlock (xs ++ ys)
 held_both [] ys h k = k
 held_both (x ∷ xs) ys h k = (h.0, held_both xs ys h.1 k)
 
-class_kind : (k : RunKind) (xs : List Block) → 0 < length xs → AllOf k xs → AllByRecursion IsHeld xs → is_fresh k ≡ false
+class_kind : (k : RunKind) (xs : List Block) → 0 < length xs → AllOf k xs → AllByRecursion IsHeldBlock xs → is_fresh k ≡ false
 class_kind k [] some all held = absurd (omega (arith, some))
 class_kind kinds.Raw (x ∷ xs) some all held = refl
 class_kind (kinds.Fill w) (x ∷ xs) some all held = refl
@@ -260,7 +260,7 @@ laid_on b q gain g x now now' s t k some all is grows l placed =
 
 -- what has no room
 pub part_over : (b q : ℕ) (g rest : List Block) (now : List ℕ) (s : Segment) (long : ℕ) (k : RunKind) → 4 ≤ b → 0 < q → SoundSegment b long s → LaidSegment b g now s → AllOf k (take q rest) → q ≤ cap_of (tail_of_open s.placer.kind) (s.limit - s.weight) b → s.limit - s.weight < gain_of (tail_of_open s.placer.kind) k q b
-    → IsOver s.limit b g rest
+    → OneMoreExceeds s.limit b g rest
 part_over b q g rest now s long k four some h l all cap above x more e =
     let all_of = g ++ rest in
     let bt : between all_of 0 (length g) ≡ g = ap (λ (n : ℕ). take n all_of) (let z : length g - 0 ≡ length g = omega arith in z) ∙ take-append_seam g rest in
@@ -276,7 +276,7 @@ more_laid b d n from past g w x now s at le e l =
 
 -- the next block of the window has no room
 pub window_over : (b d n a from past : ℕ) (g : List Block) (w x now : List ℕ) (s : Segment) (long : ℕ) (k : RunKind) → 4 ≤ b → 0 < n → d + n ≤ a → from ≡ d * b → from + n * b ≤ past → x ≡ slice_range w from past → SoundSegment b long s → LaidSegment b (g ++ classes b d w) now s → AllOf k (classes b n x)
-    → n ≤ cap_of (tail_of_open s.placer.kind) (s.limit - s.weight) b → s.limit - s.weight < gain_of (tail_of_open s.placer.kind) k n b → IsOver s.limit b (g ++ classes b d w) (drop d (classes b a w))
+    → n ≤ cap_of (tail_of_open s.placer.kind) (s.limit - s.weight) b → s.limit - s.weight < gain_of (tail_of_open s.placer.kind) k n b → OneMoreExceeds s.limit b (g ++ classes b d w) (drop d (classes b a w))
 window_over b d n a from past g w x now s long k four some within at le e h l all cap above =
     let part : take n (drop d (classes b a w)) ≡ classes b n x = classes_next b d n a from past w x within at le e in
     part_over b n (g ++ classes b d w) (drop d (classes b a w)) now s long k four some h l (rw part all) cap above

@@ -9,7 +9,7 @@ use Rattle.abt_pieces.specs.Plan.{between}
 use Rattle.abt_pieces.proofs.Planning.{between_more}
 use Rattle.abt_placed.specs.Placed.{classes}
 use Rattle.abt_placed.specs.Whole.{taken}
-use Rattle.abt_placed.specs.Segment.{LaidSegment, ToldSegment, EndedSegment, IsOver}
+use Rattle.abt_placed.specs.Segment.{LaidSegment, ToldSegment, EndedSegment, OneMoreExceeds}
 use Rattle.abt_placed.specs.declared.segment.Segment.{Segment}
 use Rattle.abt_placed.proofs.Laying.{classes_part}
 
@@ -51,7 +51,7 @@ first_of_more (suc k) y more some = ap (λ (m : ℕ). y ∷ take m more) (let z 
 
 -- the block that has no room is the source's next
 pub over_on : (b len n limit i a j want room : ℕ) (x w : List ℕ) (g : List Block) → 4 ≤ b → len ≤ n * b → n * b < len + b → i + a ≤ n → j < a → room ≡ a * b → Loaded b len i want room x w
-    → IsOver limit b g (drop j (classes b a w)) → IsOver limit b g (drop (i + j) (classify b x))
+    → OneMoreExceeds limit b g (drop j (classes b a w)) → OneMoreExceeds limit b g (drop (i + j) (classify b x))
 over_on b len n limit i a j want room x w g some covers last within few wide h o y more e =
     let l = classify b x in
     let there : drop j (drop i l) ≡ y ∷ more = drop-drop j i l ∙ ap (λ (m : ℕ). drop m l) (omega arith) ∙ e in
@@ -66,7 +66,7 @@ no_more_than false x y a all short = let z = all refl in omega (arith, z)
 
 -- the segment ends before a block that has no room
 pub ended_on : (tells : Bool) (x : List ℕ) (b len n a j want room : ℕ) (now now' w : List ℕ) (s s' : Segment) → 4 ≤ b → len ≤ n * b → n * b < len + b → taken s.placer + a ≤ n → j < a → taken s'.placer ≡ taken s.placer + j → s'.first ≡ s.first → s'.limit ≡ s.limit → s.first ≤ taken s.placer → s.first < taken s'.placer → s.limit < 2 ^ 49 → room ≡ a * b
-    → (t : ToldSegment tells x b now s) → LaidSegment b (t.blocks ++ classes b j w) now' s' → (IsTrue tells → Loaded b len (taken s.placer) want room x w) → IsOver s.limit b (t.blocks ++ classes b j w) (drop j (classes b a w)) → EndedSegment tells x b n s'
+    → (t : ToldSegment tells x b now s) → LaidSegment b (t.blocks ++ classes b j w) now' s' → (IsTrue tells → Loaded b len (taken s.placer) want room x w) → OneMoreExceeds s.limit b (t.blocks ++ classes b j w) (drop j (classes b a w)) → EndedSegment tells x b n s'
 ended_on tells x b len n a j want room now now' w s s' some covers last within few passed same cap order more reached wide t laid read o = record {
   moves = λ _. rw same more;
   reached = λ _. rw cap reached;
@@ -74,9 +74,9 @@ ended_on tells x b len n a j want room now now' w s s' some covers last within f
       let g = t.blocks ++ classes b j w in
       let l = classify b x in
       let e : g ≡ between l s'.first (taken s'.placer) = more_told x b len n a j want room w t.blocks s s' some covers last within (omega (arith, few)) passed same order wide (t.told y) (read y) in
-      let p : IsOver s.limit b g (drop (taken s.placer + j) l) = over_on b len n s.limit (taken s.placer) a j want room x w g some covers last within few wide (read y) o in
-      let q : IsOver s.limit b g (drop (taken s'.placer) l) = rw passed p in
-      let r : IsOver s'.limit b g (drop (taken s'.placer) l) = rw cap q in
+      let p : OneMoreExceeds s.limit b g (drop (taken s.placer + j) l) = over_on b len n s.limit (taken s.placer) a j want room x w g some covers last within few wide (read y) o in
+      let q : OneMoreExceeds s.limit b g (drop (taken s'.placer) l) = rw passed p in
+      let r : OneMoreExceeds s'.limit b g (drop (taken s'.placer) l) = rw cap q in
       rw e at r;
 }
 
@@ -100,5 +100,5 @@ pub same_ended : (tells : Bool) (x x' : List ℕ) (b n : ℕ) (s : Segment) → 
 same_ended tells x x' b n s e h = record {
   moves = h.moves;
   reached = h.reached;
-  over = λ t. subst (λ (y : List ℕ). IsOver s.limit b (between (classify b y) s.first (taken s.placer)) (drop (taken s.placer) (classify b y))) (e t) (h.over t);
+  over = λ t. subst (λ (y : List ℕ). OneMoreExceeds s.limit b (between (classify b y) s.first (taken s.placer)) (drop (taken s.placer) (classify b y))) (e t) (h.over t);
 }

@@ -3,7 +3,7 @@ use Rattle.std.proofs.Common.{◌≡◌, ℕ, ◌+◌, ◌-◌, ◌<◌, ◌≤�
 use Rattle.abt_runs.specs.declared.part.RunKind.{RunKind}
 use Rattle.abt_runs.specs.declared.part.RunKind.TheVariants as kinds
 use Rattle.abt_pieces.specs.Plan.{gain_of}
-use Rattle.abt_placed.specs.Placer.{taking_len, beginning_len, closing_len, goes_on}
+use Rattle.abt_placed.specs.Placer.{taking_len, beginning_len, closing_len, goes_on_with}
 use Rattle.abt_placed.specs.Segment.{SoundSegment, IsUncut, is_fresh, tail_of_open, to_come}
 use Rattle.abt_placed.specs.declared.placer.Placer.{Placer}
 use Rattle.abt_placed.specs.declared.segment.Segment.{Segment}
@@ -29,4 +29,4 @@ skipping_as false kinds.Skip = omega arith
 skipping_as false kinds.End = omega arith
 
 pub skipping_fits : (s : Placer) → beginning_len s kinds.Skip + 12 ≤ to_come s.kind
-skipping_fits s = skipping_as (goes_on s kinds.Skip) s.kind
+skipping_fits s = skipping_as (goes_on_with s kinds.Skip) s.kind

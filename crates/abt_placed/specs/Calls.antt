@@ -9,7 +9,7 @@ use Rattle.abt_io.specs.declared.device.Output as outputs
 use Rattle.abt_io.specs.declared.device.Source as sources
 use Rattle.abt_io.specs.declared.meter.Meter.{Meter}
 use Rattle.abt_pieces.specs.declared.fault.PieceFault.{PieceFault}
-use Rattle.abt_pieces.specs.Fault.{HasCause, full_cut}
+use Rattle.abt_pieces.specs.Fault.{CutCause, full_cut}
 use Rattle.abt_placed.specs.Unfinished.{IsNoImage}
 
 -- what is known of an output and of a meter, beside the bytes
@@ -55,6 +55,7 @@ pub record Writes {X : Type 0} (r : Result X DeviceFault) (k j : ℕ) (a z : Sta
 -- what is known of a source, an output and a meter
 pub record Scene : Type 0 where
   pub content : List ℕ
+  pub size : ℕ
   pub frame : PartitionFrame
   pub given : ℕ
   pub faults : ℕ
@@ -63,6 +64,7 @@ pub record Scene : Type 0 where
 abbrev pub scene : {A B : Type 0} → sources.Ghosts A → outputs.Ghosts B → A → B → Meter → Scene
 scene s o source output m = record {
   content = s.content source;
+  size = s.size source;
   frame = s.read_frame source;
   given = s.given source;
   faults = s.read_faults source;
@@ -73,6 +75,7 @@ scene s o source output m = record {
 -- has failed, and else with the reason.
 pub record LaysOn {X : Type 0} (r : Result X PieceFault) (tells : Bool) (a z : Scene) : Type 0 where
   pub content : IsTrue tells → z.content ≡ a.content
+  pub size : IsTrue tells → z.size ≡ a.size
   pub read_frame : z.frame ≡ a.frame
   pub write_frame : z.output.frame ≡ a.output.frame
   pub grown : a.output.long ≤ z.output.long
@@ -84,11 +87,11 @@ pub record LaysOn {X : Type 0} (r : Result X PieceFault) (tells : Bool) (a z : S
   pub clean : OnOk r ((z.faults ≡ a.faults) × (z.output.faults ≡ a.output.faults))
   pub full_faults : z.output.full_faults ≡ a.output.full_faults + full_cut r
   pub full : full_cut r ≡ 1 → IsTrue z.output.is_full
-  pub cause : IfErr r (λ e. HasCause e tells a.faults z.faults a.output.faults z.output.faults)
+  pub cause : IfErr r (λ e. CutCause e tells a.faults z.faults a.output.faults z.output.faults)
 
 -- Nothing is taken back. What stood in the output stays, and where the call is refused, nothing stands behind it, or
 -- what is no image whatever follows it.
-pub record Grows {X : Type 0} (r : Result X PieceFault) (old new : List ℕ) : Type 0 where
+pub record OutputGrows {X : Type 0} (r : Result X PieceFault) (old new : List ℕ) : Type 0 where
   pub grown : length old ≤ length new
   pub before : take (length old) new ≡ old
   pub unfinished : OnErr r ((new ≡ old) ⊎ IsNoImage (drop (length old) new))

@@ -6,7 +6,7 @@ use Rattle.abt_runs.specs.declared.part.RunKind.{RunKind}
 use Rattle.abt_runs.specs.declared.part.RunKind.TheVariants as kinds
 use Rattle.abt_runs.specs.Whole.{alike_kinds}
 use Rattle.abt_pieces.specs.Write.{front_bytes}
-use Rattle.abt_pieces.specs.Contents.{data_len}
+use Rattle.abt_pieces.specs.Contents.{copy_len}
 use Rattle.abt_io.specs.Moment.{put_at}
 use Rattle.abt_placed.specs.declared.placer.Placer.{Placer}
 
@@ -68,8 +68,8 @@ goes_on_as (kinds.Fill w) s = alike_kinds s.kind (kinds.Fill w)
 goes_on_as kinds.Skip s = alike_kinds s.kind kinds.Skip
 goes_on_as kinds.End s = alike_kinds s.kind kinds.End
 
-abbrev pub goes_on : Placer → RunKind → Bool
-goes_on s k = goes_on_as k s
+abbrev pub goes_on_with : Placer → RunKind → Bool
+goes_on_with s k = goes_on_as k s
 
 -- with q blocks more in the open chunk, and with a chunk begun
 abbrev pub longer : Placer → ℕ → Placer
@@ -82,11 +82,12 @@ longer s q = record {
   count = s.count + q;
 }
 
-abbrev pub begun : Placer → RunKind → ℕ → Placer
-begun s k q = record { front = s.front; most = s.most; chunks = s.chunks; blocks = s.blocks; kind = k; count = q }
+abbrev pub with_chunk_begun : Placer → RunKind → ℕ → Placer
+with_chunk_begun s k q =
+    record { front = s.front; most = s.most; chunks = s.chunks; blocks = s.blocks; kind = k; count = q }
 
 abbrev pub with_part : Placer → RunKind → ℕ → Placer
-with_part s k q = if goes_on s k then longer s q else begun (closed s) k q
+with_part s k q = if goes_on_with s k then longer s q else with_chunk_begun (closed s) k q
 
 -- how many blocks more the open chunk has room for, or the next one
 abbrev pub room_of : Placer → ℕ
@@ -119,7 +120,7 @@ data_for kinds.End x = []
 
 -- w with a chunk begun for blocks of this class, and with their bytes
 abbrev pub beginning : Placer → RunKind → ℕ → List ℕ → List ℕ
-beginning s k b w = if goes_on s k then w else closing s b w ++ kept_for k
+beginning s k b w = if goes_on_with s k then w else closing s b w ++ kept_for k
 
 abbrev pub taking : Placer → RunKind → ℕ → List ℕ → List ℕ → List ℕ
 taking s k b x w = beginning s k b w ++ data_for k x
@@ -133,7 +134,7 @@ closing_len kinds.Skip = 12
 closing_len kinds.End = 0
 
 abbrev pub beginning_len : Placer → RunKind → ℕ
-beginning_len s k = if goes_on s k then 0 else closing_len s.kind + length (kept_for k)
+beginning_len s k = if goes_on_with s k then 0 else closing_len s.kind + length (kept_for k)
 
 abbrev pub taking_len : Placer → RunKind → ℕ → ℕ → ℕ
-taking_len s k q b = beginning_len s k + data_len k q b
+taking_len s k q b = beginning_len s k + copy_len k q b

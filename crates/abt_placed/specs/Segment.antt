@@ -14,6 +14,13 @@ use Rattle.abt_placed.specs.Placer.{SoundPlacer}
 use Rattle.abt_placed.specs.Placed.{Placed, skips}
 use Rattle.abt_placed.specs.Whole.{taken}
 use Rattle.abt_placed.specs.declared.segment.Segment.{Segment}
+use Rattle.std.specs.Prelude.{◌%◌, length, Result, OnOk}
+use Rattle.abt_runs.specs.Part.{AllOf, is_end}
+use Rattle.abt_runs.specs.declared.raw.RawRuns.{RawRuns}
+use Rattle.abt_pieces.specs.Plan.{gain_of}
+use Rattle.abt_placed.specs.Placed.{classes}
+use Rattle.abt_placed.specs.Whole.{read_of}
+use Rattle.abt_placed.specs.Unfinished.{KeepsFront}
 
 -- what a segment ends in, by the open chunk of its piece: the blocks before it are skipped
 abbrev pub tail_of_open : RunKind → Tail
@@ -56,17 +63,17 @@ pub record SoundSegment (b long : ℕ) (s : Segment) : Type 0 where
   pub some : is_fresh s.placer.kind ≡ false → s.first < taken s.placer
 
 -- a block that counts
-abbrev pub IsHeld : Block → Type 0
-IsHeld (Raw x) = ⊤
-IsHeld (Fill w) = ⊤
-IsHeld Skip = ⊥
+abbrev pub IsHeldBlock : Block → Type 0
+IsHeldBlock (Raw x) = ⊤
+IsHeldBlock (Fill w) = ⊤
+IsHeldBlock Skip = ⊥
 
 -- the blocks g of the segment stand behind as many skipped ones as are before it
 pub record LaidSegment (b : ℕ) (g : List Block) (now : List ℕ) (s : Segment) : Type 0 where
   pub placed : Placed b (skips s.first ++ g) now s.placer
   pub heavy : s.weight ≡ weight b g
   pub tail : tail_of_open s.placer.kind ≡ tail_of (behind_all Fresh g)
-  pub held : AllByRecursion IsHeld g
+  pub held : AllByRecursion IsHeldBlock g
 
 -- some blocks stand so, and where the source tells its bytes x they are those of x
 pub record ToldSegment (tells : Bool) (x : List ℕ) (b : ℕ) (now : List ℕ) (s : Segment) : Type 0 where
@@ -75,8 +82,8 @@ pub record ToldSegment (tells : Bool) (x : List ℕ) (b : ℕ) (now : List ℕ) 
   pub told : IsTrue tells → blocks ≡ between (classify b x) s.first (taken s.placer)
 
 -- not one block more of the rest would be within the limit
-abbrev pub IsOver : ℕ → ℕ → List Block → List Block → Type 0
-IsOver limit b g rest = (x : Block) (more : List Block) → rest ≡ x ∷ more → limit < weight b (g ++ x ∷ [])
+abbrev pub OneMoreExceeds : ℕ → ℕ → List Block → List Block → Type 0
+OneMoreExceeds limit b g rest = (x : Block) (more : List Block) → rest ≡ x ∷ more → limit < weight b (g ++ x ∷ [])
 
 -- The segment goes no further: of n blocks all are taken, or one more would be beyond the limit, which then is one that
 -- an image can reach.
@@ -84,4 +91,55 @@ pub record EndedSegment (tells : Bool) (x : List ℕ) (b n : ℕ) (s : Segment) 
   pub moves : taken s.placer < n → s.first < taken s.placer
   pub reached : taken s.placer < n → s.limit < 2 ^ 49
   pub over : IsTrue tells
-      → IsOver s.limit b (between (classify b x) s.first (taken s.placer)) (drop (taken s.placer) (classify b x))
+      → OneMoreExceeds s.limit b (between (classify b x) s.first (taken s.placer))
+      (drop (taken s.placer) (classify b x))
+
+-- ---- what a call asks for, and leaves
+
+-- a size of blocks, in whole words
+pub record IsWordSize (b : ℕ) : Type 0 where
+  pub some : 4 ≤ b
+  pub words : b % 4 ≡ 0
+
+-- x are the bytes of n blocks of b bytes, all of this class, that can be taken at once
+pub record PartBlocks (k : RunKind) (n b : ℕ) (x : List ℕ) : Type 0 where
+  pub some : 0 < n
+  pub goes : is_end k ≡ false
+  pub bytes : length x ≡ n * b
+  pub window : length x ≤ 65536
+  pub words : 4 ≤ b
+  pub all : AllOf k (classes b n x)
+
+-- The blocks of a segment of these runs, whose source holds x, are taken so far, and stand in the output.
+pub record ReadySegment (tells : Bool) (x : List ℕ) (runs : RawRuns) (s : Segment) (now : List ℕ) : Type 0 where
+  pub sound : SoundSegment runs.size (length now) s
+  pub within : taken s.placer ≤ runs.blocks
+  pub opened : IsTrue tells → runs.length ≡ length x
+  pub told : ToldSegment tells x runs.size now s
+
+-- A segment goes on, by which up to n blocks are laid in all. What stood before its chunks stays; where no raw run is
+-- cut it stays within its limit, also where the output is full.
+pub record SegmentGoes {X E : Type 0} (b n full : ℕ) (r : Result X E) (s s' : Segment) (old new : List ℕ) : Type 0
+  where
+    pub kept : KeepsFront (s.placer.front + 28) old new
+    pub sound : OnOk r (SoundSegment b (length new) s')
+    pub same : (s'.placer.most ≡ s.placer.most) × (s'.placer.front ≡ s.placer.front) × (s'.first ≡ s.first)
+        × (s'.limit ≡ s.limit)
+    pub within : length new ≤ s.placer.front + 28 + n * (b + 16)
+    pub long : IsUncut b s.limit s.placer.most → length new + full ≤ s.placer.front + s.limit
+
+-- These blocks don't fit, so the segment ends before them.
+pub record PartOver (b n : ℕ) (k : RunKind) (s : Segment) (unchanged : Type 0) : Type 0 where
+  pub still : unchanged
+  pub some : s.first < taken s.placer
+  pub over : s.limit - s.weight < gain_of (tail_of_open s.placer.kind) k n b
+  pub reached : s.limit < 52 + (taken s.placer + n) * (b + 16)
+
+-- What is read for the blocks that are taken: each byte once, and at most a window more.
+pub record SegmentReads {X E : Type 0} (r : Result X E) (runs : RawRuns) (s s' : Segment) (given given' : ℕ) : Type 0
+  where
+    pub economy : given' + read_of runs.length runs.size (taken s.placer) ≤ given + runs.length
+    pub least : OnOk r (given + read_of runs.length runs.size (taken s'.placer)
+        ≤ given' + read_of runs.length runs.size (taken s.placer))
+    pub last : OnOk r (given' + read_of runs.length runs.size (taken s.placer)
+        ≤ given + read_of runs.length runs.size (taken s'.placer) + 65536)

@@ -9,6 +9,7 @@ ghost use Rattle.abt_runs.specs.Part.{is_end};
 ghost use Rattle.abt_placed.specs.Placer.{SoundPlacer, open_len, closed, closing, closing_len};
 ghost use Rattle.abt_placed.specs.Calls.{Writes, stand};
 ghost use Rattle.abt_placed.specs.Unfinished.{IsUnfinished, KeepsFront};
+ghost use Rattle.abt_placed.specs.Segment.{IsWordSize};
 
 use crate::placer::Placer;
 use abt_io::{DeviceFault, Meter, Overwrite, write_over_all};
@@ -111,8 +112,7 @@ impl Placer {
         output: &mut O,
         m: &mut Meter,
     ) -> Result<(), DeviceFault>
-        requires some { 4 ≤ size }
-        requires words { size % 4 ≡ 0 }
+        requires size { IsWordSize size }
         requires within { self.old.blocks + self.old.count < 2 ^ 32 }
         requires sound { SoundPlacer size (length (O.written output.old)) self.old }
         requires zeros { take 28 (drop self.old.front (O.written output.old)) ≡ replicate 28 0 }

@@ -4,10 +4,11 @@ ghost use Rattle.std.specs.Prelude.{length};
 ghost use Rattle.abt_sparse.specs.Block.{classify};
 ghost use Rattle.abt_sparse.specs.Chunk.{spelling, chunks_of};
 ghost use Rattle.abt_pieces.specs.Fault.{full_cut};
-ghost use Rattle.abt_pieces.specs.Image.{Appended, IsImage};
 ghost use Rattle.abt_sparsify.specs.Sparsify.{SparsifyCause, IsRawSize};
-ghost use Rattle.abt_pieces.specs.Calls.{Costs, Failing, devices};
-ghost use Rattle.abt_placed.specs.Calls.{Grows};
+ghost use Rattle.abt_pieces.specs.Calls.{CallCosts, devices};
+ghost use Rattle.abt_placed.specs.Calls.{OutputGrows};
+ghost use Rattle.abt_placed.specs.Piece.{ImageWritten, ReadsOnce};
+ghost use Rattle.abt_io.specs.Lent.{OnlyReads, OnlyWrites};
 
 use crate::cutting::lay_piece;
 use abt_io::{Meter, Overwrite, Source, Window};
@@ -36,33 +37,25 @@ pub fn sparsify_at<S: Source, O: Overwrite>(
 ) -> Result<Written, PieceFault>
     requires some { 1 ≤ most }
     requires small { 12 + most * block_size < 2 ^ 32 }
-    ensures content { IsTrue S.tells → S.content source.new ≡ S.content source.old }
-    ensures frame { S.read_frame source.new ≡ S.read_frame source.old }
-    ensures write_frame { O.write_frame output.new ≡ O.write_frame output.old }
+    ensures reads { OnlyReads result S.Source source.old source.new }
+    ensures writes { OnlyWrites result (full_cut result) O.Output output.old output.new }
     ensures bad_block { (IsRawSize block_size → ⊥) → (result ≡ Err (PieceFault.BadBlock block_size)) ×
         (output.new ≡ output.old) × (source.new ≡ source.old) }
     ensures too_large { IsRawSize block_size → (2 ^ 32 - 1) * block_size < S.size source.old →
         (result ≡ Err PieceFault.TooLarge) × (output.new ≡ output.old) × (source.new ≡ source.old) }
-    ensures blocks { IfOk result (λ a. (S.size source.old ≤ a.blocks * block_size) ×
-        (a.blocks * block_size < S.size source.old + block_size)) }
+    ensures written { IfOk result (λ a. ImageWritten block_size (S.size source.old) a (O.written output.old)
+        (O.written output.new)) }
     ensures chunks { IsTrue S.tells → IfOk result (λ a. (a.blocks ≡ length (classify block_size (S.content source.old)))
         × (a.chunks ≡ length (chunks_of most (classify block_size (S.content source.old))))) }
-    ensures long { IfOk result (λ a. length (O.written output.new) ≡ length (O.written output.old) + a.bytes) }
     ensures within { (n : ℕ) → S.size source.old ≤ n * block_size → length (O.written output.new)
         ≤ length (O.written output.old) + (28 + n * (block_size + 16)) }
-    ensures grows { Grows result (O.written output.old) (O.written output.new) }
+    ensures grows { OutputGrows result (O.written output.old) (O.written output.new) }
     ensures whole { IsTrue S.tells →
         OnOk result (O.written output.new ≡ O.written output.old ++ spelling block_size most
         (classify block_size (S.content source.old))) }
-    ensures image { IfOk result (λ a. Appended (IsImage block_size a.blocks) (O.written output.old)
-        (O.written output.new)) }
-    ensures economy { S.given source.new ≤ S.given source.old + S.size source.old }
-    ensures once { OnOk result (S.given source.new ≡ S.given source.old + S.size source.old) }
-    ensures costs { Costs block_size (devices S.Source O.Output source.old output.old)
+    ensures takes { ReadsOnce (S.size source.old) result (S.given source.old) (S.given source.new) }
+    ensures costs { CallCosts block_size (devices S.Source O.Output source.old output.old)
         (devices S.Source O.Output source.new output.new) m.old m.new }
-    ensures failing { Failing result (devices S.Source O.Output source.old output.old)
-        (devices S.Source O.Output source.new output.new) }
-    ensures full_faults { O.full_faults output.new ≡ O.full_faults output.old + full_cut result }
     ensures full { full_cut result ≡ 1 → IsTrue (O.is_full output.new) }
     ensures cause { IfErr result (λ e. SparsifyCause e block_size (S.size source.old) S.tells (S.read_faults source.old)
         (S.read_faults source.new) (O.write_faults output.old) (O.write_faults output.new)) }

@@ -1,7 +1,7 @@
 //! What is held of an image that is laid in one pass: numbers alone.
 ghost use Rattle.std.specs.Prelude.{◌≡◌, ◌<◌, ◌≤◌, ◌+◌, ◌^◌, false};
 ghost use Rattle.abt_runs.specs.Part.{is_end};
-ghost use Rattle.abt_placed.specs.Placer.{closed, goes_on, with_part, room_of};
+ghost use Rattle.abt_placed.specs.Placer.{closed, goes_on_with, with_part, room_of};
 
 use abt_runs::{RunKind, are_alike};
 
@@ -66,7 +66,7 @@ impl Placer {
 
     /// Whether blocks of this class go on with the open chunk.
     pub(crate) fn goes_on(&self, kind: RunKind) -> bool
-        ensures { result ≡ goes_on self.now kind }
+        ensures { result ≡ goes_on_with self.now kind }
     {
         match kind {
             RunKind::Raw => self.count < self.most && are_alike(self.kind, kind),

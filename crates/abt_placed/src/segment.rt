@@ -1,20 +1,21 @@
 //! The segment of a piece that is laid in one pass: it takes blocks as long as they fit within the limit.
-ghost use Rattle.std.specs.Prelude.{◌≡◌, ℕ, ◌<◌, ◌≤◌, ◌+◌, ◌-◌, ◌*◌, ◌/◌, ◌%◌, ◌^◌, ◌++◌, IsTrue, IfOk, OnOk, OnErr};
+ghost use Rattle.std.specs.Prelude.{◌≡◌, ℕ, ◌<◌, ◌≤◌, ◌+◌, ◌-◌, ◌*◌, ◌/◌, ◌%◌, ◌^◌, ◌++◌, IfOk, OnOk, OnErr};
 ghost use Rattle.std.specs.Prelude.{List, [], length, take, drop, replicate, true, false};
 ghost use Rattle.abt_io.specs.Count.{full_of};
 ghost use Rattle.abt_sparse.specs.Block.{Block};
 ghost use Rattle.abt_sparse.specs.Runs.{framed};
-ghost use Rattle.abt_runs.specs.Part.{AllOf, is_end};
 ghost use Rattle.abt_pieces.specs.Fault.{full_cut};
 ghost use Rattle.abt_pieces.specs.Plan.{cap_of, gain_of};
 ghost use Rattle.abt_placed.specs.Placer.{room_of};
 ghost use Rattle.abt_placed.specs.Placed.{classes};
 ghost use Rattle.abt_placed.specs.Whole.{taken, read_of, spare};
-ghost use Rattle.abt_placed.specs.Segment.{SoundSegment, LaidSegment, ToldSegment, EndedSegment, IsOver, IsUncut};
+ghost use Rattle.abt_placed.specs.Segment.{SoundSegment, LaidSegment, ToldSegment, EndedSegment, OneMoreExceeds};
+ghost use Rattle.abt_placed.specs.Segment.{IsUncut};
 ghost use Rattle.abt_placed.specs.Segment.{tail_of_open};
 ghost use Rattle.abt_placed.specs.Piece.{LaidPiece};
 ghost use Rattle.abt_placed.specs.Calls.{Writes, LaysOn, stand, scene};
-ghost use Rattle.abt_placed.specs.Unfinished.{IsUnfinished, KeepsFront};
+ghost use Rattle.abt_placed.specs.Unfinished.{IsUnfinished};
+ghost use Rattle.abt_placed.specs.Segment.{IsWordSize, PartBlocks, ReadySegment, SegmentGoes, PartOver, SegmentReads};
 
 use crate::placer::Placer;
 use abt_io::{DeviceFault, Meter, Overwrite, Source, WINDOW, Window};
@@ -136,35 +137,20 @@ impl Segment {
         output: &mut O,
         m: &mut Meter,
     ) -> Result<bool, DeviceFault>
-        requires some { 0 < blocks }
-        requires goes { is_end kind ≡ false }
+        requires part { PartBlocks kind blocks size bytes.now }
         requires within { taken self.old.placer + blocks < 2 ^ 32 }
         requires room { blocks ≤ room_of self.old.placer }
         requires cap { blocks ≤ cap_of (tail_of_open self.old.placer.kind) (self.old.limit - self.old.weight) size }
-        requires bytes { length bytes.now ≡ blocks * size }
-        requires window { length bytes.now ≤ 65536 }
-        requires words { 4 ≤ size }
-        requires all { AllOf kind (classes size blocks bytes.now) }
         requires sound { SoundSegment size (length (O.written output.old)) self.old }
-        ensures sound { OnOk result (SoundSegment size (length (O.written output.new)) self.new) }
-        ensures kept { KeepsFront (self.old.placer.front + 28) (O.written output.old) (O.written output.new) }
+        ensures segment { SegmentGoes size (taken self.old.placer + blocks) (full_of result) result self.old self.new
+            (O.written output.old) (O.written output.new) }
         ensures laid { (g : List Block) → LaidSegment size g (O.written output.old) self.old →
             IfOk result (λ d. d ≡ false → LaidSegment size (g ++ classes size blocks bytes.now)
             (O.written output.new) self.new) }
         ensures passed { IfOk result (λ d. d ≡ false → taken self.new.placer ≡ taken self.old.placer + blocks) }
-        ensures still { IfOk result (λ d. d ≡ true → (self.new ≡ self.old) × (output.new ≡ output.old)) }
-        ensures some { IfOk result (λ d. d ≡ true → self.old.first < taken self.old.placer) }
-        ensures over { IfOk result (λ d. d ≡ true → self.old.limit - self.old.weight
-            < gain_of (tail_of_open self.old.placer.kind) kind blocks size) }
-        ensures reached { IfOk result (λ d. d ≡ true → self.old.limit
-            < 52 + (taken self.old.placer + blocks) * (size + 16)) }
-        ensures same { (self.new.placer.most ≡ self.old.placer.most) × (self.new.placer.front ≡ self.old.placer.front) ×
-            (self.new.first ≡ self.old.first) × (self.new.limit ≡ self.old.limit) }
+        ensures over { IfOk result (λ d. d ≡ true → PartOver size blocks kind self.old
+            ((self.new ≡ self.old) × (output.new ≡ output.old))) }
         ensures writes { Writes result 14 14 (stand O.Output output.old m.old) (stand O.Output output.new m.new) }
-        ensures within { length (O.written output.new)
-            ≤ self.old.placer.front + 28 + (taken self.old.placer + blocks) * (size + 16) }
-        ensures long { IsUncut size self.old.limit self.old.placer.most → length (O.written output.new) + full_of result
-            ≤ self.old.placer.front + self.old.limit }
     {
         let gain = self.gain(kind, blocks, size);
         if gain > self.limit - self.weight {
@@ -188,13 +174,12 @@ impl Segment {
         w: &Window,
         m: &mut Meter,
     ) -> Result<bool, DeviceFault>
-        requires some { 4 ≤ size }
-        requires words { size % 4 ≡ 0 }
+        requires size { IsWordSize size }
         requires window { blocks * size ≤ 65536 }
         requires within { taken self.old.placer + blocks < 2 ^ 32 }
         requires sound { SoundSegment size (length (O.written output.old)) self.old }
-        ensures kept { KeepsFront (self.old.placer.front + 28) (O.written output.old) (O.written output.new) }
-        ensures sound { OnOk result (SoundSegment size (length (O.written output.new)) self.new) }
+        ensures segment { SegmentGoes size (taken self.old.placer + blocks) (full_of result) result self.old self.new
+            (O.written output.old) (O.written output.new) }
         ensures laid { (g : List Block) → LaidSegment size g (O.written output.old) self.old →
             OnOk result (LaidSegment size
             (g ++ classes size (taken self.new.placer - taken self.old.placer) w.now.bytes) (O.written output.new)
@@ -204,20 +189,14 @@ impl Segment {
         ensures short { IfOk result (λ d. d ≡ true → taken self.new.placer < taken self.old.placer + blocks) }
         ensures some { IfOk result (λ d. d ≡ true → self.old.first < taken self.new.placer) }
         ensures over { (g : List Block) → LaidSegment size g (O.written output.old) self.old →
-            IfOk result (λ d. d ≡ true → IsOver self.old.limit size
+            IfOk result (λ d. d ≡ true → OneMoreExceeds self.old.limit size
             (g ++ classes size (taken self.new.placer - taken self.old.placer) w.now.bytes)
             (drop (taken self.new.placer - taken self.old.placer) (classes size blocks w.now.bytes))) }
-        ensures same { (self.new.placer.most ≡ self.old.placer.most) × (self.new.placer.front ≡ self.old.placer.front) ×
-            (self.new.first ≡ self.old.first) × (self.new.limit ≡ self.old.limit) }
         ensures reached { IfOk result (λ d. d ≡ true → self.old.limit
             < 52 + (taken self.old.placer + blocks) * (size + 16)) }
         // So much for each block that is looked at, also for one that is filled up with zeros.
         ensures writes { Writes result (14 * blocks) (blocks * (size / 2 + 17)) (stand O.Output output.old m.old)
             (stand O.Output output.new m.new) }
-        ensures within { length (O.written output.new)
-            ≤ self.old.placer.front + 28 + (taken self.old.placer + blocks) * (size + 16) }
-        ensures long { IsUncut size self.old.limit self.old.placer.most → length (O.written output.new) + full_of result
-            ≤ self.old.placer.front + self.old.limit }
     {
         let mut done = 0u32;
         while done < blocks {
@@ -249,35 +228,21 @@ impl Segment {
         w: &mut Window,
         m: &mut Meter,
     ) -> Result<bool, PieceFault>
-        requires sound { SoundSegment runs.now.size (length (O.written output.old)) self.old }
-        requires within { taken self.old.placer ≤ runs.now.blocks }
-        requires opened { IsTrue S.tells → runs.now.length ≡ length (S.content source.old) }
-        requires told { ToldSegment S.tells (S.content source.old) runs.now.size (O.written output.old) self.old }
+        requires ready { ReadySegment S.tells (S.content source.old) runs.now self.old (O.written output.old) }
         ensures lays { LaysOn result S.tells (scene S.Source O.Output source.old output.old m.old)
             (scene S.Source O.Output source.new output.new m.new) }
         ensures told { OnOk result (ToldSegment S.tells (S.content source.old) runs.now.size (O.written output.new)
             self.new) }
         ensures ended { IfOk result (λ d. d ≡ true → EndedSegment S.tells (S.content source.old) runs.now.size
             runs.now.blocks self.new) }
-        ensures kept { KeepsFront (self.old.placer.front + 28) (O.written output.old) (O.written output.new) }
-        ensures sound { OnOk result (SoundSegment runs.now.size (length (O.written output.new)) self.new) }
+        ensures segment { SegmentGoes runs.now.size runs.now.blocks (full_cut result) result self.old self.new
+            (O.written output.old) (O.written output.new) }
         ensures on { IfOk result (λ d. d ≡ false → taken self.old.placer < taken self.new.placer) }
         ensures inside { OnOk result (taken self.new.placer ≤ runs.now.blocks) }
-        ensures same { (self.new.placer.most ≡ self.old.placer.most) × (self.new.placer.front ≡ self.old.placer.front) ×
-            (self.new.first ≡ self.old.first) × (self.new.limit ≡ self.old.limit) }
-        ensures within { length (O.written output.new)
-            ≤ self.old.placer.front + 28 + runs.now.blocks * (runs.now.size + 16) }
-        ensures long { IsUncut runs.now.size self.old.limit self.old.placer.most →
-            length (O.written output.new) + full_cut result ≤ self.old.placer.front + self.old.limit }
-        ensures economy { S.given source.new + read_of runs.now.length runs.now.size (taken self.old.placer)
-            ≤ S.given source.old + runs.now.length }
+        ensures reads { SegmentReads result runs.now self.old self.new (S.given source.old) (S.given source.new) }
         ensures once { IfOk result (λ d. d ≡ false → S.given source.new + read_of runs.now.length runs.now.size
             (taken self.old.placer) ≡ S.given source.old + read_of runs.now.length runs.now.size
             (taken self.new.placer)) }
-        ensures least { OnOk result (S.given source.old + read_of runs.now.length runs.now.size (taken self.new.placer)
-            ≤ S.given source.new + read_of runs.now.length runs.now.size (taken self.old.placer)) }
-        ensures last { OnOk result (S.given source.new + read_of runs.now.length runs.now.size (taken self.old.placer)
-            ≤ S.given source.old + read_of runs.now.length runs.now.size (taken self.new.placer) + 65536) }
         ensures going_calls { IfOk result (λ d. d ≡ false → S.reads source.new + O.writes output.new + length
             (O.written output.old) + spare 14 runs.now.length runs.now.size (taken self.old.placer)
             ≤ S.reads source.old + O.writes output.old + length (O.written output.new) + 6
@@ -329,31 +294,17 @@ impl Segment {
         w: &mut Window,
         m: &mut Meter,
     ) -> Result<(), PieceFault>
-        requires sound { SoundSegment runs.now.size (length (O.written output.old)) self.old }
-        requires within { taken self.old.placer ≤ runs.now.blocks }
-        requires opened { IsTrue S.tells → runs.now.length ≡ length (S.content source.old) }
-        requires told { ToldSegment S.tells (S.content source.old) runs.now.size (O.written output.old) self.old }
+        requires ready { ReadySegment S.tells (S.content source.old) runs.now self.old (O.written output.old) }
         ensures lays { LaysOn result S.tells (scene S.Source O.Output source.old output.old m.old)
             (scene S.Source O.Output source.new output.new m.new) }
         ensures told { OnOk result (ToldSegment S.tells (S.content source.old) runs.now.size (O.written output.new)
             self.new) }
         ensures ended { OnOk result (EndedSegment S.tells (S.content source.old) runs.now.size runs.now.blocks
             self.new) }
-        ensures kept { KeepsFront (self.old.placer.front + 28) (O.written output.old) (O.written output.new) }
-        ensures sound { OnOk result (SoundSegment runs.now.size (length (O.written output.new)) self.new) }
+        ensures segment { SegmentGoes runs.now.size runs.now.blocks (full_cut result) result self.old self.new
+            (O.written output.old) (O.written output.new) }
         ensures inside { OnOk result (taken self.new.placer ≤ runs.now.blocks) }
-        ensures same { (self.new.placer.most ≡ self.old.placer.most) × (self.new.placer.front ≡ self.old.placer.front) ×
-            (self.new.first ≡ self.old.first) × (self.new.limit ≡ self.old.limit) }
-        ensures within { length (O.written output.new)
-            ≤ self.old.placer.front + 28 + runs.now.blocks * (runs.now.size + 16) }
-        ensures long { IsUncut runs.now.size self.old.limit self.old.placer.most →
-            length (O.written output.new) + full_cut result ≤ self.old.placer.front + self.old.limit }
-        ensures economy { S.given source.new + read_of runs.now.length runs.now.size (taken self.old.placer)
-            ≤ S.given source.old + runs.now.length }
-        ensures least { OnOk result (S.given source.old + read_of runs.now.length runs.now.size (taken self.new.placer)
-            ≤ S.given source.new + read_of runs.now.length runs.now.size (taken self.old.placer)) }
-        ensures last { OnOk result (S.given source.new + read_of runs.now.length runs.now.size (taken self.old.placer)
-            ≤ S.given source.old + read_of runs.now.length runs.now.size (taken self.new.placer) + 65536) }
+        ensures reads { SegmentReads result runs.now self.old self.new (S.given source.old) (S.given source.new) }
         ensures calls { S.reads source.new + O.writes output.new + length (O.written output.old)
             ≤ S.reads source.old + O.writes output.old + length (O.written output.new) + 6
             * (S.given source.new - S.given source.old) + 14 }
@@ -383,8 +334,7 @@ impl Segment {
         output: &mut O,
         m: &mut Meter,
     ) -> Result<(), DeviceFault>
-        requires some { 4 ≤ size }
-        requires words { size % 4 ≡ 0 }
+        requires size { IsWordSize size }
         requires within { taken self.old.placer ≤ blocks }
         requires sound { SoundSegment size (length (O.written output.old)) self.old }
         requires zeros { take 28 (drop self.old.placer.front (O.written output.old)) ≡ replicate 28 0 }

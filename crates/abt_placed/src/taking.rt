@@ -2,12 +2,13 @@
 ghost use Rattle.std.specs.Prelude.{◌≡◌, ◌<◌, ◌≤◌, ◌+◌, ◌-◌, ◌*◌, ◌^◌, ◌++◌, OnOk, List, length, take, false};
 ghost use Rattle.abt_io.specs.Count.{full_of};
 ghost use Rattle.abt_sparse.specs.Block.{Block};
-ghost use Rattle.abt_runs.specs.Part.{AllOf, is_end};
+ghost use Rattle.abt_runs.specs.Part.{is_end};
 ghost use Rattle.abt_placed.specs.Placer.{SoundPlacer, open_len, beginning, kept_for};
 ghost use Rattle.abt_placed.specs.Placer.{data_for, with_part, room_of, closing_len, beginning_len, taking_len};
 ghost use Rattle.abt_placed.specs.Placed.{Placed, classes, skips};
 ghost use Rattle.abt_placed.specs.Calls.{Writes, stand};
 ghost use Rattle.abt_placed.specs.Unfinished.{KeepsFront};
+ghost use Rattle.abt_placed.specs.Segment.{PartBlocks};
 
 use crate::placer::Placer;
 use abt_io::{DeviceFault, Meter, Overwrite, write_out};
@@ -59,14 +60,9 @@ impl Placer {
         output: &mut O,
         m: &mut Meter,
     ) -> Result<(), DeviceFault>
-        requires some { 0 < blocks }
-        requires goes { is_end kind ≡ false }
+        requires part { PartBlocks kind blocks size bytes.now }
         requires within { self.old.blocks + self.old.count + blocks < 2 ^ 32 }
         requires cap { blocks ≤ room_of self.old }
-        requires bytes { length bytes.now ≡ blocks * size }
-        requires window { length bytes.now ≤ 65536 }
-        requires words { 4 ≤ size }
-        requires all { AllOf kind (classes size blocks bytes.now) }
         requires sound { SoundPlacer size (length (O.written output.old)) self.old }
         ensures ok { OnOk result (self.new ≡ with_part self.old kind blocks) }
         ensures kept { KeepsFront (self.old.front + 28) (O.written output.old) (O.written output.new) }

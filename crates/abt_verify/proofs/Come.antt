@@ -21,14 +21,14 @@ use Rattle.abt_chunks.specs.declared.walk.Phase.TheVariants as phases
 use Rattle.abt_chunks.specs.declared.walk.Walk.{Walk}
 use Rattle.abt_chunks.specs.Ahead.{Ahead, before, seen, stopping}
 use Rattle.abt_chunks.specs.Parts.{ahead, ahead_in}
-use Rattle.abt_chunks.specs.Places.{place_of, place_in}
+use Rattle.abt_chunks.specs.Places.{from_place, place_in, place_of, said_by}
 use Rattle.abt_chunks.proofs.Onward.{before-append}
 use Rattle.abt_verify.specs.declared.fault.VerifyFault.{VerifyFault}
 use Rattle.abt_verify.specs.declared.fault.VerifyFault.TheVariants as fails
 use Rattle.abt_verify.specs.declared.stage.Verified.{Verified}
-use Rattle.abt_verify.specs.Standing.{FirstDiffers, Stands, from_place, held_in, said_by}
-use Rattle.abt_verify.specs.Stepping.{Compares, Leaves, OnDiffers, OnStanding, Unless, UnlessDevice}
-use Rattle.abt_verify.specs.Verifying.{Refused, Says, Verifies, Whole, fault, image}
+use Rattle.abt_verify.specs.Standing.{FirstDiffers, Stands, held_in}
+use Rattle.abt_verify.specs.Stepping.{Compares, LeavesWalk, OnDiffers, OnStanding, UnlessUnread, UnlessUnreadFault}
+use Rattle.abt_verify.specs.Verifying.{RefusedVerify, SaysOfPartition, Verifies, WholeVerify, fault, image}
 use Rattle.abt_verify.proofs.Said.{first_more, held_le, said_by-append, said_cells, stands_more}
 
 -- After k bytes of x these cells stand on a partition that holds p, and the walk stands at s.
@@ -57,12 +57,12 @@ come_first tells s k x p given compared first none fine = record {
   nothing zero y e = cc
   nothing (suc i) y e = cc
 
-unless_fault : (f : VerifyFault) (P Q : Type 0) → (P → Q) → UnlessDevice f P → UnlessDevice f Q
+unless_fault : (f : VerifyFault) (P Q : Type 0) → (P → Q) → UnlessUnreadFault f P → UnlessUnreadFault f Q
 unless_fault (fails.Read d) P Q go h = tt
 unless_fault (fails.PartitionRead d) P Q go h = tt
 unless_fault f P Q go h = go h
 
-unless_map : {X : Type 0} (r : Result X VerifyFault) (P Q : Type 0) → (P → Q) → Unless r P → Unless r Q
+unless_map : {X : Type 0} (r : Result X VerifyFault) (P Q : Type 0) → (P → Q) → UnlessUnread r P → UnlessUnread r Q
 unless_map (Ok v) P Q go h = go h
 unless_map (Err f) P Q go h = unless_fault f P Q go h
 
@@ -86,7 +86,7 @@ ok_both (Err f) P Q R go a b = tt
 pub record Ends (tells : Bool) (r : Result Progress VerifyFault) (s' : Walk) (x read rest p : List ℕ) (given0 given' compared' : ℕ) : Type 0 where
   pub all : List (Option ℕ)
   pub whole : read ++ rest ≡ x
-  pub told : Unless r (seen (outcome x) ≡ before all (ahead s' rest))
+  pub told : UnlessUnread r (seen (outcome x) ≡ before all (ahead s' rest))
   pub stands : IsTrue tells → OnStanding r (Stands p all)
   pub differs : IsTrue tells → (more : List (Option ℕ)) → OnDiffers r (λ n. FirstDiffers p (all ++ more) n)
   pub counted : OnOk r (given' ≡ given0 + said_by all)
@@ -128,7 +128,8 @@ module _ (tells : Bool) (s s' : Walk) (x x' rest p : List ℕ) (k n j : ℕ) (gi
       ap (λ (l : List ℕ). seen (outcome l)) (split_at t) ∙ i.told (take n x' ++ t)
       ∙ ap (λ (a : Ahead). before i.cells a) q ∙ sym (before-append i.cells e.cells (ahead s' t))
 
-  pub all_told : (t : List ℕ) → (IsTrue (is_err r) → t ≡ rest) → Unless r (seen (outcome (take j x ++ t)) ≡ before All (ahead s' t))
+  pub all_told : (t : List ℕ) → (IsTrue (is_err r) → t ≡ rest)
+      → UnlessUnread r (seen (outcome (take j x ++ t)) ≡ before All (ahead s' t))
   all_told t h = unless_map r _ _ (all_from t) (e.told t h)
 
   pub all_stand : IsTrue tells → OnStanding r (Stands p All)
@@ -210,7 +211,7 @@ counted_back b w most some small few le =
     omega (arith, back, le)
 
 image_of : (tells : Bool) (x p : List ℕ) (all : List (Option ℕ)) (rest : List ℕ) (ht : SparseHeader) (e : Verified) (given0 given' compared' : ℕ) (o : Outcome) → IsOutcome x o → seen o ≡ before all (record { cells = []; ending = Ok (view ht, rest) })
-    → (IsTrue tells → Stands p all) → given' ≡ given0 + said_by all → compared' ≡ min (said_by all) (2 ^ 64 - 1) → e.blocks ≡ min (compared' / ht.blk_sz) ht.total_blks → Whole tells e p x rest given0 given'
+    → (IsTrue tells → Stands p all) → given' ≡ given0 + said_by all → compared' ≡ min (said_by all) (2 ^ 64 - 1) → e.blocks ≡ min (compared' / ht.blk_sz) ht.total_blks → WholeVerify tells e p x rest given0 given'
 image_of tells x p all rest ht e given0 given' compared' (Image h cs left) is q stands count note blocks =
     let b = h.blk_sz in
     let w = held_in (classed cs) in
@@ -241,13 +242,13 @@ image_of tells x p all rest ht e given0 given' compared' (Fault f cs) is q stand
 
 -- the end of an image
 pub done_whole : (tells : Bool) (s' : Walk) (x read rest p : List ℕ) (given0 given' compared' : ℕ) → Ends tells (Ok answers.Done) s' x read rest p given0 given' compared' → s'.phase ≡ phases.Done → IsBytes x → (v : Verified) → v.blocks ≡ min (compared' / s'.header.blk_sz) s'.header.total_blks
-    → Whole tells v p x rest given0 given'
+    → WholeVerify tells v p x rest given0 given'
 done_whole tells s' x read rest p given0 given' compared' e ended bytes v blocks =
     image_of tells x p e.all rest s'.header v given0 given' compared' (outcome x) (is_so x bytes) (e.told ∙ ap (λ (a : Ahead). before e.all a) (at_done s' rest ended)) e.stands e.counted e.noted blocks
 
 -- ---- a fault
 
-refused_of : (tells : Bool) (f : SparseFault) (x p : List ℕ) (all : List (Option ℕ)) (o : Outcome) → IsOutcome x o → seen o ≡ before all (stopping f) → (IsTrue tells → Stands p all) → Refused tells f p x
+refused_of : (tells : Bool) (f : SparseFault) (x p : List ℕ) (all : List (Option ℕ)) (o : Outcome) → IsOutcome x o → seen o ≡ before all (stopping f) → (IsTrue tells → Stands p all) → RefusedVerify tells f p x
 refused_of tells f x p all (Image h cs left) is q stands = absurd (ok_err f h left (ap (λ (a : Ahead). a.ending) q))
 refused_of tells f x p all (Fault g cs) is q stands =
     let same : g ≡ f = err_err g f (ap (λ (a : Ahead). a.ending) q) in
@@ -258,7 +259,7 @@ refused_of tells f x p all (Fault g cs) is q stands =
       stands = λ t. subst (λ (l : List (Option ℕ)). Stands p l) (sym cells_are) (stands t);
     }
 
-says_given : (x : List ℕ) (o : Outcome) → IsOutcome x o → Says x (given o)
+says_given : (x : List ℕ) (o : Outcome) → IsOutcome x o → SaysOfPartition x (given o)
 says_given x (Image h cs left) is = image h cs left is
 says_given x (Fault f cs) is = fault f cs is
 
@@ -266,7 +267,9 @@ seen_given : (o : Outcome) → (seen o).cells ≡ given o
 seen_given (Image h cs rest) = refl
 seen_given (Fault f cs) = refl
 
-pub fault_verifies : (tells : Bool) (f : VerifyFault) (s' : Walk) (x read rest p : List ℕ) (given0 given' compared' : ℕ) → Ends tells (Err f) s' x read rest p given0 given' compared' → Leaves (Err f) s'.phase → IsBytes x → Verifies tells (Err f) p x rest given0 given'
+pub fault_verifies : (tells : Bool) (f : VerifyFault) (s' : Walk) (x read rest p : List ℕ) (given0 given' compared' :
+    ℕ) → Ends tells (Err f) s' x read rest p given0 given' compared' → LeavesWalk (Err f) s'.phase → IsBytes x
+    → Verifies tells (Err f) p x rest given0 given'
 fault_verifies tells (fails.Sparse g) s' x read rest p given0 given' compared' e leaves bytes =
     refused_of tells g x p e.all (outcome x) (is_so x bytes) (e.told ∙ ap (λ (a : Ahead). before e.all a) (at_fault s' rest g leaves)) e.stands
 fault_verifies tells (fails.Differs n) s' x read rest p given0 given' compared' e leaves bytes =

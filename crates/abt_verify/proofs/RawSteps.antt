@@ -5,14 +5,17 @@ use Rattle.std.proofs.lemmas.List.{length-map, length-take-le, map-append, take_
 use Rattle.std.proofs.lemmas.Bool.{cases_Bool}
 use Rattle.abt_io.specs.declared.device.DeviceFault.{DeviceFault}
 use Rattle.abt_io.specs.declared.device.DeviceFault.TheVariants as devices
+use Rattle.abt_chunks.specs.Places.{from_place}
 use Rattle.abt_verify.specs.Fault.{HasRawCause, PartCause, PieceCause, short_fault}
 use Rattle.abt_io.proofs.Parts.{take_plus}
 use Rattle.abt_chunks.specs.declared.progress.Progress.{Progress}
 use Rattle.abt_chunks.specs.Ahead.{somes}
 use Rattle.abt_verify.specs.declared.fault.VerifyFault.{VerifyFault}
 use Rattle.abt_verify.specs.declared.fault.VerifyFault.TheVariants as fails
-use Rattle.abt_verify.specs.Comparing.{PartDiffers}
-use Rattle.abt_verify.specs.Standing.{FirstDiffers, Stands, from_place}
+use Rattle.abt_io.specs.Lent.{OnlyReads}
+use Rattle.abt_io.specs.declared.device.Source as sources
+use Rattle.abt_verify.specs.Comparing.{PartDiffers, answer_to}
+use Rattle.abt_verify.specs.Standing.{FirstDiffers, Stands}
 use Rattle.abt_verify.specs.Stepping.{OnDiffers, passed_by, raw_answer}
 use Rattle.abt_verify.proofs.Said.{first_more, stands_more}
 
@@ -53,6 +56,21 @@ module _ (p x : List ℕ) (at n : ℕ) (there : at + n ≤ length x) where
   pub raw_found : (f : Option VerifyFault) → Stands p (somes (take at x)) → PartDiffers f p (from_place at (somes (take n (drop at x)))) → OnDiffers (raw_answer n f) (λ d. FirstDiffers p (somes x) d)
   raw_found None before here = no_fault _
   raw_found (Some f) before here = raw_fault f before here
+
+raw_clean : (n : ℕ) (f : Option VerifyFault) (P : Type 0) → OnOk (answer_to f) P → OnOk (raw_answer n f) P
+raw_clean n None P h = elim (cases_Bool (n == 0)) [ inl t ↦ rw t h | inr t ↦ rw t h ]
+raw_clean n (Some f) P h = tt
+
+-- what a comparison left of what it read, a step leaves
+pub raw_reads : (n : ℕ) (f : Option VerifyFault) {A : Type 0} {s : sources.Ghosts A} {a z : A}
+    → OnlyReads (answer_to f) s a z → OnlyReads (raw_answer n f) s a z
+raw_reads n f d = record {
+  content = d.content;
+  size = d.size;
+  frame = d.frame;
+  faults = d.faults;
+  clean = raw_clean n f _ d.clean;
+}
 
 -- where nothing is left, all stands
 pub raw_all : (p x : List ℕ) (at n : ℕ) → at ≡ n → n ≡ length x → Stands p (somes (take at x)) → Stands p (somes x)

@@ -9,7 +9,8 @@ use Rattle.std.proofs.Common.{length-drop}
 use Rattle.abt_io.proofs.Words.{length_words}
 use Rattle.abt_sparse.specs.Block.{Block, Raw, Fill, Skip, IsBlock, AreBlocks, cells, cells_of, block_bytes}
 use Rattle.abt_chunks.specs.Ahead.{somes}
-use Rattle.abt_verify.specs.Standing.{FirstDiffers, Stands, StandsAt, from_place, held_in, said_by}
+use Rattle.abt_chunks.specs.Places.{from_place, said_by}
+use Rattle.abt_verify.specs.Standing.{FirstDiffers, Stands, StandsAt, held_in}
 
 pub get_none : (i : ℕ) → get_or {A = Option ℕ} [] i None ≡ None
 get_none zero = refl

@@ -20,17 +20,17 @@ use Rattle.abt_chunks.specs.declared.walk.Walk.{Walk}
 use Rattle.abt_chunks.specs.declared.walk.Part.{Part}
 use Rattle.abt_chunks.specs.declared.walk.Part.TheVariants as parts
 use Rattle.abt_chunks.specs.Ahead.{before, somes, stopping}
-use Rattle.abt_chunks.specs.Expanding.{IsGoing}
-use Rattle.abt_chunks.specs.Parts.{Told, Caused, Moved, Within, ahead, ahead_in, given_by, goes_on, is_fault, Leaves as PartLeaves}
-use Rattle.abt_chunks.specs.Places.{place_of, upto_in, upto_of}
+use Rattle.abt_chunks.specs.Expanding.{IsGoing, OnMoreExpanding, answer_by, cells_by}
+use Rattle.abt_chunks.specs.Parts.{SaysUnlessDevice, Caused, Moved, Within, ahead, ahead_in, given_by, goes_on, is_fault, PartLeaves}
+use Rattle.abt_chunks.specs.Places.{from_place, place_of, said_by, upto_in, upto_of}
 use Rattle.abt_verify.specs.declared.fault.VerifyFault.{VerifyFault}
 use Rattle.abt_verify.specs.declared.fault.VerifyFault.TheVariants as fails
 use Rattle.abt_verify.specs.declared.stage.Stage.{Stage}
 use Rattle.abt_verify.specs.declared.stage.Stage.TheVariants as stages
-use Rattle.abt_verify.specs.Comparing.{IsStill, PartDiffers, cells_by, said_of}
-use Rattle.abt_verify.specs.Fault.{HasCause, PartCause, Rises}
-use Rattle.abt_verify.specs.Standing.{FirstDiffers, Stands, from_place, said_by}
-use Rattle.abt_verify.specs.Stepping.{Compares, Goes, Leaves, OnMore, answer_of}
+use Rattle.abt_verify.specs.Comparing.{ReadsNothing, PartDiffers, compared_len}
+use Rattle.abt_verify.specs.Fault.{HasVerifyCause, PartCause, VerifyRises, verify_fault_of}
+use Rattle.abt_verify.specs.Standing.{FirstDiffers, Stands}
+use Rattle.abt_verify.specs.Stepping.{Compares, IsComparing, LeavesWalk}
 use Rattle.abt_verify.proofs.Said.{said_nones, said_somes, stands_none}
 
 -- ---- where the blocks end
@@ -49,7 +49,7 @@ upto_small (phases.Failed f) s few small = upto_some s.have s.header.blk_sz few 
 pub upto_fits : (s : Walk) → s.have < 2 ^ 32 → s.header.blk_sz < 2 ^ 32 → upto_of s < 2 ^ 64
 upto_fits s few small = upto_small s.phase s few small
 
-pub said_le : (q : Part) → said_of q ≤ given_by q
+pub said_le : (q : Part) → compared_len q ≤ given_by q
 said_le (parts.Raw n) = omega arith
 said_le (parts.Words word n) = omega arith
 said_le (parts.Skip n) = omega arith
@@ -57,14 +57,14 @@ said_le parts.Nothing = omega arith
 said_le parts.End = omega arith
 said_le (parts.Fault f) = omega arith
 
-pub going_phase : (st : Stage) (p : Phase) → Goes st p → IsGoing p
+pub going_phase : (st : Stage) (p : Phase) → IsComparing st p → IsGoing p
 going_phase stages.Going p h = h
 going_phase stages.Done p h = absurd h
 going_phase (stages.Failed f) p h = absurd h
 
 -- ---- a part is as long as its cells, and they say so many bytes
 
-cells_said : (q : Part) (win : List ℕ) (r m k : ℕ) → Moved q r → r ≤ length win → Within q m k → said_by (cells_by q win) ≡ said_of q
+cells_said : (q : Part) (win : List ℕ) (r m k : ℕ) → Moved q r → r ≤ length win → Within q m k → said_by (cells_by q win) ≡ compared_len q
 cells_said (parts.Raw n) win r m k moved le within = said_somes (take n win) ∙ length-take-le n win (omega (arith, moved.0, le))
 cells_said (parts.Words word n) win r m k moved le within = said_somes (concat (replicate n word)) ∙ length_words n word within.2
 cells_said (parts.Skip n) win r m k moved le within = said_nones (4 * n)
@@ -81,7 +81,7 @@ length_cells parts.End win r m k moved le within = refl
 length_cells (parts.Fault f) win r m k moved le within = refl
 
 -- what a part says, as cells before what is ahead
-as_cells : (q : Part) (s s' : Walk) (c t win : List ℕ) (r : ℕ) → take r win ≡ c → Moved q r → is_fault q ≡ false → PartLeaves q s'.phase → Told q s s' c t → ahead s (c ++ t) ≡ before (cells_by q win) (ahead s' t)
+as_cells : (q : Part) (s s' : Walk) (c t win : List ℕ) (r : ℕ) → take r win ≡ c → Moved q r → is_fault q ≡ false → PartLeaves q s'.phase → SaysUnlessDevice q s s' c t → ahead s (c ++ t) ≡ before (cells_by q win) (ahead s' t)
 as_cells (parts.Raw n) s s' c t win r w moved sound leaves told = told.1 ∙ ap (λ (x : List ℕ). before (somes x) (ahead s' t)) (sym w ∙ ap (λ (k : ℕ). take k win) (sym moved.0))
 as_cells (parts.Words word n) s s' c t win r w moved sound leaves told = told
 as_cells (parts.Skip n) s s' c t win r w moved sound leaves told = told
@@ -104,11 +104,11 @@ some_none f e = cc
 -- ---- who is to blame
 
 -- where the partition is blamed, no fault of the image or of the input was told
-clean_unless_still : (q : Part) (r r' : ℕ) → CleanPart q r r' → (IsStill q → ⊥) → r' ≡ r
+clean_unless_still : (q : Part) (r r' : ℕ) → CleanPart q r r' → (ReadsNothing q → ⊥) → r' ≡ r
 clean_unless_still (parts.Fault f) r r' h moves = absurd (moves tt)
 clean_unless_still q r r' h moves = h
 
-part_blamed : (f : VerifyFault) (r r' p p' : ℕ) → r' ≡ r → PartCause (Some f) p p' → HasCause f r r' p p'
+part_blamed : (f : VerifyFault) (r r' p p' : ℕ) → r' ≡ r → PartCause (Some f) p p' → HasVerifyCause f r r' p p'
 part_blamed (fails.Sparse f) r r' p p' e h = absurd h
 part_blamed (fails.Read d) r r' p p' e h = absurd h
 part_blamed (fails.PartitionRead d) r r' p p' e h = (h.0, h.1, e)
@@ -116,7 +116,8 @@ part_blamed (fails.Differs n) r r' p p' e h = (e, h)
 part_blamed fails.SourceChanged r r' p p' e h = absurd h
 part_blamed (fails.BadBlock n) r r' p p' e h = absurd h
 
-pub partition_blamed : (q : Part) (f : VerifyFault) (r r' p p' : ℕ) → CleanPart q r r' → (IsStill q → ⊥) → PartCause (Some f) p p' → HasCause f r r' p p'
+pub partition_blamed : (q : Part) (f : VerifyFault) (r r' p p' : ℕ) → CleanPart q r r' → (ReadsNothing q → ⊥)
+    → PartCause (Some f) p p' → HasVerifyCause f r r' p p'
 partition_blamed q f r r' p p' clean moves h = part_blamed f r r' p p' (clean_unless_still q r r' clean moves) h
 
 pub not_still : (f : VerifyFault) (o : Option VerifyFault) → o ≡ Some f → o ≡ None → ⊥
@@ -132,26 +133,30 @@ read_failed : (d : DeviceFault) → full_in d ≡ 0 → d ≡ devices.Failed
 read_failed devices.Failed e = refl
 read_failed devices.Full e = absurd (omega (arith, e))
 
-fault_blamed : (f : SparseFault) (ph : Phase) (r r' p p' : ℕ) → IsGoing ph → Caused (parts.Fault f) ph r r' → CleanPart (parts.Fault f) r r' → full_in_fault f ≡ 0 → p' ≡ p → Rises (answer_of (parts.Fault f)) r r' p p'
+fault_blamed : (f : SparseFault) (ph : Phase) (r r' p p' : ℕ) → IsGoing ph → Caused (parts.Fault f) ph r r'
+    → CleanPart (parts.Fault f) r r' → full_in_fault f ≡ 0 → p' ≡ p
+    → VerifyRises (answer_by verify_fault_of (parts.Fault f)) r r' p p'
 fault_blamed (faults.Read d) ph r r' p p' going h clean full e = (read_rose d ph r r' going h, read_failed d full, e)
 fault_blamed (faults.Write d) ph r r' p p' going h clean full e = absurd (write_caused d ph r r' going h)
 fault_blamed f ph r r' p p' going h clean full e = (tt, clean, e)
 
-pub answer_blamed : (q : Part) (ph : Phase) (r r' p p' : ℕ) → IsGoing ph → Caused q ph r r' → CleanPart q r r' → full_in_part q ≡ 0 → p' ≡ p → Rises (answer_of q) r r' p p'
+pub answer_blamed : (q : Part) (ph : Phase) (r r' p p' : ℕ) → IsGoing ph → Caused q ph r r' → CleanPart q r r'
+    → full_in_part q ≡ 0 → p' ≡ p → VerifyRises (answer_by verify_fault_of q) r r' p p'
 answer_blamed (parts.Fault f) ph r r' p p' going h clean full e = fault_blamed f ph r r' p p' going h clean full e
 answer_blamed q ph r r' p p' going h clean full e = (clean, e)
 
 -- ---- the phase that is left
 
-pub fault_leaves : (f : VerifyFault) (ph : Phase) (p p' : ℕ) → PartCause (Some f) p p' → Leaves (Err f) ph
+pub fault_leaves : (f : VerifyFault) (ph : Phase) (p p' : ℕ) → PartCause (Some f) p p' → LeavesWalk (Err f) ph
 fault_leaves (fails.Sparse f) ph p p' h = absurd h
 fault_leaves f ph p p' h = tt
 
-sparse_leaves : (f : SparseFault) (ph : Phase) → PartLeaves (parts.Fault f) ph → Leaves (answer_of (parts.Fault f)) ph
+sparse_leaves : (f : SparseFault) (ph : Phase) → PartLeaves (parts.Fault f) ph
+    → LeavesWalk (answer_by verify_fault_of (parts.Fault f)) ph
 sparse_leaves (faults.Read d) ph h = tt
 sparse_leaves f ph h = h
 
-pub answer_leaves : (q : Part) (ph : Phase) → PartLeaves q ph → Leaves (answer_of q) ph
+pub answer_leaves : (q : Part) (ph : Phase) → PartLeaves q ph → LeavesWalk (answer_by verify_fault_of q) ph
 answer_leaves (parts.Fault f) ph h = sparse_leaves f ph h
 answer_leaves q ph h = h
 
@@ -159,7 +164,7 @@ answer_leaves q ph h = h
 
 module _ (tells : Bool) (s s' : Walk) (c rest win p : List ℕ) (given given' r m k : ℕ) (in_window : take r win ≡ c) (long : r ≤ length win) where
   abbrev Says_all : Part → Type 0
-  Says_all q = (t : List ℕ) → (is_fault q ≡ true → t ≡ rest) → Told q s s' c t
+  Says_all q = (t : List ℕ) → (is_fault q ≡ true → t ≡ rest) → SaysUnlessDevice q s s' c t
 
   abbrev Stands_there : Part → Type 0
   Stands_there q = IsTrue tells → Stands p (from_place (place_of s) (cells_by q win))
@@ -167,7 +172,9 @@ module _ (tells : Bool) (s s' : Walk) (c rest win p : List ℕ) (given given' r 
   sound_told : (q : Part) → Moved q r → is_fault q ≡ false → PartLeaves q s'.phase → Says_all q → (t : List ℕ) → ahead s (c ++ t) ≡ before (cells_by q win) (ahead s' t)
   sound_told q moved sound leaves says t = as_cells q s s' c t win r in_window moved sound leaves (says t (λ e. absurd (let b : true ≡ false = sym e ∙ sound in cc)))
 
-  goes_compared : (q : Part) (a : Progress) → Moved q r → Within q m k → is_fault q ≡ false → PartLeaves q s'.phase → Says_all q → OnMore (Ok a) (place_of s' ≡ place_of s + length (cells_by q win)) → given' ≡ given + said_of q → Stands_there q
+  goes_compared : (q : Part) (a : Progress) → Moved q r → Within q m k → is_fault q ≡ false → PartLeaves q s'.phase
+      → Says_all q → OnMoreExpanding {E = VerifyFault} (Ok a) (place_of s' ≡ place_of s + length (cells_by q win))
+      → given' ≡ given + compared_len q → Stands_there q
       → Compares tells (Ok a) s s' c rest p given given'
   goes_compared q a moved within sound leaves says place count stands = record {
     cells = cells_by q win;
@@ -181,7 +188,9 @@ module _ (tells : Bool) (s s' : Walk) (c rest win p : List ℕ) (given given' r 
   more_place : (q : Part) → Moved q r → Within q m k → place_of s' ≡ place_of s + given_by q → place_of s' ≡ place_of s + length (cells_by q win)
   more_place q moved within e = e ∙ ap (λ (n : ℕ). place_of s + n) (sym (length_cells q win r m k moved long within))
 
-  fault_compared : (f : SparseFault) (ph : Phase) (a z : ℕ) → IsGoing ph → Caused (parts.Fault f) ph a z → PartLeaves (parts.Fault f) s'.phase → Says_all (parts.Fault f) → Compares tells (answer_of (parts.Fault f)) s s' c rest p given given'
+  fault_compared : (f : SparseFault) (ph : Phase) (a z : ℕ) → IsGoing ph → Caused (parts.Fault f) ph a z
+      → PartLeaves (parts.Fault f) s'.phase → Says_all (parts.Fault f)
+      → Compares tells (answer_by verify_fault_of (parts.Fault f)) s s' c rest p given given'
   fault_compared (faults.Read d) ph a z going caused leaves says = record {
     cells = [];
     told = λ t e. tt;
@@ -201,8 +210,8 @@ module _ (tells : Bool) (s s' : Walk) (c rest win p : List ℕ) (given given' r 
   }
 
   -- a part that stands
-  pub compared_part : (q : Part) (a z : ℕ) → IsGoing s.phase → Caused q s.phase a z → Moved q r → Within q m k → PartLeaves q s'.phase → Says_all q → (IsTrue (goes_on q) → place_of s' ≡ place_of s + given_by q) → given' ≡ given + said_of q → Stands_there q
-      → Compares tells (answer_of q) s s' c rest p given given'
+  pub compared_part : (q : Part) (a z : ℕ) → IsGoing s.phase → Caused q s.phase a z → Moved q r → Within q m k → PartLeaves q s'.phase → Says_all q → (IsTrue (goes_on q) → place_of s' ≡ place_of s + given_by q) → given' ≡ given + compared_len q → Stands_there q
+      → Compares tells (answer_by verify_fault_of q) s s' c rest p given given'
   compared_part (parts.Raw n) a z going caused moved within leaves says place count stands = goes_compared (parts.Raw n) answers.More moved within refl leaves says (more_place (parts.Raw n) moved within (place refl)) count stands
   compared_part (parts.Words word n) a z going caused moved within leaves says place count stands = goes_compared (parts.Words word n) answers.More moved within refl leaves says (more_place (parts.Words word n) moved within (place refl)) count stands
   compared_part (parts.Skip n) a z going caused moved within leaves says place count stands = goes_compared (parts.Skip n) answers.More moved within refl leaves says (more_place (parts.Skip n) moved within (place refl)) count stands
@@ -220,7 +229,7 @@ module _ (tells : Bool) (s s' : Walk) (c rest win p : List ℕ) (given given' r 
     differs = differs;
   }
 
-  different : (q : Part) (n : ℕ) → (IsStill q → (let a : Option VerifyFault = Some (fails.Differs n) in a ≡ None)) → Moved q r → PartLeaves q s'.phase → Says_all q → (IsTrue tells → FirstDiffers p (from_place (place_of s) (cells_by q win)) n)
+  different : (q : Part) (n : ℕ) → (ReadsNothing q → (let a : Option VerifyFault = Some (fails.Differs n) in a ≡ None)) → Moved q r → PartLeaves q s'.phase → Says_all q → (IsTrue tells → FirstDiffers p (from_place (place_of s) (cells_by q win)) n)
       → Compares tells (Err (fails.Differs n)) s s' c rest p given given'
   different (parts.Raw j) n still moved leaves says differs = different_at (parts.Raw j) n moved refl leaves says differs
   different (parts.Words word j) n still moved leaves says differs = different_at (parts.Words word j) n moved refl leaves says differs
@@ -230,7 +239,7 @@ module _ (tells : Bool) (s s' : Walk) (c rest win p : List ℕ) (given given' r 
   different (parts.Fault f) n still moved leaves says differs = absurd (some_none (fails.Differs n) (still tt))
 
   -- a part that does not
-  pub refused_part : (q : Part) (f : VerifyFault) (a z : ℕ) → PartCause (Some f) a z → (IsStill q → (let x : Option VerifyFault = Some f in x ≡ None)) → Moved q r → PartLeaves q s'.phase → Says_all q
+  pub refused_part : (q : Part) (f : VerifyFault) (a z : ℕ) → PartCause (Some f) a z → (ReadsNothing q → (let x : Option VerifyFault = Some f in x ≡ None)) → Moved q r → PartLeaves q s'.phase → Says_all q
       → (IsTrue tells → PartDiffers (Some f) p (from_place (place_of s) (cells_by q win))) → Compares tells (Err f) s s' c rest p given given'
   refused_part q (fails.PartitionRead d) a z cause still moved leaves says differs = record {
     cells = [];

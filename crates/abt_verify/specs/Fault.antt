@@ -5,49 +5,44 @@ use Rattle.abt_io.specs.declared.device.DeviceFault.TheVariants.{Failed}
 use Rattle.abt_sparse.specs.Number.{number_of}
 use Rattle.abt_sparse.specs.declared.fault.SparseFault.{SparseFault}
 use Rattle.abt_sparse.specs.declared.fault.SparseFault.TheVariants as of_sparse
+use Rattle.abt_chunks.specs.Cause.{IsOwn}
 use Rattle.abt_verify.specs.declared.fault.VerifyFault.{VerifyFault}
 use Rattle.abt_verify.specs.declared.fault.VerifyFault.TheVariants.{Sparse, Read, SourceChanged, BadBlock, Differs}
 use Rattle.abt_verify.specs.declared.fault.VerifyFault.TheVariants.{PartitionRead}
 
-abbrev pub fault_number : VerifyFault → ℕ
-fault_number (Sparse f) = number_of f
-fault_number (Read d) = 11
-fault_number SourceChanged = 14
-fault_number (BadBlock n) = 15
-fault_number (Differs n) = 35
-fault_number (PartitionRead d) = 37
+abbrev pub verify_fault_number : VerifyFault → ℕ
+verify_fault_number (Sparse f) = number_of f
+verify_fault_number (Read d) = 11
+verify_fault_number SourceChanged = 14
+verify_fault_number (BadBlock n) = 15
+verify_fault_number (Differs n) = 35
+verify_fault_number (PartitionRead d) = 37
 
 -- a fault of the machine that reads
-abbrev pub fault_of_sparse : SparseFault → VerifyFault
-fault_of_sparse (of_sparse.Read d) = Read d
-fault_of_sparse f = Sparse f
-
--- one of the ten faults that bytes may have
-abbrev pub IsOwn : SparseFault → Type 0
-IsOwn (of_sparse.Read d) = ⊥
-IsOwn (of_sparse.Write d) = ⊥
-IsOwn f = Unit {0}
+abbrev pub verify_fault_of : SparseFault → VerifyFault
+verify_fault_of (of_sparse.Read d) = Read d
+verify_fault_of f = Sparse f
 
 -- Of a sparse image: 11 comes where the input has failed, 37 where the partition has, and each count of faults is as
 -- before where that device isn't named. The reason that it gave is handed on. 14 and 15 never come.
-abbrev pub HasCause : VerifyFault → ℕ → ℕ → ℕ → ℕ → Type 0
-HasCause (Sparse f) r r' p p' = IsOwn f × (r' ≡ r) × (p' ≡ p)
-HasCause (Read d) r r' p p' = (r < r') × (d ≡ Failed) × (p' ≡ p)
-HasCause (PartitionRead d) r r' p p' = (p < p') × (d ≡ Failed) × (r' ≡ r)
-HasCause (Differs n) r r' p p' = (r' ≡ r) × (p' ≡ p)
-HasCause SourceChanged r r' p p' = ⊥
-HasCause (BadBlock n) r r' p p' = ⊥
+abbrev pub HasVerifyCause : VerifyFault → ℕ → ℕ → ℕ → ℕ → Type 0
+HasVerifyCause (Sparse f) r r' p p' = IsOwn f × (r' ≡ r) × (p' ≡ p)
+HasVerifyCause (Read d) r r' p p' = (r < r') × (d ≡ Failed) × (p' ≡ p)
+HasVerifyCause (PartitionRead d) r r' p p' = (p < p') × (d ≡ Failed) × (r' ≡ r)
+HasVerifyCause (Differs n) r r' p p' = (r' ≡ r) × (p' ≡ p)
+HasVerifyCause SourceChanged r r' p p' = ⊥
+HasVerifyCause (BadBlock n) r r' p p' = ⊥
 
-abbrev pub Rises : {X : Type 0} → Result X VerifyFault → ℕ → ℕ → ℕ → ℕ → Type 0
-Rises (Ok x) r r' p p' = (r' ≡ r) × (p' ≡ p)
-Rises (Err f) r r' p p' = HasCause f r r' p p'
+abbrev pub VerifyRises : {X : Type 0} → Result X VerifyFault → ℕ → ℕ → ℕ → ℕ → Type 0
+VerifyRises (Ok x) r r' p p' = (r' ≡ r) × (p' ≡ p)
+VerifyRises (Err f) r r' p p' = HasVerifyCause f r r' p p'
 
 -- Of the bytes of a raw image: the same, and 14 comes where a source that doesn't tell its bytes gives fewer than it
 -- has said. 1 to 10 never come, nor 15.
 abbrev pub HasRawCause : VerifyFault → Bool → ℕ → ℕ → ℕ → ℕ → Type 0
 HasRawCause (Sparse f) tells r r' p p' = ⊥
 HasRawCause SourceChanged tells r r' p p' = (tells ≡ false) × (r' ≡ r) × (p' ≡ p)
-HasRawCause f tells r r' p p' = HasCause f r r' p p'
+HasRawCause f tells r r' p p' = HasVerifyCause f r r' p p'
 
 abbrev pub RawRises : {X : Type 0} → Result X VerifyFault → Bool → ℕ → ℕ → ℕ → ℕ → Type 0
 RawRises (Ok x) tells r r' p p' = (r' ≡ r) × (p' ≡ p)

@@ -26,6 +26,6 @@ VerifiesRaw tells (Err (Differs n)) b p x given given' = IsTrue tells → FirstD
 VerifiesRaw tells (Err f) b p x given given' = Unit {0}
 
 -- 15 comes for this size of blocks, which none may have; any other answer where one may
-abbrev pub Sized : Result Verified VerifyFault → ℕ → Type 0
-Sized (Err (BadBlock n)) b = (n ≡ b) × (IsRawBlock b → ⊥)
-Sized r b = IsRawBlock b
+abbrev pub JudgesBlockSize : Result Verified VerifyFault → ℕ → Type 0
+JudgesBlockSize (Err (BadBlock n)) b = (n ≡ b) × (IsRawBlock b → ⊥)
+JudgesBlockSize r b = IsRawBlock b

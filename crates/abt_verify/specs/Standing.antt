@@ -1,6 +1,5 @@
 -- When an image stands on a partition, and which byte of it is the first that does not.
-use Rattle.std.specs.Prelude.{◌≡◌, ℕ, ◌+◌, ◌<◌, List, [], ◌∷◌, ◌++◌, replicate, Option, Some, None, slice_get}
-use Rattle.std.specs.Prelude.{slice_index_or}
+use Rattle.std.specs.Prelude.{◌≡◌, ℕ, ◌+◌, ◌<◌, List, [], ◌∷◌, Option, Some, None, slice_get, slice_index_or}
 use Rattle.abt_sparse.specs.Block.{Block, Raw, Fill, Skip}
 
 -- Byte i of a partition that holds p is what the cells say of it, or they say nothing. Behind its end no byte is there.
@@ -17,16 +16,6 @@ pub record FirstDiffers (p : List ℕ) (cs : List (Option ℕ)) (n : ℕ) : Type
   pub said : slice_index_or cs n None ≡ Some byte
   pub differs : slice_get p n ≡ Some byte → ⊥
   pub before : (i : ℕ) → i < n → StandsAt p cs i
-
--- cells from a place on
-abbrev pub from_place : ℕ → List (Option ℕ) → List (Option ℕ)
-from_place at cs = replicate at None ++ cs
-
--- how many bytes cells say
-abbrev pub said_by : List (Option ℕ) → ℕ
-said_by [] = 0
-said_by (None ∷ cs) = said_by cs
-said_by (Some x ∷ cs) = 1 + said_by cs
 
 -- how many blocks are raw or fill
 abbrev pub held_in : List Block → ℕ

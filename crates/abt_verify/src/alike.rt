@@ -1,6 +1,7 @@
 //! How many leading bytes of two slices are the same.
 
 ghost use Rattle.std.specs.Prelude.{◌≡◌, ◌≤◌, ◌<◌, ◌+◌, length, take, min, slice_get};
+ghost use Rattle.abt_chunks.specs.Costs.{TurnsOnly};
 
 use abt_io::Meter;
 
@@ -9,10 +10,8 @@ pub(crate) fn alike(a: &[u8], b: &[u8], m: &mut Meter) -> usize
     ensures within { result ≤ min (length a.now) (length b.now) }
     ensures same { take result a.now ≡ take result b.now }
     ensures other { result < min (length a.now) (length b.now) → slice_get a.now result ≡ slice_get b.now result → ⊥ }
-    ensures turns { m.new.turns.number ≤ m.old.turns.number + result + 1 }
     ensures few { result ≡ min (length a.now) (length b.now) → m.new.turns.number ≤ m.old.turns.number + result }
-    ensures steps { m.new.steps.number ≡ m.old.steps.number }
-    ensures greatest { m.new.greatest.number ≡ m.old.greatest.number }
+    ensures meter { TurnsOnly (result + 1) m.old m.new }
 {
     let n = a.len().min(b.len());
     if a[..n] == b[..n] {

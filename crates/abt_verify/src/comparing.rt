@@ -1,10 +1,14 @@
 //! A part of an image against what stands at its place on a partition.
 
 ghost use Rattle.std.specs.Prelude.{◌≡◌, ◌≤◌, ◌<◌, ◌+◌, ◌*◌, ◌^◌, IsTrue, IsNone, IfNone, take};
+ghost use Rattle.abt_io.specs.Lent.{OnlyReads};
 ghost use Rattle.abt_chunks.specs.Ahead.{somes};
-ghost use Rattle.abt_verify.specs.Comparing.{FitsHalf, IsStill, PartDiffers, cells_by, said_of};
+ghost use Rattle.abt_chunks.specs.Costs.{TurnsOnly};
+ghost use Rattle.abt_chunks.specs.Expanding.{cells_by};
+ghost use Rattle.abt_chunks.specs.Places.{from_place};
+ghost use Rattle.abt_verify.specs.Comparing.{FitsHalf, ReadsNothing, PartDiffers, ReadsBytes, answer_to, compared_len};
 ghost use Rattle.abt_verify.specs.Fault.{PartCause};
-ghost use Rattle.abt_verify.specs.Standing.{Stands, from_place};
+ghost use Rattle.abt_verify.specs.Standing.{Stands};
 
 use crate::alike::alike;
 use crate::fault::VerifyFault;
@@ -38,22 +42,16 @@ pub(crate) fn compare_at<P: Source>(
 ) -> Compared
     requires half { n ≤ 32768 }
     requires below { at + n < 2 ^ 64 }
-    ensures few_bytes { result.received ≤ n }
+    ensures partition_bytes { ReadsBytes result.received n P.Source partition.old partition.new }
     ensures all { IfNone result.fault (result.received ≡ n) }
     ensures stands { IsTrue P.tells → IfNone result.fault (Stands (P.content partition.old)
         (from_place at (somes (take n w.old.bytes)))) }
     ensures differs { IsTrue P.tells → PartDiffers result.fault (P.content partition.old)
         (from_place at (somes (take n w.old.bytes))) }
     ensures cause { PartCause result.fault (P.read_faults partition.old) (P.read_faults partition.new) }
-    ensures given { P.given partition.new ≡ P.given partition.old + result.received }
-    ensures content { IsTrue P.tells → P.content partition.new ≡ P.content partition.old }
-    ensures frame { P.read_frame partition.new ≡ P.read_frame partition.old }
-    ensures faults { P.read_faults partition.old ≤ P.read_faults partition.new }
-    ensures reads { P.reads partition.new ≤ P.reads partition.old + result.received + 1 }
-    ensures turns { m.new.turns.number ≤ m.old.turns.number + 2 * result.received + 2 }
+    ensures partition { OnlyReads (answer_to result.fault) P.Source partition.old partition.new }
     ensures few { IfNone result.fault (m.new.turns.number ≤ m.old.turns.number + 2 * result.received + 1) }
-    ensures steps { m.new.steps.number ≡ m.old.steps.number }
-    ensures greatest { m.new.greatest.number ≡ m.old.greatest.number }
+    ensures meter { TurnsOnly (2 * result.received + 2) m.old m.new }
 {
     w.is_whole();
     let got = read_full_at(partition, at, w.part_mut(HALF, HALF + n), m);
@@ -93,24 +91,18 @@ pub(crate) fn compare_part<P: Source>(
     m: &mut Meter,
 ) -> Compared
     requires half { FitsHalf part }
-    requires below { at + said_of part < 2 ^ 64 }
-    ensures few_bytes { result.received ≤ said_of part }
-    ensures all { IfNone result.fault (result.received ≡ said_of part) }
+    requires below { at + compared_len part < 2 ^ 64 }
+    ensures partition_bytes { ReadsBytes result.received (compared_len part) P.Source partition.old partition.new }
+    ensures all { IfNone result.fault (result.received ≡ compared_len part) }
     ensures stands { IsTrue P.tells → IfNone result.fault (Stands (P.content partition.old)
         (from_place at (cells_by part w.old.bytes))) }
     ensures differs { IsTrue P.tells → PartDiffers result.fault (P.content partition.old)
         (from_place at (cells_by part w.old.bytes)) }
-    ensures still { IsStill part → (result.fault ≡ None) × (partition.new ≡ partition.old) }
+    ensures still { ReadsNothing part → (result.fault ≡ None) × (partition.new ≡ partition.old) }
     ensures cause { PartCause result.fault (P.read_faults partition.old) (P.read_faults partition.new) }
-    ensures given { P.given partition.new ≡ P.given partition.old + result.received }
-    ensures content { IsTrue P.tells → P.content partition.new ≡ P.content partition.old }
-    ensures frame { P.read_frame partition.new ≡ P.read_frame partition.old }
-    ensures faults { P.read_faults partition.old ≤ P.read_faults partition.new }
-    ensures reads { P.reads partition.new ≤ P.reads partition.old + result.received + 1 }
-    ensures turns { m.new.turns.number ≤ m.old.turns.number + 2 * result.received + 17 }
+    ensures partition { OnlyReads (answer_to result.fault) P.Source partition.old partition.new }
     ensures few { IfNone result.fault (m.new.turns.number ≤ m.old.turns.number + 3 * result.received) }
-    ensures steps { m.new.steps.number ≡ m.old.steps.number }
-    ensures greatest { m.new.greatest.number ≡ m.old.greatest.number }
+    ensures meter { TurnsOnly (2 * result.received + 17) m.old m.new }
 {
     match part {
         Part::Raw(n) => compare_at(n, at, partition, w, m),

@@ -1,7 +1,7 @@
 //! Why an image is not found on a partition.
 
 ghost use Rattle.std.specs.Prelude.{◌≡◌};
-ghost use Rattle.abt_verify.specs.Fault.{fault_number, fault_of_sparse};
+ghost use Rattle.abt_verify.specs.Fault.{verify_fault_number, verify_fault_of};
 
 use abt_io::DeviceFault;
 use abt_sparse::SparseFault;
@@ -33,7 +33,7 @@ pub enum VerifyFault {
 impl VerifyFault {
     /// The number of the fault in the list of all faults.
     pub fn number(&self) -> u32
-        ensures { result ≡ fault_number self.now }
+        ensures { result ≡ verify_fault_number self.now }
     {
         match self {
             VerifyFault::Sparse(fault) => fault.number(),
@@ -48,7 +48,7 @@ impl VerifyFault {
 
 /// A fault of the machine that reads an image.
 pub(crate) fn sparse_fault(fault: SparseFault) -> VerifyFault
-    ensures { result ≡ fault_of_sparse fault }
+    ensures { result ≡ verify_fault_of fault }
 {
     match fault {
         SparseFault::Read(reason) => VerifyFault::Read(reason),

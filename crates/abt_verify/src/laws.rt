@@ -12,7 +12,7 @@ pub fn verifying_is_right()
 {}
 
 /// What a read leaves of a partition that can be written: its length, its moments and pending bytes, and the counts of
-/// its writes and syncs are as before. So does verifying, whose clause `unwritten` is the premise.
+/// its writes and syncs are as before. So does verifying, whose clause `partition` says the premise.
 pub fn unwritten_partition_stays<P: Partition>(_before: &P, _after: &P)
     requires { P.read_frame _after.now ≡ P.read_frame _before.now }
     ensures size { P.size _after.now ≡ P.size _before.now }

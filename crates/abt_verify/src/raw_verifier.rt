@@ -1,13 +1,15 @@
 //! Verifying a raw image in steps.
 
 ghost use Rattle.std.specs.Prelude.{◌≡◌, ◌<◌, ◌≤◌, ◌+◌, ◌-◌, ◌*◌, ◌^◌, IsTrue, IsNone, IfNone, OnOk, length, take};
-ghost use Rattle.std.specs.Prelude.{drop, max, min};
+ghost use Rattle.std.specs.Prelude.{drop, min};
+ghost use Rattle.abt_io.specs.Lent.{OneStep, OnlyReads};
 ghost use Rattle.abt_chunks.specs.Ahead.{somes};
-ghost use Rattle.abt_verify.specs.Comparing.{PartDiffers};
+ghost use Rattle.abt_chunks.specs.Costs.{TurnsOnly};
+ghost use Rattle.abt_chunks.specs.Places.{from_place};
+ghost use Rattle.abt_verify.specs.Comparing.{PartDiffers, ReadsBytes, answer_to};
 ghost use Rattle.abt_verify.specs.Fault.{PieceCause, RawRises, short_fault};
-ghost use Rattle.abt_verify.specs.Standing.{FirstDiffers, Stands, from_place};
-ghost use Rattle.abt_verify.specs.Stepping.{IsOver, IsUnderway, OnDiffers, OnDone, OnMore, passed_by, raw_answer};
-ghost use Rattle.abt_verify.specs.Stepping.{stage_of};
+ghost use Rattle.abt_verify.specs.Standing.{FirstDiffers, Stands};
+ghost use Rattle.abt_verify.specs.Stepping.{HasEnded, IsUnderway, OnDiffers, RawAdvances, passed_by, raw_answer};
 
 use crate::comparing::{Compared, HALF, compare_at};
 use crate::fault::VerifyFault;
@@ -58,9 +60,9 @@ fn compare_piece<S: Source, P: Source>(
     requires there { IsTrue S.tells → at + n ≤ length (S.content source.old) }
     ensures received { result.received ≡ (S.given source.new - S.given source.old)
         + (P.given partition.new - P.given partition.old) }
-    ensures asked { S.given source.old ≤ S.given source.new × S.given source.new ≤ S.given source.old + n }
-    ensures asked_there { P.given partition.old ≤ P.given partition.new ×
-        P.given partition.new ≤ P.given partition.old + n }
+    ensures source_bytes { ReadsBytes (S.given source.new - S.given source.old) n S.Source source.old source.new }
+    ensures partition_bytes { ReadsBytes (P.given partition.new - P.given partition.old) n P.Source partition.old
+        partition.new }
     ensures all { IfNone result.fault ((S.given source.new ≡ S.given source.old + n) ×
         (P.given partition.new ≡ P.given partition.old + n)) }
     ensures stands { IsTrue S.tells → IsTrue P.tells → IfNone result.fault
@@ -69,19 +71,10 @@ fn compare_piece<S: Source, P: Source>(
         (from_place at (somes (take n (drop at (S.content source.old))))) }
     ensures cause { PieceCause result.fault S.tells (S.read_faults source.old) (S.read_faults source.new)
         (P.read_faults partition.old) (P.read_faults partition.new) }
-    ensures source_content { IsTrue S.tells → S.content source.new ≡ S.content source.old }
-    ensures content { IsTrue P.tells → P.content partition.new ≡ P.content partition.old }
-    ensures frame { S.read_frame source.new ≡ S.read_frame source.old }
-    ensures unwritten { P.read_frame partition.new ≡ P.read_frame partition.old }
-    ensures read_faults { S.read_faults source.old ≤ S.read_faults source.new }
-    ensures partition_faults { P.read_faults partition.old ≤ P.read_faults partition.new }
-    ensures reads { S.reads source.new ≤ S.reads source.old + (S.given source.new - S.given source.old) + 1 }
-    ensures partition_reads { P.reads partition.new ≤ P.reads partition.old
-        + (P.given partition.new - P.given partition.old) + 1 }
-    ensures turns { m.new.turns.number ≤ m.old.turns.number + (S.given source.new - S.given source.old)
-        + 2 * (P.given partition.new - P.given partition.old) + 3 }
-    ensures steps { m.new.steps.number ≡ m.old.steps.number }
-    ensures greatest { m.new.greatest.number ≡ m.old.greatest.number }
+    ensures source { OnlyReads (answer_to result.fault) S.Source source.old source.new }
+    ensures partition { OnlyReads (answer_to result.fault) P.Source partition.old partition.new }
+    ensures meter { TurnsOnly ((S.given source.new - S.given source.old)
+        + 2 * (P.given partition.new - P.given partition.old) + 3) m.old m.new }
 {
     w.is_whole();
     let got = read_full_at(source, at, w.part_mut(0, n), m);
@@ -162,9 +155,10 @@ impl RawVerifier {
         m: &mut Meter,
     ) -> Result<Progress, VerifyFault>
         requires { IsTrue S.tells → self.old.length ≡ length (S.content source.old) }
-        ensures asked { S.given source.old ≤ S.given source.new × S.given source.new ≤ S.given source.old + 32768 }
-        ensures asked_there { P.given partition.old ≤ P.given partition.new ×
-            P.given partition.new ≤ P.given partition.old + 32768 }
+        ensures source_bytes { ReadsBytes (S.given source.new - S.given source.old) 32768 S.Source source.old
+            source.new }
+        ensures partition_bytes { ReadsBytes (P.given partition.new - P.given partition.old) 32768 P.Source partition.old
+            partition.new }
         // What stood so far stands with what was compared, or the first byte that differs is told.
         ensures stands { IsTrue S.tells → IsTrue P.tells → Stands (P.content partition.old)
             (somes (take self.old.at (S.content source.old))) →
@@ -172,32 +166,21 @@ impl RawVerifier {
         ensures differs { IsTrue S.tells → IsTrue P.tells → IsUnderway self.old.stage →
             Stands (P.content partition.old) (somes (take self.old.at (S.content source.old))) →
             OnDiffers result (λ n. FirstDiffers (P.content partition.old) (somes (S.content source.old)) n) }
-        ensures length { self.new.length ≡ self.old.length }
-        ensures at { self.old.at ≤ self.new.at }
-        ensures more { OnMore result (self.old.at < self.new.at) }
-        ensures done { IsUnderway self.old.stage → OnDone result (self.new.at ≡ self.new.length) }
+        ensures goes { RawAdvances result self.old.stage self.new.stage self.old.length self.new.length self.old.at
+            self.new.at }
         ensures counted { OnOk result ((S.given source.new ≡ S.given source.old + (self.new.at - self.old.at)) ×
             (P.given partition.new ≡ P.given partition.old + (self.new.at - self.old.at))) }
-        ensures stage { self.new.stage ≡ stage_of result }
-        ensures again { IsOver self.old.stage → (self.new ≡ self.old) × (source.new ≡ source.old) ×
+        ensures again { HasEnded self.old.stage → (self.new ≡ self.old) × (source.new ≡ source.old) ×
             (partition.new ≡ partition.old) }
         ensures cause { IsUnderway self.old.stage → RawRises result S.tells (S.read_faults source.old)
             (S.read_faults source.new) (P.read_faults partition.old) (P.read_faults partition.new) }
         // Both stay as they are.
-        ensures source_content { IsTrue S.tells → S.content source.new ≡ S.content source.old }
-        ensures content { IsTrue P.tells → P.content partition.new ≡ P.content partition.old }
-        ensures frame { S.read_frame source.new ≡ S.read_frame source.old }
-        ensures unwritten { P.read_frame partition.new ≡ P.read_frame partition.old }
-        ensures read_faults { S.read_faults source.old ≤ S.read_faults source.new }
-        ensures partition_faults { P.read_faults partition.old ≤ P.read_faults partition.new }
-        ensures reads { S.reads source.new ≤ S.reads source.old + (S.given source.new - S.given source.old) + 1 }
-        ensures partition_reads { P.reads partition.new ≤ P.reads partition.old
-            + (P.given partition.new - P.given partition.old) + 1 }
+        ensures source { OnlyReads result S.Source source.old source.new }
+        ensures partition { OnlyReads result P.Source partition.old partition.new }
         ensures turns { m.new.turns.number ≤ m.old.turns.number + (S.given source.new - S.given source.old)
             + 2 * (P.given partition.new - P.given partition.old) + 3 }
-        ensures steps { m.new.steps.number ≡ m.old.steps.number + 1 }
-        ensures greatest { m.new.greatest.number ≡ max m.old.greatest.number
-            ((S.given source.new - S.given source.old) + (P.given partition.new - P.given partition.old)) }
+        ensures one_step { OneStep ((S.given source.new - S.given source.old)
+            + (P.given partition.new - P.given partition.old)) m.old m.new }
     {
         match self.stage {
             Stage::Done => {

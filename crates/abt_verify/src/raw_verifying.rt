@@ -1,8 +1,10 @@
 //! Verifying a raw image as a whole.
 
-ghost use Rattle.std.specs.Prelude.{◌≡◌, ◌<◌, ◌≤◌, ◌+◌, ◌-◌, ◌*◌, IsTrue, false, length, max};
+ghost use Rattle.std.specs.Prelude.{◌≡◌, ◌≤◌, ◌+◌, ◌*◌, IsTrue, false};
+ghost use Rattle.abt_io.specs.Lent.{OnlyReads};
+ghost use Rattle.abt_chunks.specs.Costs.{StepsWithin};
 ghost use Rattle.abt_verify.specs.Fault.{RawCause};
-ghost use Rattle.abt_verify.specs.Raw.{IsRawBlock, Sized, VerifiesRaw};
+ghost use Rattle.abt_verify.specs.Raw.{IsRawBlock, JudgesBlockSize, VerifiesRaw};
 
 use crate::fault::VerifyFault;
 use crate::raw_verifier::RawVerifier;
@@ -32,26 +34,21 @@ pub fn verify_raw<S: Source, P: Source>(
 ) -> Result<Verified, VerifyFault>
     ensures verifies { IsTrue S.tells → VerifiesRaw P.tells result b (P.content partition.old) (S.content source.old)
         (P.given partition.old) (P.given partition.new) }
-    ensures sized { Sized result b }
+    ensures sized { JudgesBlockSize result b }
     ensures cause { RawCause result S.tells (S.read_faults source.old) (S.read_faults source.new)
         (P.read_faults partition.old) (P.read_faults partition.new) }
     // Both stay as they are; of the partition its bytes, its length, and all that a write or a sync would change.
-    ensures source_content { IsTrue S.tells → S.content source.new ≡ S.content source.old }
-    ensures content { IsTrue P.tells → P.content partition.new ≡ P.content partition.old }
-    ensures frame { S.read_frame source.new ≡ S.read_frame source.old }
-    ensures unwritten { P.read_frame partition.new ≡ P.read_frame partition.old }
+    ensures source { OnlyReads result S.Source source.old source.new }
+    ensures partition { OnlyReads result P.Source partition.old partition.new }
     ensures given { S.given source.old ≤ S.given source.new }
     ensures partition_given { P.given partition.old ≤ P.given partition.new }
-    ensures read_faults { S.read_faults source.old ≤ S.read_faults source.new }
-    ensures partition_faults { P.read_faults partition.old ≤ P.read_faults partition.new }
     // What it cost.
     ensures calls { S.reads source.new + P.reads partition.new + 8 * S.given source.old + 8 * P.given partition.old
         ≤ S.reads source.old + P.reads partition.old + 8 * S.given source.new + 8 * P.given partition.new + 64 }
     ensures turns { m.new.turns.number + 8 * S.given source.old + 8 * P.given partition.old
         ≤ m.old.turns.number + 8 * S.given source.new + 8 * P.given partition.new + 64 }
-    ensures steps { S.given source.new + P.given partition.new + 65580 * m.old.steps.number
-        ≤ S.given source.old + P.given partition.old + 65580 * m.new.steps.number }
-    ensures greatest { m.new.greatest.number ≤ max m.old.greatest.number 65580 }
+    ensures steps { StepsWithin 65580 (S.given source.old + P.given partition.old)
+        (S.given source.new + P.given partition.new) m.old m.new }
 {
     if !is_block_size(b) {
         return Err(VerifyFault::BadBlock(b));

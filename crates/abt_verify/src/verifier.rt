@@ -1,10 +1,15 @@
 //! Verifying a sparse image in steps.
 
-ghost use Rattle.std.specs.Prelude.{◌≡◌, ◌<◌, ◌≤◌, ◌+◌, ◌-◌, ◌*◌, ◌/◌, ◌^◌, IsTrue, OnOk, length, take, drop, max, min};
-ghost use Rattle.abt_chunks.specs.Turns.{todo};
+ghost use Rattle.std.specs.Prelude.{◌≡◌, ◌<◌, ◌≤◌, ◌+◌, ◌-◌, ◌*◌, ◌/◌, ◌^◌, IsTrue, OnOk, take, min};
+ghost use Rattle.abt_io.specs.Lent.{OneStep, OnlyReads};
 ghost use Rattle.abt_chunks.specs.Places.{upto_of};
-ghost use Rattle.abt_verify.specs.Fault.{Rises};
-ghost use Rattle.abt_verify.specs.Stepping.{Compares, Goes, IsOver, Leaves, OnMore, answer_of, idle, stage_of};
+ghost use Rattle.abt_chunks.specs.Taking.{ReadStep, input_state};
+ghost use Rattle.abt_chunks.specs.Turns.{todo};
+ghost use Rattle.abt_chunks.specs.Expanding.{OnMoreExpanding, answer_by};
+ghost use Rattle.abt_chunks.specs.ListingAhead.{idle};
+ghost use Rattle.abt_verify.specs.Comparing.{ReadsBytes};
+ghost use Rattle.abt_verify.specs.Fault.{VerifyRises, verify_fault_of};
+ghost use Rattle.abt_verify.specs.Stepping.{Compares, HasEnded, IsComparing, LeavesWalk, stage_after};
 
 use crate::comparing::{HALF, HALF_WORDS, compare_part};
 use crate::fault::{VerifyFault, sparse_fault};
@@ -42,7 +47,7 @@ fn is_in_range(walk: &Walk)
 /// What a step answers once its part stands.
 #[inline(always)]
 fn answer(part: Part) -> Result<Progress, VerifyFault>
-    ensures { result ≡ answer_of part }
+    ensures { result ≡ answer_by verify_fault_of part }
 {
     match part {
         Part::End => Ok(Progress::Done),
@@ -57,7 +62,7 @@ fn answer(part: Part) -> Result<Progress, VerifyFault>
 /// Where that leaves a verifier.
 #[inline(always)]
 pub(crate) fn stage_behind(answer: Result<Progress, VerifyFault>) -> Stage
-    ensures { result ≡ stage_of answer }
+    ensures { result ≡ stage_after answer }
 {
     match answer {
         Ok(Progress::More) => Stage::Going,
@@ -100,47 +105,38 @@ impl Verifier {
         w: &mut Window,
         m: &mut Meter,
     ) -> Result<Progress, VerifyFault>
-        ensures asked { I.given input.old ≤ I.given input.new × I.given input.new ≤ I.given input.old + 32768 }
-        ensures asked_there { P.given partition.old ≤ P.given partition.new ×
-            P.given partition.new ≤ P.given partition.old + 32768 }
-        ensures present { IsTrue I.tells → I.given input.new - I.given input.old ≤ length (I.remaining input.old) }
-        ensures rest { IsTrue I.tells → I.remaining input.new
-            ≡ drop (I.given input.new - I.given input.old) (I.remaining input.old) }
+        ensures input { ReadStep (I.given input.new - I.given input.old) 32768 self.old.walk I.tells
+            (input_state I.Input input.old) (input_state I.Input input.new) }
+        ensures partition_bytes { ReadsBytes (P.given partition.new - P.given partition.old) 32768 P.Source
+            partition.old partition.new }
         // What it compares, and whether that stands.
-        ensures told { IsTrue I.tells → Goes self.old.stage self.old.walk.phase →
+        ensures told { IsTrue I.tells → IsComparing self.old.stage self.old.walk.phase →
             Compares P.tells result self.old.walk self.new.walk
             (take (I.given input.new - I.given input.old) (I.remaining input.old)) (I.remaining input.new)
             (P.content partition.old) (P.given partition.old) (P.given partition.new) }
-        ensures compared { Goes self.old.stage self.old.walk.phase →
+        ensures compared { IsComparing self.old.stage self.old.walk.phase →
             OnOk result (self.new.compared ≡ min (self.old.compared + (P.given partition.new - P.given partition.old))
             (2 ^ 64 - 1)) }
-        ensures stage { self.new.stage ≡ stage_of result }
-        ensures leaves { Goes self.old.stage self.old.walk.phase → Leaves result self.new.walk.phase }
-        ensures again { IsOver self.old.stage → (self.new ≡ self.old) × (input.new ≡ input.old) ×
+        ensures stage { self.new.stage ≡ stage_after result }
+        ensures leaves { IsComparing self.old.stage self.old.walk.phase → LeavesWalk result self.new.walk.phase }
+        ensures again { HasEnded self.old.stage → (self.new ≡ self.old) × (input.new ≡ input.old) ×
             (partition.new ≡ partition.old) }
-        ensures cause { Goes self.old.stage self.old.walk.phase →
-            Rises result (I.read_faults input.old) (I.read_faults input.new) (P.read_faults partition.old)
+        ensures cause { IsComparing self.old.stage self.old.walk.phase →
+            VerifyRises result (I.read_faults input.old) (I.read_faults input.new) (P.read_faults partition.old)
             (P.read_faults partition.new) }
         // The partition stays as it is.
-        ensures content { IsTrue P.tells → P.content partition.new ≡ P.content partition.old }
-        ensures unwritten { P.read_frame partition.new ≡ P.read_frame partition.old }
-        ensures frame { I.read_frame input.new ≡ I.read_frame input.old }
-        ensures read_faults { I.read_faults input.old ≤ I.read_faults input.new }
-        ensures partition_faults { P.read_faults partition.old ≤ P.read_faults partition.new }
-        ensures fewer { OnMore result (todo self.new.walk < todo self.old.walk) }
-        ensures progress { OnMore result (idle self.new.walk + 1
+        ensures partition { OnlyReads result P.Source partition.old partition.new }
+        ensures fewer { OnMoreExpanding result (todo self.new.walk < todo self.old.walk) }
+        ensures progress { OnMoreExpanding result (idle self.new.walk + 1
             ≤ idle self.old.walk + 2 * (I.given input.new - I.given input.old)
             + 2 * (P.given partition.new - P.given partition.old)) }
-        ensures reads { I.reads input.new ≤ I.reads input.old + (I.given input.new - I.given input.old) + 1 }
-        ensures partition_reads { P.reads partition.new ≤ P.reads partition.old
-            + (P.given partition.new - P.given partition.old) + 1 }
         ensures turns { m.new.turns.number ≤ m.old.turns.number + (I.given input.new - I.given input.old)
             + 2 * (P.given partition.new - P.given partition.old) + 18 }
-        ensures few { OnMore result (m.new.turns.number ≤ m.old.turns.number + (I.given input.new - I.given input.old)
+        ensures few { OnMoreExpanding result
+            (m.new.turns.number ≤ m.old.turns.number + (I.given input.new - I.given input.old)
             + 3 * (P.given partition.new - P.given partition.old) + 1) }
-        ensures steps { m.new.steps.number ≡ m.old.steps.number + 1 }
-        ensures greatest { m.new.greatest.number ≡ max m.old.greatest.number
-            ((I.given input.new - I.given input.old) + (P.given partition.new - P.given partition.old)) }
+        ensures one_step { OneStep ((I.given input.new - I.given input.old)
+            + (P.given partition.new - P.given partition.old)) m.old m.new }
     {
         match self.stage {
             Stage::Done => {

@@ -13,7 +13,7 @@ use Rattle.abt_pieces.specs.Cutter.{has_more}
 use Rattle.abt_pieces.specs.declared.stage.Stage.{Stage}
 use Rattle.abt_pieces.specs.declared.stage.Stage.TheVariants.{Between, Done}
 use Rattle.abt_flash.specs.Delivering.{blocks_in_first, blocks_up_to, pieces_behind, with_cuts}
-use Rattle.abt_flash.specs.Going.{StandsAt, Unbroken, frames_left, pieces_left, words_so_far}
+use Rattle.abt_flash.specs.Going.{IsBehindPiece, Unbroken, frames_left, pieces_left, words_so_far}
 use Rattle.abt_flash.proofs.Left.{behind, first_more, laid_first, laid_next, frames_more, pieces_more, written_more, pieces_behind_are, laid_left, stands_left, none_left, one_left, pieces_front}
 use Rattle.abt_flash.proofs.Onward.{back_on, blocks_on, greatest_on, long_on, order_on, some_on, steps_on, synced_on, unsynced_on, up_on, unbroken_first, unbroken_more, still_between, now_done, few_more, fewer_then, words_more, words_most, words_one, calls_on, turns_on, spent_more, spent_last, spent_whole}
 use Rattle.abt_flash.proofs.Ways.{ends_none, ends_then, no_part_all, no_part_then, so_far}
@@ -37,15 +37,16 @@ pieces-init g c =
     let all = g.R.BlockRuns.list c.args.cutter.now.runs (g.S.Source.content c.args.source.now) in
     let most = c.args.cutter.now.limit in
     let s = c.args.cutter.now.start.block in
-    let is = c.requires.between in
+    let is = c.requires.comes.between in
     record {
       runs = refl;
       limit = refl;
-      told = c.requires.told;
+      told = c.requires.ready.told;
       kept = λ tells. refl;
+      long_source = λ tells. refl;
       frame = refl;
-      unbroken = unbroken_first _ _ _ _ is c.requires.inside;
-      few = c.requires.few;
+      unbroken = unbroken_first _ _ _ _ is c.requires.comes.inside;
+      few = c.requires.comes.few;
       order = omega arith;
       same_made = refl;
       some = λ d. absurd (let z = sym is ∙ d in cc);
@@ -59,9 +60,9 @@ pieces-init g c =
       laid = λ tells spool partition. ap (λ (st : Stage). flashed_all b (g.P.Source.content c.args.partition.now) (frames_left most b all s st)) is;
       so_far = λ tells spool partition. (omega arith, laid_first b (g.P.Source.content c.args.partition.now) all s);
       stays = λ tells spool partition p done le h.
-          let long = g.met.R.BlockRuns.long c.args.cutter.now.runs _ (c.requires.opened tells) in
+          let long = g.met.R.BlockRuns.long c.args.cutter.now.runs _ (c.requires.ready.opened tells) in
           let within = g.met.R.BlockRuns.bounded c.args.cutter.now.runs _ c.args.cutter.now.sound.within in
-          let here = behind most b all c.args.cutter.now.made s Between (rw is at (c.requires.told tells).cuts) (inl refl) (omega (arith, long, within)) in
+          let here = behind most b all c.args.cutter.now.made s Between (rw is at (c.requires.ready.told tells).cuts) (inl refl) (omega (arith, long, within)) in
           staying_first most b all p c.args.cutter.now.made done s _ _ le here.blocks h;
       settled = λ tells lt. absurd (omega (arith, lt));
       synced = refl;
@@ -103,7 +104,7 @@ pieces-preserved g c =
     let next = c.deliver_piece.new.cutter.start.block in
     let st = c.deliver_piece.new.cutter.stage in
     let is : c.pieces.cutter.stage ≡ Between = still_between _ _ _ _ i.unbroken (sym c.more.ensures ∙ c.if-not-more.false) in
-    let at : StandsAt n next st = rw i.runs at o.behind.stands in
+    let at : IsBehindPiece n next st = rw i.runs at o.behind.stands in
     let left : c.pieces.cutter.made ≤ s = c.pieces.cutter.sound.left (ap has_more is) in
     let inside = i.unbroken.between is in
     let unbroken : Unbroken n c.deliver_piece.new.cutter.made next st = rw (o.behind.made) (unbroken_more n c.pieces.cutter.made next st at) in
@@ -112,48 +113,49 @@ pieces-preserved g c =
       runs = e.same.0 ∙ i.runs;
       limit = e.same.1 ∙ i.limit;
       told = λ tells. rw (i.runs, i.kept tells) at (e.told tells);
-      kept = λ tells. e.content tells ∙ i.kept tells;
-      frame = e.frame ∙ i.frame;
+      kept = λ tells. e.source.content tells ∙ i.kept tells;
+      long_source = λ tells. e.source.size tells ∙ i.long_source tells;
+      frame = e.source.frame ∙ i.frame;
       unbroken = unbroken;
       few = rw o.behind.made (few_more n c.pieces.cutter.made s left inside);
       order = order_on _ _ _ i.order o.behind.made;
       same_made = i.same_made;
       some = λ d. some_on _ _ _ i.order o.behind.made;
-      capacity = e.capacity ∙ i.capacity;
-      size = e.size ∙ i.size;
-      unread = (e.unread.0 ∙ i.unread.0, e.unread.1 ∙ i.unread.1);
-      fits = fits_then _ _ _ _ _ _ _ i.fits (rw i.limit at e.fits);
+      capacity = e.spool.capacity ∙ i.capacity;
+      size = e.partition.size ∙ i.size;
+      unread = (e.partition.unread.0 ∙ i.unread.0, e.partition.unread.1 ∙ i.unread.1);
+      fits = fits_then _ _ _ _ _ _ _ i.fits (rw i.limit at e.spool.fits);
       written = λ tells.
           let h : FirstPiece b all most s next = rw (i.runs, i.kept tells, i.limit) at (o.greatest_end tells) in
-          let long = g.met.R.BlockRuns.long c.args.cutter.now.runs _ (c.requires.opened tells) in
+          let long = g.met.R.BlockRuns.long c.args.cutter.now.runs _ (c.requires.ready.opened tells) in
           let more = ap (λ (t : Stage). pieces_left most b all s t) is ∙ pieces_more most b all s next st h (rw (← long) at at) in
           written_then (g.L.Output.written c.pieces.spool) (g.L.Output.written c.deliver_piece.new.spool) _ (piece_at b most all s) (pieces_left most b all next st)
-          (ap (λ (xs : List (List ℕ)). g.L.Output.written c.pieces.spool ++ concat xs) (sym more) ∙ i.written tells) (rw (i.runs, i.kept tells, i.limit) at (o.written tells));
+          (ap (λ (xs : List (List ℕ)). g.L.Output.written c.pieces.spool ++ concat xs) (sym more) ∙ i.written tells) (rw (i.runs, i.kept tells, i.limit) at (o.spool.written tells));
       cuts = λ tells.
           let h : FirstPiece b all most s next = rw (i.runs, i.kept tells, i.limit) at (o.greatest_end tells) in
-          let long = g.met.R.BlockRuns.long c.args.cutter.now.runs _ (c.requires.opened tells) in
+          let long = g.met.R.BlockRuns.long c.args.cutter.now.runs _ (c.requires.ready.opened tells) in
           let more = ap (λ (t : Stage). pieces_left most b all s t) is ∙ pieces_more most b all s next st h (rw (← long) at at) in
-          let wrote : g.L.Output.written c.deliver_piece.new.spool ≡ g.L.Output.written c.pieces.spool ++ piece_at b most all s = rw (i.runs, i.kept tells, i.limit) at (o.written tells) in
+          let wrote : g.L.Output.written c.deliver_piece.new.spool ≡ g.L.Output.written c.pieces.spool ++ piece_at b most all s = rw (i.runs, i.kept tells, i.limit) at (o.spool.written tells) in
           cuts_then (g.L.Spool.cuts c.pieces.spool) (g.L.Spool.cuts c.deliver_piece.new.spool) _ (length (g.L.Output.written c.pieces.spool)) (length (g.L.Output.written c.deliver_piece.new.spool)) (piece_at b most all s) (pieces_left most b all next st)
-          (ap (λ (xs : List (List ℕ)). with_cuts (g.L.Spool.cuts c.pieces.spool) (length (g.L.Output.written c.pieces.spool)) xs) (sym more) ∙ i.cuts tells) o.cut (ap length wrote ∙ length-append (g.L.Output.written c.pieces.spool) (piece_at b most all s));
-      ends = λ late. ends_then _ _ _ _ _ _ _ (i.ends late) (rw i.runs at (e.ends late));
+          (ap (λ (xs : List (List ℕ)). with_cuts (g.L.Spool.cuts c.pieces.spool) (length (g.L.Output.written c.pieces.spool)) xs) (sym more) ∙ i.cuts tells) o.spool.cut (ap length wrote ∙ length-append (g.L.Output.written c.pieces.spool) (piece_at b most all s));
+      ends = λ late. ends_then _ _ _ _ _ _ _ (i.ends late) (rw i.runs at (e.spool.ends late));
       laid = λ tells spool partition.
           let h : FirstPiece b all most s next = rw (i.runs, i.kept tells, i.limit) at (o.greatest_end tells) in
-          let long = g.met.R.BlockRuns.long c.args.cutter.now.runs _ (c.requires.opened tells) in
+          let long = g.met.R.BlockRuns.long c.args.cutter.now.runs _ (c.requires.ready.opened tells) in
           let more = ap (λ (t : Stage). frames_left most b all s t) is ∙ frames_more most b all s next st h (rw (← long) at at) in
-          ap (λ (p : List ℕ). flashed_all b p (frames_left most b all next st)) (rw (i.runs, i.kept tells) at (o.laid tells spool partition))
+          ap (λ (p : List ℕ). flashed_all b p (frames_left most b all next st)) (rw (i.runs, i.kept tells) at (o.partition.laid tells spool partition))
           ∙ sym (ap (λ (fs : List (List Block)). flashed_all b (g.P.Source.content c.pieces.partition) fs) more)
           ∙ i.laid tells spool partition;
       so_far = λ tells spool partition.
           let h : FirstPiece b all most s next = rw (i.runs, i.kept tells, i.limit) at (o.greatest_end tells) in
-          let good = g.met.R.BlockRuns.are_blocks c.args.cutter.now.runs _ (c.requires.opened tells) in
+          let good = g.met.R.BlockRuns.are_blocks c.args.cutter.now.runs _ (c.requires.ready.opened tells) in
           let before = i.so_far tells spool partition in
           let from = before.0 in
-          (omega (arith, from, h.order), laid_next b (g.P.Source.content c.args.partition.now) (g.P.Source.content c.pieces.partition) (g.P.Source.content c.deliver_piece.new.partition) all c.args.cutter.now.start.block s next (g.met.R.BlockRuns.sized c.args.cutter.now.runs).1 good from h.order h.within before.1 (rw (i.runs, i.kept tells) at (o.laid tells spool partition)));
+          (omega (arith, from, h.order), laid_next b (g.P.Source.content c.args.partition.now) (g.P.Source.content c.pieces.partition) (g.P.Source.content c.deliver_piece.new.partition) all c.args.cutter.now.start.block s next (g.met.R.BlockRuns.sized c.args.cutter.now.runs).1 good from h.order h.within before.1 (rw (i.runs, i.kept tells) at (o.partition.laid tells spool partition)));
       stays = λ tells spool partition p done le entry.
           let h : FirstPiece b all most s next = rw (i.runs, i.kept tells, i.limit) at (o.greatest_end tells) in
-          let long = g.met.R.BlockRuns.long c.args.cutter.now.runs _ (c.requires.opened tells) in
-          let good = g.met.R.BlockRuns.are_blocks c.args.cutter.now.runs _ (c.requires.opened tells) in
+          let long = g.met.R.BlockRuns.long c.args.cutter.now.runs _ (c.requires.ready.opened tells) in
+          let good = g.met.R.BlockRuns.are_blocks c.args.cutter.now.runs _ (c.requires.ready.opened tells) in
           let sized = g.met.R.BlockRuns.sized c.args.cutter.now.runs in
           let granted : 64 + b ≤ c.args.cutter.now.limit = c.args.cutter.now.sound.granted in
           let small : c.args.cutter.now.limit < 2 ^ 32 = omega arith in
@@ -165,30 +167,30 @@ pieces-preserved g c =
           let then_on = behind most b all (c.pieces.cutter.made + 1) next st behind_it (stands_left (length all) next st (rw (← long) at at)) h.within in
           staying_more most b all p c.args.cutter.now.made (g.P.Partition.past c.args.partition.now).synced c.pieces.cutter.made s (g.P.Partition.past c.args.partition.now).moments
           (g.P.Partition.past c.pieces.partition) (g.P.Partition.past c.deliver_piece.new.partition) (g.P.Source.content c.pieces.partition) (g.P.Source.content c.deliver_piece.new.partition)
-          size good (omega (arith, h.order, h.within)) i.synced i.order here.blocks (i.stays tells spool partition p done le entry) (rw (i.runs, i.kept tells, i.limit) at (e.touches tells spool partition).moments)
-          next h.order h.within o.synced then_on.blocks (o.settled partition) (rw (i.runs, i.kept tells) at (o.laid tells spool partition));
-      settled = λ tells lt. o.settled tells;
-      synced = synced_on _ _ _ _ _ _ i.synced o.synced o.behind.made;
+          size good (omega (arith, h.order, h.within)) i.synced i.order here.blocks (i.stays tells spool partition p done le entry) (rw (i.runs, i.kept tells, i.limit) at (e.partition.touches tells spool partition).moments)
+          next h.order h.within o.partition.synced then_on.blocks (o.partition.settled partition) (rw (i.runs, i.kept tells) at (o.partition.laid tells spool partition));
+      settled = λ tells lt. o.partition.settled tells;
+      synced = synced_on _ _ _ _ _ _ i.synced o.partition.synced o.behind.made;
       blocks = λ tells spool.
           let h : FirstPiece b all most s next = rw (i.runs, i.kept tells, i.limit) at (o.greatest_end tells) in
-          blocks_on b _ _ _ _ _ _ (rw (i.runs, i.kept tells) at (o.blocks tells spool)) (written_more all s next h.order) (i.blocks tells spool);
-      given = up_on _ _ _ i.given e.work.given;
-      spool_given = up_on _ _ _ i.spool_given e.work.spool_given;
-      grown = up_on _ _ _ i.grown e.work.grown;
-      taken = up_on _ _ _ i.taken e.work.taken;
-      long = long_on _ _ _ _ _ _ _ _ _ (rw i.runs at o.takes) i.long o.behind.made;
-      back = λ tells spool. back_on _ _ _ _ _ _ (o.back tells spool) (i.back tells spool);
-      spent = λ tells d. spent_more (given c.args.source.now) (given c.pieces.source) (given c.deliver_piece.new.source) (passes c.args.cutter.now.start) (passes c.pieces.cutter.start) (passes c.deliver_piece.new.cutter.start) c.args.cutter.now.made c.pieces.cutter.made c.deliver_piece.new.cutter.made each o.behind.made (rw i.runs at (o.spent tells)) (i.spent tells is);
-      spent_end = λ tells d. spent_last (given c.args.source.now) (given c.pieces.source) (given c.deliver_piece.new.source) (passes c.args.cutter.now.start) (passes c.pieces.cutter.start) (passes c.deliver_piece.new.cutter.start) c.args.cutter.now.made c.pieces.cutter.made c.deliver_piece.new.cutter.made each last o.behind.made ((rw i.runs at (o.spent_end tells)) (unbroken.done d).1) (i.spent tells is);
-      calls = calls_on _ _ _ _ _ _ _ _ _ e.calls i.calls o.behind.made;
-      turns = turns_on _ _ _ _ _ _ _ _ _ _ _ _ _ c.tick.ensures.turns (rw i.runs at o.words) words (rw is at i.turns) o.behind.made;
-      steps = steps_on _ _ _ _ _ _ _ e.work.steps i.steps c.tick.ensures.steps;
-      greatest = greatest_on _ _ _ _ e.work.greatest i.greatest c.tick.ensures.greatest;
-      read_faults = o.clean.read ∙ i.read_faults;
-      write_faults = o.clean.write ∙ i.write_faults;
-      spool_faults = o.clean.spool ∙ i.spool_faults;
-      put_faults = o.clean.put ∙ i.put_faults;
-      unsynced = unsynced_on _ _ _ _ _ _ i.unsynced o.unsynced;
+          blocks_on b _ _ _ _ _ _ (rw (i.runs, i.kept tells) at (o.partition.blocks tells spool)) (written_more all s next h.order) (i.blocks tells spool);
+      given = up_on _ _ _ i.given e.work.work.given;
+      spool_given = up_on _ _ _ i.spool_given e.work.work.spool_given;
+      grown = up_on _ _ _ i.grown e.work.work.grown;
+      taken = up_on _ _ _ i.taken e.work.work.taken;
+      long = long_on _ _ _ _ _ _ _ _ _ (rw i.runs at o.takes.takes) i.long o.behind.made;
+      back = λ tells spool. back_on _ _ _ _ _ _ (o.spool.back tells spool) (i.back tells spool);
+      spent = λ tells d. spent_more (given c.args.source.now) (given c.pieces.source) (given c.deliver_piece.new.source) (passes c.args.cutter.now.start) (passes c.pieces.cutter.start) (passes c.deliver_piece.new.cutter.start) c.args.cutter.now.made c.pieces.cutter.made c.deliver_piece.new.cutter.made each o.behind.made (rw i.runs at (o.takes.spent tells)) (i.spent tells is);
+      spent_end = λ tells d. spent_last (given c.args.source.now) (given c.pieces.source) (given c.deliver_piece.new.source) (passes c.args.cutter.now.start) (passes c.pieces.cutter.start) (passes c.deliver_piece.new.cutter.start) c.args.cutter.now.made c.pieces.cutter.made c.deliver_piece.new.cutter.made each last o.behind.made ((rw i.runs at (o.takes.spent_end tells)) (unbroken.done d).1) (i.spent tells is);
+      calls = calls_on _ _ _ _ _ _ _ _ _ e.work.calls i.calls o.behind.made;
+      turns = turns_on _ _ _ _ _ _ _ _ _ _ _ _ _ c.tick.ensures.turns (rw i.runs at o.work.words_most) words (rw is at i.turns) o.behind.made;
+      steps = steps_on _ _ _ _ _ _ _ e.work.work.steps i.steps c.tick.ensures.steps;
+      greatest = greatest_on _ _ _ _ e.work.work.greatest i.greatest c.tick.ensures.greatest;
+      read_faults = o.fails.clean.read ∙ i.read_faults;
+      write_faults = o.fails.clean.write ∙ i.write_faults;
+      spool_faults = o.fails.clean.spool ∙ i.spool_faults;
+      put_faults = o.fails.clean.put ∙ i.put_faults;
+      unsynced = unsynced_on _ _ _ _ _ _ i.unsynced o.partition.unsynced;
     }
 
 pub pieces-smaller : goal.pieces-smaller
@@ -208,62 +210,92 @@ all_written g c tells =
     let all = g.R.BlockRuns.list c.args.cutter.now.runs (g.S.Source.content c.args.source.now) in
     let most = c.args.cutter.now.limit in
     let is : c.pieces.cutter.stage ≡ Done = now_done _ _ _ _ i.unbroken (sym c.more.ensures ∙ c.if-not-more.true) in
-    let long = g.met.R.BlockRuns.long c.args.cutter.now.runs _ (c.requires.opened tells) in
+    let long = g.met.R.BlockRuns.long c.args.cutter.now.runs _ (c.requires.ready.opened tells) in
     let within = g.met.R.BlockRuns.bounded c.args.cutter.now.runs _ c.args.cutter.now.sound.within in
-    let here = behind most b all c.args.cutter.now.made c.args.cutter.now.start.block Between (rw c.requires.between at (c.requires.told tells).cuts) (inl refl) (omega (arith, long, within)) in
+    let here = behind most b all c.args.cutter.now.made c.args.cutter.now.start.block Between (rw c.requires.comes.between at (c.requires.ready.told tells).cuts) (inl refl) (omega (arith, long, within)) in
     let all_of = pieces_behind_are most b all c.args.cutter.now.made c.args.cutter.now.start.block Between here in
     sym (append-nil (g.L.Output.written c.pieces.spool))
     ∙ sym (ap (λ (st : Stage). g.L.Output.written c.pieces.spool ++ concat (pieces_left most b all c.pieces.cutter.start.block st)) is)
     ∙ i.written tells
     ∙ ap (λ (xs : List (List ℕ)). g.L.Output.written c.args.spool.now ++ concat xs) (sym all_of)
 
-pub returns-then-not-more-clause-written : goal.returns-then-not-more-clause-written
-returns-then-not-more-clause-written g c tells = rw c.delivered.ensures (all_written g ((goal.at.returns-then-not-more-clause-written g c).Then-not-more) tells)
+pub returns-then-not-more-clause-spool : goal.returns-then-not-more-clause-spool
+returns-then-not-more-clause-spool g c = record {
+  room = c.pieces.invariant.capacity;
+  fits = c.pieces.invariant.fits;
+  written = λ tells. rw c.delivered.ensures (all_written g ((goal.at.returns-then-not-more-clause-spool g c).Then-not-more) tells);
+  cuts = λ tells.
+      let i = c.pieces.invariant in
+      let b = g.R.BlockRuns.size c.args.cutter.now.runs in
+      let all = g.R.BlockRuns.list c.args.cutter.now.runs (g.S.Source.content c.args.source.now) in
+      let most = c.args.cutter.now.limit in
+      let is : c.pieces.cutter.stage ≡ Done = now_done _ _ _ _ i.unbroken (sym c.more.ensures ∙ c.if-not-more.true) in
+      let long = g.met.R.BlockRuns.long c.args.cutter.now.runs _ (c.requires.ready.opened tells) in
+      let within = g.met.R.BlockRuns.bounded c.args.cutter.now.runs _ c.args.cutter.now.sound.within in
+      let here = behind most b all c.args.cutter.now.made c.args.cutter.now.start.block Between (rw c.requires.comes.between at (c.requires.ready.told tells).cuts) (inl refl) (omega (arith, long, within)) in
+      let all_of = pieces_behind_are most b all c.args.cutter.now.made c.args.cutter.now.start.block Between here in
+      rw c.delivered.ensures (
+      sym (ap (λ (st : Stage). with_cuts (g.L.Spool.cuts c.pieces.spool) (length (g.L.Output.written c.pieces.spool)) (pieces_left most b all c.pieces.cutter.start.block st)) is)
+      ∙ i.cuts tells
+      ∙ ap (λ (xs : List (List ℕ)). with_cuts (g.L.Spool.cuts c.args.spool.now) (length (g.L.Output.written c.args.spool.now)) xs) (sym all_of));
+  begins = λ forward tells.
+      let i = c.pieces.invariant in
+      let b = g.R.BlockRuns.size c.args.cutter.now.runs in
+      let all = g.R.BlockRuns.list c.args.cutter.now.runs (g.S.Source.content c.args.source.now) in
+      let most = c.args.cutter.now.limit in
+      let long = g.met.R.BlockRuns.long c.args.cutter.now.runs _ (c.requires.ready.opened tells) in
+      let within = g.met.R.BlockRuns.bounded c.args.cutter.now.runs _ c.args.cutter.now.sound.within in
+      let here = behind most b all c.args.cutter.now.made c.args.cutter.now.start.block Between (rw c.requires.comes.between at (c.requires.ready.told tells).cuts) (inl refl) (omega (arith, long, within)) in
+      let all_of = pieces_behind_are most b all c.args.cutter.now.made c.args.cutter.now.start.block Between here in
+      record {
+        more = concat (pieces_left most b all c.pieces.cutter.start.block c.pieces.cutter.stage);
+        joined = i.written tells ∙ ap (λ (xs : List (List ℕ)). g.L.Output.written c.args.spool.now ++ concat xs) (sym all_of);
+      };
+  no_part = λ late tells. no_part_all _ _ (g.L.Spool.cuts c.pieces.spool) _ (all_written g ((goal.at.returns-then-not-more-clause-spool g c).Then-not-more) tells);
+  ends = λ late. c.pieces.invariant.ends late;
+  back = λ tells spool. rw c.delivered.ensures (c.pieces.invariant.back tells spool);
+}
 
-pub returns-then-not-more-clause-cuts : goal.returns-then-not-more-clause-cuts
-returns-then-not-more-clause-cuts g c tells =
-    let i = c.pieces.invariant in
-    let b = g.R.BlockRuns.size c.args.cutter.now.runs in
-    let all = g.R.BlockRuns.list c.args.cutter.now.runs (g.S.Source.content c.args.source.now) in
-    let most = c.args.cutter.now.limit in
-    let is : c.pieces.cutter.stage ≡ Done = now_done _ _ _ _ i.unbroken (sym c.more.ensures ∙ c.if-not-more.true) in
-    let long = g.met.R.BlockRuns.long c.args.cutter.now.runs _ (c.requires.opened tells) in
-    let within = g.met.R.BlockRuns.bounded c.args.cutter.now.runs _ c.args.cutter.now.sound.within in
-    let here = behind most b all c.args.cutter.now.made c.args.cutter.now.start.block Between (rw c.requires.between at (c.requires.told tells).cuts) (inl refl) (omega (arith, long, within)) in
-    let all_of = pieces_behind_are most b all c.args.cutter.now.made c.args.cutter.now.start.block Between here in
-    rw c.delivered.ensures (
-    sym (ap (λ (st : Stage). with_cuts (g.L.Spool.cuts c.pieces.spool) (length (g.L.Output.written c.pieces.spool)) (pieces_left most b all c.pieces.cutter.start.block st)) is)
-    ∙ i.cuts tells
-    ∙ ap (λ (xs : List (List ℕ)). with_cuts (g.L.Spool.cuts c.args.spool.now) (length (g.L.Output.written c.args.spool.now)) xs) (sym all_of))
-
-pub returns-then-not-more-clause-begins : goal.returns-then-not-more-clause-begins
-returns-then-not-more-clause-begins g c forward tells =
-    let i = c.pieces.invariant in
-    let b = g.R.BlockRuns.size c.args.cutter.now.runs in
-    let all = g.R.BlockRuns.list c.args.cutter.now.runs (g.S.Source.content c.args.source.now) in
-    let most = c.args.cutter.now.limit in
-    let long = g.met.R.BlockRuns.long c.args.cutter.now.runs _ (c.requires.opened tells) in
-    let within = g.met.R.BlockRuns.bounded c.args.cutter.now.runs _ c.args.cutter.now.sound.within in
-    let here = behind most b all c.args.cutter.now.made c.args.cutter.now.start.block Between (rw c.requires.between at (c.requires.told tells).cuts) (inl refl) (omega (arith, long, within)) in
-    let all_of = pieces_behind_are most b all c.args.cutter.now.made c.args.cutter.now.start.block Between here in
-    record {
-      more = concat (pieces_left most b all c.pieces.cutter.start.block c.pieces.cutter.stage);
-      joined = i.written tells ∙ ap (λ (xs : List (List ℕ)). g.L.Output.written c.args.spool.now ++ concat xs) (sym all_of);
-    }
-
-pub returns-then-not-more-clause-laid : goal.returns-then-not-more-clause-laid
-returns-then-not-more-clause-laid g c tells spool partition =
-    let i = c.pieces.invariant in
-    let b = g.R.BlockRuns.size c.args.cutter.now.runs in
-    let all = g.R.BlockRuns.list c.args.cutter.now.runs (g.S.Source.content c.args.source.now) in
-    let most = c.args.cutter.now.limit in
-    let is : c.pieces.cutter.stage ≡ Done = now_done _ _ _ _ i.unbroken (sym c.more.ensures ∙ c.if-not-more.true) in
-    let good = g.met.R.BlockRuns.are_blocks c.args.cutter.now.runs _ (c.requires.opened tells) in
-    let sized = g.met.R.BlockRuns.sized c.args.cutter.now.runs in
-    rw c.delivered.ensures (
-    sym (ap (λ (st : Stage). flashed_all b (g.P.Source.content c.pieces.partition) (frames_left most b all c.pieces.cutter.start.block st)) is)
-    ∙ i.laid tells spool partition
-    ∙ laid_left most b (g.P.Source.content c.args.partition.now) all c.args.cutter.now.start.block Between sized.1 good (inl refl))
+pub returns-then-not-more-clause-partition : goal.returns-then-not-more-clause-partition
+returns-then-not-more-clause-partition g c = record {
+  size = c.pieces.invariant.size;
+  unread = c.pieces.invariant.unread;
+  laid = λ tells spool partition.
+      let i = c.pieces.invariant in
+      let b = g.R.BlockRuns.size c.args.cutter.now.runs in
+      let all = g.R.BlockRuns.list c.args.cutter.now.runs (g.S.Source.content c.args.source.now) in
+      let most = c.args.cutter.now.limit in
+      let is : c.pieces.cutter.stage ≡ Done = now_done _ _ _ _ i.unbroken (sym c.more.ensures ∙ c.if-not-more.true) in
+      let good = g.met.R.BlockRuns.are_blocks c.args.cutter.now.runs _ (c.requires.ready.opened tells) in
+      let sized = g.met.R.BlockRuns.sized c.args.cutter.now.runs in
+      rw c.delivered.ensures (
+      sym (ap (λ (st : Stage). flashed_all b (g.P.Source.content c.pieces.partition) (frames_left most b all c.pieces.cutter.start.block st)) is)
+      ∙ i.laid tells spool partition
+      ∙ laid_left most b (g.P.Source.content c.args.partition.now) all c.args.cutter.now.start.block Between sized.1 good (inl refl));
+  laid_up_to = λ tells spool partition. rw c.delivered.ensures tt;
+  settled = λ tells.
+      let i = c.pieces.invariant in
+      rw c.delivered.ensures (i.settled tells (i.some (now_done _ _ _ _ i.unbroken (sym c.more.ensures ∙ c.if-not-more.true))));
+  synced =
+      let i = c.pieces.invariant in
+      let synced = i.synced in
+      let same = i.same_made in
+      let order = i.order in
+      rw c.delivered.ensures (omega (arith, synced, same, order));
+  unsynced =
+      let unsynced = c.pieces.invariant.unsynced in
+      rw c.delivered.ensures (omega (arith, unsynced));
+  blocks = λ tells spool.
+      let i = c.pieces.invariant in
+      let b = g.R.BlockRuns.size c.args.cutter.now.runs in
+      let all = g.R.BlockRuns.list c.args.cutter.now.runs (g.S.Source.content c.args.source.now) in
+      let is : c.pieces.cutter.stage ≡ Done = now_done _ _ _ _ i.unbroken (sym c.more.ensures ∙ c.if-not-more.true) in
+      let long = g.met.R.BlockRuns.long c.args.cutter.now.runs _ (c.requires.ready.opened tells) in
+      let end : g.R.BlockRuns.count c.args.cutter.now.runs ≤ c.pieces.cutter.start.block = (i.unbroken.done is).1 in
+      let none = ap (λ (l : List Block). b * written_in l) (drop_all c.pieces.cutter.start.block all (omega (arith, long, end))) in
+      let blocks = i.blocks tells spool in
+      rw c.delivered.ensures (omega (arith, none, blocks));
+}
 
 pub returns-then-not-more-clause-stays : goal.returns-then-not-more-clause-stays
 returns-then-not-more-clause-stays g c tells spool partition =
@@ -272,7 +304,7 @@ returns-then-not-more-clause-stays g c tells spool partition =
     let all = g.R.BlockRuns.list c.args.cutter.now.runs (g.S.Source.content c.args.source.now) in
     let most = c.args.cutter.now.limit in
     let is : c.pieces.cutter.stage ≡ Done = now_done _ _ _ _ i.unbroken (sym c.more.ensures ∙ c.if-not-more.true) in
-    let long = g.met.R.BlockRuns.long c.args.cutter.now.runs _ (c.requires.opened tells) in
+    let long = g.met.R.BlockRuns.long c.args.cutter.now.runs _ (c.requires.ready.opened tells) in
     let end : g.R.BlockRuns.count c.args.cutter.now.runs ≤ c.pieces.cutter.start.block = (i.unbroken.done is).1 in
     let within : c.pieces.cutter.start.block ≤ g.R.BlockRuns.count c.args.cutter.now.runs = rw i.runs at (g.met.R.BlockRuns.bounded c.pieces.cutter.runs _ c.pieces.cutter.sound.within) in
     let here = behind most b all c.pieces.cutter.made c.pieces.cutter.start.block Done (rw (i.limit, is) at (i.told tells).cuts) (inr (refl, omega (arith, long, end))) (omega (arith, long, within)) in
@@ -294,39 +326,55 @@ returns-then-not-more-clause-spent g c tells =
 
 -- ---- what stands in the spool, headers last
 
-pub returns-then-not-more-clause-no_part : goal.returns-then-not-more-clause-no_part
-returns-then-not-more-clause-no_part g c late tells = no_part_all _ _ (g.L.Spool.cuts c.pieces.spool) _ (all_written g ((goal.at.returns-then-not-more-clause-no_part g c).Then-not-more) tells)
-
-pub returns-then-not-more-clause-ends : goal.returns-then-not-more-clause-ends
-returns-then-not-more-clause-ends g c late = c.pieces.invariant.ends late
-
-pub returns-in-Err-clause-ends : goal.returns-in-Err-clause-ends
-returns-in-Err-clause-ends g c late = let i = c.pieces.invariant in ends_then _ _ _ _ _ _ _ (i.ends late) (rw i.runs at (c.deliver_piece.ensures.ends late))
-
-pub returns-in-Err-clause-no_part : goal.returns-in-Err-clause-no_part
-returns-in-Err-clause-no_part g c late tells =
-    let i = c.pieces.invariant in
-    let b = g.R.BlockRuns.size c.args.cutter.now.runs in
-    let all = g.R.BlockRuns.list c.args.cutter.now.runs (g.S.Source.content c.args.source.now) in
-    let most = c.args.cutter.now.limit in
-    let s = c.pieces.cutter.start.block in
-    let first = c.args.cutter.now.made in
-    let made = c.pieces.cutter.made in
-    let is : c.pieces.cutter.stage ≡ Between = still_between _ _ _ _ i.unbroken (sym c.more.ensures ∙ c.if-not-more.false) in
-    let long = g.met.R.BlockRuns.long c.args.cutter.now.runs _ (c.requires.opened tells) in
-    let bounded = g.met.R.BlockRuns.bounded c.args.cutter.now.runs _ c.args.cutter.now.sound.within in
-    let within : s ≤ g.R.BlockRuns.count c.args.cutter.now.runs = rw i.runs at (g.met.R.BlockRuns.bounded c.pieces.cutter.runs _ c.pieces.cutter.sound.within) in
-    let here = behind most b all first c.args.cutter.now.start.block Between (rw c.requires.between at (c.requires.told tells).cuts) (inl refl) (omega (arith, long, bounded)) in
-    let there = behind most b all made s Between (rw (i.limit, is) at (i.told tells).cuts) (inl refl) (omega (arith, long, within)) in
-    let all_of = pieces_behind_are most b all first c.args.cutter.now.start.block Between here in
-    let left = pieces_behind_are most b all made s Between there in
-    let front = pieces_front most b all s (omega (arith, long, within)) in
-    let order = i.order in
-    let then : drop (made - first) (pieces_behind most b all first) ≡ pieces_left most b all s Between =
-    drop-drop (made - first) first (pieces most b all) ∙ ap (λ (n : ℕ). drop n (pieces most b all)) (let z : first + (made - first) ≡ made = omega (arith, order) in z) ∙ left in
-    let wrote = so_far (g.L.Output.written c.args.spool.now) (g.L.Output.written c.pieces.spool) (pieces_behind most b all first) (made - first)
-    (ap (λ (xs : List (List ℕ)). g.L.Output.written c.pieces.spool ++ concat xs) (then ∙ ap (λ (t : Stage). pieces_left most b all s t) (sym is)) ∙ i.written tells ∙ ap (λ (xs : List (List ℕ)). g.L.Output.written c.args.spool.now ++ concat xs) (sym all_of)) in
-    no_part_then _ _ _ (g.L.Spool.cuts c.deliver_piece.new.spool) _ (made - first) (piece_at b most all s) front.0 wrote (then ∙ front.1) (rw (i.runs, i.kept tells, i.limit) at (c.deliver_piece.ensures.no_part late tells))
+pub returns-in-Err-clause-spool : goal.returns-in-Err-clause-spool
+returns-in-Err-clause-spool g c = record {
+  room = c.deliver_piece.ensures.spool.capacity ∙ c.pieces.invariant.capacity;
+  fits = fits_then _ _ _ _ _ _ _ c.pieces.invariant.fits (rw c.pieces.invariant.limit at c.deliver_piece.ensures.spool.fits);
+  written = λ tells. tt;
+  cuts = λ tells. tt;
+  begins = λ forward tells.
+      let i = c.pieces.invariant in
+      let b = g.R.BlockRuns.size c.args.cutter.now.runs in
+      let all = g.R.BlockRuns.list c.args.cutter.now.runs (g.S.Source.content c.args.source.now) in
+      let most = c.args.cutter.now.limit in
+      let s = c.pieces.cutter.start.block in
+      let is : c.pieces.cutter.stage ≡ Between = still_between _ _ _ _ i.unbroken (sym c.more.ensures ∙ c.if-not-more.false) in
+      let long = g.met.R.BlockRuns.long c.args.cutter.now.runs _ (c.requires.ready.opened tells) in
+      let first = g.met.R.BlockRuns.bounded c.args.cutter.now.runs _ c.args.cutter.now.sound.within in
+      let within : s ≤ g.R.BlockRuns.count c.args.cutter.now.runs = rw i.runs at (g.met.R.BlockRuns.bounded c.pieces.cutter.runs _ c.pieces.cutter.sound.within) in
+      let here = behind most b all c.args.cutter.now.made c.args.cutter.now.start.block Between (rw c.requires.comes.between at (c.requires.ready.told tells).cuts) (inl refl) (omega (arith, long, first)) in
+      let all_of = pieces_behind_are most b all c.args.cutter.now.made c.args.cutter.now.start.block Between here in
+      let front = pieces_front most b all s (omega (arith, long, within)) in
+      let more = ap (λ (t : Stage). pieces_left most b all s t) is ∙ front.1 in
+      begins_then (g.L.Output.written c.pieces.spool) (g.L.Output.written c.deliver_piece.new.spool) _ (piece_at b most all s) front.0
+      (ap (λ (xs : List (List ℕ)). g.L.Output.written c.pieces.spool ++ concat xs) (sym more) ∙ i.written tells ∙ ap (λ (xs : List (List ℕ)). g.L.Output.written c.args.spool.now ++ concat xs) (sym all_of))
+      (rw (i.runs, i.kept tells, i.limit) at (c.deliver_piece.ensures.spool.begins forward tells));
+  no_part = λ late tells.
+      let i = c.pieces.invariant in
+      let b = g.R.BlockRuns.size c.args.cutter.now.runs in
+      let all = g.R.BlockRuns.list c.args.cutter.now.runs (g.S.Source.content c.args.source.now) in
+      let most = c.args.cutter.now.limit in
+      let s = c.pieces.cutter.start.block in
+      let first = c.args.cutter.now.made in
+      let made = c.pieces.cutter.made in
+      let is : c.pieces.cutter.stage ≡ Between = still_between _ _ _ _ i.unbroken (sym c.more.ensures ∙ c.if-not-more.false) in
+      let long = g.met.R.BlockRuns.long c.args.cutter.now.runs _ (c.requires.ready.opened tells) in
+      let bounded = g.met.R.BlockRuns.bounded c.args.cutter.now.runs _ c.args.cutter.now.sound.within in
+      let within : s ≤ g.R.BlockRuns.count c.args.cutter.now.runs = rw i.runs at (g.met.R.BlockRuns.bounded c.pieces.cutter.runs _ c.pieces.cutter.sound.within) in
+      let here = behind most b all first c.args.cutter.now.start.block Between (rw c.requires.comes.between at (c.requires.ready.told tells).cuts) (inl refl) (omega (arith, long, bounded)) in
+      let there = behind most b all made s Between (rw (i.limit, is) at (i.told tells).cuts) (inl refl) (omega (arith, long, within)) in
+      let all_of = pieces_behind_are most b all first c.args.cutter.now.start.block Between here in
+      let left = pieces_behind_are most b all made s Between there in
+      let front = pieces_front most b all s (omega (arith, long, within)) in
+      let order = i.order in
+      let then : drop (made - first) (pieces_behind most b all first) ≡ pieces_left most b all s Between =
+      drop-drop (made - first) first (pieces most b all) ∙ ap (λ (n : ℕ). drop n (pieces most b all)) (let z : first + (made - first) ≡ made = omega (arith, order) in z) ∙ left in
+      let wrote = so_far (g.L.Output.written c.args.spool.now) (g.L.Output.written c.pieces.spool) (pieces_behind most b all first) (made - first)
+      (ap (λ (xs : List (List ℕ)). g.L.Output.written c.pieces.spool ++ concat xs) (then ∙ ap (λ (t : Stage). pieces_left most b all s t) (sym is)) ∙ i.written tells ∙ ap (λ (xs : List (List ℕ)). g.L.Output.written c.args.spool.now ++ concat xs) (sym all_of)) in
+      no_part_then _ _ _ (g.L.Spool.cuts c.deliver_piece.new.spool) _ (made - first) (piece_at b most all s) front.0 wrote (then ∙ front.1) (rw (i.runs, i.kept tells, i.limit) at (c.deliver_piece.ensures.spool.no_part late tells));
+  ends = λ late. let i = c.pieces.invariant in ends_then _ _ _ _ _ _ _ (i.ends late) (rw i.runs at (c.deliver_piece.ensures.spool.ends late));
+  back = λ tells spool. tt;
+}
 
 -- ---- where a piece was stopped
 
@@ -339,44 +387,65 @@ refused_stop j (causes.SpoolWrite d) = refl
 refused_stop j (causes.SpoolRead d) = refl
 refused_stop j causes.SpoolChanged = refl
 
-pub returns-in-Err-clause-unsynced : goal.returns-in-Err-clause-unsynced
-returns-in-Err-clause-unsynced g c =
-    let i = c.pieces.invariant in
-    let one = c.in-Err.ensures.unsynced in
-    let same = refused_stop c.next_number-piece.result c.in-Err.cause in
-    omega (arith, one, same, i.unsynced)
+pub returns-in-Err-clause-partition : goal.returns-in-Err-clause-partition
+returns-in-Err-clause-partition g c = record {
+  size = c.deliver_piece.ensures.partition.size ∙ c.pieces.invariant.size;
+  unread = (c.deliver_piece.ensures.partition.unread.0 ∙ c.pieces.invariant.unread.0, c.deliver_piece.ensures.partition.unread.1 ∙ c.pieces.invariant.unread.1);
+  laid = λ tells spool partition. tt;
+  laid_up_to = λ tells spool partition.
+      let i = c.pieces.invariant in
+      let e = c.in-Err.ensures in
+      let b = g.R.BlockRuns.size c.args.cutter.now.runs in
+      let all = g.R.BlockRuns.list c.args.cutter.now.runs (g.S.Source.content c.args.source.now) in
+      let most = c.args.cutter.now.limit in
+      let s = c.pieces.cutter.start.block in
+      let next = c.deliver_piece.new.cutter.start.block in
+      let is : c.pieces.cutter.stage ≡ Between = still_between _ _ _ _ i.unbroken (sym c.more.ensures ∙ c.if-not-more.false) in
+      let long = g.met.R.BlockRuns.long c.args.cutter.now.runs _ (c.requires.ready.opened tells) in
+      let good = g.met.R.BlockRuns.are_blocks c.args.cutter.now.runs _ (c.requires.ready.opened tells) in
+      let within : s ≤ g.R.BlockRuns.count c.args.cutter.now.runs = rw i.runs at (g.met.R.BlockRuns.bounded c.pieces.cutter.runs _ c.pieces.cutter.sound.within) in
+      let here = behind most b all c.pieces.cutter.made s Between (rw (i.limit, is) at (i.told tells).cuts) (inl refl) (omega (arith, long, within)) in
+      let before = i.so_far tells spool partition in
+      let ends = rw (i.runs, i.kept tells, i.limit) at (e.greatest_end tells) in
+      let laid = rw (i.runs, i.kept tells) at (e.partition.laid tells spool partition) in
+      let old = g.P.Source.content c.args.partition.now in
+      let new = g.P.Source.content c.deliver_piece.new.partition in
+      let first = c.args.cutter.now.start.block in
+      let P = λ (j : ℕ). new ≡ over old (cells b (blocks_up_to first (blocks_in_first most b all j) all)) in
+      stopped_unsynced c.next_number-piece.result c.in-Err.cause (FirstPiece b all most s next × (new ≡ over (g.P.Source.content c.pieces.partition) (cells b (frame all s next)))) P
+      (λ both. rw (c.next_number-piece.ensures, first_more most b all c.pieces.cutter.made s next here both.0) (laid_next b old (g.P.Source.content c.pieces.partition) new all first s next (g.met.R.BlockRuns.sized c.args.cutter.now.runs).1 good before.0 both.0.order both.0.within before.1 both.1))
+      (both_flashed c.in-Err.cause _ _ ends laid);
+  settled = λ tells. tt;
+  synced =
+      let i = c.pieces.invariant in
+      let synced = c.in-Err.ensures.partition.synced in
+      omega (arith, synced, i.synced, c.next_number-piece.ensures);
+  unsynced =
+      let i = c.pieces.invariant in
+      let one = c.in-Err.ensures.partition.unsynced in
+      let same = refused_stop c.next_number-piece.result c.in-Err.cause in
+      omega (arith, one, same, i.unsynced);
+  blocks = λ tells spool. tt;
+}
 
-pub returns-in-Err-clause-laid_up_to : goal.returns-in-Err-clause-laid_up_to
-returns-in-Err-clause-laid_up_to g c tells spool partition =
-    let i = c.pieces.invariant in
-    let e = c.in-Err.ensures in
-    let b = g.R.BlockRuns.size c.args.cutter.now.runs in
-    let all = g.R.BlockRuns.list c.args.cutter.now.runs (g.S.Source.content c.args.source.now) in
-    let most = c.args.cutter.now.limit in
-    let s = c.pieces.cutter.start.block in
-    let next = c.deliver_piece.new.cutter.start.block in
-    let is : c.pieces.cutter.stage ≡ Between = still_between _ _ _ _ i.unbroken (sym c.more.ensures ∙ c.if-not-more.false) in
-    let long = g.met.R.BlockRuns.long c.args.cutter.now.runs _ (c.requires.opened tells) in
-    let good = g.met.R.BlockRuns.are_blocks c.args.cutter.now.runs _ (c.requires.opened tells) in
-    let within : s ≤ g.R.BlockRuns.count c.args.cutter.now.runs = rw i.runs at (g.met.R.BlockRuns.bounded c.pieces.cutter.runs _ c.pieces.cutter.sound.within) in
-    let here = behind most b all c.pieces.cutter.made s Between (rw (i.limit, is) at (i.told tells).cuts) (inl refl) (omega (arith, long, within)) in
-    let before = i.so_far tells spool partition in
-    let ends = rw (i.runs, i.kept tells, i.limit) at (e.greatest_end tells) in
-    let laid = rw (i.runs, i.kept tells) at (e.laid tells spool partition) in
-    let old = g.P.Source.content c.args.partition.now in
-    let new = g.P.Source.content c.deliver_piece.new.partition in
-    let first = c.args.cutter.now.start.block in
-    let P = λ (j : ℕ). new ≡ over old (cells b (blocks_up_to first (blocks_in_first most b all j) all)) in
-    stopped_unsynced c.next_number-piece.result c.in-Err.cause (FirstPiece b all most s next × (new ≡ over (g.P.Source.content c.pieces.partition) (cells b (frame all s next)))) P
-    (λ both. rw (c.next_number-piece.ensures, first_more most b all c.pieces.cutter.made s next here both.0) (laid_next b old (g.P.Source.content c.pieces.partition) new all first s next (g.met.R.BlockRuns.sized c.args.cutter.now.runs).1 good before.0 both.0.order both.0.within before.1 both.1))
-    (both_flashed c.in-Err.cause _ _ ends laid)
-
-pub returns-in-Err-clause-stops : goal.returns-in-Err-clause-stops
-returns-in-Err-clause-stops g c =
-    let i = c.pieces.invariant in
-    let order = i.order in
-    let next = c.next_number-piece.ensures in
-    (omega (arith, order, next), stops_since c.in-Err.cause _ _ _ _ _ (record { read = omega (arith, i.read_faults); write = omega (arith, i.write_faults); spool = omega (arith, i.spool_faults); put = omega (arith, i.put_faults) }) c.in-Err.ensures.cause)
+pub returns-in-Err-clause-fails : goal.returns-in-Err-clause-fails
+returns-in-Err-clause-fails g c = record {
+  faults =
+      let i = c.pieces.invariant in
+      let e = c.deliver_piece.ensures in
+      record {
+        read = omega (arith, i.read_faults, e.fails.faults.read);
+        write = omega (arith, i.write_faults, e.fails.faults.write);
+        spool = omega (arith, i.spool_faults, e.fails.faults.spool);
+        put = omega (arith, i.put_faults, e.fails.faults.put);
+      };
+  stops =
+      let i = c.pieces.invariant in
+      let order = i.order in
+      let next = c.next_number-piece.ensures in
+      (omega (arith, order, next), stops_since c.in-Err.cause _ _ _ _ _ (record { read = omega (arith, i.read_faults); write = omega (arith, i.write_faults); spool = omega (arith, i.spool_faults); put = omega (arith, i.put_faults) }) c.in-Err.ensures.fails.cause);
+  clean = tt;
+}
 
 pub returns-in-Err-clause-counted : goal.returns-in-Err-clause-counted
 returns-in-Err-clause-counted g c tells =
@@ -387,28 +456,6 @@ returns-in-Err-clause-counted g c tells =
     let left = one_left c.args.cutter.now.limit b all c.pieces.cutter.made c.pieces.cutter.start.block (rw (i.limit, is) at (i.told tells).cuts) in
     rw c.next_number-piece.ensures left
 
-pub returns-in-Err-clause-fits : goal.returns-in-Err-clause-fits
-returns-in-Err-clause-fits g c = fits_then _ _ _ _ _ _ _ c.pieces.invariant.fits (rw c.pieces.invariant.limit at c.deliver_piece.ensures.fits)
-
-pub returns-in-Err-clause-begins : goal.returns-in-Err-clause-begins
-returns-in-Err-clause-begins g c forward tells =
-    let i = c.pieces.invariant in
-    let b = g.R.BlockRuns.size c.args.cutter.now.runs in
-    let all = g.R.BlockRuns.list c.args.cutter.now.runs (g.S.Source.content c.args.source.now) in
-    let most = c.args.cutter.now.limit in
-    let s = c.pieces.cutter.start.block in
-    let is : c.pieces.cutter.stage ≡ Between = still_between _ _ _ _ i.unbroken (sym c.more.ensures ∙ c.if-not-more.false) in
-    let long = g.met.R.BlockRuns.long c.args.cutter.now.runs _ (c.requires.opened tells) in
-    let first = g.met.R.BlockRuns.bounded c.args.cutter.now.runs _ c.args.cutter.now.sound.within in
-    let within : s ≤ g.R.BlockRuns.count c.args.cutter.now.runs = rw i.runs at (g.met.R.BlockRuns.bounded c.pieces.cutter.runs _ c.pieces.cutter.sound.within) in
-    let here = behind most b all c.args.cutter.now.made c.args.cutter.now.start.block Between (rw c.requires.between at (c.requires.told tells).cuts) (inl refl) (omega (arith, long, first)) in
-    let all_of = pieces_behind_are most b all c.args.cutter.now.made c.args.cutter.now.start.block Between here in
-    let front = pieces_front most b all s (omega (arith, long, within)) in
-    let more = ap (λ (t : Stage). pieces_left most b all s t) is ∙ front.1 in
-    begins_then (g.L.Output.written c.pieces.spool) (g.L.Output.written c.deliver_piece.new.spool) _ (piece_at b most all s) front.0
-    (ap (λ (xs : List (List ℕ)). g.L.Output.written c.pieces.spool ++ concat xs) (sym more) ∙ i.written tells ∙ ap (λ (xs : List (List ℕ)). g.L.Output.written c.args.spool.now ++ concat xs) (sym all_of))
-    (rw (i.runs, i.kept tells, i.limit) at (c.deliver_piece.ensures.begins forward tells))
-
 pub returns-in-Err-clause-stays : goal.returns-in-Err-clause-stays
 returns-in-Err-clause-stays g c tells spool partition =
     let i = c.pieces.invariant in
@@ -418,8 +465,8 @@ returns-in-Err-clause-stays g c tells spool partition =
     let most = c.args.cutter.now.limit in
     let s = c.pieces.cutter.start.block in
     let is : c.pieces.cutter.stage ≡ Between = still_between _ _ _ _ i.unbroken (sym c.more.ensures ∙ c.if-not-more.false) in
-    let long = g.met.R.BlockRuns.long c.args.cutter.now.runs _ (c.requires.opened tells) in
-    let good = g.met.R.BlockRuns.are_blocks c.args.cutter.now.runs _ (c.requires.opened tells) in
+    let long = g.met.R.BlockRuns.long c.args.cutter.now.runs _ (c.requires.ready.opened tells) in
+    let good = g.met.R.BlockRuns.are_blocks c.args.cutter.now.runs _ (c.requires.ready.opened tells) in
     let sized = g.met.R.BlockRuns.sized c.args.cutter.now.runs in
     let granted : 64 + b ≤ c.args.cutter.now.limit = c.args.cutter.now.sound.granted in
     let small : c.args.cutter.now.limit < 2 ^ 32 = omega arith in
@@ -428,9 +475,9 @@ returns-in-Err-clause-stays g c tells spool partition =
     let within : s ≤ g.R.BlockRuns.count c.args.cutter.now.runs = rw i.runs at (g.met.R.BlockRuns.bounded c.pieces.cutter.runs _ c.pieces.cutter.sound.within) in
     let inside : s ≤ length all = omega (arith, long, within) in
     let here = behind most b all c.pieces.cutter.made s Between (rw (i.limit, is) at (i.told tells).cuts) (inl refl) inside in
-    let moments = rw (i.runs, i.kept tells, i.limit) at (e.touches tells spool partition).moments in
-    let kept = rw (i.runs, i.kept tells, i.limit) at (e.touches tells spool partition).kept in
-    let syncs : (g.P.Partition.past c.deliver_piece.new.partition).synced ≡ (g.P.Partition.past c.pieces.partition).synced = omega (arith, c.in-Err.ensures.synced) in
+    let moments = rw (i.runs, i.kept tells, i.limit) at (e.partition.touches tells spool partition).moments in
+    let kept = rw (i.runs, i.kept tells, i.limit) at (e.partition.touches tells spool partition).kept in
+    let syncs : (g.P.Partition.past c.deliver_piece.new.partition).synced ≡ (g.P.Partition.past c.pieces.partition).synced = omega (arith, c.in-Err.ensures.partition.synced) in
     record {
       since = λ p done le entry. staying_stop most b all p c.args.cutter.now.made (g.P.Partition.past c.args.partition.now).synced c.pieces.cutter.made s (g.P.Partition.past c.args.partition.now).moments
           (g.P.Partition.past c.pieces.partition) (g.P.Partition.past c.deliver_piece.new.partition) (g.P.Source.content c.pieces.partition) (g.P.Source.content c.deliver_piece.new.partition)
@@ -442,8 +489,21 @@ returns-in-Err-clause-stays g c tells spool partition =
 
 -- ---- the rest behind the last piece
 
-pub returns-then-not-more-clause-stops : goal.returns-then-not-more-clause-stops
-returns-then-not-more-clause-stops g c = rw c.delivered.ensures tt
+pub returns-then-not-more-clause-fails : goal.returns-then-not-more-clause-fails
+returns-then-not-more-clause-fails g c = record {
+  faults =
+      let i = c.pieces.invariant in
+      record {
+        read = omega (arith, i.read_faults);
+        write = omega (arith, i.write_faults);
+        spool = omega (arith, i.spool_faults);
+        put = omega (arith, i.put_faults);
+      };
+  stops = rw c.delivered.ensures tt;
+  clean =
+      let i = c.pieces.invariant in
+      rw c.delivered.ensures (record { read = i.read_faults; write = i.write_faults; spool = i.spool_faults; put = i.put_faults });
+}
 
 pub returns-then-not-more-clause-some : goal.returns-then-not-more-clause-some
 returns-then-not-more-clause-some g c =
@@ -471,39 +531,6 @@ returns-then-not-more-clause-counted g c tells =
     let order = i.order in
     rw c.delivered.ensures (omega (arith, none, same, order))
 
-pub returns-then-not-more-clause-laid_up_to : goal.returns-then-not-more-clause-laid_up_to
-returns-then-not-more-clause-laid_up_to g c tells spool partition = rw c.delivered.ensures tt
-
-pub returns-then-not-more-clause-settled : goal.returns-then-not-more-clause-settled
-returns-then-not-more-clause-settled g c tells =
-    let i = c.pieces.invariant in
-    rw c.delivered.ensures (i.settled tells (i.some (now_done _ _ _ _ i.unbroken (sym c.more.ensures ∙ c.if-not-more.true))))
-
-pub returns-then-not-more-clause-synced : goal.returns-then-not-more-clause-synced
-returns-then-not-more-clause-synced g c =
-    let i = c.pieces.invariant in
-    let synced = i.synced in
-    let same = i.same_made in
-    let order = i.order in
-    rw c.delivered.ensures (omega (arith, synced, same, order))
-
-pub returns-then-not-more-clause-unsynced : goal.returns-then-not-more-clause-unsynced
-returns-then-not-more-clause-unsynced g c =
-    let unsynced = c.pieces.invariant.unsynced in
-    rw c.delivered.ensures (omega (arith, unsynced))
-
-pub returns-then-not-more-clause-blocks : goal.returns-then-not-more-clause-blocks
-returns-then-not-more-clause-blocks g c tells spool =
-    let i = c.pieces.invariant in
-    let b = g.R.BlockRuns.size c.args.cutter.now.runs in
-    let all = g.R.BlockRuns.list c.args.cutter.now.runs (g.S.Source.content c.args.source.now) in
-    let is : c.pieces.cutter.stage ≡ Done = now_done _ _ _ _ i.unbroken (sym c.more.ensures ∙ c.if-not-more.true) in
-    let long = g.met.R.BlockRuns.long c.args.cutter.now.runs _ (c.requires.opened tells) in
-    let end : g.R.BlockRuns.count c.args.cutter.now.runs ≤ c.pieces.cutter.start.block = (i.unbroken.done is).1 in
-    let none = ap (λ (l : List Block). b * written_in l) (drop_all c.pieces.cutter.start.block all (omega (arith, long, end))) in
-    let blocks = i.blocks tells spool in
-    rw c.delivered.ensures (omega (arith, none, blocks))
-
 pub returns-then-not-more-clause-long : goal.returns-then-not-more-clause-long
 returns-then-not-more-clause-long g c =
     let i = c.pieces.invariant in
@@ -514,53 +541,33 @@ returns-then-not-more-clause-long g c =
     let order = i.order in
     rw c.delivered.ensures (omega (arith, most, long, same, order))
 
-pub returns-then-not-more-clause-back : goal.returns-then-not-more-clause-back
-returns-then-not-more-clause-back g c tells spool = rw c.delivered.ensures (c.pieces.invariant.back tells spool)
-
-pub returns-then-not-more-clause-calls : goal.returns-then-not-more-clause-calls
-returns-then-not-more-clause-calls g c =
-    let i = c.pieces.invariant in
-    let calls = i.calls in
-    let same = i.same_made in
-    let order = i.order in
-    rw c.delivered.ensures (omega (arith, calls, same, order))
-
-pub returns-then-not-more-clause-turns : goal.returns-then-not-more-clause-turns
-returns-then-not-more-clause-turns g c =
-    let i = c.pieces.invariant in
-    let words = words_most (g.R.BlockRuns.one c.args.cutter.now.runs) (g.R.BlockRuns.count c.args.cutter.now.runs) c.pieces.cutter.start.block c.pieces.cutter.stage i.unbroken.stands in
-    let turns = i.turns in
-    let same = i.same_made in
-    let order = i.order in
-    let tick = c.tick.ensures.turns in
-    rw c.delivered.ensures (omega (arith, turns, words, same, order, tick))
-
 pub returns-then-not-more-clause-work : goal.returns-then-not-more-clause-work
-returns-then-not-more-clause-work g c =
-    let i = c.pieces.invariant in
-    record {
-      given = i.given;
-      spool_given = i.spool_given;
-      grown = i.grown;
-      taken = i.taken;
-      steps = omega (arith, i.steps, c.tick.ensures.steps);
-      greatest = omega (arith, i.greatest, c.tick.ensures.greatest);
-    }
-
-pub returns-then-not-more-clause-faults : goal.returns-then-not-more-clause-faults
-returns-then-not-more-clause-faults g c =
-    let i = c.pieces.invariant in
-    record {
-      read = omega (arith, i.read_faults);
-      write = omega (arith, i.write_faults);
-      spool = omega (arith, i.spool_faults);
-      put = omega (arith, i.put_faults);
-    }
-
-pub returns-then-not-more-clause-clean : goal.returns-then-not-more-clause-clean
-returns-then-not-more-clause-clean g c =
-    let i = c.pieces.invariant in
-    rw c.delivered.ensures (record { read = i.read_faults; write = i.write_faults; spool = i.spool_faults; put = i.put_faults })
+returns-then-not-more-clause-work g c = record {
+  calls =
+      let i = c.pieces.invariant in
+      let calls = i.calls in
+      let same = i.same_made in
+      let order = i.order in
+      rw c.delivered.ensures (omega (arith, calls, same, order));
+  turns =
+      let i = c.pieces.invariant in
+      let words = words_most (g.R.BlockRuns.one c.args.cutter.now.runs) (g.R.BlockRuns.count c.args.cutter.now.runs) c.pieces.cutter.start.block c.pieces.cutter.stage i.unbroken.stands in
+      let turns = i.turns in
+      let same = i.same_made in
+      let order = i.order in
+      let tick = c.tick.ensures.turns in
+      rw c.delivered.ensures (omega (arith, turns, words, same, order, tick));
+  work =
+      let i = c.pieces.invariant in
+      record {
+        given = i.given;
+        spool_given = i.spool_given;
+        grown = i.grown;
+        taken = i.taken;
+        steps = omega (arith, i.steps, c.tick.ensures.steps);
+        greatest = omega (arith, i.greatest, c.tick.ensures.greatest);
+      };
+}
 
 -- ---- the rest where a piece was stopped
 
@@ -571,59 +578,55 @@ returns-in-Err-clause-few g c =
     let left : c.pieces.cutter.made ≤ c.pieces.cutter.start.block = c.pieces.cutter.sound.left (ap has_more is) in
     rw c.next_number-piece.ensures (few_more (g.R.BlockRuns.count c.args.cutter.now.runs) c.pieces.cutter.made c.pieces.cutter.start.block left (i.unbroken.between is))
 
-pub returns-in-Err-clause-synced : goal.returns-in-Err-clause-synced
-returns-in-Err-clause-synced g c =
-    let i = c.pieces.invariant in
-    let synced = c.in-Err.ensures.synced in
-    omega (arith, synced, i.synced, c.next_number-piece.ensures)
-
-pub returns-in-Err-clause-calls : goal.returns-in-Err-clause-calls
-returns-in-Err-clause-calls g c =
-    let i = c.pieces.invariant in
-    let more = c.deliver_piece.ensures.calls in
-    let calls = i.calls in
-    let next = c.next_number-piece.ensures in
-    omega (arith, more, calls, next)
-
-pub returns-in-Err-clause-turns : goal.returns-in-Err-clause-turns
-returns-in-Err-clause-turns g c =
-    let i = c.pieces.invariant in
-    let is : c.pieces.cutter.stage ≡ Between = still_between _ _ _ _ i.unbroken (sym c.more.ensures ∙ c.if-not-more.false) in
-    let words = words_one (g.R.BlockRuns.one c.args.cutter.now.runs) (g.R.BlockRuns.count c.args.cutter.now.runs) c.pieces.cutter.start.block c.pieces.cutter.stage is in
-    let more = rw i.runs at c.deliver_piece.ensures.turns in
-    let turns = i.turns in
-    let next = c.next_number-piece.ensures in
-    let tick = c.tick.ensures.turns in
-    omega (arith, more, turns, words, next, tick)
-
 pub returns-in-Err-clause-work : goal.returns-in-Err-clause-work
-returns-in-Err-clause-work g c =
-    let i = c.pieces.invariant in
-    let e = c.deliver_piece.ensures in
-    record {
-      given = up_on _ _ _ i.given e.work.given;
-      spool_given = up_on _ _ _ i.spool_given e.work.spool_given;
-      grown = up_on _ _ _ i.grown e.work.grown;
-      taken = up_on _ _ _ i.taken e.work.taken;
-      steps = steps_on _ _ _ _ _ _ _ e.work.steps i.steps c.tick.ensures.steps;
-      greatest = greatest_on _ _ _ _ e.work.greatest i.greatest c.tick.ensures.greatest;
-    }
-
-pub returns-in-Err-clause-faults : goal.returns-in-Err-clause-faults
-returns-in-Err-clause-faults g c =
-    let i = c.pieces.invariant in
-    let e = c.deliver_piece.ensures in
-    record {
-      read = omega (arith, i.read_faults, e.faults.read);
-      write = omega (arith, i.write_faults, e.faults.write);
-      spool = omega (arith, i.spool_faults, e.faults.spool);
-      put = omega (arith, i.put_faults, e.faults.put);
-    }
+returns-in-Err-clause-work g c = record {
+  calls =
+      let i = c.pieces.invariant in
+      let more = c.deliver_piece.ensures.work.calls in
+      let calls = i.calls in
+      let next = c.next_number-piece.ensures in
+      omega (arith, more, calls, next);
+  turns =
+      let i = c.pieces.invariant in
+      let is : c.pieces.cutter.stage ≡ Between = still_between _ _ _ _ i.unbroken (sym c.more.ensures ∙ c.if-not-more.false) in
+      let words = words_one (g.R.BlockRuns.one c.args.cutter.now.runs) (g.R.BlockRuns.count c.args.cutter.now.runs) c.pieces.cutter.start.block c.pieces.cutter.stage is in
+      let more = rw i.runs at c.deliver_piece.ensures.work.turns in
+      let turns = i.turns in
+      let next = c.next_number-piece.ensures in
+      let tick = c.tick.ensures.turns in
+      omega (arith, more, turns, words, next, tick);
+  work =
+      let i = c.pieces.invariant in
+      let e = c.deliver_piece.ensures in
+      record {
+        given = up_on _ _ _ i.given e.work.work.given;
+        spool_given = up_on _ _ _ i.spool_given e.work.work.spool_given;
+        grown = up_on _ _ _ i.grown e.work.work.grown;
+        taken = up_on _ _ _ i.taken e.work.work.taken;
+        steps = steps_on _ _ _ _ _ _ _ e.work.work.steps i.steps c.tick.ensures.steps;
+        greatest = greatest_on _ _ _ _ e.work.work.greatest i.greatest c.tick.ensures.greatest;
+      };
+}
 
 -- ---- what a piece asks for
 
-pub deliver_piece-requires-clause-opened : goal.deliver_piece-requires-clause-opened
-deliver_piece-requires-clause-opened g c tells = let i = c.pieces.invariant in rw (i.runs, i.kept tells) (c.requires.opened tells)
+pub deliver_piece-requires-clause-ready : goal.deliver_piece-requires-clause-ready
+deliver_piece-requires-clause-ready g c =
+    let i = c.pieces.invariant in
+    record {
+      opened = λ tells. rw (i.runs, i.kept tells) (c.requires.ready.opened tells);
+      told = λ tells. rw (i.runs, i.kept tells) (i.told tells);
+    }
 
-pub deliver_piece-requires-clause-told : goal.deliver_piece-requires-clause-told
-deliver_piece-requires-clause-told g c tells = let i = c.pieces.invariant in rw (i.runs, i.kept tells) (i.told tells)
+-- ---- the source
+
+pub returns-then-not-more-clause-source : goal.returns-then-not-more-clause-source
+returns-then-not-more-clause-source g c =
+    let i = c.pieces.invariant in
+    rw c.delivered.ensures (record { content = i.kept; size = i.long_source; frame = i.frame; faults = omega (arith, i.read_faults); clean = i.read_faults })
+
+pub returns-in-Err-clause-source : goal.returns-in-Err-clause-source
+returns-in-Err-clause-source g c =
+    let i = c.pieces.invariant in
+    let s = c.in-Err.ensures.source in
+    record { content = λ tells. s.content tells ∙ i.kept tells; size = λ tells. s.size tells ∙ i.long_source tells; frame = s.frame ∙ i.frame; faults = omega (arith, i.read_faults, s.faults); clean = tt }

@@ -1,12 +1,12 @@
 use Rattle.std.proofs.Common.{◌≡◌, ◌<◌, ◌≤◌, ◌+◌, ℕ, Bool, Err, refl, sym, ap, ◌∙◌, arith, inl, inr}
-use Rattle.abt_pieces.specs.Fault.{HasCause as CutCause}
+use Rattle.abt_pieces.specs.Fault.{CutCause}
 use Rattle.abt_pieces.specs.declared.fault.PieceFault.{PieceFault}
 use Rattle.abt_pieces.specs.declared.fault.PieceFault.TheVariants as cuts
 use Rattle.abt_pieces.specs.Cutter.{has_more}
 use Rattle.abt_pieces.specs.declared.stage.Stage.TheVariants.{Between, Done}
 use Rattle.abt_flash.specs.Causes.{planning_fault}
 use Rattle.abt_flash.specs.Delivering.{CountsTo}
-use Rattle.abt_flash.specs.Going.{PlanRefused, StandsAt, words_so_far}
+use Rattle.abt_flash.specs.Going.{PlanRefused, IsBehindPiece}
 use Rattle.abt_flash.proofs.Left.{none_left, one_left}
 use Rattle.abt_flash.proofs.Onward.{charged_more, few_more, now_done, passed_stands, still_between, unbroken_more, words_more, words_most, words_one}
 use Rattle.abt_flash.proofs.Records.{plan_begins}
@@ -25,10 +25,11 @@ pieces-preserved g c =
     let next = c.skip_piece.new.self.start.block in
     let st = c.skip_piece.new.self.stage in
     let is : c.pieces.cutter.stage ≡ Between = still_between _ _ _ _ i.unbroken (sym c.more.ensures ∙ c.if-not-more.false) in
-    let p = rw c.in-Ok-Some.field-0-is at o.piece in
+    let passing = rw c.in-Ok-Some.field-0-is at o.passed in
+    let p = passing.piece in
     let made : c.skip_piece.new.self.made ≡ c.pieces.cutter.made + 1 = p.one_more in
     let passed = rw (i.runs, p.begins, p.ends) at p.passed in
-    let at : StandsAt n next st = passed_stands n s next st passed in
+    let at : IsBehindPiece n next st = passed_stands n s next st passed in
     let left : c.pieces.cutter.made ≤ s = c.pieces.cutter.sound.left (ap has_more is) in
     let inside = i.unbroken.between is in
     let less : c.pieces.cutter.made < c.args.before = rw c.if-are_planned.false at c.are_planned.ensures in
@@ -37,23 +38,24 @@ pieces-preserved g c =
       runs = e.cutter.same_image ∙ i.runs;
       limit = e.cutter.same_limit ∙ i.limit;
       told = λ tells. rw (i.runs, i.kept tells) at (e.told tells);
-      kept = λ tells. e.content tells ∙ i.kept tells;
-      frame = e.frame ∙ i.frame;
+      kept = λ tells. e.reads.content tells ∙ i.kept tells;
+      size = λ tells. e.reads.size tells ∙ i.size tells;
+      frame = e.reads.frame ∙ i.frame;
       unbroken = rw made (unbroken_more n c.pieces.cutter.made next st at);
       few = rw made (few_more n c.pieces.cutter.made s left inside);
       planned = omega (arith, made, less);
       given = omega (arith, i.given, e.costs.given);
       charged =
-          let more = rw i.runs at (rw c.in-Ok-Some.field-0-is at o.charged) in
+          let more = rw i.runs at passing.charges.charged in
           charged_more (given c.args.source.now) (given c.pieces.source) (given c.skip_piece.new.source) (charge c.args.cutter.now.start) (charge c.pieces.cutter.start) (charge c.skip_piece.new.self.start) c.pieces.cutter.made c.skip_piece.new.self.made one made more i.charged;
       calls = omega (arith, e.costs.calls, e.costs.given, i.calls, made);
       turns =
-          let more = rw (i.runs, p.ends) at (rw c.in-Ok-Some.field-0-is at o.words) in
+          let more = rw (i.runs, p.ends) at passing.words in
           let before = rw is at i.turns in
           omega (arith, more, words, before, e.costs.given, c.tick.ensures.turns, made);
       steps = omega (arith, e.costs.steps, e.costs.given, i.steps, c.tick.ensures.steps);
       greatest = omega (arith, e.costs.greatest, i.greatest, c.tick.ensures.greatest);
-      faults = o.clean ∙ i.faults;
+      faults = o.reads.clean ∙ i.faults;
     }
 
 -- ---- where all have been planned
@@ -78,7 +80,7 @@ returns-then-are_planned-clause-costs g c =
     let all : c.args.before ≤ c.pieces.cutter.made = rw c.if-are_planned.true at c.are_planned.ensures in
     let same : c.pieces.cutter.made ≡ c.args.before = omega (arith, all, i.planned) in
     let words = words_most (g.R.BlockRuns.one c.args.cutter.now.runs) (g.R.BlockRuns.count c.args.cutter.now.runs) c.pieces.cutter.start.block c.pieces.cutter.stage i.unbroken.stands in
-    record { begun = c.args.before; counted = refl; calls = omega (arith, i.calls, same); turns = omega (arith, i.turns, words, same, c.tick.ensures.turns) }
+    record { begun = c.args.before; counted = refl; calls = omega (arith, i.calls, same); turns = omega (arith, i.turns, words, same, c.tick.ensures.turns); read = i.given; steps = omega (arith, i.steps, c.tick.ensures.steps); greatest = omega (arith, i.greatest, c.tick.ensures.greatest) }
 
 pub returns-then-not-more-clause-costs : goal.returns-then-not-more-clause-costs
 returns-then-not-more-clause-costs g c =
@@ -86,7 +88,7 @@ returns-then-not-more-clause-costs g c =
     let words = words_most (g.R.BlockRuns.one c.args.cutter.now.runs) (g.R.BlockRuns.count c.args.cutter.now.runs) c.pieces.cutter.start.block c.pieces.cutter.stage i.unbroken.stands in
     let calls = i.calls in
     let turns = i.turns in
-    record { begun = c.pieces.cutter.made; counted = refl; calls = omega (arith, calls); turns = omega (arith, turns, words) }
+    record { begun = c.pieces.cutter.made; counted = refl; calls = omega (arith, calls); turns = omega (arith, turns, words); read = i.given; steps = omega (arith, i.steps, c.tick.ensures.steps); greatest = omega (arith, i.greatest, c.tick.ensures.greatest) }
 
 pub returns-in-Err-clause-costs : goal.returns-in-Err-clause-costs
 returns-in-Err-clause-costs g c =
@@ -106,6 +108,9 @@ returns-in-Err-clause-costs g c =
       counted = rw c.not_planned.ensures (plan_begins c.in-Err.fault _ _ _ _ i.planned (λ tells. let z = one_left c.args.cutter.now.limit b all c.pieces.cutter.made c.pieces.cutter.start.block (rw (i.limit, is) at (i.told tells).cuts) in omega (arith, z)));
       calls = omega (arith, calls, more_calls, given, i.given);
       turns = omega (arith, turns, words, more_turns, given, tick, i.given);
+      read = omega (arith, i.given, given);
+      steps = omega (arith, i.steps, c.skip_piece.ensures.costs.steps, given, c.tick.ensures.steps);
+      greatest = omega (arith, i.greatest, c.skip_piece.ensures.costs.greatest, c.tick.ensures.greatest);
     }
 
 -- ---- why planning is refused
@@ -157,3 +162,31 @@ pub returns-then-are_planned-clause-inside : goal.returns-then-are_planned-claus
 returns-then-are_planned-clause-inside g c =
     let i = c.pieces.invariant in
     i.unbroken.between (still_between _ _ _ _ i.unbroken (sym c.more.ensures ∙ c.if-not-more.false))
+
+-- ---- the source
+
+pub returns-then-are_planned-clause-source : goal.returns-then-are_planned-clause-source
+returns-then-are_planned-clause-source g c =
+    let i = c.pieces.invariant in
+    record { content = i.kept; size = i.size; frame = i.frame; faults = omega (arith, i.faults); clean = i.faults }
+
+pub returns-then-not-more-clause-source : goal.returns-then-not-more-clause-source
+returns-then-not-more-clause-source g c =
+    let i = c.pieces.invariant in
+    record { content = i.kept; size = i.size; frame = i.frame; faults = omega (arith, i.faults); clean = tt }
+
+pub returns-in-Err-clause-source : goal.returns-in-Err-clause-source
+returns-in-Err-clause-source g c =
+    let i = c.pieces.invariant in
+    let s = c.skip_piece.ensures in
+    record { content = λ tells. s.reads.content tells ∙ i.kept tells; size = λ tells. s.reads.size tells ∙ i.size tells; frame = s.reads.frame ∙ i.frame; faults = omega (arith, i.faults, s.reads.faults); clean = tt }
+
+-- ---- what planning a piece asks for
+
+pub skip_piece-requires-clause-ready : goal.skip_piece-requires-clause-ready
+skip_piece-requires-clause-ready g c =
+    let i = c.pieces.invariant in
+    record {
+      opened = λ tells. rw (i.runs, i.kept tells) (c.requires.ready.opened tells);
+      told = λ tells. rw (i.runs, i.kept tells) (i.told tells);
+    }

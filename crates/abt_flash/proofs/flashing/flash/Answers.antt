@@ -5,12 +5,14 @@ use Rattle.abt_chunks.specs.declared.progress.Progress.{Progress}
 use Rattle.abt_chunks.specs.declared.progress.Progress.TheVariants.{Done, More}
 use Rattle.abt_flash.specs.declared.fault.FlashFault.{FlashFault}
 use Rattle.abt_flash.specs.Devices.{Reads}
-use Rattle.abt_flash.specs.Stepping.{idle, is_done}
+use Rattle.abt_flash.specs.Stepping.{is_done}
 use Rattle.abt_flash.specs.declared.stage.Stage.{Stage}
 use Rattle.abt_flash.specs.declared.stage.Stage.TheVariants as stages
 use Rattle.abt_flash.proofs.Come.{come_first, come_next, done_holds, done_whole, ends, ends_kept, ends_moments, ends_seen, fault_flashes, fault_holds, going_phase, known_head, need_stays, short_first, short_same}
 use Rattle.abt_chunks.specs.declared.walk.Phase.TheVariants as phases
 use Rattle.abt_flash.proofs.flashing.flash.Goals as goal
+use Rattle.abt_flash.proofs.Still.{unread_then}
+use Rattle.abt_chunks.specs.ListingAhead.{idle}
 
 pub steps-init : goal.steps-init
 steps-init g c =
@@ -24,8 +26,7 @@ steps-init g c =
       fresh = λ f. refl;
       measured = λ body some. absurd (let q : phases.Header ≡ phases.Body = sym c.open-machine.ensures.walk ∙ body in cc);
       synced = refl;
-      size = refl;
-      unread = (refl, refl, refl);
+      unread = record { size = refl; reads = refl; given = refl; faults = refl };
       taken = omega arith;
       frame = refl;
       read_faults = refl;
@@ -48,43 +49,42 @@ steps-preserved g c =
     let e = c.step.ensures in
     let m = c.in-Ok-More.ensures in
     let more : c.step.result ≡ Ok More = c.in-Ok-More.is ∙ ap (λ (p : Progress). let r : Result Progress FlashFault = Ok p in r) c.in-Ok-More.field-0-is in
-    let few : c.step.new.m.turns.number + 2 * g.P.Partition.taken c.steps.partition ≤ c.tick.new.self.turns.number + (g.I.Input.given c.step.new.input - g.I.Input.given c.steps.input) + 2 * g.P.Partition.taken c.step.new.partition + 2 = rw more at c.step.ensures.costs.few in
-    let progress : idle c.step.new.self.walk + 1 ≤ idle c.steps.machine.walk + 2 * (g.I.Input.given c.step.new.input - g.I.Input.given c.steps.input) + 2 * (g.P.Partition.taken c.step.new.partition - g.P.Partition.taken c.steps.partition) = rw more at c.step.ensures.costs.progress in
-    let stage = rw more at c.step.ensures.stage in
-    let body = rw c.in-Ok-More.field-0-is at (m.leaves i.goes) in
-    let quiet : (g.P.Partition.past c.step.new.partition).synced ≡ (g.P.Partition.past c.steps.partition).synced = let q = rw (more, not_done c.steps.machine.stage) at c.step.ensures.syncs.synced in omega (arith, q) in
-    let clean : (g.I.Input.read_faults c.step.new.input ≡ g.I.Input.read_faults c.steps.input) × (g.P.Partition.put_faults c.step.new.partition ≡ g.P.Partition.put_faults c.steps.partition) = rw more at (e.cause i.goes) in
+    let few : c.step.new.m.turns.number + 2 * g.P.Partition.taken c.steps.partition ≤ c.tick.new.self.turns.number + (g.I.Input.given c.step.new.input - g.I.Input.given c.steps.input) + 2 * g.P.Partition.taken c.step.new.partition + 2 = rw more at c.step.ensures.stepped.costs.few in
+    let progress : idle c.step.new.self.walk + 1 ≤ idle c.steps.machine.walk + 2 * (g.I.Input.given c.step.new.input - g.I.Input.given c.steps.input) + 2 * (g.P.Partition.taken c.step.new.partition - g.P.Partition.taken c.steps.partition) = rw more at c.step.ensures.stepped.costs.progress in
+    let stage = rw more at c.step.ensures.stepped.stage in
+    let body = rw c.in-Ok-More.field-0-is at (m.stepped.leaves i.goes) in
+    let quiet : (g.P.Partition.past c.step.new.partition).synced ≡ (g.P.Partition.past c.steps.partition).synced = let q = rw (more, not_done c.steps.machine.stage) at c.step.ensures.stepped.syncs.synced in omega (arith, q) in
+    let clean : (g.I.Input.read_faults c.step.new.input ≡ g.I.Input.read_faults c.steps.input) × (g.P.Partition.put_faults c.step.new.partition ≡ g.P.Partition.put_faults c.steps.partition) = rw more at (e.stepped.cause i.goes) in
     let going = going_phase c.steps.machine.stage c.steps.machine.walk.phase i.goes in
-    let fresh = rw c.in-Ok-More.field-0-is at (m.goes_on.fresh i.goes) in
-    let begins = rw c.in-Ok-More.field-0-is at m.goes_on.begins in
-    let measures = rw (c.in-Ok-More.field-0-is, i.size) at (m.measures i.goes) in
+    let fresh = rw c.in-Ok-More.field-0-is at (m.stepped.goes_on.fresh i.goes) in
+    let begins = rw c.in-Ok-More.field-0-is at m.stepped.goes_on.begins in
+    let measures = rw (c.in-Ok-More.field-0-is, i.unread.size) at (m.stepped.measures i.goes) in
     let k = g.I.Input.given c.steps.input - g.I.Input.given c.args.input.now in
     let n = g.I.Input.given c.step.new.input - g.I.Input.given c.steps.input in
     let j = g.I.Input.given c.step.new.input - g.I.Input.given c.args.input.now in
     let rem = g.I.Input.remaining c.args.input.now in
-    let rest = λ (tells : IsTrue g.I.Input.tells). rest_more rem (g.I.Input.remaining c.steps.input) (g.I.Input.remaining c.step.new.input) k n j (i.rest tells) (e.read.rest tells) (let q : j ≡ k + n = omega arith in q) in
+    let rest = λ (tells : IsTrue g.I.Input.tells). rest_more rem (g.I.Input.remaining c.steps.input) (g.I.Input.remaining c.step.new.input) k n j (i.rest tells) (e.stepped.read.rest tells) (let q : j ≡ k + n = omega arith in q) in
     record {
       read = omega arith;
       present = λ tells.
-          let here : g.I.Input.given c.step.new.input - g.I.Input.given c.steps.input ≤ length (g.I.Input.remaining c.steps.input) = e.read.present tells in
+          let here : g.I.Input.given c.step.new.input - g.I.Input.given c.steps.input ≤ length (g.I.Input.remaining c.steps.input) = e.stepped.read.present tells in
           let long : length (g.I.Input.remaining c.steps.input) ≡ length rem - k = ap length (i.rest tells) ∙ length-drop k rem in
           let before : k ≤ length rem = i.present tells in
           omega arith;
       rest = rest;
       goes = rw (stage, body) tt;
       told = λ tells. come_next g.P.Source.tells c.steps.machine.stage c.steps.machine.walk c.step.new.self.walk rem (g.I.Input.remaining c.steps.input) (g.I.Input.remaining c.step.new.input) k n j (g.P.Source.size c.args.partition.now)
-          _ _ _ _ _ _ _ _ _ _ _ (i.rest tells) (let q : j ≡ k + n = omega arith in q) i.synced (i.told tells) (rw c.in-Ok-More.field-0-is at (m.told tells)) (m.laid i.goes) (rest tells) (rw c.in-Ok-More.field-0-is at (m.heads tells i.goes))
+          _ _ _ _ _ _ _ _ _ _ _ (i.rest tells) (let q : j ≡ k + n = omega arith in q) i.synced (i.told tells) (rw c.in-Ok-More.field-0-is at (m.stepped.told tells)) (m.stepped.laid i.goes) (rest tells) (rw c.in-Ok-More.field-0-is at (m.stepped.heads tells i.goes))
           begins measures going quiet;
       fresh = λ f. let q = fresh f in q.1 ∙ i.fresh q.0;
-      measured = λ b some. need_stays c.steps.machine.walk c.step.new.self.walk _ going (begins some) (rw c.in-Ok-More.field-0-is at m.goes_on.header) (measures (begins some));
+      measured = λ b some. need_stays c.steps.machine.walk c.step.new.self.walk _ going (begins some) (rw c.in-Ok-More.field-0-is at m.stepped.goes_on.header) (measures (begins some));
       synced = quiet ∙ i.synced;
-      size = e.size ∙ i.size;
-      unread = (e.unread.0 ∙ i.unread.0, e.unread.1 ∙ i.unread.1, e.unread.2 ∙ i.unread.2);
+      unread = unread_then i.unread e.stepped.unread;
       taken = omega arith;
-      frame = e.frame ∙ i.frame;
+      frame = e.stepped.read.frame ∙ i.frame;
       read_faults = clean.0 ∙ i.read_faults;
       put_faults = clean.1 ∙ i.put_faults;
-      syncs = let q = rw more at (e.syncs.refused i.goes) in omega (arith, q, quiet, i.syncs);
+      syncs = let q = rw more at (e.stepped.syncs.refused i.goes) in omega (arith, q, quiet, i.syncs);
       calls = omega arith;
       turns = omega arith;
       steps = omega arith;
@@ -100,9 +100,9 @@ returns-in-Ok-Done-clause-touches g c tells partition =
     let j = g.I.Input.given c.step.new.input - g.I.Input.given c.args.input.now in
     let rem = g.I.Input.remaining c.args.input.now in
     let same : j ≡ k + n = omega arith in
-    let rest = rest_more rem (g.I.Input.remaining c.steps.input) (g.I.Input.remaining c.step.new.input) k n j (i.rest tells) (e.read.rest tells) same in
+    let rest = rest_more rem (g.I.Input.remaining c.steps.input) (g.I.Input.remaining c.step.new.input) k n j (i.rest tells) (e.stepped.read.rest tells) same in
     let ended = (ends g.P.Source.tells c.steps.machine.stage c.steps.machine.walk c.step.new.self.walk rem (g.I.Input.remaining c.steps.input) (g.I.Input.remaining c.step.new.input) k n j (g.P.Source.size c.args.partition.now)
-    _ _ _ _ _ _ _ _ _ _ c.step.result (i.rest tells) same i.synced (i.told tells) (e.told tells) c.step.new.self.laid rest (e.laid i.goes)) in
+    _ _ _ _ _ _ _ _ _ _ c.step.result (i.rest tells) same i.synced (i.told tells) (e.stepped.told tells) c.step.new.self.laid rest (e.stepped.laid i.goes)) in
     record { kept = ends_kept _ _ _ _ _ _ _ _ _ _ _ _ _ ended partition; moments = ends_moments _ _ _ _ _ _ _ _ _ _ _ _ _ ended partition }
 
 pub returns-in-Ok-Done-clause-seen : goal.returns-in-Ok-Done-clause-seen
@@ -114,9 +114,9 @@ returns-in-Ok-Done-clause-seen g c tells =
     let j = g.I.Input.given c.step.new.input - g.I.Input.given c.args.input.now in
     let rem = g.I.Input.remaining c.args.input.now in
     let same : j ≡ k + n = omega arith in
-    let rest = rest_more rem (g.I.Input.remaining c.steps.input) (g.I.Input.remaining c.step.new.input) k n j (i.rest tells) (e.read.rest tells) same in
+    let rest = rest_more rem (g.I.Input.remaining c.steps.input) (g.I.Input.remaining c.step.new.input) k n j (i.rest tells) (e.stepped.read.rest tells) same in
     ends_seen _ _ _ _ _ _ _ _ _ _ _ _ _ (ends g.P.Source.tells c.steps.machine.stage c.steps.machine.walk c.step.new.self.walk rem (g.I.Input.remaining c.steps.input) (g.I.Input.remaining c.step.new.input) k n j (g.P.Source.size c.args.partition.now)
-    _ _ _ _ _ _ _ _ _ _ c.step.result (i.rest tells) same i.synced (i.told tells) (e.told tells) c.step.new.self.laid rest (e.laid i.goes))
+    _ _ _ _ _ _ _ _ _ _ c.step.result (i.rest tells) same i.synced (i.told tells) (e.stepped.told tells) c.step.new.self.laid rest (e.stepped.laid i.goes))
 
 pub returns-in-Err-clause-touches : goal.returns-in-Err-clause-touches
 returns-in-Err-clause-touches g c tells partition =
@@ -127,9 +127,9 @@ returns-in-Err-clause-touches g c tells partition =
     let j = g.I.Input.given c.step.new.input - g.I.Input.given c.args.input.now in
     let rem = g.I.Input.remaining c.args.input.now in
     let same : j ≡ k + n = omega arith in
-    let rest = rest_more rem (g.I.Input.remaining c.steps.input) (g.I.Input.remaining c.step.new.input) k n j (i.rest tells) (e.read.rest tells) same in
+    let rest = rest_more rem (g.I.Input.remaining c.steps.input) (g.I.Input.remaining c.step.new.input) k n j (i.rest tells) (e.stepped.read.rest tells) same in
     let ended = (ends g.P.Source.tells c.steps.machine.stage c.steps.machine.walk c.step.new.self.walk rem (g.I.Input.remaining c.steps.input) (g.I.Input.remaining c.step.new.input) k n j (g.P.Source.size c.args.partition.now)
-    _ _ _ _ _ _ _ _ _ _ c.step.result (i.rest tells) same i.synced (i.told tells) (e.told tells) c.step.new.self.laid rest (e.laid i.goes)) in
+    _ _ _ _ _ _ _ _ _ _ c.step.result (i.rest tells) same i.synced (i.told tells) (e.stepped.told tells) c.step.new.self.laid rest (e.stepped.laid i.goes)) in
     record { kept = ends_kept _ _ _ _ _ _ _ _ _ _ _ _ _ ended partition; moments = ends_moments _ _ _ _ _ _ _ _ _ _ _ _ _ ended partition }
 
 pub returns-in-Err-clause-seen : goal.returns-in-Err-clause-seen
@@ -141,9 +141,9 @@ returns-in-Err-clause-seen g c tells =
     let j = g.I.Input.given c.step.new.input - g.I.Input.given c.args.input.now in
     let rem = g.I.Input.remaining c.args.input.now in
     let same : j ≡ k + n = omega arith in
-    let rest = rest_more rem (g.I.Input.remaining c.steps.input) (g.I.Input.remaining c.step.new.input) k n j (i.rest tells) (e.read.rest tells) same in
+    let rest = rest_more rem (g.I.Input.remaining c.steps.input) (g.I.Input.remaining c.step.new.input) k n j (i.rest tells) (e.stepped.read.rest tells) same in
     ends_seen _ _ _ _ _ _ _ _ _ _ _ _ _ (ends g.P.Source.tells c.steps.machine.stage c.steps.machine.walk c.step.new.self.walk rem (g.I.Input.remaining c.steps.input) (g.I.Input.remaining c.step.new.input) k n j (g.P.Source.size c.args.partition.now)
-    _ _ _ _ _ _ _ _ _ _ c.step.result (i.rest tells) same i.synced (i.told tells) (e.told tells) c.step.new.self.laid rest (e.laid i.goes))
+    _ _ _ _ _ _ _ _ _ _ c.step.result (i.rest tells) same i.synced (i.told tells) (e.stepped.told tells) c.step.new.self.laid rest (e.stepped.laid i.goes))
 
 pub returns-in-Ok-Done-clause-flashes : goal.returns-in-Ok-Done-clause-flashes
 returns-in-Ok-Done-clause-flashes g c tells =
@@ -154,12 +154,12 @@ returns-in-Ok-Done-clause-flashes g c tells =
     let j = g.I.Input.given c.step.new.input - g.I.Input.given c.args.input.now in
     let rem = g.I.Input.remaining c.args.input.now in
     let same : j ≡ k + n = omega arith in
-    let rest = rest_more rem (g.I.Input.remaining c.steps.input) (g.I.Input.remaining c.step.new.input) k n j (i.rest tells) (e.read.rest tells) same in
-    let ended = rw c.in-Ok-Done.field-0-is at (c.in-Ok-Done.ensures.leaves i.goes) in
-    let measures = rw (c.in-Ok-Done.field-0-is, i.size) at (c.in-Ok-Done.ensures.measures i.goes) in
+    let rest = rest_more rem (g.I.Input.remaining c.steps.input) (g.I.Input.remaining c.step.new.input) k n j (i.rest tells) (e.stepped.read.rest tells) same in
+    let ended = rw c.in-Ok-Done.field-0-is at (c.in-Ok-Done.ensures.stepped.leaves i.goes) in
+    let measures = rw (c.in-Ok-Done.field-0-is, i.unread.size) at (c.in-Ok-Done.ensures.stepped.measures i.goes) in
     let going = going_phase c.steps.machine.stage c.steps.machine.walk.phase i.goes in
     done_whole _ c.steps.machine.walk _ _ _ _ _ _ _ _ _ _ _ (ends g.P.Source.tells c.steps.machine.stage c.steps.machine.walk c.step.new.self.walk rem (g.I.Input.remaining c.steps.input) (g.I.Input.remaining c.step.new.input) k n j (g.P.Source.size c.args.partition.now)
-    _ _ _ _ _ _ _ _ _ _ (Ok Done) (i.rest tells) same i.synced (i.told tells) (rw c.in-Ok-Done.field-0-is at (c.in-Ok-Done.ensures.told tells)) c.step.new.self.laid rest (c.in-Ok-Done.ensures.laid i.goes)) ended _ _ (g.met.I.Input.are_bytes c.args.input.now tells)
+    _ _ _ _ _ _ _ _ _ _ (Ok Done) (i.rest tells) same i.synced (i.told tells) (rw c.in-Ok-Done.field-0-is at (c.in-Ok-Done.ensures.stepped.told tells)) c.step.new.self.laid rest (c.in-Ok-Done.ensures.stepped.laid i.goes)) ended _ _ (g.met.I.Input.are_bytes c.args.input.now tells)
     (known_head _ _ _ _ _ _ _ _ _ _ _ _ (i.told tells) going measures.0) measures.1 c.blocks-in-Ok-Done.ensures
 
 pub returns-in-Ok-Done-clause-holds : goal.returns-in-Ok-Done-clause-holds
@@ -171,10 +171,10 @@ returns-in-Ok-Done-clause-holds g c tells t =
     let j = g.I.Input.given c.step.new.input - g.I.Input.given c.args.input.now in
     let rem = g.I.Input.remaining c.args.input.now in
     let same : j ≡ k + n = omega arith in
-    let rest = rest_more rem (g.I.Input.remaining c.steps.input) (g.I.Input.remaining c.step.new.input) k n j (i.rest tells) (e.read.rest tells) same in
-    let ended = rw c.in-Ok-Done.field-0-is at (c.in-Ok-Done.ensures.leaves i.goes) in
+    let rest = rest_more rem (g.I.Input.remaining c.steps.input) (g.I.Input.remaining c.step.new.input) k n j (i.rest tells) (e.stepped.read.rest tells) same in
+    let ended = rw c.in-Ok-Done.field-0-is at (c.in-Ok-Done.ensures.stepped.leaves i.goes) in
     done_holds _ c.steps.machine.walk _ _ _ _ _ _ _ _ _ _ _ (ends g.P.Source.tells c.steps.machine.stage c.steps.machine.walk c.step.new.self.walk rem (g.I.Input.remaining c.steps.input) (g.I.Input.remaining c.step.new.input) k n j (g.P.Source.size c.args.partition.now)
-    _ _ _ _ _ _ _ _ _ _ (Ok Done) (i.rest tells) same i.synced (i.told tells) (rw c.in-Ok-Done.field-0-is at (c.in-Ok-Done.ensures.told tells)) c.step.new.self.laid rest (c.in-Ok-Done.ensures.laid i.goes)) ended t
+    _ _ _ _ _ _ _ _ _ _ (Ok Done) (i.rest tells) same i.synced (i.told tells) (rw c.in-Ok-Done.field-0-is at (c.in-Ok-Done.ensures.stepped.told tells)) c.step.new.self.laid rest (c.in-Ok-Done.ensures.stepped.laid i.goes)) ended t
 
 pub returns-in-Err-clause-flashes : goal.returns-in-Err-clause-flashes
 returns-in-Err-clause-flashes g c tells =
@@ -185,12 +185,12 @@ returns-in-Err-clause-flashes g c tells =
     let j = g.I.Input.given c.step.new.input - g.I.Input.given c.args.input.now in
     let rem = g.I.Input.remaining c.args.input.now in
     let same : j ≡ k + n = omega arith in
-    let rest = rest_more rem (g.I.Input.remaining c.steps.input) (g.I.Input.remaining c.step.new.input) k n j (i.rest tells) (e.read.rest tells) same in
+    let rest = rest_more rem (g.I.Input.remaining c.steps.input) (g.I.Input.remaining c.step.new.input) k n j (i.rest tells) (e.stepped.read.rest tells) same in
     let m = c.in-Err.ensures in
     let going = going_phase c.steps.machine.stage c.steps.machine.walk.phase i.goes in
     fault_flashes _ _ _ _ _ _ _ _ _ _ _ _ _ _ _ _ _ _ _ _ (g.met.I.Input.are_bytes c.args.input.now tells) going (i.rest tells) (i.told tells) c.in-Err.fault (ends g.P.Source.tells c.steps.machine.stage c.steps.machine.walk c.step.new.self.walk rem (g.I.Input.remaining c.steps.input) (g.I.Input.remaining c.step.new.input) k n j (g.P.Source.size c.args.partition.now)
-    _ _ _ _ _ _ _ _ _ _ (Err c.in-Err.fault) (i.rest tells) same i.synced (i.told tells) (m.told tells) c.step.new.self.laid rest tt)
-    (m.leaves i.goes) (m.heads tells i.goes) (rw i.size at (m.measures i.goes)) (short_same c.in-Err.fault _ _ (λ q. ap g.P.Partition.taken q) m.short)
+    _ _ _ _ _ _ _ _ _ _ (Err c.in-Err.fault) (i.rest tells) same i.synced (i.told tells) (m.stepped.told tells) c.step.new.self.laid rest tt)
+    (m.stepped.leaves i.goes) (m.stepped.heads tells i.goes) (rw i.unread.size at (m.stepped.measures i.goes)) (short_same c.in-Err.fault _ _ (λ q. ap g.P.Partition.taken q) m.stepped.short)
 
 pub returns-in-Err-clause-holds : goal.returns-in-Err-clause-holds
 returns-in-Err-clause-holds g c tells t =
@@ -201,27 +201,27 @@ returns-in-Err-clause-holds g c tells t =
     let j = g.I.Input.given c.step.new.input - g.I.Input.given c.args.input.now in
     let rem = g.I.Input.remaining c.args.input.now in
     let same : j ≡ k + n = omega arith in
-    let rest = rest_more rem (g.I.Input.remaining c.steps.input) (g.I.Input.remaining c.step.new.input) k n j (i.rest tells) (e.read.rest tells) same in
+    let rest = rest_more rem (g.I.Input.remaining c.steps.input) (g.I.Input.remaining c.step.new.input) k n j (i.rest tells) (e.stepped.read.rest tells) same in
     let m = c.in-Err.ensures in
     let going = going_phase c.steps.machine.stage c.steps.machine.walk.phase i.goes in
     fault_holds _ _ _ _ _ _ _ _ _ _ _ _ _ _ _ _ _ _ _ _ (g.met.I.Input.are_bytes c.args.input.now tells) going (i.rest tells) (i.told tells) c.in-Err.fault (ends g.P.Source.tells c.steps.machine.stage c.steps.machine.walk c.step.new.self.walk rem (g.I.Input.remaining c.steps.input) (g.I.Input.remaining c.step.new.input) k n j (g.P.Source.size c.args.partition.now)
-    _ _ _ _ _ _ _ _ _ _ (Err c.in-Err.fault) (i.rest tells) same i.synced (i.told tells) (m.told tells) c.step.new.self.laid rest tt)
-    (m.leaves i.goes) (rw i.size at (m.measures i.goes)) (short_same c.in-Err.fault _ _ (λ q. ap g.P.Source.content q) m.short) t
+    _ _ _ _ _ _ _ _ _ _ (Err c.in-Err.fault) (i.rest tells) same i.synced (i.told tells) (m.stepped.told tells) c.step.new.self.laid rest tt)
+    (m.stepped.leaves i.goes) (rw i.unread.size at (m.stepped.measures i.goes)) (short_same c.in-Err.fault _ _ (λ q. ap g.P.Source.content q) m.stepped.short) t
 
 pub returns-in-Err-clause-untouched : goal.returns-in-Err-clause-untouched
 returns-in-Err-clause-untouched g c =
     let i = c.steps.invariant in
     let m = c.in-Err.ensures in
-    short_first c.in-Err.fault c.steps.machine.walk _ _ _ (going_phase c.steps.machine.stage c.steps.machine.walk.phase i.goes) (rw i.size at (m.measures i.goes)) i.measured i.fresh (λ p q. q ∙ p) m.short
+    short_first c.in-Err.fault c.steps.machine.walk _ _ _ (going_phase c.steps.machine.stage c.steps.machine.walk.phase i.goes) (rw i.unread.size at (m.stepped.measures i.goes)) i.measured i.fresh (λ p q. q ∙ p) m.stepped.short
 
 pub returns-in-Ok-Done-clause-cause : goal.returns-in-Ok-Done-clause-cause
 returns-in-Ok-Done-clause-cause g c =
     let i = c.steps.invariant in
-    let clean = c.in-Ok-Done.ensures.cause i.goes in
+    let clean = c.in-Ok-Done.ensures.stepped.cause i.goes in
     (clean.0 ∙ i.read_faults, clean.1 ∙ i.put_faults)
 
 pub returns-in-Err-clause-cause : goal.returns-in-Err-clause-cause
-returns-in-Err-clause-cause g c = let i = c.steps.invariant in rw (i.read_faults, i.put_faults) at (c.in-Err.ensures.cause i.goes)
+returns-in-Err-clause-cause g c = let i = c.steps.invariant in rw (i.read_faults, i.put_faults) at (c.in-Err.ensures.stepped.cause i.goes)
 
 -- what is read of an input that tells is there, step after step
 read_on : (tells : Bool) (n n1 n2 : ℕ) (rem r1 r2 : List ℕ) → n ≤ n1 → n1 ≤ n2 → (IsTrue tells → n1 - n ≤ length rem) → (IsTrue tells → r1 ≡ drop (n1 - n) rem) → Reads tells n1 n2 r1 r2 → Reads tells n n2 rem r2
@@ -234,10 +234,18 @@ pub returns-in-Ok-Done-clause-read : goal.returns-in-Ok-Done-clause-read
 returns-in-Ok-Done-clause-read g c =
     let i = c.steps.invariant in
     let e = c.step.ensures in
-    read_on _ _ _ _ _ _ _ i.read e.grows.given i.present i.rest e.read
+    read_on _ _ _ _ _ _ _ i.read e.stepped.grows.given i.present i.rest (record { present = e.stepped.read.present; rest = e.stepped.read.rest })
 
 pub returns-in-Err-clause-read : goal.returns-in-Err-clause-read
 returns-in-Err-clause-read g c =
     let i = c.steps.invariant in
     let e = c.step.ensures in
-    read_on _ _ _ _ _ _ _ i.read e.grows.given i.present i.rest e.read
+    read_on _ _ _ _ _ _ _ i.read e.stepped.grows.given i.present i.rest (record { present = e.stepped.read.present; rest = e.stepped.read.rest })
+
+-- ---- of the partition nothing was read
+
+pub returns-in-Ok-Done-clause-unread : goal.returns-in-Ok-Done-clause-unread
+returns-in-Ok-Done-clause-unread g c = unread_then c.steps.invariant.unread c.step.ensures.stepped.unread
+
+pub returns-in-Err-clause-unread : goal.returns-in-Err-clause-unread
+returns-in-Err-clause-unread g c = unread_then c.steps.invariant.unread c.step.ensures.stepped.unread

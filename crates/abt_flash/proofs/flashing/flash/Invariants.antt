@@ -1,10 +1,12 @@
 use Rattle.std.proofs.Common.{length, ◌<◌, ◌-◌, ◌≡◌, ◌≤◌, ◌+◌, ◌*◌, drop, max}
 use Rattle.std.specs.Prelude.{IsTrue}
 use Rattle.abt_chunks.specs.Turns.{todo}
-use Rattle.abt_flash.specs.Stepping.{Goes, IsFresh, idle, need_of}
+use Rattle.abt_flash.specs.Stepping.{Goes, IsFresh, need_of}
 use Rattle.abt_chunks.specs.declared.walk.Phase.TheVariants as phases
 use Rattle.abt_flash.proofs.Come.{Come}
 use Rattle.abt_flash.proofs.flashing.flash.Given as goal
+use Rattle.abt_flash.specs.Devices.{LeavesUnread}
+use Rattle.abt_chunks.specs.ListingAhead.{idle}
 
 abbrev pub invariant-steps : goal.invariant-steps
 invariant-steps g l =
@@ -22,8 +24,7 @@ invariant-steps g l =
       fresh : IsFresh l.machine.walk → l.partition ≡ l.fn.partition;
       measured : l.machine.walk.phase ≡ phases.Body → 0 < l.machine.walk.index → need_of l.machine.walk ≤ g.P.Source.size l.fn.partition;
       synced : (past l.partition).synced ≡ (past l.fn.partition).synced;
-      size : g.P.Source.size l.partition ≡ g.P.Source.size l.fn.partition;
-      unread : (g.P.Source.reads l.partition ≡ g.P.Source.reads l.fn.partition) × (g.P.Source.given l.partition ≡ g.P.Source.given l.fn.partition) × (g.P.Source.read_faults l.partition ≡ g.P.Source.read_faults l.fn.partition);
+      unread : LeavesUnread g.P.Source l.fn.partition l.partition;
       taken : took l.fn.partition ≤ took l.partition;
       frame : g.I.Input.read_frame l.input ≡ g.I.Input.read_frame l.fn.input;
       read_faults : g.I.Input.read_faults l.input ≡ g.I.Input.read_faults l.fn.input;

@@ -5,12 +5,14 @@ use Rattle.abt_sparse.specs.Block.{over}
 use Rattle.abt_io.proofs.Words.{length_words}
 use Rattle.abt_chunks.specs.Ahead.{somes}
 use Rattle.abt_io.specs.declared.device.DeviceFault.{DeviceFault}
-use Rattle.abt_flash.specs.Laying.{from_place, refused_in, syncs_in}
+use Rattle.abt_flash.specs.Laying.{refused_in, syncs_in}
 use Rattle.abt_flash.specs.declared.laying.Task.TheVariants as tasks
 use Rattle.abt_flash.proofs.Cells.{nothing_over, put_over}
 use Rattle.abt_flash.proofs.Moments.{during_put, during_sync, same_content}
 use Rattle.abt_flash.proofs.Tasks.{on_put, on_sync, on_words}
 use Rattle.abt_flash.proofs.laying.carry_out.Goals as goal
+use Rattle.std.proofs.Common.{rules}
+use Rattle.abt_chunks.specs.Places.{from_place}
 
 pub returns-in-Bytes-clause-laid : goal.returns-in-Bytes-clause-laid
 returns-in-Bytes-clause-laid g c tells =
@@ -24,10 +26,13 @@ returns-in-Bytes-clause-laid g c tells =
     let long : length c.part.result.now ≡ n = c.part.ensures.long ∙ none in
     rw c.in-Bytes.is (on_put n c.write_all_at.result _ _ (λ e. e ∙ put_over c.args.at p c.part.result.now (omega (arith, sized, fits, long)) ∙ ap (λ (x : List ℕ). over p (from_place c.args.at (somes x))) part) (c.write_all_at.ensures.written tells))
 
-pub returns-in-Bytes-clause-moments : goal.returns-in-Bytes-clause-moments
-returns-in-Bytes-clause-moments g c tells =
-    let long : length c.part.result.now ≡ c.in-Bytes.n = c.part.ensures.long ∙ (let z : c.in-Bytes.n - 0 ≡ c.in-Bytes.n = omega arith in z) in
-    rw c.in-Bytes.is (during_put c.args.at _ _ _ _ _ _ long (c.write_all_at.ensures.moments tells))
+pub returns-in-Bytes-clause-touches : goal.returns-in-Bytes-clause-touches
+returns-in-Bytes-clause-touches g c tells = record {
+  kept = search rules;
+  moments =
+      let long : length c.part.result.now ≡ c.in-Bytes.n = c.part.ensures.long ∙ (let z : c.in-Bytes.n - 0 ≡ c.in-Bytes.n = omega arith in z) in
+      rw c.in-Bytes.is (during_put c.args.at _ _ _ _ _ _ long (c.write_all_at.ensures.moments tells));
+}
 
 pub returns-in-Bytes-clause-all : goal.returns-in-Bytes-clause-all
 returns-in-Bytes-clause-all g c =
@@ -45,8 +50,11 @@ returns-in-Words-clause-laid g c tells =
     let long : length (concat (replicate n word)) ≡ 4 * n = length_words n word four in
     rw c.in-Words.is (on_words word n c.lay_words.result _ _ (λ e. e ∙ put_over c.args.at p (concat (replicate n word)) (omega (arith, sized, fits, long))) (c.lay_words.ensures.written tells))
 
-pub returns-in-Words-clause-moments : goal.returns-in-Words-clause-moments
-returns-in-Words-clause-moments g c tells = rw c.in-Words.is (during_put c.args.at _ _ _ _ _ _ refl (c.lay_words.ensures.moments tells))
+pub returns-in-Words-clause-touches : goal.returns-in-Words-clause-touches
+returns-in-Words-clause-touches g c tells = record {
+  kept = search rules;
+  moments = rw c.in-Words.is (during_put c.args.at _ _ _ _ _ _ refl (c.lay_words.ensures.moments tells));
+}
 
 pub returns-in-Words-clause-all : goal.returns-in-Words-clause-all
 returns-in-Words-clause-all g c = rw c.in-Words.is (on_words c.in-Words.word c.in-Words.n c.lay_words.result _ _ (λ e. e) c.lay_words.ensures.all)
@@ -56,8 +64,11 @@ returns-in-Sync-clause-laid g c tells =
     let p = g.P.Source.content c.args.partition.now in
     rw c.in-Sync.is (on_sync c.sync.result _ (same_content _ _ (c.sync.ensures.kept tells) ∙ sym (nothing_over p c.args.at)))
 
-pub returns-in-Sync-clause-moments : goal.returns-in-Sync-clause-moments
-returns-in-Sync-clause-moments g c tells = rw c.in-Sync.is (during_sync _ _ _ _ _ (c.sync.ensures.kept tells) (c.sync.ensures.moments tells))
+pub returns-in-Sync-clause-touches : goal.returns-in-Sync-clause-touches
+returns-in-Sync-clause-touches g c tells = record {
+  kept = search rules;
+  moments = rw c.in-Sync.is (during_sync _ _ _ _ _ (c.sync.ensures.kept tells) (c.sync.ensures.moments tells));
+}
 
 pub returns-in-Sync-clause-all : goal.returns-in-Sync-clause-all
 returns-in-Sync-clause-all g c = rw c.in-Sync.is (on_sync c.sync.result _ (omega (arith, c.sync.ensures.taken)))
@@ -121,5 +132,11 @@ returns-in-Sync-clause-refused_syncs g c =
     let calls = c.sync.ensures.calls in
     rw c.in-Sync.is (omega (arith, refused, synced, calls))
 
-pub returns-in-Sync-clause-few : goal.returns-in-Sync-clause-few
-returns-in-Sync-clause-few g c = on_any c.sync.result _ (omega (arith, c.sync.ensures.taken))
+pub returns-in-Sync-clause-costs : goal.returns-in-Sync-clause-costs
+returns-in-Sync-clause-costs g c = record {
+  taken = search rules;
+  calls = search rules;
+  turns = search rules;
+  few = on_any c.sync.result _ (omega (arith, c.sync.ensures.taken));
+  no_step = search rules;
+}

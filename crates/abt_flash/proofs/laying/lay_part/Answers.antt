@@ -1,6 +1,7 @@
-use Rattle.std.proofs.Common.{◌≡◌, ◌∙◌, arith}
+use Rattle.std.proofs.Common.{◌∙◌, arith}
 use Rattle.abt_flash.proofs.Tasks.{can_do, cause_answered, ends_answered, idle_still, laid_same, ok_answered, put_same, refused_answered, settles_part, sound_answered, syncs_answered, unless_answered}
 use Rattle.abt_flash.proofs.laying.lay_part.Goals as goal
+use Rattle.std.proofs.Common.{rules}
 
 pub carry_out-done-requires-clause-can : goal.carry_out-done-requires-clause-can
 carry_out-done-requires-clause-can g c = rw c.task_for-task.ensures (can_do c.args.part c.requires.writable)
@@ -15,11 +16,11 @@ pub returns-clause-laid : goal.returns-clause-laid
 returns-clause-laid g c tells = rw (c.answer_to.ensures, c.task_for-task.ensures)
     (unless_answered _ c.carry_out-done.result _ _ (λ e. e ∙ laid_same c.args.part c.args.w.now.bytes (g.P.Source.content c.args.partition.now) c.args.at) (rw c.task_for-task.ensures at (c.carry_out-done.ensures.laid tells)))
 
-pub returns-clause-kept : goal.returns-clause-kept
-returns-clause-kept g c tells = rw (c.task_for-task.ensures, put_same c.args.part) at (c.carry_out-done.ensures.kept tells)
-
-pub returns-clause-moments : goal.returns-clause-moments
-returns-clause-moments g c tells = rw (c.task_for-task.ensures, put_same c.args.part) at (c.carry_out-done.ensures.moments tells)
+pub returns-clause-touches : goal.returns-clause-touches
+returns-clause-touches g c tells = record {
+  kept = rw (c.task_for-task.ensures, put_same c.args.part) at ((c.carry_out-done.ensures.touches tells).kept);
+  moments = rw (c.task_for-task.ensures, put_same c.args.part) at ((c.carry_out-done.ensures.touches tells).moments);
+}
 
 pub returns-clause-settled : goal.returns-clause-settled
 returns-clause-settled g c tells = rw c.answer_to.ensures (ok_answered _ c.carry_out-done.result _ _ (settles_part c.args.part _) (rw c.task_for-task.ensures at (c.carry_out-done.ensures.settled tells)))
@@ -49,7 +50,13 @@ pub returns-clause-still : goal.returns-clause-still
 returns-clause-still g c h = c.carry_out-done.ensures.still (rw c.task_for-task.ensures (idle_still c.args.part h))
 
 pub returns-clause-cause : goal.returns-clause-cause
-returns-clause-cause g c = rw c.answer_to.ensures (cause_answered _ c.carry_out-done.result _ _ c.carry_out-done.ensures.cause c.carry_out-done.ensures.clean c.carry_out-done.ensures.failed)
+returns-clause-cause g c = rw c.answer_to.ensures (cause_answered _ c.carry_out-done.result _ _ c.carry_out-done.ensures.fails.cause c.carry_out-done.ensures.fails.clean c.carry_out-done.ensures.fails.failed)
 
-pub returns-clause-few : goal.returns-clause-few
-returns-clause-few g c = rw c.answer_to.ensures (ok_answered _ c.carry_out-done.result _ _ (λ e. e) c.carry_out-done.ensures.few)
+pub returns-clause-costs : goal.returns-clause-costs
+returns-clause-costs g c = record {
+  taken = search rules;
+  calls = search rules;
+  turns = search rules;
+  few = rw c.answer_to.ensures (ok_answered _ c.carry_out-done.result _ _ (λ e. e) c.carry_out-done.ensures.costs.few);
+  no_step = search rules;
+}

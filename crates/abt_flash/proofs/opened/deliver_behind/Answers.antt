@@ -1,14 +1,14 @@
 use Rattle.std.specs.Prelude.{IsTrue}
-use Rattle.std.proofs.Common.{◌≡◌, ℕ, ◌+◌, ◌*◌, ◌≤◌, ◌<◌, ◌^◌, List, length, drop, Err, refl, sym, ap, ◌∙◌, arith, inl}
+use Rattle.std.proofs.Common.{◌≡◌, ℕ, ◌+◌, ◌*◌, ◌≤◌, ◌<◌, ◌^◌, length, drop, Err, refl, sym, ap, ◌∙◌, arith, inl}
 use Rattle.std.proofs.lemmas.Nat.{mul-lt}
-use Rattle.abt_io.specs.Moment.{MayLeave, moment_of}
+use Rattle.abt_io.specs.Moment.{moment_of}
 use Rattle.abt_sparse.specs.Block.{IsBlockSize, cells, over}
 use Rattle.abt_sparse.proofs.MendLaws.{mended}
 use Rattle.abt_sparse.specs.Runs.{segments}
 use Rattle.abt_sparse.proofs.Totals.{length-pieces}
 use Rattle.abt_pieces.specs.Contents.{written_in}
 use Rattle.abt_pieces.specs.declared.stage.Stage.TheVariants.{Between}
-use Rattle.abt_flash.specs.Delivering.{Room, begun, blocks_behind, blocks_in_first, blocks_up_to, pieces_in}
+use Rattle.abt_flash.specs.Delivering.{Room, begun, blocks_behind, blocks_in_first, blocks_up_to}
 use Rattle.abt_flash.proofs.Left.{Behind, behind}
 use Rattle.abt_flash.proofs.Mended.{leaves_same}
 use Rattle.abt_flash.proofs.Onward.{up_on}
@@ -18,17 +18,21 @@ use Rattle.abt_flash.proofs.Staying.{blocks_grow, from_first}
 use Rattle.abt_flash.proofs.Summing.{on_any, on_ok, on_unsynced, least_of, behind_written}
 use Rattle.abt_flash.proofs.GivenBytes.{few_of, read_for}
 use Rattle.abt_flash.proofs.opened.deliver_behind.Goals as goal
+use Rattle.abt_io.proofs.Lent.{reads_none, reads_then, reads_err}
 
 -- ---- where no cutter was opened
 
 pub returns-in-Err-clause-refused : goal.returns-in-Err-clause-refused
 returns-in-Err-clause-refused g c = let small = c.in-Err.ensures.refused in rw c.not_opened.ensures (opening_refuses c.in-Err.fault _ _ _ _ _ _ _ _ _ small.0 small.1)
 
-pub returns-in-Err-clause-early : goal.returns-in-Err-clause-early
-returns-in-Err-clause-early g c = early_holds c.not_opened.result _ (refl, refl)
-
-pub returns-in-Err-clause-counted : goal.returns-in-Err-clause-counted
-returns-in-Err-clause-counted g c tells = rw c.not_opened.ensures (opening_counts c.in-Err.fault _ _)
+pub returns-in-Err-clause-delivers : goal.returns-in-Err-clause-delivers
+returns-in-Err-clause-delivers g c = record {
+  early = early_holds c.not_opened.result _ (refl, refl);
+  some = tt;
+  counted = λ tells. rw c.not_opened.ensures (opening_counts c.in-Err.fault _ _);
+  least = λ tells. tt;
+  clean = tt;
+}
 
 pub returns-in-Err-clause-spool : goal.returns-in-Err-clause-spool
 returns-in-Err-clause-spool g c = gives_none _ _ _ _ _ _ _ _
@@ -86,8 +90,16 @@ returns-in-Err-plan_pieces-clause-refused g c =
     let room : Room c.args.limit (g.R.BlockRuns.size c.args.runs) (g.R.BlockRuns.count c.args.runs) (g.P.Source.size c.args.partition.now) = record { each = o.granted; all = rw (count, size, c.length.ensures.size) at c.if-is_too_small.ensures } in
     plan_refuses c.in-Err-plan_pieces.fault _ _ _ _ _ _ _ _ _ room c.in-Err-plan_pieces.ensures.refused
 
-pub returns-in-Err-plan_pieces-clause-early : goal.returns-in-Err-plan_pieces-clause-early
-returns-in-Err-plan_pieces-clause-early g c = early_holds c.in-Err-plan_pieces.fault _ (refl, refl)
+pub returns-in-Err-plan_pieces-clause-delivers : goal.returns-in-Err-plan_pieces-clause-delivers
+returns-in-Err-plan_pieces-clause-delivers g c = record {
+  early = early_holds c.in-Err-plan_pieces.fault _ (refl, refl);
+  some = tt;
+  counted = λ tells.
+      let o = c.in-Ok.ensures in
+      rw (length-pieces c.args.limit (g.R.BlockRuns.size c.args.runs) (g.R.BlockRuns.list c.args.runs (g.S.Source.content c.args.source.now))) (rw (o.runs, o.limit) at (c.in-Err-plan_pieces.ensures.counted tells));
+  least = λ tells. tt;
+  clean = tt;
+}
 
 pub returns-in-Err-plan_pieces-clause-spool : goal.returns-in-Err-plan_pieces-clause-spool
 returns-in-Err-plan_pieces-clause-spool g c = gives_none _ _ _ _ _ _ _ _
@@ -97,11 +109,6 @@ returns-in-Err-plan_pieces-clause-partition g c = lays_none _ _ _ _ _ _ _ _ (pla
 
 pub returns-in-Err-plan_pieces-clause-mends : goal.returns-in-Err-plan_pieces-clause-mends
 returns-in-Err-plan_pieces-clause-mends g c tells spool partition = mends_none _ _ _ _ _ (plan_early _ _ _ _ _ c.in-Err-plan_pieces.ensures.refused)
-
-pub returns-in-Err-plan_pieces-clause-counted : goal.returns-in-Err-plan_pieces-clause-counted
-returns-in-Err-plan_pieces-clause-counted g c tells =
-    let o = c.in-Ok.ensures in
-    rw (length-pieces c.args.limit (g.R.BlockRuns.size c.args.runs) (g.R.BlockRuns.list c.args.runs (g.S.Source.content c.args.source.now))) (rw (o.runs, o.limit) at (c.in-Err-plan_pieces.ensures.counted tells))
 
 pub returns-in-Err-plan_pieces-clause-mendable : goal.returns-in-Err-plan_pieces-clause-mendable
 returns-in-Err-plan_pieces-clause-mendable g c tells spool partition first none = mendable_none _ _ _ none
@@ -118,10 +125,10 @@ returns-in-Err-plan_pieces-clause-costs g c =
     record {
       begun = p.costs.begun;
       counted = begins_same _ _ _ _ _ (Err c.in-Err-plan_pieces.fault) (λ t. same ∙ sym (length-pieces c.args.limit b all)) p.costs.counted;
-      calls = omega (arith, calls, p.given);
-      turns = omega (arith, turns, p.given);
-      steps = omega (arith, p.steps);
-      greatest = p.greatest;
+      calls = omega (arith, calls, p.costs.read);
+      turns = omega (arith, turns, p.costs.read);
+      steps = omega (arith, p.costs.steps);
+      greatest = p.costs.greatest;
     }
 
 -- ---- where all pieces behind the first ones were delivered, or one was stopped
@@ -141,31 +148,30 @@ returns-clause-refused g c =
     let count : c.blocks-2.result ≡ g.R.BlockRuns.count c.args.runs = rw o.runs at c.blocks-2.ensures in
     let size : c.block_size.result ≡ g.R.BlockRuns.size c.args.runs = rw o.runs at c.block_size.ensures in
     let room : Room c.args.limit (g.R.BlockRuns.size c.args.runs) (g.R.BlockRuns.count c.args.runs) (g.P.Source.size c.args.partition.now) = record { each = o.granted; all = rw (count, size, c.length.ensures.size) at c.if-is_too_small.ensures } in
-    rest_refuses c.deliver_rest.result _ _ _ _ _ _ _ _ _ _ (record { read = p.faults; write = omega arith; spool = omega arith; put = omega arith }) room (rw p.planned.1 at c.deliver_rest.ensures.stops)
+    rest_refuses c.deliver_rest.result _ _ _ _ _ _ _ _ _ _ (record { read = p.source.faults; write = omega arith; spool = omega arith; put = omega arith }) room (rw p.planned.1 at c.deliver_rest.ensures.fails.stops)
 
-pub returns-clause-early : goal.returns-clause-early
-returns-clause-early g c = rest_early _ c.deliver_rest.result _ _ _ _ _ c.deliver_rest.ensures.stops
+pub returns-clause-delivers : goal.returns-clause-delivers
+returns-clause-delivers g c = record {
+  early = rest_early _ c.deliver_rest.result _ _ _ _ _ c.deliver_rest.ensures.fails.stops;
+  some = c.deliver_rest.ensures.some;
+  counted = λ tells.
+      let o = c.in-Ok.ensures in
+      let p = c.in-Ok-plan_pieces.ensures in
+      rw (length-pieces c.args.limit (g.R.BlockRuns.size c.args.runs) (g.R.BlockRuns.list c.args.runs (g.S.Source.content c.args.source.now))) (rw (p.runs, o.runs, p.source.content tells, p.limit, o.limit, p.planned.1) at (c.deliver_rest.ensures.counted tells));
+  least = λ tells.
+      let o = c.in-Ok.ensures in
+      let p = c.in-Ok-plan_pieces.ensures in
+      least_of c.args.limit (g.R.BlockRuns.size c.args.runs) (g.R.BlockRuns.list c.args.runs (g.S.Source.content c.args.source.now)) c.args.before c.deliver_rest.result (rw (p.runs, o.runs, p.source.content tells, p.limit, o.limit, p.planned.1) at (c.deliver_rest.ensures.counted tells));
+  clean =
+      let before = c.in-Ok-plan_pieces.ensures.source.clean in
+      on_ok c.deliver_rest.result (λ e. record { read = e.read ∙ before; write = e.write; spool = e.spool; put = e.put }) c.deliver_rest.ensures.fails.clean;
+}
 
-pub returns-clause-content : goal.returns-clause-content
-returns-clause-content g c tells = c.deliver_rest.ensures.content tells ∙ c.in-Ok-plan_pieces.ensures.content tells
-
-pub returns-clause-frame : goal.returns-clause-frame
-returns-clause-frame g c = c.deliver_rest.ensures.frame ∙ c.in-Ok-plan_pieces.ensures.frame
+pub returns-clause-source : goal.returns-clause-source
+returns-clause-source g c = reads_then c.in-Ok-plan_pieces.ensures.source c.deliver_rest.ensures.source
 
 pub returns-clause-long : goal.returns-clause-long
 returns-clause-long g c = rw (c.in-Ok-plan_pieces.ensures.runs, c.in-Ok.ensures.runs) at c.deliver_rest.ensures.long
-
-pub returns-clause-counted : goal.returns-clause-counted
-returns-clause-counted g c tells =
-    let o = c.in-Ok.ensures in
-    let p = c.in-Ok-plan_pieces.ensures in
-    rw (length-pieces c.args.limit (g.R.BlockRuns.size c.args.runs) (g.R.BlockRuns.list c.args.runs (g.S.Source.content c.args.source.now))) (rw (p.runs, o.runs, p.content tells, p.limit, o.limit, p.planned.1) at (c.deliver_rest.ensures.counted tells))
-
-pub returns-clause-least : goal.returns-clause-least
-returns-clause-least g c tells =
-    let o = c.in-Ok.ensures in
-    let p = c.in-Ok-plan_pieces.ensures in
-    least_of c.args.limit (g.R.BlockRuns.size c.args.runs) (g.R.BlockRuns.list c.args.runs (g.S.Source.content c.args.source.now)) c.args.before c.deliver_rest.result (rw (p.runs, o.runs, p.content tells, p.limit, o.limit, p.planned.1) at (c.deliver_rest.ensures.counted tells))
 
 pub returns-clause-spool : goal.returns-clause-spool
 returns-clause-spool g c =
@@ -173,14 +179,14 @@ returns-clause-spool g c =
     let p = c.in-Ok-plan_pieces.ensures in
     let r = c.deliver_rest.ensures in
     record {
-      room = r.capacity;
-      fits = rw (p.limit, o.limit) at r.fits;
-      written = λ tells. rw (p.runs, o.runs, p.content tells, p.limit, o.limit, p.planned.1) at (r.written tells);
-      cuts = λ tells. rw (p.runs, o.runs, p.content tells, p.limit, o.limit, p.planned.1) at (r.cuts tells);
-      begins = λ forward tells. rw (p.runs, o.runs, p.content tells, p.limit, o.limit, p.planned.1) at (r.begins forward tells);
-      no_part = λ late tells. rw (p.runs, o.runs, p.content tells, p.limit, o.limit, p.planned.1) at (r.no_part late tells);
-      ends = λ late. rw (p.runs, o.runs) at (r.ends late);
-      back = λ tells spool. r.back tells spool;
+      room = r.spool.room;
+      fits = rw (p.limit, o.limit) at r.spool.fits;
+      written = λ tells. rw (p.runs, o.runs, p.source.content tells, p.limit, o.limit, p.planned.1) at (r.spool.written tells);
+      cuts = λ tells. rw (p.runs, o.runs, p.source.content tells, p.limit, o.limit, p.planned.1) at (r.spool.cuts tells);
+      begins = λ forward tells. rw (p.runs, o.runs, p.source.content tells, p.limit, o.limit, p.planned.1) at (r.spool.begins forward tells);
+      no_part = λ late tells. rw (p.runs, o.runs, p.source.content tells, p.limit, o.limit, p.planned.1) at (r.spool.no_part late tells);
+      ends = λ late. rw (p.runs, o.runs) at (r.spool.ends late);
+      back = λ tells spool. r.spool.back tells spool;
     }
 
 pub returns-clause-partition : goal.returns-clause-partition
@@ -196,22 +202,22 @@ returns-clause-partition g c =
     let made = rw (o.runs, p.limit, o.limit, p.planned.0, p.planned.1) at (p.told tells).cuts in
     behind c.args.limit b all c.args.before c.plan_pieces.new.cutter.start.block Between made (inl refl) (omega (arith, long, within)) in
     record {
-      size = r.size;
-      unread = r.unread;
+      size = r.partition.size;
+      unread = r.partition.unread;
       laid = λ tells spool partition.
-          let laid = rw (p.runs, o.runs, p.content tells) at (r.laid tells spool partition) in
+          let laid = rw (p.runs, o.runs, p.source.content tells) at (r.partition.laid tells spool partition) in
           on_ok c.deliver_rest.result (λ e. e ∙ ap (λ (n : ℕ). over (g.P.Source.content c.args.partition.now) (cells b (blocks_behind n all))) (sym (here tells).blocks)) laid;
       laid_up_to = λ tells spool partition.
-          let laid = rw (p.runs, o.runs, p.content tells, p.limit, o.limit) at (r.laid_up_to tells spool partition) in
+          let laid = rw (p.runs, o.runs, p.source.content tells, p.limit, o.limit) at (r.partition.laid_up_to tells spool partition) in
           on_unsynced c.deliver_rest.result _ _ (λ j e. e ∙ ap (λ (n : ℕ). over (g.P.Source.content c.args.partition.now) (cells b (blocks_up_to n (blocks_in_first c.args.limit b all j) all))) (sym (here tells).blocks)) laid;
       once = λ tells spool.
-          let wrote = rw (p.runs, o.runs, p.content tells) at (r.blocks tells spool) in
+          let wrote = rw (p.runs, o.runs, p.source.content tells) at (r.partition.blocks tells spool) in
           let same : written_in (drop c.plan_pieces.new.cutter.start.block all) ≡ written_in (blocks_behind (blocks_in_first c.args.limit b all c.args.before) all) = sym (behind_written c.plan_pieces.new.cutter.start.block all) ∙ ap (λ (n : ℕ). written_in (blocks_behind n all)) (sym (here tells).blocks) in
           on_ok c.deliver_rest.result (λ e. e ∙ ap (λ (k : ℕ). g.P.Partition.taken c.args.partition.now + b * k) same) wrote;
-      synced = rw p.planned.1 at r.synced;
-      unsynced = r.unsynced;
-      settled = r.settled;
-      lasts = λ partition. on_ok c.deliver_rest.result (λ none q may. leaves_same (moment_of (g.P.Partition.past c.deliver_rest.new.partition) (g.P.Source.content c.deliver_rest.new.partition)) q none may) (r.settled partition);
+      synced = rw p.planned.1 at r.partition.synced;
+      unsynced = r.partition.unsynced;
+      settled = r.partition.settled;
+      lasts = λ partition. on_ok c.deliver_rest.result (λ none q may. leaves_same (moment_of (g.P.Partition.past c.deliver_rest.new.partition) (g.P.Source.content c.deliver_rest.new.partition)) q none may) (r.partition.settled partition);
     }
 
 pub returns-clause-mends : goal.returns-clause-mends
@@ -231,11 +237,11 @@ returns-clause-mends g c tells spool partition =
     let within : c.plan_pieces.new.cutter.start.block ≤ g.R.BlockRuns.count c.args.runs = rw (p.runs, o.runs) at (g.met.R.BlockRuns.bounded c.plan_pieces.new.cutter.runs _ c.plan_pieces.new.cutter.sound.within) in
     let made = rw (o.runs, p.limit, o.limit, p.planned.0, p.planned.1) at (p.told tells).cuts in
     let here = behind c.args.limit b all c.args.before c.plan_pieces.new.cutter.start.block Between made (inl refl) (omega (arith, long, within)) in
-    let laid = rw (p.runs, o.runs, p.content tells) at (r.laid tells spool partition) in
-    let stays = rw (p.runs, o.runs, p.content tells, p.limit, o.limit, p.planned.1) at (r.stays tells spool partition) in
+    let laid = rw (p.runs, o.runs, p.source.content tells) at (r.partition.laid tells spool partition) in
+    let stays = rw (p.runs, o.runs, p.source.content tells, p.limit, o.limit, p.planned.1) at (r.stays tells spool partition) in
     record {
       stays = stays;
-      stopped = stop_mends _ _ _ _ c.deliver_rest.result _ _ _ _ _ _ _ _ (rw p.planned.1 at r.stops) (rw p.planned.1 at r.synced) stays;
+      stopped = stop_mends _ _ _ _ c.deliver_rest.result _ _ _ _ _ _ _ _ (rw p.planned.1 at r.fails.stops) (rw p.planned.1 at r.partition.synced) stays;
       mends = on_ok c.deliver_rest.result (λ e q done le m. e ∙ mended b all q (g.P.Source.content c.args.partition.now) (blocks_in_first c.args.limit b all done) c.plan_pieces.new.cutter.start.block size good m (rw (← here.blocks) (blocks_grow c.args.limit b all c.args.before done le))) laid;
     }
 
@@ -272,48 +278,44 @@ returns-clause-costs g c =
     let p = c.in-Ok-plan_pieces.ensures in
     let r = c.deliver_rest.ensures in
     let all = begun c.args.before c.deliver_rest.result in
-    let stops = rw p.planned.1 at r.stops in
+    let stops = rw p.planned.1 at r.fails.stops in
     let more = rest_more c.args.before c.deliver_rest.result _ _ _ _ stops in
     let planned = p.costs.counted in
     let plan_calls = p.costs.calls in
     let plan_turns = rw o.runs at p.costs.turns in
-    let calls = rw p.planned.1 at r.calls in
-    let turns = rw (p.planned.1, p.runs, o.runs) at r.turns in
+    let calls = rw p.planned.1 at r.work.calls in
+    let turns = rw (p.planned.1, p.runs, o.runs) at r.work.turns in
     record {
       begun = all;
       counted = rest_begins _ _ c.args.before c.deliver_rest.result _ _ _ _ stops;
-      calls = omega (arith, more, planned, plan_calls, calls, p.given);
-      turns = omega (arith, more, planned, plan_turns, turns, p.given);
-      steps = omega (arith, p.steps, r.work.steps);
-      greatest = omega (arith, p.greatest, r.work.greatest);
+      calls = omega (arith, more, planned, plan_calls, calls, p.costs.read);
+      turns = omega (arith, more, planned, plan_turns, turns, p.costs.read);
+      steps = omega (arith, p.costs.steps, r.work.work.steps);
+      greatest = omega (arith, p.costs.greatest, r.work.work.greatest);
     }
-
-pub returns-clause-clean : goal.returns-clause-clean
-returns-clause-clean g c =
-    let before = c.in-Ok-plan_pieces.ensures.clean in
-    on_ok c.deliver_rest.result (λ e. record { read = e.read ∙ before; write = e.write; spool = e.spool; put = e.put }) c.deliver_rest.ensures.clean
 
 -- ---- what planning and delivering ask for
 
-pub plan_pieces-requires-clause-opened : goal.plan_pieces-requires-clause-opened
-plan_pieces-requires-clause-opened g c tells = rw c.in-Ok.ensures.runs (c.requires.opened tells)
+pub plan_pieces-requires-clause-ready : goal.plan_pieces-requires-clause-ready
+plan_pieces-requires-clause-ready g c =
+    let o = c.in-Ok.ensures in
+    record {
+      opened = λ tells. rw o.runs (c.requires.opened tells);
+      told = λ tells. rw o.runs (o.told _ (c.requires.opened tells));
+    }
 
-pub plan_pieces-requires-clause-told : goal.plan_pieces-requires-clause-told
-plan_pieces-requires-clause-told g c tells = let o = c.in-Ok.ensures in rw o.runs (o.told _ (c.requires.opened tells))
-
-pub deliver_rest-requires-clause-inside : goal.deliver_rest-requires-clause-inside
-deliver_rest-requires-clause-inside g c = let p = c.in-Ok-plan_pieces.ensures in rw p.runs p.inside
-
-pub deliver_rest-requires-clause-few : goal.deliver_rest-requires-clause-few
-deliver_rest-requires-clause-few g c = let p = c.in-Ok-plan_pieces.ensures in rw p.runs p.few
-
-pub deliver_rest-requires-clause-opened : goal.deliver_rest-requires-clause-opened
-deliver_rest-requires-clause-opened g c tells =
+pub deliver_rest-requires-clause-comes : goal.deliver_rest-requires-clause-comes
+deliver_rest-requires-clause-comes g c =
     let p = c.in-Ok-plan_pieces.ensures in
-    rw (p.runs, c.in-Ok.ensures.runs, p.content tells) (c.requires.opened tells)
+    record { between = p.planned.0; inside = rw p.runs p.inside; few = rw p.runs p.few }
 
-pub deliver_rest-requires-clause-told : goal.deliver_rest-requires-clause-told
-deliver_rest-requires-clause-told g c tells = let p = c.in-Ok-plan_pieces.ensures in rw (p.runs, p.content tells) (p.told tells)
+pub deliver_rest-requires-clause-ready : goal.deliver_rest-requires-clause-ready
+deliver_rest-requires-clause-ready g c =
+    let p = c.in-Ok-plan_pieces.ensures in
+    record {
+      opened = λ tells. rw (p.runs, c.in-Ok.ensures.runs, p.source.content tells) (c.requires.opened tells);
+      told = λ tells. rw (p.runs, p.source.content tells) (p.told tells);
+    }
 
 pub deliver_rest-requires-clause-capacity : goal.deliver_rest-requires-clause-capacity
 deliver_rest-requires-clause-capacity g c = rw (c.in-Ok-plan_pieces.ensures.limit, c.in-Ok.ensures.limit) c.requires.capacity
@@ -328,11 +330,8 @@ deliver_rest-requires-clause-room g c =
 pub returns-clause-grown : goal.returns-clause-grown
 returns-clause-grown g c =
     let p = c.in-Ok-plan_pieces.ensures in
-    let w = c.deliver_rest.ensures.work in
-    (up_on _ _ _ p.given w.given, w.spool_given, w.grown, w.taken)
-
-pub returns-clause-faults : goal.returns-clause-faults
-returns-clause-faults g c = up_on _ _ _ c.in-Ok-plan_pieces.ensures.faults c.deliver_rest.ensures.faults.read
+    let w = c.deliver_rest.ensures.work.work in
+    (up_on _ _ _ p.costs.read w.given, w.spool_given, w.grown, w.taken)
 
 -- ---- the bytes of all blocks fit 64 bits
 
@@ -340,3 +339,12 @@ pub overflow_mul-need : goal.overflow_mul-need
 overflow_mul-need g c =
     let less = mul-lt c.blocks-2.result c.block_size.result 4294967296 4294967296 c.blocks-2.type_inv c.block_size.type_inv in
     omega (arith, less)
+
+pub returns-in-Err-clause-source : goal.returns-in-Err-clause-source
+returns-in-Err-clause-source g c = reads_none _ _ _
+
+pub returns-then-is_too_small-clause-source : goal.returns-then-is_too_small-clause-source
+returns-then-is_too_small-clause-source g c = reads_none _ _ _
+
+pub returns-in-Err-plan_pieces-clause-source : goal.returns-in-Err-plan_pieces-clause-source
+returns-in-Err-plan_pieces-clause-source g c = reads_err _ c.in-Err-plan_pieces.ensures.source

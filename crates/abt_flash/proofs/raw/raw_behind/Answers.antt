@@ -2,7 +2,7 @@ use Rattle.std.proofs.Common.{ℕ, ◌≡◌, length, ap, arith}
 use Rattle.std.specs.Prelude.{IsTrue}
 use Rattle.abt_sparse.specs.Block.{classify}
 use Rattle.abt_runs.specs.RawLaws.{raw_long}
-use Rattle.abt_flash.specs.Delivering.{ImageBlocks, blocks_in_first, pieces_in}
+use Rattle.abt_flash.specs.Delivering.{blocks_in_first}
 use Rattle.abt_flash.specs.Raw.{raw_image}
 use Rattle.abt_flash.proofs.Records.{costs_more, counts_same, gives_none, gives_same, lays_none, lays_same, least_same, mendable_none, mendable_same, mends_none, mends_same, run_begins, run_early}
 use Rattle.abt_flash.proofs.GivenBytes.{read_raw}
@@ -20,11 +20,6 @@ counts g c tells =
 same : (g : Over) (c : In-Ok g) → raw_image c.in-Ok.runs.size (g.S.Source.content c.args.source.now) ≡ raw_image c.args.b (g.S.Source.content c.args.source.now)
 same g c = ap (λ n. raw_image n (g.S.Source.content c.args.source.now)) c.in-Ok.ensures.size.0
 
-pub returns-in-Ok-clause-granted : goal.returns-in-Ok-clause-granted
-returns-in-Ok-clause-granted g c tells =
-    let k = (goal.at.returns-in-Ok-clause-granted g c).In-Ok in
-    rw (counts g k tells) (rw (c.in-Ok.ensures.size.0) at c.deliver_behind.ensures.granted)
-
 -- it is opened as the blocks that its length fills
 opens : (g : Over) (c : In-Ok g) → OpensRaw c.args.b c.in-Ok.runs.blocks (g.S.Source.content c.args.source.now) (g.S.Source.size c.args.source.now) g.S.Source.tells
 opens g c =
@@ -41,11 +36,14 @@ pub returns-in-Ok-clause-allowed : goal.returns-in-Ok-clause-allowed
 returns-in-Ok-clause-allowed g c =
     raw_allowed c.deliver_behind.result _ _ _ _ _ _ _ (opens g ((goal.at.returns-in-Ok-clause-allowed g c).In-Ok)) (rw (c.in-Ok.ensures.size.0) at c.deliver_behind.ensures.granted)
 
-pub returns-in-Ok-clause-counted : goal.returns-in-Ok-clause-counted
-returns-in-Ok-clause-counted g c tells = counts_same c.deliver_behind.result _ _ _ _ (same g ((goal.at.returns-in-Ok-clause-counted g c).In-Ok)) (c.deliver_behind.ensures.counted tells)
-
-pub returns-in-Ok-clause-least : goal.returns-in-Ok-clause-least
-returns-in-Ok-clause-least g c tells = least_same c.deliver_behind.result _ _ _ _ (same g ((goal.at.returns-in-Ok-clause-least g c).In-Ok)) (c.deliver_behind.ensures.least tells)
+pub returns-in-Ok-clause-delivers : goal.returns-in-Ok-clause-delivers
+returns-in-Ok-clause-delivers g c = record {
+  early = c.deliver_behind.ensures.delivers.early;
+  some = c.deliver_behind.ensures.delivers.some;
+  counted = λ tells. counts_same c.deliver_behind.result _ _ _ _ (same g ((goal.at.returns-in-Ok-clause-delivers g c).In-Ok)) (c.deliver_behind.ensures.delivers.counted tells);
+  least = λ tells. least_same c.deliver_behind.result _ _ _ _ (same g ((goal.at.returns-in-Ok-clause-delivers g c).In-Ok)) (c.deliver_behind.ensures.delivers.least tells);
+  clean = c.deliver_behind.ensures.delivers.clean;
+}
 
 pub returns-in-Ok-clause-spool : goal.returns-in-Ok-clause-spool
 returns-in-Ok-clause-spool g c = gives_same _ _ _ _ _ _ _ c.deliver_behind.result _ _ (λ tells. same g ((goal.at.returns-in-Ok-clause-spool g c).In-Ok)) (λ late. c.in-Ok.ensures.size.0) c.deliver_behind.ensures.spool

@@ -15,6 +15,8 @@ use Rattle.abt_flash.proofs.Refusing.{Opens, sparse_refused, fits_sparse}
 use Rattle.abt_flash.proofs.sparse.sparse_behind.Goals as goal
 use Rattle.abt_flash.proofs.sparse.sparse_behind.Goals.{In-Ok}
 use Rattle.abt_flash.proofs.sparse.sparse_behind.Given.{Over}
+use Rattle.abt_io.proofs.Lent.{reads_then}
+use Rattle.abt_io.proofs.Lent.{reads_err}
 
 opens : (g : Over) (c : In-Ok g) → IsTrue g.S.Source.tells → Opens (g.S.Source.content c.args.source.now) c.in-Ok.runs.header.blk_sz c.in-Ok.runs.header.total_blks
 opens g c tells =
@@ -23,21 +25,26 @@ opens g c tells =
 
 -- the opened image is the one in front
 same : (g : Over) (c : In-Ok g) → IsTrue g.S.Source.tells → (let i : ImageBlocks = record { size = c.in-Ok.runs.header.blk_sz; blocks = blocks_in (outcome (g.S.Source.content c.open.new.source)) } in i ≡ sparse_image (g.S.Source.content c.args.source.now))
-same g c tells = image_same _ _ _ _ (sym (opens g c tells).size) (ap (λ x. blocks_in (outcome x)) (c.open.ensures.content tells))
+same g c tells = image_same _ _ _ _ (sym (opens g c tells).size) (ap (λ x. blocks_in (outcome x)) (c.open.ensures.reads.content tells))
 
 pub returns-in-Ok-clause-granted : goal.returns-in-Ok-clause-granted
 returns-in-Ok-clause-granted g c tells = on_ok c.deliver_behind.result (λ room. fits_sparse _ _ _ _ _ (opens g ((goal.at.returns-in-Ok-clause-granted g c).In-Ok) tells) room) c.deliver_behind.ensures.granted
 
 pub returns-in-Ok-clause-refused : goal.returns-in-Ok-clause-refused
 returns-in-Ok-clause-refused g c =
-    let more = c.open.ensures.faults in
+    let more = c.open.ensures.reads.faults in
     sparse_refused c.deliver_behind.result _ _ _ _ _ _ _ _ _ _ _ (record { read = more; write = omega arith; spool = omega arith; put = omega arith }) (λ tells. opens g ((goal.at.returns-in-Ok-clause-refused g c).In-Ok) tells) c.deliver_behind.ensures.refused
 
-pub returns-in-Ok-clause-counted : goal.returns-in-Ok-clause-counted
-returns-in-Ok-clause-counted g c tells = counts_same c.deliver_behind.result _ _ _ _ (same g ((goal.at.returns-in-Ok-clause-counted g c).In-Ok) tells) (c.deliver_behind.ensures.counted tells)
-
-pub returns-in-Ok-clause-least : goal.returns-in-Ok-clause-least
-returns-in-Ok-clause-least g c tells = least_same c.deliver_behind.result _ _ _ _ (same g ((goal.at.returns-in-Ok-clause-least g c).In-Ok) tells) (c.deliver_behind.ensures.least tells)
+pub returns-in-Ok-clause-delivers : goal.returns-in-Ok-clause-delivers
+returns-in-Ok-clause-delivers g c = record {
+  early = c.deliver_behind.ensures.delivers.early;
+  some = c.deliver_behind.ensures.delivers.some;
+  counted = λ tells. counts_same c.deliver_behind.result _ _ _ _ (same g ((goal.at.returns-in-Ok-clause-delivers g c).In-Ok) tells) (c.deliver_behind.ensures.delivers.counted tells);
+  least = λ tells. least_same c.deliver_behind.result _ _ _ _ (same g ((goal.at.returns-in-Ok-clause-delivers g c).In-Ok) tells) (c.deliver_behind.ensures.delivers.least tells);
+  clean =
+      let before = c.in-Ok.ensures.reads.clean in
+      on_ok c.deliver_behind.result (λ e. record { read = e.read ∙ before; write = e.write; spool = e.spool; put = e.put }) c.deliver_behind.ensures.delivers.clean;
+}
 
 pub returns-in-Ok-clause-spool : goal.returns-in-Ok-clause-spool
 returns-in-Ok-clause-spool g c = gives_same _ _ _ _ _ _ _ c.deliver_behind.result _ _ (λ tells. same g ((goal.at.returns-in-Ok-clause-spool g c).In-Ok) tells) (λ late. absurd (let z : true ≡ false = late in cc)) c.deliver_behind.ensures.spool
@@ -94,16 +101,17 @@ returns-in-Err-clause-costs g c =
       greatest = omega (arith, e.greatest);
     }
 
-pub returns-in-Ok-clause-clean : goal.returns-in-Ok-clause-clean
-returns-in-Ok-clause-clean g c =
-    let before = c.in-Ok.ensures.clean in
-    on_ok c.deliver_behind.result (λ e. record { read = e.read ∙ before; write = e.write; spool = e.spool; put = e.put }) c.deliver_behind.ensures.clean
-
 pub returns-in-Ok-clause-reads : goal.returns-in-Ok-clause-reads
 returns-in-Ok-clause-reads g c tells =
     let s = c.in-Ok.runs in
     let e = c.deliver_behind.ensures in
     let charge = sparse_charge (view s.header) in
     let image : s.image ≡ image_length (g.S.Source.content c.args.source.now) = image_is (view s.header) s.length s.image _ (c.in-Ok.ensures.opened tells) in
-    let read = forward_read c.deliver_behind.result _ charge charge 0 s.image s.image s.header.total_blks s.image _ c.args.before _ _ e.some e.few (sparse_spared s.header.total_blks s.image) (sparse_economy s.image) (e.reads tells) in
+    let read = forward_read c.deliver_behind.result _ charge charge 0 s.image s.image s.header.total_blks s.image _ c.args.before _ _ e.delivers.some e.few (sparse_spared s.header.total_blks s.image) (sparse_economy s.image) (e.reads tells) in
     rw (← image) (behind_opening c.deliver_behind.result _ _ _ _ (8 * s.image) (λ (n : ℕ). 128 * (c.args.before + n + 1)) c.in-Ok.ensures.charged read)
+
+pub returns-in-Ok-clause-source : goal.returns-in-Ok-clause-source
+returns-in-Ok-clause-source g c = reads_then c.in-Ok.ensures.reads c.deliver_behind.ensures.source
+
+pub returns-in-Err-clause-source : goal.returns-in-Err-clause-source
+returns-in-Err-clause-source g c = reads_err _ c.in-Err.ensures.reads

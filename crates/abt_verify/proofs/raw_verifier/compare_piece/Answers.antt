@@ -2,7 +2,9 @@ use Rattle.std.proofs.Common.{◌≡◌, ◌++◌, ℕ, List, length, take, drop
 use Rattle.std.specs.Prelude.{IfNone}
 use Rattle.std.proofs.lemmas.List.{take-append-le}
 use Rattle.abt_chunks.specs.Ahead.{somes}
-use Rattle.abt_verify.specs.Standing.{Stands, from_place}
+use Rattle.abt_chunks.proofs.Causes.{any_ok}
+use Rattle.abt_chunks.specs.Places.{from_place}
+use Rattle.abt_verify.specs.Standing.{Stands}
 use Rattle.abt_verify.proofs.RawSteps.{all_came, none_failed, part_cause, short_cause}
 use Rattle.abt_verify.proofs.raw_verifier.compare_piece.Goals as goal
 
@@ -35,3 +37,13 @@ returns-in-None-clause-cause g c =
     let o = c.read_full_at-got.ensures in
     part_cause c.compare_at-done.result.fault g.S.Source.tells (g.S.Source.read_faults c.args.source.now) (g.S.Source.read_faults c.read_full_at-got.new.source) (g.P.Source.read_faults c.args.partition.now) (g.P.Source.read_faults c.compare_at-done.new.partition)
     (o.clean (none_failed c.read_full_at-got.result.fault c.read_full_at-got.result.count c.args.n c.in-None.ensures)) c.compare_at-done.ensures.cause
+
+pub returns-in-None-clause-source : goal.returns-in-None-clause-source
+returns-in-None-clause-source g c = let o = c.read_full_at-got.ensures in record {
+  content = o.content;
+  size = o.size;
+  frame = o.frame;
+  faults = o.faults;
+  clean = any_ok _ (o.clean
+      (none_failed c.read_full_at-got.result.fault c.read_full_at-got.result.count c.args.n c.in-None.ensures));
+}

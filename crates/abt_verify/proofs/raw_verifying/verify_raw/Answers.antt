@@ -1,5 +1,6 @@
-use Rattle.std.proofs.Common.{◌≡◌, ◌<◌, ◌+◌, ◌-◌, Bool, Ok, Err, Result, length, arith, refl, ap, sym, ◌∙◌, ℕ}
+use Rattle.std.proofs.Common.{◌≡◌, Bool, Ok, Err, Result, length, arith, ap, sym, ◌∙◌, ℕ}
 use Rattle.std.specs.Int.{div_ceil}
+use Rattle.abt_io.proofs.Lent.{reads_err, reads_none, reads_ok, reads_then}
 use Rattle.abt_chunks.specs.declared.progress.Progress.{Progress}
 use Rattle.abt_chunks.specs.declared.progress.Progress.TheVariants.{Done, More}
 use Rattle.abt_verify.specs.Fault.{HasRawCause, RawCause}
@@ -19,12 +20,8 @@ steps-init g c =
       told = λ tells there. rw none (stands_nothing _);
       read = omega (arith, none);
       compared = omega (arith, none);
-      same_source = λ tells. refl;
-      same = λ tells. refl;
-      frame = refl;
-      unwritten = refl;
-      read_faults = refl;
-      partition_faults = refl;
+      source = reads_none _ _ _;
+      partition = reads_none _ _ _;
       calls = omega arith;
       turns = omega arith;
       steps = omega (arith, none);
@@ -32,36 +29,33 @@ steps-init g c =
     }
 
 pub step-requires : goal.step-requires
-step-requires g c tells = let i = c.steps.invariant in i.long tells ∙ ap length (sym (i.same_source tells))
+step-requires g c tells =
+    let i = c.steps.invariant in
+    i.long tells ∙ ap length (sym (i.source.content tells))
 
 pub steps-preserved : goal.steps-preserved
 steps-preserved g c =
     let i = c.steps.invariant in
     let e = c.step.ensures in
     let m = c.in-Ok-More.ensures in
-    let more : c.step.result ≡ Ok More = c.in-Ok-More.is ∙ ap (λ (p : Progress). let r : Result Progress VerifyFault = Ok p in r) c.in-Ok-More.field-0-is in
-    let stage = rw more at c.step.ensures.stage in
-    let onward : c.steps.machine.at < c.step.new.self.at = rw more at c.step.ensures.more in
-    let counted : (g.S.Source.given c.step.new.source ≡ g.S.Source.given c.steps.source + (c.step.new.self.at - c.steps.machine.at)) × (g.P.Source.given c.step.new.partition ≡ g.P.Source.given c.steps.partition + (c.step.new.self.at - c.steps.machine.at)) = rw more at c.step.ensures.counted in
-    let clean : (g.S.Source.read_faults c.step.new.source ≡ g.S.Source.read_faults c.steps.source) × (g.P.Source.read_faults c.step.new.partition ≡ g.P.Source.read_faults c.steps.partition) = rw more at (e.cause i.goes) in
+    let more : c.step.result ≡ Ok More = c.in-Ok-More.is
+    ∙ ap (λ (p : Progress). let r : Result Progress VerifyFault = Ok p in r) c.in-Ok-More.field-0-is in
+    let goes = rw more at e.goes in
+    let counted = rw more at e.counted in
     record {
-      goes = rw stage tt;
-      long = λ tells. e.length ∙ i.long tells;
+      goes = rw goes.stage tt;
+      long = λ tells. goes.length ∙ i.long tells;
       told = λ tells there.
-          let now = rw (i.same_source tells, i.same there) at (m.stands tells there) in
+          let now = rw (i.source.content tells, i.partition.content there) at (m.stands tells there) in
           now (i.told tells there);
-      read = omega (arith, counted.0, i.read, onward);
-      compared = omega (arith, counted.1, i.compared, onward);
-      same_source = λ tells. e.source_content tells ∙ i.same_source tells;
-      same = λ tells. e.content tells ∙ i.same tells;
-      frame = e.frame ∙ i.frame;
-      unwritten = e.unwritten ∙ i.unwritten;
-      read_faults = clean.0 ∙ i.read_faults;
-      partition_faults = clean.1 ∙ i.partition_faults;
-      calls = omega (arith, counted.0, counted.1, onward);
-      turns = omega (arith, counted.0, counted.1, onward);
-      steps = omega (arith, counted.0, counted.1, onward);
-      greatest = omega arith;
+      read = omega (arith, counted.0, i.read, goes.more);
+      compared = omega (arith, counted.1, i.compared, goes.more);
+      source = reads_ok tt (reads_then i.source (rw more at e.source));
+      partition = reads_ok tt (reads_then i.partition (rw more at e.partition));
+      calls = omega (arith, counted.0, counted.1, goes.more, e.source_bytes, e.partition_bytes);
+      turns = omega (arith, counted.0, counted.1, goes.more);
+      steps = omega (arith, counted.0, counted.1, goes.more, e.one_step);
+      greatest = omega (arith, e.one_step, e.source_bytes, e.partition_bytes);
     }
 
 pub returns-in-Ok-Done-clause-verifies : goal.returns-in-Ok-Done-clause-verifies
@@ -70,24 +64,44 @@ returns-in-Ok-Done-clause-verifies g c tells =
     let e = c.step.ensures in
     let m = c.in-Ok-Done.ensures in
     let x = g.S.Source.content c.args.source.now in
-    let done : c.step.result ≡ Ok Done = c.in-Ok-Done.is ∙ ap (λ (p : Progress). let r : Result Progress VerifyFault = Ok p in r) c.in-Ok-Done.field-0-is in
-    let ended : c.step.new.self.at ≡ c.step.new.self.length = rw c.in-Ok-Done.field-0-is at (m.done i.goes) in
-    let long : c.step.new.self.length ≡ length x = e.length ∙ i.long tells in
-    let counted : g.P.Source.given c.step.new.partition ≡ g.P.Source.given c.steps.partition + (c.step.new.self.at - c.steps.machine.at) = (rw done at c.step.ensures.counted).1 in
+    let done : c.step.result ≡ Ok Done = c.in-Ok-Done.is
+    ∙ ap (λ (p : Progress). let r : Result Progress VerifyFault = Ok p in r) c.in-Ok-Done.field-0-is in
+    let ended : c.step.new.self.at ≡ c.step.new.self.length = rw c.in-Ok-Done.field-0-is at (m.goes.done i.goes) in
+    let long : c.step.new.self.length ≡ length x = e.goes.length ∙ i.long tells in
+    let counted = (rw done at e.counted).1 in
     record {
       stands = λ there.
-          let now = rw (i.same_source tells, i.same there) at (m.stands tells there) in
-          raw_all (g.P.Source.content c.args.partition.now) x c.step.new.self.at c.step.new.self.length ended long (now (i.told tells there));
-      blocks = c.div_ceil.ensures ∙ ap (λ (k : ℕ). div_ceil c.step.new.self.length k) c.from.ensures ∙ ap (λ (n : ℕ). div_ceil n c.args.b) long;
-      once = omega (arith, counted, i.compared, ended, long, e.at);
+          let now = rw (i.source.content tells, i.partition.content there) at (m.stands tells there) in
+          raw_all (g.P.Source.content c.args.partition.now) x c.step.new.self.at c.step.new.self.length ended long
+          (now (i.told tells there));
+      blocks = c.div_ceil.ensures ∙ ap (λ (k : ℕ). div_ceil c.step.new.self.length k) c.from.ensures
+          ∙ ap (λ (n : ℕ). div_ceil n c.args.b) long;
+      once = omega (arith, counted, i.compared, ended, long, e.goes.at);
     }
 
 -- a step refuses no block size
-step_cause : (f : VerifyFault) (tells : Bool) (r r' p p' : ℕ) → HasRawCause f tells r r' p p' → RawCause (let a : Result Verified VerifyFault = Err f in a) tells r r' p p'
+step_cause : (f : VerifyFault) (tells : Bool) (r r' p p' : ℕ) → HasRawCause f tells r r' p p'
+    → RawCause (let a : Result Verified VerifyFault = Err f in a) tells r r' p p'
 step_cause (BadBlock n) tells r r' p p' h = absurd h
 step_cause f tells r r' p p' h = h
 
 pub returns-in-Err-clause-cause : goal.returns-in-Err-clause-cause
 returns-in-Err-clause-cause g c =
     let i = c.steps.invariant in
-    step_cause c.in-Err.fault g.S.Source.tells (g.S.Source.read_faults c.args.source.now) (g.S.Source.read_faults c.step.new.source) (g.P.Source.read_faults c.args.partition.now) (g.P.Source.read_faults c.step.new.partition) (rw (i.read_faults, i.partition_faults) at (c.in-Err.ensures.cause i.goes))
+    step_cause c.in-Err.fault g.S.Source.tells (g.S.Source.read_faults c.args.source.now)
+    (g.S.Source.read_faults c.step.new.source) (g.P.Source.read_faults c.args.partition.now)
+    (g.P.Source.read_faults c.step.new.partition)
+    (rw (i.source.clean, i.partition.clean) at (c.in-Err.ensures.cause i.goes))
+
+pub returns-in-Ok-Done-clause-source : goal.returns-in-Ok-Done-clause-source
+returns-in-Ok-Done-clause-source g c = reads_ok _ (reads_then c.steps.invariant.source c.in-Ok-Done.ensures.source)
+
+pub returns-in-Ok-Done-clause-partition : goal.returns-in-Ok-Done-clause-partition
+returns-in-Ok-Done-clause-partition g c =
+    reads_ok _ (reads_then c.steps.invariant.partition c.in-Ok-Done.ensures.partition)
+
+pub returns-in-Err-clause-source : goal.returns-in-Err-clause-source
+returns-in-Err-clause-source g c = reads_err _ (reads_then c.steps.invariant.source c.in-Err.ensures.source)
+
+pub returns-in-Err-clause-partition : goal.returns-in-Err-clause-partition
+returns-in-Err-clause-partition g c = reads_err _ (reads_then c.steps.invariant.partition c.in-Err.ensures.partition)

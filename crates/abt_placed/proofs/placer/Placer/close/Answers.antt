@@ -55,7 +55,7 @@ returns-in-Raw-clause-kept g c =
     keeps_before (s.front + 28) (c.position.result - (12 + s.count * c.args.size)) _ _ (omega (arith, room, c.position.ensures)) c.lay_front.ensures.before c.lay_front.ensures.long
 
 pub returns-in-Fill-clause-kept : goal.returns-in-Fill-clause-kept
-returns-in-Fill-clause-kept g c = keeps_behind (c.args.self.now.front + 28) (g.O.Output.written c.args.output.now) _ _ (omega (arith, c.requires.room)) c.write_front.ensures.front
+returns-in-Fill-clause-kept g c = keeps_behind (c.args.self.now.front + 28) (g.O.Output.written c.args.output.now) _ _ (omega (arith, c.requires.room)) c.write_front.ensures.put.front
 
 pub returns-in-Skip-clause-kept : goal.returns-in-Skip-clause-kept
-returns-in-Skip-clause-kept g c = keeps_behind (c.args.self.now.front + 28) (g.O.Output.written c.args.output.now) _ _ (omega (arith, c.requires.room)) c.write_front-in-Skip.ensures.front
+returns-in-Skip-clause-kept g c = keeps_behind (c.args.self.now.front + 28) (g.O.Output.written c.args.output.now) _ _ (omega (arith, c.requires.room)) c.write_front-in-Skip.ensures.put.front

@@ -21,7 +21,7 @@ returns-in-Err g c =
       passed = tt;
       same = (refl, refl);
       writes = fails e.writes (omega arith) (omega arith);
-      within = begun_within c.args.size c.args.blocks _ _ _ c.args.bytes.now s c.args.kind c.requires.sound (λ _. c.requires.bytes) c.requires.some k.within (omega arith);
+      within = begun_within c.args.size c.args.blocks _ _ _ c.args.bytes.now s c.args.kind c.requires.sound (λ _. c.requires.part.bytes) c.requires.part.some k.within (omega arith);
       adds = omega (arith, e.adds);
     }
 
@@ -34,7 +34,7 @@ returns-in-Err-put_data g c =
     let d = c.put_data.ensures in
     let e = c.in-Err-put_data.ensures in
     let w = g.O.Output.written c.begin_chunk.new.output in
-    let long = data_long c.args.kind c.args.blocks c.args.size c.args.bytes.now c.requires.bytes in
+    let long = data_long c.args.kind c.args.blocks c.args.size c.args.bytes.now c.requires.part.bytes in
     record {
       ok = tt;
       kept = keeps_then _ _ w _ k.kept (keeps_less _ _ w _ (omega (arith, c.requires.sound.room, k.writes.grown)) d.kept);
@@ -43,7 +43,7 @@ returns-in-Err-put_data g c =
       passed = tt;
       same = (refl, refl);
       writes = onward all.writes e.writes;
-      within = begun_within c.args.size c.args.blocks _ _ _ c.args.bytes.now s c.args.kind c.requires.sound (λ _. c.requires.bytes) c.requires.some k.within d.within;
+      within = begun_within c.args.size c.args.blocks _ _ _ c.args.bytes.now s c.args.kind c.requires.sound (λ _. c.requires.part.bytes) c.requires.part.some k.within d.within;
       adds = omega (arith, long, all.adds, e.adds);
     }
 
@@ -61,17 +61,17 @@ returns g c =
     let old = g.O.Output.written c.args.output.now in
     let w = g.O.Output.written c.begin_chunk.new.output in
     let new = g.O.Output.written c.put_data.new.output in
-    let long = data_long c.args.kind c.args.blocks b x c.requires.bytes in
+    let long = data_long c.args.kind c.args.blocks b x c.requires.part.bytes in
     let made : new ≡ taking s c.args.kind b x old = e.written ∙ ap (λ (l : List ℕ). l ++ data_for c.args.kind x) {y = beginning s c.args.kind b old} all.written in
     let passed = part_passed b _ c.args.blocks s t c.args.kind c.requires.sound c.and_blocks.ensures in
     record {
       ok = c.and_blocks.ensures;
       kept = keeps_then _ _ w _ k.kept (keeps_less _ _ w _ (omega (arith, c.requires.sound.room, k.writes.grown)) d.kept);
-      sound = sound_taken b c.args.blocks old w new x s t c.args.kind c.requires.some c.requires.goes c.requires.cap c.requires.bytes k.within c.requires.sound c.and_blocks.ensures all.written e.written;
-      laid = λ blocks placed. taken_placed b blocks old new x s t c.args.kind c.args.blocks c.requires.some c.requires.words c.requires.bytes c.requires.all c.requires.sound c.and_blocks.ensures made placed;
+      sound = sound_taken b c.args.blocks old w new x s t c.args.kind c.requires.part.some c.requires.part.goes c.requires.cap c.requires.part.bytes k.within c.requires.sound c.and_blocks.ensures all.written e.written;
+      laid = λ blocks placed. taken_placed b blocks old new x s t c.args.kind c.args.blocks c.requires.part.some c.requires.part.words c.requires.part.bytes c.requires.part.all c.requires.sound c.and_blocks.ensures made placed;
       passed = passed.0;
       same = passed.1;
       writes = onward all.writes e.writes;
-      within = begun_within b c.args.blocks _ _ _ x s c.args.kind c.requires.sound (λ _. c.requires.bytes) c.requires.some k.within d.within;
+      within = begun_within b c.args.blocks _ _ _ x s c.args.kind c.requires.sound (λ _. c.requires.part.bytes) c.requires.part.some k.within d.within;
       adds = omega (arith, long, all.adds, e.adds);
     }

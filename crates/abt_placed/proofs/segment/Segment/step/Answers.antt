@@ -10,31 +10,37 @@ use Rattle.abt_placed.proofs.Sourced.{Loaded, told_on, ended_on, none_over, no_m
 use Rattle.abt_placed.proofs.Spending.{window_read, read_costs, going_costs, broken_costs, unread_costs, taken_read, few_got, last_on}
 use Rattle.abt_placed.proofs.Passing.{reads, lays_then, lays_written, lays_unwritten}
 use Rattle.abt_placed.proofs.segment.Segment.step.Goals as goal
+use Rattle.abt_io.proofs.Lent.{reads_none}
+use Rattle.std.proofs.Common.{Ok, ℕ}
 
 -- where all are taken
 pub returns-then-from-runs : goal.returns-then-from-runs
 returns-then-from-runs g c =
     let r = c.args.runs.now in
     let s = c.args.self.now in
-    let q = c.requires in
+    let q = c.requires.ready in
     let step = c.close_step.ensures in
     let given = g.S.Source.given c.args.source.now in
     let x = unread_costs (taken s.placer) r.size r.length given (g.S.Source.reads c.args.source.now) (g.O.Output.writes c.args.output.now) (length (g.O.Output.written c.args.output.now)) _ _ step.turns in
     record {
-      lays = reads g.S.Source g.O.Output _ _ _ c.args.m.now c.args.m.now c.close_step.new.self 0 (λ tells. refl) refl (omega arith) (omega arith) refl refl step.steps step.greatest (le_refl _) refl refl tt;
+      lays = reads g.S.Source g.O.Output _ _ _ c.args.m.now c.args.m.now c.close_step.new.self 0 (reads_none {X = ℕ} {E = ℕ} (Ok 0) g.S.Source c.args.source.now) (omega arith) (omega arith) refl refl step.steps step.greatest refl refl tt;
       told = q.told;
       ended = λ is. none_over g.S.Source.tells (g.S.Source.content c.args.source.now) r.size r.length r.blocks s r.some r.covers r.last q.opened c.if-from-runs.true;
-      kept = keeps_same _ _;
-      sound = q.sound;
+      segment = record {
+        kept = keeps_same _ _;
+        sound = q.sound;
+        same = (refl, refl, refl, refl);
+        within = no_wider (taken s.placer) r.blocks r.size (s.placer.front + 28) _ q.within (sound_within r.size _ s.placer q.sound.placer);
+        long = λ uncut. let fits = q.sound.fits uncut in omega (arith, fits, q.sound.room);
+      };
       on = λ on. absurd (let z : true ≡ false = on in cc);
       inside = q.within;
-      same = (refl, refl, refl, refl);
-      within = no_wider (taken s.placer) r.blocks r.size (s.placer.front + 28) _ q.within (sound_within r.size _ s.placer q.sound.placer);
-      long = λ uncut. let fits = q.sound.fits uncut in omega (arith, fits, q.sound.room);
-      economy = x.economy;
+      reads = record {
+        economy = x.economy;
+        least = omega arith;
+        last = last_on _ _ given given 0 (le_refl _) (omega arith) (omega arith);
+      };
       once = λ on. absurd (let z : true ≡ false = on in cc);
-      least = omega arith;
-      last = last_on _ _ given given 0 (le_refl _) (omega arith) (omega arith);
       going_calls = λ on. absurd (let z : true ≡ false = on in cc);
       calls = x.calls;
       going_turns = λ on. absurd (let z : true ≡ false = on in cc);
@@ -46,26 +52,30 @@ pub returns-then-length-runs : goal.returns-then-length-runs
 returns-then-length-runs g c =
     let r = c.args.runs.now in
     let s = c.args.self.now in
-    let q = c.requires in
+    let q = c.requires.ready in
     let step = c.close_step-then-length-runs.ensures in
     let given = g.S.Source.given c.args.source.now in
     let x = unread_costs (taken s.placer) r.size r.length given (g.S.Source.reads c.args.source.now) (g.O.Output.writes c.args.output.now) (length (g.O.Output.written c.args.output.now)) _ _ step.turns in
     record {
-      lays = reads g.S.Source g.O.Output _ _ _ c.args.m.now c.args.m.now c.close_step-then-length-runs.new.self 0 (λ tells. refl) refl (omega arith) (omega arith) refl refl step.steps step.greatest (le_refl _) tt refl
+      lays = reads g.S.Source g.O.Output _ _ _ c.args.m.now c.args.m.now c.close_step-then-length-runs.new.self 0 (reads_none {X = ℕ} {E = ℕ} (Ok 0) g.S.Source c.args.source.now) (omega arith) (omega arith) refl refl step.steps step.greatest tt refl
           (not_told g.S.Source.tells (λ tells. let other = c.if-length-runs.true in absurd (omega (arith, c.length.ensures.told tells, q.opened tells))));
       told = tt;
       ended = tt;
-      kept = keeps_same _ _;
-      sound = tt;
+      segment = record {
+        kept = keeps_same _ _;
+        sound = tt;
+        same = (refl, refl, refl, refl);
+        within = no_wider (taken s.placer) r.blocks r.size (s.placer.front + 28) _ q.within (sound_within r.size _ s.placer q.sound.placer);
+        long = λ uncut. let fits = q.sound.fits uncut in omega (arith, fits, q.sound.room);
+      };
       on = tt;
       inside = tt;
-      same = (refl, refl, refl, refl);
-      within = no_wider (taken s.placer) r.blocks r.size (s.placer.front + 28) _ q.within (sound_within r.size _ s.placer q.sound.placer);
-      long = λ uncut. let fits = q.sound.fits uncut in omega (arith, fits, q.sound.room);
-      economy = x.economy;
+      reads = record {
+        economy = x.economy;
+        least = tt;
+        last = tt;
+      };
       once = tt;
-      least = tt;
-      last = tt;
       going_calls = tt;
       calls = x.calls;
       going_turns = tt;
@@ -77,7 +87,7 @@ pub returns-in-Some : goal.returns-in-Some
 returns-in-Some g c =
     let r = c.args.runs.now in
     let s = c.args.self.now in
-    let sound = c.requires.sound in
+    let sound = c.requires.ready.sound in
     let l = c.load_filled-loaded.ensures in
     let got = c.load_filled-loaded.result.received in
     let step = c.close_step-2.ensures in
@@ -85,23 +95,27 @@ returns-in-Some g c =
     let fits = fits_window c.min-asked.result c.in_window.result r.size (omega arith) c.in_window.ensures.fits in
     let few = few_got got c.min-want.result _ _ l.few c.min-want.ensures fits in
     let unsaid = run_unfilled c.run_fault.result c.in-Some.fault 0 c.run_fault.ensures in
-    let x = broken_costs (taken s.placer) r.size r.length c.place_of-at.result c.min-want.result (c.min-asked.result * r.size) got _ _ _ _ (g.O.Output.writes c.args.output.now) (length w) _ _ _ c.place_of-at.ensures.place c.place_of-at.ensures.within c.min-want.ensures l.few l.given l.calls l.turns step.turns in
+    let x = broken_costs (taken s.placer) r.size r.length c.place_of-at.result c.min-want.result (c.min-asked.result * r.size) got _ _ _ _ (g.O.Output.writes c.args.output.now) (length w) _ _ _ c.place_of-at.ensures.place c.place_of-at.ensures.within c.min-want.ensures l.few l.loads.given l.loads.calls l.loads.turns step.turns in
     record {
-      lays = reads g.S.Source g.O.Output c.args.source.now c.load_filled-loaded.new.source c.args.output.now c.args.m.now c.load_filled-loaded.new.m c.close_step-2.new.self got l.content l.frame l.given few l.steps l.greatest step.steps step.greatest l.faults tt (let z = run_unfilled c.run_fault.result c.in-Some.fault 0 c.run_fault.ensures in omega (arith, z))
-          (run_causes c.run_fault.result c.in-Some.fault g.S.Source.tells _ _ _ _ c.run_fault.ensures (rw c.in-Some.is at l.cause));
+      lays = reads g.S.Source g.O.Output c.args.source.now c.load_filled-loaded.new.source c.args.output.now c.args.m.now c.load_filled-loaded.new.m c.close_step-2.new.self got l.loads.reads l.loads.given few l.loads.no_step.steps l.loads.no_step.greatest step.steps step.greatest tt (let z = run_unfilled c.run_fault.result c.in-Some.fault 0 c.run_fault.ensures in omega (arith, z))
+          (run_causes c.run_fault.result c.in-Some.fault g.S.Source.tells _ _ _ _ c.run_fault.ensures (rw c.in-Some.is at l.loads.cause));
       told = tt;
       ended = tt;
-      kept = keeps_same _ _;
-      sound = tt;
+      segment = record {
+        kept = keeps_same _ _;
+        sound = tt;
+        same = (refl, refl, refl, refl);
+        within = no_wider (taken s.placer) r.blocks r.size (s.placer.front + 28) _ c.requires.ready.within (sound_within r.size _ s.placer sound.placer);
+        long = λ uncut. let fits = sound.fits uncut in omega (arith, fits, sound.room, unsaid);
+      };
       on = tt;
       inside = tt;
-      same = (refl, refl, refl, refl);
-      within = no_wider (taken s.placer) r.blocks r.size (s.placer.front + 28) _ c.requires.within (sound_within r.size _ s.placer sound.placer);
-      long = λ uncut. let fits = sound.fits uncut in omega (arith, fits, sound.room, unsaid);
-      economy = x.economy;
+      reads = record {
+        economy = x.economy;
+        least = tt;
+        last = tt;
+      };
       once = tt;
-      least = tt;
-      last = tt;
       going_calls = tt;
       calls = x.calls;
       going_turns = tt;
@@ -124,37 +138,41 @@ returns-in-Ok g c =
     let w = g.O.Output.written c.args.output.now in
     let w' = g.O.Output.written c.take_fitting.new.output in
     let x = g.S.Source.content c.args.source.now in
-    let told = c.requires.told in
+    let told = c.requires.ready.told in
     let fits = fits_window a c.in_window.result r.size (omega arith) c.in_window.ensures.fits in
     let few = few_got got want _ _ l.few c.min-want.ensures fits in
     let within : taken s'.placer ≤ taken s.placer + a = no_more_than c.in-Ok.ended (taken s.placer) (taken s'.placer) a e.all e.short in
-    let read = window_read (taken s.placer) a r.size r.length r.blocks c.place_of-at.result want got _ _ _ _ _ _ c.place_of-at.ensures.place c.place_of-at.ensures.within (omega arith) r.some c.min-want.ensures (if_none {P = got ≡ want} c.load_filled-loaded.result.fault c.in_default.is l.whole) (omega arith) r.last l.given l.calls l.turns in
+    let read = window_read (taken s.placer) a r.size r.length r.blocks c.place_of-at.result want got _ _ _ _ _ _ c.place_of-at.ensures.place c.place_of-at.ensures.within (omega arith) r.some c.min-want.ensures (if_none {P = got ≡ want} c.load_filled-loaded.result.fault c.in_default.is l.whole) (omega arith) r.last l.loads.given l.loads.calls l.loads.turns in
     let spent = read_costs (taken s.placer) a r.size r.length r.blocks want got _ _ _ _ _ _ _ _ _ _ _ _ read step.turns t.writes.calls t.writes.turns in
     let loaded : IsTrue g.S.Source.tells → Loaded r.size r.length (taken s.placer) want (a * r.size) x c.load_filled-loaded.new.w.bytes =
     λ tells. record {
-      long = c.requires.opened tells;
+      long = c.requires.ready.opened tells;
       there = omega (arith, c.place_of-at.ensures.place, c.place_of-at.ensures.within);
       asked = rw c.place_of-at.ensures.place at c.min-want.ensures;
       bytes = rw c.place_of-at.ensures.place at (if_none {P = slice_range c.load_filled-loaded.new.w.bytes 0 (a * r.size) ≡ take want (drop c.place_of-at.result x) ++ replicate (a * r.size - want) 0} c.load_filled-loaded.result.fault c.in_default.is (l.bytes tells));
     } in
     record {
-      lays = lays_then {x = false} (reads g.S.Source g.O.Output c.args.source.now c.load_filled-loaded.new.source c.args.output.now c.args.m.now c.load_filled-loaded.new.m c.close_step-2.new.self got l.content l.frame l.given few l.steps l.greatest step.steps step.greatest l.faults (l.clean (rw c.in_default.is refl)) refl tt) (lays_written _ _ e.writes);
-      told = told_on g.S.Source.tells x r.size r.length r.blocks a (taken s'.placer - taken s.placer) want (a * r.size) w w' c.load_filled-loaded.new.w.bytes s s' r.some r.covers r.last (omega arith) (omega (arith, within, e.order)) (omega (arith, e.order)) t.same.2 c.requires.sound.order refl told (e.laid told.blocks told.laid) loaded;
+      lays = lays_then {x = false} (reads g.S.Source g.O.Output c.args.source.now c.load_filled-loaded.new.source c.args.output.now c.args.m.now c.load_filled-loaded.new.m c.close_step-2.new.self got l.loads.reads l.loads.given few l.loads.no_step.steps l.loads.no_step.greatest step.steps step.greatest (rw c.in_default.is at l.loads.reads).clean refl tt) (lays_written _ _ e.writes);
+      told = told_on g.S.Source.tells x r.size r.length r.blocks a (taken s'.placer - taken s.placer) want (a * r.size) w w' c.load_filled-loaded.new.w.bytes s s' r.some r.covers r.last (omega arith) (omega (arith, within, e.order)) (omega (arith, e.order)) t.segment.same.2 c.requires.ready.sound.order refl told (e.laid told.blocks told.laid) loaded;
       ended = λ is.
           let short = e.short is in
-          ended_on g.S.Source.tells x r.size r.length r.blocks a (taken s'.placer - taken s.placer) want (a * r.size) w w' c.load_filled-loaded.new.w.bytes s s' r.some r.covers r.last (omega arith) (omega (arith, short, e.order)) (omega (arith, e.order)) t.same.2 t.same.3 c.requires.sound.order (e.some is)
+          ended_on g.S.Source.tells x r.size r.length r.blocks a (taken s'.placer - taken s.placer) want (a * r.size) w w' c.load_filled-loaded.new.w.bytes s s' r.some r.covers r.last (omega arith) (omega (arith, short, e.order)) (omega (arith, e.order)) t.segment.same.2 t.segment.same.3 c.requires.ready.sound.order (e.some is)
           (not_so_far (taken s.placer + a) r.blocks r.size s.limit (omega arith) r.fits (omega (arith, r.window)) (e.reached is)) refl told (e.laid told.blocks told.laid) loaded (e.over told.blocks told.laid is);
-      kept = t.kept;
-      sound = e.sound;
+      segment = record {
+        kept = t.segment.kept;
+        sound = e.segment.sound;
+        same = t.segment.same;
+        within = no_wider (taken s.placer + a) r.blocks r.size (s.placer.front + 28) _ (omega arith) t.segment.within;
+        long = e.segment.long;
+      };
       on = λ on. omega (arith, e.all on);
       inside = omega (arith, within);
-      same = t.same;
-      within = no_wider (taken s.placer + a) r.blocks r.size (s.placer.front + 28) _ (omega arith) t.within;
-      long = e.long;
-      economy = spent.economy;
+      reads = record {
+        economy = spent.economy;
+        least = taken_read (taken s.placer) (taken s'.placer) a r.size r.length r.blocks want got _ _ _ _ _ _ within read;
+        last = last_on _ _ _ _ got (read_more (taken s.placer) (taken s'.placer) r.size r.length e.order) l.loads.given few;
+      };
       once = λ on. (going_costs (taken s.placer) (taken s'.placer) a r.size r.length r.blocks want got _ _ _ _ _ _ _ _ _ _ _ _ (e.all on) read step.turns t.writes.calls t.writes.turns).once;
-      least = taken_read (taken s.placer) (taken s'.placer) a r.size r.length r.blocks want got _ _ _ _ _ _ within read;
-      last = last_on _ _ _ _ got (read_more (taken s.placer) (taken s'.placer) r.size r.length e.order) l.given few;
       going_calls = λ on. (going_costs (taken s.placer) (taken s'.placer) a r.size r.length r.blocks want got _ _ _ _ _ _ _ _ _ _ _ _ (e.all on) read step.turns t.writes.calls t.writes.turns).calls;
       calls = spent.calls;
       going_turns = λ on. (going_costs (taken s.placer) (taken s'.placer) a r.size r.length r.blocks want got _ _ _ _ _ _ _ _ _ _ _ _ (e.all on) read step.turns t.writes.calls t.writes.turns).turns;
@@ -175,23 +193,27 @@ returns-in-Err g c =
     let e = c.in-Err.ensures in
     let fits = fits_window a c.in_window.result r.size (omega arith) c.in_window.ensures.fits in
     let few = few_got got want _ _ l.few c.min-want.ensures fits in
-    let read = window_read (taken s.placer) a r.size r.length r.blocks c.place_of-at.result want got _ _ _ _ _ _ c.place_of-at.ensures.place c.place_of-at.ensures.within (omega arith) r.some c.min-want.ensures (if_none {P = got ≡ want} c.load_filled-loaded.result.fault c.in_default.is l.whole) (omega arith) r.last l.given l.calls l.turns in
+    let read = window_read (taken s.placer) a r.size r.length r.blocks c.place_of-at.result want got _ _ _ _ _ _ c.place_of-at.ensures.place c.place_of-at.ensures.within (omega arith) r.some c.min-want.ensures (if_none {P = got ≡ want} c.load_filled-loaded.result.fault c.in_default.is l.whole) (omega arith) r.last l.loads.given l.loads.calls l.loads.turns in
     let spent = read_costs (taken s.placer) a r.size r.length r.blocks want got _ _ _ _ _ _ _ _ _ _ _ _ read step.turns t.writes.calls t.writes.turns in
     record {
-      lays = lays_then {x = false} (reads g.S.Source g.O.Output c.args.source.now c.load_filled-loaded.new.source c.args.output.now c.args.m.now c.load_filled-loaded.new.m c.close_step-2.new.self got l.content l.frame l.given few l.steps l.greatest step.steps step.greatest l.faults (l.clean (rw c.in_default.is refl)) refl tt) (lays_unwritten _ _ e.writes);
+      lays = lays_then {x = false} (reads g.S.Source g.O.Output c.args.source.now c.load_filled-loaded.new.source c.args.output.now c.args.m.now c.load_filled-loaded.new.m c.close_step-2.new.self got l.loads.reads l.loads.given few l.loads.no_step.steps l.loads.no_step.greatest step.steps step.greatest (rw c.in_default.is at l.loads.reads).clean refl tt) (lays_unwritten _ _ e.writes);
       told = tt;
       ended = tt;
-      kept = t.kept;
-      sound = tt;
+      segment = record {
+        kept = t.segment.kept;
+        sound = tt;
+        same = t.segment.same;
+        within = no_wider (taken s.placer + a) r.blocks r.size (s.placer.front + 28) _ (omega arith) t.segment.within;
+        long = e.segment.long;
+      };
       on = tt;
       inside = tt;
-      same = t.same;
-      within = no_wider (taken s.placer + a) r.blocks r.size (s.placer.front + 28) _ (omega arith) t.within;
-      long = e.long;
-      economy = spent.economy;
+      reads = record {
+        economy = spent.economy;
+        least = tt;
+        last = tt;
+      };
       once = tt;
-      least = tt;
-      last = tt;
       going_calls = tt;
       calls = spent.calls;
       going_turns = tt;

@@ -1,7 +1,7 @@
 use Rattle.std.proofs.Common.{length, drop, ◌≡◌, ◌*◌, ◌+◌, ◌-◌, ◌++◌, ◌∙◌, arith, refl, subst, sym, append-nil, List, true, false, ℕ, ◌/◌}
 use Rattle.abt_sparse.specs.Block.{Block}
 use Rattle.abt_placed.specs.Placed.{classes}
-use Rattle.abt_placed.specs.Segment.{LaidSegment, IsOver}
+use Rattle.abt_placed.specs.Segment.{LaidSegment, OneMoreExceeds}
 use Rattle.abt_placed.specs.Unfinished.{KeepsFront}
 use Rattle.abt_placed.specs.Whole.{taken}
 use Rattle.abt_placed.proofs.Numbers.{blocks_fit}
@@ -18,14 +18,6 @@ part-requires-clause-bound g c = blocks_fit c.loop-done.done c.min-cap.result c.
 pub part-requires-in-loop-done-clause-bound : goal.part-requires-in-loop-done-clause-bound
 part-requires-in-loop-done-clause-bound g c = blocks_fit c.loop-done.done c.leading-kind.result.1 c.args.blocks c.args.size (omega arith) c.requires.window
 
-pub take_part-requires-clause-all : goal.take_part-requires-clause-all
-take_part-requires-clause-all g c =
-    let from = c.loop-done.done * c.args.size in
-    let n = c.leading-kind.result.1 in
-    let b = c.args.size in
-    let m = more_blocks 0 n c.min-cap.result b (omega (arith, c.leading-kind.ensures.within)) in
-    part_classes c.leading-kind.result.0 b n from (from + c.min-cap.result * b) (from + n * b) c.args.w.now.bytes c.part.result.now c.part-in-loop-done.result.now (omega (arith, m)) (omega arith) c.part.ensures.value c.part-in-loop-done.ensures.value c.leading-kind.ensures.all
-
 pub loop-done-preserved : goal.loop-done-preserved
 loop-done-preserved g c =
     let i = c.loop-done.invariant in
@@ -35,17 +27,17 @@ loop-done-preserved g c =
     let n = c.leading-kind.result.1 in
     let d = c.loop-done.done in
     let b = c.args.size in
-    let look = look_costs n b c.tick.new.self.turns.number c.leading-kind.new.m.turns.number c.loop-done.m.turns.number c.leading-kind.ensures.some c.requires.words c.leading-kind.ensures.looked c.tick.ensures.turns in
+    let look = look_costs n b c.tick.new.self.turns.number c.leading-kind.new.m.turns.number c.loop-done.m.turns.number c.leading-kind.ensures.some c.requires.size.words c.leading-kind.ensures.looked c.tick.ensures.turns in
     let some = look_some n b c.leading-kind.ensures.some in
     let all : (d + n) * (b / 2 + 17) ≡ d * (b / 2 + 17) + n * (b / 2 + 17) = omega arith in
     record {
       within = omega arith;
-      sound = e.sound;
+      sound = e.segment.sound;
       laid = λ f p. more_laid b d n (d * b) (d * b + n * b) f c.args.w.now.bytes c.part-in-loop-done.result.now (g.O.Output.written c.take_part.new.output) c.take_part.new.self refl (omega arith) c.part-in-loop-done.ensures.value (e.laid (f ++ classes b d c.args.w.now.bytes) (i.laid f p) on);
       passed = omega (arith, e.passed on, i.passed);
-      same = (t.same.0 ∙ i.same.0, t.same.1 ∙ i.same.1, t.same.2 ∙ i.same.2, t.same.3 ∙ i.same.3);
-      writes = succeeds (at_most (onward (onward i.writes (ticked g.O.Output c.loop-done.output c.loop-done.m c.leading-kind.new.m (n * (b / 2 + 17) - 14) look (c.leading-kind.ensures.steps ∙ c.tick.ensures.steps) (c.leading-kind.ensures.greatest ∙ c.tick.ensures.greatest))) e.writes) (omega (arith, c.leading-kind.ensures.some)) (omega (arith, all, some)));
-      kept = keeps_then (c.args.self.now.placer.front + 28) (g.O.Output.written c.args.output.now) (g.O.Output.written c.loop-done.output) (g.O.Output.written c.take_part.new.output) i.kept (subst (λ (j : ℕ). KeepsFront (j + 28) (g.O.Output.written c.loop-done.output) (g.O.Output.written c.take_part.new.output)) i.same.1 t.kept);
+      same = (t.segment.same.0 ∙ i.same.0, t.segment.same.1 ∙ i.same.1, t.segment.same.2 ∙ i.same.2, t.segment.same.3 ∙ i.same.3);
+      writes = succeeds (at_most (onward (onward i.writes (ticked g.O.Output c.loop-done.output c.loop-done.m c.leading-kind.new.m (n * (b / 2 + 17) - 14) look (c.leading-kind.ensures.no_step.steps ∙ c.tick.ensures.steps) (c.leading-kind.ensures.no_step.greatest ∙ c.tick.ensures.greatest))) e.writes) (omega (arith, c.leading-kind.ensures.some)) (omega (arith, all, some)));
+      kept = keeps_then (c.args.self.now.placer.front + 28) (g.O.Output.written c.args.output.now) (g.O.Output.written c.loop-done.output) (g.O.Output.written c.take_part.new.output) i.kept (subst (λ (j : ℕ). KeepsFront (j + 28) (g.O.Output.written c.loop-done.output) (g.O.Output.written c.take_part.new.output)) i.same.1 t.segment.kept);
     }
 
 pub loop-done-init : goal.loop-done-init
@@ -66,7 +58,7 @@ returns-then-ended g c =
     let e = c.in-Ok.ensures in
     let t = c.take_part.ensures in
     let on = c.if-ended.true in
-    let st = e.still on in
+    let st = (e.over on).still in
     let s = c.loop-done.self in
     let w = c.args.w.now.bytes in
     let b = c.args.size in
@@ -77,27 +69,29 @@ returns-then-ended g c =
     let now = g.O.Output.written c.loop-done.output in
     let new = g.O.Output.written c.take_part.new.output in
     let z : d ≡ taken s.placer - taken c.args.self.now.placer = omega (arith, i.passed) in
-    let look = look_costs n b c.tick.new.self.turns.number c.leading-kind.new.m.turns.number c.loop-done.m.turns.number c.leading-kind.ensures.some c.requires.words c.leading-kind.ensures.looked c.tick.ensures.turns in
+    let look = look_costs n b c.tick.new.self.turns.number c.leading-kind.new.m.turns.number c.loop-done.m.turns.number c.leading-kind.ensures.some c.requires.size.words c.leading-kind.ensures.looked c.tick.ensures.turns in
     let some = look_some n b c.leading-kind.ensures.some in
     let more = more_blocks c.loop-done.done n c.args.blocks (b / 2 + 17) (omega arith) in
     record {
-      kept = keeps_then (c.args.self.now.placer.front + 28) old now new i.kept (subst (λ (j : ℕ). KeepsFront (j + 28) now new) i.same.1 t.kept);
-      sound = e.sound;
+      segment = record {
+        kept = keeps_then (c.args.self.now.placer.front + 28) old now new i.kept (subst (λ (j : ℕ). KeepsFront (j + 28) now new) i.same.1 t.segment.kept);
+        sound = e.segment.sound;
+        same = (t.segment.same.0 ∙ i.same.0, t.segment.same.1 ∙ i.same.1, t.segment.same.2 ∙ i.same.2, t.segment.same.3 ∙ i.same.3);
+        within = wider c.args.self.now.placer.front s.placer.front (taken c.args.self.now.placer) (taken s.placer) d n a (length new) b i.same.1 i.passed (omega arith) t.segment.within;
+        long = λ uncut. let long = e.segment.long (rw (i.same.3, i.same.0) uncut) in omega (arith, long, i.same.1, i.same.3);
+      };
       laid = λ f p. rw (st.0, st.1) (subst (λ (m : ℕ). LaidSegment b (f ++ classes b m w) now s) z (i.laid f p));
       order = rw st.0 (omega (arith, i.passed));
       all = λ is. absurd (let y : true ≡ false = is in cc);
       short = λ is. rw st.0 (omega (arith, i.passed, c.loop-done-test.true));
-      some = λ is. rw st.0 (omega (arith, e.some on, i.same.2));
+      some = λ is. rw st.0 (omega (arith, (e.over on).some, i.same.2));
       over = λ f p is.
           let all = part_classes c.leading-kind.result.0 b n (d * b) (d * b + c.min-cap.result * b) (d * b + n * b) w c.part.result.now c.part-in-loop-done.result.now (let m = more_blocks 0 n c.min-cap.result b (omega (arith, c.leading-kind.ensures.within)) in omega (arith, m)) (omega arith) c.part.ensures.value c.part-in-loop-done.ensures.value c.leading-kind.ensures.all in
-          let o = window_over b d n a (d * b) (d * b + n * b) f w c.part-in-loop-done.result.now now s _ c.leading-kind.result.0 c.requires.some c.leading-kind.ensures.some (omega arith) refl (omega arith) c.part-in-loop-done.ensures.value i.sound (i.laid f p) all (omega (arith, c.leading-kind.ensures.within, c.min-cap.ensures, c.cap.ensures.cap)) (e.over on) in
-          let o' = subst (λ (m : ℕ). IsOver m b (f ++ classes b d w) (drop d (classes b a w))) i.same.3 o in
-          rw st.0 (subst (λ (m : ℕ). IsOver c.args.self.now.limit b (f ++ classes b m w) (drop m (classes b a w))) z o');
-      reached = λ is. no_further _ c.args.self.now.limit (taken s.placer) (taken c.args.self.now.placer) d n a b i.same.3 i.passed (omega arith) (e.reached on);
-      same = (t.same.0 ∙ i.same.0, t.same.1 ∙ i.same.1, t.same.2 ∙ i.same.2, t.same.3 ∙ i.same.3);
-      writes = succeeds (at_most (onward (onward i.writes (ticked g.O.Output c.loop-done.output c.loop-done.m c.leading-kind.new.m (n * (b / 2 + 17) - 14) look (c.leading-kind.ensures.steps ∙ c.tick.ensures.steps) (c.leading-kind.ensures.greatest ∙ c.tick.ensures.greatest))) e.writes) (omega (arith, c.leading-kind.ensures.some)) (omega (arith, more, some)));
-      within = wider c.args.self.now.placer.front s.placer.front (taken c.args.self.now.placer) (taken s.placer) d n a (length new) b i.same.1 i.passed (omega arith) t.within;
-      long = λ uncut. let long = e.long (rw (i.same.3, i.same.0) uncut) in omega (arith, long, i.same.1, i.same.3);
+          let o = window_over b d n a (d * b) (d * b + n * b) f w c.part-in-loop-done.result.now now s _ c.leading-kind.result.0 c.requires.size.some c.leading-kind.ensures.some (omega arith) refl (omega arith) c.part-in-loop-done.ensures.value i.sound (i.laid f p) all (omega (arith, c.leading-kind.ensures.within, c.min-cap.ensures, c.cap.ensures.cap)) (e.over on).over in
+          let o' = subst (λ (m : ℕ). OneMoreExceeds m b (f ++ classes b d w) (drop d (classes b a w))) i.same.3 o in
+          rw st.0 (subst (λ (m : ℕ). OneMoreExceeds c.args.self.now.limit b (f ++ classes b m w) (drop m (classes b a w))) z o');
+      reached = λ is. no_further _ c.args.self.now.limit (taken s.placer) (taken c.args.self.now.placer) d n a b i.same.3 i.passed (omega arith) ((e.over on).reached);
+      writes = succeeds (at_most (onward (onward i.writes (ticked g.O.Output c.loop-done.output c.loop-done.m c.leading-kind.new.m (n * (b / 2 + 17) - 14) look (c.leading-kind.ensures.no_step.steps ∙ c.tick.ensures.steps) (c.leading-kind.ensures.no_step.greatest ∙ c.tick.ensures.greatest))) e.writes) (omega (arith, c.leading-kind.ensures.some)) (omega (arith, more, some)));
     }
 
 -- blocks are not laid
@@ -112,12 +106,17 @@ returns-in-Err g c =
     let now = g.O.Output.written c.loop-done.output in
     let new = g.O.Output.written c.take_part.new.output in
     let s = c.loop-done.self in
-    let look = look_costs n b c.tick.new.self.turns.number c.leading-kind.new.m.turns.number c.loop-done.m.turns.number c.leading-kind.ensures.some c.requires.words c.leading-kind.ensures.looked c.tick.ensures.turns in
+    let look = look_costs n b c.tick.new.self.turns.number c.leading-kind.new.m.turns.number c.loop-done.m.turns.number c.leading-kind.ensures.some c.requires.size.words c.leading-kind.ensures.looked c.tick.ensures.turns in
     let some = look_some n b c.leading-kind.ensures.some in
     let more = more_blocks c.loop-done.done n c.args.blocks (b / 2 + 17) (omega arith) in
     record {
-      kept = keeps_then (c.args.self.now.placer.front + 28) old now new i.kept (subst (λ (j : ℕ). KeepsFront (j + 28) now new) i.same.1 t.kept);
-      sound = tt;
+      segment = record {
+        kept = keeps_then (c.args.self.now.placer.front + 28) old now new i.kept (subst (λ (j : ℕ). KeepsFront (j + 28) now new) i.same.1 t.segment.kept);
+        sound = tt;
+        same = (t.segment.same.0 ∙ i.same.0, t.segment.same.1 ∙ i.same.1, t.segment.same.2 ∙ i.same.2, t.segment.same.3 ∙ i.same.3);
+        within = wider c.args.self.now.placer.front s.placer.front (taken c.args.self.now.placer) (taken s.placer) c.loop-done.done n c.args.blocks (length new) b i.same.1 i.passed (omega arith) t.segment.within;
+        long = λ uncut. let long = e.segment.long (rw (i.same.3, i.same.0) uncut) in omega (arith, long, i.same.1, i.same.3);
+      };
       laid = λ f p. tt;
       order = tt;
       all = tt;
@@ -125,10 +124,7 @@ returns-in-Err g c =
       some = tt;
       over = λ f p. tt;
       reached = tt;
-      same = (t.same.0 ∙ i.same.0, t.same.1 ∙ i.same.1, t.same.2 ∙ i.same.2, t.same.3 ∙ i.same.3);
-      writes = at_most (onward (onward i.writes (ticked g.O.Output c.loop-done.output c.loop-done.m c.leading-kind.new.m (n * (b / 2 + 17) - 14) look (c.leading-kind.ensures.steps ∙ c.tick.ensures.steps) (c.leading-kind.ensures.greatest ∙ c.tick.ensures.greatest))) e.writes) (omega (arith, c.leading-kind.ensures.some)) (omega (arith, more, some));
-      within = wider c.args.self.now.placer.front s.placer.front (taken c.args.self.now.placer) (taken s.placer) c.loop-done.done n c.args.blocks (length new) b i.same.1 i.passed (omega arith) t.within;
-      long = λ uncut. let long = e.long (rw (i.same.3, i.same.0) uncut) in omega (arith, long, i.same.1, i.same.3);
+      writes = at_most (onward (onward i.writes (ticked g.O.Output c.loop-done.output c.loop-done.m c.leading-kind.new.m (n * (b / 2 + 17) - 14) look (c.leading-kind.ensures.no_step.steps ∙ c.tick.ensures.steps) (c.leading-kind.ensures.no_step.greatest ∙ c.tick.ensures.greatest))) e.writes) (omega (arith, c.leading-kind.ensures.some)) (omega (arith, more, some));
     }
 
 -- all fit
@@ -141,8 +137,13 @@ returns g c =
     let y : c.loop-done.done ≡ c.args.blocks = omega arith in
     let z : c.loop-done.done ≡ taken c.loop-done.self.placer - taken c.args.self.now.placer = omega (arith, i.passed) in
     record {
-      kept = i.kept;
-      sound = i.sound;
+      segment = record {
+        kept = i.kept;
+        sound = i.sound;
+        same = i.same;
+        within = wider c.args.self.now.placer.front s.placer.front (taken c.args.self.now.placer) (taken s.placer) c.loop-done.done 0 c.args.blocks _ b i.same.1 i.passed (omega arith) (let w = sound_within b _ s.placer i.sound.placer in omega (arith, w));
+        long = λ uncut. let fits = i.sound.fits (rw (i.same.3, i.same.0) uncut) in omega (arith, fits, i.sound.room, i.same.1, i.same.3);
+      };
       laid = λ f p. subst (λ (n : ℕ). LaidSegment b (f ++ classes b n w) (g.O.Output.written c.loop-done.output) c.loop-done.self) z (i.laid f p);
       order = omega (arith, i.passed);
       all = λ is. rw y at i.passed;
@@ -150,10 +151,7 @@ returns g c =
       some = λ is. absurd (let x : false ≡ true = is in cc);
       over = λ f p is. absurd (let x : false ≡ true = is in cc);
       reached = λ is. absurd (let x : false ≡ true = is in cc);
-      same = i.same;
       writes = rw y at i.writes;
-      within = wider c.args.self.now.placer.front s.placer.front (taken c.args.self.now.placer) (taken s.placer) c.loop-done.done 0 c.args.blocks _ b i.same.1 i.passed (omega arith) (let w = sound_within b _ s.placer i.sound.placer in omega (arith, w));
-      long = λ uncut. let fits = i.sound.fits (rw (i.same.3, i.same.0) uncut) in omega (arith, fits, i.sound.room, i.same.1, i.same.3);
     }
 
 -- places in the window
@@ -166,5 +164,19 @@ overflow_add-to g c = let f = blocks_fit c.loop-done.done c.min-cap.result c.arg
 pub overflow_add-past : goal.overflow_add-past
 overflow_add-past g c = let f = blocks_fit c.loop-done.done c.leading-kind.result.1 c.args.blocks c.args.size (omega arith) c.requires.window in omega (arith, f)
 
-pub take_part-requires-clause-window : goal.take_part-requires-clause-window
-take_part-requires-clause-window g c = let f = blocks_fit c.loop-done.done c.leading-kind.result.1 c.args.blocks c.args.size (omega arith) c.requires.window in omega (arith, f, c.part-in-loop-done.ensures.long)
+pub take_part-requires-clause-part : goal.take_part-requires-clause-part
+take_part-requires-clause-part g c =
+    let l = c.leading-kind.ensures in
+    record {
+      some = l.some;
+      goes = l.goes;
+      bytes = omega (arith, c.part-in-loop-done.ensures.long);
+      window = let f = blocks_fit c.loop-done.done c.leading-kind.result.1 c.args.blocks c.args.size (omega arith) c.requires.window in omega (arith, f, c.part-in-loop-done.ensures.long);
+      words = c.requires.size.some;
+      all =
+          let from = c.loop-done.done * c.args.size in
+          let n = c.leading-kind.result.1 in
+          let b = c.args.size in
+          let m = more_blocks 0 n c.min-cap.result b (omega (arith, c.leading-kind.ensures.within)) in
+          part_classes c.leading-kind.result.0 b n from (from + c.min-cap.result * b) (from + n * b) c.args.w.now.bytes c.part.result.now c.part-in-loop-done.result.now (omega (arith, m)) (omega arith) c.part.ensures.value c.part-in-loop-done.ensures.value c.leading-kind.ensures.all;
+    }

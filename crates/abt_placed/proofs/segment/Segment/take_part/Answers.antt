@@ -16,23 +16,27 @@ returns-then-gain-self g c =
     let s = c.requires.sound in
     let over = c.if-gain-self.true in
     record {
-      sound = s;
-      kept = keeps_same _ _;
+      segment = record {
+        kept = keeps_same _ _;
+        sound = s;
+        same = (refl, refl, refl, refl);
+        within = no_wider (taken c.args.self.now.placer) (taken c.args.self.now.placer + c.args.blocks) c.args.size (c.args.self.now.placer.front + 28) _ (omega arith) (sound_within c.args.size _ c.args.self.now.placer s.placer);
+        long = λ uncut. let fits = s.fits uncut in omega (arith, fits, s.room);
+      };
       laid = λ f p d. absurd (let e : true ≡ false = d in cc);
       passed = λ d. absurd (let e : true ≡ false = d in cc);
-      still = λ d. (refl, refl);
-      some = λ d. elim (cases_Bool (is_fresh c.args.self.now.placer.kind)) [
-        | inl e ↦
-            let f = first_fits c.args.size c.args.blocks c.args.self.now _ c.args.kind c.requires.words s e c.requires.some c.requires.cap in
-            absurd (omega (arith, f, c.gain-gain.ensures, over))
-        | inr e ↦ s.some e
-      ];
-      over = λ d. rw c.gain-gain.ensures at over;
-      reached = λ d. reached_by c.args.size c.args.blocks _ c.args.self.now c.args.kind s c.requires.some (rw c.gain-gain.ensures at over);
-      same = (refl, refl, refl, refl);
+      over = λ d. record {
+        still = (refl, refl);
+        some = elim (cases_Bool (is_fresh c.args.self.now.placer.kind)) [
+          | inl e ↦
+              let f = first_fits c.args.size c.args.blocks c.args.self.now _ c.args.kind c.requires.part.words s e c.requires.part.some c.requires.cap in
+              absurd (omega (arith, f, c.gain-gain.ensures, over))
+          | inr e ↦ s.some e
+        ];
+        over = rw c.gain-gain.ensures at over;
+        reached = reached_by c.args.size c.args.blocks _ c.args.self.now c.args.kind s c.requires.part.some (rw c.gain-gain.ensures at over);
+      };
       writes = still;
-      within = no_wider (taken c.args.self.now.placer) (taken c.args.self.now.placer + c.args.blocks) c.args.size (c.args.self.now.placer.front + 28) _ (omega arith) (sound_within c.args.size _ c.args.self.now.placer s.placer);
-      long = λ uncut. let fits = s.fits uncut in omega (arith, fits, s.room);
     }
 
 -- they are not laid
@@ -42,18 +46,17 @@ returns-in-Err g c =
     let e = c.in-Err.ensures in
     let fits = c.if-gain-self.false in
     record {
-      sound = tt;
-      kept = t.kept;
+      segment = record {
+        kept = t.kept;
+        sound = tt;
+        same = (t.same.0, t.same.1, refl, refl);
+        within = t.within;
+        long = λ uncut. taken_within c.args.size c.args.blocks c.gain-gain.result _ _ _ c.args.self.now c.args.kind c.requires.sound uncut c.requires.part.some (kind_held c.args.size c.args.blocks c.args.bytes.now c.args.kind c.requires.part.some c.requires.part.all) c.gain-gain.ensures (omega (arith, fits)) e.adds;
+      };
       laid = λ f p. tt;
       passed = tt;
-      still = tt;
-      some = tt;
       over = tt;
-      reached = tt;
-      same = (t.same.0, t.same.1, refl, refl);
       writes = fails e.writes (omega arith) (omega arith);
-      within = t.within;
-      long = λ uncut. taken_within c.args.size c.args.blocks c.gain-gain.result _ _ _ c.args.self.now c.args.kind c.requires.sound uncut c.requires.some (kind_held c.args.size c.args.blocks c.args.bytes.now c.args.kind c.requires.some c.requires.all) c.gain-gain.ensures (omega (arith, fits)) e.adds;
     }
 
 -- they are taken
@@ -62,18 +65,17 @@ returns g c =
     let t = c.take.ensures in
     let e = c.in-Ok.ensures in
     let fits = c.if-gain-self.false in
-    let held = kind_held c.args.size c.args.blocks c.args.bytes.now c.args.kind c.requires.some c.requires.all in
+    let held = kind_held c.args.size c.args.blocks c.args.bytes.now c.args.kind c.requires.part.some c.requires.part.all in
     record {
-      sound = sound_on c.args.size c.args.blocks c.gain-gain.result _ _ c.args.self.now c.take.new.self c.args.kind c.requires.sound e.sound c.requires.some held e.ok e.passed t.same.0 t.same.1 (omega (arith, e.adds)) c.gain-gain.ensures (omega (arith, fits));
-      kept = t.kept;
-      laid = λ f p d. laid_on c.args.size c.args.blocks c.gain-gain.result f c.args.bytes.now _ _ c.args.self.now c.take.new.self c.args.kind c.requires.some c.requires.all e.ok c.gain-gain.ensures p (e.laid (skips c.args.self.now.first ++ f) p.placed);
+      segment = record {
+        kept = t.kept;
+        sound = sound_on c.args.size c.args.blocks c.gain-gain.result _ _ c.args.self.now c.take.new.self c.args.kind c.requires.sound e.sound c.requires.part.some held e.ok e.passed t.same.0 t.same.1 (omega (arith, e.adds)) c.gain-gain.ensures (omega (arith, fits));
+        same = (t.same.0, t.same.1, refl, refl);
+        within = t.within;
+        long = λ uncut. taken_within c.args.size c.args.blocks c.gain-gain.result _ _ 0 c.args.self.now c.args.kind c.requires.sound uncut c.requires.part.some held c.gain-gain.ensures (omega (arith, fits)) e.adds;
+      };
+      laid = λ f p d. laid_on c.args.size c.args.blocks c.gain-gain.result f c.args.bytes.now _ _ c.args.self.now c.take.new.self c.args.kind c.requires.part.some c.requires.part.all e.ok c.gain-gain.ensures p (e.laid (skips c.args.self.now.first ++ f) p.placed);
       passed = λ d. e.passed;
-      still = λ d. absurd (let z : false ≡ true = d in cc);
-      some = λ d. absurd (let z : false ≡ true = d in cc);
       over = λ d. absurd (let z : false ≡ true = d in cc);
-      reached = λ d. absurd (let z : false ≡ true = d in cc);
-      same = (t.same.0, t.same.1, refl, refl);
       writes = succeeds e.writes;
-      within = t.within;
-      long = λ uncut. taken_within c.args.size c.args.blocks c.gain-gain.result _ _ 0 c.args.self.now c.args.kind c.requires.sound uncut c.requires.some held c.gain-gain.ensures (omega (arith, fits)) e.adds;
     }

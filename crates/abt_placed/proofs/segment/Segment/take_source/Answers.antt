@@ -20,18 +20,18 @@ loop-ended-preserved g c =
     record {
       lays = lays_then i.lays (lays_then {x = false} (lays_value e.lays) (lays_written _ _ (ticked g.O.Output c.step.new.output c.step.new.m c.tick.new.self 1 (omega (arith, m.turns)) m.steps m.greatest)));
       given = omega (arith, i.given, e.once on);
-      sound = e.sound;
+      sound = e.segment.sound;
       within = e.inside;
       told = same_told g.S.Source.tells (g.S.Source.content c.loop-ended.source) (g.S.Source.content c.args.source.now) r.size new c.step.new.self i.lays.content e.told;
-      same = (t.same.0 ∙ i.same.0, t.same.1 ∙ i.same.1, t.same.2 ∙ i.same.2, t.same.3 ∙ i.same.3);
-      kept = keeps_then (c.args.self.now.placer.front + 28) old now new i.kept (subst (λ (j : ℕ). KeepsFront (j + 28) now new) i.same.1 t.kept);
+      same = (t.segment.same.0 ∙ i.same.0, t.segment.same.1 ∙ i.same.1, t.segment.same.2 ∙ i.same.2, t.segment.same.3 ∙ i.same.3);
+      kept = keeps_then (c.args.self.now.placer.front + 28) old now new i.kept (subst (λ (j : ℕ). KeepsFront (j + 28) now new) i.same.1 t.segment.kept);
       calls = omega (arith, i.calls, e.going_calls on, i.lays.given, t.lays.given);
       turns = omega (arith, i.turns, e.going_turns on, i.lays.given, t.lays.given, m.turns);
     }
 
 pub loop-ended-init : goal.loop-ended-init
 loop-ended-init g c =
-    let r = c.requires in
+    let r = c.requires.ready in
     record {
       lays = lays_still;
       given = refl;
@@ -60,15 +60,19 @@ returns-then-ended g c =
       lays = lays_value (lays_then i.lays e.lays);
       told = same_told g.S.Source.tells x y r.size new c.step.new.self i.lays.content e.told;
       ended = same_ended g.S.Source.tells x y r.size r.blocks c.step.new.self i.lays.content (e.ended c.if-ended.true);
-      kept = keeps_then (c.args.self.now.placer.front + 28) old now new i.kept (subst (λ (j : ℕ). KeepsFront (j + 28) now new) i.same.1 t.kept);
-      sound = e.sound;
+      segment = record {
+        kept = keeps_then (c.args.self.now.placer.front + 28) old now new i.kept (subst (λ (j : ℕ). KeepsFront (j + 28) now new) i.same.1 t.segment.kept);
+        sound = e.segment.sound;
+        same = (t.segment.same.0 ∙ i.same.0, t.segment.same.1 ∙ i.same.1, t.segment.same.2 ∙ i.same.2, t.segment.same.3 ∙ i.same.3);
+        within = omega (arith, t.segment.within, i.same.1);
+        long = λ uncut. let long = e.segment.long (rw (i.same.3, i.same.0) uncut) in omega (arith, i.same.1, i.same.3, long);
+      };
       inside = e.inside;
-      same = (t.same.0 ∙ i.same.0, t.same.1 ∙ i.same.1, t.same.2 ∙ i.same.2, t.same.3 ∙ i.same.3);
-      within = omega (arith, t.within, i.same.1);
-      long = λ uncut. let long = e.long (rw (i.same.3, i.same.0) uncut) in omega (arith, i.same.1, i.same.3, long);
-      economy = omega (arith, i.given, t.economy);
-      least = omega (arith, i.given, e.least);
-      last = omega (arith, i.given, e.last);
+      reads = record {
+        economy = omega (arith, i.given, t.reads.economy);
+        least = omega (arith, i.given, e.reads.least);
+        last = omega (arith, i.given, e.reads.last);
+      };
       calls = omega (arith, i.calls, t.calls, i.lays.given, t.lays.given);
       turns = omega (arith, i.turns, t.turns, i.lays.given, t.lays.given);
     }
@@ -86,15 +90,19 @@ returns-in-Err g c =
       lays = lays_fault (lays_then i.lays e.lays);
       told = tt;
       ended = tt;
-      kept = keeps_then (c.args.self.now.placer.front + 28) old now new i.kept (subst (λ (j : ℕ). KeepsFront (j + 28) now new) i.same.1 t.kept);
-      sound = tt;
+      segment = record {
+        kept = keeps_then (c.args.self.now.placer.front + 28) old now new i.kept (subst (λ (j : ℕ). KeepsFront (j + 28) now new) i.same.1 t.segment.kept);
+        sound = tt;
+        same = (t.segment.same.0 ∙ i.same.0, t.segment.same.1 ∙ i.same.1, t.segment.same.2 ∙ i.same.2, t.segment.same.3 ∙ i.same.3);
+        within = omega (arith, t.segment.within, i.same.1);
+        long = λ uncut. let long = e.segment.long (rw (i.same.3, i.same.0) uncut) in omega (arith, i.same.1, i.same.3, long);
+      };
       inside = tt;
-      same = (t.same.0 ∙ i.same.0, t.same.1 ∙ i.same.1, t.same.2 ∙ i.same.2, t.same.3 ∙ i.same.3);
-      within = omega (arith, t.within, i.same.1);
-      long = λ uncut. let long = e.long (rw (i.same.3, i.same.0) uncut) in omega (arith, i.same.1, i.same.3, long);
-      economy = omega (arith, i.given, t.economy);
-      least = tt;
-      last = tt;
+      reads = record {
+        economy = omega (arith, i.given, t.reads.economy);
+        least = tt;
+        last = tt;
+      };
       calls = omega (arith, i.calls, t.calls, i.lays.given, t.lays.given);
       turns = omega (arith, i.turns, t.turns, i.lays.given, t.lays.given);
     }
