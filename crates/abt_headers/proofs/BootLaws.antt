@@ -9,10 +9,10 @@ use Rattle.abt_headers.specs.declared.boot.BootFront.{BootFront}
 use Rattle.abt_headers.specs.declared.boot.ShortFront.{ShortFront}
 use Rattle.abt_headers.specs.declared.boot.BootHeader.{BootHeader}
 use Rattle.abt_headers.specs.declared.boot.BootHeader.TheVariants.{V0, V1, V2, V3, V4}
-use Rattle.abt_headers.specs.Field.{number_at, joined}
+use Rattle.abt_headers.specs.Field.{number_at, joined_fields}
 use Rattle.abt_headers.specs.Fault.{needing, mapped}
 use Rattle.abt_headers.specs.Page.{page_at}
-use Rattle.abt_headers.specs.Boot.{front_fields, dtbo_fields, dtb_fields, short_fields, boot_fields, boot_record, boot_size, front_at, dtbo_at, dtb_at, short_at, boot_of, boot_at}
+use Rattle.abt_headers.specs.Boot.{front_fields, dtbo_fields, dtb_fields, short_fields, boot_field_list, boot_record, boot_size, front_at, dtbo_at, dtb_at, short_at, boot_of, boot_at}
 use Rattle.abt_headers.specs.Fits.{FrontFits, ShortFits, BootFits}
 use Rattle.abt_headers.proofs.Fields.{IsBytes, joined_to, joined_rest, joined-append, number_here, field}
 use Rattle.abt_headers.proofs.PageLaws.{needing-is, needing-from, guard, page_is, page_was, Reads, reads-if, reads-needing, reads-mapped, reads-page}
@@ -28,7 +28,7 @@ begun x v r h magic version e =
     ∙ needing-is 44 x _ h
     ∙ ap (λ (k : ℕ). boot_of k x) version ∙ e
 
-pub boot_again : (h : BootHeader) (x rest : List ℕ) → BootFits h → boot_size h ≤ length x → x ≡ joined_to (boot_fields h) rest → boot_at x ≡ Ok h
+pub boot_again : (h : BootHeader) (x rest : List ℕ) → BootFits h → boot_size h ≤ length x → x ≡ joined_to (boot_field_list h) rest → boot_at x ≡ Ok h
 unfolding boot_of
 boot_again (V0 f) x rest fits size e =
     let a = front_again 0 f x rest (lit< tt) fits e in
@@ -73,7 +73,7 @@ not-false' false e = absurd cc
 -- what stands of a header in x
 pub record Stands (h : BootHeader) (x : List ℕ) : Type 0 where
   pub size : boot_size h ≤ length x
-  pub bytes : joined_to (boot_fields h) (drop (boot_size h) x) ≡ x
+  pub bytes : joined_to (boot_field_list h) (drop (boot_size h) x) ≡ x
 
 module _ (x : List ℕ) (k : IsBytes x) (magic : number_at 0 8 x ≡ 0x2144494f52444e41) where
   back_0 : (h : BootHeader) → number_at 40 4 x ≡ 0 → mapped (needing 1632 x (page_at 36 x)) (λ p. V0 (front_at p x)) ≡ Ok h → Stands h x
@@ -138,32 +138,32 @@ boot_back x h k e =
 -- what a decoded header ensures
 pub boot_backs : (x : List ℕ) (r : Result BootHeader HeaderFault) → IsBytes x → r ≡ boot_at x → IfOk r (λ h. boot_record h ++ drop (boot_size h) x ≡ x)
 unfolding boot_record
-boot_backs x (Ok h) k e = let s = boot_back x h k (sym e) in joined_rest (boot_fields h) (drop (boot_size h) x) ∙ s.bytes
+boot_backs x (Ok h) k e = let s = boot_back x h k (sym e) in joined_rest (boot_field_list h) (drop (boot_size h) x) ∙ s.bytes
 boot_backs x (Err f) k e = tt
 
 pub boot_sizes : (x : List ℕ) (r : Result BootHeader HeaderFault) → IsBytes x → r ≡ boot_at x → IfOk r (λ h. boot_size h ≤ length x)
 boot_sizes x (Ok h) k e = let s = boot_back x h k (sym e) in s.size
 boot_sizes x (Err f) k e = tt
 
-front_length : (v : ℕ) (f : BootFront) → FrontFits f → length (joined (front_fields v f)) ≡ 1632
+front_length : (v : ℕ) (f : BootFront) → FrontFits f → length (joined_fields (front_fields v f)) ≡ 1632
 front_length v f fits = simp length-append (omega arith)
 
-short_length : (v : ℕ) (f : ShortFront) → ShortFits f → length (joined (short_fields v f)) ≡ 1580
+short_length : (v : ℕ) (f : ShortFront) → ShortFits f → length (joined_fields (short_fields v f)) ≡ 1580
 short_length v f fits = simp length-append (omega arith)
 
 pub record_length : (h : BootHeader) → BootFits h → length (boot_record h) ≡ boot_size h
 unfolding boot_record
 record_length (V0 f) fits = front_length 0 f fits
-record_length (V1 f d) fits = ap length (joined-append (front_fields 1 f) (dtbo_fields d)) ∙ length-append (joined (front_fields 1 f)) (joined (dtbo_fields d)) ∙ ap (λ (n : ℕ). n + 16) (front_length 1 f fits.0)
+record_length (V1 f d) fits = ap length (joined-append (front_fields 1 f) (dtbo_fields d)) ∙ length-append (joined_fields (front_fields 1 f)) (joined_fields (dtbo_fields d)) ∙ ap (λ (n : ℕ). n + 16) (front_length 1 f fits.0)
 record_length (V2 f d t) fits =
-    ap length (joined-append (front_fields 2 f) (dtbo_fields d ++ dtb_fields t)) ∙ length-append (joined (front_fields 2 f)) (joined (dtbo_fields d ++ dtb_fields t)) ∙ ap (λ (n : ℕ). n + 28) (front_length 2 f fits.0)
+    ap length (joined-append (front_fields 2 f) (dtbo_fields d ++ dtb_fields t)) ∙ length-append (joined_fields (front_fields 2 f)) (joined_fields (dtbo_fields d ++ dtb_fields t)) ∙ ap (λ (n : ℕ). n + 28) (front_length 2 f fits.0)
 record_length (V3 f) fits = short_length 3 f fits
-record_length (V4 f s) fits = ap length (joined-append (short_fields 4 f) (little_bytes 4 s ∷ [])) ∙ length-append (joined (short_fields 4 f)) (joined (little_bytes 4 s ∷ [])) ∙ ap (λ (n : ℕ). n + 4) (short_length 4 f fits.0)
+record_length (V4 f s) fits = ap length (joined-append (short_fields 4 f) (little_bytes 4 s ∷ [])) ∙ length-append (joined_fields (short_fields 4 f)) (joined_fields (little_bytes 4 s ∷ [])) ∙ ap (λ (n : ℕ). n + 4) (short_length 4 f fits.0)
 
 pub record_again : (h : BootHeader) (rest : List ℕ) → BootFits h → boot_at (boot_record h ++ rest) ≡ Ok h
 unfolding boot_record
 record_again h rest fits =
-    boot_again h (joined (boot_fields h) ++ rest) rest fits (omega (arith, record_length h fits, length-append (joined (boot_fields h)) rest)) (joined_rest (boot_fields h) rest)
+    boot_again h (joined_fields (boot_field_list h) ++ rest) rest fits (omega (arith, record_length h fits, length-append (joined_fields (boot_field_list h)) rest)) (joined_rest (boot_field_list h) rest)
 
 -- what a header that stands in front decodes to
 pub boot_found : (x : List ℕ) (r : Result BootHeader HeaderFault) → r ≡ boot_at x → (h : BootHeader) (rest : List ℕ) → BootFits h → x ≡ boot_record h ++ rest → r ≡ Ok h

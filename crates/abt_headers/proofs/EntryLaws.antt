@@ -6,7 +6,7 @@ use Rattle.std.specs.List.{flat_map}
 use Rattle.std.specs.Prelude.{slice_index}
 use Rattle.byteorder.specs.Endian.{little_bytes}
 use Rattle.abt_headers.specs.declared.entry.RamdiskEntry.{RamdiskEntry}
-use Rattle.abt_headers.specs.Field.{number_at, joined}
+use Rattle.abt_headers.specs.Field.{number_at, joined_fields}
 use Rattle.abt_headers.specs.Entry.{words_at, words_fields, entry_fields, entry_record, entry_at, EntryFits}
 use Rattle.abt_headers.proofs.Fields.{IsBytes, next, next_number, part_here, number_here, part_field, field, joined_to, joined_rest}
 
@@ -45,11 +45,11 @@ entry_back x n k =
     let e8 = field 8 4 x _ (omega arith) k e12 in
     let e4 = field 4 4 x _ (omega arith) k e8 in
     let e0 = field 0 4 x _ (omega arith) k e4 in
-    sym (append-nil (joined (entry_fields (entry_at x)))) ∙ joined_rest (entry_fields (entry_at x)) [] ∙ e0
+    sym (append-nil (joined_fields (entry_fields (entry_at x)))) ∙ joined_rest (entry_fields (entry_at x)) [] ∙ e0
 
 pub record_again : (e : RamdiskEntry) → EntryFits e → entry_at (entry_record e) ≡ e
 unfolding entry_record
-record_again e fits = entry_again e (joined (entry_fields e)) fits (sym (append-nil (joined (entry_fields e))) ∙ joined_rest (entry_fields e) [])
+record_again e fits = entry_again e (joined_fields (entry_fields e)) fits (sym (append-nil (joined_fields (entry_fields e))) ∙ joined_rest (entry_fields e) [])
 
 -- numbers that stand one after another are the words there
 pub words_read : (ws : List ℕ) (p : ℕ) (x : List ℕ) → ((k : ℕ) → k < length ws → slice_index ws k ≡ number_at (4 * k) 4 (drop p x)) → ws ≡ words_at p (length ws) x
@@ -60,17 +60,17 @@ words_read (w ∷ ws) p x h =
     let rest = words_read ws (p + 4) x (λ k lt. h (suc k) (omega arith) ∙ ap (λ (l : List ℕ). number_at 0 4 l) (step k)) in
     ap (λ (v : ℕ). v ∷ ws) here ∙ ap (λ (l : List ℕ). number_at p 4 x ∷ l) rest
 
-pub words_flat : (ws : List ℕ) → flat_map (little_bytes 4) ws ≡ joined (words_fields ws)
+pub words_flat : (ws : List ℕ) → flat_map (little_bytes 4) ws ≡ joined_fields (words_fields ws)
 words_flat [] = refl
 words_flat (w ∷ ws) = flat_map-cons (little_bytes 4) w ws ∙ ap (λ (l : List ℕ). little_bytes 4 w ++ l) (words_flat ws)
 
-words_length : (ws : List ℕ) → length (joined (words_fields ws)) ≡ 4 * length ws
+words_length : (ws : List ℕ) → length (joined_fields (words_fields ws)) ≡ 4 * length ws
 words_length [] = omega arith
-words_length (w ∷ ws) = length-append (little_bytes 4 w) (joined (words_fields ws)) ∙ rw (words_length ws) (omega arith)
+words_length (w ∷ ws) = length-append (little_bytes 4 w) (joined_fields (words_fields ws)) ∙ rw (words_length ws) (omega arith)
 
 pub record_length : (e : RamdiskEntry) → EntryFits e → length (entry_record e) ≡ 108
 unfolding entry_record
 record_length e fits =
     let n : length e.name ≡ 32 = fits.name in
-    let w : length (joined (words_fields e.board_id)) ≡ 64 = words_length e.board_id ∙ ap (λ (k : ℕ). 4 * k) fits.board_long in
+    let w : length (joined_fields (words_fields e.board_id)) ≡ 64 = words_length e.board_id ∙ ap (λ (k : ℕ). 4 * k) fits.board_long in
     simp length-append (omega arith)

@@ -5,7 +5,7 @@ use Rattle.std.proofs.lemmas.List.{take_at, drop_at}
 use Rattle.std.specs.Int.{byte_at, bytes_low_first}
 use Rattle.byteorder.specs.Endian.{little_number, little_bytes, little_from}
 use Rattle.byteorder.specs.Numbers.{little_number-reads_back, length-bytes_low_first, little_from-cons}
-use Rattle.abt_headers.specs.Field.{number_at, part_at, joined}
+use Rattle.abt_headers.specs.Field.{number_at, part_at, joined_fields}
 
 abbrev pub IsBytes : List ℕ → Type 0
 IsBytes x = (i : ℕ) → get_or x i 0 < 256
@@ -67,9 +67,9 @@ abbrev pub joined_to : List (List ℕ) → List ℕ → List ℕ
 joined_to [] rest = rest
 joined_to (f ∷ fs) rest = f ++ joined_to fs rest
 
-pub joined_rest : (fs : List (List ℕ)) (rest : List ℕ) → joined fs ++ rest ≡ joined_to fs rest
+pub joined_rest : (fs : List (List ℕ)) (rest : List ℕ) → joined_fields fs ++ rest ≡ joined_to fs rest
 joined_rest [] rest = refl
-joined_rest (f ∷ fs) rest = append_assoc f (joined fs) rest ∙ ap (λ (t : List ℕ). f ++ t) (joined_rest fs rest)
+joined_rest (f ∷ fs) rest = append_assoc f (joined_fields fs) rest ∙ ap (λ (t : List ℕ). f ++ t) (joined_rest fs rest)
 
 -- one write more, behind what was written
 pub put_more : (front base now new b : List ℕ) (p n : ℕ) → length front ≡ p → length b ≡ n → now ≡ front ++ drop p base → new ≡ take p now ++ (b ++ drop (p + length b) now) → new ≡ (front ++ b) ++ drop (p + n) base
@@ -86,9 +86,9 @@ regroup_5 h a b c d rest = simp (append_assoc, append-nil)
 pub regroup_4 : (h a b c rest : List ℕ) → (((h ++ a) ++ b) ++ c) ++ rest ≡ (h ++ (a ++ (b ++ (c ++ [])))) ++ rest
 regroup_4 h a b c rest = simp (append_assoc, append-nil)
 
-pub joined-append : (fs gs : List (List ℕ)) → joined (fs ++ gs) ≡ joined fs ++ joined gs
+pub joined-append : (fs gs : List (List ℕ)) → joined_fields (fs ++ gs) ≡ joined_fields fs ++ joined_fields gs
 joined-append [] gs = refl
-joined-append (f ∷ fs) gs = ap (λ (t : List ℕ). f ++ t) (joined-append fs gs) ∙ sym (append_assoc f (joined fs) (joined gs))
+joined-append (f ∷ fs) gs = ap (λ (t : List ℕ). f ++ t) (joined-append fs gs) ∙ sym (append_assoc f (joined_fields fs) (joined_fields gs))
 
 pub regroup_ends : (h a b c d rest : List ℕ) → ((((h ++ a) ++ b) ++ c) ++ d) ++ rest ≡ (h ++ (a ++ (b ++ (c ++ d)))) ++ rest
 regroup_ends h a b c d rest = simp append_assoc

@@ -6,7 +6,7 @@ use Rattle.byteorder.specs.Endian.{little_number}
 use Rattle.byteorder.specs.Numbers.{little_from-take}
 use Rattle.abt_headers.specs.declared.page.PageSize.{PageSize}
 use Rattle.abt_headers.specs.Field.{number_at, part_at}
-use Rattle.abt_headers.specs.Vendor.{Tail, vendor_front_at, tail_at, tail_checked, tail_of, vendor_of, vendor_at}
+use Rattle.abt_headers.specs.Vendor.{Tail, vendor_front_at, tail_at, tail_checked, tail_or_fault, vendor_of, vendor_at}
 use Rattle.abt_headers.specs.Boot.{front_at, dtbo_at, dtb_at, short_at, boot_of, boot_at}
 
 add_back : (p m : ℕ) → p ≤ m → m ≡ p + (m - p)
@@ -134,7 +134,7 @@ vendor_of_same v m x h k =
     let s2128 = ltb_same 2128 m x (omega arith) k in
     let page = same_number 12 4 m x (omega arith) in
     let f = λ (q : PageSize). vendor_front_same m x q (omega arith) in
-    let t : tail_of (take m x) ≡ tail_of x = ap (λ (u : Tail). tail_checked u) (tail_same m x h) in
+    let t : tail_or_fault (take m x) ≡ tail_or_fault x = ap (λ (u : Tail). tail_checked u) (tail_same m x h) in
     simp (s2112, s2128, page, f, t)
 
 long_vendor_same : (m : ℕ) (x : List ℕ) → 2128 ≤ m → m ≤ length x → vendor_at (take m x) ≡ vendor_at x

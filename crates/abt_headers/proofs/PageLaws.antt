@@ -5,7 +5,7 @@ use Rattle.abt_headers.specs.declared.fault.HeaderFault.{HeaderFault}
 use Rattle.abt_headers.specs.declared.fault.HeaderFault.TheVariants as faults
 use Rattle.abt_headers.specs.declared.page.PageSize.{PageSize}
 use Rattle.abt_headers.specs.declared.page.PageSize.TheVariants.{Of2048, Of4096, Of8192, Of16384, Of32768, Of65536, Of131072}
-use Rattle.abt_headers.specs.Fault.{needing, mapped, both, fault_number}
+use Rattle.abt_headers.specs.Fault.{needing, mapped, both, header_fault_number}
 use Rattle.abt_headers.specs.Field.{number_at}
 use Rattle.abt_headers.specs.Page.{page_bytes, page_from, page_or_fault, page_at}
 
@@ -89,7 +89,7 @@ page_was n place x p e =
 -- ---- no fault of reading is that of an OS version
 
 abbrev pub Reads : {A : Type 0} → Result A HeaderFault → Type 0
-Reads r = IfErr r (λ f. fault_number f ≤ 25)
+Reads r = IfErr r (λ f. header_fault_number f ≤ 25)
 
 pub reads-if : {A : Type 0} (t : Bool) (r s : Result A HeaderFault) → Reads r → Reads s → Reads (cond t r s)
 reads-if true r s h k = h

@@ -8,7 +8,7 @@ use Rattle.std.specs.Int.{div_ceil}
 use Rattle.abt_headers.specs.declared.sections.Section.{Section}
 use Rattle.abt_headers.specs.declared.sections.Place.{Place}
 use Rattle.abt_headers.specs.Page.{pages}
-use Rattle.abt_headers.specs.Places.{place_of, places_from, EachLow}
+use Rattle.abt_headers.specs.Places.{section_place, places_from, EachLow}
 
 pub laid : (p k k' i : ℕ) (ps : List Place) (ss : List (Section × ℕ)) (d : Section × ℕ) → i < length ss → i < length ps → k' ≡ k + pages (get_or ss i d).1 p
     → take (i + 1) (set ps i (record { kind = (get_or ss i d).0; at = p * k; size = (get_or ss i d).1 })) ++ places_from p k' (drop (i + 1) ss) ≡ take i ps ++ places_from p k (drop i ss)
@@ -51,4 +51,4 @@ near page k size h l s = let m : page * k ≤ 131072 * k = mul-le-mul_right k h 
 -- the places of the first sections are the first places
 pub first_places : (p k : ℕ) (ss rest : List (Section × ℕ)) → take (length ss) (places_from p k (ss ++ rest)) ≡ places_from p k ss
 first_places p k [] rest = refl
-first_places p k (s ∷ ss) rest = ap (λ (l : List Place). place_of p k s ∷ l) (first_places p (k + pages s.1 p) ss rest)
+first_places p k (s ∷ ss) rest = ap (λ (l : List Place). section_place p k s ∷ l) (first_places p (k + pages s.1 p) ss rest)

@@ -6,10 +6,10 @@ use Rattle.abt_headers.specs.declared.fault.HeaderFault.TheVariants as faults
 use Rattle.abt_headers.specs.declared.page.PageSize.{PageSize}
 use Rattle.abt_headers.specs.declared.vendor.VendorFront.{VendorFront}
 use Rattle.abt_headers.specs.declared.vendor.VendorHeader.{VendorHeader}
-use Rattle.abt_headers.specs.Field.{number_at, joined}
-use Rattle.abt_headers.specs.Fault.{needing, mapped, both, fault_number}
+use Rattle.abt_headers.specs.Field.{number_at, joined_fields}
+use Rattle.abt_headers.specs.Fault.{needing, mapped, both, header_fault_number}
 use Rattle.abt_headers.specs.Page.{page_bytes, page_at}
-use Rattle.abt_headers.specs.Vendor.{Tail, Vendor, view, vendor_fields, tail_fields, all_fields, vendor_record, vendor_size, vendor_front_at, tail_at, tail_checked, tail_of, vendor_of, vendor_at}
+use Rattle.abt_headers.specs.Vendor.{Tail, Vendor, vendor_view, vendor_field_list, tail_fields, all_fields, vendor_record, vendor_size, vendor_front_at, tail_at, tail_checked, tail_or_fault, vendor_of, vendor_at}
 use Rattle.abt_headers.specs.VendorFits.{VendorFrontFits, TailFits, VendorFits}
 use Rattle.abt_headers.proofs.Fields.{IsBytes, next, next_number, part_here, number_here, part_field, field, field_is, joined_to, joined_rest, joined-append}
 use Rattle.abt_headers.proofs.PageLaws.{page_fits, needing-is, needing-from, guard, page_is, page_was, Reads, reads-if, reads-needing, reads-mapped, reads-both, reads-page}
@@ -24,7 +24,7 @@ pub record FrontRead (v : ℕ) (f : VendorFront) (x rest : List ℕ) : Type 0 wh
   pub front : vendor_front_at f.page_size x ≡ f
   pub behind : drop 2112 x ≡ rest
 
-front_again : (v : ℕ) (f : VendorFront) (x rest : List ℕ) → v < 2 ^ 32 → VendorFrontFits f → x ≡ joined_to (vendor_fields v f) rest → FrontRead v f x rest
+front_again : (v : ℕ) (f : VendorFront) (x rest : List ℕ) → v < 2 ^ 32 → VendorFrontFits f → x ≡ joined_to (vendor_field_list v f) rest → FrontRead v f x rest
 unfolding vendor_front_at
 front_again v f x rest small fits e0 =
     let f0 = number_here 0 8 0x544f4f4252444e56 x _ e0 (lit< tt) in
@@ -66,7 +66,7 @@ tail_again t x rest fits e2112 =
     rw (f2112, f2116, f2120, f2124) refl
 
 front_back : (v : ℕ) (p : PageSize) (x rest : List ℕ) → 2112 ≤ length x → IsBytes x → number_at 0 8 x ≡ 0x544f4f4252444e56 → number_at 8 4 x ≡ v → number_at 12 4 x ≡ page_bytes p → rest ≡ drop 2112 x
-    → joined_to (vendor_fields v (vendor_front_at p x)) rest ≡ x
+    → joined_to (vendor_field_list v (vendor_front_at p x)) rest ≡ x
 unfolding vendor_front_at
 front_back v p x rest h k is0 is8 is12 e =
     let e2104 = field 2104 8 x _ (omega arith) k e in
@@ -113,9 +113,9 @@ page_ok p = Ok p
 abbrev pub whole : List ℕ → PageSize × Tail → Vendor
 whole x p = record { front = vendor_front_at p.0 x; tail = Some p.1 }
 
-both_are : (x : List ℕ) (f : VendorFront) (t : Tail) → 2128 ≤ length x → number_at 12 4 x ≡ page_bytes f.page_size → tail_at x ≡ t → TailFits t → both (needing 2128 x (page_at 12 x)) (tail_of x) ≡ Ok (f.page_size, t)
+both_are : (x : List ℕ) (f : VendorFront) (t : Tail) → 2128 ≤ length x → number_at 12 4 x ≡ page_bytes f.page_size → tail_at x ≡ t → TailFits t → both (needing 2128 x (page_at 12 x)) (tail_or_fault x) ≡ Ok (f.page_size, t)
 both_are x f t h page same fits =
-    ap (λ (r : Result PageSize HeaderFault). both r (tail_of x)) (page_is 2128 12 x f.page_size h page)
+    ap (λ (r : Result PageSize HeaderFault). both r (tail_or_fault x)) (page_is 2128 12 x f.page_size h page)
     ∙ ap (λ (s : Tail). both (page_ok f.page_size) (tail_checked s)) same
     ∙ ap (λ (r : Result Tail HeaderFault). both (page_ok f.page_size) r) (tail_is t fits.entries fits.whole)
 
@@ -129,12 +129,12 @@ again_of f (Some t) x rest fits size e =
     let b = tail_again t x rest fits.1 a.behind in
     begun x 4 _ (omega arith) a.magic a.version (ap (λ (r : Result (PageSize × Tail) HeaderFault). mapped r (whole x)) (both_are x f t size a.page b fits.1) ∙ rw a.front refl)
 
-front_length : (v : ℕ) (f : VendorFront) → VendorFrontFits f → length (joined (vendor_fields v f)) ≡ 2112
+front_length : (v : ℕ) (f : VendorFront) → VendorFrontFits f → length (joined_fields (vendor_field_list v f)) ≡ 2112
 front_length v f fits = simp length-append (omega arith)
 
-length_of : (f : VendorFront) (o : Option Tail) → VendorFrontFits f → length (joined (all_fields f o)) ≡ vendor_size (record { front = f; tail = o })
+length_of : (f : VendorFront) (o : Option Tail) → VendorFrontFits f → length (joined_fields (all_fields f o)) ≡ vendor_size (record { front = f; tail = o })
 length_of f None fits = front_length 3 f fits
-length_of f (Some t) fits = ap length (joined-append (vendor_fields 4 f) (tail_fields t)) ∙ length-append (joined (vendor_fields 4 f)) (joined (tail_fields t)) ∙ ap (λ (n : ℕ). n + 16) (front_length 4 f fits)
+length_of f (Some t) fits = ap length (joined-append (vendor_field_list 4 f) (tail_fields t)) ∙ length-append (joined_fields (vendor_field_list 4 f)) (joined_fields (tail_fields t)) ∙ ap (λ (n : ℕ). n + 16) (front_length 4 f fits)
 
 pub record_length : (h : Vendor) → VendorFits h → length (vendor_record h) ≡ vendor_size h
 unfolding vendor_record
@@ -143,8 +143,8 @@ record_length h fits = length_of h.front h.tail fits.0
 pub record_again : (h : Vendor) (rest : List ℕ) → VendorFits h → vendor_at (vendor_record h ++ rest) ≡ Ok h
 unfolding vendor_record
 record_again h rest fits =
-    again_of h.front h.tail (joined (all_fields h.front h.tail) ++ rest) rest fits
-    (omega (arith, length_of h.front h.tail fits.0, length-append (joined (all_fields h.front h.tail)) rest)) (joined_rest (all_fields h.front h.tail) rest)
+    again_of h.front h.tail (joined_fields (all_fields h.front h.tail) ++ rest) rest fits
+    (omega (arith, length_of h.front h.tail fits.0, length-append (joined_fields (all_fields h.front h.tail)) rest)) (joined_rest (all_fields h.front h.tail) rest)
 
 -- ---- and back
 
@@ -173,7 +173,7 @@ module _ (x : List ℕ) (k : IsBytes x) (magic : number_at 0 8 x ≡ 0x544f4f425
       let p = page_was 2112 12 x m.0 m.1 in
       subst (λ (g : Vendor). Stands g x) m.2 record { size = p.0; bytes = front_back 3 m.0 x _ p.0 k magic v p.1 refl }
 
-  back_4 : (h : Vendor) → number_at 8 4 x ≡ 4 → mapped (both (needing 2128 x (page_at 12 x)) (tail_of x)) (whole x) ≡ Ok h → Stands h x
+  back_4 : (h : Vendor) → number_at 8 4 x ≡ 4 → mapped (both (needing 2128 x (page_at 12 x)) (tail_or_fault x)) (whole x) ≡ Ok h → Stands h x
   back_4 h v e =
       let m = mapped-from _ _ h e in
       let b = both-from _ _ m.0 m.1 in
@@ -200,13 +200,13 @@ vendor_back x h k e =
     let t = needing-from 12 x _ h m.1 in
     by_version x k (eqb-true _ _ (not-false' _ m.0)) (number_at 8 4 x) h refl t.1
 
-pub vendor_backs : (x : List ℕ) (r : Result VendorHeader HeaderFault) → IsBytes x → MatchResult r (λ h. vendor_at x ≡ Ok (view h)) (λ f. vendor_at x ≡ Err f) → IfOk r (λ h. vendor_record (view h) ++ drop (vendor_size (view h)) x ≡ x)
+pub vendor_backs : (x : List ℕ) (r : Result VendorHeader HeaderFault) → IsBytes x → MatchResult r (λ h. vendor_at x ≡ Ok (vendor_view h)) (λ f. vendor_at x ≡ Err f) → IfOk r (λ h. vendor_record (vendor_view h) ++ drop (vendor_size (vendor_view h)) x ≡ x)
 unfolding vendor_record
-vendor_backs x (Ok h) k e = let s = vendor_back x (view h) k e in joined_rest (all_fields (view h).front (view h).tail) (drop (vendor_size (view h)) x) ∙ s.bytes
+vendor_backs x (Ok h) k e = let s = vendor_back x (vendor_view h) k e in joined_rest (all_fields (vendor_view h).front (vendor_view h).tail) (drop (vendor_size (vendor_view h)) x) ∙ s.bytes
 vendor_backs x (Err f) k e = tt
 
-pub vendor_sizes : (x : List ℕ) (r : Result VendorHeader HeaderFault) → IsBytes x → MatchResult r (λ h. vendor_at x ≡ Ok (view h)) (λ f. vendor_at x ≡ Err f) → IfOk r (λ h. vendor_size (view h) ≤ length x)
-vendor_sizes x (Ok h) k e = let s = vendor_back x (view h) k e in s.size
+pub vendor_sizes : (x : List ℕ) (r : Result VendorHeader HeaderFault) → IsBytes x → MatchResult r (λ h. vendor_at x ≡ Ok (vendor_view h)) (λ f. vendor_at x ≡ Err f) → IfOk r (λ h. vendor_size (vendor_view h) ≤ length x)
+vendor_sizes x (Ok h) k e = let s = vendor_back x (vendor_view h) k e in s.size
 vendor_sizes x (Err f) k e = tt
 
 -- ---- by versions, from the parts
@@ -216,7 +216,7 @@ unfolding tail_at
 fields_are x a b c d e f g h = rw (e, f, g, h) refl
 
 pub tail_right : (x : List ℕ) (a b c d : ℕ) → a ≡ number_at 2112 4 x → b ≡ number_at 2116 4 x → c ≡ number_at 2120 4 x → d ≡ number_at 2124 4 x → c ≡ 108 → a ≡ 108 * b
-    → tail_of x ≡ Ok (record { table_size = a; entry_num = b; entry_size = c; bootconfig_size = d })
+    → tail_or_fault x ≡ Ok (record { table_size = a; entry_num = b; entry_size = c; bootconfig_size = d })
 tail_right x a b c d e f g h i j = ap (λ (t : Tail). tail_checked t) (fields_are x a b c d e f g h) ∙ tail_is (record { table_size = a; entry_num = b; entry_size = c; bootconfig_size = d }) i j
 
 abbrev err_of : Tail → Result Tail HeaderFault
@@ -228,7 +228,7 @@ refused true false k h = refl
 refused false t k h = refl
 
 pub tail_wrong : (x : List ℕ) (a b c d : ℕ) → a ≡ number_at 2112 4 x → b ≡ number_at 2116 4 x → c ≡ number_at 2120 4 x → d ≡ number_at 2124 4 x → (c ≡ 108 → a ≡ 108 * b → ⊥)
-    → tail_of x ≡ Err faults.Table
+    → tail_or_fault x ≡ Err faults.Table
 tail_wrong x a b c d e f g h i =
     ap (λ (t : Tail). tail_checked t) (fields_are x a b c d e f g h)
     ∙ refused (c == 108) (a == 108 * b) (record { table_size = a; entry_num = b; entry_size = c; bootconfig_size = d }) (λ s t. i (eqb-true _ _ s) (eqb-true _ _ t))
@@ -240,8 +240,8 @@ same_vendor : (v w : Vendor) → vendor_ok v ≡ vendor_ok w → v ≡ w
 same_vendor v w e = cc
 
 -- what a header that stands in front decodes to
-pub vendor_found : (x : List ℕ) (r : Result VendorHeader HeaderFault) → MatchResult r (λ h. vendor_at x ≡ Ok (view h)) (λ f. vendor_at x ≡ Err f) → (v : Vendor) (rest : List ℕ) → VendorFits v → x ≡ vendor_record v ++ rest → MatchResult r (λ h. view h ≡ v) (λ _. ⊥)
-vendor_found x (Ok h) e v rest fits is = let same : vendor_at x ≡ Ok v = ap vendor_at is ∙ record_again v rest fits in same_vendor (view h) v (sym e ∙ same)
+pub vendor_found : (x : List ℕ) (r : Result VendorHeader HeaderFault) → MatchResult r (λ h. vendor_at x ≡ Ok (vendor_view h)) (λ f. vendor_at x ≡ Err f) → (v : Vendor) (rest : List ℕ) → VendorFits v → x ≡ vendor_record v ++ rest → MatchResult r (λ h. vendor_view h ≡ v) (λ _. ⊥)
+vendor_found x (Ok h) e v rest fits is = let same : vendor_at x ≡ Ok v = ap vendor_at is ∙ record_again v rest fits in same_vendor (vendor_view h) v (sym e ∙ same)
 vendor_found x (Err f) e v rest fits is = let same : vendor_at x ≡ Ok v = ap vendor_at is ∙ record_again v rest fits in absurd cc
 
 -- the faults that reading has
@@ -249,12 +249,12 @@ of_reads : (v : ℕ) (x : List ℕ) → Reads (vendor_of v x)
 unfolding vendor_of
 of_reads v x =
     reads-if (v == 3) _ _ (reads-mapped _ _ (reads-page 2112 12 x))
-    (reads-if (v == 4) _ _ (reads-mapped _ _ (reads-both (needing 2128 x (page_at 12 x)) (tail_of x) (reads-page 2128 12 x) (reads-if _ (Err faults.Table) (Ok (tail_at x)) (lit≤ tt) tt))) (lit≤ tt))
+    (reads-if (v == 4) _ _ (reads-mapped _ _ (reads-both (needing 2128 x (page_at 12 x)) (tail_or_fault x) (reads-page 2128 12 x) (reads-if _ (Err faults.Table) (Ok (tail_at x)) (lit≤ tt) tt))) (lit≤ tt))
 
 at_reads : (x : List ℕ) → Reads (vendor_at x)
 unfolding vendor_at
 at_reads x = reads-needing 8 x _ (reads-if (not (number_at 0 8 x == 0x544f4f4252444e56)) (Err faults.Magic) _ (lit≤ tt) (reads-needing 12 x _ (of_reads (number_at 8 4 x) x)))
 
-pub vendor_reads : (x : List ℕ) (r : Result VendorHeader HeaderFault) → MatchResult r (λ h. vendor_at x ≡ Ok (view h)) (λ f. vendor_at x ≡ Err f) → IfErr r (λ f. fault_number f ≤ 25)
+pub vendor_reads : (x : List ℕ) (r : Result VendorHeader HeaderFault) → MatchResult r (λ h. vendor_at x ≡ Ok (vendor_view h)) (λ f. vendor_at x ≡ Err f) → IfErr r (λ f. header_fault_number f ≤ 25)
 vendor_reads x (Ok h) e = tt
 vendor_reads x (Err f) e = subst (λ (r : Result Vendor HeaderFault). Reads r) e (at_reads x)

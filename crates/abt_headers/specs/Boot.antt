@@ -16,7 +16,7 @@ use Rattle.abt_headers.specs.declared.sections.Section.TheVariants.{Kernel, Ramd
 use Rattle.abt_headers.specs.declared.sections.Section.TheVariants.{Signature}
 use Rattle.abt_headers.specs.declared.sections.Place.{Place}
 use Rattle.abt_headers.specs.Fault.{needing, mapped}
-use Rattle.abt_headers.specs.Field.{number_at, part_at, joined}
+use Rattle.abt_headers.specs.Field.{number_at, part_at, joined_fields}
 use Rattle.abt_headers.specs.Page.{page_bytes, page_at, pages}
 use Rattle.abt_headers.specs.Places.{places_from}
 
@@ -60,15 +60,15 @@ short_numbers f =
 abbrev pub short_fields : ℕ → ShortFront → List (List ℕ)
 short_fields version f = short_numbers f ++ (f.reserved ∷ little_bytes 4 version ∷ f.cmdline ∷ [])
 
-abbrev pub boot_fields : BootHeader → List (List ℕ)
-boot_fields (V0 f) = front_fields 0 f
-boot_fields (V1 f d) = front_fields 1 f ++ dtbo_fields d
-boot_fields (V2 f d t) = front_fields 2 f ++ dtbo_fields d ++ dtb_fields t
-boot_fields (V3 f) = short_fields 3 f
-boot_fields (V4 f signature) = short_fields 4 f ++ (little_bytes 4 signature ∷ [])
+abbrev pub boot_field_list : BootHeader → List (List ℕ)
+boot_field_list (V0 f) = front_fields 0 f
+boot_field_list (V1 f d) = front_fields 1 f ++ dtbo_fields d
+boot_field_list (V2 f d t) = front_fields 2 f ++ dtbo_fields d ++ dtb_fields t
+boot_field_list (V3 f) = short_fields 3 f
+boot_field_list (V4 f signature) = short_fields 4 f ++ (little_bytes 4 signature ∷ [])
 
 unfoldable pub boot_record : BootHeader → List ℕ
-boot_record h = joined (boot_fields h)
+boot_record h = joined_fields (boot_field_list h)
 
 abbrev pub boot_size : BootHeader → ℕ
 boot_size (V0 f) = 1632

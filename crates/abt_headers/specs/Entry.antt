@@ -2,7 +2,7 @@
 use Rattle.std.specs.Prelude.{◌≡◌, ℕ, zero, suc, ◌+◌, ◌<◌, ◌^◌, List, [], ◌∷◌, ◌++◌, length, map, get_or}
 use Rattle.byteorder.specs.Endian.{little_bytes}
 use Rattle.abt_headers.specs.declared.entry.RamdiskEntry.{RamdiskEntry}
-use Rattle.abt_headers.specs.Field.{number_at, part_at, joined}
+use Rattle.abt_headers.specs.Field.{number_at, part_at, joined_fields}
 
 -- ---- the record: the fields' bytes in their order, joined
 
@@ -18,7 +18,7 @@ abbrev pub entry_fields : RamdiskEntry → List (List ℕ)
 entry_fields e = entry_numbers e ++ (e.name ∷ words_fields e.board_id)
 
 unfoldable pub entry_record : RamdiskEntry → List ℕ
-entry_record e = joined (entry_fields e)
+entry_record e = joined_fields (entry_fields e)
 
 -- ---- reading: each field from its place
 

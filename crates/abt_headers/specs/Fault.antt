@@ -3,13 +3,13 @@ use Rattle.std.specs.Prelude.{ℕ, nat_lt, if◌then◌else◌, List, length, Re
 use Rattle.abt_headers.specs.declared.fault.HeaderFault.{HeaderFault}
 use Rattle.abt_headers.specs.declared.fault.HeaderFault.TheVariants.{Magic, Version, PageSize, Table, Short, Os}
 
-abbrev pub fault_number : HeaderFault → ℕ
-fault_number Magic = 20
-fault_number (Version n) = 21
-fault_number (PageSize n) = 22
-fault_number Table = 23
-fault_number (Short need) = 25
-fault_number Os = 28
+abbrev pub header_fault_number : HeaderFault → ℕ
+header_fault_number Magic = 20
+header_fault_number (Version n) = 21
+header_fault_number (PageSize n) = 22
+header_fault_number Table = 23
+header_fault_number (Short need) = 25
+header_fault_number Os = 28
 
 -- r, where x has the n bytes that it needs
 abbrev pub needing : {A : Type 0} → ℕ → List ℕ → Result A HeaderFault → Result A HeaderFault

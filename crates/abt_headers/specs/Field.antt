@@ -11,6 +11,6 @@ abbrev pub part_at : ℕ → ℕ → List ℕ → List ℕ
 part_at place n bytes = take n (drop place bytes)
 
 -- fields one after another
-abbrev pub joined : List (List ℕ) → List ℕ
-joined [] = []
-joined (f ∷ fs) = f ++ joined fs
+abbrev pub joined_fields : List (List ℕ) → List ℕ
+joined_fields [] = []
+joined_fields (f ∷ fs) = f ++ joined_fields fs

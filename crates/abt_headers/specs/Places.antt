@@ -18,13 +18,13 @@ section_name Table = codes "table"
 section_name Bootconfig = codes "bootconfig"
 
 -- a section behind k pages of p bytes
-abbrev pub place_of : ℕ → ℕ → Section × ℕ → Place
-place_of p k s = record { kind = s.0; at = p * k; size = s.1 }
+abbrev pub section_place : ℕ → ℕ → Section × ℕ → Place
+section_place p k s = record { kind = s.0; at = p * k; size = s.1 }
 
 -- sections of these sizes, the first behind k pages of p bytes, each at the first page boundary behind the one before
 abbrev pub places_from : ℕ → ℕ → List (Section × ℕ) → List Place
 places_from p k [] = []
-places_from p k (s ∷ ss) = place_of p k s ∷ places_from p (k + pages s.1 p) ss
+places_from p k (s ∷ ss) = section_place p k s ∷ places_from p (k + pages s.1 p) ss
 
 -- each place ends below 2^63, so that sums of offsets and sizes fit 64 bits
 abbrev pub EachLow : List Place → Type 0

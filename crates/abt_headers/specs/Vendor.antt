@@ -14,7 +14,7 @@ use Rattle.abt_headers.specs.declared.sections.Section.{Section}
 use Rattle.abt_headers.specs.declared.sections.Section.TheVariants.{VendorRamdisk, Dtb, Table, Bootconfig}
 use Rattle.abt_headers.specs.declared.sections.Place.{Place}
 use Rattle.abt_headers.specs.Fault.{needing, mapped, both}
-use Rattle.abt_headers.specs.Field.{number_at, part_at, joined}
+use Rattle.abt_headers.specs.Field.{number_at, part_at, joined_fields}
 use Rattle.abt_headers.specs.Page.{page_bytes, page_at, pages}
 use Rattle.abt_headers.specs.Places.{places_from}
 
@@ -40,9 +40,9 @@ pub record Vendor : Type 0 where
   pub front : VendorFront
   pub tail : Option Tail
 
-abbrev pub view : VendorHeader → Vendor
-view (V3 f) = record { front = f; tail = None }
-view (V4 f t) = record { front = f; tail = Some (tail_view t) }
+abbrev pub vendor_view : VendorHeader → Vendor
+vendor_view (V3 f) = record { front = f; tail = None }
+vendor_view (V4 f t) = record { front = f; tail = Some (tail_view t) }
 
 -- ---- the record: the fields' bytes in their order, joined
 
@@ -62,8 +62,8 @@ abbrev pub vendor_end : VendorFront → List (List ℕ)
 vendor_end f = little_bytes 4 f.header_size ∷ little_bytes 4 f.dtb_size ∷ little_bytes 8 f.dtb_addr ∷ []
 
 -- bytes 0 to 2,111
-abbrev pub vendor_fields : ℕ → VendorFront → List (List ℕ)
-vendor_fields version f = vendor_head version f ++ (f.cmdline ∷ little_bytes 4 f.tags_addr ∷ f.name ∷ vendor_end f)
+abbrev pub vendor_field_list : ℕ → VendorFront → List (List ℕ)
+vendor_field_list version f = vendor_head version f ++ (f.cmdline ∷ little_bytes 4 f.tags_addr ∷ f.name ∷ vendor_end f)
 
 -- version 4, bytes 2,112 to 2,127
 abbrev pub tail_fields : Tail → List (List ℕ)
@@ -71,25 +71,25 @@ tail_fields t = little_bytes 4 t.table_size ∷ little_bytes 4 t.entry_num ∷ l
     ∷ little_bytes 4 t.bootconfig_size ∷ []
 
 abbrev pub all_fields : VendorFront → Option Tail → List (List ℕ)
-all_fields f None = vendor_fields 3 f
-all_fields f (Some t) = vendor_fields 4 f ++ tail_fields t
+all_fields f None = vendor_field_list 3 f
+all_fields f (Some t) = vendor_field_list 4 f ++ tail_fields t
 
 unfoldable pub vendor_record : Vendor → List ℕ
-vendor_record h = joined (all_fields h.front h.tail)
+vendor_record h = joined_fields (all_fields h.front h.tail)
 
-abbrev pub size_of : Option Tail → ℕ
-size_of None = 2112
-size_of (Some t) = 2128
+abbrev pub vendor_size_with : Option Tail → ℕ
+vendor_size_with None = 2112
+vendor_size_with (Some t) = 2128
 
-abbrev pub version_of : Option Tail → ℕ
-version_of None = 3
-version_of (Some t) = 4
+abbrev pub vendor_version_with : Option Tail → ℕ
+vendor_version_with None = 3
+vendor_version_with (Some t) = 4
 
 abbrev pub vendor_size : Vendor → ℕ
-vendor_size h = size_of h.tail
+vendor_size h = vendor_size_with h.tail
 
 abbrev pub vendor_version : Vendor → ℕ
-vendor_version h = version_of h.tail
+vendor_version h = vendor_version_with h.tail
 
 -- ---- reading: each field from its place
 
@@ -119,8 +119,8 @@ tail_at x = record {
 abbrev pub tail_checked : Tail → Result Tail HeaderFault
 tail_checked t = if not (t.entry_size == 108) || not (t.table_size == 108 * t.entry_num) then Err faults.Table else Ok t
 
-abbrev pub tail_of : List ℕ → Result Tail HeaderFault
-tail_of x = tail_checked (tail_at x)
+abbrev pub tail_or_fault : List ℕ → Result Tail HeaderFault
+tail_or_fault x = tail_checked (tail_at x)
 
 -- a header of this version, or the first fault: too few bytes for the record, the page size, and then the table
 unfoldable pub vendor_of : ℕ → List ℕ → Result Vendor HeaderFault
@@ -128,7 +128,7 @@ vendor_of version x =
     if version == 3
     then mapped (needing 2112 x (page_at 12 x)) (λ page. record { front = vendor_front_at page x; tail = None })
     else if version == 4
-    then mapped (both (needing 2128 x (page_at 12 x)) (tail_of x))
+    then mapped (both (needing 2128 x (page_at 12 x)) (tail_or_fault x))
     (λ p. record { front = vendor_front_at p.0 x; tail = Some p.1 })
     else Err (faults.Version version)
 
@@ -145,13 +145,13 @@ abbrev pub vendor_page : Vendor → ℕ
 vendor_page h = page_bytes h.front.page_size
 
 -- in their order, each with its size
-abbrev pub sections_of : VendorFront → Option Tail → List (Section × ℕ)
-sections_of f None = (VendorRamdisk, f.vendor_ramdisk_size) ∷ (Dtb, f.dtb_size) ∷ []
-sections_of f (Some t) = (VendorRamdisk, f.vendor_ramdisk_size) ∷ (Dtb, f.dtb_size) ∷ (Table, t.table_size)
+abbrev pub vendor_sections_with : VendorFront → Option Tail → List (Section × ℕ)
+vendor_sections_with f None = (VendorRamdisk, f.vendor_ramdisk_size) ∷ (Dtb, f.dtb_size) ∷ []
+vendor_sections_with f (Some t) = (VendorRamdisk, f.vendor_ramdisk_size) ∷ (Dtb, f.dtb_size) ∷ (Table, t.table_size)
     ∷ (Bootconfig, t.bootconfig_size) ∷ []
 
 abbrev pub vendor_sections : Vendor → List (Section × ℕ)
-vendor_sections h = sections_of h.front h.tail
+vendor_sections h = vendor_sections_with h.front h.tail
 
 -- from the first page boundary behind the header on
 abbrev pub vendor_places : Vendor → List Place

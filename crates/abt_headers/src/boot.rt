@@ -2,7 +2,7 @@
 
 ghost use Rattle.std.specs.Prelude.{◌≡◌, ◌+◌, ◌≤◌, ◌++◌, ◌↔◌, ℕ, List, IfOk, IfErr, Ok, length, drop, take};
 ghost use Rattle.abt_headers.specs.Boot.{boot_at, boot_page, boot_places, boot_record, boot_size, boot_version};
-ghost use Rattle.abt_headers.specs.Fault.{fault_number};
+ghost use Rattle.abt_headers.specs.Fault.{header_fault_number};
 ghost use Rattle.abt_headers.specs.Fits.{BootFits};
 ghost use Rattle.abt_headers.specs.Places.{EachLow};
 
@@ -138,7 +138,7 @@ impl BootHeader {
         ensures exact { result ≡ boot_at bytes.now }
         ensures size { IfOk result (λ h. boot_size h ≤ length bytes.now) }
         ensures back { IfOk result (λ h. boot_record h ++ drop (boot_size h) bytes.now ≡ bytes.now) }
-        ensures fault { IfErr result (λ f. fault_number f ≤ 25) }
+        ensures fault { IfErr result (λ f. header_fault_number f ≤ 25) }
         ensures found { (h : BootHeader) (rest : List ℕ) → BootFits h → bytes.now ≡ boot_record h ++ rest →
             result ≡ Ok h }
     {

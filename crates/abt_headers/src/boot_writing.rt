@@ -4,7 +4,7 @@
 ghost use Rattle.std.specs.Prelude.{◌≡◌, ◌+◌, ◌≤◌, ◌<◌, ◌^◌, ◌++◌, length, drop};
 ghost use Rattle.abt_headers.specs.Boot.{boot_record, boot_size, dtb_fields, dtbo_fields, front_fields};
 ghost use Rattle.abt_headers.specs.Boot.{front_numbers, short_fields, short_numbers};
-ghost use Rattle.abt_headers.specs.Field.{joined};
+ghost use Rattle.abt_headers.specs.Field.{joined_fields};
 ghost use Rattle.abt_headers.specs.Fits.{BootFits, DtbFits, DtboFits, FrontFits, ShortFits};
 
 use crate::boot::{BOOT_MAGIC, BootFront, BootHeader, DtbFields, DtboFields, ShortFront};
@@ -13,7 +13,7 @@ use byteorder::{ByteOrder, LittleEndian};
 
 /// The 48 bytes before the name, in versions 0 to 2.
 fn front_head(version: u32, front: &BootFront) -> [u8; 48]
-    ensures { result ≡ joined (front_numbers version front.now) }
+    ensures { result ≡ joined_fields (front_numbers version front.now) }
 {
     let mut head = [0; 48];
     LittleEndian::write_u64(&mut head, BOOT_MAGIC);
@@ -33,8 +33,8 @@ fn front_head(version: u32, front: &BootFront) -> [u8; 48]
 /// Writes what versions 0 to 2 begin with.
 fn put_front(out: &mut [u8], version: u32, front: &BootFront)
     requires { 1632 ≤ length out.old }
-    ensures long { length (joined (front_fields version front.now)) ≡ 1632 }
-    ensures bytes { out.new ≡ joined (front_fields version front.now) ++ drop 1632 out.old }
+    ensures long { length (joined_fields (front_fields version front.now)) ≡ 1632 }
+    ensures bytes { out.new ≡ joined_fields (front_fields version front.now) ++ drop 1632 out.old }
 {
     put(out, 0, &front_head(version, front));
     put(out, 48, &front.name);
@@ -44,7 +44,7 @@ fn put_front(out: &mut [u8], version: u32, front: &BootFront)
 }
 
 fn dtbo_bytes(dtbo: &DtboFields) -> [u8; 16]
-    ensures { result ≡ joined (dtbo_fields dtbo.now) }
+    ensures { result ≡ joined_fields (dtbo_fields dtbo.now) }
 {
     let mut out = [0; 16];
     LittleEndian::write_u32(&mut out, dtbo.recovery_dtbo_size);
@@ -54,7 +54,7 @@ fn dtbo_bytes(dtbo: &DtboFields) -> [u8; 16]
 }
 
 fn dtb_bytes(dtb: &DtbFields) -> [u8; 12]
-    ensures { result ≡ joined (dtb_fields dtb.now) }
+    ensures { result ≡ joined_fields (dtb_fields dtb.now) }
 {
     let mut out = [0; 12];
     LittleEndian::write_u32(&mut out, dtb.dtb_size);
@@ -64,7 +64,7 @@ fn dtb_bytes(dtb: &DtbFields) -> [u8; 12]
 
 /// The 24 bytes before `reserved`, in versions 3 and 4.
 fn short_head(front: &ShortFront) -> [u8; 24]
-    ensures { result ≡ joined (short_numbers front.now) }
+    ensures { result ≡ joined_fields (short_numbers front.now) }
 {
     let mut head = [0; 24];
     LittleEndian::write_u64(&mut head, BOOT_MAGIC);
@@ -78,8 +78,8 @@ fn short_head(front: &ShortFront) -> [u8; 24]
 /// Writes what versions 3 and 4 begin with.
 fn put_short(out: &mut [u8], version: u32, front: &ShortFront)
     requires { 1580 ≤ length out.old }
-    ensures long { length (joined (short_fields version front.now)) ≡ 1580 }
-    ensures bytes { out.new ≡ joined (short_fields version front.now) ++ drop 1580 out.old }
+    ensures long { length (joined_fields (short_fields version front.now)) ≡ 1580 }
+    ensures bytes { out.new ≡ joined_fields (short_fields version front.now) ++ drop 1580 out.old }
 {
     put(out, 0, &short_head(front));
     put(out, 24, &front.reserved);

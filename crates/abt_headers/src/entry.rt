@@ -2,7 +2,7 @@
 
 ghost use Rattle.std.specs.Prelude.{◌≡◌, ◌+◌, ◌≤◌, ◌<◌, ◌^◌, ◌++◌, ℕ, length, drop, slice_index};
 ghost use Rattle.abt_headers.specs.Entry.{EntryFits, entry_at, entry_numbers, entry_record, words_at, words_fields};
-ghost use Rattle.abt_headers.specs.Field.{joined};
+ghost use Rattle.abt_headers.specs.Field.{joined_fields};
 
 use crate::field::{array_fits, bytes_at, number_fits, put, u32_at};
 use byteorder::{ByteOrder, LittleEndian};
@@ -39,7 +39,7 @@ fn words_from(bytes: &[u8; 108]) -> [u32; 16]
 
 /// The bytes of sixteen numbers.
 fn words_bytes(words: &[u32; 16]) -> [u8; 64]
-    ensures { result ≡ joined (words_fields words.now) }
+    ensures { result ≡ joined_fields (words_fields words.now) }
 {
     let mut out = [0; 64];
     LittleEndian::write_u32_into(words, &mut out);
@@ -61,7 +61,7 @@ fn entry_from(bytes: &[u8; 108]) -> RamdiskEntry
 
 /// The 12 bytes before the name.
 fn entry_head(entry: &RamdiskEntry) -> [u8; 12]
-    ensures { result ≡ joined (entry_numbers entry.now) }
+    ensures { result ≡ joined_fields (entry_numbers entry.now) }
 {
     let mut head = [0; 12];
     LittleEndian::write_u32(&mut head, entry.ramdisk_size);

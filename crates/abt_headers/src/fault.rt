@@ -1,7 +1,7 @@
 //! Why bytes are not a header.
 
 ghost use Rattle.std.specs.Prelude.{◌≡◌};
-ghost use Rattle.abt_headers.specs.Fault.{fault_number};
+ghost use Rattle.abt_headers.specs.Fault.{header_fault_number};
 
 use thiserror::Error;
 
@@ -37,7 +37,7 @@ pub enum HeaderFault {
 impl HeaderFault {
     /// The number of the fault: 20 to 23, 25 or 28.
     pub fn number(&self) -> u32
-        ensures { result ≡ fault_number self.now }
+        ensures { result ≡ header_fault_number self.now }
     {
         match self {
             HeaderFault::Magic => 20,

@@ -2,7 +2,7 @@
 
 ghost use Rattle.std.specs.Prelude.{◌≡◌, ◌+◌, ◌*◌, ◌≤◌, ◌<◌, ◌^◌, List, length, slice_index_or};
 ghost use Rattle.abt_headers.specs.Page as of_page;
-ghost use Rattle.abt_headers.specs.Places.{EachLow, place_of, places_from, section_name};
+ghost use Rattle.abt_headers.specs.Places.{EachLow, section_place, places_from, section_name};
 
 use std::fmt;
 use std::marker::Model;
@@ -145,7 +145,7 @@ fn pages_before(page: u32, before: u64, size: u32) -> u64
 fn place_behind(page: u32, before: u64, section: (Section, u32)) -> Place
     requires high { page ≤ 131072 }
     requires few { before ≤ 8388614 }
-    ensures value { result ≡ place_of page before section }
+    ensures value { result ≡ section_place page before section }
     ensures low { result.at + result.size < 2 ^ 63 }
 {
     Place {

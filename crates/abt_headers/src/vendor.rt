@@ -2,10 +2,10 @@
 
 ghost use Rattle.std.specs.Prelude.{◌≡◌, ◌+◌, ◌≤◌, ◌++◌, ℕ, List, IfOk, IfErr, MatchResult, Ok, Err, length, drop};
 ghost use Rattle.std.specs.Prelude.{take};
-ghost use Rattle.abt_headers.specs.Fault.{fault_number};
+ghost use Rattle.abt_headers.specs.Fault.{header_fault_number};
 ghost use Rattle.abt_headers.specs.Places.{EachLow};
 ghost use Rattle.abt_headers.specs.Vendor.{Vendor, vendor_at, vendor_page, vendor_places, vendor_record, vendor_size};
-ghost use Rattle.abt_headers.specs.Vendor.{vendor_version, view};
+ghost use Rattle.abt_headers.specs.Vendor.{vendor_version, vendor_view};
 ghost use Rattle.abt_headers.specs.VendorFits.{VendorFits};
 
 use crate::fault::HeaderFault;
@@ -72,12 +72,14 @@ impl VendorHeader {
     /// size; 22 for a size that a page may not have; and in version 4 23 where an entry of the
     /// table has not 108 bytes, or the table not as many bytes as its entries together.
     pub fn decode(bytes: &[u8]) -> Result<VendorHeader, HeaderFault>
-        ensures exact { MatchResult result (λ h. vendor_at bytes.now ≡ Ok (view h)) (λ f. vendor_at bytes.now ≡ Err f) }
-        ensures size { IfOk result (λ h. vendor_size (view h) ≤ length bytes.now) }
-        ensures back { IfOk result (λ h. vendor_record (view h) ++ drop (vendor_size (view h)) bytes.now ≡ bytes.now) }
-        ensures fault { IfErr result (λ f. fault_number f ≤ 25) }
+        ensures exact { MatchResult result (λ h. vendor_at bytes.now ≡ Ok (vendor_view h))
+            (λ f. vendor_at bytes.now ≡ Err f) }
+        ensures size { IfOk result (λ h. vendor_size (vendor_view h) ≤ length bytes.now) }
+        ensures back { IfOk result
+            (λ h. vendor_record (vendor_view h) ++ drop (vendor_size (vendor_view h)) bytes.now ≡ bytes.now) }
+        ensures fault { IfErr result (λ f. header_fault_number f ≤ 25) }
         ensures found { (v : Vendor) (rest : List ℕ) → VendorFits v → bytes.now ≡ vendor_record v ++ rest →
-            MatchResult result (λ h. view h ≡ v) (λ _. ⊥) }
+            MatchResult result (λ h. vendor_view h ≡ v) (λ _. ⊥) }
     {
         read_vendor_header(bytes)
     }
@@ -85,10 +87,12 @@ impl VendorHeader {
     /// Writes the record to the front of `out`, leaves the bytes behind it as they were, and
     /// answers the record's size.
     pub fn encode(&self, out: &mut [u8; 2128]) -> usize
-        ensures size { result ≡ vendor_size (view self.now) }
-        ensures long { length (vendor_record (view self.now)) ≡ vendor_size (view self.now) }
-        ensures bytes { out.new ≡ vendor_record (view self.now) ++ drop (vendor_size (view self.now)) out.old }
-        ensures again { (rest : List ℕ) → vendor_at (vendor_record (view self.now) ++ rest) ≡ Ok (view self.now) }
+        ensures size { result ≡ vendor_size (vendor_view self.now) }
+        ensures long { length (vendor_record (vendor_view self.now)) ≡ vendor_size (vendor_view self.now) }
+        ensures bytes { out.new
+            ≡ vendor_record (vendor_view self.now) ++ drop (vendor_size (vendor_view self.now)) out.old }
+        ensures again { (rest : List ℕ)
+            → vendor_at (vendor_record (vendor_view self.now) ++ rest) ≡ Ok (vendor_view self.now) }
     {
         vendor_header_fits(self);
         write_vendor_header(self, out)
@@ -96,7 +100,7 @@ impl VendorHeader {
 
     /// How many bytes the record has: 2,112 or 2,128, by the version alone.
     pub fn size(&self) -> usize
-        ensures { result ≡ vendor_size (view self.now) }
+        ensures { result ≡ vendor_size (vendor_view self.now) }
     {
         match self {
             VendorHeader::V3(_) => 2112,
@@ -106,7 +110,7 @@ impl VendorHeader {
 
     /// `header_version`, 3 or 4.
     pub fn version(&self) -> u32
-        ensures { result ≡ vendor_version (view self.now) }
+        ensures { result ≡ vendor_version (vendor_view self.now) }
     {
         match self {
             VendorHeader::V3(_) => 3,
@@ -116,7 +120,7 @@ impl VendorHeader {
 
     /// How many bytes a page has.
     pub fn page_size(&self) -> u32
-        ensures value { result ≡ vendor_page (view self.now) }
+        ensures value { result ≡ vendor_page (vendor_view self.now) }
         ensures low { 2048 ≤ result }
         ensures high { result ≤ 131072 }
     {
@@ -129,8 +133,8 @@ impl VendorHeader {
     /// Where the sections behind the header stand, in order, empty ones too. At a page size of
     /// 2,048 the header takes two pages.
     pub fn sections(&self) -> Sections
-        ensures value { result ≡ vendor_places (view self.now) }
-        ensures low { EachLow (vendor_places (view self.now)) }
+        ensures value { result ≡ vendor_places (vendor_view self.now) }
+        ensures low { EachLow (vendor_places (vendor_view self.now)) }
     {
         let page = self.page_size();
         let first = pages(self.size() as u64, page);

@@ -4,7 +4,8 @@
 ghost use Rattle.std.specs.Prelude.{◌≡◌, ◌≤◌, length, MatchResult, Ok, Err};
 ghost use Rattle.abt_headers.specs.Fault.{needing};
 ghost use Rattle.abt_headers.specs.Page.{page_at};
-ghost use Rattle.abt_headers.specs.Vendor.{tail_of, tail_view, vendor_at, vendor_front_at, vendor_of, view};
+ghost use Rattle.abt_headers.specs.Vendor.{tail_or_fault, tail_view, vendor_at, vendor_front_at, vendor_of};
+ghost use Rattle.abt_headers.specs.Vendor.{vendor_view};
 
 use crate::boot_reading::check_length;
 use crate::fault::HeaderFault;
@@ -49,7 +50,8 @@ fn checked_page(bytes: &[u8], need: u32) -> Result<PageSize, HeaderFault>
 #[tactic(auto, unfolding(crate::specs::Vendor::tail_at))]
 fn checked_tail(bytes: &[u8]) -> Result<VendorTail, HeaderFault>
     requires { 2128 ≤ length bytes.now }
-    ensures { MatchResult result (λ t. tail_of bytes.now ≡ Ok (tail_view t)) (λ f. tail_of bytes.now ≡ Err f) }
+    ensures { MatchResult result (λ t. tail_or_fault bytes.now ≡ Ok (tail_view t))
+        (λ f. tail_or_fault bytes.now ≡ Err f) }
 {
     let table_size = u32_at(bytes, 2112);
     let entry_num = u32_at(bytes, 2116);
@@ -71,7 +73,8 @@ fn checked_tail(bytes: &[u8]) -> Result<VendorTail, HeaderFault>
 
 #[tactic(auto, unfolding(crate::specs::Vendor::vendor_of))]
 fn read_version(bytes: &[u8], version: u32) -> Result<VendorHeader, HeaderFault>
-    ensures { MatchResult result (λ h. vendor_of version bytes.now ≡ Ok (view h)) (λ f. vendor_of version bytes.now
+    ensures { MatchResult result (λ h. vendor_of version bytes.now ≡ Ok (vendor_view h))
+        (λ f. vendor_of version bytes.now
         ≡ Err f) }
 {
     match version {
@@ -91,7 +94,7 @@ fn read_version(bytes: &[u8], version: u32) -> Result<VendorHeader, HeaderFault>
 /// The vendor boot header at the front of these bytes, or the first fault.
 #[tactic(auto, unfolding(crate::specs::Vendor::vendor_at))]
 pub(crate) fn read_vendor_header(bytes: &[u8]) -> Result<VendorHeader, HeaderFault>
-    ensures { MatchResult result (λ h. vendor_at bytes.now ≡ Ok (view h)) (λ f. vendor_at bytes.now ≡ Err f) }
+    ensures { MatchResult result (λ h. vendor_at bytes.now ≡ Ok (vendor_view h)) (λ f. vendor_at bytes.now ≡ Err f) }
 {
     check_length(bytes, 8)?;
     if u64_at(bytes, 0) != VENDOR_MAGIC {

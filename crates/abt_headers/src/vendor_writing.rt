@@ -2,9 +2,9 @@
 //! straight to its place in the lent array.
 
 ghost use Rattle.std.specs.Prelude.{◌≡◌, ◌+◌, ◌≤◌, ◌++◌, length, drop};
-ghost use Rattle.abt_headers.specs.Field.{joined};
-ghost use Rattle.abt_headers.specs.Vendor.{tail_fields, tail_view, vendor_end, vendor_fields, vendor_head};
-ghost use Rattle.abt_headers.specs.Vendor.{vendor_record, vendor_size, view};
+ghost use Rattle.abt_headers.specs.Field.{joined_fields};
+ghost use Rattle.abt_headers.specs.Vendor.{tail_fields, tail_view, vendor_end, vendor_field_list, vendor_head};
+ghost use Rattle.abt_headers.specs.Vendor.{vendor_record, vendor_size, vendor_view};
 ghost use Rattle.abt_headers.specs.VendorFits.{TailFits, VendorFits, VendorFrontFits};
 
 use crate::field::{array_fits, long_number_fits, number_fits, put};
@@ -14,7 +14,7 @@ use byteorder::{ByteOrder, LittleEndian};
 
 /// The 28 bytes before the command line.
 fn front_head(version: u32, front: &VendorFront) -> [u8; 28]
-    ensures { result ≡ joined (vendor_head version front.now) }
+    ensures { result ≡ joined_fields (vendor_head version front.now) }
 {
     let mut head = [0; 28];
     LittleEndian::write_u64(&mut head, VENDOR_MAGIC);
@@ -28,7 +28,7 @@ fn front_head(version: u32, front: &VendorFront) -> [u8; 28]
 
 /// The 16 bytes behind the name.
 fn front_end(front: &VendorFront) -> [u8; 16]
-    ensures { result ≡ joined (vendor_end front.now) }
+    ensures { result ≡ joined_fields (vendor_end front.now) }
 {
     let mut end = [0; 16];
     LittleEndian::write_u32(&mut end, front.header_size);
@@ -38,7 +38,7 @@ fn front_end(front: &VendorFront) -> [u8; 16]
 }
 
 fn tail_bytes(tail: &VendorTail) -> [u8; 16]
-    ensures { result ≡ joined (tail_fields (tail_view tail.now)) }
+    ensures { result ≡ joined_fields (tail_fields (tail_view tail.now)) }
 {
     let mut out = [0; 16];
     LittleEndian::write_u32(&mut out, tail.table_size);
@@ -51,8 +51,8 @@ fn tail_bytes(tail: &VendorTail) -> [u8; 16]
 /// Writes what both versions begin with.
 fn put_front(out: &mut [u8], version: u32, front: &VendorFront)
     requires { 2112 ≤ length out.old }
-    ensures long { length (joined (vendor_fields version front.now)) ≡ 2112 }
-    ensures bytes { out.new ≡ joined (vendor_fields version front.now) ++ drop 2112 out.old }
+    ensures long { length (joined_fields (vendor_field_list version front.now)) ≡ 2112 }
+    ensures bytes { out.new ≡ joined_fields (vendor_field_list version front.now) ++ drop 2112 out.old }
 {
     put(out, 0, &front_head(version, front));
     put(out, 28, &front.cmdline);
@@ -64,8 +64,9 @@ fn put_front(out: &mut [u8], version: u32, front: &VendorFront)
 /// Writes the record of a header to the front, and answers its size.
 pub(crate) fn write_vendor_header(header: &VendorHeader, out: &mut [u8]) -> usize
     requires { 2128 ≤ length out.old }
-    ensures size { result ≡ vendor_size (view header.now) }
-    ensures bytes { out.new ≡ vendor_record (view header.now) ++ drop (vendor_size (view header.now)) out.old }
+    ensures size { result ≡ vendor_size (vendor_view header.now) }
+    ensures bytes { out.new
+        ≡ vendor_record (vendor_view header.now) ++ drop (vendor_size (vendor_view header.now)) out.old }
 {
     match header {
         VendorHeader::V3(front) => {
@@ -102,7 +103,7 @@ fn tail_fits(tail: VendorTail)
 
 /// Says of a header's fields what their types say. It does nothing.
 pub(crate) fn vendor_header_fits(header: &VendorHeader)
-    ensures { VendorFits (view header.now) }
+    ensures { VendorFits (vendor_view header.now) }
 {
     match header {
         VendorHeader::V3(front) => front_fits(front),

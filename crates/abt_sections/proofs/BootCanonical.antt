@@ -16,10 +16,10 @@ use Rattle.abt_headers.specs.Fits.{FrontFits, ShortFits, BootFits}
 use Rattle.abt_headers.proofs.Fields.{IsBytes}
 use Rattle.abt_sections.specs.Fields.{BootFields, is_text, filled}
 use Rattle.abt_sections.specs.Id.{id_of}
-use Rattle.abt_sections.specs.Layout.{Placed, Sized, zeros_behind, padded, laid, parts_of}
+use Rattle.abt_sections.specs.Layout.{PartsPlaced, Sized, zeros_behind, padded, laid, parts_of}
 use Rattle.abt_sections.specs.Refusal.{boot_names, boot_refusal, size_refusal}
 use Rattle.abt_sections.specs.BootCanon.{front_for, dtbo_offset, dtbo_for, dtb_for, short_for, boot_header_for, boot_header_of, boot_page_for, page_or, boot_image, boot_canon}
-use Rattle.abt_sections.specs.Header.{OfBoot, header_at, places_of}
+use Rattle.abt_sections.specs.Header.{OfBoot, image_header_at, places_of}
 use Rattle.abt_sections.specs.Open.{HasImage}
 use Rattle.abt_sections.specs.Check.{all_zero, text_field, front_texts, short_texts, boot_texts, boot_offset_holds, BootIdHolds, IsCanonical}
 use Rattle.abt_sections.specs.Canonical.{BootNumbers, IsBootInput, StartsAsBoot}
@@ -296,7 +296,7 @@ id_back x (V4 f n) parts e id = tt
 made_canonical : (x : List ℕ) (h : BootHeader) (parts : List (List ℕ)) (rest : List ℕ) → Made parts h → x ≡ boot_image h parts ++ rest → IsPacked x (OfBoot h)
 made_canonical x h parts rest m e =
     let i = is_image (OfBoot h) parts rest m.fits m.sized in
-    let placed = subst (λ (y : List ℕ). Placed y (places_of (OfBoot h)) parts) (sym e) i.placed in
+    let placed = subst (λ (y : List ℕ). PartsPlaced y (places_of (OfBoot h)) parts) (sym e) i.placed in
     record {
       header = header_front x h parts rest m.fits e;
       there = placed_there x (places_of (OfBoot h)) parts placed;
@@ -309,7 +309,7 @@ made_canonical x h parts rest m e =
       };
     }
   where
-    header_front : (x : List ℕ) (h : BootHeader) (parts : List (List ℕ)) (rest : List ℕ) → BootFits h → x ≡ boot_image h parts ++ rest → header_at x ≡ Ok (OfBoot h)
+    header_front : (x : List ℕ) (h : BootHeader) (parts : List (List ℕ)) (rest : List ℕ) → BootFits h → x ≡ boot_image h parts ++ rest → image_header_at x ≡ Ok (OfBoot h)
     header_front x h parts rest fits e =
         let p = boot_page h in
         let r = boot_record h in

@@ -1,94 +1,82 @@
 -- A cause that is handed on: counts of faults never fall.
-use Rattle.std.proofs.Common.{◌≡◌, ℕ, ◌≤◌, ◌<◌, ◌+◌, List, length, get_or, set, arith, refl, sym, subst, Option, None, Result, Ok, Err}
+use Rattle.std.proofs.Common.{◌≡◌, ℕ, ◌≤◌, ◌<◌, ◌+◌, List, length, get_or, set, arith, refl, sym, subst}
+use Rattle.std.proofs.Common.{Option, None, Result, Ok, Err}
 use Rattle.std.specs.Prelude.{OnOk, OnErr, IfErr}
 use Rattle.std.proofs.lemmas.List.Sums.{sum_by-set}
 use Rattle.abt_sections.specs.declared.fault.SectionFault.{SectionFault}
-use Rattle.abt_sections.specs.declared.fault.SectionFault.TheVariants.{Read, Write, SourceChanged, Header, Entry, Name, CommandLine, SectionTruncated, SectionTooLarge}
+use Rattle.abt_sections.specs.declared.fault.SectionFault.TheVariants.{Read, Write, SourceChanged}
 use Rattle.abt_io.specs.Cause.{CopyCause, full_in_copy}
 use Rattle.abt_io.specs.declared.copying.CopyFault.{CopyFault}
 use Rattle.abt_io.specs.declared.copying.CopyFault.TheVariants as copies
-use Rattle.abt_sections.specs.Cause.{MoveCause, ReadCause, OpenCause, PackCause, copy_fault, full_in_fault, total}
+use Rattle.abt_sections.specs.Cause.{MoveCause, ReadCause, OpenCause, PackCause, copy_fault, full_in_section_fault, total}
 use Rattle.abt_sections.specs.Header.{Header as OfHeader}
 use Rattle.abt_sections.specs.Open.{EntryRefusedAs}
 
-pub move_on : (e : SectionFault) (r0 r r' r1 w0 w w' w1 : ℕ) (C D : Type 0) → r0 ≤ r → r' ≤ r1 → w0 ≤ w → w' ≤ w1 → (C → D) → MoveCause e r r' w w' C → MoveCause e r0 r1 w0 w1 D
+pub move_on : (e : SectionFault) (r0 r r' r1 w0 w w' w1 : ℕ) (C D : Type 0) → r0 ≤ r → r' ≤ r1 → w0 ≤ w → w' ≤ w1
+    → (C → D) → MoveCause e r r' w w' C → MoveCause e r0 r1 w0 w1 D
 move_on (Read f) r0 r r' r1 w0 w w' w1 C D a b c d h x = omega arith
 move_on (Write f) r0 r r' r1 w0 w w' w1 C D a b c d h x = omega arith
 move_on SourceChanged r0 r r' r1 w0 w w' w1 C D a b c d h x = h x
-move_on (Header f) r0 r r' r1 w0 w w' w1 C D a b c d h x = absurd x
-move_on (Entry i) r0 r r' r1 w0 w w' w1 C D a b c d h x = absurd x
-move_on Name r0 r r' r1 w0 w w' w1 C D a b c d h x = absurd x
-move_on CommandLine r0 r r' r1 w0 w w' w1 C D a b c d h x = absurd x
-move_on (SectionTruncated s) r0 r r' r1 w0 w w' w1 C D a b c d h x = absurd x
-move_on (SectionTooLarge s) r0 r r' r1 w0 w w' w1 C D a b c d h x = absurd x
+move_on e r0 r r' r1 w0 w w' w1 C D a b c d h x = absurd x
 
-pub read_on : (e : SectionFault) (r0 r r' r1 : ℕ) (C D : Type 0) → r0 ≤ r → r' ≤ r1 → (C → D) → ReadCause e r r' C → ReadCause e r0 r1 D
+pub read_on : (e : SectionFault) (r0 r r' r1 : ℕ) (C D : Type 0) → r0 ≤ r → r' ≤ r1 → (C → D) → ReadCause e r r' C
+    → ReadCause e r0 r1 D
 read_on e r0 r r' r1 C D a b h x = let z : 0 ≤ 0 = omega arith in move_on e r0 r r' r1 0 0 0 0 C D a b z z h x
 
 -- of a copy
-pub copy_moves : (e : CopyFault) (r r' w w' : ℕ) (C D : Type 0) → (C → D) → CopyCause e C r r' w w' → MoveCause (copy_fault e) r r' w w' D
+pub copy_moves : (e : CopyFault) (r r' w w' : ℕ) (C D : Type 0) → (C → D) → CopyCause e C r r' w w'
+    → MoveCause (copy_fault e) r r' w w' D
 copy_moves (copies.Read f) r r' w w' C D h x = x
 copy_moves (copies.Write f) r r' w w' C D h x = x
 copy_moves copies.Changed r r' w w' C D h x = h x
 
-pub copy_full : (e : CopyFault) → full_in_fault (copy_fault e) ≡ full_in_copy e
+pub copy_full : (e : CopyFault) → full_in_section_fault (copy_fault e) ≡ full_in_copy e
 copy_full (copies.Read f) = refl
 copy_full (copies.Write f) = refl
 copy_full copies.Changed = refl
 
 -- one of several that were lent in turn, at index i
-pub part_move : {S : Type 0} (f : S → ℕ) (ps : List S) (i t w0 w w' w1 : ℕ) (d s' : S) (e : SectionFault) (C D : Type 0) → i < length ps → t ≤ total f ps → w0 ≤ w → w' ≤ w1 → (C → D) → MoveCause e (f (get_or ps i d)) (f s') w w' C → MoveCause e t (total f (set ps i s')) w0 w1 D
+pub part_move : {S : Type 0} (f : S → ℕ) (ps : List S) (i t w0 w w' w1 : ℕ) (d s' : S) (e : SectionFault)
+    (C D : Type 0) → i < length ps → t ≤ total f ps → w0 ≤ w → w' ≤ w1 → (C → D)
+    → MoveCause e (f (get_or ps i d)) (f s') w w' C → MoveCause e t (total f (set ps i s')) w0 w1 D
 part_move f ps i t w0 w w' w1 d s' (Read k) C D a b l m h x = omega (arith, sum_by-set f ps i s' d a)
 part_move f ps i t w0 w w' w1 d s' (Write k) C D a b l m h x = omega arith
 part_move f ps i t w0 w w' w1 d s' SourceChanged C D a b l m h x = h x
-part_move f ps i t w0 w w' w1 d s' (Header k) C D a b l m h x = absurd x
-part_move f ps i t w0 w w' w1 d s' (Entry k) C D a b l m h x = absurd x
-part_move f ps i t w0 w w' w1 d s' Name C D a b l m h x = absurd x
-part_move f ps i t w0 w w' w1 d s' CommandLine C D a b l m h x = absurd x
-part_move f ps i t w0 w w' w1 d s' (SectionTruncated k) C D a b l m h x = absurd x
-part_move f ps i t w0 w w' w1 d s' (SectionTooLarge k) C D a b l m h x = absurd x
+part_move f ps i t w0 w w' w1 d s' e C D a b l m h x = absurd x
 
-pub part_read : {S : Type 0} (f : S → ℕ) (ps : List S) (i t : ℕ) (d s' : S) (e : SectionFault) (C D : Type 0) → i < length ps → t ≤ total f ps → (C → D) → ReadCause e (f (get_or ps i d)) (f s') C → ReadCause e t (total f (set ps i s')) D
-part_read f ps i t d s' e C D a b h x = let z : 0 ≤ 0 = omega arith in part_move f ps i t 0 0 0 0 d s' e C D a b z z h x
+pub part_read : {S : Type 0} (f : S → ℕ) (ps : List S) (i t : ℕ) (d s' : S) (e : SectionFault) (C D : Type 0)
+    → i < length ps → t ≤ total f ps → (C → D) → ReadCause e (f (get_or ps i d)) (f s') C
+    → ReadCause e t (total f (set ps i s')) D
+part_read f ps i t d s' e C D a b h x =
+    let z : 0 ≤ 0 = omega arith in part_move f ps i t 0 0 0 0 d s' e C D a b z z h x
 
 -- of opening
-pub read_opens : (e : SectionFault) (r0 r r' r1 : ℕ) (C D : Type 0) → r0 ≤ r → r' ≤ r1 → (C → D) → ReadCause e r r' C → OpenCause e r0 r1 D
+pub read_opens : (e : SectionFault) (r0 r r' r1 : ℕ) (C D : Type 0) → r0 ≤ r → r' ≤ r1 → (C → D) → ReadCause e r r' C
+    → OpenCause e r0 r1 D
 read_opens (Read f) r0 r r' r1 C D a b h x = omega arith
 read_opens (Write f) r0 r r' r1 C D a b h x = absurd (omega arith)
 read_opens SourceChanged r0 r r' r1 C D a b h x = h x
-read_opens (Header f) r0 r r' r1 C D a b h x = absurd x
-read_opens (Entry i) r0 r r' r1 C D a b h x = absurd x
-read_opens Name r0 r r' r1 C D a b h x = absurd x
-read_opens CommandLine r0 r r' r1 C D a b h x = absurd x
-read_opens (SectionTruncated s) r0 r r' r1 C D a b h x = absurd x
-read_opens (SectionTooLarge s) r0 r r' r1 C D a b h x = absurd x
+read_opens e r0 r r' r1 C D a b h x = absurd x
 
 -- where the source can't have changed, reading the table is refused for a failure alone
-pub read_entries : (e : SectionFault) (r r' : ℕ) (C : Type 0) (x : List ℕ) (h : OfHeader) → (C → ⊥) → ReadCause e r r' C → EntryRefusedAs x h e
+pub read_entries : (e : SectionFault) (r r' : ℕ) (C : Type 0) (x : List ℕ) (h : OfHeader) → (C → ⊥)
+    → ReadCause e r r' C → EntryRefusedAs x h e
 read_entries (Read f) r r' C x h never c = tt
 read_entries (Write f) r r' C x h never c = absurd (omega arith)
 read_entries SourceChanged r r' C x h never c = absurd (never c)
-read_entries (Header f) r r' C x h never c = absurd c
-read_entries (Entry i) r r' C x h never c = absurd c
-read_entries Name r r' C x h never c = absurd c
-read_entries CommandLine r r' C x h never c = absurd c
-read_entries (SectionTruncated s) r r' C x h never c = absurd c
-read_entries (SectionTooLarge s) r r' C x h never c = absurd c
+read_entries e r r' C x h never c = absurd c
 
 -- one of three sources failed, the others' counts not falling
-pub third_move : (e : SectionFault) (a a' b b' r r' w0 w w' w1 : ℕ) (C D : Type 0) → a ≤ a' → b ≤ b' → w0 ≤ w → w' ≤ w1 → (C → D) → MoveCause e r r' w w' C → MoveCause e (a + b + r) (a' + b' + r') w0 w1 D
+pub third_move : (e : SectionFault) (a a' b b' r r' w0 w w' w1 : ℕ) (C D : Type 0) → a ≤ a' → b ≤ b' → w0 ≤ w
+    → w' ≤ w1 → (C → D) → MoveCause e r r' w w' C → MoveCause e (a + b + r) (a' + b' + r') w0 w1 D
 third_move (Read f) a a' b b' r r' w0 w w' w1 C D p q l m h x = omega arith
 third_move (Write f) a a' b b' r r' w0 w w' w1 C D p q l m h x = omega arith
 third_move SourceChanged a a' b b' r r' w0 w w' w1 C D p q l m h x = h x
-third_move (Header f) a a' b b' r r' w0 w w' w1 C D p q l m h x = absurd x
-third_move (Entry i) a a' b b' r r' w0 w w' w1 C D p q l m h x = absurd x
-third_move Name a a' b b' r r' w0 w w' w1 C D p q l m h x = absurd x
-third_move CommandLine a a' b b' r r' w0 w w' w1 C D p q l m h x = absurd x
-third_move (SectionTruncated s) a a' b b' r r' w0 w w' w1 C D p q l m h x = absurd x
-third_move (SectionTooLarge s) a a' b b' r r' w0 w w' w1 C D p q l m h x = absurd x
+third_move e a a' b b' r r' w0 w w' w1 C D p q l m h x = absurd x
 
 -- where nothing is refused before
-pub pack_moves : (o : Option SectionFault) (e : SectionFault) (r r' w w' : ℕ) (C : Type 0) → o ≡ None → MoveCause e r r' w w' C → PackCause o e r r' w w' C
+pub pack_moves : (o : Option SectionFault) (e : SectionFault) (r r' w w' : ℕ) (C : Type 0) → o ≡ None
+    → MoveCause e r r' w w' C → PackCause o e r r' w w' C
 pack_moves o e r r' w w' C none x = subst (λ (p : Option SectionFault). PackCause p e r r' w w' C) (sym none) x
 
 -- what holds anyway

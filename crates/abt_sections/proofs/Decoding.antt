@@ -13,15 +13,15 @@ use Rattle.abt_headers.specs.declared.boot.BootHeader.TheVariants.{V0, V1, V2, V
 use Rattle.abt_headers.specs.Fault.{needing, mapped, both}
 use Rattle.abt_headers.specs.Field.{number_at, part_at}
 use Rattle.abt_headers.specs.Page.{page_at}
-use Rattle.abt_headers.specs.Boot.{boot_at, boot_of, boot_record, boot_size, boot_fields, front_at, dtbo_at, dtb_at, short_at}
+use Rattle.abt_headers.specs.Boot.{boot_at, boot_of, boot_record, boot_size, boot_field_list, front_at, dtbo_at, dtb_at, short_at}
 use Rattle.abt_headers.specs.Fits.{FrontFits, DtboFits, DtbFits, ShortFits, BootFits}
-use Rattle.abt_headers.specs.Vendor.{Tail, Vendor, vendor_at, vendor_of, vendor_record, vendor_size, all_fields, vendor_front_at, tail_at, tail_of}
+use Rattle.abt_headers.specs.Vendor.{Tail, Vendor, vendor_at, vendor_of, vendor_record, vendor_size, all_fields, vendor_front_at, tail_at, tail_or_fault}
 use Rattle.abt_headers.specs.VendorFits.{VendorFrontFits, TailFits, VendorFits}
 use Rattle.abt_headers.proofs.Fields.{IsBytes, IsBytes-drop, joined_rest}
 use Rattle.abt_headers.proofs.PageLaws.{needing-from, guard, page_was}
 use Rattle.abt_headers.proofs.BootLaws as boot
 use Rattle.abt_headers.proofs.VendorLaws as vendor
-use Rattle.abt_sections.specs.Header.{Header, OfBoot, OfVendor, HeaderFits, record_of, size_of, is_vendor, header_at}
+use Rattle.abt_sections.specs.Header.{Header, OfBoot, OfVendor, HeaderFits, record_of, size_of, is_vendor, image_header_at}
 use Rattle.abt_sections.proofs.Digests.{there_length}
 
 -- ---- numbers and texts of bytes
@@ -182,7 +182,7 @@ tail_numbers x k e w = record {
   whole = w;
 }
 
-tail_fits : (x : List ℕ) (u : Tail) → IsBytes x → tail_of x ≡ Ok u → TailFits u
+tail_fits : (x : List ℕ) (u : Tail) → IsBytes x → tail_or_fault x ≡ Ok u → TailFits u
 tail_fits x u k e =
     let t = tail_at x in
     let g = guard (not (t.entry_size == 108) || not (t.table_size == 108 * t.entry_num)) faults.Table (Ok t) u e in
@@ -204,7 +204,7 @@ module _ (x : List ℕ) (k : IsBytes x) where
       let p = page_was 2112 12 x m.0 m.1 in
       subst (λ (g : Vendor). VendorFits g) m.2 (vendor_front_fits m.0 x p.0 k, tt)
 
-  vendor_fits_4 : (v : Vendor) → mapped (both (needing 2128 x (page_at 12 x)) (tail_of x)) (vendor.whole x) ≡ Ok v → VendorFits v
+  vendor_fits_4 : (v : Vendor) → mapped (both (needing 2128 x (page_at 12 x)) (tail_or_fault x)) (vendor.whole x) ≡ Ok v → VendorFits v
   vendor_fits_4 v e =
       let m = boot.mapped-from _ _ v e in
       let b = both_from _ _ m.0 m.1 in
@@ -251,7 +251,7 @@ unfolding boot_record
 boot_decoded x h k e =
     let s = boot.boot_back x h k e in
     let fits = boot_fits x h k e in
-    record { fits = fits; size = s.size; begins = begins_with x (boot_record h) (drop (boot_size h) x) (boot_size h) (boot.record_length h fits) (joined_rest (boot_fields h) (drop (boot_size h) x) ∙ s.bytes) }
+    record { fits = fits; size = s.size; begins = begins_with x (boot_record h) (drop (boot_size h) x) (boot_size h) (boot.record_length h fits) (joined_rest (boot_field_list h) (drop (boot_size h) x) ∙ s.bytes) }
 
 vendor_decoded : (x : List ℕ) (v : Vendor) → IsBytes x → vendor_at x ≡ Ok v → Decoded x (OfVendor v)
 unfolding vendor_record
@@ -260,7 +260,7 @@ vendor_decoded x v k e =
     let fits = vendor_fits_of x k (number_at 8 4 x) v (vendor_begun x v e).rest in
     record { fits = fits; size = s.size; begins = begins_with x (vendor_record v) (drop (vendor_size v) x) (vendor_size v) (vendor.record_length v fits) (joined_rest (all_fields v.front v.tail) (drop (vendor_size v) x) ∙ s.bytes) }
 
-pub decoded : (x : List ℕ) (h : Header) → IsBytes x → header_at x ≡ Ok h → Decoded x h
+pub decoded : (x : List ℕ) (h : Header) → IsBytes x → image_header_at x ≡ Ok h → Decoded x h
 decoded x h k e = elim (boot.either (is_vendor x) (mapped (vendor_at x) (λ v. OfVendor v)) (mapped (boot_at x) (λ b. OfBoot b)) h e) [
   | inl a ↦ (let m = boot.mapped-from (vendor_at x) (λ v. OfVendor v) h a.1 in subst (λ (g : Header). Decoded x g) m.2 (vendor_decoded x m.0 k m.1))
   | inr a ↦ (let m = boot.mapped-from (boot_at x) (λ b. OfBoot b) h a in subst (λ (g : Header). Decoded x g) m.2 (boot_decoded x m.0 k m.1))
@@ -268,20 +268,20 @@ decoded x h k e = elim (boot.either (is_vendor x) (mapped (vendor_at x) (λ v. O
 
 -- ---- and back
 
-again_boot : (x : List ℕ) (h : BootHeader) → boot_at x ≡ Ok h → header_at x ≡ Ok (OfBoot h)
+again_boot : (x : List ℕ) (h : BootHeader) → boot_at x ≡ Ok h → image_header_at x ≡ Ok (OfBoot h)
 again_boot x h e =
     let m = (boot_begun x h e).magic in
     let other : is_vendor x ≡ false = and_right (nat_le 8 (length x)) _ (ap (λ (n : ℕ). n == 0x544f4f4252444e56) m) in
     ap (λ (b : Bool). cond b (mapped (vendor_at x) (λ v. OfVendor v)) (mapped (boot_at x) (λ b. OfBoot b))) other
     ∙ ap (λ (r : Result BootHeader HeaderFault). mapped r (λ b. OfBoot b)) e
 
-again_vendor : (x : List ℕ) (v : Vendor) → vendor_at x ≡ Ok v → header_at x ≡ Ok (OfVendor v)
+again_vendor : (x : List ℕ) (v : Vendor) → vendor_at x ≡ Ok v → image_header_at x ≡ Ok (OfVendor v)
 again_vendor x v e =
     let b = vendor_begun x v e in
     let this : is_vendor x ≡ true = and_from (nat_le 8 (length x)) _ (le-leb 8 (length x) b.some) b.magic in
     ap (λ (b : Bool). cond b (mapped (vendor_at x) (λ v. OfVendor v)) (mapped (boot_at x) (λ b. OfBoot b))) this
     ∙ ap (λ (r : Result Vendor HeaderFault). mapped r (λ v. OfVendor v)) e
 
-pub header_again : (x : List ℕ) (h : Header) (rest : List ℕ) → HeaderFits h → x ≡ record_of h ++ rest → header_at x ≡ Ok h
+pub header_again : (x : List ℕ) (h : Header) (rest : List ℕ) → HeaderFits h → x ≡ record_of h ++ rest → image_header_at x ≡ Ok h
 header_again x (OfBoot h) rest fits e = again_boot x h (ap boot_at e ∙ boot.record_again h rest fits)
 header_again x (OfVendor v) rest fits e = again_vendor x v (ap vendor_at e ∙ vendor.record_again v rest fits)

@@ -9,7 +9,7 @@ use Rattle.abt_headers.specs.Fault.{mapped}
 use Rattle.abt_headers.specs.Field.{number_at}
 use Rattle.abt_headers.specs.Boot.{boot_at}
 use Rattle.abt_headers.specs.Vendor.{Vendor, vendor_at}
-use Rattle.abt_sections.specs.Header.{Header, OfBoot, OfVendor, is_vendor, header_at}
+use Rattle.abt_sections.specs.Header.{Header, OfBoot, OfVendor, is_vendor, image_header_at}
 
 long_same : (m : ℕ) (x : List ℕ) → 8 ≤ m → nat_le 8 (length (take m x)) ≡ nat_le 8 (length x)
 long_same m x h = elim (cases_Bool (nat_le 8 (length x))) [
@@ -22,7 +22,7 @@ vendor_same m x h =
     ap (λ (b : Bool). b && (number_at 0 8 (take m x) == 0x544f4f4252444e56)) (long_same m x h)
     ∙ ap (λ (n : ℕ). nat_le 8 (length x) && (n == 0x544f4f4252444e56)) (little_from-take 0 8 m x h)
 
-header_cut : (x : List ℕ) → vendor_at (take 2128 x) ≡ vendor_at x → boot_at (take 2128 x) ≡ boot_at x → header_at (take 2128 x) ≡ header_at x
+header_cut : (x : List ℕ) → vendor_at (take 2128 x) ≡ vendor_at x → boot_at (take 2128 x) ≡ boot_at x → image_header_at (take 2128 x) ≡ image_header_at x
 header_cut x v b =
     let of_vendor : Vendor → Header = λ w. OfVendor w in
     let of_boot : BootHeader → Header = λ h. OfBoot h in
@@ -30,8 +30,8 @@ header_cut x v b =
     ∙ ap (λ (r : Result Vendor HeaderFault). cond (is_vendor x) (mapped r of_vendor) (mapped (boot_at (take 2128 x)) of_boot)) v
     ∙ ap (λ (r : Result BootHeader HeaderFault). cond (is_vendor x) (mapped (vendor_at x) of_vendor) (mapped r of_boot)) b
 
-pub header_same : (x : List ℕ) (n : ℕ) → n ≡ min (length x) 2128 → vendor_at (take 2128 x) ≡ vendor_at x → boot_at (take 2128 x) ≡ boot_at x → header_at (take n x) ≡ header_at x
+pub header_same : (x : List ℕ) (n : ℕ) → n ≡ min (length x) 2128 → vendor_at (take 2128 x) ≡ vendor_at x → boot_at (take 2128 x) ≡ boot_at x → image_header_at (take n x) ≡ image_header_at x
 header_same x n e v b = elim (cases_Bool (nat_le (length x) 2128)) [
-  | inl t ↦ (let k = leb-true (length x) 2128 t in ap header_at (take_all n x (omega (arith, e, k))))
-  | inr t ↦ (let k = leb-false (length x) 2128 t in let f : n ≡ 2128 = omega (arith, e, k) in ap (λ (j : ℕ). header_at (take j x)) f ∙ header_cut x v b)
+  | inl t ↦ (let k = leb-true (length x) 2128 t in ap image_header_at (take_all n x (omega (arith, e, k))))
+  | inr t ↦ (let k = leb-false (length x) 2128 t in let f : n ≡ 2128 = omega (arith, e, k) in ap (λ (j : ℕ). image_header_at (take j x)) f ∙ header_cut x v b)
 ]

@@ -16,9 +16,11 @@ pub mod Growing
 pub mod Laying
 pub mod Layouts
 pub mod Magic
+pub mod Moves
 pub mod Padding
 pub mod Parts
 pub mod Placing
+pub mod Refusals
 pub mod Sizing
 pub mod Starting
 pub mod Tables

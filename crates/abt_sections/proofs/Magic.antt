@@ -5,7 +5,7 @@ use Rattle.std.proofs.lemmas.List.{get_or_append_left, get_or-append_right}
 use Rattle.abt_io.specs.Bytes.{AreBytes}
 use Rattle.abt_headers.specs.Field.{number_at}
 use Rattle.abt_headers.specs.Boot.{boot_at}
-use Rattle.abt_sections.specs.Header.{Header, is_vendor, header_at}
+use Rattle.abt_sections.specs.Header.{Header, is_vendor, image_header_at}
 use Rattle.abt_sections.specs.Broken.{HasNoMagic, OpensAsNothing}
 
 abbrev eight : ℕ → ℕ → ℕ → ℕ → ℕ → ℕ → ℕ → ℕ → ℕ
@@ -50,13 +50,13 @@ and_false true = refl
 and_false false = refl
 
 -- the two magics, as numbers, are not the one that stands there
-refused : (x : List ℕ) (h : Header) → (number_at 0 8 x == 0x2144494f52444e41) ≡ false → (number_at 0 8 x == 0x544f4f4252444e56) ≡ false → header_at x ≡ Ok h → ⊥
+refused : (x : List ℕ) (h : Header) → (number_at 0 8 x == 0x2144494f52444e41) ≡ false → (number_at 0 8 x == 0x544f4f4252444e56) ≡ false → image_header_at x ≡ Ok h → ⊥
 unfolding boot_at
 refused x h boot vendor is =
     let v : is_vendor x ≡ false = ap (λ (t : Bool). nat_le 8 (length x) && t) vendor ∙ and_false (nat_le 8 (length x)) in
     elim (cases_Bool (nat_lt (length x) 8)) [ inl short ↦ (let e = rw (v, short) at is in cc) | inr long ↦ (let e = rw (v, long, boot) at is in cc) ]
 
-pub no_header : (x : List ℕ) (i : ℕ) → i < 8 → get_or x i 0 ≡ 0 → ((j : ℕ) → j < 8 → get_or x j 0 < 256) → (h : Header) → header_at x ≡ Ok h → ⊥
+pub no_header : (x : List ℕ) (i : ℕ) → i < 8 → get_or x i 0 ≡ 0 → ((j : ℕ) → j < 8 → get_or x j 0 < 256) → (h : Header) → image_header_at x ≡ Ok h → ⊥
 no_header x i lt z bytes h is =
     let p0 = bytes 0 (omega arith) in
     let p1 = bytes 1 (omega arith) in

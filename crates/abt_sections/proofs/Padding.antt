@@ -8,7 +8,7 @@ use Rattle.abt_headers.specs.declared.sections.Place.{Place}
 use Rattle.abt_headers.specs.Page.{pages}
 use Rattle.abt_headers.specs.Places.{places_from}
 use Rattle.abt_headers.proofs.Places.{enough_pages}
-use Rattle.abt_sections.specs.Layout.{padding, padded, laid, laid_out, part_of, parts_of, Placed, Sized}
+use Rattle.abt_sections.specs.Layout.{padding, padded, laid, laid_out, part_of, parts_of, PartsPlaced, Sized}
 use Rattle.abt_sections.specs.Check.{all_zero, zeros_there, padded_places, padding_holds}
 use Rattle.abt_sections.specs.Header.{Header, HeaderFits, record_of, size_of, page_of, sections_of, places_of}
 use Rattle.abt_sections.specs.Open.{beyond}
@@ -119,7 +119,7 @@ laid_out_padded x h parts rest fits s e =
     let next : drop (p * pages n p) x ≡ tail = ap (drop (p * pages n p)) whole ∙ drop_at (padded p r) tail (p * pages n p) first in
     and_from _ _ (stand_zeros x tail n (padding n p) behind) (laid_padded p (some_page h) (pages n p) (sections_of h) parts x rest next s)
 
-pub placed_parts : (x : List ℕ) (ps : List Place) (parts : List (List ℕ)) → Placed x ps parts → parts_of x ps ≡ parts
+pub placed_parts : (x : List ℕ) (ps : List Place) (parts : List (List ℕ)) → PartsPlaced x ps parts → parts_of x ps ≡ parts
 placed_parts x [] [] h = refl
 placed_parts x [] (q ∷ qs) h = absurd h
 placed_parts x (p ∷ ps) [] h = absurd h

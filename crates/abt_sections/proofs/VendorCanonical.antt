@@ -12,11 +12,11 @@ use Rattle.abt_headers.specs.VendorFits.{VendorFrontFits, VendorFits}
 use Rattle.abt_headers.proofs.Fields.{IsBytes}
 use Rattle.abt_sections.specs.declared.spec.FragmentSpec.{FragmentSpec}
 use Rattle.abt_sections.specs.Fields.{VendorFields, is_text, filled}
-use Rattle.abt_sections.specs.Layout.{Placed, Sized, zeros_behind, padded, laid, parts_of}
+use Rattle.abt_sections.specs.Layout.{PartsPlaced, Sized, zeros_behind, padded, laid, parts_of}
 use Rattle.abt_sections.specs.Refusal.{vendor_names, vendor_refusal, size_refusal}
 use Rattle.abt_sections.specs.BootCanon.{page_or}
 use Rattle.abt_sections.specs.VendorCanon.{VendorParts, vendor_parts, table_for, vendor_front_for, tail_for, vendor_page_for, vendor_sizes_for, vendor_header_of, vendor_sections_for, vendor_image, vendor_canon}
-use Rattle.abt_sections.specs.Header.{Header, OfVendor, header_at, places_of, ramdisk_at, ramdisk_size, table_at, entry_of}
+use Rattle.abt_sections.specs.Header.{Header, OfVendor, image_header_at, places_of, ramdisk_at, ramdisk_size, table_at, entry_of}
 use Rattle.abt_sections.specs.Open.{HasImage}
 use Rattle.abt_sections.specs.Check.{text_field, texts_hold, offset_holds, sizes_before, EndToEnd, FragmentsFill, IsCanonical}
 use Rattle.abt_sections.specs.Canonical.{VendorNumbers, IsVendorInput, FragmentFits, StartsAsVendor}
@@ -230,7 +230,7 @@ record Made (v : Vendor) (sections : List (List ℕ)) : Type 0 where
   offset : offset_holds (OfVendor v) ≡ true
   fragments : (x : List ℕ) → parts_of x (places_of (OfVendor v)) ≡ sections → FragmentsFill x (OfVendor v)
 
-header_front : (x : List ℕ) (v : Vendor) (sections : List (List ℕ)) (rest : List ℕ) → VendorFits v → x ≡ vendor_image v sections ++ rest → header_at x ≡ Ok (OfVendor v)
+header_front : (x : List ℕ) (v : Vendor) (sections : List (List ℕ)) (rest : List ℕ) → VendorFits v → x ≡ vendor_image v sections ++ rest → image_header_at x ≡ Ok (OfVendor v)
 header_front x v sections rest fits e =
     let p = vendor_page v in
     let r = vendor_record v in
@@ -242,7 +242,7 @@ made_canonical : (x : List ℕ) (v : Vendor) (sections : List (List ℕ)) (rest 
 made_canonical x v sections rest m e =
     let h : Header = OfVendor v in
     let i = is_image h sections rest m.fits m.sized in
-    let placed = subst (λ (y : List ℕ). Placed y (places_of h) sections) (sym e) i.placed in
+    let placed = subst (λ (y : List ℕ). PartsPlaced y (places_of h) sections) (sym e) i.placed in
     record {
       header = header_front x v sections rest m.fits e;
       there = placed_there x (places_of h) sections placed;

@@ -12,8 +12,8 @@ use Rattle.abt_headers.specs.Vendor.{Tail}
 use Rattle.abt_headers.proofs.Fields.{IsBytes}
 use Rattle.abt_sections.specs.declared.fault.SectionFault.{SectionFault}
 use Rattle.abt_sections.specs.declared.fault.SectionFault.TheVariants as faults
-use Rattle.abt_sections.specs.Header.{Header, OfBoot, OfVendor, header_at, places_of, sections_of, page_of, size_of, entry_of, IsWithin, EachWithin}
-use Rattle.abt_sections.specs.Layout.{Placed, part_of, parts_of}
+use Rattle.abt_sections.specs.Header.{Header, OfBoot, OfVendor, image_header_at, places_of, sections_of, page_of, size_of, entry_of, IsWithin, EachWithin}
+use Rattle.abt_sections.specs.Layout.{PartsPlaced, part_of, parts_of}
 use Rattle.abt_sections.specs.Check.{sizes_before, FragmentsFill, EndToEnd, IsCanonical}
 use Rattle.abt_sections.specs.Open.{beyond, ends_beyond, HasImage, IsWholeImage, IsTruncated, HasBadEntry, RefusedAs, IsReadFault}
 use Rattle.abt_sections.proofs.Decoding.{decoded, header_again}
@@ -29,7 +29,7 @@ ok_same g h e = cc
 
 -- what is found at the front of an image that the packer wrote
 pub record IsPacked (x : List ℕ) (h : Header) : Type 0 where
-  pub header : header_at x ≡ Ok h
+  pub header : image_header_at x ≡ Ok h
   pub there : beyond (places_of h) (length x) ≡ None
   pub canonical : IsCanonical x h
 
@@ -41,7 +41,7 @@ not_beyond x p e = elim (cases_lt 0 p.size) [
   | inr none ↦ and_left (nat_lt 0 p.size) (nat_lt (length x) (p.at + p.size)) (le-ltb 0 p.size none)
 ]
 
-pub placed_there : (x : List ℕ) (ps : List Place) (parts : List (List ℕ)) → Placed x ps parts → beyond ps (length x) ≡ None
+pub placed_there : (x : List ℕ) (ps : List Place) (parts : List (List ℕ)) → PartsPlaced x ps parts → beyond ps (length x) ≡ None
 unfolding beyond
 placed_there x [] [] h = refl
 placed_there x [] (q ∷ qs) h = absurd h
@@ -50,7 +50,7 @@ placed_there x (p ∷ ps) (q ∷ qs) h =
     ap (λ (b : Bool). cond b (Some p.kind) (beyond ps (length x))) (not_beyond x p (ap length h.1 ∙ h.0))
     ∙ placed_there x ps qs h.2
 
-there_placed : (p k : ℕ) (ss : List (Section × ℕ)) (x : List ℕ) → beyond (places_from p k ss) (length x) ≡ None → Placed x (places_from p k ss) (parts_of x (places_from p k ss))
+there_placed : (p k : ℕ) (ss : List (Section × ℕ)) (x : List ℕ) → beyond (places_from p k ss) (length x) ≡ None → PartsPlaced x (places_from p k ss) (parts_of x (places_from p k ss))
 there_placed p k [] x there = tt
 there_placed p k (s ∷ ss) x there =
     let place : Place = record { kind = s.0; at = p * k; size = s.1 } in
@@ -105,7 +105,7 @@ whole_iff x h k = (whole_from x h k, whole_to x h)
 
 -- ---- what is refused is no image
 
-no_header : (x : List ℕ) (f : HeaderFault) (h : Header) → header_at x ≡ Err f → header_at x ≡ Ok h → ⊥
+no_header : (x : List ℕ) (f : HeaderFault) (h : Header) → image_header_at x ≡ Err f → image_header_at x ≡ Ok h → ⊥
 no_header x f h a b = absurd (ok_err h f (sym b ∙ a))
   where
     ok_err : (h : Header) (f : HeaderFault) → ok_of h ≡ Err f → ⊥

@@ -43,12 +43,12 @@ abbrev pub total : {S : Type 0} → (S → ℕ) → List S → ℕ
 total f parts = sum_by f parts
 
 -- 1 for a fault that hands on that a device is full
-abbrev pub full_in_fault : SectionFault → ℕ
-full_in_fault (Read f) = full_in f
-full_in_fault (Write f) = full_in f
-full_in_fault _ = 0
+abbrev pub full_in_section_fault : SectionFault → ℕ
+full_in_section_fault (Read f) = full_in f
+full_in_section_fault (Write f) = full_in f
+full_in_section_fault _ = 0
 
 -- 1 for a call that answered so
 abbrev pub full_handed : {X : Type 0} → Result X SectionFault → ℕ
 full_handed (Ok x) = 0
-full_handed (Err e) = full_in_fault e
+full_handed (Err e) = full_in_section_fault e

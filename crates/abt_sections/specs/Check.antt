@@ -1,6 +1,6 @@
 -- What checking an image tells.
 use Rattle.std.specs.Prelude.{◌≡◌, ℕ, zero, suc, IsSome, ◌+◌, ◌==◌, ◌&&◌, Bool, true, false, if◌then◌else◌, IsTrue}
-use Rattle.std.specs.Prelude.{List, [], ◌∷◌, ◌++◌, length, take, drop, ◌<◌}
+use Rattle.std.specs.Prelude.{List, [], ◌∷◌, ◌++◌, length, take, drop, ◌<◌, ◌↔◌}
 use Rattle.abt_headers.specs.declared.sections.Place.{Place}
 use Rattle.abt_headers.specs.declared.boot.BootFront.{BootFront}
 use Rattle.abt_headers.specs.declared.boot.ShortFront.{ShortFront}
@@ -8,6 +8,7 @@ use Rattle.abt_headers.specs.declared.boot.BootHeader.{BootHeader}
 use Rattle.abt_headers.specs.declared.boot.BootHeader.TheVariants.{V0, V1, V2, V3, V4}
 use Rattle.abt_headers.specs.Page.{page_bytes}
 use Rattle.abt_headers.specs.Vendor.{vendor_size}
+use Rattle.abt_sections.specs.declared.checking.Verdict.{Verdict}
 use Rattle.abt_sections.specs.Header.{Header, OfBoot, OfVendor, size_of, page_of, places_of, entry_of, fragment_count}
 use Rattle.abt_sections.specs.Header.{ramdisk_size}
 use Rattle.abt_sections.specs.Layout.{padding, parts_of}
@@ -114,3 +115,10 @@ pub record IsCanonical (x : List ℕ) (h : Header) : Type 0 where
   pub offset : IsTrue (offset_holds h)
   pub texts : IsTrue (texts_hold h)
   pub fragments : FragmentsFill x h
+
+-- the verdict v is the one of the image x with the header h
+pub record IsVerdict (x : List ℕ) (h : Header) (v : Verdict) : Type 0 where
+  pub padding : v.padding ≡ padding_holds x h
+  pub id : IsTrue v.id ↔ IdHolds x h
+  pub offset : v.offset ≡ offset_holds h
+  pub canonical : IsTrue v.canonical ↔ IsCanonical x h

@@ -1,10 +1,15 @@
 -- What an output was given.
-use Rattle.std.specs.Prelude.{◌≡◌, ℕ, ◌-◌, List, ◌++◌, length, take}
+use Rattle.std.specs.Prelude.{◌≡◌, ℕ, ◌+◌, ◌-◌, ◌≤◌, Result, OnOk, List, ◌++◌, length, take}
 
 -- now is old, and behind it a beginning of x
-abbrev pub Begins : List ℕ → List ℕ → List ℕ → Type 0
-Begins old now x = now ≡ old ++ take (length now - length old) x
+abbrev pub AppendsFront : List ℕ → List ℕ → List ℕ → Type 0
+AppendsFront old now x = now ≡ old ++ take (length now - length old) x
 
 -- now is old, and maybe more behind it
 abbrev pub Grows : List ℕ → List ℕ → Type 0
 Grows old now = take (length old) now ≡ old
+
+-- Of n bytes no more came, and after an Ok all.
+pub record AddsUpTo {X E : Type 0} (r : Result X E) (old new : List ℕ) (n : ℕ) : Type 0 where
+  pub most : length new ≤ length old + n
+  pub all : OnOk r (length new ≡ length old + n)

@@ -12,13 +12,13 @@ use Rattle.abt_headers.specs.Places.{places_from}
 use Rattle.abt_headers.specs.Fault.{mapped}
 use Rattle.abt_headers.specs.Boot.{boot_at, boot_record, boot_size, boot_page, boot_sections}
 use Rattle.abt_headers.specs.Fits.{BootFits}
-use Rattle.abt_headers.specs.Vendor.{Tail, Vendor, view, vendor_at, vendor_record, vendor_size, vendor_page}
+use Rattle.abt_headers.specs.Vendor.{Tail, Vendor, vendor_view, vendor_at, vendor_record, vendor_size, vendor_page}
 use Rattle.abt_headers.specs.Vendor.{vendor_sections}
 use Rattle.abt_headers.specs.VendorFits.{VendorFits}
 use Rattle.abt_headers.specs.Entry.{entry_at}
 use Rattle.abt_sections.specs.declared.image.ImageHeader.{ImageHeader}
 use Rattle.abt_sections.specs.declared.image.ImageHeader.TheVariants as variants
-use Rattle.abt_sections.specs.Layout.{Placed}
+use Rattle.abt_sections.specs.Layout.{PartsPlaced}
 
 pub data Header : Type 0 where
   OfBoot : BootHeader → Header
@@ -26,7 +26,7 @@ pub data Header : Type 0 where
 
 abbrev pub view_of : ImageHeader → Header
 view_of (variants.Boot h) = OfBoot h
-view_of (variants.Vendor h) = OfVendor (view h)
+view_of (variants.Vendor h) = OfVendor (vendor_view h)
 
 abbrev pub record_of : Header → List ℕ
 record_of (OfBoot h) = boot_record h
@@ -61,8 +61,8 @@ is_vendor x = nat_le 8 (length x) && (number_at 0 8 x == 0x544f4f4252444e56)
 
 -- the header at the front of x, or the first fault: of a vendor boot image where the magic says so, else of a boot
 -- image
-abbrev pub header_at : List ℕ → Result Header HeaderFault
-header_at x = if is_vendor x then mapped (vendor_at x) (λ v. OfVendor v) else mapped (boot_at x) (λ h. OfBoot h)
+abbrev pub image_header_at : List ℕ → Result Header HeaderFault
+image_header_at x = if is_vendor x then mapped (vendor_at x) (λ v. OfVendor v) else mapped (boot_at x) (λ h. OfBoot h)
 
 -- ---- the table of ramdisk fragments, which version 4 of a vendor image has
 
@@ -115,7 +115,7 @@ EachWithin x h = (i : ℕ) → i < fragment_count h → IsWithin h (entry_of x h
 pub record IsImage (x : List ℕ) (h : Header) (parts : List (List ℕ)) : Type 0 where
   pub fits : HeaderFits h
   pub begins : take (size_of h) x ≡ record_of h
-  pub placed : Placed x (places_of h) parts
+  pub placed : PartsPlaced x (places_of h) parts
 
 -- the part of the vendor ramdisk that an entry says
 abbrev pub ramdisk_part : List ℕ → Header → RamdiskEntry → List ℕ

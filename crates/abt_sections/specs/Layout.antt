@@ -37,11 +37,11 @@ abbrev pub parts_of : List ℕ → List Place → List (List ℕ)
 parts_of x places = map (part_of x) places
 
 -- each part stands whole at its place, and has the size of the place
-abbrev pub Placed : List ℕ → List Place → List (List ℕ) → Type 0
-Placed x [] [] = Unit {0}
-Placed x [] (q ∷ qs) = ⊥
-Placed x (p ∷ ps) [] = ⊥
-Placed x (p ∷ ps) (q ∷ qs) = (length q ≡ p.size) × (part_of x p ≡ q) × Placed x ps qs
+abbrev pub PartsPlaced : List ℕ → List Place → List (List ℕ) → Type 0
+PartsPlaced x [] [] = Unit {0}
+PartsPlaced x [] (q ∷ qs) = ⊥
+PartsPlaced x (p ∷ ps) [] = ⊥
+PartsPlaced x (p ∷ ps) (q ∷ qs) = (length q ≡ p.size) × (part_of x p ≡ q) × PartsPlaced x ps qs
 
 -- each part has the size that the section says
 abbrev pub Sized : List (Section × ℕ) → List (List ℕ) → Type 0

@@ -10,7 +10,9 @@ pub mod Grown
 pub mod Header
 pub mod Id
 pub mod Layout
+pub mod Moves
 pub mod Open
+pub mod Reads
 pub mod Refusal
 pub mod Unpacked
 pub mod VendorCanon

@@ -6,7 +6,7 @@ use Rattle.abt_headers.specs.declared.sections.Section.{Section}
 use Rattle.abt_sections.specs.declared.fault.SectionFault.{SectionFault}
 use Rattle.abt_sections.specs.declared.fault.SectionFault.TheVariants as faults
 use Rattle.abt_sections.specs.declared.image.Image.{Image}
-use Rattle.abt_sections.specs.Header.{Header, view_of, header_at, places_of, fragment_count, entry_of, IsWithin}
+use Rattle.abt_sections.specs.Header.{Header, view_of, image_header_at, places_of, fragment_count, entry_of, IsWithin}
 use Rattle.abt_sections.specs.Header.{EachWithin, IsImage}
 
 -- a place isn't empty and ends past n bytes
@@ -26,7 +26,7 @@ pub record IsFirstOutside (x : List ℕ) (h : Header) (i : ℕ) : Type 0 where
 
 -- x begins with the header h, every section is there, and every fragment is within the vendor ramdisk
 pub record HasImage (x : List ℕ) (h : Header) : Type 0 where
-  pub header : header_at x ≡ Ok h
+  pub header : image_header_at x ≡ Ok h
   pub there : beyond (places_of h) (length x) ≡ None
   pub within : EachWithin x h
 
@@ -38,19 +38,19 @@ pub record IsWholeImage (x : List ℕ) (h : Header) : Type 0 where
 
 -- x begins with a header, and a section isn't whole
 pub record IsTruncated (x : List ℕ) (h : Header) (s : Section) : Type 0 where
-  pub header : header_at x ≡ Ok h
+  pub header : image_header_at x ≡ Ok h
   pub truncated : beyond (places_of h) (length x) ≡ Some s
 
 -- x begins with a header, every section is there, and entry i is the first that is bad
 pub record HasBadEntry (x : List ℕ) (h : Header) (i : ℕ) : Type 0 where
-  pub header : header_at x ≡ Ok h
+  pub header : image_header_at x ≡ Ok h
   pub there : beyond (places_of h) (length x) ≡ None
   pub first : IsFirstOutside x h i
 
 -- what a refusal of opening says of the bytes x
 abbrev pub RefusedAs : List ℕ → SectionFault → Type 0
 RefusedAs x (faults.Read f) = Unit {0}
-RefusedAs x (faults.Header f) = header_at x ≡ Err f
+RefusedAs x (faults.Header f) = image_header_at x ≡ Err f
 RefusedAs x (faults.Entry i) = (h : Header) × HasBadEntry x h i
 RefusedAs x (faults.SectionTruncated s) = (h : Header) × IsTruncated x h s
 RefusedAs x _ = ⊥

@@ -11,18 +11,18 @@ use Rattle.abt_sections.specs.BootCanon.{boot_header_of}
 use Rattle.abt_sections.specs.VendorCanon.{VendorParts, entry_for, vendor_header_of, vendor_sections_for}
 
 -- x is opened as this header, and is an image of it and these parts: what stands in its sections is the parts
-pub record Holds (x : List ℕ) (h : Header) (parts : List (List ℕ)) : Type 0 where
+pub record HoldsParts (x : List ℕ) (h : Header) (parts : List (List ℕ)) : Type 0 where
   pub has : HasImage x h
   pub image : IsImage x h parts
   pub each : parts_of x (places_of h) ≡ parts
 
 -- of a boot image
 abbrev pub HoldsBoot : List ℕ → BootFields → List (List ℕ) → Type 0
-HoldsBoot x s parts = Holds x (OfBoot (boot_header_of s parts)) parts
+HoldsBoot x s parts = HoldsParts x (OfBoot (boot_header_of s parts)) parts
 
 -- of a vendor boot image, in whose vendor ramdisk the ramdisks lie end to end
 abbrev pub HoldsVendor : List ℕ → VendorFields → VendorParts → Type 0
-HoldsVendor x s p = Holds x (OfVendor (vendor_header_of s p)) (vendor_sections_for s.version p)
+HoldsVendor x s p = HoldsParts x (OfVendor (vendor_header_of s p)) (vendor_sections_for s.version p)
 
 -- fragment i of x is ramdisk i, and entry i of its table says of it what was given, its size, and how many bytes the
 -- ramdisks before it have

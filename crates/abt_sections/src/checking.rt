@@ -1,9 +1,9 @@
 //! Whether an image is what the packer would have written.
 
-ghost use Rattle.std.specs.Prelude.{◌≡◌, ◌<◌, ◌≤◌, ◌+◌, ◌-◌, ◌^◌, ◌++◌, ◌↔◌, ◌&&◌, IsTrue, IfOk, IfErr, OnOk, Err};
+ghost use Rattle.std.specs.Prelude.{◌≡◌, ◌<◌, ◌≤◌, ◌+◌, ◌-◌, ◌^◌, ◌++◌, ◌↔◌, ◌&&◌, IsTrue, IfOk, Err};
 ghost use Rattle.std.specs.Prelude.{None, length, take, drop, slice_range};
 ghost use Rattle.abt_headers.specs.Places.{EachLow};
-ghost use Rattle.abt_sections.specs.Cause.{ReadCause, full_handed};
+ghost use Rattle.abt_sections.specs.Reads.{ReadsUnless};
 ghost use Rattle.abt_sections.specs.Canonical.{StartsAsPacked};
 ghost use Rattle.abt_sections.specs.Check as check_spec;
 ghost use Rattle.abt_sections.specs.Header.{view_of, places_of};
@@ -56,15 +56,8 @@ fn zeros_there<S: Source>(
     w: &mut Window,
     m: &mut Meter,
 ) -> Result<bool, SectionFault>
-    ensures content { IsTrue S.tells → S.content source.new ≡ S.content source.old }
-    ensures size { IsTrue S.tells → S.size source.new ≡ S.size source.old }
-    ensures frame { S.read_frame source.new ≡ S.read_frame source.old }
+    ensures reads { ReadsUnless result S.Source source.old source.new (IsTrue S.tells → ⊥) }
     ensures value { IsTrue S.tells → IfOk result (λ b. b ≡ check_spec.zeros_there (S.content source.old) at n) }
-    ensures faults { S.read_faults source.old ≤ S.read_faults source.new }
-    ensures cause { IfErr result (λ e. ReadCause e (S.read_faults source.old) (S.read_faults source.new)
-        (IsTrue S.tells → ⊥)) }
-    ensures clean { OnOk result (S.read_faults source.new ≡ S.read_faults source.old) }
-    ensures failed { full_handed result ≡ 0 }
 {
     if n == 0 {
         return Ok(true);
@@ -101,16 +94,9 @@ fn places_padded<S: Source>(
 ) -> Result<bool, SectionFault>
     requires some { 0 < page }
     requires low { EachLow sections.now }
-    ensures content { IsTrue S.tells → S.content source.new ≡ S.content source.old }
-    ensures size { IsTrue S.tells → S.size source.new ≡ S.size source.old }
-    ensures frame { S.read_frame source.new ≡ S.read_frame source.old }
+    ensures reads { ReadsUnless result S.Source source.old source.new (IsTrue S.tells → ⊥) }
     ensures value { IsTrue S.tells → IfOk result (λ b. b ≡ check_spec.padded_places
         (S.content source.old) page sections.now) }
-    ensures faults { S.read_faults source.old ≤ S.read_faults source.new }
-    ensures cause { IfErr result (λ e. ReadCause e (S.read_faults source.old) (S.read_faults source.new)
-        (IsTrue S.tells → ⊥)) }
-    ensures clean { OnOk result (S.read_faults source.new ≡ S.read_faults source.old) }
-    ensures failed { full_handed result ≡ 0 }
 {
     for i in 0..sections.count() {
         m.tick();
@@ -131,16 +117,9 @@ fn padding_holds<S: Source>(
     w: &mut Window,
     m: &mut Meter,
 ) -> Result<bool, SectionFault>
-    ensures content { IsTrue S.tells → S.content source.new ≡ S.content source.old }
-    ensures size { IsTrue S.tells → S.size source.new ≡ S.size source.old }
-    ensures frame { S.read_frame source.new ≡ S.read_frame source.old }
+    ensures reads { ReadsUnless result S.Source source.old source.new (IsTrue S.tells → ⊥) }
     ensures value { IsTrue S.tells → IfOk result (λ b. b ≡ check_spec.padding_holds (S.content source.old)
         (view_of header.now)) }
-    ensures faults { S.read_faults source.old ≤ S.read_faults source.new }
-    ensures cause { IfErr result (λ e. ReadCause e (S.read_faults source.old) (S.read_faults source.new)
-        (IsTrue S.tells → ⊥)) }
-    ensures clean { OnOk result (S.read_faults source.new ≡ S.read_faults source.old) }
-    ensures failed { full_handed result ≡ 0 }
 {
     let page = header.page_size();
     let size = header.size() as u64;
@@ -160,16 +139,10 @@ fn id_holds<S: Source>(
     w: &mut Window,
     m: &mut Meter,
 ) -> Result<bool, SectionFault>
-    ensures content { IsTrue S.tells → S.content source.new ≡ S.content source.old }
-    ensures size { IsTrue S.tells → S.size source.new ≡ S.size source.old }
-    ensures frame { S.read_frame source.new ≡ S.read_frame source.old }
+    ensures reads { ReadsUnless result S.Source source.old source.new
+        (IsTrue S.tells → beyond (places_of (view_of header.now)) (length (S.content source.old)) ≡ None → ⊥) }
     ensures value { IsTrue S.tells → IfOk result (λ b. IsTrue b ↔ check_spec.IdHolds (S.content source.old)
         (view_of header.now)) }
-    ensures faults { S.read_faults source.old ≤ S.read_faults source.new }
-    ensures cause { IfErr result (λ e. ReadCause e (S.read_faults source.old) (S.read_faults source.new)
-        (IsTrue S.tells → beyond (places_of (view_of header.now)) (length (S.content source.old)) ≡ None → ⊥)) }
-    ensures clean { OnOk result (S.read_faults source.new ≡ S.read_faults source.old) }
-    ensures failed { full_handed result ≡ 0 }
 {
     let front = match header {
         ImageHeader::Boot(BootHeader::V0(front)) => front,
@@ -302,23 +275,13 @@ fn compare<S: Source>(
     w: &mut Window,
     m: &mut Meter,
 ) -> Result<Verdict, SectionFault>
-    ensures content { IsTrue S.tells → S.content source.new ≡ S.content source.old }
-    ensures size { IsTrue S.tells → S.size source.new ≡ S.size source.old }
-    ensures frame { S.read_frame source.new ≡ S.read_frame source.old }
-    ensures padding { IsTrue S.tells → IfOk result (λ v. v.padding ≡ check_spec.padding_holds (S.content source.old)
-        (view_of image.now.header)) }
-    ensures id { IsTrue S.tells → IfOk result (λ v. IsTrue v.id ↔ check_spec.IdHolds (S.content source.old)
-        (view_of image.now.header)) }
+    ensures reads { ReadsUnless result S.Source source.old source.new
+        (IsTrue S.tells → IsOpened (S.content source.old) image.now → ⊥) }
+    ensures verdict { IsTrue S.tells →
+        IfOk result (check_spec.IsVerdict (S.content source.old) (view_of image.now.header)) }
     ensures offset { IfOk result (λ v. v.offset ≡ check_spec.offset_holds (view_of image.now.header)) }
-    ensures canonical { IsTrue S.tells → IfOk result (λ v. IsTrue v.canonical ↔
-        check_spec.IsCanonical (S.content source.old) (view_of image.now.header)) }
     ensures changed { (S.size source.old ≡ image.now.length → ⊥) → (result ≡ Err SectionFault.SourceChanged) ×
         (source.new ≡ source.old) }
-    ensures faults { S.read_faults source.old ≤ S.read_faults source.new }
-    ensures cause { IfErr result (λ e. ReadCause e (S.read_faults source.old) (S.read_faults source.new)
-        (IsTrue S.tells → IsOpened (S.content source.old) image.now → ⊥)) }
-    ensures clean { OnOk result (S.read_faults source.new ≡ S.read_faults source.old) }
-    ensures failed { full_handed result ≡ 0 }
 {
     if !is_as_long(image, source) {
         return Err(SectionFault::SourceChanged);
@@ -358,25 +321,15 @@ pub fn check<S: Source>(
     w: &mut Window,
     m: &mut Meter,
 ) -> Result<Verdict, SectionFault>
-    ensures content { IsTrue S.tells → S.content source.new ≡ S.content source.old }
-    ensures size { IsTrue S.tells → S.size source.new ≡ S.size source.old }
-    ensures frame { S.read_frame source.new ≡ S.read_frame source.old }
-    ensures padding { IsTrue S.tells → IfOk result (λ v. v.padding ≡ check_spec.padding_holds (S.content source.old)
-        (view_of image.now.header)) }
-    ensures id { IsTrue S.tells → IfOk result (λ v. IsTrue v.id ↔ check_spec.IdHolds (S.content source.old)
-        (view_of image.now.header)) }
+    ensures reads { ReadsUnless result S.Source source.old source.new
+        (IsTrue S.tells → IsOpened (S.content source.old) image.now → ⊥) }
+    ensures verdict { IsTrue S.tells →
+        IfOk result (check_spec.IsVerdict (S.content source.old) (view_of image.now.header)) }
     ensures offset { IfOk result (λ v. v.offset ≡ check_spec.offset_holds (view_of image.now.header)) }
-    ensures canonical { IsTrue S.tells → IfOk result (λ v. IsTrue v.canonical ↔
-        check_spec.IsCanonical (S.content source.old) (view_of image.now.header)) }
     ensures packed { IsTrue S.tells → IsOpened (S.content source.old) image.now →
         IfOk result (λ v. IsTrue v.canonical ↔ StartsAsPacked (S.content source.old)) }
     ensures changed { (S.size source.old ≡ image.now.length → ⊥) → (result ≡ Err SectionFault.SourceChanged) ×
         (source.new ≡ source.old) }
-    ensures faults { S.read_faults source.old ≤ S.read_faults source.new }
-    ensures cause { IfErr result (λ e. ReadCause e (S.read_faults source.old) (S.read_faults source.new)
-        (IsTrue S.tells → IsOpened (S.content source.old) image.now → ⊥)) }
-    ensures clean { OnOk result (S.read_faults source.new ≡ S.read_faults source.old) }
-    ensures failed { full_handed result ≡ 0 }
 {
     compare(image, source, w, m)
 }

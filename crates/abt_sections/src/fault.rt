@@ -1,7 +1,7 @@
 //! Why an image is refused.
 
 ghost use Rattle.std.specs.Prelude.{◌≡◌};
-ghost use Rattle.abt_sections.specs.Fault.{fault_number};
+ghost use Rattle.abt_sections.specs.Fault.{section_fault_number};
 
 use abt_headers::{HeaderFault, Section};
 use abt_io::DeviceFault;
@@ -42,7 +42,7 @@ pub enum SectionFault {
 impl SectionFault {
     /// The fault's number, by which texts and callers tell faults apart.
     pub fn number(&self) -> u32
-        ensures { result ≡ fault_number self.now }
+        ensures { result ≡ section_fault_number self.now }
     {
         match self {
             SectionFault::Read(_) => 11,

@@ -1,10 +1,10 @@
 //! The table of ramdisk fragments, which a vendor boot image of version 4 has.
 
-ghost use Rattle.std.specs.Prelude.{◌≡◌, ◌<◌, ◌≤◌, ◌+◌, ◌-◌, ◌*◌, ◌^◌, ℕ, IsTrue, IfOk, IfErr, OnOk, MatchBool};
+ghost use Rattle.std.specs.Prelude.{◌≡◌, ◌<◌, ◌≤◌, ◌+◌, ◌-◌, ◌*◌, ◌^◌, ℕ, IsTrue, IfOk, OnOk, MatchBool};
 ghost use Rattle.std.specs.Prelude.{MatchResult, ◌↔◌, Err, None, length, take, drop};
 ghost use Rattle.abt_headers.specs.Entry.{entry_at};
-ghost use Rattle.abt_sections.specs.Cause.{ReadCause, OpenCause, full_handed};
-ghost use Rattle.abt_sections.specs.Entries.{EntriesStand, HoldsEntry};
+ghost use Rattle.abt_sections.specs.Reads.{OpensUnless, ReadsUnless};
+ghost use Rattle.abt_sections.specs.Entries.{ComesNext, EntriesStand, HoldsEntry};
 ghost use Rattle.abt_sections.specs.Header as header_spec;
 ghost use Rattle.abt_sections.specs.Open.{IsOpened, EntryRefusedAs, beyond};
 ghost use Rattle.abt_sections.specs.Check.{FragmentsFill, HasTable};
@@ -91,16 +91,10 @@ fn read_entry<S: Source>(
     m: &mut Meter,
 ) -> Result<RamdiskEntry, SectionFault>
     requires { table.now.at < 2 ^ 62 }
-    ensures content { IsTrue S.tells → S.content source.new ≡ S.content source.old }
-    ensures size { IsTrue S.tells → S.size source.new ≡ S.size source.old }
-    ensures frame { S.read_frame source.new ≡ S.read_frame source.old }
+    ensures reads { ReadsUnless result S.Source source.old source.new
+        (IsTrue S.tells → table.now.at + 108 * i + 108 ≤ length (S.content source.old) → ⊥) }
     ensures entry { IsTrue S.tells → IfOk result (λ e. e ≡ entry_at (take 108
         (drop (table.now.at + 108 * i) (S.content source.old)))) }
-    ensures faults { S.read_faults source.old ≤ S.read_faults source.new }
-    ensures cause { IfErr result (λ e. ReadCause e (S.read_faults source.old) (S.read_faults source.new)
-        (IsTrue S.tells → table.now.at + 108 * i + 108 ≤ length (S.content source.old) → ⊥)) }
-    ensures clean { OnOk result (S.read_faults source.new ≡ S.read_faults source.old) }
-    ensures failed { full_handed result ≡ 0 }
 {
     match read_front(source, place_of_entry(table, i), 108, w, m) {
         Ok(()) => {}
@@ -141,22 +135,13 @@ fn hold_entry<S: Source>(
 ) -> Result<Held, SectionFault>
     requires near { table.now.at < 2 ^ 62 }
     requires there { i < table.now.count }
-    requires from { held.first ≤ i }
-    requires to { i ≤ held.end }
-    requires few { held.end ≤ held.first + 606 }
-    requires last { held.end ≤ table.now.count }
+    requires next { ComesNext held.first held.end i table.now.count }
     requires stand { IsTrue S.tells → EntriesStand w.old.bytes (S.content source.old) table.now.at held.first held.end }
-    ensures content { IsTrue S.tells → S.content source.new ≡ S.content source.old }
-    ensures size { IsTrue S.tells → S.size source.new ≡ S.size source.old }
-    ensures frame { S.read_frame source.new ≡ S.read_frame source.old }
+    ensures reads { ReadsUnless result S.Source source.old source.new
+        (IsTrue S.tells → table.now.at + 108 * table.now.count ≤ length (S.content source.old) → ⊥) }
     ensures stand { IsTrue S.tells → IfOk result (λ h. EntriesStand w.new.bytes
         (S.content source.old) table.now.at h.first h.end) }
     ensures held { IfOk result (λ h. HoldsEntry h.first h.end i table.now.count) }
-    ensures faults { S.read_faults source.old ≤ S.read_faults source.new }
-    ensures cause { IfErr result (λ e. ReadCause e (S.read_faults source.old) (S.read_faults source.new)
-        (IsTrue S.tells → table.now.at + 108 * table.now.count ≤ length (S.content source.old) → ⊥)) }
-    ensures clean { OnOk result (S.read_faults source.new ≡ S.read_faults source.old) }
-    ensures failed { full_handed result ≡ 0 }
 {
     if i < held.end {
         return Ok(held);
@@ -195,25 +180,16 @@ fn next_entry<S: Source>(
 ) -> Result<RamdiskEntry, SectionFault>
     requires near { table.now.at < 2 ^ 62 }
     requires there { i < table.now.count }
-    requires from { held.old.first ≤ i }
-    requires to { i ≤ held.old.end }
-    requires few { held.old.end ≤ held.old.first + 606 }
-    requires last { held.old.end ≤ table.now.count }
+    requires next { ComesNext held.old.first held.old.end i table.now.count }
     requires stand { IsTrue S.tells → EntriesStand w.old.bytes (S.content source.old) table.now.at held.old.first
         held.old.end }
-    ensures content { IsTrue S.tells → S.content source.new ≡ S.content source.old }
-    ensures size { IsTrue S.tells → S.size source.new ≡ S.size source.old }
-    ensures frame { S.read_frame source.new ≡ S.read_frame source.old }
+    ensures reads { ReadsUnless result S.Source source.old source.new
+        (IsTrue S.tells → table.now.at + 108 * table.now.count ≤ length (S.content source.old) → ⊥) }
     ensures entry { IsTrue S.tells → IfOk result (λ e. e ≡ entry_at (take 108
         (drop (table.now.at + 108 * i) (S.content source.old)))) }
     ensures stand { IsTrue S.tells → OnOk result (EntriesStand w.new.bytes
         (S.content source.old) table.now.at held.new.first held.new.end) }
     ensures held { OnOk result (HoldsEntry held.new.first held.new.end i table.now.count) }
-    ensures faults { S.read_faults source.old ≤ S.read_faults source.new }
-    ensures cause { IfErr result (λ e. ReadCause e (S.read_faults source.old) (S.read_faults source.new)
-        (IsTrue S.tells → table.now.at + 108 * table.now.count ≤ length (S.content source.old) → ⊥)) }
-    ensures clean { OnOk result (S.read_faults source.new ≡ S.read_faults source.old) }
-    ensures failed { full_handed result ≡ 0 }
 {
     match hold_entry(table, i, *held, source, w, m) {
         Ok(now) => *held = now,
@@ -236,19 +212,13 @@ pub(crate) fn check_entries<S: Source>(
     w: &mut Window,
     m: &mut Meter,
 ) -> Result<(), SectionFault>
-    ensures content { IsTrue S.tells → S.content source.new ≡ S.content source.old }
-    ensures size { IsTrue S.tells → S.size source.new ≡ S.size source.old }
-    ensures frame { S.read_frame source.new ≡ S.read_frame source.old }
+    ensures reads { OpensUnless result S.Source source.old source.new
+        (IsTrue S.tells → beyond (header_spec.places_of (header_spec.view_of header.now))
+        (length (S.content source.old)) ≡ None → ⊥) }
     ensures found { IsTrue S.tells → beyond (header_spec.places_of (header_spec.view_of header.now))
         (length (S.content source.old)) ≡ None → MatchResult result (λ _. header_spec.EachWithin (S.content source.old)
         (header_spec.view_of header.now)) (λ f. EntryRefusedAs (S.content source.old)
         (header_spec.view_of header.now) f) }
-    ensures faults { S.read_faults source.old ≤ S.read_faults source.new }
-    ensures cause { IfErr result (λ e. OpenCause e (S.read_faults source.old) (S.read_faults source.new)
-        (IsTrue S.tells → beyond (header_spec.places_of (header_spec.view_of header.now))
-        (length (S.content source.old)) ≡ None → ⊥)) }
-    ensures clean { OnOk result (S.read_faults source.new ≡ S.read_faults source.old) }
-    ensures failed { full_handed result ≡ 0 }
 {
     let table = table_of(header);
     let mut held = Held { first: 0, end: 0 };
@@ -287,19 +257,13 @@ pub fn fragment<S: Source>(
     m: &mut Meter,
 ) -> Result<RamdiskEntry, SectionFault>
     requires { i < header_spec.fragment_count (header_spec.view_of image.now.header) }
-    ensures content { IsTrue S.tells → S.content source.new ≡ S.content source.old }
-    ensures size { IsTrue S.tells → S.size source.new ≡ S.size source.old }
-    ensures frame { S.read_frame source.new ≡ S.read_frame source.old }
+    ensures reads { ReadsUnless result S.Source source.old source.new
+        (IsTrue S.tells → IsOpened (S.content source.old) image.now → ⊥) }
     ensures entry { IsTrue S.tells → IfOk result (λ e. e ≡ header_spec.entry_of (S.content source.old)
         (header_spec.view_of image.now.header) i) }
     ensures within { IfOk result (λ e. header_spec.IsWithin (header_spec.view_of image.now.header) e) }
     ensures changed { (S.size source.old ≡ image.now.length → ⊥) → (result ≡ Err SectionFault.SourceChanged) ×
         (source.new ≡ source.old) }
-    ensures faults { S.read_faults source.old ≤ S.read_faults source.new }
-    ensures cause { IfErr result (λ e. ReadCause e (S.read_faults source.old) (S.read_faults source.new)
-        (IsTrue S.tells → IsOpened (S.content source.old) image.now → ⊥)) }
-    ensures clean { OnOk result (S.read_faults source.new ≡ S.read_faults source.old) }
-    ensures failed { full_handed result ≡ 0 }
 {
     if !is_as_long(image, source) {
         return Err(SectionFault::SourceChanged);
@@ -322,17 +286,11 @@ pub(crate) fn fragments_fill<S: Source>(
     w: &mut Window,
     m: &mut Meter,
 ) -> Result<bool, SectionFault>
-    ensures content { IsTrue S.tells → S.content source.new ≡ S.content source.old }
-    ensures size { IsTrue S.tells → S.size source.new ≡ S.size source.old }
-    ensures frame { S.read_frame source.new ≡ S.read_frame source.old }
+    ensures reads { ReadsUnless result S.Source source.old source.new
+        (IsTrue S.tells → beyond (header_spec.places_of (header_spec.view_of header.now))
+        (length (S.content source.old)) ≡ None → ⊥) }
     ensures value { IsTrue S.tells → IfOk result (λ b. IsTrue b ↔ FragmentsFill (S.content source.old)
         (header_spec.view_of header.now)) }
-    ensures faults { S.read_faults source.old ≤ S.read_faults source.new }
-    ensures cause { IfErr result (λ e. ReadCause e (S.read_faults source.old) (S.read_faults source.new)
-        (IsTrue S.tells → beyond (header_spec.places_of (header_spec.view_of header.now))
-        (length (S.content source.old)) ≡ None → ⊥)) }
-    ensures clean { OnOk result (S.read_faults source.new ≡ S.read_faults source.old) }
-    ensures failed { full_handed result ≡ 0 }
 {
     if !has_table(header) {
         return Ok(true);

@@ -4,12 +4,15 @@ ghost use Rattle.std.specs.Prelude.{◌≡◌, ◌<◌, ◌≤◌, ◌+◌, ◌-
 ghost use Rattle.std.specs.Prelude.{Err, None, length, map, take, drop, replicate};
 ghost use Rattle.byteorder.specs.Endian.{little_bytes};
 ghost use Rattle.sha1.specs.Sha1.{Holds, sha1};
+ghost use Rattle.abt_io.specs.Lent.{OnlyReadsAll};
 ghost use Rattle.abt_headers.specs.Places.{EachLow};
-ghost use Rattle.abt_sections.specs.Cause.{ReadCause, PackCause, total, full_handed};
+ghost use Rattle.abt_sections.specs.Cause.{PackCause, total, full_handed};
 ghost use Rattle.abt_sections.specs.Fields.{filled};
 ghost use Rattle.abt_sections.specs.Id.{id_of, sized_parts};
 ghost use Rattle.abt_sections.specs.Layout.{parts_of};
+ghost use Rattle.abt_sections.specs.Moves.{ReadsAllUnless};
 ghost use Rattle.abt_sections.specs.Open.{beyond};
+ghost use Rattle.abt_sections.specs.Reads.{ReadsUnless};
 ghost use Rattle.abt_sections.specs.Refusal.{boot_names, size_refusal, IfRefused};
 
 use crate::fault::SectionFault;
@@ -29,17 +32,11 @@ fn hash_range<S: Source>(
     m: &mut Meter,
 ) -> Result<(), SectionFault>
     requires { from + n < 2 ^ 64 }
-    ensures content { IsTrue S.tells → S.content source.new ≡ S.content source.old }
-    ensures size { IsTrue S.tells → S.size source.new ≡ S.size source.old }
-    ensures frame { S.read_frame source.new ≡ S.read_frame source.old }
+    ensures reads { ReadsUnless result S.Source source.old source.new
+        (IsTrue S.tells → (0 < n → from + n ≤ length (S.content source.old)) → ⊥) }
     ensures present { IsTrue S.tells → OnOk result (0 < n → from + n ≤ length (S.content source.old)) }
     ensures hashed { IsTrue S.tells → OnOk result ((t : List ℕ) → Holds hasher.old t →
         Holds hasher.new (t ++ take n (drop from (S.content source.old)))) }
-    ensures faults { S.read_faults source.old ≤ S.read_faults source.new }
-    ensures cause { IfErr result (λ e. ReadCause e (S.read_faults source.old) (S.read_faults source.new)
-        (IsTrue S.tells → (0 < n → from + n ≤ length (S.content source.old)) → ⊥)) }
-    ensures clean { OnOk result (S.read_faults source.new ≡ S.read_faults source.old) }
-    ensures failed { full_handed result ≡ 0 }
 {
     let mut at = 0;
     while at < n {
@@ -80,16 +77,10 @@ fn hash_part<S: Source>(
     w: &mut Window,
     m: &mut Meter,
 ) -> Result<(), SectionFault>
-    ensures content { IsTrue S.tells → S.content part.new ≡ S.content part.old }
-    ensures size { IsTrue S.tells → S.size part.new ≡ S.size part.old }
-    ensures frame { S.read_frame part.new ≡ S.read_frame part.old }
+    ensures reads { ReadsUnless result S.Source part.old part.new
+        (IsTrue S.tells → S.size part.old ≡ size → ⊥) }
     ensures hashed { IsTrue S.tells → OnOk result ((parts : List (List ℕ)) → Holds hasher.old (sized_parts parts) →
         Holds hasher.new (sized_parts (parts ++ (S.content part.old ∷ [])))) }
-    ensures faults { S.read_faults part.old ≤ S.read_faults part.new }
-    ensures cause { IfErr result (λ e. ReadCause e (S.read_faults part.old) (S.read_faults part.new)
-        (IsTrue S.tells → S.size part.old ≡ size → ⊥)) }
-    ensures clean { OnOk result (S.read_faults part.new ≡ S.read_faults part.old) }
-    ensures failed { full_handed result ≡ 0 }
 {
     if part.length() != size as u64 {
         return Err(SectionFault::SourceChanged);
@@ -110,15 +101,9 @@ pub(crate) fn hash_parts<S: Source>(
     m: &mut Meter,
 ) -> Result<[u8; 32], SectionFault>
     requires { length parts.old ≤ 5 }
-    ensures content { IsTrue S.tells → map S.content parts.new ≡ map S.content parts.old }
-    ensures size { IsTrue S.tells → map S.size parts.new ≡ map S.size parts.old }
-    ensures frame { map S.read_frame parts.new ≡ map S.read_frame parts.old }
+    ensures reads { ReadsAllUnless result S.Source parts.old parts.new
+        (IsTrue S.tells → sizes.now ≡ filled 5 (map S.size parts.old) → ⊥) }
     ensures id { IsTrue S.tells → IfOk result (λ d. d ≡ id_of (map S.content parts.old)) }
-    ensures faults { total S.read_faults parts.old ≤ total S.read_faults parts.new }
-    ensures cause { IfErr result (λ e. ReadCause e (total S.read_faults parts.old) (total S.read_faults parts.new)
-        (IsTrue S.tells → sizes.now ≡ filled 5 (map S.size parts.old) → ⊥)) }
-    ensures clean { OnOk result (total S.read_faults parts.new ≡ total S.read_faults parts.old) }
-    ensures failed { full_handed result ≡ 0 }
 {
     let mut hasher = Sha1::new();
     for i in 0..parts.len() {
@@ -145,15 +130,12 @@ pub fn image_id<S: Source>(
 ) -> Result<[u8; 32], SectionFault>
     requires version { version ≤ 2 }
     requires count { length parts.old ≡ length (boot_names version) }
-    ensures content { IsTrue S.tells → map S.content parts.new ≡ map S.content parts.old }
-    ensures frame { map S.read_frame parts.new ≡ map S.read_frame parts.old }
+    ensures reads { OnlyReadsAll result S.Source parts.old parts.new }
     ensures refused { IfRefused (size_refusal (boot_names version) (map S.size parts.old))
         (λ f. (result ≡ Err f) × (parts.new ≡ parts.old)) }
     ensures id { IsTrue S.tells → IfOk result (λ d. d ≡ id_of (map S.content parts.old)) }
-    ensures faults { total S.read_faults parts.old ≤ total S.read_faults parts.new }
     ensures cause { IfErr result (λ e. PackCause (size_refusal (boot_names version) (map S.size parts.old)) e
         (total S.read_faults parts.old) (total S.read_faults parts.new) 0 0 (IsTrue S.tells → ⊥)) }
-    ensures clean { OnOk result (total S.read_faults parts.new ≡ total S.read_faults parts.old) }
     ensures failed { full_handed result ≡ 0 }
 {
     let sizes = boot_sizes(version, parts, m)?;
@@ -168,15 +150,9 @@ pub(crate) fn stored_id<S: Source>(
     m: &mut Meter,
 ) -> Result<[u8; 32], SectionFault>
     requires { EachLow sections.now }
-    ensures content { IsTrue S.tells → S.content source.new ≡ S.content source.old }
-    ensures size { IsTrue S.tells → S.size source.new ≡ S.size source.old }
-    ensures frame { S.read_frame source.new ≡ S.read_frame source.old }
+    ensures reads { ReadsUnless result S.Source source.old source.new
+        (IsTrue S.tells → beyond sections.now (length (S.content source.old)) ≡ None → ⊥) }
     ensures id { IsTrue S.tells → IfOk result (λ d. d ≡ id_of (parts_of (S.content source.old) sections.now)) }
-    ensures faults { S.read_faults source.old ≤ S.read_faults source.new }
-    ensures cause { IfErr result (λ e. ReadCause e (S.read_faults source.old) (S.read_faults source.new)
-        (IsTrue S.tells → beyond sections.now (length (S.content source.old)) ≡ None → ⊥)) }
-    ensures clean { OnOk result (S.read_faults source.new ≡ S.read_faults source.old) }
-    ensures failed { full_handed result ≡ 0 }
 {
     let mut hasher = Sha1::new();
     for i in 0..sections.count() {

@@ -3,15 +3,16 @@
 //! What stands where a call here fails is said no closer than that the bytes before are kept (`grown`): its caller has
 //! zeros where the header will stand.
 
-ghost use Rattle.std.specs.Prelude.{◌≡◌, ◌<◌, ◌≤◌, ◌+◌, ◌*◌, ◌^◌, ◌++◌, ◌∷◌, [], ℕ, List, IsTrue, IfErr, OnOk};
-ghost use Rattle.std.specs.Prelude.{length, map, take, drop, sum};
+ghost use Rattle.std.specs.Prelude.{◌≡◌, ◌<◌, ◌≤◌, ◌+◌, ◌*◌, ◌^◌, ◌++◌, ◌∷◌, [], ℕ, List, IsTrue, OnOk, length, map};
+ghost use Rattle.std.specs.Prelude.{take, drop, sum};
 ghost use Rattle.sha1.specs.Sha1.{Holds};
 ghost use Rattle.abt_headers.specs.Page as of_page;
-ghost use Rattle.abt_sections.specs.Cause.{MoveCause, total, full_handed};
+ghost use Rattle.abt_sections.specs.Cause.{total};
 ghost use Rattle.abt_sections.specs.Fields.{filled};
-ghost use Rattle.abt_sections.specs.Grown.{Grows};
+ghost use Rattle.abt_sections.specs.Grown.{Grows, AddsUpTo};
 ghost use Rattle.abt_sections.specs.Id.{sized_parts};
 ghost use Rattle.abt_sections.specs.Layout as layout;
+ghost use Rattle.abt_sections.specs.Moves.{MovesUnless, MovesAllUnless};
 
 use crate::fault::SectionFault;
 use crate::reading::{next_ask, read_front};
@@ -41,9 +42,8 @@ fn move_step<S: Source, O: Output>(
 ) -> Result<(), SectionFault>
     requires room { ask ≤ 65536 }
     requires below { at + ask < 2 ^ 64 }
-    ensures content { IsTrue S.tells → S.content source.new ≡ S.content source.old }
-    ensures size { IsTrue S.tells → S.size source.new ≡ S.size source.old }
-    ensures frame { S.read_frame source.new ≡ S.read_frame source.old }
+    ensures moves { MovesUnless result S.Source source.old source.new O.Output output.old output.new
+        (IsTrue S.tells → (0 < ask → at + ask ≤ length (S.content source.old)) → ⊥) }
     ensures once { S.given source.new ≤ S.given source.old + ask }
     ensures present { IsTrue S.tells → OnOk result (0 < ask → at + ask ≤ length (S.content source.old)) }
     ensures written { IsTrue S.tells → OnOk result (O.written output.new ≡ O.written output.old
@@ -51,17 +51,7 @@ fn move_step<S: Source, O: Output>(
     ensures hashed { IsTrue id → IsTrue S.tells → OnOk result ((t : List ℕ) → Holds hasher.old t →
         Holds hasher.new (t ++ take ask (drop at (S.content source.old)))) }
     ensures grown { Grows (O.written output.old) (O.written output.new) }
-    ensures most { length (O.written output.new) ≤ length (O.written output.old) + ask }
-    ensures all { OnOk result (length (O.written output.new) ≡ length (O.written output.old) + ask) }
-    ensures write_frame { O.write_frame output.new ≡ O.write_frame output.old }
-    ensures read_faults { S.read_faults source.old ≤ S.read_faults source.new }
-    ensures write_faults { O.write_faults output.old ≤ O.write_faults output.new }
-    ensures cause { IfErr result (λ e. MoveCause e (S.read_faults source.old) (S.read_faults source.new)
-        (O.write_faults output.old) (O.write_faults output.new) (IsTrue S.tells →
-        (0 < ask → at + ask ≤ length (S.content source.old)) → ⊥)) }
-    ensures clean { OnOk result ((S.read_faults source.new ≡ S.read_faults source.old) ×
-        (O.write_faults output.new ≡ O.write_faults output.old)) }
-    ensures full_faults { O.full_faults output.new ≡ O.full_faults output.old + full_handed result }
+    ensures bytes { AddsUpTo result (O.written output.old) (O.written output.new) ask }
 {
     match read_front(source, at, ask, w, m) {
         Ok(()) => {}
@@ -86,26 +76,15 @@ fn move_bytes<S: Source, O: Output>(
     w: &mut Window,
     m: &mut Meter,
 ) -> Result<(), SectionFault>
-    ensures content { IsTrue S.tells → S.content part.new ≡ S.content part.old }
-    ensures size { IsTrue S.tells → S.size part.new ≡ S.size part.old }
-    ensures frame { S.read_frame part.new ≡ S.read_frame part.old }
+    ensures moves { MovesUnless result S.Source part.old part.new O.Output output.old output.new
+        (IsTrue S.tells → n ≤ length (S.content part.old) → ⊥) }
     ensures once { S.given part.new ≤ S.given part.old + n }
     ensures written { IsTrue S.tells → OnOk result (O.written output.new ≡ O.written output.old
         ++ take n (S.content part.old)) }
     ensures hashed { IsTrue id → IsTrue S.tells → OnOk result ((t : List ℕ) → Holds hasher.old t →
         Holds hasher.new (t ++ take n (S.content part.old))) }
     ensures grown { Grows (O.written output.old) (O.written output.new) }
-    ensures most { length (O.written output.new) ≤ length (O.written output.old) + n }
-    ensures all { OnOk result (length (O.written output.new) ≡ length (O.written output.old) + n) }
-    ensures write_frame { O.write_frame output.new ≡ O.write_frame output.old }
-    ensures read_faults { S.read_faults part.old ≤ S.read_faults part.new }
-    ensures write_faults { O.write_faults output.old ≤ O.write_faults output.new }
-    ensures cause { IfErr result (λ e. MoveCause e (S.read_faults part.old) (S.read_faults part.new)
-        (O.write_faults output.old) (O.write_faults output.new) (IsTrue S.tells → n ≤ length (S.content part.old) →
-        ⊥)) }
-    ensures clean { OnOk result ((S.read_faults part.new ≡ S.read_faults part.old) ×
-        (O.write_faults output.new ≡ O.write_faults output.old)) }
-    ensures full_faults { O.full_faults output.new ≡ O.full_faults output.old + full_handed result }
+    ensures bytes { AddsUpTo result (O.written output.old) (O.written output.new) n }
 {
     let mut at = 0;
     while at < n {
@@ -133,27 +112,16 @@ fn move_part<S: Source, O: Output>(
     m: &mut Meter,
 ) -> Result<(), SectionFault>
     requires { 0 < page }
-    ensures content { IsTrue S.tells → S.content part.new ≡ S.content part.old }
-    ensures size { IsTrue S.tells → S.size part.new ≡ S.size part.old }
-    ensures frame { S.read_frame part.new ≡ S.read_frame part.old }
+    ensures moves { MovesUnless result S.Source part.old part.new O.Output output.old output.new
+        (IsTrue S.tells → S.size part.old ≡ size → ⊥) }
     ensures once { S.given part.new ≤ S.given part.old + size }
     ensures written { IsTrue S.tells → OnOk result (O.written output.new ≡ O.written output.old
         ++ layout.padded page (S.content part.old)) }
     ensures hashed { IsTrue id → IsTrue S.tells → OnOk result ((parts : List (List ℕ)) →
         Holds hasher.old (sized_parts parts) → Holds hasher.new (sized_parts (parts ++ (S.content part.old ∷ [])))) }
     ensures grown { Grows (O.written output.old) (O.written output.new) }
-    ensures most { length (O.written output.new) ≤ length (O.written output.old) + of_page.pages size page * page }
-    ensures all { OnOk result (length (O.written output.new) ≡ length (O.written output.old) + of_page.pages size
-        page * page) }
+    ensures bytes { AddsUpTo result (O.written output.old) (O.written output.new) (of_page.pages size page * page) }
     ensures lasting { OnOk result ((S.size part.old ≡ size) × (S.size part.new ≡ size)) }
-    ensures write_frame { O.write_frame output.new ≡ O.write_frame output.old }
-    ensures read_faults { S.read_faults part.old ≤ S.read_faults part.new }
-    ensures write_faults { O.write_faults output.old ≤ O.write_faults output.new }
-    ensures cause { IfErr result (λ e. MoveCause e (S.read_faults part.old) (S.read_faults part.new)
-        (O.write_faults output.old) (O.write_faults output.new) (IsTrue S.tells → S.size part.old ≡ size → ⊥)) }
-    ensures clean { OnOk result ((S.read_faults part.new ≡ S.read_faults part.old) ×
-        (O.write_faults output.new ≡ O.write_faults output.old)) }
-    ensures full_faults { O.full_faults output.new ≡ O.full_faults output.old + full_handed result }
 {
     let _free = padding(size as u64, page);
     if part.length() != size as u64 {
@@ -184,28 +152,17 @@ pub(crate) fn move_parts<S: Source, O: Output>(
 ) -> Result<(), SectionFault>
     requires some { 0 < page }
     requires few { length parts.old ≤ 5 }
-    ensures content { IsTrue S.tells → map S.content parts.new ≡ map S.content parts.old }
-    ensures frame { map S.read_frame parts.new ≡ map S.read_frame parts.old }
+    ensures moves { MovesAllUnless result S.Source parts.old parts.new O.Output output.old output.new
+        (IsTrue S.tells → sizes.now ≡ filled 5 (map S.size parts.old) → ⊥) }
     ensures once { total S.given parts.new ≤ total S.given parts.old + sum (take (length parts.old) sizes.now) }
     ensures written { IsTrue S.tells → OnOk result (O.written output.new ≡ O.written output.old
         ++ layout.laid page (map S.content parts.old)) }
     ensures hashed { IsTrue id → IsTrue S.tells → OnOk result (Holds hasher.old [] →
         Holds hasher.new (sized_parts (map S.content parts.old))) }
     ensures grown { Grows (O.written output.old) (O.written output.new) }
-    ensures most { length (O.written output.new) ≤ length (O.written output.old) + layout.laid_size page
-        (take (length parts.old) sizes.now) }
-    ensures all { OnOk result (length (O.written output.new) ≡ length (O.written output.old) + layout.laid_size page
-        (take (length parts.old) sizes.now)) }
+    ensures bytes { AddsUpTo result (O.written output.old) (O.written output.new)
+        (layout.laid_size page (take (length parts.old) sizes.now)) }
     ensures lasting { OnOk result (map S.size parts.new ≡ take (length parts.old) sizes.now) }
-    ensures write_frame { O.write_frame output.new ≡ O.write_frame output.old }
-    ensures read_faults { total S.read_faults parts.old ≤ total S.read_faults parts.new }
-    ensures write_faults { O.write_faults output.old ≤ O.write_faults output.new }
-    ensures cause { IfErr result (λ e. MoveCause e (total S.read_faults parts.old) (total S.read_faults parts.new)
-        (O.write_faults output.old) (O.write_faults output.new) (IsTrue S.tells →
-        sizes.now ≡ filled 5 (map S.size parts.old) → ⊥)) }
-    ensures clean { OnOk result ((total S.read_faults parts.new ≡ total S.read_faults parts.old) ×
-        (O.write_faults output.new ≡ O.write_faults output.old)) }
-    ensures full_faults { O.full_faults output.new ≡ O.full_faults output.old + full_handed result }
 {
     for i in 0..parts.len() {
         m.tick();

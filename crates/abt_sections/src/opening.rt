@@ -1,8 +1,8 @@
 //! Opening an image: its header, its sections against the source's length, and its table of ramdisk fragments.
 
-ghost use Rattle.std.specs.Prelude.{◌≡◌, ◌<◌, ◌≤◌, ◌+◌, ◌*◌, ◌^◌, IsTrue, IfOk, IfErr, OnOk, MatchResult, Ok, Err};
+ghost use Rattle.std.specs.Prelude.{◌≡◌, ◌<◌, ◌≤◌, ◌+◌, ◌*◌, ◌^◌, IsTrue, IfOk, MatchResult, Ok, Err};
 ghost use Rattle.std.specs.Prelude.{length, take, drop, min};
-ghost use Rattle.abt_sections.specs.Cause.{OpenCause, full_handed};
+ghost use Rattle.abt_sections.specs.Reads.{OpensUnless};
 ghost use Rattle.abt_sections.specs.Header as header_spec;
 ghost use Rattle.abt_sections.specs.Open.{beyond, ends_beyond, OpensAs, RefusedAs};
 
@@ -29,8 +29,8 @@ fn is_vendor(bytes: &[u8]) -> bool
 
 /// The header whose record stands at the front, or the first fault.
 fn decode_header(bytes: &[u8]) -> Result<ImageHeader, HeaderFault>
-    ensures { MatchResult result (λ h. header_spec.header_at bytes.now ≡ Ok (header_spec.view_of h))
-        (λ f. header_spec.header_at bytes.now ≡ Err f) }
+    ensures { MatchResult result (λ h. header_spec.image_header_at bytes.now ≡ Ok (header_spec.view_of h))
+        (λ f. header_spec.image_header_at bytes.now ≡ Err f) }
 {
     if is_vendor(bytes) {
         match VendorHeader::decode(bytes) {
@@ -86,17 +86,11 @@ fn read_header<S: Source>(
     w: &mut Window,
     m: &mut Meter,
 ) -> Result<ImageHeader, SectionFault>
-    ensures content { IsTrue S.tells → S.content source.new ≡ S.content source.old }
-    ensures size { IsTrue S.tells → S.size source.new ≡ S.size source.old }
-    ensures frame { S.read_frame source.new ≡ S.read_frame source.old }
-    ensures faults { S.read_faults source.old ≤ S.read_faults source.new }
+    ensures reads { OpensUnless result S.Source source.old source.new
+        (IsTrue S.tells → bytes ≡ length (S.content source.old) → ⊥) }
     ensures found { IsTrue S.tells → bytes ≡ length (S.content source.old) →
-        MatchResult result (λ h. header_spec.header_at (S.content source.old) ≡ Ok (header_spec.view_of h))
+        MatchResult result (λ h. header_spec.image_header_at (S.content source.old) ≡ Ok (header_spec.view_of h))
         (λ f. RefusedAs (S.content source.old) f) }
-    ensures cause { IfErr result (λ e. OpenCause e (S.read_faults source.old) (S.read_faults source.new)
-        (IsTrue S.tells → bytes ≡ length (S.content source.old) → ⊥)) }
-    ensures clean { OnOk result (S.read_faults source.new ≡ S.read_faults source.old) }
-    ensures failed { full_handed result ≡ 0 }
 {
     front_decides();
     vendor_front_decides();
@@ -122,16 +116,9 @@ fn read_header<S: Source>(
 /// with the first section that isn't empty and ends past the source, `Entry` with the first ramdisk fragment that ends
 /// past the vendor ramdisk.
 pub fn open<S: Source>(source: &mut S, w: &mut Window, m: &mut Meter) -> Result<Image, SectionFault>
-    ensures content { IsTrue S.tells → S.content source.new ≡ S.content source.old }
-    ensures size { IsTrue S.tells → S.size source.new ≡ S.size source.old }
-    ensures frame { S.read_frame source.new ≡ S.read_frame source.old }
+    ensures reads { OpensUnless result S.Source source.old source.new (IsTrue S.tells → ⊥) }
     ensures opens { IsTrue S.tells → OpensAs (S.content source.old) result }
     ensures length { IfOk result (λ image. image.length ≡ S.size source.old) }
-    ensures faults { S.read_faults source.old ≤ S.read_faults source.new }
-    ensures cause { IfErr result (λ e. OpenCause e (S.read_faults source.old) (S.read_faults source.new)
-        (IsTrue S.tells → ⊥)) }
-    ensures clean { OnOk result (S.read_faults source.new ≡ S.read_faults source.old) }
-    ensures failed { full_handed result ≡ 0 }
 {
     let length = source.length();
     let header = match read_header(source, length, w, m) {

@@ -1,14 +1,16 @@
 //! Packing a boot image.
 
-ghost use Rattle.std.specs.Prelude.{◌≡◌, ◌<◌, ◌≤◌, ◌+◌, ◌-◌, ◌*◌, ◌^◌, ◌++◌, IsTrue, IfOk, IfErr, OnOk, Err, length};
-ghost use Rattle.std.specs.Prelude.{map, take};
+ghost use Rattle.std.specs.Prelude.{◌≡◌, ◌<◌, ◌≤◌, ◌+◌, ◌-◌, ◌*◌, ◌++◌, IsTrue, IfOk, IfErr, OnOk, Err, length, map};
+ghost use Rattle.std.specs.Prelude.{take};
+ghost use Rattle.abt_io.specs.Lent.{OnlyReadsAll, OnlyWrites};
 ghost use Rattle.abt_headers.specs.Boot.{boot_page, boot_record, boot_size};
 ghost use Rattle.abt_headers.specs.Page as of_page;
 ghost use Rattle.abt_sections.specs.BootCanon as canon;
-ghost use Rattle.abt_sections.specs.Cause.{MoveCause, ReadCause, PackCause, total, full_handed};
+ghost use Rattle.abt_sections.specs.Cause.{PackCause, total, full_handed};
 ghost use Rattle.abt_sections.specs.Fields.{boot_fields, filled};
-ghost use Rattle.abt_sections.specs.Grown.{Begins};
+ghost use Rattle.abt_sections.specs.Grown.{AppendsFront, AddsUpTo};
 ghost use Rattle.abt_sections.specs.Layout as layout;
+ghost use Rattle.abt_sections.specs.Moves.{MovesAllUnless, ReadsAllUnless, WritesAlone};
 ghost use Rattle.abt_sections.specs.Refusal.{boot_names, pack_boot_refusal, IfRefused};
 
 use crate::boot_header::{boot_header_for, check_boot_spec};
@@ -29,15 +31,9 @@ fn id_for<S: Source>(
     m: &mut Meter,
 ) -> Result<[u8; 32], SectionFault>
     requires { length parts.old ≤ 5 }
-    ensures content { IsTrue S.tells → map S.content parts.new ≡ map S.content parts.old }
-    ensures size { IsTrue S.tells → map S.size parts.new ≡ map S.size parts.old }
-    ensures frame { map S.read_frame parts.new ≡ map S.read_frame parts.old }
+    ensures reads { ReadsAllUnless result S.Source parts.old parts.new
+        (IsTrue S.tells → sizes.now ≡ filled 5 (map S.size parts.old) → ⊥) }
     ensures id { IsTrue S.tells → IfOk result (λ d. d ≡ canon.id_for version (map S.content parts.old)) }
-    ensures faults { total S.read_faults parts.old ≤ total S.read_faults parts.new }
-    ensures cause { IfErr result (λ e. ReadCause e (total S.read_faults parts.old) (total S.read_faults parts.new)
-        (IsTrue S.tells → sizes.now ≡ filled 5 (map S.size parts.old) → ⊥)) }
-    ensures clean { OnOk result (total S.read_faults parts.new ≡ total S.read_faults parts.old) }
-    ensures failed { full_handed result ≡ 0 }
 {
     if version < 3 {
         hash_parts(parts, sizes, w, m)
@@ -55,18 +51,11 @@ fn write_header<O: Output>(
 ) -> Result<(), SectionFault>
     ensures written { OnOk result (O.written output.new ≡ O.written output.old
         ++ layout.padded (boot_page header.now) (boot_record header.now)) }
-    ensures front { Begins (O.written output.old) (O.written output.new)
+    ensures front { AppendsFront (O.written output.old) (O.written output.new)
         (layout.padded (boot_page header.now) (boot_record header.now)) }
-    ensures least { length (O.written output.old) ≤ length (O.written output.new) }
-    ensures most { length (O.written output.new) ≤ length (O.written output.old) + of_page.pages (boot_size header.now)
-        (boot_page header.now) * boot_page header.now }
-    ensures all { OnOk result (length (O.written output.new) ≡ length (O.written output.old) + of_page.pages
-        (boot_size header.now) (boot_page header.now) * boot_page header.now) }
-    ensures write_frame { O.write_frame output.new ≡ O.write_frame output.old }
-    ensures write_faults { O.write_faults output.old ≤ O.write_faults output.new }
-    ensures cause { IfErr result (λ e. MoveCause e 0 0 (O.write_faults output.old) (O.write_faults output.new) ⊥) }
-    ensures clean { OnOk result (O.write_faults output.new ≡ O.write_faults output.old) }
-    ensures full_faults { O.full_faults output.new ≡ O.full_faults output.old + full_handed result }
+    ensures writes { WritesAlone result O.Output output.old output.new }
+    ensures bytes { AddsUpTo result (O.written output.old) (O.written output.new)
+        (of_page.pages (boot_size header.now) (boot_page header.now) * boot_page header.now) }
 {
     let mut record = [0u8; 1660];
     let size = header.encode(&mut record);
@@ -83,27 +72,15 @@ fn write_image<S: Source, O: Output>(
     m: &mut Meter,
 ) -> Result<(), SectionFault>
     requires { length parts.old ≤ 5 }
-    ensures content { IsTrue S.tells → map S.content parts.new ≡ map S.content parts.old }
-    ensures frame { map S.read_frame parts.new ≡ map S.read_frame parts.old }
+    ensures moves { MovesAllUnless result S.Source parts.old parts.new O.Output output.old output.new
+        (IsTrue S.tells → sizes.now ≡ filled 5 (map S.size parts.old) → ⊥) }
     ensures written { IsTrue S.tells → OnOk result (O.written output.new ≡ O.written output.old
         ++ canon.boot_image header.now (map S.content parts.old)) }
-    ensures front { IsTrue S.tells → Begins (O.written output.old) (O.written output.new)
+    ensures front { IsTrue S.tells → AppendsFront (O.written output.old) (O.written output.new)
         (canon.boot_image header.now (map S.content parts.old)) }
-    ensures least { length (O.written output.old) ≤ length (O.written output.new) }
-    ensures most { length (O.written output.new) ≤ length (O.written output.old) + canon.image_size
-        (boot_page header.now) (boot_size header.now) (take (length parts.old) sizes.now) }
-    ensures all { OnOk result (length (O.written output.new) ≡ length (O.written output.old) + canon.image_size
-        (boot_page header.now) (boot_size header.now) (take (length parts.old) sizes.now)) }
+    ensures bytes { AddsUpTo result (O.written output.old) (O.written output.new)
+        (canon.image_size (boot_page header.now) (boot_size header.now) (take (length parts.old) sizes.now)) }
     ensures lasting { OnOk result (map S.size parts.new ≡ take (length parts.old) sizes.now) }
-    ensures write_frame { O.write_frame output.new ≡ O.write_frame output.old }
-    ensures read_faults { total S.read_faults parts.old ≤ total S.read_faults parts.new }
-    ensures write_faults { O.write_faults output.old ≤ O.write_faults output.new }
-    ensures cause { IfErr result (λ e. MoveCause e (total S.read_faults parts.old) (total S.read_faults parts.new)
-        (O.write_faults output.old) (O.write_faults output.new) (IsTrue S.tells →
-        sizes.now ≡ filled 5 (map S.size parts.old) → ⊥)) }
-    ensures clean { OnOk result ((total S.read_faults parts.new ≡ total S.read_faults parts.old) ×
-        (O.write_faults output.new ≡ O.write_faults output.old)) }
-    ensures full_faults { O.full_faults output.new ≡ O.full_faults output.old + full_handed result }
 {
     match write_header(header, output, w, m) {
         Ok(()) => {}
@@ -130,29 +107,22 @@ pub fn pack_boot<S: Source, O: Output>(
     m: &mut Meter,
 ) -> Result<Packed, SectionFault>
     requires { spec.now.version ≤ 4 → length parts.old ≡ length (boot_names spec.now.version) }
-    ensures content { IsTrue S.tells → map S.content parts.new ≡ map S.content parts.old }
-    ensures frame { map S.read_frame parts.new ≡ map S.read_frame parts.old }
-    ensures write_frame { O.write_frame output.new ≡ O.write_frame output.old }
+    ensures reads { OnlyReadsAll result S.Source parts.old parts.new }
+    ensures writes { OnlyWrites result (full_handed result) O.Output output.old output.new }
     ensures refused { IfRefused (pack_boot_refusal (boot_fields spec.now) (map S.size parts.old))
         (λ f. (result ≡ Err f) × (output.new ≡ output.old)) }
     ensures written { IsTrue S.tells → OnOk result (O.written output.new ≡ O.written output.old
         ++ canon.boot_canon (boot_fields spec.now) (map S.content parts.old)) }
-    ensures front { IsTrue S.tells → Begins (O.written output.old) (O.written output.new)
+    ensures front { IsTrue S.tells → AppendsFront (O.written output.old) (O.written output.new)
         (canon.boot_canon (boot_fields spec.now) (map S.content parts.old)) }
-    ensures least { length (O.written output.old) ≤ length (O.written output.new) }
     ensures most { length (O.written output.new) ≤ length (O.written output.old) + canon.boot_image_size
         (boot_fields spec.now) (map S.size parts.old) }
     ensures packed { IfOk result (λ p. (p.bytes ≡ canon.boot_image_size (boot_fields spec.now)
         (map S.size parts.old)) × (length (O.written output.new) ≡ length (O.written output.old) + p.bytes)) }
     ensures lasting { OnOk result (map S.size parts.new ≡ map S.size parts.old) }
-    ensures read_faults { total S.read_faults parts.old ≤ total S.read_faults parts.new }
-    ensures write_faults { O.write_faults output.old ≤ O.write_faults output.new }
     ensures cause { IfErr result (λ e. PackCause (pack_boot_refusal (boot_fields spec.now) (map S.size parts.old)) e
         (total S.read_faults parts.old) (total S.read_faults parts.new) (O.write_faults output.old)
         (O.write_faults output.new) (IsTrue S.tells → ⊥)) }
-    ensures clean { OnOk result ((total S.read_faults parts.new ≡ total S.read_faults parts.old) ×
-        (O.write_faults output.new ≡ O.write_faults output.old)) }
-    ensures full_faults { O.full_faults output.new ≡ O.full_faults output.old + full_handed result }
 {
     let page = check_boot_spec(spec, m)?;
     let sizes = boot_sizes(spec.version, parts, m)?;

@@ -1,8 +1,8 @@
 //! Reading one ask from a source to the window's front.
 
-ghost use Rattle.std.specs.Prelude.{◌≡◌, ◌<◌, ◌≤◌, ◌+◌, ◌^◌, IsTrue, IfErr, OnOk, OnErr, length, take, drop};
+ghost use Rattle.std.specs.Prelude.{◌≡◌, ◌<◌, ◌≤◌, ◌+◌, ◌^◌, IsTrue, OnOk, OnErr, length, take, drop};
 ghost use Rattle.std.specs.Prelude.{slice_range};
-ghost use Rattle.abt_sections.specs.Cause.{ReadCause, full_handed};
+ghost use Rattle.abt_sections.specs.Reads.{ReadsUnless};
 
 use crate::fault::SectionFault;
 use abt_io::{Meter, Source, Window, read_full_at};
@@ -18,18 +18,12 @@ pub(crate) fn read_front<S: Source>(
 ) -> Result<(), SectionFault>
     requires room { ask ≤ 65536 }
     requires below { at + ask < 2 ^ 64 }
-    ensures content { IsTrue S.tells → S.content source.new ≡ S.content source.old }
-    ensures size { IsTrue S.tells → S.size source.new ≡ S.size source.old }
-    ensures frame { S.read_frame source.new ≡ S.read_frame source.old }
+    ensures reads { ReadsUnless result S.Source source.old source.new
+        (IsTrue S.tells → (0 < ask → at + ask ≤ length (S.content source.old)) → ⊥) }
     ensures given { S.given source.new ≤ S.given source.old + ask }
     ensures present { IsTrue S.tells → OnOk result (0 < ask → at + ask ≤ length (S.content source.old)) }
     ensures bytes { IsTrue S.tells → OnOk result (slice_range w.new.bytes 0 ask
         ≡ take ask (drop at (S.content source.old))) }
-    ensures faults { S.read_faults source.old ≤ S.read_faults source.new }
-    ensures cause { IfErr result (λ e. ReadCause e (S.read_faults source.old) (S.read_faults source.new)
-        (IsTrue S.tells → (0 < ask → at + ask ≤ length (S.content source.old)) → ⊥)) }
-    ensures clean { OnOk result (S.read_faults source.new ≡ S.read_faults source.old) }
-    ensures failed { full_handed result ≡ 0 }
     ensures open { OnOk result (m.new.steps.number ≡ m.old.steps.number) }
     ensures ended { OnErr result (m.new.steps.number ≡ m.old.steps.number + 1) }
 {

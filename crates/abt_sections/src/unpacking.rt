@@ -1,12 +1,12 @@
 //! Taking sections and ramdisk fragments out of an image.
 
-ghost use Rattle.std.specs.Prelude.{◌≡◌, ◌<◌, ◌≤◌, ◌+◌, ◌-◌, ◌^◌, ◌++◌, IsTrue, IfErr, OnOk, Err, length, take, drop};
+ghost use Rattle.std.specs.Prelude.{◌≡◌, ◌<◌, ◌≤◌, ◌+◌, ◌-◌, ◌^◌, ◌++◌, IsTrue, OnOk, Err, length, take, drop};
 ghost use Rattle.std.specs.Prelude.{slice_index_or};
 ghost use Rattle.abt_headers.specs.declared.sections.Place.{Place};
-ghost use Rattle.abt_sections.specs.Cause.{MoveCause, full_handed};
-ghost use Rattle.abt_sections.specs.Grown.{Begins};
+ghost use Rattle.abt_sections.specs.Grown.{AddsUpTo, AppendsFront};
 ghost use Rattle.abt_sections.specs.Header as header_spec;
 ghost use Rattle.abt_sections.specs.Layout.{part_of};
+ghost use Rattle.abt_sections.specs.Moves.{MovesUnless};
 ghost use Rattle.abt_sections.specs.Open.{IsOpened};
 
 use crate::fault::SectionFault;
@@ -26,25 +26,13 @@ fn copy_part<S: Source, O: Output>(
     m: &mut Meter,
 ) -> Result<(), SectionFault>
     requires { at < 2 ^ 63 }
-    ensures content { IsTrue S.tells → S.content source.new ≡ S.content source.old }
-    ensures size { IsTrue S.tells → S.size source.new ≡ S.size source.old }
-    ensures frame { S.read_frame source.new ≡ S.read_frame source.old }
-    ensures write_frame { O.write_frame output.new ≡ O.write_frame output.old }
+    ensures moves { MovesUnless result S.Source source.old source.new O.Output output.old output.new
+        (IsTrue S.tells → (0 < size → at + size ≤ length (S.content source.old)) → ⊥) }
     ensures written { IsTrue S.tells → OnOk result (O.written output.new ≡ O.written output.old
         ++ take size (drop at (S.content source.old))) }
-    ensures front { IsTrue S.tells → Begins (O.written output.old) (O.written output.new)
+    ensures front { IsTrue S.tells → AppendsFront (O.written output.old) (O.written output.new)
         (take size (drop at (S.content source.old))) }
-    ensures least { length (O.written output.old) ≤ length (O.written output.new) }
-    ensures most { length (O.written output.new) ≤ length (O.written output.old) + size }
-    ensures all { OnOk result (length (O.written output.new) ≡ length (O.written output.old) + size) }
-    ensures read_faults { S.read_faults source.old ≤ S.read_faults source.new }
-    ensures write_faults { O.write_faults output.old ≤ O.write_faults output.new }
-    ensures cause { IfErr result (λ e. MoveCause e (S.read_faults source.old) (S.read_faults source.new)
-        (O.write_faults output.old) (O.write_faults output.new) (IsTrue S.tells →
-        (0 < size → at + size ≤ length (S.content source.old)) → ⊥)) }
-    ensures clean { OnOk result ((S.read_faults source.new ≡ S.read_faults source.old) ×
-        (O.write_faults output.new ≡ O.write_faults output.old)) }
-    ensures full_faults { O.full_faults output.new ≡ O.full_faults output.old + full_handed result }
+    ensures bytes { AddsUpTo result (O.written output.old) (O.written output.new) size }
 {
     if size == 0 {
         return Ok(());
@@ -69,30 +57,18 @@ pub fn unpack<S: Source, O: Output>(
     m: &mut Meter,
 ) -> Result<(), SectionFault>
     requires { i < length (header_spec.places_of (header_spec.view_of image.now.header)) }
-    ensures content { IsTrue S.tells → S.content source.new ≡ S.content source.old }
-    ensures size { IsTrue S.tells → S.size source.new ≡ S.size source.old }
-    ensures frame { S.read_frame source.new ≡ S.read_frame source.old }
-    ensures write_frame { O.write_frame output.new ≡ O.write_frame output.old }
+    ensures moves { MovesUnless result S.Source source.old source.new O.Output output.old output.new
+        (IsTrue S.tells → IsOpened (S.content source.old) image.now → ⊥) }
     ensures written { (p : Place) → p ≡ slice_index_or (header_spec.places_of (header_spec.view_of image.now.header)) i
         p → IsTrue S.tells → OnOk result (O.written output.new ≡ O.written output.old
         ++ part_of (S.content source.old) p) }
     ensures front { (p : Place) → p ≡ slice_index_or (header_spec.places_of (header_spec.view_of image.now.header)) i
-        p → IsTrue S.tells → Begins (O.written output.old) (O.written output.new) (part_of (S.content source.old) p) }
-    ensures least { length (O.written output.old) ≤ length (O.written output.new) }
-    ensures most { (p : Place) → p ≡ slice_index_or (header_spec.places_of (header_spec.view_of image.now.header)) i
-        p → length (O.written output.new) ≤ length (O.written output.old) + p.size }
-    ensures all { (p : Place) → p ≡ slice_index_or (header_spec.places_of (header_spec.view_of image.now.header)) i p →
-        OnOk result (length (O.written output.new) ≡ length (O.written output.old) + p.size) }
+        p → IsTrue S.tells → AppendsFront (O.written output.old) (O.written output.new)
+        (part_of (S.content source.old) p) }
+    ensures bytes { (p : Place) → p ≡ slice_index_or (header_spec.places_of (header_spec.view_of image.now.header)) i
+        p → AddsUpTo result (O.written output.old) (O.written output.new) p.size }
     ensures changed { (S.size source.old ≡ image.now.length → ⊥) → (result ≡ Err SectionFault.SourceChanged) ×
         (source.new ≡ source.old) × (output.new ≡ output.old) }
-    ensures read_faults { S.read_faults source.old ≤ S.read_faults source.new }
-    ensures write_faults { O.write_faults output.old ≤ O.write_faults output.new }
-    ensures cause { IfErr result (λ e. MoveCause e (S.read_faults source.old) (S.read_faults source.new)
-        (O.write_faults output.old) (O.write_faults output.new) (IsTrue S.tells →
-        IsOpened (S.content source.old) image.now → ⊥)) }
-    ensures clean { OnOk result ((S.read_faults source.new ≡ S.read_faults source.old) ×
-        (O.write_faults output.new ≡ O.write_faults output.old)) }
-    ensures full_faults { O.full_faults output.new ≡ O.full_faults output.old + full_handed result }
 {
     let place = section(image, i);
     if !is_as_long(image, source) {
@@ -122,15 +98,12 @@ pub fn unpack_fragment<S: Source, O: Output>(
     m: &mut Meter,
 ) -> Result<(), SectionFault>
     requires { i < header_spec.fragment_count (header_spec.view_of image.now.header) }
-    ensures content { IsTrue S.tells → S.content source.new ≡ S.content source.old }
-    ensures size { IsTrue S.tells → S.size source.new ≡ S.size source.old }
-    ensures frame { S.read_frame source.new ≡ S.read_frame source.old }
-    ensures write_frame { O.write_frame output.new ≡ O.write_frame output.old }
+    ensures moves { MovesUnless result S.Source source.old source.new O.Output output.old output.new
+        (IsTrue S.tells → IsOpened (S.content source.old) image.now → ⊥) }
     ensures written { IsTrue S.tells → OnOk result (O.written output.new ≡ O.written output.old
         ++ header_spec.fragment_of (S.content source.old) (header_spec.view_of image.now.header) i) }
-    ensures front { IsTrue S.tells → Begins (O.written output.old) (O.written output.new)
+    ensures front { IsTrue S.tells → AppendsFront (O.written output.old) (O.written output.new)
         (header_spec.fragment_of (S.content source.old) (header_spec.view_of image.now.header) i) }
-    ensures least { length (O.written output.old) ≤ length (O.written output.new) }
     ensures most { length (O.written output.new) ≤ length (O.written output.old) + header_spec.ramdisk_size
         (header_spec.view_of image.now.header) }
     ensures within { IsTrue S.tells → OnOk result (header_spec.IsWithin (header_spec.view_of image.now.header)
@@ -144,14 +117,6 @@ pub fn unpack_fragment<S: Source, O: Output>(
         (header_spec.view_of image.now.header) i).ramdisk_size) }
     ensures changed { (S.size source.old ≡ image.now.length → ⊥) → (result ≡ Err SectionFault.SourceChanged) ×
         (source.new ≡ source.old) × (output.new ≡ output.old) }
-    ensures read_faults { S.read_faults source.old ≤ S.read_faults source.new }
-    ensures write_faults { O.write_faults output.old ≤ O.write_faults output.new }
-    ensures cause { IfErr result (λ e. MoveCause e (S.read_faults source.old) (S.read_faults source.new)
-        (O.write_faults output.old) (O.write_faults output.new) (IsTrue S.tells →
-        IsOpened (S.content source.old) image.now → ⊥)) }
-    ensures clean { OnOk result ((S.read_faults source.new ≡ S.read_faults source.old) ×
-        (O.write_faults output.new ≡ O.write_faults output.old)) }
-    ensures full_faults { O.full_faults output.new ≡ O.full_faults output.old + full_handed result }
 {
     let entry = match fragment(image, i, source, w, m) {
         Ok(entry) => entry,

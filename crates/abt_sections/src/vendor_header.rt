@@ -1,7 +1,7 @@
 //! The header that is packed of a vendor boot image's fields.
 
 ghost use Rattle.std.specs.Prelude.{◌≡◌, ◌<◌, ◌≤◌, ◌*◌, ◌^◌, IfOk, OnOk, MatchResult, length, slice_index, Some, None};
-ghost use Rattle.abt_headers.specs.Vendor.{view, tail_view};
+ghost use Rattle.abt_headers.specs.Vendor.{vendor_view, tail_view};
 ghost use Rattle.abt_sections.specs.Cause.{full_handed};
 ghost use Rattle.abt_sections.specs.Fields.{vendor_fields};
 ghost use Rattle.abt_sections.specs.Refusal.{vendor_refusal};
@@ -87,7 +87,7 @@ pub(crate) fn vendor_header_for(
     requires name { length spec.now.name.now ≤ 16 }
     requires cmdline { length spec.now.cmdline.now ≤ 2048 }
     requires table { slice_index sizes.now 2 ≡ 108 * count }
-    ensures { view result ≡ canon.vendor_header_for (vendor_fields spec.now) page sizes.now count }
+    ensures { vendor_view result ≡ canon.vendor_header_for (vendor_fields spec.now) page sizes.now count }
 {
     if spec.version == 3 {
         VendorHeader::V3(vendor_front_for(spec, page, sizes, 2112))

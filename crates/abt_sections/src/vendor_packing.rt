@@ -1,15 +1,17 @@
 //! Packing a vendor boot image.
 
-ghost use Rattle.std.specs.Prelude.{◌≡◌, ◌<◌, ◌≤◌, ◌+◌, ◌-◌, ◌*◌, ◌^◌, ◌++◌, ◌∷◌, [], IsTrue, IfOk, IfErr, OnOk, Err};
+ghost use Rattle.std.specs.Prelude.{◌≡◌, ◌<◌, ◌≤◌, ◌+◌, ◌-◌, ◌*◌, ◌++◌, ◌∷◌, [], IsTrue, IfOk, IfErr, OnOk, Err};
 ghost use Rattle.std.specs.Prelude.{length, map, take, drop, slice_index};
 ghost use Rattle.std.specs.List.{concat};
+ghost use Rattle.abt_io.specs.Lent.{OnlyReads, OnlyReadsAll, OnlyWrites};
 ghost use Rattle.abt_headers.specs.Page as of_page;
-ghost use Rattle.abt_headers.specs.Vendor.{view, vendor_page, vendor_record, vendor_size};
+ghost use Rattle.abt_headers.specs.Vendor.{vendor_view, vendor_page, vendor_record, vendor_size};
 ghost use Rattle.abt_sections.specs.VendorCanon as canon;
 ghost use Rattle.abt_sections.specs.Cause.{MoveCause, PackCause, total, full_handed};
 ghost use Rattle.abt_sections.specs.Fields.{vendor_fields};
-ghost use Rattle.abt_sections.specs.Grown.{Begins};
+ghost use Rattle.abt_sections.specs.Grown.{AppendsFront, AddsUpTo};
 ghost use Rattle.abt_sections.specs.Layout as layout;
+ghost use Rattle.abt_sections.specs.Moves.{MovesUnless, MovesAllUnless, WritesAlone};
 ghost use Rattle.abt_sections.specs.Refusal.{pack_vendor_refusal, IfRefused};
 
 use crate::fault::SectionFault;
@@ -28,19 +30,13 @@ fn write_vendor_header<O: Output>(
     m: &mut Meter,
 ) -> Result<(), SectionFault>
     ensures written { OnOk result (O.written output.new ≡ O.written output.old
-        ++ layout.padded (vendor_page (view header.now)) (vendor_record (view header.now))) }
-    ensures front { Begins (O.written output.old) (O.written output.new)
-        (layout.padded (vendor_page (view header.now)) (vendor_record (view header.now))) }
-    ensures least { length (O.written output.old) ≤ length (O.written output.new) }
-    ensures most { length (O.written output.new) ≤ length (O.written output.old) + of_page.pages
-        (vendor_size (view header.now)) (vendor_page (view header.now)) * vendor_page (view header.now) }
-    ensures all { OnOk result (length (O.written output.new) ≡ length (O.written output.old) + of_page.pages
-        (vendor_size (view header.now)) (vendor_page (view header.now)) * vendor_page (view header.now)) }
-    ensures write_frame { O.write_frame output.new ≡ O.write_frame output.old }
-    ensures write_faults { O.write_faults output.old ≤ O.write_faults output.new }
-    ensures cause { IfErr result (λ e. MoveCause e 0 0 (O.write_faults output.old) (O.write_faults output.new) ⊥) }
-    ensures clean { OnOk result (O.write_faults output.new ≡ O.write_faults output.old) }
-    ensures full_faults { O.full_faults output.new ≡ O.full_faults output.old + full_handed result }
+        ++ layout.padded (vendor_page (vendor_view header.now)) (vendor_record (vendor_view header.now))) }
+    ensures front { AppendsFront (O.written output.old) (O.written output.new)
+        (layout.padded (vendor_page (vendor_view header.now)) (vendor_record (vendor_view header.now))) }
+    ensures writes { WritesAlone result O.Output output.old output.new }
+    ensures bytes { AddsUpTo result (O.written output.old) (O.written output.new)
+        (of_page.pages (vendor_size (vendor_view header.now)) (vendor_page (vendor_view header.now)) * vendor_page
+        (vendor_view header.now)) }
 {
     let mut record = [0u8; 2128];
     let size = header.encode(&mut record);
@@ -54,27 +50,14 @@ fn write_ramdisks<S: Source, O: Output>(
     w: &mut Window,
     m: &mut Meter,
 ) -> Result<(), SectionFault>
-    ensures content { IsTrue S.tells → map S.content ramdisks.new ≡ map S.content ramdisks.old }
-    ensures size { IsTrue S.tells → map S.size ramdisks.new ≡ map S.size ramdisks.old }
+    ensures moves { MovesAllUnless result S.Source ramdisks.old ramdisks.new O.Output output.old output.new
+        (IsTrue S.tells → ⊥) }
     ensures lasting { OnOk result (map S.size ramdisks.new ≡ map S.size ramdisks.old) }
-    ensures frame { map S.read_frame ramdisks.new ≡ map S.read_frame ramdisks.old }
     ensures written { IsTrue S.tells → OnOk result (O.written output.new ≡ O.written output.old
         ++ concat (map S.content ramdisks.old)) }
-    ensures front { IsTrue S.tells → Begins (O.written output.old) (O.written output.new)
+    ensures front { IsTrue S.tells → AppendsFront (O.written output.old) (O.written output.new)
         (concat (map S.content ramdisks.old)) }
-    ensures least { length (O.written output.old) ≤ length (O.written output.new) }
-    ensures most { length (O.written output.new) ≤ length (O.written output.old) + total S.size ramdisks.old }
-    ensures all { OnOk result (length (O.written output.new) ≡ length (O.written output.old) + total S.size
-        ramdisks.old) }
-    ensures write_frame { O.write_frame output.new ≡ O.write_frame output.old }
-    ensures read_faults { total S.read_faults ramdisks.old ≤ total S.read_faults ramdisks.new }
-    ensures write_faults { O.write_faults output.old ≤ O.write_faults output.new }
-    ensures cause { IfErr result (λ e. MoveCause e (total S.read_faults ramdisks.old)
-        (total S.read_faults ramdisks.new) (O.write_faults output.old) (O.write_faults output.new)
-        (IsTrue S.tells → ⊥)) }
-    ensures clean { OnOk result ((total S.read_faults ramdisks.new ≡ total S.read_faults ramdisks.old) ×
-        (O.write_faults output.new ≡ O.write_faults output.old)) }
-    ensures full_faults { O.full_faults output.new ≡ O.full_faults output.old + full_handed result }
+    ensures bytes { AddsUpTo result (O.written output.old) (O.written output.new) (total S.size ramdisks.old) }
 {
     for i in 0..ramdisks.len() {
         m.tick();
@@ -112,17 +95,10 @@ fn write_table<S: Source, O: Output>(
     requires small { total S.size ramdisks.now ≤ 4294967295 }
     ensures written { OnOk result (O.written output.new ≡ O.written output.old
         ++ canon.table_for fragments.now (map S.size ramdisks.now) 0) }
-    ensures front { Begins (O.written output.old) (O.written output.new)
+    ensures front { AppendsFront (O.written output.old) (O.written output.new)
         (canon.table_for fragments.now (map S.size ramdisks.now) 0) }
-    ensures least { length (O.written output.old) ≤ length (O.written output.new) }
-    ensures most { length (O.written output.new) ≤ length (O.written output.old) + 108 * length fragments.now }
-    ensures all { OnOk result (length (O.written output.new) ≡ length (O.written output.old) + 108 * length
-        fragments.now) }
-    ensures write_frame { O.write_frame output.new ≡ O.write_frame output.old }
-    ensures write_faults { O.write_faults output.old ≤ O.write_faults output.new }
-    ensures cause { IfErr result (λ e. MoveCause e 0 0 (O.write_faults output.old) (O.write_faults output.new) ⊥) }
-    ensures clean { OnOk result (O.write_faults output.new ≡ O.write_faults output.old) }
-    ensures full_faults { O.full_faults output.new ≡ O.full_faults output.old + full_handed result }
+    ensures writes { WritesAlone result O.Output output.old output.new }
+    ensures bytes { AddsUpTo result (O.written output.old) (O.written output.new) (108 * length fragments.now) }
 {
     let mut offset = 0u32;
     for i in 0..ramdisks.len() {
@@ -149,27 +125,14 @@ fn write_vendor_ramdisk<S: Source, O: Output>(
 ) -> Result<(), SectionFault>
     requires some { 0 < page }
     requires sized { total S.size ramdisks.old ≡ size }
-    ensures content { IsTrue S.tells → map S.content ramdisks.new ≡ map S.content ramdisks.old }
-    ensures size { IsTrue S.tells → map S.size ramdisks.new ≡ map S.size ramdisks.old }
+    ensures moves { MovesAllUnless result S.Source ramdisks.old ramdisks.new O.Output output.old output.new
+        (IsTrue S.tells → ⊥) }
     ensures lasting { OnOk result (map S.size ramdisks.new ≡ map S.size ramdisks.old) }
-    ensures frame { map S.read_frame ramdisks.new ≡ map S.read_frame ramdisks.old }
     ensures written { IsTrue S.tells → OnOk result (O.written output.new ≡ O.written output.old
         ++ layout.padded page (concat (map S.content ramdisks.old))) }
-    ensures front { IsTrue S.tells → Begins (O.written output.old) (O.written output.new)
+    ensures front { IsTrue S.tells → AppendsFront (O.written output.old) (O.written output.new)
         (layout.padded page (concat (map S.content ramdisks.old))) }
-    ensures least { length (O.written output.old) ≤ length (O.written output.new) }
-    ensures most { length (O.written output.new) ≤ length (O.written output.old) + of_page.pages size page * page }
-    ensures all { OnOk result (length (O.written output.new) ≡ length (O.written output.old) + of_page.pages size
-        page * page) }
-    ensures write_frame { O.write_frame output.new ≡ O.write_frame output.old }
-    ensures read_faults { total S.read_faults ramdisks.old ≤ total S.read_faults ramdisks.new }
-    ensures write_faults { O.write_faults output.old ≤ O.write_faults output.new }
-    ensures cause { IfErr result (λ e. MoveCause e (total S.read_faults ramdisks.old)
-        (total S.read_faults ramdisks.new) (O.write_faults output.old) (O.write_faults output.new)
-        (IsTrue S.tells → ⊥)) }
-    ensures clean { OnOk result ((total S.read_faults ramdisks.new ≡ total S.read_faults ramdisks.old) ×
-        (O.write_faults output.new ≡ O.write_faults output.old)) }
-    ensures full_faults { O.full_faults output.new ≡ O.full_faults output.old + full_handed result }
+    ensures bytes { AddsUpTo result (O.written output.old) (O.written output.new) (of_page.pages size page * page) }
 {
     let _free = padding(size as u64, page);
     match write_ramdisks(ramdisks, output, w, m) {
@@ -194,31 +157,19 @@ fn write_table_and_bootconfig<S: Source, O: Output>(
     requires count { length fragments.now ≡ length ramdisks.now }
     requires ramdisk { total S.size ramdisks.now ≡ slice_index sizes.now 0 }
     requires table { slice_index sizes.now 2 ≡ 108 * length fragments.now }
-    ensures content { IsTrue S.tells → S.content bootconfig.new ≡ S.content bootconfig.old }
+    ensures moves { MovesUnless result S.Source bootconfig.old bootconfig.new O.Output output.old output.new
+        (IsTrue S.tells → S.size bootconfig.old ≡ slice_index sizes.now 3 → ⊥) }
     ensures lasting { OnOk result ((S.size bootconfig.old ≡ slice_index sizes.now 3) ×
         (S.size bootconfig.new ≡ slice_index sizes.now 3)) }
-    ensures frame { S.read_frame bootconfig.new ≡ S.read_frame bootconfig.old }
     ensures written { IsTrue S.tells → OnOk result (O.written output.new ≡ O.written output.old
         ++ layout.laid page (canon.table_for fragments.now (map S.size ramdisks.now) 0 ∷ S.content
         bootconfig.old ∷ [])) }
-    ensures front { IsTrue S.tells → Begins (O.written output.old) (O.written output.new)
+    ensures front { IsTrue S.tells → AppendsFront (O.written output.old) (O.written output.new)
         (layout.laid page (canon.table_for fragments.now (map S.size ramdisks.now) 0 ∷ S.content bootconfig.old ∷ [])) }
     ensures table { OnOk result (take (108 * length fragments.now) (drop (length (O.written output.old))
         (O.written output.new)) ≡ canon.table_for fragments.now (map S.size ramdisks.now) 0) }
-    ensures least { length (O.written output.old) ≤ length (O.written output.new) }
-    ensures most { length (O.written output.new) ≤ length (O.written output.old) + layout.laid_size page
-        (drop 2 sizes.now) }
-    ensures all { OnOk result (length (O.written output.new) ≡ length (O.written output.old) + layout.laid_size page
-        (drop 2 sizes.now)) }
-    ensures write_frame { O.write_frame output.new ≡ O.write_frame output.old }
-    ensures read_faults { S.read_faults bootconfig.old ≤ S.read_faults bootconfig.new }
-    ensures write_faults { O.write_faults output.old ≤ O.write_faults output.new }
-    ensures cause { IfErr result (λ e. MoveCause e (S.read_faults bootconfig.old) (S.read_faults bootconfig.new)
-        (O.write_faults output.old) (O.write_faults output.new) (IsTrue S.tells →
-        S.size bootconfig.old ≡ slice_index sizes.now 3 → ⊥)) }
-    ensures clean { OnOk result ((S.read_faults bootconfig.new ≡ S.read_faults bootconfig.old) ×
-        (O.write_faults output.new ≡ O.write_faults output.old)) }
-    ensures full_faults { O.full_faults output.new ≡ O.full_faults output.old + full_handed result }
+    ensures bytes { AddsUpTo result (O.written output.old) (O.written output.new)
+        (layout.laid_size page (drop 2 sizes.now)) }
 {
     match write_table(fragments, ramdisks, output, m) {
         Ok(()) => {}
@@ -242,32 +193,20 @@ fn write_first_sections<S: Source, O: Output>(
     m: &mut Meter,
 ) -> Result<(), SectionFault>
     requires ramdisk { total S.size ramdisks.old ≡ slice_index sizes.now 0 }
-    ensures content { IsTrue S.tells → map S.content ramdisks.new ≡ map S.content ramdisks.old }
-    ensures size { IsTrue S.tells → map S.size ramdisks.new ≡ map S.size ramdisks.old }
+    ensures reads { OnlyReadsAll result S.Source ramdisks.old ramdisks.new }
     ensures lasting { OnOk result ((map S.size ramdisks.new ≡ map S.size ramdisks.old) ×
         (S.size dtb.old ≡ slice_index sizes.now 1) × (S.size dtb.new ≡ slice_index sizes.now 1)) }
-    ensures frame { map S.read_frame ramdisks.new ≡ map S.read_frame ramdisks.old }
-    ensures dtb_content { IsTrue S.tells → S.content dtb.new ≡ S.content dtb.old }
-    ensures dtb_frame { S.read_frame dtb.new ≡ S.read_frame dtb.old }
+    ensures dtb { OnlyReads result S.Source dtb.old dtb.new }
     ensures written { IsTrue S.tells → OnOk result (O.written output.new ≡ O.written output.old
-        ++ canon.first_sections (view header.now) (concat (map S.content ramdisks.old)) (S.content dtb.old)) }
-    ensures front { IsTrue S.tells → Begins (O.written output.old) (O.written output.new)
-        (canon.first_sections (view header.now) (concat (map S.content ramdisks.old)) (S.content dtb.old)) }
-    ensures least { length (O.written output.old) ≤ length (O.written output.new) }
-    ensures most { length (O.written output.new) ≤ length (O.written output.old) + canon.first_size (view header.now)
-        (slice_index sizes.now 0) (slice_index sizes.now 1) }
-    ensures all { OnOk result (length (O.written output.new) ≡ length (O.written output.old) + canon.first_size
-        (view header.now) (slice_index sizes.now 0) (slice_index sizes.now 1)) }
-    ensures write_frame { O.write_frame output.new ≡ O.write_frame output.old }
-    ensures read_faults { total S.read_faults ramdisks.old ≤ total S.read_faults ramdisks.new }
-    ensures dtb_faults { S.read_faults dtb.old ≤ S.read_faults dtb.new }
-    ensures write_faults { O.write_faults output.old ≤ O.write_faults output.new }
+        ++ canon.first_sections (vendor_view header.now) (concat (map S.content ramdisks.old)) (S.content dtb.old)) }
+    ensures front { IsTrue S.tells → AppendsFront (O.written output.old) (O.written output.new)
+        (canon.first_sections (vendor_view header.now) (concat (map S.content ramdisks.old)) (S.content dtb.old)) }
+    ensures writes { OnlyWrites result (full_handed result) O.Output output.old output.new }
+    ensures bytes { AddsUpTo result (O.written output.old) (O.written output.new)
+        (canon.first_size (vendor_view header.now) (slice_index sizes.now 0) (slice_index sizes.now 1)) }
     ensures cause { IfErr result (λ e. MoveCause e (total S.read_faults ramdisks.old + S.read_faults dtb.old)
         (total S.read_faults ramdisks.new + S.read_faults dtb.new) (O.write_faults output.old)
         (O.write_faults output.new) (IsTrue S.tells → S.size dtb.old ≡ slice_index sizes.now 1 → ⊥)) }
-    ensures clean { OnOk result ((total S.read_faults ramdisks.new ≡ total S.read_faults ramdisks.old) ×
-        (S.read_faults dtb.new ≡ S.read_faults dtb.old) × (O.write_faults output.new ≡ O.write_faults output.old)) }
-    ensures full_faults { O.full_faults output.new ≡ O.full_faults output.old + full_handed result }
 {
     let page = header.page_size();
     match write_vendor_header(header, output, w, m) {
@@ -304,27 +243,23 @@ pub fn pack_vendor<S: Source, O: Output>(
     requires three { spec.now.version ≡ 3 → (length fragments.now ≡ 0) × (length ramdisks.old ≡ 1) ×
         (S.size bootconfig.old ≡ 0) }
     requires four { spec.now.version ≡ 4 → length fragments.now ≡ length ramdisks.old }
-    ensures content { IsTrue S.tells → map S.content ramdisks.new ≡ map S.content ramdisks.old }
-    ensures dtb_content { IsTrue S.tells → S.content dtb.new ≡ S.content dtb.old }
-    ensures bootconfig_content { IsTrue S.tells → S.content bootconfig.new ≡ S.content bootconfig.old }
-    ensures frame { map S.read_frame ramdisks.new ≡ map S.read_frame ramdisks.old }
-    ensures dtb_frame { S.read_frame dtb.new ≡ S.read_frame dtb.old }
-    ensures bootconfig_frame { S.read_frame bootconfig.new ≡ S.read_frame bootconfig.old }
-    ensures write_frame { O.write_frame output.new ≡ O.write_frame output.old }
+    ensures reads { OnlyReadsAll result S.Source ramdisks.old ramdisks.new }
+    ensures dtb { OnlyReads result S.Source dtb.old dtb.new }
+    ensures bootconfig { OnlyReads result S.Source bootconfig.old bootconfig.new }
+    ensures writes { OnlyWrites result (full_handed result) O.Output output.old output.new }
     ensures refused { IfRefused (pack_vendor_refusal (vendor_fields spec.now)
         (canon.vendor_sizes_for (total S.size ramdisks.old) (S.size dtb.old) (length fragments.now)
         (S.size bootconfig.old))) (λ f. (result ≡ Err f) × (output.new ≡ output.old)) }
     ensures written { IsTrue S.tells → OnOk result (O.written output.new ≡ O.written output.old
         ++ canon.vendor_canon (vendor_fields spec.now) (canon.vendor_parts fragments.now (map S.content ramdisks.old)
         (S.content dtb.old) (S.content bootconfig.old))) }
-    ensures front { IsTrue S.tells → Begins (O.written output.old) (O.written output.new)
+    ensures front { IsTrue S.tells → AppendsFront (O.written output.old) (O.written output.new)
         (canon.vendor_canon (vendor_fields spec.now) (canon.vendor_parts fragments.now (map S.content ramdisks.old)
         (S.content dtb.old) (S.content bootconfig.old))) }
     ensures table { spec.now.version ≡ 4 → OnOk result (take (108 * length fragments.now)
         (drop (length (O.written output.old) + canon.table_place (vendor_fields spec.now)
         (canon.vendor_sizes_for (total S.size ramdisks.old) (S.size dtb.old) (length fragments.now)
         (S.size bootconfig.old))) (O.written output.new)) ≡ canon.table_for fragments.now (map S.size ramdisks.old) 0) }
-    ensures least { length (O.written output.old) ≤ length (O.written output.new) }
     ensures most { length (O.written output.new) ≤ length (O.written output.old) + canon.vendor_image_size
         (vendor_fields spec.now) (canon.vendor_sizes_for (total S.size ramdisks.old) (S.size dtb.old)
         (length fragments.now) (S.size bootconfig.old)) }
@@ -333,19 +268,11 @@ pub fn pack_vendor<S: Source, O: Output>(
         (S.size bootconfig.old))) × (length (O.written output.new) ≡ length (O.written output.old) + p.bytes)) }
     ensures lasting { OnOk result ((map S.size ramdisks.new ≡ map S.size ramdisks.old) ×
         (S.size dtb.new ≡ S.size dtb.old) × (S.size bootconfig.new ≡ S.size bootconfig.old)) }
-    ensures read_faults { total S.read_faults ramdisks.old ≤ total S.read_faults ramdisks.new }
-    ensures dtb_faults { S.read_faults dtb.old ≤ S.read_faults dtb.new }
-    ensures bootconfig_faults { S.read_faults bootconfig.old ≤ S.read_faults bootconfig.new }
-    ensures write_faults { O.write_faults output.old ≤ O.write_faults output.new }
     ensures cause { IfErr result (λ e. PackCause (pack_vendor_refusal (vendor_fields spec.now)
         (canon.vendor_sizes_for (total S.size ramdisks.old) (S.size dtb.old) (length fragments.now)
         (S.size bootconfig.old))) e (total S.read_faults ramdisks.old + S.read_faults dtb.old + S.read_faults
         bootconfig.old) (total S.read_faults ramdisks.new + S.read_faults dtb.new + S.read_faults bootconfig.new)
         (O.write_faults output.old) (O.write_faults output.new) (IsTrue S.tells → ⊥)) }
-    ensures clean { OnOk result ((total S.read_faults ramdisks.new ≡ total S.read_faults ramdisks.old) ×
-        (S.read_faults dtb.new ≡ S.read_faults dtb.old) × (S.read_faults bootconfig.new
-        ≡ S.read_faults bootconfig.old) × (O.write_faults output.new ≡ O.write_faults output.old)) }
-    ensures full_faults { O.full_faults output.new ≡ O.full_faults output.old + full_handed result }
 {
     let page = check_vendor_spec(spec, m)?;
     let sizes = vendor_sizes(fragments.len(), ramdisks, dtb, bootconfig, m)?;

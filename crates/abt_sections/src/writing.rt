@@ -1,14 +1,15 @@
 //! Writing records and parts, each with zeros up to a page boundary.
 //!
 //! Each call here says of the output what stands after `Ok` (`written`), that after any answer a beginning of that
-//! stands (`front`), and for every source that no more bytes were given than the record or part has (`most`).
+//! stands (`front`), and for every source that no more bytes were given than the record or part has (`bytes`).
 
-ghost use Rattle.std.specs.Prelude.{◌≡◌, ◌<◌, ◌≤◌, ◌+◌, ◌-◌, ◌*◌, ◌^◌, ◌++◌, IsTrue, IfErr, OnOk, length, map, take};
+ghost use Rattle.std.specs.Prelude.{◌≡◌, ◌<◌, ◌≤◌, ◌+◌, ◌-◌, ◌*◌, ◌^◌, ◌++◌, IsTrue, OnOk, length, map, take};
 ghost use Rattle.abt_headers.specs.Page as of_page;
-ghost use Rattle.abt_sections.specs.Cause.{MoveCause, copy_fault, total, full_handed};
+ghost use Rattle.abt_sections.specs.Cause.{copy_fault};
 ghost use Rattle.abt_sections.specs.Fields.{filled};
-ghost use Rattle.abt_sections.specs.Grown.{Begins};
+ghost use Rattle.abt_sections.specs.Grown.{AppendsFront, AddsUpTo};
 ghost use Rattle.abt_sections.specs.Layout as layout;
+ghost use Rattle.abt_sections.specs.Moves.{MovesUnless, MovesAllUnless, WritesAlone};
 
 use crate::fault::SectionFault;
 use abt_headers::pages;
@@ -46,16 +47,11 @@ pub(crate) fn write_padding<O: Output>(
     requires some { 0 < page }
     requires bound { n + page < 2 ^ 64 }
     ensures written { OnOk result (O.written output.new ≡ O.written output.old ++ layout.zeros_behind n page) }
-    ensures front { Begins (O.written output.old) (O.written output.new) (layout.zeros_behind n page) }
-    ensures least { length (O.written output.old) ≤ length (O.written output.new) }
+    ensures front { AppendsFront (O.written output.old) (O.written output.new) (layout.zeros_behind n page) }
+    ensures writes { WritesAlone result O.Output output.old output.new }
     ensures most { n + length (O.written output.new) ≤ length (O.written output.old) + of_page.pages n page * page }
     ensures all { OnOk result (n + length (O.written output.new) ≡ length
         (O.written output.old) + of_page.pages n page * page) }
-    ensures write_frame { O.write_frame output.new ≡ O.write_frame output.old }
-    ensures write_faults { O.write_faults output.old ≤ O.write_faults output.new }
-    ensures cause { IfErr result (λ e. MoveCause e 0 0 (O.write_faults output.old) (O.write_faults output.new) ⊥) }
-    ensures clean { OnOk result (O.write_faults output.new ≡ O.write_faults output.old) }
-    ensures full_faults { O.full_faults output.new ≡ O.full_faults output.old + full_handed result }
 {
     match write_zeros(output, padding(n, page), w, m) {
         Ok(()) => Ok(()),
@@ -74,17 +70,10 @@ pub(crate) fn write_record<O: Output>(
     requires some { 0 < page }
     requires room { length bytes.now ≤ 65536 }
     ensures written { OnOk result (O.written output.new ≡ O.written output.old ++ layout.padded page bytes.now) }
-    ensures front { Begins (O.written output.old) (O.written output.new) (layout.padded page bytes.now) }
-    ensures least { length (O.written output.old) ≤ length (O.written output.new) }
-    ensures most { length (O.written output.new) ≤ length (O.written output.old) + of_page.pages
-        (length bytes.now) page * page }
-    ensures all { OnOk result (length (O.written output.new) ≡ length (O.written output.old) + of_page.pages
-        (length bytes.now) page * page) }
-    ensures write_frame { O.write_frame output.new ≡ O.write_frame output.old }
-    ensures write_faults { O.write_faults output.old ≤ O.write_faults output.new }
-    ensures cause { IfErr result (λ e. MoveCause e 0 0 (O.write_faults output.old) (O.write_faults output.new) ⊥) }
-    ensures clean { OnOk result (O.write_faults output.new ≡ O.write_faults output.old) }
-    ensures full_faults { O.full_faults output.new ≡ O.full_faults output.old + full_handed result }
+    ensures front { AppendsFront (O.written output.old) (O.written output.new) (layout.padded page bytes.now) }
+    ensures writes { WritesAlone result O.Output output.old output.new }
+    ensures bytes { AddsUpTo result (O.written output.old) (O.written output.new)
+        (of_page.pages (length bytes.now) page * page) }
 {
     let n = bytes.len() as u64;
     match write_out(output, bytes, m) {
@@ -102,25 +91,14 @@ pub(crate) fn write_bytes<S: Source, O: Output>(
     w: &mut Window,
     m: &mut Meter,
 ) -> Result<(), SectionFault>
-    ensures content { IsTrue S.tells → S.content part.new ≡ S.content part.old }
-    ensures size { IsTrue S.tells → S.size part.new ≡ S.size part.old }
-    ensures frame { S.read_frame part.new ≡ S.read_frame part.old }
+    ensures moves { MovesUnless result S.Source part.old part.new O.Output output.old output.new
+        (IsTrue S.tells → S.size part.old ≡ size → ⊥) }
     ensures written { IsTrue S.tells → OnOk result (O.written output.new ≡ O.written output.old ++ S.content part.old) }
-    ensures front { IsTrue S.tells → Begins (O.written output.old) (O.written output.new) (S.content part.old) }
+    ensures front { IsTrue S.tells → AppendsFront (O.written output.old) (O.written output.new) (S.content part.old) }
     ensures grown { take (length (O.written output.old)) (O.written output.new) ≡ O.written output.old }
-    ensures least { length (O.written output.old) ≤ length (O.written output.new) }
-    ensures most { length (O.written output.new) ≤ length (O.written output.old) + size }
-    ensures all { OnOk result (length (O.written output.new) ≡ length (O.written output.old) + size) }
+    ensures bytes { AddsUpTo result (O.written output.old) (O.written output.new) size }
     ensures sized { IsTrue S.tells → OnOk result (length (S.content part.old) ≡ size) }
     ensures lasting { OnOk result ((S.size part.old ≡ size) × (S.size part.new ≡ size)) }
-    ensures write_frame { O.write_frame output.new ≡ O.write_frame output.old }
-    ensures read_faults { S.read_faults part.old ≤ S.read_faults part.new }
-    ensures write_faults { O.write_faults output.old ≤ O.write_faults output.new }
-    ensures cause { IfErr result (λ e. MoveCause e (S.read_faults part.old) (S.read_faults part.new)
-        (O.write_faults output.old) (O.write_faults output.new) (IsTrue S.tells → S.size part.old ≡ size → ⊥)) }
-    ensures clean { OnOk result ((S.read_faults part.new ≡ S.read_faults part.old) ×
-        (O.write_faults output.new ≡ O.write_faults output.old)) }
-    ensures full_faults { O.full_faults output.new ≡ O.full_faults output.old + full_handed result }
 {
     if part.length() != size {
         return Err(SectionFault::SourceChanged);
@@ -146,27 +124,15 @@ pub(crate) fn write_part<S: Source, O: Output>(
     m: &mut Meter,
 ) -> Result<(), SectionFault>
     requires { 0 < page }
-    ensures content { IsTrue S.tells → S.content part.new ≡ S.content part.old }
-    ensures size { IsTrue S.tells → S.size part.new ≡ S.size part.old }
-    ensures frame { S.read_frame part.new ≡ S.read_frame part.old }
+    ensures moves { MovesUnless result S.Source part.old part.new O.Output output.old output.new
+        (IsTrue S.tells → S.size part.old ≡ size → ⊥) }
     ensures written { IsTrue S.tells → OnOk result (O.written output.new ≡ O.written output.old
         ++ layout.padded page (S.content part.old)) }
-    ensures front { IsTrue S.tells → Begins (O.written output.old) (O.written output.new)
+    ensures front { IsTrue S.tells → AppendsFront (O.written output.old) (O.written output.new)
         (layout.padded page (S.content part.old)) }
     ensures grown { take (length (O.written output.old)) (O.written output.new) ≡ O.written output.old }
-    ensures least { length (O.written output.old) ≤ length (O.written output.new) }
-    ensures most { length (O.written output.new) ≤ length (O.written output.old) + of_page.pages size page * page }
-    ensures all { OnOk result (length (O.written output.new) ≡ length (O.written output.old) + of_page.pages size
-        page * page) }
+    ensures bytes { AddsUpTo result (O.written output.old) (O.written output.new) (of_page.pages size page * page) }
     ensures lasting { OnOk result ((S.size part.old ≡ size) × (S.size part.new ≡ size)) }
-    ensures write_frame { O.write_frame output.new ≡ O.write_frame output.old }
-    ensures read_faults { S.read_faults part.old ≤ S.read_faults part.new }
-    ensures write_faults { O.write_faults output.old ≤ O.write_faults output.new }
-    ensures cause { IfErr result (λ e. MoveCause e (S.read_faults part.old) (S.read_faults part.new)
-        (O.write_faults output.old) (O.write_faults output.new) (IsTrue S.tells → S.size part.old ≡ size → ⊥)) }
-    ensures clean { OnOk result ((S.read_faults part.new ≡ S.read_faults part.old) ×
-        (O.write_faults output.new ≡ O.write_faults output.old)) }
-    ensures full_faults { O.full_faults output.new ≡ O.full_faults output.old + full_handed result }
 {
     let _free = padding(size as u64, page);
     match write_bytes(part, size as u64, output, w, m) {
@@ -187,28 +153,15 @@ pub(crate) fn write_parts<S: Source, O: Output>(
 ) -> Result<(), SectionFault>
     requires some { 0 < page }
     requires few { length parts.old ≤ 5 }
-    ensures content { IsTrue S.tells → map S.content parts.new ≡ map S.content parts.old }
-    ensures size { IsTrue S.tells → map S.size parts.new ≡ map S.size parts.old }
-    ensures frame { map S.read_frame parts.new ≡ map S.read_frame parts.old }
+    ensures moves { MovesAllUnless result S.Source parts.old parts.new O.Output output.old output.new
+        (IsTrue S.tells → sizes.now ≡ filled 5 (map S.size parts.old) → ⊥) }
     ensures written { IsTrue S.tells → OnOk result (O.written output.new ≡ O.written output.old
         ++ layout.laid page (map S.content parts.old)) }
-    ensures front { IsTrue S.tells → Begins (O.written output.old) (O.written output.new)
+    ensures front { IsTrue S.tells → AppendsFront (O.written output.old) (O.written output.new)
         (layout.laid page (map S.content parts.old)) }
-    ensures least { length (O.written output.old) ≤ length (O.written output.new) }
-    ensures most { length (O.written output.new) ≤ length (O.written output.old) + layout.laid_size page
-        (take (length parts.old) sizes.now) }
-    ensures all { OnOk result (length (O.written output.new) ≡ length (O.written output.old) + layout.laid_size page
-        (take (length parts.old) sizes.now)) }
+    ensures bytes { AddsUpTo result (O.written output.old) (O.written output.new)
+        (layout.laid_size page (take (length parts.old) sizes.now)) }
     ensures lasting { OnOk result (map S.size parts.new ≡ take (length parts.old) sizes.now) }
-    ensures write_frame { O.write_frame output.new ≡ O.write_frame output.old }
-    ensures read_faults { total S.read_faults parts.old ≤ total S.read_faults parts.new }
-    ensures write_faults { O.write_faults output.old ≤ O.write_faults output.new }
-    ensures cause { IfErr result (λ e. MoveCause e (total S.read_faults parts.old) (total S.read_faults parts.new)
-        (O.write_faults output.old) (O.write_faults output.new) (IsTrue S.tells →
-        sizes.now ≡ filled 5 (map S.size parts.old) → ⊥)) }
-    ensures clean { OnOk result ((total S.read_faults parts.new ≡ total S.read_faults parts.old) ×
-        (O.write_faults output.new ≡ O.write_faults output.old)) }
-    ensures full_faults { O.full_faults output.new ≡ O.full_faults output.old + full_handed result }
 {
     for i in 0..parts.len() {
         m.tick();

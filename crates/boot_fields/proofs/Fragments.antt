@@ -9,7 +9,7 @@ use Rattle.std.specs.Str.{all_ascii_digits, bytes_eq}
 use Rattle.std.specs.Str.Parse.{digits_value}
 use Rattle.abt_sections.specs.Fields.{filled}
 use Rattle.abt_sections.specs.declared.spec.FragmentSpec.{FragmentSpec}
-use Rattle.boot_fields.specs.Fragment.{IsFragment, IsOfParts, number_of, type_number}
+use Rattle.boot_fields.specs.Fragment.{IsFragment, IsOfParts, decimal_u32, type_number}
 
 -- ---- no TYPE has a colon
 
@@ -45,13 +45,13 @@ number_digits false b c v k e = absurd (search (rules, e))
 named_type : (t name : List ℕ) → lacks 58 name ≡ true → bytes_eq t name ≡ true → NoColon t
 named_type t name h q = lacks-at 58 t (ap (lacks 58) ((bytes_eq-Decides t name).0 q) ∙ h)
 
-number_type : (t : List ℕ) (k : ℕ) → number_of t ≡ Some k → NoColon t
+number_type : (t : List ℕ) (k : ℕ) → decimal_u32 t ≡ Some k → NoColon t
 number_type t k e =
     not_in_digits own t 58 (number_digits (all_ascii_digits t) (nat_lt 0 (length t)) (nat_lt (digits_value 10 t) (2 ^ 32)) (digits_value 10 t) k e)
     (λ (q : IsInRange 48 57 58). absurd (let high : 58 ≤ 57 = q.1 in omega arith))
 
 pub type_lacks : (t : List ℕ) (k : ℕ) → type_number t ≡ Some k → NoColon t
-type_lacks t k e = type_cases (bytes_eq t (codes "none")) (bytes_eq t (codes "platform")) (bytes_eq t (codes "recovery")) (bytes_eq t (codes "dlkm")) (number_of t) (NoColon t) k e
+type_lacks t k e = type_cases (bytes_eq t (codes "none")) (bytes_eq t (codes "platform")) (bytes_eq t (codes "recovery")) (bytes_eq t (codes "dlkm")) (decimal_u32 t) (NoColon t) k e
     (named_type t (codes "none") refl)
     (named_type t (codes "platform") refl)
     (named_type t (codes "recovery") refl)

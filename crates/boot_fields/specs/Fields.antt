@@ -107,6 +107,6 @@ boot_id (V2 f d t) = Some f.id
 boot_id (V3 f) = None
 boot_id (V4 f signature) = None
 
-abbrev pub id_of : Header → Option (List ℕ)
-id_of (OfBoot h) = boot_id h
-id_of (OfVendor v) = None
+abbrev pub id_field_of : Header → Option (List ℕ)
+id_field_of (OfBoot h) = boot_id h
+id_field_of (OfVendor v) = None

@@ -8,8 +8,8 @@ use Rattle.abt_sections.specs.declared.spec.FragmentSpec.{FragmentSpec}
 use Rattle.boot_fields.specs.Unescaped.{unescaped}
 
 -- the number that digits alone write, at least one, where 32 bits have room for it
-abbrev pub number_of : List ℕ → Option ℕ
-number_of text =
+abbrev pub decimal_u32 : List ℕ → Option ℕ
+decimal_u32 text =
     if all_ascii_digits text && nat_lt 0 (length text) && nat_lt (digits_value 10 text) (2 ^ 32)
     then Some (digits_value 10 text)
     else None
@@ -21,7 +21,7 @@ type_number text =
     else if bytes_eq text (codes "platform") then Some 1
     else if bytes_eq text (codes "recovery") then Some 2
     else if bytes_eq text (codes "dlkm") then Some 3
-    else number_of text
+    else decimal_u32 text
 
 -- TYPE:NAME:FILE, cut at its first two colons
 pub record IsFragment (word : List ℕ) (spec : FragmentSpec) (path : List ℕ) : Type 0 where

@@ -2,14 +2,14 @@
 use Rattle.std.specs.Prelude.{ℕ, ◌+◌, ◌*◌, ◌==◌, ◌&&◌, if◌then◌else◌, List, [], ◌∷◌, Option, Some, None}
 use Rattle.hex.specs.Hex.{hex_digit_value}
 
-abbrev pub both : Option ℕ → Option ℕ → Option ℕ
-both (Some high) (Some low) = Some (16 * high + low)
-both (Some high) None = None
-both None low = None
+abbrev pub byte_of_digits : Option ℕ → Option ℕ → Option ℕ
+byte_of_digits (Some high) (Some low) = Some (16 * high + low)
+byte_of_digits (Some high) None = None
+byte_of_digits None low = None
 
 -- the byte of two hexadecimal digits, 0 to 9, a to f or A to F
 abbrev pub byte_of : ℕ → ℕ → Option ℕ
-byte_of high low = both (hex_digit_value high) (hex_digit_value low)
+byte_of high low = byte_of_digits (hex_digit_value high) (hex_digit_value low)
 
 -- the byte that four letters stand for
 abbrev pub escaped_byte : ℕ → ℕ → ℕ → ℕ → Option ℕ

@@ -171,7 +171,7 @@ fn vendor_field(front: &VendorFront, which: TextField) -> Option<&[u8]>
 
 /// The id, which boot images of versions 0 to 2 have.
 pub fn id_of(header: &ImageHeader) -> Option<[u8; 32]>
-    ensures { result ≡ spec.id_of (view_of header.now) }
+    ensures { result ≡ spec.id_field_of (view_of header.now) }
 {
     match header {
         ImageHeader::Boot(BootHeader::V0(front)) => Some(front.id),

@@ -3,7 +3,7 @@ use Rattle.std.proofs.Common.{◌≡◌, ℕ, suc, ◌+◌, ◌-◌, ◌≤◌, 
 use Rattle.std.proofs.lemmas.List.{drop_more, length-drop, take_all}
 use Rattle.abt_io.proofs.Parts.{take_plus}
 use Rattle.abt_headers.specs.declared.sections.Place.{Place}
-use Rattle.boot_findings.specs.LeftOut.{behind, behind_places, set_in}
+use Rattle.boot_findings.specs.LeftOut.{set_in_padding, behind_places, set_in}
 
 pub set_append : (x y : List ℕ) → set_in (x ++ y) ≡ set_in x + set_in y
 set_append [] y = let e : set_in y ≡ 0 + set_in y = omega arith in e
@@ -26,9 +26,9 @@ counted_all s at few many h all =
     ap set_in (take_all few x (omega (arith, long, all)) ∙ sym (take_all many x (omega (arith, long, all, h))))
 
 -- one section more
-pub place_counted : (x : List ℕ) (page i : ℕ) (ps : List Place) (p : Place) (n : ℕ) → i < length ps → p ≡ get_or ps i p → n ≡ behind x page (p.at + p.size)
+pub place_counted : (x : List ℕ) (page i : ℕ) (ps : List Place) (p : Place) (n : ℕ) → i < length ps → p ≡ get_or ps i p → n ≡ set_in_padding x page (p.at + p.size)
     → behind_places x page (drop i ps) ≡ n + behind_places x page (drop (i + 1) ps)
 place_counted x page i ps p n h is e =
     ap (behind_places x page) (drop_more ps i p h)
-    ∙ ap (λ (q : Place). behind x page (q.at + q.size) + behind_places x page (drop (i + 1) ps)) (sym is)
+    ∙ ap (λ (q : Place). set_in_padding x page (q.at + q.size) + behind_places x page (drop (i + 1) ps)) (sym is)
     ∙ ap (λ (k : ℕ). k + behind_places x page (drop (i + 1) ps)) (sym e)

@@ -1,20 +1,12 @@
 -- What of the padding is counted, section by section.
-use Rattle.std.proofs.Common.{◌≡◌, ◌<◌, ◌≤◌, ◌+◌, ℕ, List, length, drop, get_or, sym, ap, ◌∙◌, arith}
+use Rattle.std.proofs.Common.{◌≡◌, ◌<◌, ◌+◌, ℕ, List, length, drop, get_or, sym, ap, ◌∙◌, arith}
 use Rattle.abt_headers.specs.declared.sections.Place.{Place}
-use Rattle.abt_sections.specs.declared.fault.SectionFault.{SectionFault}
-use Rattle.abt_sections.specs.declared.fault.SectionFault.TheVariants as faults
-use Rattle.abt_sections.specs.Cause.{ReadCause}
-use Rattle.boot_findings.specs.LeftOut.{behind, behind_places}
+use Rattle.boot_findings.specs.LeftOut.{set_in_padding, behind_places}
 use Rattle.boot_findings.proofs.Counts.{place_counted}
 
-pub padding_on : (x : List ℕ) (page i : ℕ) (ps : List Place) (p : Place) (count n all : ℕ) → i < length ps → p ≡ get_or ps i p → n ≡ behind x page (p.at + p.size)
+pub padding_on : (x : List ℕ) (page i : ℕ) (ps : List Place) (p : Place) (count n all : ℕ) → i < length ps → p ≡ get_or ps i p → n ≡ set_in_padding x page (p.at + p.size)
     → count + behind_places x page (drop i ps) ≡ all → count + n + behind_places x page (drop (i + 1) ps) ≡ all
 padding_on x page i ps p count n all within is seen so_far =
     let rest = behind_places x page (drop (i + 1) ps) in
     let back : count + n + rest ≡ count + (n + rest) = omega arith in
     back ∙ ap (λ (k : ℕ). count + k) (sym (place_counted x page i ps p n within is seen)) ∙ so_far
-
--- a read that failed, since more had
-pub read_since : (f : SectionFault) (a b c : ℕ) (P : Type 0) → a ≤ b → ReadCause f b c P → ReadCause f a c P
-read_since (faults.Read d) a b c P rises cause = omega (arith, rises, cause)
-read_since f a b c P rises cause = cause

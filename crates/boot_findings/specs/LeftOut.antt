@@ -39,37 +39,37 @@ abbrev pub reserved_of : Header → List ℕ
 reserved_of (OfBoot h) = boot_reserved h
 reserved_of (OfVendor v) = []
 
-abbrev pub or_empty : Option (List ℕ) → List ℕ
-or_empty None = []
-or_empty (Some x) = x
+abbrev pub name_or_empty : Option (List ℕ) → List ℕ
+name_or_empty None = []
+name_or_empty (Some x) = x
 
 -- the bytes of a text, and what stands behind it: from its first zero byte on
 abbrev pub behind_text : List ℕ → List ℕ
 behind_text x = drop (length (text_of x)) x
 
-abbrev pub name_of : Header → List ℕ
-name_of h = or_empty (field_of h texts.Name)
+abbrev pub header_name : Header → List ℕ
+header_name h = name_or_empty (field_of h texts.Name)
 
 abbrev pub cmdline_of : Header → List ℕ
-cmdline_of h = or_empty (field_of h texts.Cmdline) ++ or_empty (field_of h texts.Extra)
+cmdline_of h = name_or_empty (field_of h texts.Cmdline) ++ name_or_empty (field_of h texts.Extra)
 
 -- a text that is given anew leaves nothing out
 abbrev pub text_left : Bool → List ℕ → ℕ
 text_left anew x = if anew then 0 else set_in (behind_text x)
 
 abbrev pub texts_left : Anew → Header → ℕ
-texts_left anew h = text_left anew.name (name_of h) + text_left anew.cmdline (cmdline_of h)
+texts_left anew h = text_left anew.name (header_name h) + text_left anew.cmdline (cmdline_of h)
 
 -- behind n bytes, up to a page boundary
-abbrev pub behind : List ℕ → ℕ → ℕ → ℕ
-behind x page n = set_in (take (padding n page) (drop n x))
+abbrev pub set_in_padding : List ℕ → ℕ → ℕ → ℕ
+set_in_padding x page n = set_in (take (padding n page) (drop n x))
 
 abbrev pub behind_places : List ℕ → ℕ → List Place → ℕ
 behind_places x page [] = 0
-behind_places x page (p ∷ ps) = behind x page (p.at + p.size) + behind_places x page ps
+behind_places x page (p ∷ ps) = set_in_padding x page (p.at + p.size) + behind_places x page ps
 
 abbrev pub padding_left : List ℕ → Header → ℕ
-padding_left x h = behind x (page_of h) (size_of h) + behind_places x (page_of h) (places_of h)
+padding_left x h = set_in_padding x (page_of h) (size_of h) + behind_places x (page_of h) (places_of h)
 
 -- behind the image, as an AVB footer is
 abbrev pub trailing_left : Anew → List ℕ → Header → ℕ

@@ -12,5 +12,5 @@ abbrev pub stands_at : Section → Place → Bool
 stands_at section place = bytes_eq (section_name place.kind) (section_name section)
 
 -- the first place of a section, if there is one
-abbrev pub place_of : Header → Section → Option Place
-place_of h section = find (stands_at section) (places_of h)
+abbrev pub first_place_of : Header → Section → Option Place
+first_place_of h section = find (stands_at section) (places_of h)

@@ -1,9 +1,9 @@
 //! What packing an image again leaves out of it.
 
-ghost use Rattle.std.specs.Prelude.{◌≡◌, ◌<◌, ◌≤◌, ◌+◌, ◌++◌, ◌*◌, ◌^◌, Some, IsTrue, IfOk, IfErr, OnOk, length};
-ghost use Rattle.abt_sections.specs.Cause.{ReadCause};
+ghost use Rattle.std.specs.Prelude.{◌≡◌, ◌<◌, ◌≤◌, ◌+◌, ◌++◌, ◌*◌, ◌^◌, Some, IsTrue, IfOk, length};
 ghost use Rattle.abt_sections.specs.Header.{page_of, places_of, view_of};
 ghost use Rattle.abt_sections.specs.Open.{IsOpened};
+ghost use Rattle.abt_sections.specs.Reads.{ReadsUnless};
 ghost use Rattle.boot_findings.specs.LeftOut as spec;
 
 use crate::places::end_of;
@@ -76,13 +76,9 @@ pub fn count_left_out<S: Source>(
     w: &mut Window,
     m: &mut Meter,
 ) -> Result<LeftOut, SectionFault>
-    ensures content { IsTrue S.tells → S.content source.new ≡ S.content source.old }
+    ensures reads { ReadsUnless result S.Source source.old source.new (IsTrue S.tells → ⊥) }
     ensures counts { IsTrue S.tells → IsOpened (S.content source.old) image.now → IfOk result (λ left. left ≡
         spec.left_out_of anew ramdisk (S.content source.old) (view_of image.now.header)) }
-    ensures faults { S.read_faults source.old ≤ S.read_faults source.new }
-    ensures cause { IfErr result (λ f. ReadCause f (S.read_faults source.old) (S.read_faults source.new)
-        (IsTrue S.tells → ⊥)) }
-    ensures clean { OnOk result (S.read_faults source.new ≡ S.read_faults source.old) }
 {
     let padding = match padding_left(image, source, w, m) {
         Ok(count) => count,
@@ -123,7 +119,7 @@ fn texts_left(header: &ImageHeader, anew: Anew) -> u64
 }
 
 fn name_left(header: &ImageHeader, anew: bool) -> u64
-    ensures value { result ≡ spec.text_left anew (spec.name_of (view_of header.now)) }
+    ensures value { result ≡ spec.text_left anew (spec.header_name (view_of header.now)) }
     ensures few { result ≤ 2048 }
 {
     if anew {
@@ -164,13 +160,9 @@ fn padding_left<S: Source>(
     w: &mut Window,
     m: &mut Meter,
 ) -> Result<u64, SectionFault>
-    ensures content { IsTrue S.tells → S.content source.new ≡ S.content source.old }
+    ensures reads { ReadsUnless result S.Source source.old source.new (IsTrue S.tells → ⊥) }
     ensures value { IsTrue S.tells →
         IfOk result (λ n. n ≡ spec.padding_left (S.content source.old) (view_of image.now.header)) }
-    ensures faults { S.read_faults source.old ≤ S.read_faults source.new }
-    ensures cause { IfErr result (λ f. ReadCause f (S.read_faults source.old) (S.read_faults source.new)
-        (IsTrue S.tells → ⊥)) }
-    ensures clean { OnOk result (S.read_faults source.new ≡ S.read_faults source.old) }
 {
     let page = image.header.page_size();
     let mut count = match set_behind(source, image.header.size() as u64, page, w, m) {
@@ -198,13 +190,9 @@ fn set_behind<S: Source>(
 ) -> Result<u64, SectionFault>
     requires low { at < 2 ^ 63 }
     requires some { 0 < page }
-    ensures content { IsTrue S.tells → S.content source.new ≡ S.content source.old }
-    ensures value { IsTrue S.tells → IfOk result (λ n. n ≡ spec.behind (S.content source.old) page at) }
+    ensures reads { ReadsUnless result S.Source source.old source.new (IsTrue S.tells → ⊥) }
+    ensures value { IsTrue S.tells → IfOk result (λ n. n ≡ spec.set_in_padding (S.content source.old) page at) }
     ensures few { IfOk result (λ n. n ≤ page) }
-    ensures faults { S.read_faults source.old ≤ S.read_faults source.new }
-    ensures cause { IfErr result (λ f. ReadCause f (S.read_faults source.old) (S.read_faults source.new)
-        (IsTrue S.tells → ⊥)) }
-    ensures clean { OnOk result (S.read_faults source.new ≡ S.read_faults source.old) }
 {
     set_between(source, at, pages(at, page) * page as u64, w, m)
 }
@@ -218,13 +206,9 @@ fn trailing_left<S: Source>(
     w: &mut Window,
     m: &mut Meter,
 ) -> Result<u64, SectionFault>
-    ensures content { IsTrue S.tells → S.content source.new ≡ S.content source.old }
+    ensures reads { ReadsUnless result S.Source source.old source.new (IsTrue S.tells → ⊥) }
     ensures value { IsTrue S.tells → IsOpened (S.content source.old) image.now →
         IfOk result (λ n. n ≡ spec.trailing_left anew (S.content source.old) (view_of image.now.header)) }
-    ensures faults { S.read_faults source.old ≤ S.read_faults source.new }
-    ensures cause { IfErr result (λ f. ReadCause f (S.read_faults source.old) (S.read_faults source.new)
-        (IsTrue S.tells → ⊥)) }
-    ensures clean { OnOk result (S.read_faults source.new ≡ S.read_faults source.old) }
 {
     if anew.trailing {
         return Ok(0);

@@ -3,14 +3,14 @@
 ghost use Rattle.std.specs.Prelude.{◌≡◌, ◌+◌, ◌<◌, ◌≤◌, ◌^◌, IfSome};
 ghost use Rattle.abt_sections.specs.Header.{view_of};
 ghost use Rattle.boot_findings.specs.LeftOut as spec;
-ghost use Rattle.boot_findings.specs.Places.{place_of};
+ghost use Rattle.boot_findings.specs.Places.{first_place_of};
 
 use abt_headers::{Place, Section, pages};
 use abt_sections::{Image, section, sections};
 
 /// Where the section of this kind stands, if there is one.
 pub fn place_of(image: &Image, kind: Section) -> Option<Place>
-    ensures value { result ≡ place_of (view_of image.now.header) kind }
+    ensures value { result ≡ first_place_of (view_of image.now.header) kind }
     ensures low { IfSome result (λ place. place.at + place.size < 2 ^ 63) }
 {
     for i in 0..sections(image) {

@@ -1,7 +1,8 @@
 //! Why a check answers no.
 
-ghost use Rattle.std.specs.Prelude.{◌≡◌, ◌<◌, ◌≤◌, ◌^◌, ◌↔◌, IfOk, IfErr, OnOk, IfSome, IsTrue, length};
-ghost use Rattle.abt_sections.specs.Cause.{ReadCause};
+ghost use Rattle.std.specs.Prelude.{◌≡◌, ◌<◌, ◌≤◌, ◌^◌, ◌↔◌, IfOk, IfErr, IfSome, IsTrue, length};
+ghost use Rattle.abt_io.specs.Lent.{OnlyReads};
+ghost use Rattle.abt_sections.specs.Reads.{ReadsUnless};
 ghost use Rattle.boot_findings.specs.Reasons.{ReasonCause, ReasonsAre};
 
 use crate::places::{end_of, place_of};
@@ -79,9 +80,8 @@ pub fn find_reasons<S: Source>(
     m: &mut Meter,
 ) -> Result<Findings, SectionFault>
     ensures agree { IfOk result (λ found. ReasonsAre found verdict) }
-    ensures content { IsTrue S.tells → OnOk result (S.content source.new ≡ S.content source.old) }
+    ensures reads { OnlyReads result S.Source source.old source.new }
     ensures cause { IfErr result (λ f. ReasonCause f (S.read_faults source.old) (S.read_faults source.new)) }
-    ensures clean { OnOk result (S.read_faults source.new ≡ S.read_faults source.old) }
 {
     let padding = match first_unpadded(image, source, w, m) {
         Ok(place) => place.map(Reason::Byte),
@@ -122,10 +122,7 @@ fn first_unpadded<S: Source>(
     w: &mut Window,
     m: &mut Meter,
 ) -> Result<Option<u64>, SectionFault>
-    ensures content { IsTrue S.tells → OnOk result (S.content source.new ≡ S.content source.old) }
-    ensures cause { IfErr result (λ f. ReadCause f (S.read_faults source.old) (S.read_faults source.new)
-        (IsTrue S.tells → ⊥)) }
-    ensures clean { OnOk result (S.read_faults source.new ≡ S.read_faults source.old) }
+    ensures reads { ReadsUnless result S.Source source.old source.new (IsTrue S.tells → ⊥) }
 {
     let page = image.header.page_size();
     let mut end = image.header.size() as u64;

@@ -1,7 +1,7 @@
 //! Bytes that are not zero: how many there are, and where the first stands.
 
-ghost use Rattle.std.specs.Prelude.{◌≡◌, ◌<◌, ◌≤◌, ◌+◌, ◌-◌, ◌^◌, IsTrue, IfOk, IfErr, OnOk, length, take, drop, min};
-ghost use Rattle.abt_sections.specs.Cause.{ReadCause};
+ghost use Rattle.std.specs.Prelude.{◌≡◌, ◌<◌, ◌≤◌, ◌+◌, ◌-◌, ◌^◌, IsTrue, IfOk, length, take, drop, min};
+ghost use Rattle.abt_sections.specs.Reads.{ReadsUnless};
 ghost use Rattle.boot_findings.specs.LeftOut.{set_in};
 
 use abt_io::{Meter, Source, WINDOW, Window, read_full_at};
@@ -41,14 +41,10 @@ pub(crate) fn set_between<S: Source>(
     w: &mut Window,
     m: &mut Meter,
 ) -> Result<u64, SectionFault>
-    ensures content { IsTrue S.tells → S.content source.new ≡ S.content source.old }
+    ensures reads { ReadsUnless result S.Source source.old source.new (IsTrue S.tells → ⊥) }
     ensures value { IsTrue S.tells →
         IfOk result (λ n. n ≡ set_in (take (end - from) (drop from (S.content source.old)))) }
     ensures few { IfOk result (λ n. n ≤ end - from) }
-    ensures faults { S.read_faults source.old ≤ S.read_faults source.new }
-    ensures cause { IfErr result (λ f. ReadCause f (S.read_faults source.old) (S.read_faults source.new)
-        (IsTrue S.tells → ⊥)) }
-    ensures clean { OnOk result (S.read_faults source.new ≡ S.read_faults source.old) }
 {
     let all = end.saturating_sub(from);
     let mut done = 0;
@@ -86,15 +82,11 @@ fn count_in<S: Source>(
 ) -> Result<Seen, SectionFault>
     requires room { ask ≤ 65536 }
     requires below { at + ask < 2 ^ 64 }
-    ensures content { IsTrue S.tells → S.content source.new ≡ S.content source.old }
+    ensures reads { ReadsUnless result S.Source source.old source.new (IsTrue S.tells → ⊥) }
     ensures came { IsTrue S.tells → IfOk result (λ seen. seen.came ≡ min ask (length (S.content source.old) - at)) }
     ensures set { IsTrue S.tells →
         IfOk result (λ seen. seen.set ≡ set_in (take seen.came (drop at (S.content source.old)))) }
     ensures few { IfOk result (λ seen. (seen.set ≤ seen.came) × (seen.came ≤ ask)) }
-    ensures faults { S.read_faults source.old ≤ S.read_faults source.new }
-    ensures cause { IfErr result (λ f. ReadCause f (S.read_faults source.old) (S.read_faults source.new)
-        (IsTrue S.tells → ⊥)) }
-    ensures clean { OnOk result (S.read_faults source.new ≡ S.read_faults source.old) }
 {
     let read = read_full_at(source, at, w.part_mut(0, ask), m);
     if let Some(fault) = read.fault {
@@ -115,12 +107,8 @@ fn zeros_at<S: Source>(
 ) -> Result<usize, SectionFault>
     requires room { ask ≤ 65536 }
     requires below { at + ask < 2 ^ 64 }
-    ensures content { IsTrue S.tells → S.content source.new ≡ S.content source.old }
+    ensures reads { ReadsUnless result S.Source source.old source.new (IsTrue S.tells → ⊥) }
     ensures few { IfOk result (λ zeros. zeros ≤ ask) }
-    ensures faults { S.read_faults source.old ≤ S.read_faults source.new }
-    ensures cause { IfErr result (λ f. ReadCause f (S.read_faults source.old) (S.read_faults source.new)
-        (IsTrue S.tells → ⊥)) }
-    ensures clean { OnOk result (S.read_faults source.new ≡ S.read_faults source.old) }
 {
     let read = read_full_at(source, at, w.part_mut(0, ask), m);
     if let Some(fault) = read.fault {
@@ -137,11 +125,7 @@ pub(crate) fn first_set<S: Source>(
     w: &mut Window,
     m: &mut Meter,
 ) -> Result<Option<u64>, SectionFault>
-    ensures content { IsTrue S.tells → S.content source.new ≡ S.content source.old }
-    ensures faults { S.read_faults source.old ≤ S.read_faults source.new }
-    ensures cause { IfErr result (λ f. ReadCause f (S.read_faults source.old) (S.read_faults source.new)
-        (IsTrue S.tells → ⊥)) }
-    ensures clean { OnOk result (S.read_faults source.new ≡ S.read_faults source.old) }
+    ensures reads { ReadsUnless result S.Source source.old source.new (IsTrue S.tells → ⊥) }
 {
     let all = end.saturating_sub(from);
     let mut done = 0;

@@ -23,9 +23,9 @@ use Rattle.abt_sections.specs.Fields.{filled}
 use Rattle.abt_sections.specs.Header.{Header, OfVendor, entry_of, fragment_count, table_at}
 use Rattle.abt_sections.proofs.FieldTexts.{all_zero_is}
 use Rattle.boot_fields.specs.declared.board_word.BoardWord.{BoardWord}
-use Rattle.boot_fields.specs.Fragment.{number_of, type_number}
+use Rattle.boot_fields.specs.Fragment.{decimal_u32, type_number}
 use Rattle.boot_texts.specs.Info.{escaped, is_plain}
-use Rattle.boot_laws.specs.Said.{AreBoards, SaysEach, SaysFragment, SaysFragments, behind, board_id_of, number_after, values_of, with_value}
+use Rattle.boot_laws.specs.Said.{AreBoards, SaysEach, SaysFragment, SaysFragments, without_front, board_id_of, number_after, values_of, with_value}
 use Rattle.boot_fields.specs.Unescaped.{unescaped}
 use Rattle.boot_laws.specs.WayBack.{spec_of, specs_of}
 use Rattle.boot_texts.specs.Words.{board_option, board_word, board_words, entry_words, escaped_in_name, fragment_words, image_words, name_bytes, option_front, text_of}
@@ -46,7 +46,7 @@ with_both None a b = refl
 
 values_both : (name : List ℕ) (a b : List (List ℕ)) → values_of name (a ++ b) ≡ values_of name a ++ values_of name b
 values_both name [] b = refl
-values_both name (word ∷ a) b = ap (with_value (behind (option_front name) word)) (values_both name a b) ∙ with_both (behind (option_front name) word) (values_of name a) (values_of name b)
+values_both name (word ∷ a) b = ap (with_value (without_front (option_front name) word)) (values_both name a b) ∙ with_both (without_front (option_front name) word) (values_of name a) (values_of name b)
 
 -- ---- a name
 
@@ -134,7 +134,7 @@ no_name k name small no_digits = elim (cases_Bool (bytes_eq (decimal k) name)) [
   | inr e ↦ e
 ]
 
-number_again : (k : ℕ) → k < 2 ^ 32 → number_of (decimal k) ≡ Some k
+number_again : (k : ℕ) → k < 2 ^ 32 → decimal_u32 (decimal k) ≡ Some k
 number_again k small =
     let long : k < 2 ^ 64 = omega (arith, small) in
     let value : digits_value 10 (decimal k) ≡ k = digits_value-decimal own k long in

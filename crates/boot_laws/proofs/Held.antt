@@ -5,7 +5,7 @@ use Rattle.std.specs.Option.{unwrap_or}
 use Rattle.abt_io.specs.Bytes.{AreBytes}
 use Rattle.abt_io.specs.BytesLaws.{bytes_of_take}
 use Rattle.abt_headers.specs.Boot as boot
-use Rattle.abt_headers.specs.Field.{joined}
+use Rattle.abt_headers.specs.Field.{joined_fields}
 use Rattle.abt_headers.specs.Fits.{BootFits, FrontFits, ShortFits}
 use Rattle.abt_headers.specs.Vendor as vendor
 use Rattle.abt_headers.specs.Vendor.{Tail, Vendor, vendor_record}
@@ -41,11 +41,11 @@ back_bytes : (a b : List ℕ) → AreBytes (a ++ b) → AreBytes b
 back_bytes [] b h = h
 back_bytes (c ∷ a) b h = back_bytes a b (λ i. h (suc i))
 
-field_bytes : (fs : List (List ℕ)) → AreBytes (joined fs) → (k : ℕ) (d : List ℕ) → k < length fs
+field_bytes : (fs : List (List ℕ)) → AreBytes (joined_fields fs) → (k : ℕ) (d : List ℕ) → k < length fs
     → AreBytes (slice_index_or fs k d)
 field_bytes [] h k d l = absurd (let q : k < 0 = l in omega arith)
-field_bytes (f ∷ fs) h zero d l = front_bytes f (joined fs) h
-field_bytes (f ∷ fs) h (suc k) d l = field_bytes fs (back_bytes f (joined fs) h) k d (omega (arith, l))
+field_bytes (f ∷ fs) h zero d l = front_bytes f (joined_fields fs) h
+field_bytes (f ∷ fs) h (suc k) d l = field_bytes fs (back_bytes f (joined_fields fs) h) k d (omega (arith, l))
 
 -- ---- one field
 
@@ -82,7 +82,7 @@ front_addresses f s = each_address (λ a. (n : ℕ) → fields.address_of (OfBoo
 
 -- the texts of a record that begins with these fields
 front_texts : (f : BootFront) (version : ℕ) (more : List (List ℕ))
-    → AreBytes (joined (boot.front_fields version f ++ more)) → TextsHeld (OfBoot (V0 f))
+    → AreBytes (joined_fields (boot.front_fields version f ++ more)) → TextsHeld (OfBoot (V0 f))
 front_texts f version more h =
     let fs = boot.front_fields version f ++ more in
     each_text (λ t. (field : List ℕ) → fields.field_of (OfBoot (V0 f)) t ≡ Some field → AreBytes field)
@@ -94,7 +94,7 @@ short_addresses : (f : ShortFront) → AddressesHeld (OfBoot (V3 f))
 short_addresses f = each_address (λ a. (n : ℕ) → fields.address_of (OfBoot (V3 f)) a ≡ Some n → n < 2 ^ 64)
     (no_number (2 ^ 64)) (no_number (2 ^ 64)) (no_number (2 ^ 64)) (no_number (2 ^ 64)) (no_number (2 ^ 64))
 
-short_texts : (f : ShortFront) (fs : List (List ℕ)) → AreBytes (joined fs) → 7 < length fs
+short_texts : (f : ShortFront) (fs : List (List ℕ)) → AreBytes (joined_fields fs) → 7 < length fs
     → slice_index_or fs 7 f.cmdline ≡ f.cmdline → TextsHeld (OfBoot (V3 f))
 short_texts f fs h long there =
     each_text (λ t. (field : List ℕ) → fields.field_of (OfBoot (V3 f)) t ≡ Some field → AreBytes field) no_text
@@ -122,12 +122,12 @@ boot_held (V2 f d t) s h = record {
 boot_held (V3 f) s h = record {
   addresses = short_addresses f;
   os = some_os f.os_version.number s.os_version;
-  texts = short_texts f (boot.boot_fields (V3 f)) h (omega arith) refl;
+  texts = short_texts f (boot.boot_field_list (V3 f)) h (omega arith) refl;
 }
 boot_held (V4 f signature) s h = record {
   addresses = short_addresses f;
   os = some_os f.os_version.number s.0.os_version;
-  texts = short_texts f (boot.boot_fields (V4 f signature)) h (omega arith) refl;
+  texts = short_texts f (boot.boot_field_list (V4 f signature)) h (omega arith) refl;
 }
 
 -- ---- vendor boot headers
@@ -139,10 +139,10 @@ vendor_addresses f o s = each_address (λ a. (n : ℕ) → fields.vendor_address
     (some_32 f.tags_addr s.tags_addr) (some_64 f.dtb_addr s.dtb_addr)
 
 vendor_texts : (f : VendorFront) (version : ℕ) (more : List (List ℕ))
-    → AreBytes (joined (vendor.vendor_fields version f ++ more)) → (t : TextField) (field : List ℕ)
+    → AreBytes (joined_fields (vendor.vendor_field_list version f ++ more)) → (t : TextField) (field : List ℕ)
     → fields.vendor_field f t ≡ Some field → AreBytes field
 vendor_texts f version more h =
-    let fs = vendor.vendor_fields version f ++ more in
+    let fs = vendor.vendor_field_list version f ++ more in
     each_text (λ t. (field : List ℕ) → fields.vendor_field f t ≡ Some field → AreBytes field)
     (some_text f.name (field_bytes fs h 8 f.name (omega arith)))
     (some_text f.cmdline (field_bytes fs h 6 f.cmdline (omega arith))) no_text

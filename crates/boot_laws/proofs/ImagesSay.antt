@@ -18,28 +18,28 @@ use Rattle.abt_sections.specs.Header.{Header, OfBoot, OfVendor, entry_of, fragme
 use Rattle.abt_sections.specs.Refusal.{size_refusal, vendor_names, vendor_refusal}
 use Rattle.abt_sections.specs.VendorCanon.{VendorParts, vendor_sizes_for}
 use Rattle.abt_sections.proofs.Accepting.{all_small, neither}
-use Rattle.boot_laws.specs.Said.{AreBoards, SaysEach, SaysFragments, SaysHeader, behind, board_id_of, number_after, is_said, is_whole, values_of, vendor_fields_of, with_value}
-use Rattle.boot_laws.specs.WayBack.{PacksAgain, SaysImage, spec_of, specs_of, vendor_parts_with}
+use Rattle.boot_laws.specs.Said.{AreBoards, SaysEach, SaysFragments, SaysHeader, without_front, board_id_of, number_after, is_said, is_whole, values_of, vendor_fields_of, with_value}
+use Rattle.boot_laws.specs.WayBack.{PacksFromParts, SaysImage, spec_of, specs_of, vendor_parts_with}
 use Rattle.boot_texts.specs.Words.{flag_word, image_words, is_month, option_front, os_option, os_text}
 use Rattle.boot_laws.proofs.FilesSay.{files_said}
 use Rattle.boot_laws.proofs.FragmentsSay.{fragments_said, no_board_at, none_at, specs_long}
 
 -- ---- the word of the OS version is no other
 
-os_is_none : (front : List ℕ) (n : ℕ) → ((t : List ℕ) → behind front (codes "--os=" ++ t) ≡ None) → ((t : List ℕ) → behind front (codes "--os-number=" ++ t) ≡ None) → behind front (os_option n) ≡ None
+os_is_none : (front : List ℕ) (n : ℕ) → ((t : List ℕ) → without_front front (codes "--os=" ++ t) ≡ None) → ((t : List ℕ) → without_front front (codes "--os-number=" ++ t) ≡ None) → without_front front (os_option n) ≡ None
 os_is_none front n word number = elim (cases_Bool (is_month (os_parts n).month)) [
   | inl e ↦
       let said : os_option n ≡ codes "--os=" ++ os_text (os_parts n) = rw e refl in
-      ap (behind front) said ∙ word (os_text (os_parts n))
+      ap (without_front front) said ∙ word (os_text (os_parts n))
   | inr e ↦
       let said : os_option n ≡ codes "--os-number=" ++ decimal n = rw e refl in
-      ap (behind front) said ∙ number (decimal n)
+      ap (without_front front) said ∙ number (decimal n)
 ]
 
-no_value : (name : List ℕ) (n : ℕ) → behind (option_front name) (os_option n) ≡ None → with_value (behind (option_front name) (os_option n)) [] ≡ []
+no_value : (name : List ℕ) (n : ℕ) → without_front (option_front name) (os_option n) ≡ None → with_value (without_front (option_front name) (os_option n)) [] ≡ []
 no_value name n e = ap (λ (o : Option (List ℕ)). with_value o []) e
 
-no_flag : (name : List ℕ) (n : ℕ) → behind (flag_word name) (os_option n) ≡ None → (is_whole (behind (flag_word name) (os_option n)) || false) ≡ false
+no_flag : (name : List ℕ) (n : ℕ) → without_front (flag_word name) (os_option n) ≡ None → (is_whole (without_front (flag_word name) (os_option n)) || false) ≡ false
 no_flag name n e = ap (λ (o : Option (List ℕ)). is_whole o || false) e
 
 -- ---- boot images
@@ -56,8 +56,8 @@ no_words folder words f g = record {
 }
 
 module _ (folder x : List ℕ) where
-  no_fragments : (words : List (List ℕ)) (n : ℕ) → values_of (codes "fragment") words ≡ with_value (behind (option_front (codes "fragment")) (os_option n)) []
-      → values_of (codes "board-id") words ≡ with_value (behind (option_front (codes "board-id")) (os_option n)) [] → SaysFragments words folder []
+  no_fragments : (words : List (List ℕ)) (n : ℕ) → values_of (codes "fragment") words ≡ with_value (without_front (option_front (codes "fragment")) (os_option n)) []
+      → values_of (codes "board-id") words ≡ with_value (without_front (option_front (codes "board-id")) (os_option n)) [] → SaysFragments words folder []
   no_fragments words n a b =
       let f : values_of (codes "fragment") words ≡ [] = a ∙ no_value (codes "fragment") n (os_is_none (option_front (codes "fragment")) n (λ t. refl) (λ t. refl)) in
       let g : values_of (codes "board-id") words ≡ [] = b ∙ no_value (codes "board-id") n (os_is_none (option_front (codes "board-id")) n (λ t. refl) (λ t. refl)) in
@@ -70,7 +70,7 @@ module _ (folder x : List ℕ) where
   boot_fragments (V3 f) = no_fragments (image_words folder x (OfBoot (V3 f))) f.os_version.number refl refl
   boot_fragments (V4 f signature) = no_fragments (image_words folder x (OfBoot (V4 f signature))) f.os_version.number refl refl
 
-  no_vendor : (n : ℕ) → (is_whole (behind (flag_word (codes "vendor")) (os_option n)) || false) ≡ false
+  no_vendor : (n : ℕ) → (is_whole (without_front (flag_word (codes "vendor")) (os_option n)) || false) ≡ false
   no_vendor n = no_flag (codes "vendor") n (os_is_none (flag_word (codes "vendor")) n (λ t. refl) (λ t. refl))
 
   boot_kind : (h : BootHeader) → is_said (codes "vendor") (image_words folder x (OfBoot h)) ≡ false
@@ -125,7 +125,7 @@ module _ (folder x : List ℕ) (bytes : AreBytes folder) (image : AreBytes x) wh
   vendor_flags f None = (refl, refl)
   vendor_flags f (Some t) = (refl, refl)
 
-  pub image_said : (h : Header) → SaysHeader (image_words folder x h) h → PacksAgain x h → SaysImage (image_words folder x h) folder x h
+  pub image_said : (h : Header) → SaysHeader (image_words folder x h) h → PacksFromParts x h → SaysImage (image_words folder x h) folder x h
   image_said (OfBoot h) says packs = record {
     escaped = refl;
     vendor = boot_kind folder x h;

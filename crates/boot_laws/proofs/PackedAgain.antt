@@ -9,14 +9,14 @@ use Rattle.abt_sections.specs.declared.spec.FragmentSpec.{FragmentSpec}
 use Rattle.abt_sections.specs.BootCanon.{boot_canon, boot_header_of, boot_image}
 use Rattle.abt_sections.specs.Canonical.{IsBootInput, IsVendorInput, StartsAsBoot, StartsAsPacked, StartsAsVendor, StartsWith}
 use Rattle.abt_sections.specs.Fields.{BootFields, VendorFields}
-use Rattle.abt_sections.specs.Header.{Header, OfBoot, OfVendor, entry_of, fragment_of, header_at, places_of}
+use Rattle.abt_sections.specs.Header.{Header, OfBoot, OfVendor, entry_of, fragment_of, image_header_at, places_of}
 use Rattle.abt_sections.specs.Layout.{parts_of}
 use Rattle.abt_sections.specs.Open.{HasImage}
 use Rattle.abt_sections.specs.Unpacked.{HoldsBoot, HoldsFragment, HoldsVendor}
 use Rattle.abt_sections.specs.VendorCanon.{VendorParts, vendor_canon, vendor_header_of, vendor_image, vendor_parts, vendor_sections_for, vendor_sizes_for, table_for, tail_for}
 use Rattle.abt_sections.proofs.Starting.{continues}
 use Rattle.boot_laws.specs.Said.{boot_fields_of, vendor_fields_of}
-use Rattle.boot_laws.specs.WayBack.{PacksAgain, PacksBoot, PacksVendor, boot_parts_of, ramdisks_of, spec_of, specs_of, vendor_part, vendor_parts_of, vendor_parts_with}
+use Rattle.boot_laws.specs.WayBack.{PacksFromParts, PacksBoot, PacksVendor, boot_parts_of, ramdisks_of, spec_of, specs_of, vendor_part, vendor_parts_of, vendor_parts_with}
 use Rattle.boot_laws.proofs.PackedFields.{MakesVendor, boot_again, three_or_four, vendor_again}
 
 -- ---- what the laws of packing say
@@ -56,7 +56,7 @@ module _ (x : List ℕ) (h : BootHeader) (has : HasImage x (OfBoot h)) where
       let parts = b.parts in
       let rest = drop (length (boot_canon s parts)) x in
       let held : HoldsBoot x s parts = subst (λ (y : List ℕ). HoldsBoot y s parts) (sym (continues x (boot_canon s parts) b.front)) (holds s parts rest b.input) in
-      let same : h ≡ boot_header_of s parts = boot_same h (boot_header_of s parts) (ok_same (OfBoot h) (OfBoot (boot_header_of s parts)) (header_at x) has.header held.has.header) in
+      let same : h ≡ boot_header_of s parts = boot_same h (boot_header_of s parts) (ok_same (OfBoot h) (OfBoot (boot_header_of s parts)) (image_header_at x) has.header held.has.header) in
       let there : boot_parts_of x h ≡ parts = ap (λ (g : BootHeader). parts_of x (places_of (OfBoot g))) same ∙ held.each in
       let made = boot_again s parts b.input in
       let t = boot_fields_of (boot_header_of s parts) in
@@ -70,7 +70,7 @@ module _ (x : List ℕ) (h : BootHeader) (has : HasImage x (OfBoot h)) where
   no_vendor holds b =
       let rest = drop (length (vendor_canon b.fields b.parts)) x in
       let held : HoldsVendor x b.fields b.parts = subst (λ (y : List ℕ). HoldsVendor y b.fields b.parts) (sym (continues x (vendor_canon b.fields b.parts) b.front)) (holds b.fields b.parts rest b.input) in
-      apart h (vendor_header_of b.fields b.parts) (ok_same (OfBoot h) (OfVendor (vendor_header_of b.fields b.parts)) (header_at x) has.header held.has.header)
+      apart h (vendor_header_of b.fields b.parts) (ok_same (OfBoot h) (OfVendor (vendor_header_of b.fields b.parts)) (image_header_at x) has.header held.has.header)
 
   pub boot_packs : BootHolds → VendorHolds → StartsAsPacked x → PacksBoot x (boot_fields_of h) (boot_parts_of x h)
   boot_packs boot vendor (inl b) = from_boot boot b
@@ -165,7 +165,7 @@ module _ (x : List ℕ) (v : Vendor) (has : HasImage x (OfVendor v)) where
       let rest = drop (length (vendor_canon s p)) x in
       let whole : x ≡ vendor_canon s p ++ rest = continues x (vendor_canon s p) b.front in
       let held : HoldsVendor x s p = subst (λ (y : List ℕ). HoldsVendor y s p) (sym whole) (holds s p rest b.input) in
-      let same : v ≡ vendor_header_of s p = vendor_same v (vendor_header_of s p) (ok_same (OfVendor v) (OfVendor (vendor_header_of s p)) (header_at x) has.header held.has.header) in
+      let same : v ≡ vendor_header_of s p = vendor_same v (vendor_header_of s p) (ok_same (OfVendor v) (OfVendor (vendor_header_of s p)) (image_header_at x) has.header held.has.header) in
       let there : vendor_parts_of x (vendor_header_of s p) ≡ p = elim (three_or_four s p b.input) [
         | inl e ↦ parts_3 x s p e b.input held
         | inr e ↦ parts_4 x s p e b.input held (λ i l. subst (λ (y : List ℕ). HoldsFragment y (OfVendor (vendor_header_of s p)) p.fragments p.ramdisks i) (sym whole) (fragments s p rest i b.input e l))
@@ -179,12 +179,12 @@ module _ (x : List ℕ) (v : Vendor) (has : HasImage x (OfVendor v)) where
   no_boot holds b =
       let rest = drop (length (boot_canon b.fields b.parts)) x in
       let held : HoldsBoot x b.fields b.parts = subst (λ (y : List ℕ). HoldsBoot y b.fields b.parts) (sym (continues x (boot_canon b.fields b.parts) b.front)) (holds b.fields b.parts rest b.input) in
-      apart (boot_header_of b.fields b.parts) v (ok_same (OfBoot (boot_header_of b.fields b.parts)) (OfVendor v) (header_at x) held.has.header has.header)
+      apart (boot_header_of b.fields b.parts) v (ok_same (OfBoot (boot_header_of b.fields b.parts)) (OfVendor v) (image_header_at x) held.has.header has.header)
 
   pub vendor_packs : BootHolds → VendorHolds → FragmentsHold → StartsAsPacked x → PacksVendor x (vendor_fields_of v) (vendor_parts_of x v)
   vendor_packs boot vendor fragments (inl b) = absurd (no_boot boot b)
   vendor_packs boot vendor fragments (inr b) = from_vendor vendor fragments b
 
-pub packs_again : BootHolds → VendorHolds → FragmentsHold → (x : List ℕ) (h : Header) → HasImage x h → StartsAsPacked x → PacksAgain x h
+pub packs_again : BootHolds → VendorHolds → FragmentsHold → (x : List ℕ) (h : Header) → HasImage x h → StartsAsPacked x → PacksFromParts x h
 packs_again boot vendor fragments x (OfBoot h) has p = boot_packs x h has boot vendor p
 packs_again boot vendor fragments x (OfVendor v) has p = vendor_packs x v has boot vendor fragments p

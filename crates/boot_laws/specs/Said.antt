@@ -30,11 +30,11 @@ use Rattle.boot_texts.specs.Words.{flag_word, option_front, section_option, text
 -- ---- the value of an option
 
 -- what stands behind a front
-abbrev pub behind : List ℕ → List ℕ → Option (List ℕ)
-behind [] word = Some word
-behind (a ∷ front) [] = None
-behind (a ∷ front) (b ∷ word) = elim (a == b) [
-  | true ↦ behind front word
+abbrev pub without_front : List ℕ → List ℕ → Option (List ℕ)
+without_front [] word = Some word
+without_front (a ∷ front) [] = None
+without_front (a ∷ front) (b ∷ word) = elim (a == b) [
+  | true ↦ without_front front word
   | false ↦ None
 ]
 
@@ -49,12 +49,12 @@ first_of None rest = rest
 -- the value in the first word `--NAME=VALUE`
 abbrev pub value_of : List ℕ → List (List ℕ) → Option (List ℕ)
 value_of name [] = None
-value_of name (word ∷ words) = first_of (behind (option_front name) word) (value_of name words)
+value_of name (word ∷ words) = first_of (without_front (option_front name) word) (value_of name words)
 
 -- the values in all words `--NAME=VALUE`, in order
 abbrev pub values_of : List ℕ → List (List ℕ) → List (List ℕ)
 values_of name [] = []
-values_of name (word ∷ words) = with_value (behind (option_front name) word) (values_of name words)
+values_of name (word ∷ words) = with_value (without_front (option_front name) word) (values_of name words)
 
 -- ---- what a word without a value says
 
@@ -67,7 +67,7 @@ is_whole (Some (a ∷ rest)) = false
 -- the word `--NAME` is one of these
 abbrev pub is_said : List ℕ → List (List ℕ) → Bool
 is_said name [] = false
-is_said name (word ∷ words) = is_whole (behind (flag_word name) word) || is_said name words
+is_said name (word ∷ words) = is_whole (without_front (flag_word name) word) || is_said name words
 
 -- ---- what an option says
 
@@ -183,8 +183,8 @@ pub record SaysFragments (words : List (List ℕ)) (folder : List ℕ) (fs : Lis
 -- ---- the fields that a header has
 
 -- of versions 0 to 2; version 2 alone has the address of a dtb
-abbrev pub front_fields : ℕ → ℕ → BootFront → BootFields
-front_fields version dtb_addr f = record {
+abbrev pub fields_of_front : ℕ → ℕ → BootFront → BootFields
+fields_of_front version dtb_addr f = record {
   version = version;
   page = page_bytes f.page_size;
   kernel_addr = f.kernel_addr;
@@ -198,8 +198,8 @@ front_fields version dtb_addr f = record {
 }
 
 -- of versions 3 and 4
-abbrev pub short_fields : ℕ → ShortFront → BootFields
-short_fields version f = record {
+abbrev pub fields_of_short : ℕ → ShortFront → BootFields
+fields_of_short version f = record {
   version = version;
   page = 4096;
   kernel_addr = 0;
@@ -213,11 +213,11 @@ short_fields version f = record {
 }
 
 abbrev pub boot_fields_of : BootHeader → BootFields
-boot_fields_of (V0 f) = front_fields 0 0 f
-boot_fields_of (V1 f d) = front_fields 1 0 f
-boot_fields_of (V2 f d t) = front_fields 2 t.dtb_addr f
-boot_fields_of (V3 f) = short_fields 3 f
-boot_fields_of (V4 f signature) = short_fields 4 f
+boot_fields_of (V0 f) = fields_of_front 0 0 f
+boot_fields_of (V1 f d) = fields_of_front 1 0 f
+boot_fields_of (V2 f d t) = fields_of_front 2 t.dtb_addr f
+boot_fields_of (V3 f) = fields_of_short 3 f
+boot_fields_of (V4 f signature) = fields_of_short 4 f
 
 abbrev pub vendor_fields_of : Vendor → VendorFields
 vendor_fields_of v = record {

@@ -62,22 +62,22 @@ pub record PacksVendor (x : List ℕ) (s : VendorFields) (p : VendorParts) : Typ
   pub again : StartsWith x (vendor_canon s p)
 
 -- the fields of its header and the parts in its sections pack an image again
-abbrev pub PacksAgain : List ℕ → Header → Type 0
-PacksAgain x (OfBoot h) = PacksBoot x (boot_fields_of h) (boot_parts_of x h)
-PacksAgain x (OfVendor v) = PacksVendor x (vendor_fields_of v) (vendor_parts_of x v)
+abbrev pub PacksFromParts : List ℕ → Header → Type 0
+PacksFromParts x (OfBoot h) = PacksBoot x (boot_fields_of h) (boot_parts_of x h)
+PacksFromParts x (OfVendor v) = PacksVendor x (vendor_fields_of v) (vendor_parts_of x v)
 
 -- ---- what the words say
 
 -- the words of a vendor boot image
-abbrev pub is_vendor : Header → Bool
-is_vendor (OfBoot h) = false
-is_vendor (OfVendor v) = true
+abbrev pub has_vendor_header : Header → Bool
+has_vendor_header (OfBoot h) = false
+has_vendor_header (OfVendor v) = true
 
 -- the words say what packs the image x again: that bytes are escaped, its kind and its fields, for each part the file
 -- that unpacking writes to a folder, and what the table says of each fragment
 pub record SaysImage (words : List (List ℕ)) (folder x : List ℕ) (h : Header) : Type 0 where
   pub escaped : is_said (codes "escaped") words ≡ true
-  pub vendor : is_said (codes "vendor") words ≡ is_vendor h
+  pub vendor : is_said (codes "vendor") words ≡ has_vendor_header h
   pub fields : SaysHeader words h
   pub files : SaysFiles words folder (has_table h) (places_of h)
   pub fragments : SaysFragments words folder (specs_of x h (fragment_count h))

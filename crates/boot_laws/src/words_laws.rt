@@ -8,7 +8,7 @@ ghost use Rattle.abt_sections.specs.Header.{Header, view_of};
 ghost use Rattle.abt_sections.specs.Open.{HasImage, IsOpened};
 ghost use Rattle.boot_fields.specs.Fields as fields;
 ghost use Rattle.boot_laws.specs.Said.{IsHeld, SaysHeader};
-ghost use Rattle.boot_laws.specs.WayBack.{PacksAgain, SaysImage};
+ghost use Rattle.boot_laws.specs.WayBack.{PacksFromParts, SaysImage};
 ghost use Rattle.boot_texts.specs.Words.{image_words};
 
 use abt_io::are_bytes;
@@ -46,7 +46,7 @@ pub fn image_is_held()
 /// A canonical image is packed again: packing takes the fields of its header with the parts that unpacking writes, and
 /// the image that it packs of them is the one that stands there, byte for byte.
 pub fn canonical_packs_again()
-    ensures { (x : List ℕ) (h : Header) → AreBytes x → HasImage x h → IsCanonical x h → PacksAgain x h }
+    ensures { (x : List ℕ) (h : Header) → AreBytes x → HasImage x h → IsCanonical x h → PacksFromParts x h }
 {
     canonical_is_packed();
     packed_holds_parts();
@@ -69,7 +69,7 @@ pub fn words_pack_again(image: &Image)
         IsCanonical x (view_of image.now.header) →
         SaysImage (image_words folder x (view_of image.now.header)) folder x (view_of image.now.header) }
     ensures packs { (x : List ℕ) → AreBytes x → IsOpened x image.now → IsCanonical x (view_of image.now.header) →
-        PacksAgain x (view_of image.now.header) }
+        PacksFromParts x (view_of image.now.header) }
 {
     words_say_the_header();
     header_is_held(&image.header);

@@ -1,8 +1,7 @@
 -- What is read of a range of a file.
-use Rattle.std.proofs.Common.{◌≡◌, ◌<◌, ◌≤◌, ◌+◌, ◌-◌, ◌^◌, ℕ, zero, suc, List, [], ◌∷◌, ◌++◌, length, take, drop, min, Option, Some, None, refl, sym, ◌∙◌, ap, subst, arith}
-use Rattle.std.proofs.lemmas.List.{take-take, drop-take, drop-drop, take_at}
-use Rattle.std.proofs.Math.Seq.{take-append_seam}
-use Rattle.boot_rules.specs.Ranges.{bytes_in, long_in}
+use Rattle.std.proofs.Common.{◌≡◌, ◌<◌, ◌≤◌, ◌+◌, ◌-◌, ◌^◌, ℕ, zero, suc, List, [], ◌∷◌, ◌++◌, length, take, drop, Option, Some, None, refl, sym, ◌∙◌, ap, arith}
+use Rattle.std.proofs.lemmas.List.{take-take, drop-take, drop-drop}
+use Rattle.boot_rules.specs.Ranges.{range_bytes, long_in}
 
 -- n bytes from a place on, of a range
 in_range : (n at A size : ℕ) (x : List ℕ) → n ≤ size - at → at ≤ size
@@ -23,7 +22,7 @@ take_front (suc n) [] y h = absurd (omega (arith, h))
 take_front (suc n) (b ∷ x) y h = ap (λ l. b ∷ l) (take_front n x y (omega (arith, h)))
 
 in_bytes : (o : Option (List ℕ)) (n at A size : ℕ) → n ≤ size - at → at ≤ size
-    → take n (bytes_in o (A + at) n) ≡ take n (drop at (bytes_in o A size))
+    → take n (range_bytes o (A + at) n) ≡ take n (drop at (range_bytes o A size))
 in_bytes None n at A size few below = ap (take n) (sym (drop_none at))
 in_bytes (Some x) n at A size few below =
     take-take n n (drop (A + at) x) (omega arith) ∙ sym (in_range n at A size x few below)
@@ -32,11 +31,11 @@ in_bytes (Some x) n at A size few below =
 pub read_bytes : (o : Option (List ℕ)) (n room at A size from left : ℕ) (new out : List ℕ) → A + size ≤ long_in o
     → long_in o < 2 ^ 64 → n ≤ length new → length new ≡ room → room ≤ left → left ≡ size - at
     → (A + at < 2 ^ 64 → from ≡ A + at)
-    → take n new ≡ take n (bytes_in o from n) → take n (new ++ out) ≡ take n (drop at (bytes_in o A size))
+    → take n new ≡ take n (range_bytes o from n) → take n (new ++ out) ≡ take n (drop at (range_bytes o A size))
 read_bytes o zero room at A size from left new out lies short within long fits is sat bytes = refl
 read_bytes o (suc k) room at A size from left new out lies short within long fits is sat bytes =
     let few : suc k ≤ size - at = omega (arith, within, long, fits, is) in
     let below : at ≤ size = omega (arith, few) in
     let low : A + at < 2 ^ 64 = omega (arith, few, lies, short) in
     let front : take (suc k) (new ++ out) ≡ take (suc k) new = take_front (suc k) new out within in
-    front ∙ bytes ∙ ap (λ f. take (suc k) (bytes_in o f (suc k))) (sat low) ∙ in_bytes o (suc k) at A size few below
+    front ∙ bytes ∙ ap (λ f. take (suc k) (range_bytes o f (suc k))) (sat low) ∙ in_bytes o (suc k) at A size few below

@@ -1,16 +1,16 @@
 -- What packing refuses before it writes is no fault of moving bytes.
-use Rattle.std.proofs.Common.{◌≡◌, ℕ, Bool, true, false, List, [], ◌∷◌, Option, Some, None, Result, Ok, Err, map, refl, sym, subst, ◌∙◌, ap}
+use Rattle.std.proofs.Common.{◌≡◌, ℕ, Bool, true, false, List, [], ◌∷◌, Option, Some, None, Result, Ok, Err, refl, sym, subst, ap}
 use Rattle.std.specs.Prelude.{◌&&◌, ◌||◌, nat_lt, not, if◌then◌else◌, is_some, IfErr, OnOk}
 use Rattle.abt_headers.specs.declared.fault.HeaderFault.TheVariants as header
 use Rattle.abt_headers.specs.Page.{page_from}
 use Rattle.abt_headers.specs.declared.sections.Section.{Section}
-use Rattle.abt_sections.specs.Cause.{PackCause, MoveCause}
+use Rattle.abt_sections.specs.Cause.{PackCause}
 use Rattle.abt_sections.specs.Fields.{BootFields, VendorFields, boot_fields, is_text}
-use Rattle.abt_sections.specs.Refusal.{IfRefused, boot_names, boot_refusal, or_else, pack_boot_refusal, pack_vendor_refusal, size_refusal, vendor_names, vendor_refusal}
+use Rattle.abt_sections.specs.Refusal.{IfRefused, boot_names, boot_refusal, or_else, size_refusal, vendor_names, vendor_refusal}
 use Rattle.abt_sections.specs.declared.fault.SectionFault.{SectionFault}
 use Rattle.abt_sections.specs.declared.fault.SectionFault.TheVariants as faults
 use Rattle.abt_sections.specs.declared.spec.BootSpec.{BootSpec}
-use Rattle.boot_rules.specs.Refused.{refusal_of, IsOfMoving, IsRefusalOrMove, vendor_fields_of, vendor_sizes}
+use Rattle.boot_rules.specs.Refused.{refusal_of, IsOfMoving, IsRefusalOrMove, vendor_fields_asked, vendor_sizes}
 use Rattle.boot_fields.specs.declared.image_kind.ImageKind.{ImageKind}
 use Rattle.boot_fields.specs.declared.image_kind.ImageKind.TheVariants.{Boot, Vendor}
 
@@ -56,7 +56,7 @@ refusal_fixed (Boot n) s parts ramdisks =
     either (boot_refusal (boot_fields s)) (size_refusal (boot_names s.version) parts) (of_boot (boot_fields s)) (of_sizes (boot_names s.version) parts)
 refusal_fixed (Vendor n) s parts ramdisks =
     let sizes = vendor_sizes s.version parts ramdisks in
-    either (vendor_refusal (vendor_fields_of s)) (size_refusal vendor_names sizes) (of_vendor (vendor_fields_of s)) (of_sizes vendor_names sizes)
+    either (vendor_refusal (vendor_fields_asked s)) (size_refusal vendor_names sizes) (of_vendor (vendor_fields_asked s)) (of_sizes vendor_names sizes)
 
 -- ---- what the packer answered that had no room
 

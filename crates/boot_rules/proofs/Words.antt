@@ -1,9 +1,9 @@
 -- Why an OS version that words give is refused.
-use Rattle.std.proofs.Common.{◌≡◌, ◌≤◌, ◌^◌, ℕ, List, Option, Some, None, refl, sym, subst}
+use Rattle.std.proofs.Common.{◌≡◌, ◌≤◌, ◌^◌, ℕ, List, Some, None, refl, sym, subst}
 use Rattle.std.specs.Prelude.{Result, Ok, Err, IfErr, OnErr, codes}
 use Rattle.abt_headers.specs.declared.os.OsVersion.{OsVersion}
 use Rattle.boot_rules.specs.Fault.{of_os_word}
-use Rattle.boot_rules.specs.Given.{SaysOs, found}
+use Rattle.boot_rules.specs.Given.{OsWordSays, found}
 use Rattle.boot_rules.specs.Wrong.{IsWrongOs}
 use Rattle.boot_rules.specs.declared.fault.BootCommandFault.{BootCommandFault}
 use Rattle.boot_rules.specs.declared.fault.BootCommandFault.TheVariants as faults
@@ -18,7 +18,7 @@ number_wrong (Err fault) options option is wrong told =
 
 pub word_wrong : (r : Result OsVersion BootCommandFault) (options : List OptionText) (option : OptionText)
     → found options (codes "os-number") ≡ None → found options (codes "os") ≡ Some option
-    → OnErr r ((os : ℕ) → SaysOs option.word.now os → ⊥)
+    → OnErr r ((os : ℕ) → OsWordSays option.word.now os → ⊥)
     → IfErr r (λ fault. fault ≡ of_os_word) → IfErr r (IsWrongOs options)
 word_wrong (Ok os) options option alone is none told = tt
 word_wrong (Err fault) options option alone is none told =

@@ -18,14 +18,14 @@ is_usage (faults.BadBoardId word) = true
 is_usage faults.CheckFailed = false
 
 -- the number of a fault of an image or a device
-abbrev pub number_of : BootCommandFault → Option ℕ
-number_of (faults.Section fault) = Some (section.fault_number fault)
-number_of (faults.Host fault) = None
-number_of (faults.OptionNotCarried name) = None
-number_of (faults.BadFragment word) = None
-number_of (faults.BadNumber word) = None
-number_of (faults.BadBoardId word) = None
-number_of faults.CheckFailed = None
+abbrev pub boot_command_fault_number : BootCommandFault → Option ℕ
+boot_command_fault_number (faults.Section fault) = Some (section.section_fault_number fault)
+boot_command_fault_number (faults.Host fault) = None
+boot_command_fault_number (faults.OptionNotCarried name) = None
+boot_command_fault_number (faults.BadFragment word) = None
+boot_command_fault_number (faults.BadNumber word) = None
+boot_command_fault_number (faults.BadBoardId word) = None
+boot_command_fault_number faults.CheckFailed = None
 
 -- there is no such header version
 abbrev pub of_version : ℕ → BootCommandFault

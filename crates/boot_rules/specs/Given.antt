@@ -6,7 +6,6 @@ use Rattle.std.specs.Option.{unwrap_or}
 use Rattle.std.specs.Str.{bytes_eq}
 use Rattle.abt_headers.specs.Os.{IsOsVersion, os_raw}
 use Rattle.abt_headers.specs.declared.os.OsParts.{OsParts}
-use Rattle.abt_headers.specs.declared.os.OsVersion.{OsVersion}
 use Rattle.abt_sections.specs.Fields.{BootFields}
 use Rattle.boot_fields.specs.Kind.{version_of}
 use Rattle.boot_fields.specs.Loading.{base_for, load_at, most_address, usual_offset}
@@ -61,7 +60,7 @@ address_for options which own = up_to (most_address which) (load_at (words_for o
 -- ---- the OS version and patch level
 
 -- a word of `--os` says this number
-pub record SaysOs (word : List ℕ) (os : ℕ) : Type 0 where
+pub record OsWordSays (word : List ℕ) (os : ℕ) : Type 0 where
   pub parts : OsParts
   pub shape : IsOsWord word parts
   pub fits : IsOsVersion parts
@@ -69,7 +68,7 @@ pub record SaysOs (word : List ℕ) (os : ℕ) : Type 0 where
 
 abbrev pub IsOsOf : Option ℕ → Option OptionText → ℕ → ℕ → Type 0
 IsOsOf (Some number) option own os = os ≡ number
-IsOsOf None (Some option) own os = SaysOs option.word.now os
+IsOsOf None (Some option) own os = OsWordSays option.word.now os
 IsOsOf None None own os = os ≡ own
 
 -- the number of `--os-number`, or else what the word of `--os` says, or else its own

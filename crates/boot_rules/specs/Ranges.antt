@@ -7,9 +7,9 @@ count_in None = 0
 count_in (Some n) = n
 
 -- so many bytes from a place on of what the file contains
-abbrev pub bytes_in : Option (List ℕ) → ℕ → ℕ → List ℕ
-bytes_in None at n = []
-bytes_in (Some x) at n = take n (drop at x)
+abbrev pub range_bytes : Option (List ℕ) → ℕ → ℕ → List ℕ
+range_bytes None at n = []
+range_bytes (Some x) at n = take n (drop at x)
 
 -- how many bytes it contains
 abbrev pub long_in : Option (List ℕ) → ℕ

@@ -15,8 +15,8 @@ use Rattle.boot_rules.specs.declared.fault.BootCommandFault.{BootCommandFault}
 use Rattle.boot_rules.specs.declared.fault.BootCommandFault.TheVariants as commands
 
 -- the fields that a vendor boot image has
-abbrev pub vendor_fields_of : BootSpec → VendorFields
-vendor_fields_of s = record {
+abbrev pub vendor_fields_asked : BootSpec → VendorFields
+vendor_fields_asked s = record {
   version = s.version;
   page = s.page;
   kernel_addr = s.kernel_addr;
@@ -36,18 +36,18 @@ vendor_sizes version parts ramdisks = []
 -- of parts and ramdisk fragments of these sizes
 abbrev pub refusal_of : ImageKind → BootSpec → List ℕ → List ℕ → Option SectionFault
 refusal_of (Boot n) s parts ramdisks = pack_boot_refusal (boot_fields s) parts
-refusal_of (Vendor n) s parts ramdisks = pack_vendor_refusal (vendor_fields_of s) (vendor_sizes s.version parts ramdisks)
+refusal_of (Vendor n) s parts ramdisks = pack_vendor_refusal (vendor_fields_asked s) (vendor_sizes s.version parts ramdisks)
 
 -- what a vendor boot image is packed from: version 3 has no fragments, and no bootconfig
-abbrev pub vendor_parts_of : ℕ → List (List ℕ) → List FragmentSpec → List (List ℕ) → VendorParts
-vendor_parts_of version (a ∷ b ∷ parts) specs ramdisks =
+abbrev pub vendor_parts_asked : ℕ → List (List ℕ) → List FragmentSpec → List (List ℕ) → VendorParts
+vendor_parts_asked version (a ∷ b ∷ parts) specs ramdisks =
     if version == 3 then vendor_parts [] (a ∷ []) b [] else vendor_parts specs ramdisks a b
-vendor_parts_of version parts specs ramdisks = vendor_parts [] [] [] []
+vendor_parts_asked version parts specs ramdisks = vendor_parts [] [] [] []
 
 -- the image of a kind: of these fields and parts, and of these ramdisk fragments
 abbrev pub packed : ImageKind → BootSpec → List (List ℕ) → List FragmentSpec → List (List ℕ) → List ℕ
 packed (Boot n) s parts specs ramdisks = boot_canon (boot_fields s) parts
-packed (Vendor n) s parts specs ramdisks = vendor_canon (vendor_fields_of s) (vendor_parts_of s.version parts specs ramdisks)
+packed (Vendor n) s parts specs ramdisks = vendor_canon (vendor_fields_asked s) (vendor_parts_asked s.version parts specs ramdisks)
 
 -- a fault of moving bytes, rather than of the fields and sizes
 abbrev pub IsOfMoving : SectionFault → Type 0

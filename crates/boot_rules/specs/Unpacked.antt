@@ -1,5 +1,5 @@
 -- The files that `unpack` writes, in their order.
-use Rattle.std.specs.Prelude.{◌≡◌, ◌<◌, ◌≤◌, ◌+◌, ◌-◌, ℕ, Bool, length, slice_index_or, if◌then◌else◌}
+use Rattle.std.specs.Prelude.{◌≡◌, ◌<◌, ◌≤◌, ◌+◌, ℕ, Bool, length, slice_index_or, if◌then◌else◌}
 use Rattle.abt_headers.specs.declared.sections.Place.{Place}
 use Rattle.abt_sections.specs.Header.{Header, fragment_count, places_of}
 use Rattle.boot_rules.specs.declared.part_names.Part.{Part}

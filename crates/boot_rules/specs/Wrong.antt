@@ -12,7 +12,7 @@ use Rattle.boot_fields.specs.declared.fields.Address.{Address}
 use Rattle.boot_fields.specs.declared.image_kind.ImageKind.{ImageKind}
 use Rattle.boot_fields.specs.declared.image_kind.ImageKind.TheVariants.{Boot, Vendor}
 use Rattle.boot_rules.specs.Carried.{IsCarried, IsTaken}
-use Rattle.boot_rules.specs.Given.{SaysOs, address_for, address_in, found}
+use Rattle.boot_rules.specs.Given.{OsWordSays, address_for, address_in, found}
 use Rattle.boot_rules.specs.declared.fault.BootCommandFault.{BootCommandFault}
 use Rattle.boot_rules.specs.declared.fault.BootCommandFault.TheVariants as faults
 use Rattle.boot_rules.specs.declared.pack_texts.FragmentText.{FragmentText}
@@ -69,7 +69,7 @@ pub record IsBadOs (options : List OptionText) : Type 0 where
   pub option : OptionText
   pub no_number : found options (codes "os-number") ≡ None
   pub is : found options (codes "os") ≡ Some option
-  pub says_none : (os : ℕ) → SaysOs option.word.now os → ⊥
+  pub says_none : (os : ℕ) → OsWordSays option.word.now os → ⊥
 
 -- why the OS version that was given is refused
 abbrev pub IsWrongOs : List OptionText → BootCommandFault → Type 0

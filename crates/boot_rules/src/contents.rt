@@ -8,7 +8,7 @@ ghost use Rattle.abt_sections.specs.Refusal.{IfRefused, pack_vendor_refusal};
 ghost use Rattle.abt_sections.specs.VendorCanon as canon;
 ghost use Rattle.boot_fields.specs.Kind.{version_of};
 ghost use Rattle.boot_rules.specs.Parts.{row_count};
-ghost use Rattle.boot_rules.specs.Refused.{IsOfMoving, IsRefusalOrMove, packed, refusal_of, vendor_fields_of, vendor_parts_of};
+ghost use Rattle.boot_rules.specs.Refused.{IsOfMoving, IsRefusalOrMove, packed, refusal_of, vendor_fields_asked, vendor_parts_asked};
 ghost use Rattle.boot_rules.specs.Refused.{vendor_sizes};
 
 use crate::measure::Measure;
@@ -201,13 +201,13 @@ fn pack_vendor_parts<P: Source, O: Output>(
     requires counted { length parts.old ≡ 2 }
     requires paired { length specs.now ≡ length sources.old }
     requires empty { P.size empty.old ≡ 0 }
-    ensures refused { IfRefused (pack_vendor_refusal (vendor_fields_of fields.now) (vendor_sizes fields.now.version
+    ensures refused { IfRefused (pack_vendor_refusal (vendor_fields_asked fields.now) (vendor_sizes fields.now.version
         (map P.size parts.old) (map P.size sources.old))) (λ fault. result ≡ Err fault) }
     ensures written { IsTrue P.tells → OnOk result (O.written output.new ≡ O.written output.old
-        ++ canon.vendor_canon (vendor_fields_of fields.now) (vendor_parts_of fields.now.version
+        ++ canon.vendor_canon (vendor_fields_asked fields.now) (vendor_parts_asked fields.now.version
         (map P.content parts.old) specs.now (map P.content sources.old))) }
     ensures bytes { IfOk result (λ p. length (O.written output.new) ≡ length (O.written output.old) + p.bytes) }
-    ensures cause { IfErr result (λ f. PackCause (pack_vendor_refusal (vendor_fields_of fields.now)
+    ensures cause { IfErr result (λ f. PackCause (pack_vendor_refusal (vendor_fields_asked fields.now)
         (vendor_sizes fields.now.version (map P.size parts.old) (map P.size sources.old))) f
         (total P.read_faults parts.old + total P.read_faults sources.old + P.read_faults empty.old)
         (total P.read_faults parts.new + total P.read_faults sources.new + P.read_faults empty.new)

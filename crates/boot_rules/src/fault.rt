@@ -2,7 +2,7 @@
 
 ghost use Rattle.std.specs.Prelude.{◌≡◌, ℕ, List, MatchResult, Ok, Err};
 ghost use Rattle.abt_text.specs.Printed.{Prints};
-ghost use Rattle.boot_rules.specs.Fault.{is_usage, number_of};
+ghost use Rattle.boot_rules.specs.Fault.{is_usage, boot_command_fault_number};
 ghost use Rattle.boot_rules.specs.declared.fault.BootCommandFault.TheVariants.{Host};
 
 use abt_headers::HeaderFault;
@@ -58,7 +58,7 @@ impl<'a> BootCommandFault<'a> {
 
     /// The fault's number, where it has one.
     pub fn number(&self) -> Option<u32>
-        ensures { result ≡ number_of self.now }
+        ensures { result ≡ boot_command_fault_number self.now }
     {
         match self {
             BootCommandFault::Section(fault) => Some(fault.number()),

@@ -4,8 +4,8 @@ ghost use Rattle.std.specs.Prelude.{◌≡◌, ◌≤◌, ◌^◌, ℕ, IfOk, If
 ghost use Rattle.abt_sections.specs.Fields.{boot_fields};
 ghost use Rattle.abt_sections.specs.Fields as vendor;
 ghost use Rattle.boot_rules.specs.Fault.{of_os_word};
-ghost use Rattle.boot_rules.specs.Given.{AreGiven, IsOsGiven, SaysOs, no_fields};
-ghost use Rattle.boot_rules.specs.Refused.{vendor_fields_of};
+ghost use Rattle.boot_rules.specs.Given.{AreGiven, IsOsGiven, OsWordSays, no_fields};
+ghost use Rattle.boot_rules.specs.Refused.{vendor_fields_asked};
 ghost use Rattle.boot_rules.specs.Wrong.{IsWrong, IsWrongOs};
 
 use crate::fault::BootCommandFault;
@@ -95,8 +95,8 @@ fn of_number<'a>(option: &OptionText<'a>) -> Result<OsVersion, BootCommandFault<
 
 // The one that a word says.
 fn of_word(word: &str) -> Result<OsVersion, BootCommandFault<'static>>
-    ensures says { IfOk result (λ os. SaysOs word.now os.number) }
-    ensures none { OnErr result ((os : ℕ) → SaysOs word.now os → ⊥) }
+    ensures says { IfOk result (λ os. OsWordSays word.now os.number) }
+    ensures none { OnErr result ((os : ℕ) → OsWordSays word.now os → ⊥) }
     ensures told { IfErr result (λ fault. fault ≡ of_os_word) }
 {
     match os_from_word(word) {
@@ -107,7 +107,7 @@ fn of_word(word: &str) -> Result<OsVersion, BootCommandFault<'static>>
 
 /// The fields of a vendor boot image.
 pub fn vendor_fields<'t>(fields: &BootSpec<'t>) -> VendorSpec<'t>
-    ensures { vendor.vendor_fields result ≡ vendor_fields_of fields.now }
+    ensures { vendor.vendor_fields result ≡ vendor_fields_asked fields.now }
 {
     VendorSpec {
         version: fields.version,

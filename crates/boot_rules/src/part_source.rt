@@ -3,7 +3,7 @@
 ghost use Rattle.std.specs.Prelude.{◌≡◌, ◌<◌, ◌≤◌, ◌+◌, ◌^◌, Some, None, IsTrue, IfOk, IfErr, OnOk, OnErr};
 ghost use Rattle.std.specs.Prelude.{length, take, drop, option_map};
 ghost use Rattle.abt_io.specs.Count.{count_of};
-ghost use Rattle.boot_rules.specs.Ranges.{bytes_in, count_in, long_in};
+ghost use Rattle.boot_rules.specs.Ranges.{range_bytes, count_in, long_in};
 ghost use Rattle.boot_rules.specs.RangesLaws.{part_bytes, part_sized};
 
 use abt_disk::Lasting;
@@ -93,7 +93,7 @@ fn read_in<S: Source>(file: &mut Option<S>, at: u64, out: &mut [u8]) -> Result<u
     requires { length out.old ≤ 65536 }
     ensures within { count_of result ≤ length out.new }
     ensures bytes { IsTrue S.tells → take (count_of result) out.new
-        ≡ take (count_of result) (bytes_in (option_map S.content file.old) at (count_of result)) }
+        ≡ take (count_of result) (range_bytes (option_map S.content file.old) at (count_of result)) }
     ensures content { IsTrue S.tells → option_map S.content file.new ≡ option_map S.content file.old }
     ensures ended { IsTrue S.tells → IfOk result (λ n. n ≡ 0 → 0 < length out.new →
         long_in (option_map S.content file.old) ≤ at) }
@@ -127,7 +127,7 @@ fn length_in<S: Source + Lasting>(file: &mut Option<S>) -> u64
 impl<S: Source + Lasting> Source for PartSource<'_, S> {
     ghost tells = { S.tells };
 
-    ghost content = { λ p. bytes_in (option_map S.content p.file) p.at p.size };
+    ghost content = { λ p. range_bytes (option_map S.content p.file) p.at p.size };
 
     ghost size = { λ p. p.size };
 

@@ -5,18 +5,19 @@ use Rattle.abt_headers.specs.declared.fault.HeaderFault.{HeaderFault}
 use Rattle.abt_sections.specs.declared.fault.SectionFault.{SectionFault}
 use Rattle.abt_sections.specs.declared.fault.SectionFault.TheVariants as faults
 use Rattle.abt_sections.specs.Cause.{OpenCause, ReadCause}
-use Rattle.abt_sections.specs.Grown.{Begins}
+use Rattle.abt_sections.specs.Grown.{AppendsFront}
 use Rattle.abt_sections.specs.Open.{HasImage}
 use Rattle.abt_sections.specs.Header.{Header, entry_of, places_of, fragment_count}
 use Rattle.abt_text.specs.declared.text_output.Text.{Text}
 use Rattle.boot_texts.specs.declared.info_lines.Notation.{Notation}
-use Rattle.boot_texts.specs.Info.{IsVerdict, ReadTold, check_text, fragment_lines, fragment_text, header_lines, info_text, kind_text, line, section_line}
+use Rattle.abt_sections.specs.Check.{IsVerdict}
+use Rattle.boot_texts.specs.Info.{SectionReadTold, check_text, fragment_lines, fragment_text, header_lines, info_text, image_kind_text, line, section_line}
 use Rattle.abt_text.specs.Shown.{text_in}
 use Rattle.abt_text.specs.Printed.{Prints, PrintsFront}
 use Rattle.abt_text.proofs.Printing.{◌▸◌, front_begins, front_behind, front_before, front_whole}
 
 module _ {O : Type 0} {written : O → List ℕ} {faults : O → ℕ} {s k p : Text O} (o : Notation) (x : List ℕ) (h : Header) (v : Verdict)
-    (kind : Prints written faults s k (line (kind_text o h))) (sections : Prints written faults k p (flat_map (section_line o) (places_of h))) where
+    (kind : Prints written faults s k (line (image_kind_text o h))) (sections : Prints written faults k p (flat_map (section_line o) (places_of h))) where
   pub all_printed : {f t u : Text O} → Prints written faults p f (fragment_lines o x h (fragment_count h)) → Prints written faults f t (header_lines o h)
       → Prints written faults t u (line (check_text v)) → Prints written faults s u (info_text o x h v)
   unfolding info_text
@@ -89,7 +90,7 @@ same_header x h k p q = ap (header_or h) (sym p.header ∙ q.header)
 pub info_begins : {O : Type 0} (o : Notation) (written : O → List ℕ) (faults : O → ℕ) (s t u : Text O) (old new x y : List ℕ) (h k : Header) (v : Verdict)
     → y ≡ x → HasImage x h → HasImage x k → IsVerdict x h v
     → ((w : Verdict) → IsVerdict y k w → PrintsFront written faults s t (info_text o y k w)) → Prints written faults t u []
-    → text_in s.held.bytes s.held.used ≡ [] → written s.output.now ≡ old → written u.output.now ≡ new → Begins old new (info_text o x h v)
+    → text_in s.held.bytes s.held.used ≡ [] → written s.output.now ≡ old → written u.output.now ≡ new → AppendsFront old new (info_text o x h v)
 info_begins o written faults s t u old new x y h k v same image opened verdict begun rest held from to =
     let header = same_header x h k image opened in
     let right : IsVerdict y k v = subst (λ z. IsVerdict z k v) (sym same) (subst (λ j. IsVerdict x j v) header verdict) in
@@ -98,15 +99,15 @@ info_begins o written faults s t u old new x y h k v same image opened verdict b
 
 -- ---- who failed
 
-pub opening_told : (f : SectionFault) (a b : ℕ) (P : Type 0) → OpenCause f a b P → a ≤ b → ReadTold {X = ℕ} (Err f) a b
+pub opening_told : (f : SectionFault) (a b : ℕ) (P : Type 0) → OpenCause f a b P → a ≤ b → SectionReadTold {X = ℕ} (Err f) a b
 opening_told (faults.Read d) a b P cause rises = cause
 opening_told f a b P cause rises = rises
 
-pub reading_told : (f : SectionFault) (a b c : ℕ) (P : Type 0) → b ≡ a → ReadCause f b c P → b ≤ c → ReadTold {X = ℕ} (Err f) a c
+pub reading_told : (f : SectionFault) (a b c : ℕ) (P : Type 0) → b ≡ a → ReadCause f b c P → b ≤ c → SectionReadTold {X = ℕ} (Err f) a c
 reading_told (faults.Read d) a b c P e cause rises = omega (arith, e, cause)
 reading_told f a b c P e cause rises = omega (arith, e, rises)
 
-pub reads_rise : {X : Type 0} (r : Result X SectionFault) (a b : ℕ) → ReadTold r a b → a ≤ b
+pub reads_rise : {X : Type 0} (r : Result X SectionFault) (a b : ℕ) → SectionReadTold r a b → a ≤ b
 reads_rise (Ok x) a b told = omega (arith, told)
 reads_rise (Err (faults.Read d)) a b told = omega (arith, told)
 reads_rise (Err f) a b told = told

@@ -3,7 +3,7 @@ use Rattle.std.proofs.Common.{◌≡◌, ◌<◌, ◌≤◌, ◌-◌, ℕ, Resul
 use Rattle.abt_sections.specs.declared.fault.SectionFault.{SectionFault}
 use Rattle.abt_sections.specs.declared.fault.SectionFault.TheVariants as faults
 use Rattle.abt_sections.specs.Cause.{OpenCause, ReadCause}
-use Rattle.abt_sections.specs.Grown.{Begins}
+use Rattle.abt_sections.specs.Grown.{AppendsFront}
 use Rattle.abt_sections.specs.Header.{Header}
 use Rattle.abt_sections.specs.Open.{HasImage, RefusedAs}
 use Rattle.abt_text.specs.declared.text_output.Text.{Text}
@@ -11,17 +11,18 @@ use Rattle.abt_text.specs.Shown.{text_in}
 use Rattle.abt_text.specs.Printed.{Prints}
 use Rattle.abt_text.proofs.Printing.{both_printed, printed_as, text_whole, whole_before}
 use Rattle.boot_texts.specs.declared.info_lines.Notation.{Notation}
-use Rattle.boot_texts.specs.Info.{Checked, InfoCause, IsVerdict, IsWrite, PrintCause, ReadTold, Reports, WriteTold, info_text}
+use Rattle.abt_sections.specs.Check.{IsVerdict}
+use Rattle.boot_texts.specs.Info.{Checked, InfoCause, IsSectionWrite, PrintCause, SectionReadTold, Reports, SectionWriteTold, info_text}
 
 -- ---- a write that failed
 
-pub write_prints : (f : SectionFault) (a b : ℕ) → IsWrite f → PrintCause f a b
+pub write_prints : (f : SectionFault) (a b : ℕ) → IsSectionWrite f → PrintCause f a b
 write_prints (faults.Write d) a b w = tt
 write_prints f a b w = absurd w
 
-pub write_refuses : {X : Type 0} (r : Result X SectionFault) (f : SectionFault) (a b : ℕ) → IsErrAnd r (λ e. e ≡ f) → IsWrite f → IfErr r (λ e. PrintCause e a b)
+pub write_refuses : {X : Type 0} (r : Result X SectionFault) (f : SectionFault) (a b : ℕ) → IsErrAnd r (λ e. e ≡ f) → IsSectionWrite f → IfErr r (λ e. PrintCause e a b)
 write_refuses (Ok x) f a b h w = absurd h
-write_refuses (Err e) f a b h w = write_prints e a b (subst IsWrite (sym h) w)
+write_refuses (Err e) f a b h w = write_prints e a b (subst IsSectionWrite (sym h) w)
 
 -- what is said of an Ok is not said of a refusal
 pub not_ok : {X E : Type 0} (P : Type 0) (r : Result X E) → IsErr r → OnOk r P
@@ -44,11 +45,11 @@ opening_caused (faults.Entry i) x a b P N cause same refused nothing = (refused,
 opening_caused (faults.SectionTruncated s) x a b P N cause same refused nothing = (refused, nothing)
 opening_caused f x a b P N cause same refused nothing = absurd refused
 
-pub opening_writes : (f : SectionFault) (a b w : ℕ) (P : Type 0) → OpenCause f a b P → WriteTold f w w
+pub opening_writes : (f : SectionFault) (a b w : ℕ) (P : Type 0) → OpenCause f a b P → SectionWriteTold f w w
 opening_writes (faults.Write d) a b w P cause = absurd cause
 opening_writes f a b w P cause = refl
 
-pub begins_none : (a x : List ℕ) → Begins a a x
+pub begins_none : (a x : List ℕ) → AppendsFront a a x
 begins_none a x =
     let none : length a - length a ≡ 0 = omega arith in
     sym (ap (λ (n : ℕ). a ++ take n x) none ∙ append-nil a)
@@ -64,24 +65,24 @@ pub told_caused : {X : Type 0} (r : Result X SectionFault) (f : SectionFault) (x
     → IfErr r (λ e. PrintCause e o b) → InfoCause f x a b N
 told_caused r f x a o b N is same cause = print_info f x a o b N same (rw is at cause)
 
-read_info : (f : SectionFault) (a o b : ℕ) → o ≡ a → ReadTold {X = ℕ} (Err f) o b → ReadTold {X = ℕ} (Err f) a b
+read_info : (f : SectionFault) (a o b : ℕ) → o ≡ a → SectionReadTold {X = ℕ} (Err f) o b → SectionReadTold {X = ℕ} (Err f) a b
 read_info (faults.Read d) a o b same told = omega (arith, same, told)
 read_info f a o b same told = omega (arith, same, told)
 
-pub told_reads : {X : Type 0} (r : Result X SectionFault) (f : SectionFault) (a o b : ℕ) → r ≡ Err f → o ≡ a → ReadTold r o b → ReadTold {X = ℕ} (Err f) a b
+pub told_reads : {X : Type 0} (r : Result X SectionFault) (f : SectionFault) (a o b : ℕ) → r ≡ Err f → o ≡ a → SectionReadTold r o b → SectionReadTold {X = ℕ} (Err f) a b
 told_reads r f a o b is same told = read_info f a o b same (rw is at told)
 
-write_told : (f : SectionFault) (w v : ℕ) → (IsWrite f → ⊥) → v ≡ w → WriteTold f w v
+write_told : (f : SectionFault) (w v : ℕ) → (IsSectionWrite f → ⊥) → v ≡ w → SectionWriteTold f w v
 write_told (faults.Write d) w v not same = absurd (not tt)
 write_told f w v not same = same
 
 module _ {O : Type 0} (written : O → List ℕ) (faults : O → ℕ) where
   pub told_writes : {X : Type 0} (r : Result X SectionFault) (f : SectionFault) (s t u : Text O) (a : List ℕ) (old new : ℕ) → r ≡ Err f
-      → IfErr r (λ e. IsWrite e → IsSome t.fault) → Prints written faults s t a → Prints written faults t u [] → IsNone u.fault
-      → faults s.output.now ≡ old → faults u.output.now ≡ new → WriteTold f old new
+      → IfErr r (λ e. IsSectionWrite e → IsSome t.fault) → Prints written faults s t a → Prints written faults t u [] → IsNone u.fault
+      → faults s.output.now ≡ old → faults u.output.now ≡ new → SectionWriteTold f old new
   told_writes r f s t u a old new is told p q none from to =
       let whole = whole_before written faults t u [] q none in
-      let here : IsWrite f → IsSome t.fault = rw is at told in
+      let here : IsSectionWrite f → IsSome t.fault = rw is at told in
       write_told f old new (λ w. true≢false (sym (here w) ∙ whole)) (sym to ∙ q.clean none ∙ p.clean whole ∙ from)
 
   -- what of the text does not reach its output

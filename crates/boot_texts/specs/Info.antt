@@ -1,5 +1,5 @@
 -- The text of `info`: what the lines of an opened image are, and in which order.
-use Rattle.std.specs.Prelude.{◌≡◌, ◌↔◌, ℕ, zero, suc, ◌<◌, ◌≤◌, IsTrue, ◌/◌, ◌%◌, ◌==◌, ◌&&◌, not, nat_le, Bool, false}
+use Rattle.std.specs.Prelude.{◌≡◌, ℕ, zero, suc, ◌<◌, ◌≤◌, ◌/◌, ◌%◌, ◌==◌, ◌&&◌, not, nat_le, Bool, false}
 use Rattle.std.specs.Prelude.{if◌then◌else◌, List, [], ◌∷◌, ◌++◌, Option, Some, None, Result, Ok, Err, codes, decimal}
 use Rattle.std.specs.Fmt.{digits}
 use Rattle.std.specs.List.{flat_map}
@@ -13,11 +13,11 @@ use Rattle.abt_headers.specs.Places.{section_name}
 use Rattle.abt_headers.specs.Vendor.{vendor_page, vendor_version}
 use Rattle.abt_sections.specs.declared.checking.Verdict.{Verdict}
 use Rattle.abt_sections.specs.Header.{Header, OfBoot, OfVendor, places_of, fragment_count, entry_of}
-use Rattle.abt_sections.specs.Check.{padding_holds, IdHolds, offset_holds, IsCanonical}
+use Rattle.abt_sections.specs.Check.{IsVerdict}
 use Rattle.abt_sections.specs.Open.{HasImage, RefusedAs}
 use Rattle.abt_sections.specs.declared.fault.SectionFault.{SectionFault}
 use Rattle.abt_sections.specs.declared.fault.SectionFault.TheVariants as faults
-use Rattle.boot_fields.specs.Fields.{address_name, address_of, field_name, field_of, id_of, os_number_of, text_of}
+use Rattle.boot_fields.specs.Fields.{address_name, address_of, field_name, field_of, id_field_of, os_number_of, text_of}
 use Rattle.boot_fields.specs.declared.fields.Address.{Address}
 use Rattle.boot_fields.specs.declared.fields.Address.TheVariants as addresses
 use Rattle.boot_fields.specs.declared.fields.TextField.{TextField}
@@ -46,13 +46,13 @@ number_text notations.Decimal n = decimal n
 number_text notations.Hexadecimal n = codes "0x" ++ digits 16 false n
 
 -- a kind with its version and its page
-abbrev pub kind_words : Notation → List ℕ → ℕ → ℕ → List ℕ
-kind_words o kind version page =
+abbrev pub kind_line : Notation → List ℕ → ℕ → ℕ → List ℕ
+kind_line o kind version page =
     codes "kind " ++ (kind ++ (codes " version " ++ (decimal version ++ (codes " page " ++ number_text o page))))
 
-abbrev pub kind_text : Notation → Header → List ℕ
-kind_text o (OfBoot h) = kind_words o (codes "boot") (boot_version h) (boot_page h)
-kind_text o (OfVendor v) = kind_words o (codes "vendor") (vendor_version v) (vendor_page v)
+abbrev pub image_kind_text : Notation → Header → List ℕ
+image_kind_text o (OfBoot h) = kind_line o (codes "boot") (boot_version h) (boot_page h)
+image_kind_text o (OfVendor v) = kind_line o (codes "vendor") (vendor_version v) (vendor_page v)
 
 abbrev pub section_text : Notation → Place → List ℕ
 section_text o p = codes "section " ++ (section_name p.kind
@@ -76,8 +76,8 @@ abbrev pub mark_behind_version : Notation → List ℕ
 mark_behind_version notations.Decimal = codes " "
 mark_behind_version notations.Hexadecimal = codes "-"
 
-abbrev pub os_text : Notation → OsParts → List ℕ
-os_text o p = codes "os " ++ (decimal p.a ++ (codes "." ++ (decimal p.b ++ (codes "." ++ (decimal p.c
+abbrev pub os_info : Notation → OsParts → List ℕ
+os_info o p = codes "os " ++ (decimal p.a ++ (codes "." ++ (decimal p.b ++ (codes "." ++ (decimal p.c
     ++ (mark_behind_version o ++ (decimal p.year ++ (codes "-" ++ two_digits p.month))))))))
 
 abbrev pub field_text : TextField → List ℕ → List ℕ
@@ -116,13 +116,13 @@ abbrev pub address_line : Notation → Header → Address → List ℕ
 address_line o h a = line_if (address_text o a) (address_of h a)
 
 abbrev pub os_line : Notation → Header → List ℕ
-os_line o h = line_if (λ n. os_text o (os_parts n)) (os_number_of h)
+os_line o h = line_if (λ n. os_info o (os_parts n)) (os_number_of h)
 
 abbrev pub field_line : Header → TextField → List ℕ
 field_line h t = line_if (field_text t) (field_of h t)
 
 abbrev pub id_line : Header → List ℕ
-id_line h = line_if id_text (id_of h)
+id_line h = line_if id_text (id_field_of h)
 
 abbrev pub address_lines : Notation → Header → List ℕ
 address_lines o h = address_line o h addresses.Kernel ++ (address_line o h addresses.Ramdisk
@@ -134,15 +134,8 @@ header_lines o h = address_lines o h ++ (os_line o h ++ (field_line h texts.Name
     ++ (field_line h texts.Extra ++ id_line h))))
 
 unfoldable pub info_text : Notation → List ℕ → Header → Verdict → List ℕ
-info_text o x h v = line (kind_text o h) ++ (flat_map (section_line o) (places_of h)
+info_text o x h v = line (image_kind_text o h) ++ (flat_map (section_line o) (places_of h)
     ++ (fragment_lines o x h (fragment_count h) ++ (header_lines o h ++ line (check_text v))))
-
--- the verdict v is the one of the image x with the header h
-pub record IsVerdict (x : List ℕ) (h : Header) (v : Verdict) : Type 0 where
-  pub padding : v.padding ≡ padding_holds x h
-  pub id : IsTrue v.id ↔ IdHolds x h
-  pub offset : v.offset ≡ offset_holds h
-  pub canonical : IsTrue v.canonical ↔ IsCanonical x h
 
 -- P holds of the text of the image x with the header h, and with its verdict
 pub record Checked (o : Notation) (x : List ℕ) (h : Header) (P : List ℕ → Type 0) : Type 0 where
@@ -152,34 +145,34 @@ pub record Checked (o : Notation) (x : List ℕ) (h : Header) (P : List ℕ → 
 
 -- ---- refusals
 
-abbrev pub IsWrite : SectionFault → Type 0
-IsWrite (faults.Read d) = ⊥
-IsWrite (faults.Write d) = Unit {0}
-IsWrite faults.SourceChanged = ⊥
-IsWrite (faults.Header f) = ⊥
-IsWrite (faults.Entry i) = ⊥
-IsWrite faults.Name = ⊥
-IsWrite faults.CommandLine = ⊥
-IsWrite (faults.SectionTruncated s) = ⊥
-IsWrite (faults.SectionTooLarge s) = ⊥
+abbrev pub IsSectionWrite : SectionFault → Type 0
+IsSectionWrite (faults.Read d) = ⊥
+IsSectionWrite (faults.Write d) = Unit {0}
+IsSectionWrite faults.SourceChanged = ⊥
+IsSectionWrite (faults.Header f) = ⊥
+IsSectionWrite (faults.Entry i) = ⊥
+IsSectionWrite faults.Name = ⊥
+IsSectionWrite faults.CommandLine = ⊥
+IsSectionWrite (faults.SectionTruncated s) = ⊥
+IsSectionWrite (faults.SectionTooLarge s) = ⊥
 
 -- Write comes just where the count of failed writes rose
-abbrev pub WriteTold : SectionFault → ℕ → ℕ → Type 0
-WriteTold (faults.Read d) w w' = w' ≡ w
-WriteTold (faults.Write d) w w' = w < w'
-WriteTold faults.SourceChanged w w' = w' ≡ w
-WriteTold (faults.Header f) w w' = w' ≡ w
-WriteTold (faults.Entry i) w w' = w' ≡ w
-WriteTold faults.Name w w' = w' ≡ w
-WriteTold faults.CommandLine w w' = w' ≡ w
-WriteTold (faults.SectionTruncated s) w w' = w' ≡ w
-WriteTold (faults.SectionTooLarge s) w w' = w' ≡ w
+abbrev pub SectionWriteTold : SectionFault → ℕ → ℕ → Type 0
+SectionWriteTold (faults.Read d) w w' = w' ≡ w
+SectionWriteTold (faults.Write d) w w' = w < w'
+SectionWriteTold faults.SourceChanged w w' = w' ≡ w
+SectionWriteTold (faults.Header f) w w' = w' ≡ w
+SectionWriteTold (faults.Entry i) w w' = w' ≡ w
+SectionWriteTold faults.Name w w' = w' ≡ w
+SectionWriteTold faults.CommandLine w w' = w' ≡ w
+SectionWriteTold (faults.SectionTruncated s) w w' = w' ≡ w
+SectionWriteTold (faults.SectionTooLarge s) w w' = w' ≡ w
 
 -- Read comes only where the count of failed reads rose, and after an Ok it has not risen
-abbrev pub ReadTold : {X : Type 0} → Result X SectionFault → ℕ → ℕ → Type 0
-ReadTold (Ok a) r r' = r' ≡ r
-ReadTold (Err (faults.Read d)) r r' = r < r'
-ReadTold (Err f) r r' = r ≤ r'
+abbrev pub SectionReadTold : {X : Type 0} → Result X SectionFault → ℕ → ℕ → Type 0
+SectionReadTold (Ok a) r r' = r' ≡ r
+SectionReadTold (Err (faults.Read d)) r r' = r < r'
+SectionReadTold (Err f) r r' = r ≤ r'
 
 -- of printing an image that opened: the output failed, or the source, whose count of faults rose
 abbrev pub PrintCause : SectionFault → ℕ → ℕ → Type 0

@@ -1,7 +1,8 @@
 //! The text of `info`: what the header of a boot image says, and whether the image is what the packer writes.
 
 ghost use Rattle.std.specs.Prelude.{◌≡◌, ◌≤◌, IsSome, IsTrue, IfErr, IfOk, List, ℕ, OnOk, flat_map};
-ghost use Rattle.abt_sections.specs.Grown.{Begins};
+ghost use Rattle.abt_sections.specs.Check.{IsVerdict};
+ghost use Rattle.abt_sections.specs.Grown.{AppendsFront};
 ghost use Rattle.abt_sections.specs.Open.{HasImage, IsOpened};
 ghost use Rattle.abt_sections.specs.Header.{Header, fragment_count, places_of, view_of};
 ghost use Rattle.boot_texts.specs.Info as spec;
@@ -39,17 +40,17 @@ pub fn report_info<S: Source, O: Output>(
 ) -> Result<InfoReport, SectionFault>
     ensures content { IsTrue S.tells → OnOk result (S.content source.new ≡ S.content source.old) }
     ensures reported { IsTrue S.tells → IfOk result (λ r. IsOpened (S.content source.old) r.image ×
-        spec.IsVerdict (S.content source.old) (view_of r.image.header) r.verdict) }
+        IsVerdict (S.content source.old) (view_of r.image.header) r.verdict) }
     ensures printed { IsTrue S.tells →
         OnOk result (spec.Reports notation (S.content source.old) (O.written out.old) (O.written out.new)) }
     ensures refused { IsTrue S.tells →
         IfErr result (λ f. spec.InfoCause f (S.content source.old) (S.read_faults source.old) (S.read_faults source.new)
         (O.written out.new ≡ O.written out.old)) }
     ensures begun { IsTrue S.tells → (h : Header) → HasImage (S.content source.old) h → (v : Verdict) →
-        spec.IsVerdict (S.content source.old) h v →
-        Begins (O.written out.old) (O.written out.new) (spec.info_text notation (S.content source.old) h v) }
-    ensures reads { spec.ReadTold result (S.read_faults source.old) (S.read_faults source.new) }
-    ensures failed { IfErr result (λ f. spec.WriteTold f (O.write_faults out.old) (O.write_faults out.new)) }
+        IsVerdict (S.content source.old) h v →
+        AppendsFront (O.written out.old) (O.written out.new) (spec.info_text notation (S.content source.old) h v) }
+    ensures reads { spec.SectionReadTold result (S.read_faults source.old) (S.read_faults source.new) }
+    ensures failed { IfErr result (λ f. spec.SectionWriteTold f (O.write_faults out.old) (O.write_faults out.new)) }
     ensures clean { OnOk result (O.write_faults out.new ≡ O.write_faults out.old) }
 {
     let image = match open(source, w, m) {
@@ -74,17 +75,17 @@ fn image_lines<S: Source, O: Output>(
     m: &mut Meter,
 ) -> Result<Verdict, SectionFault>
     ensures content { IsTrue S.tells → OnOk result (S.content source.new ≡ S.content source.old) }
-    ensures verdict { IsTrue S.tells → IfOk result (spec.IsVerdict (S.content source.old) (view_of image.now.header)) }
+    ensures verdict { IsTrue S.tells → IfOk result (IsVerdict (S.content source.old) (view_of image.now.header)) }
     ensures lines { IsTrue S.tells →
         OnOk result (spec.Checked notation (S.content source.old) (view_of image.now.header)
         (Prints O.written O.write_faults text.old text.new)) }
     ensures begun { IsTrue S.tells → (v : Verdict) →
-        spec.IsVerdict (S.content source.old) (view_of image.now.header) v →
+        IsVerdict (S.content source.old) (view_of image.now.header) v →
         PrintsFront O.written O.write_faults text.old text.new
         (spec.info_text notation (S.content source.old) (view_of image.now.header) v) }
     ensures prints { (done : List ℕ) × Prints O.written O.write_faults text.old text.new done }
-    ensures told { IfErr result (λ f. spec.IsWrite f → IsSome text.new.fault) }
-    ensures reads { spec.ReadTold result (S.read_faults source.old) (S.read_faults source.new) }
+    ensures told { IfErr result (λ f. spec.IsSectionWrite f → IsSome text.new.fault) }
+    ensures reads { spec.SectionReadTold result (S.read_faults source.old) (S.read_faults source.new) }
     ensures refused { IsTrue S.tells → IsOpened (S.content source.old) image.now →
         IfErr result (λ f. spec.PrintCause f (S.read_faults source.old) (S.read_faults source.new)) }
 {
@@ -137,8 +138,8 @@ fn fragment_lines<S: Source, O: Output>(
         (spec.fragment_lines notation (S.content source.old) (view_of image.now.header)
         (fragment_count (view_of image.now.header))) }
     ensures prints { (done : List ℕ) × Prints O.written O.write_faults text.old text.new done }
-    ensures told { IfErr result (λ f. spec.IsWrite f → IsSome text.new.fault) }
-    ensures reads { spec.ReadTold result (S.read_faults source.old) (S.read_faults source.new) }
+    ensures told { IfErr result (λ f. spec.IsSectionWrite f → IsSome text.new.fault) }
+    ensures reads { spec.SectionReadTold result (S.read_faults source.old) (S.read_faults source.new) }
     ensures refused { IsTrue S.tells → IsOpened (S.content source.old) image.now →
         IfErr result (λ f. spec.PrintCause f (S.read_faults source.old) (S.read_faults source.new)) }
 {

@@ -30,7 +30,7 @@ pub enum Notation {
 /// Adds the line of an image's kind.
 pub fn put_kind<O: Output>(header: &ImageHeader, notation: Notation, text: &mut Text<'_, O>)
     ensures { Prints
-        O.written O.write_faults text.old text.new (info.line (info.kind_text notation (view_of header.now))) }
+        O.written O.write_faults text.old text.new (info.line (info.image_kind_text notation (view_of header.now))) }
 {
     match header {
         ImageHeader::Boot(header) => {
@@ -57,7 +57,7 @@ fn put_numbers<O: Output>(
     text: &mut Text<'_, O>,
 )
     ensures { Prints
-        O.written O.write_faults text.old text.new (info.line (info.kind_words notation kind.now version page)) }
+        O.written O.write_faults text.old text.new (info.line (info.kind_line notation kind.now version page)) }
 {
     text.word("kind ");
     text.word(kind);
@@ -168,7 +168,7 @@ pub fn put_address<O: Output>(
 /// Adds the line of an OS version and its patch level.
 pub fn put_os<O: Output>(os: OsVersion, notation: Notation, text: &mut Text<'_, O>)
     ensures { Prints
-        O.written O.write_faults text.old text.new (info.line (info.os_text notation (os_parts os.number))) }
+        O.written O.write_faults text.old text.new (info.line (info.os_info notation (os_parts os.number))) }
 {
     let parts = os.parts();
     text.word("os ");

@@ -37,8 +37,8 @@ pub fn write_words<S: Source, O: Output>(
         (words.image_words folder.now (S.content source.old) (view_of image.now.header))) }
     ensures refused { IsTrue S.tells → IsOpened (S.content source.old) image.now →
         IfErr result (λ f. info.PrintCause f (S.read_faults source.old) (S.read_faults source.new)) }
-    ensures reads { info.ReadTold result (S.read_faults source.old) (S.read_faults source.new) }
-    ensures failed { IfErr result (λ f. info.WriteTold f (O.write_faults out.old) (O.write_faults out.new)) }
+    ensures reads { info.SectionReadTold result (S.read_faults source.old) (S.read_faults source.new) }
+    ensures failed { IfErr result (λ f. info.SectionWriteTold f (O.write_faults out.old) (O.write_faults out.new)) }
     ensures clean { OnOk result (O.write_faults out.new ≡ O.write_faults out.old) }
 {
     let mut text = Text::new(out);
@@ -64,8 +64,8 @@ fn image_words<S: Source, O: Output>(
         result (Prints O.written O.write_faults text.old text.new
         (words.words_text (words.image_words folder.now (S.content source.old) (view_of image.now.header)))) }
     ensures prints { (done : List ℕ) × Prints O.written O.write_faults text.old text.new done }
-    ensures told { IfErr result (λ f. info.IsWrite f → IsSome text.new.fault) }
-    ensures reads { info.ReadTold result (S.read_faults source.old) (S.read_faults source.new) }
+    ensures told { IfErr result (λ f. info.IsSectionWrite f → IsSome text.new.fault) }
+    ensures reads { info.SectionReadTold result (S.read_faults source.old) (S.read_faults source.new) }
     ensures refused { IsTrue S.tells → IsOpened (S.content source.old) image.now →
         IfErr result (λ f. info.PrintCause f (S.read_faults source.old) (S.read_faults source.new)) }
 {
@@ -221,8 +221,8 @@ fn fragment_words<S: Source, O: Output>(
         (words.words_text (words.fragment_words folder.now (S.content source.old) (view_of image.now.header)
         (fragment_count (view_of image.now.header))))) }
     ensures prints { (done : List ℕ) × Prints O.written O.write_faults text.old text.new done }
-    ensures told { IfErr result (λ f. info.IsWrite f → IsSome text.new.fault) }
-    ensures reads { info.ReadTold result (S.read_faults source.old) (S.read_faults source.new) }
+    ensures told { IfErr result (λ f. info.IsSectionWrite f → IsSome text.new.fault) }
+    ensures reads { info.SectionReadTold result (S.read_faults source.old) (S.read_faults source.new) }
     ensures refused { IsTrue S.tells → IsOpened (S.content source.old) image.now →
         IfErr result (λ f. info.PrintCause f (S.read_faults source.old) (S.read_faults source.new)) }
 {

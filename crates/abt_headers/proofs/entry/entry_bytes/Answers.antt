@@ -1,5 +1,5 @@
 use Rattle.std.proofs.Common.{◌≡◌, ℕ, arith, refl, ap, ◌∙◌, List, [], ◌++◌, length, replicate, length-append, append_assoc, append-nil}
-use Rattle.abt_headers.specs.Field.{joined}
+use Rattle.abt_headers.specs.Field.{joined_fields}
 use Rattle.abt_headers.specs.Entry.{entry_record, words_fields}
 use Rattle.abt_headers.proofs.Fields.{put_more}
 use Rattle.abt_headers.proofs.entry.entry_bytes.Goals as goal
@@ -13,7 +13,7 @@ returns c =
     let e = c.args.entry.now in
     let old : List ℕ = replicate 108 0 in
     let h = c.entry_head.result in
-    let z = joined (words_fields e.board_id) in
+    let z = joined_fields (words_fields e.board_id) in
     let n : length h ≡ 12 = omega arith in
     let n32 : length e.name ≡ 32 = omega arith in
     let n64 : length c.words_bytes.result ≡ 64 = omega arith in

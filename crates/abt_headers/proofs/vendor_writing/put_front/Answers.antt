@@ -1,6 +1,6 @@
 use Rattle.std.proofs.Common.{◌≡◌, ℕ, arith, refl, ap, ◌∙◌, List, [], ◌++◌, length, drop, length-append}
 use Rattle.byteorder.specs.Endian.{little_bytes}
-use Rattle.abt_headers.specs.Field.{joined}
+use Rattle.abt_headers.specs.Field.{joined_fields}
 use Rattle.abt_headers.specs.Vendor.{vendor_end}
 use Rattle.abt_headers.proofs.Fields.{put_more, regroup_ends}
 use Rattle.abt_headers.proofs.vendor_writing.put_front.Goals as goal
@@ -21,7 +21,7 @@ returns-clause-bytes c =
     let n16 : length f.name ≡ 16 = omega arith in
     let n2048 : length f.cmdline ≡ 2048 = omega arith in
     let t = little_bytes 4 f.tags_addr in
-    let z = joined (vendor_end f) in
+    let z = joined_fields (vendor_end f) in
     let a1 = put_more [] old old c.put.new.out h 0 28 refl n refl c.put.ensures in
     let a2 = put_more h old c.put.new.out c.put-2.new.out f.cmdline 28 2048 n n2048 a1 c.put-2.ensures in
     let a3 = put_more (h ++ f.cmdline) old c.put-2.new.out c.put-3.new.out t 2076 4 (simp length-append (omega arith)) refl a2 (rw c.to_le_bytes.ensures at c.put-3.ensures) in

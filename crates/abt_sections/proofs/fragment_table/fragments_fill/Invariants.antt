@@ -1,6 +1,7 @@
-use Rattle.std.proofs.Common.{◌≡◌, ◌+◌, ◌≤◌, ◌<◌, ◌*◌, ℕ}
-use Rattle.std.specs.Prelude.{IsTrue}
-use Rattle.abt_sections.specs.Entries.{EntriesStand}
+use Rattle.std.proofs.Common.{◌≡◌, ◌≤◌, ◌<◌, ◌*◌, ℕ}
+use Rattle.std.specs.Prelude.{IsTrue, Ok}
+use Rattle.abt_io.specs.Lent.{OnlyReads}
+use Rattle.abt_sections.specs.Entries.{ComesNext, EntriesStand}
 use Rattle.abt_sections.specs.Header.{view_of, entry_of}
 use Rattle.abt_sections.specs.Check.{sizes_before}
 use Rattle.abt_sections.proofs.fragment_table.fragments_fill.Given as goal
@@ -10,14 +11,8 @@ invariant-loop-i g l =
     let s = g.S.Source in
     let h = view_of l.header in
     record {
-      content : IsTrue s.tells → s.content l.source ≡ s.content l.fn.source;
-      size : IsTrue s.tells → s.size l.source ≡ s.size l.fn.source;
-      frame : s.read_frame l.source ≡ s.read_frame l.fn.source;
-      faults : s.read_faults l.source ≡ s.read_faults l.fn.source;
-      from : l.held.first ≤ l.i;
-      to : l.i ≤ l.held.end;
-      few : l.held.end ≤ l.held.first + 606;
-      last : l.held.end ≤ l.table.count;
+      reads : OnlyReads {X = Unit {0}} {E = Unit {0}} (Ok tt) s l.fn.source l.source;
+      held : ComesNext l.held.first l.held.end l.i l.table.count;
       stand : IsTrue s.tells → EntriesStand l.w.bytes (s.content l.fn.source) l.table.at l.held.first l.held.end;
       low : l.next ≤ 4294967295 * l.i;
       next : IsTrue s.tells → l.next ≡ sizes_before (s.content l.fn.source) h l.i;

@@ -1,8 +1,9 @@
-use Rattle.std.proofs.Common.{◌≡◌, length, map, take}
+use Rattle.std.proofs.Common.{◌≡◌, length, map, take, Ok}
 use Rattle.std.specs.Prelude.{IsTrue}
+use Rattle.abt_io.specs.Lent.{OnlyReadsAll}
 use Rattle.sha1.specs.Sha1.{Holds}
 use Rattle.abt_sections.specs.Id.{sized_parts}
-use Rattle.abt_sections.specs.Cause.{total}
+use Rattle.abt_sections.specs.declared.fault.SectionFault.{SectionFault}
 use Rattle.abt_sections.proofs.hashing.hash_parts.Given as goal
 
 abbrev pub invariant-loop-i : goal.invariant-loop-i
@@ -10,9 +11,6 @@ invariant-loop-i g l =
     let s = g.S.Source in
     record {
       long : length l.parts ≡ length l.fn.parts;
-      content : IsTrue s.tells → map s.content l.parts ≡ map s.content l.fn.parts;
-      size : IsTrue s.tells → map s.size l.parts ≡ map s.size l.fn.parts;
-      frame : map s.read_frame l.parts ≡ map s.read_frame l.fn.parts;
-      faults : total s.read_faults l.parts ≡ total s.read_faults l.fn.parts;
+      reads : OnlyReadsAll {X = Unit {0}} {E = SectionFault} (Ok tt) s l.fn.parts l.parts;
       hashed : IsTrue s.tells → Holds l.hasher (sized_parts (take l.i (map s.content l.fn.parts)));
     }

@@ -1,7 +1,9 @@
-use Rattle.std.proofs.Common.{◌-◌, ◌≡◌, ◌≤◌, ◌++◌, ℕ, List, take, ◌+◌, length}
+use Rattle.std.proofs.Common.{◌-◌, ◌≡◌, ◌≤◌, ◌++◌, ℕ, List, take, ◌+◌, length, Ok}
 use Rattle.std.specs.Prelude.{IsTrue}
+use Rattle.abt_io.specs.Lent.{OnlyReads, OnlyWrites}
 use Rattle.sha1.specs.Sha1.{Holds}
 use Rattle.abt_sections.specs.Grown.{Grows}
+use Rattle.abt_sections.specs.declared.fault.SectionFault.{SectionFault}
 use Rattle.abt_sections.proofs.moving.move_bytes.Given as goal
 
 abbrev pub invariant-loop-at : goal.invariant-loop-at
@@ -10,19 +12,15 @@ invariant-loop-at g l =
     let o = g.O.Output in
     record {
       within : l.at ≤ l.n;
-      content : IsTrue s.tells → s.content l.part ≡ s.content l.fn.part;
-      size : IsTrue s.tells → s.size l.part ≡ s.size l.fn.part;
-      frame : s.read_frame l.part ≡ s.read_frame l.fn.part;
+      reads : OnlyReads {X = Unit {0}} {E = SectionFault} (Ok tt) s l.fn.part l.part;
       once : s.given l.part ≤ s.given l.fn.part + l.at;
       present : IsTrue s.tells → l.at ≤ length (s.content l.fn.part);
       written : IsTrue s.tells → o.written l.output ≡ o.written l.fn.output ++ take l.at (s.content l.fn.part);
-      hashed : IsTrue l.id → IsTrue s.tells → (t : List ℕ) → Holds l.fn.hasher t → Holds l.hasher (t ++ take l.at (s.content l.fn.part));
+      hashed : IsTrue l.id → IsTrue s.tells → (t : List ℕ) → Holds l.fn.hasher t
+          → Holds l.hasher (t ++ take l.at (s.content l.fn.part));
       grown : Grows (o.written l.fn.output) (o.written l.output);
       all : length (o.written l.output) ≡ length (o.written l.fn.output) + l.at;
-      write_frame : o.write_frame l.output ≡ o.write_frame l.fn.output;
-      read_faults : s.read_faults l.part ≡ s.read_faults l.fn.part;
-      write_faults : o.write_faults l.output ≡ o.write_faults l.fn.output;
-      full_faults : o.full_faults l.output ≡ o.full_faults l.fn.output;
+      writes : OnlyWrites {X = Unit {0}} {E = SectionFault} (Ok tt) 0 o l.fn.output l.output;
     }
 
 abbrev pub decreases-loop-at : goal.decreases-loop-at

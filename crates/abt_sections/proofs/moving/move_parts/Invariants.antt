@@ -1,10 +1,12 @@
-use Rattle.std.proofs.Common.{◌≡◌, ◌≤◌, ◌+◌, ◌++◌, [], length, map, take, sum}
+use Rattle.std.proofs.Common.{◌≡◌, ◌≤◌, ◌+◌, ◌++◌, [], length, map, take, sum, Ok}
 use Rattle.std.specs.Prelude.{IsTrue}
+use Rattle.abt_io.specs.Lent.{OnlyReadsAll, OnlyWrites}
 use Rattle.sha1.specs.Sha1.{Holds}
 use Rattle.abt_sections.specs.Cause.{total}
 use Rattle.abt_sections.specs.Grown.{Grows}
 use Rattle.abt_sections.specs.Id.{sized_parts}
 use Rattle.abt_sections.specs.Layout.{laid, laid_size}
+use Rattle.abt_sections.specs.declared.fault.SectionFault.{SectionFault}
 use Rattle.abt_sections.proofs.moving.move_parts.Given as goal
 
 abbrev pub invariant-loop-i : goal.invariant-loop-i
@@ -13,17 +15,14 @@ invariant-loop-i g l =
     let o = g.O.Output in
     record {
       long : length l.parts ≡ length l.fn.parts;
-      content : IsTrue s.tells → map s.content l.parts ≡ map s.content l.fn.parts;
-      size : IsTrue s.tells → map s.size l.parts ≡ map s.size l.fn.parts;
-      frame : map s.read_frame l.parts ≡ map s.read_frame l.fn.parts;
+      reads : OnlyReadsAll {X = Unit {0}} {E = SectionFault} (Ok tt) s l.fn.parts l.parts;
       once : total s.given l.parts ≤ total s.given l.fn.parts + sum (take l.i l.sizes);
-      written : IsTrue s.tells → o.written l.output ≡ o.written l.fn.output ++ laid l.page (take l.i (map s.content l.fn.parts));
-      hashed : IsTrue l.id → IsTrue s.tells → Holds l.fn.hasher [] → Holds l.hasher (sized_parts (take l.i (map s.content l.fn.parts)));
+      written : IsTrue s.tells → o.written l.output ≡ o.written l.fn.output ++ laid l.page
+          (take l.i (map s.content l.fn.parts));
+      hashed : IsTrue l.id → IsTrue s.tells → Holds l.fn.hasher []
+          → Holds l.hasher (sized_parts (take l.i (map s.content l.fn.parts)));
       grown : Grows (o.written l.fn.output) (o.written l.output);
       all : length (o.written l.output) ≡ length (o.written l.fn.output) + laid_size l.page (take l.i l.sizes);
       lasting : take l.i (map s.size l.parts) ≡ take l.i l.sizes;
-      write_frame : o.write_frame l.output ≡ o.write_frame l.fn.output;
-      read_faults : total s.read_faults l.parts ≡ total s.read_faults l.fn.parts;
-      write_faults : o.write_faults l.output ≡ o.write_faults l.fn.output;
-      full_faults : o.full_faults l.output ≡ o.full_faults l.fn.output;
+      writes : OnlyWrites {X = Unit {0}} {E = SectionFault} (Ok tt) 0 o l.fn.output l.output;
     }

@@ -7,11 +7,14 @@ use Rattle.abt_sections.proofs.packing.write_image.Goals as goal
 pub returns-clause-front : goal.returns-clause-front
 returns-clause-front g c = λ tells.
     let h = c.args.header.now in
-    begins_then _ _ _ (padded (boot_page h) (boot_record h)) _ c.in-Ok.ensures.written (rw c.page_size.ensures.value at (c.write_parts.ensures.front tells)) c.write_parts.ensures.least
+    begins_then _ _ _ (padded (boot_page h) (boot_record h)) _ c.in-Ok.ensures.written
+    (rw c.page_size.ensures.value at (c.write_parts.ensures.front tells)) c.write_parts.ensures.moves.writes.least
 
 pub returns-in-Err-clause-front : goal.returns-in-Err-clause-front
-returns-in-Err-clause-front g c = λ tells. begins_stop _ _ (padded (boot_page c.args.header.now) (boot_record c.args.header.now)) _ c.in-Err.ensures.front
+returns-in-Err-clause-front g c = λ tells. begins_stop _ _ (padded (boot_page c.args.header.now)
+    (boot_record c.args.header.now)) _ c.in-Err.ensures.front
 
 pub returns-clause-written : goal.returns-clause-written
 returns-clause-written g c =
-    λ tells. ok_then c.write_parts.result _ _ _ (padded (boot_page c.args.header.now) (boot_record c.args.header.now)) _ c.in-Ok.ensures.written (rw c.page_size.ensures.value at (c.write_parts.ensures.written tells))
+    λ tells. ok_then c.write_parts.result _ _ _ (padded (boot_page c.args.header.now) (boot_record c.args.header.now)) _
+    c.in-Ok.ensures.written (rw c.page_size.ensures.value at (c.write_parts.ensures.written tells))

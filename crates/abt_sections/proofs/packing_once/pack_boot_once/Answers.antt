@@ -1,69 +1,98 @@
-use Rattle.std.proofs.Common.{◌≡◌, inr, ℕ, List, ap, ◌∙◌, map, length, take, arith, refl}
+use Rattle.std.proofs.Common.{◌≡◌, ◌+◌, inr, ℕ, List, ap, ◌∙◌, map, length, take, arith, refl, sum}
 use Rattle.std.proofs.lemmas.List.{length-map}
 use Rattle.abt_headers.specs.Boot.{boot_page}
+use Rattle.abt_headers.specs.Page.{page_bytes}
 use Rattle.abt_sections.specs.Fields.{boot_fields, filled}
 use Rattle.abt_sections.specs.Broken.{IsBrokenOff}
 use Rattle.abt_sections.specs.BootCanon.{boot_image_size, image_size}
+use Rattle.abt_sections.specs.Cause.{total}
+use Rattle.abt_sections.specs.Layout.{laid_size}
 use Rattle.abt_sections.proofs.Causes.{on_err}
 use Rattle.abt_sections.proofs.Sizing.{sizes_are, sum_of_sizes}
 use Rattle.abt_sections.proofs.Canons.{size_is, once_size, once_written}
 use Rattle.abt_sections.proofs.Magic.{opens_as_nothing}
 use Rattle.abt_sections.proofs.Placing.{page_stands}
 use Rattle.abt_sections.proofs.Beginnings.{grows_none, same_sizes}
+use Rattle.abt_sections.proofs.packing_once.pack_boot_once.Given.{Over}
+use Rattle.abt_sections.proofs.packing_once.pack_boot_once.Goals.{In_ok-sizes}
 use Rattle.abt_sections.proofs.packing_once.pack_boot_once.Goals as goal
+
+-- the sizes that were told are those of all parts
+told : (g : Over) (c : In_ok-sizes g)
+    → (let ps = c.args.parts.now in sum (take (length ps) c.in_ok-sizes.sizes) ≡ total g.S.Source.size ps)
+told g c =
+    let ps = c.args.parts.now in
+    sum_of_sizes g.S.Source.size ps c.in_ok-sizes.sizes (length ps) c.in_ok-sizes.ensures.value.1 refl
+
+-- a page and the parts have the size of the image
+sized : (g : Over) (c : In_ok-sizes g)
+    → (let page = page_bytes c.in_ok-page.page in let ps = c.args.parts.now in
+    page + laid_size page (take (length ps) c.in_ok-sizes.sizes)
+    ≡ boot_image_size (boot_fields c.args.spec.now) (map g.S.Source.size ps))
+sized g c =
+    let f = g.S.Source.size in
+    let ps = c.args.parts.now in
+    once_size (boot_fields c.args.spec.now) c.in_ok-page.page c.in_ok-sizes.sizes (map f ps) (length ps)
+    c.in_ok-page.ensures.version c.in_ok-page.ensures.page c.in_ok-sizes.ensures.value.1
+    (omega (arith, length-map ps f))
 
 pub lay_header-requires-clause-zeros : goal.lay_header-requires-clause-zeros
 lay_header-requires-clause-zeros g c =
-    rw c.position-at.ensures (page_stands (g.O.Output.written c.args.output.now) _ c.bytes.result (omega arith) c.in_ok-id.ensures.zeros)
+    let old = g.O.Output.written c.args.output.now in
+    rw c.position-at.ensures (page_stands old _ c.bytes.result (omega arith) c.in_ok-id.ensures.zeros)
 
 pub returns-in_err-id-clause-once : goal.returns-in_err-id-clause-once
 returns-in_err-id-clause-once g c =
-    omega (arith, c.in_err-id.ensures.once, sum_of_sizes g.S.Source.size c.args.parts.now c.in_ok-sizes.sizes (length c.args.parts.now) c.in_ok-sizes.ensures.value.1 (omega arith))
+    omega (arith, c.in_err-id.ensures.once, told g (goal.at.returns-in_err-id-clause-once g c).In_ok-sizes)
 
 pub returns-in_err-id-clause-most : goal.returns-in_err-id-clause-most
 returns-in_err-id-clause-most g c =
-    let zs = map g.S.Source.size c.args.parts.now in
-    let e = once_size (boot_fields c.args.spec.now) c.in_ok-page.page c.in_ok-sizes.sizes zs (length c.args.parts.now) c.in_ok-page.ensures.version c.in_ok-page.ensures.page c.in_ok-sizes.ensures.value.1 (omega (arith, length-map c.args.parts.now g.S.Source.size)) in
-    omega (arith, e, rw c.bytes.ensures.value at c.in_err-id.ensures.most)
+    let size = sized g (goal.at.returns-in_err-id-clause-most g c).In_ok-sizes in
+    omega (arith, size, rw c.bytes.ensures.value at c.in_err-id.ensures.bytes.most)
 
 pub returns-in_err-lay_header-clause-once : goal.returns-in_err-lay_header-clause-once
 returns-in_err-lay_header-clause-once g c =
-    omega (arith, c.in_ok-id.ensures.once, sum_of_sizes g.S.Source.size c.args.parts.now c.in_ok-sizes.sizes (length c.args.parts.now) c.in_ok-sizes.ensures.value.1 (omega arith))
+    omega (arith, c.in_ok-id.ensures.once, told g (goal.at.returns-in_err-lay_header-clause-once g c).In_ok-sizes)
 
 pub returns-in_err-lay_header-clause-most : goal.returns-in_err-lay_header-clause-most
 returns-in_err-lay_header-clause-most g c =
-    let zs = map g.S.Source.size c.args.parts.now in
-    let e = once_size (boot_fields c.args.spec.now) c.in_ok-page.page c.in_ok-sizes.sizes zs (length c.args.parts.now) c.in_ok-page.ensures.version c.in_ok-page.ensures.page c.in_ok-sizes.ensures.value.1 (omega (arith, length-map c.args.parts.now g.S.Source.size)) in
-    omega (arith, e, rw c.bytes.ensures.value at c.in_ok-id.ensures.all, c.lay_header.ensures.long)
+    let size = sized g (goal.at.returns-in_err-lay_header-clause-most g c).In_ok-sizes in
+    omega (arith, size, rw c.bytes.ensures.value at c.in_ok-id.ensures.bytes.all, c.lay_header.ensures.long)
 
 pub returns-in_err-lay_header-clause-broken : goal.returns-in_err-lay_header-clause-broken
 returns-in_err-lay_header-clause-broken g c =
-    let off : IsBrokenOff (g.O.Output.written c.args.output.now) (g.O.Output.written c.lay_header.new.output) = inr (opens_as_nothing _ (rw c.position-at.ensures at c.in_err-lay_header.ensures.broken)) in
+    let w = g.O.Output.written in
+    let off : IsBrokenOff (w c.args.output.now) (w c.lay_header.new.output) =
+    inr (opens_as_nothing _ (rw c.position-at.ensures at c.in_err-lay_header.ensures.broken)) in
     on_err _ off
 
 pub returns-in_err-lay_header-clause-grown : goal.returns-in_err-lay_header-clause-grown
-returns-in_err-lay_header-clause-grown g c = (rw c.position-at.ensures at c.lay_header.ensures.before) ∙ c.in_ok-id.ensures.grown
+returns-in_err-lay_header-clause-grown g c =
+    (rw c.position-at.ensures at c.lay_header.ensures.before) ∙ c.in_ok-id.ensures.grown
 
 pub returns-clause-once : goal.returns-clause-once
 returns-clause-once g c =
-    omega (arith, c.in_ok-id.ensures.once, sum_of_sizes g.S.Source.size c.args.parts.now c.in_ok-sizes.sizes (length c.args.parts.now) c.in_ok-sizes.ensures.value.1 (omega arith))
+    omega (arith, c.in_ok-id.ensures.once, told g (goal.at.returns-clause-once g c).In_ok-sizes)
 
 pub returns-clause-grown : goal.returns-clause-grown
 returns-clause-grown g c = (rw c.position-at.ensures at c.lay_header.ensures.before) ∙ c.in_ok-id.ensures.grown
 
 pub returns-clause-most : goal.returns-clause-most
 returns-clause-most g c =
-    let zs = map g.S.Source.size c.args.parts.now in
-    let e = once_size (boot_fields c.args.spec.now) c.in_ok-page.page c.in_ok-sizes.sizes zs (length c.args.parts.now) c.in_ok-page.ensures.version c.in_ok-page.ensures.page c.in_ok-sizes.ensures.value.1 (omega (arith, length-map c.args.parts.now g.S.Source.size)) in
-    omega (arith, e, rw c.bytes.ensures.value at c.in_ok-id.ensures.all, c.lay_header.ensures.long)
+    let size = sized g (goal.at.returns-clause-most g c).In_ok-sizes in
+    omega (arith, size, rw c.bytes.ensures.value at c.in_ok-id.ensures.bytes.all, c.lay_header.ensures.long)
 
 pub returns-clause-written : goal.returns-clause-written
 returns-clause-written g c = λ tells.
     let s = g.S.Source in
     let parts = map s.content c.args.parts.now in
-    let sizes = c.in_ok-sizes.ensures.value.1 ∙ ap (λ (l : List ℕ). filled 5 l) (sizes_are s.size s.content c.args.parts.now (λ p. g.met.S.Source.sized p tells)) in
-    once_written (boot_fields c.args.spec.now) c.in_ok-page.page c.in_ok-sizes.sizes c.in_ok-id.id c.boot_header_for-header.result parts (g.O.Output.written c.args.output.now) _ _ c.position-at.result
-    c.in_ok-page.ensures.version c.boot_header_for-header.ensures c.in_ok-page.ensures.page sizes (c.in_ok-id.ensures.id tells) c.lay_header.ensures.size c.position-at.ensures
+    let sizes = c.in_ok-sizes.ensures.value.1
+    ∙ ap (λ (l : List ℕ). filled 5 l)
+    (sizes_are s.size s.content c.args.parts.now (λ p. g.met.S.Source.sized p tells)) in
+    once_written (boot_fields c.args.spec.now) c.in_ok-page.page c.in_ok-sizes.sizes c.in_ok-id.id
+    c.boot_header_for-header.result parts (g.O.Output.written c.args.output.now) _ _ c.position-at.result
+    c.in_ok-page.ensures.version c.boot_header_for-header.ensures c.in_ok-page.ensures.page sizes
+    (c.in_ok-id.ensures.id tells) c.lay_header.ensures.size c.position-at.ensures
     (rw c.bytes.ensures.value at (c.in_ok-id.ensures.written tells)) c.in_ok-lay_header.ensures.written
 
 pub returns-clause-packed : goal.returns-clause-packed
@@ -75,14 +104,15 @@ returns-clause-packed g c =
     let sizes = c.in_ok-sizes.sizes in
     let count = length c.write_behind.new.parts in
     let long : count ≡ length zs = omega (arith, length-map c.args.parts.now s.size) in
-    let e = size_is fields c.in_ok-page.page sizes zs c.in_ok-id.id h count c.in_ok-page.ensures.version c.boot_header_for-header.ensures c.in_ok-page.ensures.page c.in_ok-sizes.ensures.value.1 long in
-    let o = once_size fields c.in_ok-page.page sizes zs (length c.args.parts.now) c.in_ok-page.ensures.version c.in_ok-page.ensures.page c.in_ok-sizes.ensures.value.1 (omega (arith, length-map c.args.parts.now s.size)) in
     let bytes : c.image_bytes.result ≡ boot_image_size fields zs =
     c.image_bytes.ensures
     ∙ ap (λ (q : ℕ). image_size q c.size.result (take count sizes)) c.page_size.ensures.value
     ∙ ap (λ (q : ℕ). image_size (boot_page h) q (take count sizes)) c.size.ensures
-    ∙ e in
-    (bytes, omega (arith, bytes, o, rw c.bytes.ensures.value at c.in_ok-id.ensures.all, c.lay_header.ensures.long))
+    ∙ size_is fields c.in_ok-page.page sizes zs c.in_ok-id.id h count c.in_ok-page.ensures.version
+    c.boot_header_for-header.ensures c.in_ok-page.ensures.page c.in_ok-sizes.ensures.value.1 long in
+    let size = sized g (goal.at.returns-clause-packed g c).In_ok-sizes in
+    let all = rw c.bytes.ensures.value at c.in_ok-id.ensures.bytes.all in
+    (bytes, omega (arith, bytes, size, all, c.lay_header.ensures.long))
 
 pub returns-in_err-page-clause-grown : goal.returns-in_err-page-clause-grown
 returns-in_err-page-clause-grown g c = grows_none _
@@ -92,4 +122,6 @@ returns-in_err-sizes-clause-grown g c = grows_none _
 
 pub returns-clause-lasting : goal.returns-clause-lasting
 returns-clause-lasting g c =
-    same_sizes g.S.Source.size c.args.parts.now c.write_behind.new.parts c.in_ok-sizes.sizes (length c.args.parts.now) c.in_ok-sizes.ensures.value.1 refl c.in_ok-id.ensures.lasting
+    let ps = c.args.parts.now in
+    same_sizes g.S.Source.size ps c.write_behind.new.parts c.in_ok-sizes.sizes (length ps)
+    c.in_ok-sizes.ensures.value.1 refl c.in_ok-id.ensures.lasting

@@ -7,17 +7,20 @@ use Rattle.abt_sections.proofs.packing_once.write_behind.Goals as goal
 
 pub returns-in-Ok-move_parts-clause-id : goal.returns-in-Ok-move_parts-clause-id
 returns-in-Ok-move_parts-clause-id g c = λ tells.
-    wanted_id c.args.version (nat_lt c.args.version 3) c.move_parts.new.hasher c.id_of_hashed.result (map g.S.Source.content c.args.parts.now) refl
-    (λ wanted. c.in-Ok-move_parts.ensures.hashed wanted tells c.new-hasher.ensures) c.id_of_hashed.ensures.wanted c.id_of_hashed.ensures.unwanted
+    wanted_id c.args.version (nat_lt c.args.version 3) c.move_parts.new.hasher c.id_of_hashed.result
+    (map g.S.Source.content c.args.parts.now) refl
+    (λ wanted. c.in-Ok-move_parts.ensures.hashed wanted tells c.new-hasher.ensures) c.id_of_hashed.ensures.wanted
+    c.id_of_hashed.ensures.unwanted
 
 pub returns-in-Err-move_parts-clause-broken : goal.returns-in-Err-move_parts-clause-broken
 returns-in-Err-move_parts-clause-broken g c =
-    inr (opens_as_nothing _ (no_magic_yet _ (page_stands (g.O.Output.written c.args.output.now) _ c.args.page c.requires.some (rw c.in-Ok.ensures.written at c.in-Err-move_parts.ensures.grown))))
+    inr (opens_as_nothing _ (no_magic_yet _ (page_stands (g.O.Output.written c.args.output.now) _ c.args.page
+    c.requires.some (rw c.in-Ok.ensures.written at c.in-Err-move_parts.ensures.grown))))
 
 pub returns-in-Err-move_parts-clause-grown : goal.returns-in-Err-move_parts-clause-grown
 returns-in-Err-move_parts-clause-grown g c =
-    grows_on _ _ _ c.in-Ok.ensures.grown c.in-Err-move_parts.ensures.grown (omega (arith, c.in-Ok.ensures.all))
+    grows_on _ _ _ c.in-Ok.ensures.grown c.in-Err-move_parts.ensures.grown (omega (arith, c.in-Ok.ensures.bytes.all))
 
 pub returns-in-Ok-move_parts-clause-grown : goal.returns-in-Ok-move_parts-clause-grown
 returns-in-Ok-move_parts-clause-grown g c =
-    grows_on _ _ _ c.in-Ok.ensures.grown c.in-Ok-move_parts.ensures.grown (omega (arith, c.in-Ok.ensures.all))
+    grows_on _ _ _ c.in-Ok.ensures.grown c.in-Ok-move_parts.ensures.grown (omega (arith, c.in-Ok.ensures.bytes.all))

@@ -1,6 +1,6 @@
 use Rattle.std.proofs.Common.{◌++◌, arith, map}
 use Rattle.std.specs.List.{concat}
-use Rattle.abt_headers.specs.Vendor.{view, vendor_page, vendor_record}
+use Rattle.abt_headers.specs.Vendor.{vendor_view, vendor_page, vendor_record}
 use Rattle.abt_sections.specs.Layout.{padded}
 use Rattle.abt_sections.proofs.Growing.{begins_then, begins_stop}
 use Rattle.abt_sections.proofs.Beginnings.{ok_last}
@@ -8,27 +8,30 @@ use Rattle.abt_sections.proofs.vendor_packing.write_first_sections.Goals as goal
 
 pub returns-in-Err-write_vendor_ramdisk-clause-front : goal.returns-in-Err-write_vendor_ramdisk-clause-front
 returns-in-Err-write_vendor_ramdisk-clause-front g c = λ tells.
-    let v = view c.args.header.now in
+    let v = vendor_view c.args.header.now in
     let page = vendor_page v in
     let q = padded page (concat (map g.S.Source.content c.args.ramdisks.now)) in
     let r = padded page (g.S.Source.content c.args.dtb.now) in
     begins_then _ _ _ (padded page (vendor_record v)) (q ++ r) c.in-Ok.ensures.written
-    (begins_stop _ _ q r (rw c.page_size-page.ensures.value at (c.in-Err-write_vendor_ramdisk.ensures.front tells))) c.in-Err-write_vendor_ramdisk.ensures.least
+    (begins_stop _ _ q r (rw c.page_size-page.ensures.value at (c.in-Err-write_vendor_ramdisk.ensures.front tells)))
+    c.in-Err-write_vendor_ramdisk.ensures.moves.writes.least
 
 pub returns-clause-front : goal.returns-clause-front
 returns-clause-front g c = λ tells.
-    let v = view c.args.header.now in
+    let v = vendor_view c.args.header.now in
     let page = vendor_page v in
     let q = padded page (concat (map g.S.Source.content c.args.ramdisks.now)) in
     let r = padded page (g.S.Source.content c.args.dtb.now) in
     let e = c.in-Ok-write_vendor_ramdisk.ensures in
     begins_then _ _ _ (padded page (vendor_record v)) (q ++ r) c.in-Ok.ensures.written
-    (begins_then _ _ _ q r (rw c.page_size-page.ensures.value at (e.written tells)) (rw c.page_size-page.ensures.value at (c.write_part.ensures.front tells)) c.write_part.ensures.least) (omega (arith, e.least, c.write_part.ensures.least))
+    (begins_then _ _ _ q r (rw c.page_size-page.ensures.value at (e.written tells)) (rw c.page_size-page.ensures.value
+    at (c.write_part.ensures.front tells)) c.write_part.ensures.moves.writes.least)
+    (omega (arith, e.moves.writes.least, c.write_part.ensures.moves.writes.least))
 
 pub returns-in-Err-clause-front : goal.returns-in-Err-clause-front
 returns-in-Err-clause-front g c =
     λ tells.
-    let v = view c.args.header.now in
+    let v = vendor_view c.args.header.now in
     let page = vendor_page v in
     let q = padded page (concat (map g.S.Source.content c.args.ramdisks.now)) in
     let r = padded page (g.S.Source.content c.args.dtb.now) in
@@ -37,8 +40,10 @@ returns-in-Err-clause-front g c =
 pub returns-clause-written : goal.returns-clause-written
 returns-clause-written g c =
     λ tells.
-    let v = view c.args.header.now in
+    let v = vendor_view c.args.header.now in
     let page = vendor_page v in
     let q = padded page (concat (map g.S.Source.content c.args.ramdisks.now)) in
     let r = padded page (g.S.Source.content c.args.dtb.now) in
-    ok_last c.write_part.result _ _ _ _ (padded page (vendor_record v)) q r c.in-Ok.ensures.written (rw c.page_size-page.ensures.value at (c.in-Ok-write_vendor_ramdisk.ensures.written tells)) (rw c.page_size-page.ensures.value at (c.write_part.ensures.written tells))
+    ok_last c.write_part.result _ _ _ _ (padded page (vendor_record v)) q r c.in-Ok.ensures.written
+    (rw c.page_size-page.ensures.value at (c.in-Ok-write_vendor_ramdisk.ensures.written tells))
+    (rw c.page_size-page.ensures.value at (c.write_part.ensures.written tells))

@@ -1,4 +1,5 @@
 use Rattle.std.proofs.Common.{rules, ◌≡◌, ◌+◌, ◌++◌, ℕ, List, arith, ap, sym, ◌∙◌, map, get_or, take}
+use Rattle.std.proofs.Math.Nat.{le_trans}
 use Rattle.std.proofs.lemmas.List.{get_or_default, take_all, length-map}
 use Rattle.std.proofs.lemmas.List.Sums.{sum_by_more, sum_by_more_le}
 use Rattle.abt_headers.specs.Entry.{entry_record}
@@ -19,12 +20,15 @@ returns-in-Err-clause-front g c =
     let d = c.index-ramdisks-i.result in
     let n = c.length-size.ensures.size in
     let t = table_for (take i fs) (take i ns) 0 in
-    let here : get_or ns i c.length-size.result ≡ c.length-size.result = ap (λ (k : ℕ). get_or ns i k) n ∙ get_map f ps i d ∙ ap f (sym c.index-ramdisks-i.is) ∙ sym n in
-    let next = table_next f fs ps i _ c.length-size.result c.loop-i.offset (omega arith) (omega arith) (get_or_default fs i _ _ (omega arith)) here c.loop-i.invariant.offset in
+    let here : get_or ns i c.length-size.result ≡ c.length-size.result = ap (λ (k : ℕ). get_or ns i k) n
+    ∙ get_map f ps i d ∙ ap f (sym c.index-ramdisks-i.is) ∙ sym n in
+    let next = table_next f fs ps i _ c.length-size.result c.loop-i.offset (omega arith) (omega arith)
+    (get_or_default fs i _ _ (omega arith)) here c.loop-i.invariant.offset in
     let r = table_front fs ns 0 (i + 1) in
     begins_is _ _ _ _ r.1
     (begins_stop _ _ (table_for (take (i + 1) fs) (take (i + 1) ns) 0) r.0
-    (begins_is _ _ _ _ (ap (λ (l : List ℕ). t ++ l) (c.encode.ensures.bytes ∙ ap entry_record c.entry_for-entry.ensures) ∙ next)
+    (begins_is _ _ _ _ (ap (λ (l : List ℕ). t ++ l) (c.encode.ensures.bytes ∙ ap entry_record c.entry_for-entry.ensures)
+    ∙ next)
     (begins_then _ _ _ t _ c.loop-i.invariant.written c.in-Err.ensures.front c.in-Err.ensures.grown)))
 
 pub loop-i-preserved : goal.loop-i-preserved
@@ -40,30 +44,40 @@ loop-i-preserved g c =
     let n = c.length-size.ensures.size in
     let w0 = g.O.Output.written c.args.output.now in
     let t = table_for (take i fs) (take i ns) 0 in
-    let here : get_or ns i c.length-size.result ≡ c.length-size.result = ap (λ (k : ℕ). get_or ns i k) n ∙ get_map f ps i d ∙ ap f (sym c.index-ramdisks-i.is) ∙ sym n in
-    let next = table_next f fs ps i _ c.length-size.result c.loop-i.offset (omega arith) (omega arith) (get_or_default fs i _ _ (omega arith)) here v.offset in
+    let here : get_or ns i c.length-size.result ≡ c.length-size.result = ap (λ (k : ℕ). get_or ns i k) n
+    ∙ get_map f ps i d ∙ ap f (sym c.index-ramdisks-i.is) ∙ sym n in
+    let next = table_next f fs ps i _ c.length-size.result c.loop-i.offset (omega arith) (omega arith)
+    (get_or_default fs i _ _ (omega arith)) here v.offset in
     record {
       offset = omega (arith, v.offset, n, ap f c.index-ramdisks-i.is, sum_by_more f ps i d (omega arith));
       written =
           then_all _ _ _ t _ v.written e.ok
-          ∙ ap (λ (l : List ℕ). w0 ++ l) (ap (λ (l : List ℕ). t ++ l) (c.encode.ensures.bytes ∙ ap entry_record c.entry_for-entry.ensures) ∙ next);
+          ∙ ap (λ (l : List ℕ). w0 ++ l) (ap (λ (l : List ℕ). t ++ l) (c.encode.ensures.bytes
+          ∙ ap entry_record c.entry_for-entry.ensures) ∙ next);
       all = search rules;
-      write_frame = e.frame ∙ v.write_frame;
-      write_faults = e.clean ∙ v.write_faults;
-      full_faults = omega (arith, e.full_faults, v.full_faults);
+      writes = record {
+        least = le_trans v.writes.least e.grown;
+        frame = e.frame ∙ v.writes.frame;
+        faults = le_trans v.writes.faults e.faults;
+        clean = e.clean ∙ v.writes.clean;
+        full_faults = omega (arith, e.full_faults, v.writes.full_faults);
+      };
     }
 
 pub overflow_cast-size : goal.overflow_cast-size
 overflow_cast-size g c =
     let f = g.S.Source.size in
     let ps = c.args.ramdisks.now in
-    omega (arith, c.requires.small, c.length-size.ensures.size, ap f c.index-ramdisks-i.is, sum_by_more_le f ps c.loop-i.i c.index-ramdisks-i.result (omega arith))
+    let rest = sum_by_more_le f ps c.loop-i.i c.index-ramdisks-i.result (omega arith) in
+    omega (arith, c.requires.small, c.length-size.ensures.size, ap f c.index-ramdisks-i.is, rest)
 
 pub overflow_add-offset : goal.overflow_add-offset
 overflow_add-offset g c =
     let f = g.S.Source.size in
     let ps = c.args.ramdisks.now in
-    omega (arith, c.loop-i.invariant.offset, c.requires.small, c.length-size.ensures.size, ap f c.index-ramdisks-i.is, sum_by_more_le f ps c.loop-i.i c.index-ramdisks-i.result (omega arith))
+    let rest = sum_by_more_le f ps c.loop-i.i c.index-ramdisks-i.result (omega arith) in
+    let size = c.length-size.ensures.size in
+    omega (arith, c.loop-i.invariant.offset, c.requires.small, size, ap f c.index-ramdisks-i.is, rest)
 
 pub returns-clause-written : goal.returns-clause-written
 returns-clause-written g c =
@@ -81,4 +95,5 @@ returns-clause-front g c =
     let i = c.loop-i.i in
     let a = take_all i fs (omega arith) in
     let b = take_all i ns (omega (arith, length-map c.args.ramdisks.now g.S.Source.size)) in
-    begins_all _ _ _ (rw (a, b) at c.loop-i.invariant.written)
+    let w = g.O.Output.written in
+    begins_all (w c.args.output.now) (w c.loop-i.output) (table_for fs ns 0) (rw (a, b) at c.loop-i.invariant.written)

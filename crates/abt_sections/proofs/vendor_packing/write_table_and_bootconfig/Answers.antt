@@ -1,11 +1,11 @@
-use Rattle.std.proofs.Common.{◌≡◌, ℕ, List, [], ◌*◌, ◌++◌, append_assoc, append-nil, arith, ap, sym, ◌∙◌, subst, length, length-append, map, get_or, take, ◌+◌}
+use Rattle.std.proofs.Common.{◌≡◌, ℕ, List, [], ◌*◌, ◌++◌, append_assoc, append-nil, arith, ap, sym, ◌∙◌, subst, length}
+use Rattle.std.proofs.Common.{length-append, map, get_or, take}
 use Rattle.std.specs.Prelude.{OnOk}
 use Rattle.abt_sections.specs.Layout.{padded, zeros_behind}
 use Rattle.abt_sections.specs.VendorCanon.{table_for}
 use Rattle.abt_sections.proofs.Causes.{on_ok, on_ok_then}
 use Rattle.abt_sections.proofs.Growing.{begins_then, begins_stop, begins_is, then_all, still_stands}
 use Rattle.abt_headers.proofs.Places.{enough_pages}
-use Rattle.abt_headers.specs.Page.{pages}
 use Rattle.abt_sections.proofs.Beginnings.{last_two}
 use Rattle.abt_sections.proofs.vendor_packing.write_table_and_bootconfig.Goals as goal
 
@@ -15,9 +15,12 @@ returns-in-Err-write_padding-clause-front g c = λ tells.
     let t = table_for c.args.fragments.now (map g.S.Source.size c.args.ramdisks.now) 0 in
     let w0 = g.O.Output.written c.args.output.now in
     let e = c.in-Ok.ensures in
-    let long : get_or c.args.sizes.now 2 0 ≡ length t = omega (arith, ap length e.written, length-append w0 t, e.all, c.requires.table) in
+    let long : get_or c.args.sizes.now 2 0 ≡ length t =
+    omega (arith, ap length e.written, length-append w0 t, e.bytes.all, c.requires.table) in
     begins_stop _ _ (padded page t) (padded page (g.S.Source.content c.args.bootconfig.now) ++ [])
-    (begins_is _ _ _ _ (ap (λ (k : ℕ). t ++ zeros_behind k page) long) (begins_then _ _ _ t _ e.written c.in-Err-write_padding.ensures.front c.in-Err-write_padding.ensures.least))
+    (begins_is _ _ _ _ (ap (λ (k : ℕ). t ++ zeros_behind k page) long)
+    (begins_then _ _ _ t _ e.written c.in-Err-write_padding.ensures.front
+    c.in-Err-write_padding.ensures.writes.only.least))
 
 pub returns-clause-written : goal.returns-clause-written
 returns-clause-written g c = λ tells.
@@ -27,11 +30,15 @@ returns-clause-written g c = λ tells.
     let w0 = g.O.Output.written c.args.output.now in
     let e = c.in-Ok.ensures in
     let p = c.in-Ok-write_padding.ensures in
-    let long : get_or c.args.sizes.now 2 0 ≡ length t = omega (arith, ap length e.written, length-append w0 t, e.all, c.requires.table) in
-    let first : g.O.Output.written c.write_padding.new.output ≡ w0 ++ padded page t = then_all _ _ _ t _ e.written p.written ∙ ap (λ (k : ℕ). w0 ++ (t ++ zeros_behind k page)) long in
+    let long : get_or c.args.sizes.now 2 0 ≡ length t =
+    omega (arith, ap length e.written, length-append w0 t, e.bytes.all, c.requires.table) in
+    let first : g.O.Output.written c.write_padding.new.output ≡ w0 ++ padded page t = then_all _ _ _ t _ e.written
+    p.written ∙ ap (λ (k : ℕ). w0 ++ (t ++ zeros_behind k page)) long in
     let whole : g.O.Output.written c.write_padding.new.output ++ b ≡ w0 ++ (padded page t ++ (b ++ [])) =
-    ap (λ (l : List ℕ). l ++ b) first ∙ append_assoc w0 (padded page t) b ∙ ap (λ (l : List ℕ). w0 ++ (padded page t ++ l)) (sym (append-nil b)) in
-    subst (λ (l : List ℕ). OnOk c.write_part.result (g.O.Output.written c.write_part.new.output ≡ l)) whole (c.write_part.ensures.written tells)
+    ap (λ (l : List ℕ). l ++ b) first ∙ append_assoc w0 (padded page t) b
+    ∙ ap (λ (l : List ℕ). w0 ++ (padded page t ++ l)) (sym (append-nil b)) in
+    subst (λ (l : List ℕ). OnOk c.write_part.result (g.O.Output.written c.write_part.new.output ≡ l)) whole
+    (c.write_part.ensures.written tells)
 
 pub returns-clause-front : goal.returns-clause-front
 returns-clause-front g c = λ tells.
@@ -41,9 +48,12 @@ returns-clause-front g c = λ tells.
     let w0 = g.O.Output.written c.args.output.now in
     let e = c.in-Ok.ensures in
     let p = c.in-Ok-write_padding.ensures in
-    let long : get_or c.args.sizes.now 2 0 ≡ length t = omega (arith, ap length e.written, length-append w0 t, e.all, c.requires.table) in
-    let first : g.O.Output.written c.write_padding.new.output ≡ w0 ++ padded page t = then_all _ _ _ t _ e.written p.written ∙ ap (λ (k : ℕ). w0 ++ (t ++ zeros_behind k page)) long in
-    begins_then _ _ _ (padded page t) (b ++ []) first (begins_is _ _ _ _ (sym (append-nil b)) (c.write_part.ensures.front tells)) c.write_part.ensures.least
+    let long : get_or c.args.sizes.now 2 0 ≡ length t =
+    omega (arith, ap length e.written, length-append w0 t, e.bytes.all, c.requires.table) in
+    let first : g.O.Output.written c.write_padding.new.output ≡ w0 ++ padded page t = then_all _ _ _ t _ e.written
+    p.written ∙ ap (λ (k : ℕ). w0 ++ (t ++ zeros_behind k page)) long in
+    begins_then _ _ _ (padded page t) (b ++ []) first (begins_is _ _ _ _ (sym (append-nil b))
+    (c.write_part.ensures.front tells)) c.write_part.ensures.moves.writes.least
 
 pub returns-clause-table : goal.returns-clause-table
 returns-clause-table g c =
@@ -52,31 +62,44 @@ returns-clause-table g c =
     let w0 = g.O.Output.written c.args.output.now in
     let e = c.in-Ok.ensures in
     let p = c.in-Ok-write_padding.ensures in
-    let long : length t ≡ 108 * length c.args.fragments.now = omega (arith, ap length e.written, length-append w0 t, e.all) in
-    let whole : g.O.Output.written c.write_padding.new.output ≡ w0 ++ (t ++ zeros_behind (get_or c.args.sizes.now 2 0) page) = then_all _ _ _ t _ e.written p.written in
-    on_ok c.write_part.result (still_stands w0 t (zeros_behind (get_or c.args.sizes.now 2 0) page) _ _ long (subst (λ (l : List ℕ). take (length l) (g.O.Output.written c.write_part.new.output) ≡ l) whole c.write_part.ensures.grown))
+    let long : length t ≡ 108 * length c.args.fragments.now =
+    omega (arith, ap length e.written, length-append w0 t, e.bytes.all) in
+    let whole : g.O.Output.written c.write_padding.new.output ≡ w0 ++ (t ++ zeros_behind (get_or c.args.sizes.now 2 0)
+    page) = then_all _ _ _ t _ e.written p.written in
+    on_ok c.write_part.result (still_stands w0 t (zeros_behind (get_or c.args.sizes.now 2 0) page) _ _ long
+    (subst (λ (l : List ℕ). take (length l) (g.O.Output.written c.write_part.new.output) ≡ l) whole
+    c.write_part.ensures.grown))
 
-pub returns-in-Err-clause-most : goal.returns-in-Err-clause-most
-returns-in-Err-clause-most g c =
-    omega (arith, c.in-Err.ensures.most, c.requires.table, enough_pages (get_or c.args.sizes.now 2 0) c.args.page c.requires.some, last_two c.args.page c.args.sizes.now (omega arith))
+pub returns-in-Err-clause-bytes : goal.returns-in-Err-clause-bytes
+returns-in-Err-clause-bytes g c =
+    let page = c.args.page in
+    let fits = enough_pages (get_or c.args.sizes.now 2 0) page c.requires.some in
+    let two = last_two page c.args.sizes.now (omega arith) in
+    record { most = omega (arith, c.in-Err.ensures.bytes.most, c.requires.table, fits, two); all = tt }
 
-pub returns-in-Err-write_padding-clause-most : goal.returns-in-Err-write_padding-clause-most
-returns-in-Err-write_padding-clause-most g c =
-    omega (arith, c.in-Ok.ensures.all, c.in-Err-write_padding.ensures.most, c.requires.table, last_two c.args.page c.args.sizes.now (omega arith))
-
-pub returns-clause-most : goal.returns-clause-most
-returns-clause-most g c =
-    omega (arith, c.in-Ok.ensures.all, c.in-Ok-write_padding.ensures.all, c.write_part.ensures.most, c.requires.table, last_two c.args.page c.args.sizes.now (omega arith))
-
-pub returns-clause-all : goal.returns-clause-all
-returns-clause-all g c =
+pub returns-in-Err-write_padding-clause-bytes : goal.returns-in-Err-write_padding-clause-bytes
+returns-in-Err-write_padding-clause-bytes g c =
     let two = last_two c.args.page c.args.sizes.now (omega arith) in
-    on_ok_then c.write_part.result (λ all. omega (arith, c.in-Ok.ensures.all, c.in-Ok-write_padding.ensures.all, c.requires.table, two, all)) c.write_part.ensures.all
+    let p = c.in-Err-write_padding.ensures in
+    record { most = omega (arith, c.in-Ok.ensures.bytes.all, p.most, c.requires.table, two); all = tt }
+
+pub returns-clause-bytes : goal.returns-clause-bytes
+returns-clause-bytes g c =
+    let two = last_two c.args.page c.args.sizes.now (omega arith) in
+    let e = c.in-Ok.ensures in
+    let p = c.in-Ok-write_padding.ensures in
+    let b = c.write_part.ensures.bytes in
+    record {
+      most = omega (arith, e.bytes.all, p.all, b.most, c.requires.table, two);
+      all = on_ok_then c.write_part.result (λ all. omega (arith, e.bytes.all, p.all, c.requires.table, two, all)) b.all;
+    }
 
 pub returns-in-Err-clause-front : goal.returns-in-Err-clause-front
 returns-in-Err-clause-front g c =
     λ tells.
     let page = c.args.page in
     let t = table_for c.args.fragments.now (map g.S.Source.size c.args.ramdisks.now) 0 in
-    begins_is _ _ _ _ (sym (append_assoc t (zeros_behind (length t) page) (padded page (g.S.Source.content c.args.bootconfig.now) ++ [])))
-    (begins_stop _ _ t (zeros_behind (length t) page ++ (padded page (g.S.Source.content c.args.bootconfig.now) ++ [])) c.in-Err.ensures.front)
+    begins_is _ _ _ _ (sym (append_assoc t (zeros_behind (length t) page)
+    (padded page (g.S.Source.content c.args.bootconfig.now) ++ [])))
+    (begins_stop _ _ t (zeros_behind (length t) page ++ (padded page (g.S.Source.content c.args.bootconfig.now) ++ []))
+    c.in-Err.ensures.front)

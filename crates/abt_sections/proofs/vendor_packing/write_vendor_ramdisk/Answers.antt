@@ -10,9 +10,9 @@ returns-clause-front g c = λ tells.
     let x = concat (map g.S.Source.content c.args.ramdisks.now) in
     let w0 = g.O.Output.written c.args.output.now in
     let e = c.in-Ok.ensures in
-    let long : c.args.size ≡ length x = omega (arith, ap length (e.written tells), length-append w0 x, e.all) in
+    let long : c.args.size ≡ length x = omega (arith, ap length (e.written tells), length-append w0 x, e.bytes.all) in
     begins_is _ _ _ _ (ap (λ (k : ℕ). x ++ zeros_behind k c.args.page) long)
-    (begins_then _ _ _ x _ (e.written tells) c.write_padding.ensures.front c.write_padding.ensures.least)
+    (begins_then _ _ _ x _ (e.written tells) c.write_padding.ensures.front c.write_padding.ensures.writes.only.least)
 
 pub returns-clause-written : goal.returns-clause-written
 returns-clause-written g c =
@@ -20,7 +20,9 @@ returns-clause-written g c =
     let x = concat (map g.S.Source.content c.args.ramdisks.now) in
     let w0 = g.O.Output.written c.args.output.now in
     let e = c.in-Ok.ensures in
-    ok_padded c.write_padding.result _ _ _ x c.args.size c.args.page (omega (arith, ap length (e.written tells), length-append w0 x, e.all, c.requires.sized)) (e.written tells) c.write_padding.ensures.written
+    ok_padded c.write_padding.result _ _ _ x c.args.size c.args.page
+    (omega (arith, ap length (e.written tells), length-append w0 x, e.bytes.all, c.requires.sized))
+    (e.written tells) c.write_padding.ensures.written
 
 pub returns-in-Err-clause-front : goal.returns-in-Err-clause-front
 returns-in-Err-clause-front g c =

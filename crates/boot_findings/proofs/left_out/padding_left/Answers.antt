@@ -1,6 +1,8 @@
 use Rattle.std.proofs.Common.{◌<◌, length, ◌∙◌, arith}
+use Rattle.abt_io.proofs.Lent.{reads_ok, reads_then}
 use Rattle.abt_sections.specs.Header.{page_of, places_of, view_of}
-use Rattle.boot_findings.proofs.Paddings.{padding_on, read_since}
+use Rattle.abt_sections.proofs.Refusals.{reads_on}
+use Rattle.boot_findings.proofs.Paddings.{padding_on}
 use Rattle.boot_findings.proofs.left_out.padding_left.Goals as goal
 
 pub loop-i-preserved : goal.loop-i-preserved
@@ -11,14 +13,14 @@ loop-i-preserved g c =
     let place = c.section-place in
     let within : c.loop-i.i < length (places_of h) = omega (arith, c.loop-i-test.true, c.sections-i-end.ensures.value) in
     record {
-      content = λ tells. seen.content tells ∙ before.content tells;
-      faults = omega (arith, before.faults, seen.faults);
-      clean = seen.clean ∙ before.clean;
+      reads = reads_ok tt (reads_then before.reads seen.reads.only);
       few = omega (arith, before.few, seen.few, c.page_size-page.ensures.high);
       value = λ tells.
-          padding_on (g.S.Source.content c.args.source.now) (page_of h) c.loop-i.i (places_of h) place.result c.loop-i.count c.in-Ok-set_behind.more _
-          within place.ensures.value (rw (before.content tells, c.page_size-page.ensures.value) at (seen.value tells)) (before.value tells);
+          padding_on (g.S.Source.content c.args.source.now) (page_of h) c.loop-i.i (places_of h) place.result
+          c.loop-i.count c.in-Ok-set_behind.more _ within place.ensures.value
+          (rw (before.reads.content tells, c.page_size-page.ensures.value) at (seen.value tells)) (before.value tells);
     }
 
-pub returns-in-Err-set_behind-clause-cause : goal.returns-in-Err-set_behind-clause-cause
-returns-in-Err-set_behind-clause-cause g c = read_since c.in-Err-set_behind.fault _ _ _ _ c.loop-i.invariant.faults c.in-Err-set_behind.ensures.cause
+pub returns-in-Err-set_behind-clause-reads : goal.returns-in-Err-set_behind-clause-reads
+returns-in-Err-set_behind-clause-reads g c =
+    reads_on c.loop-i.invariant.reads c.in-Err-set_behind.ensures.reads (λ changed. changed)

@@ -1,5 +1,6 @@
 use Rattle.std.proofs.Common.{◌≡◌, ◌≤◌, ◌+◌, ◌*◌, drop}
-use Rattle.std.specs.Prelude.{IsTrue}
+use Rattle.std.specs.Prelude.{IsTrue, Ok}
+use Rattle.abt_io.specs.Lent.{OnlyReads}
 use Rattle.abt_sections.specs.Header.{page_of, places_of, view_of}
 use Rattle.boot_findings.specs.LeftOut.{behind_places, padding_left}
 use Rattle.boot_findings.proofs.left_out.padding_left.Given as goal
@@ -9,9 +10,8 @@ invariant-loop-i g l =
     let s = g.S.Source in
     let h = view_of l.image.header in
     record {
-      content : IsTrue s.tells → s.content l.source ≡ s.content l.fn.source;
-      faults : s.read_faults l.fn.source ≤ s.read_faults l.source;
-      clean : s.read_faults l.source ≡ s.read_faults l.fn.source;
+      reads : OnlyReads {X = Unit {0}} {E = Unit {0}} (Ok tt) s l.fn.source l.source;
       few : l.count ≤ 131072 * (l.i + 1);
-      value : IsTrue s.tells → l.count + behind_places (s.content l.fn.source) (page_of h) (drop l.i (places_of h)) ≡ padding_left (s.content l.fn.source) h;
+      value : IsTrue s.tells → l.count + behind_places (s.content l.fn.source) (page_of h) (drop l.i (places_of h))
+          ≡ padding_left (s.content l.fn.source) h;
     }

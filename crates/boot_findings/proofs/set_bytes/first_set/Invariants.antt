@@ -1,5 +1,6 @@
-use Rattle.std.proofs.Common.{◌≡◌, ◌≤◌, ◌-◌}
-use Rattle.std.specs.Prelude.{IsTrue}
+use Rattle.std.proofs.Common.{◌≤◌, ◌-◌}
+use Rattle.std.specs.Prelude.{Ok}
+use Rattle.abt_io.specs.Lent.{OnlyReads}
 use Rattle.boot_findings.proofs.set_bytes.first_set.Given as goal
 
 abbrev pub invariant-loop-done : goal.invariant-loop-done
@@ -7,8 +8,7 @@ invariant-loop-done g l =
     let s = g.S.Source in
     record {
       within : l.done ≤ l.all;
-      content : IsTrue s.tells → s.content l.source ≡ s.content l.fn.source;
-      faults : s.read_faults l.source ≡ s.read_faults l.fn.source;
+      reads : OnlyReads {X = Unit {0}} {E = Unit {0}} (Ok tt) s l.fn.source l.source;
     }
 
 abbrev pub decreases-loop-done : goal.decreases-loop-done

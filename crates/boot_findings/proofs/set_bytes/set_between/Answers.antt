@@ -1,4 +1,5 @@
 use Rattle.std.proofs.Common.{◌≡◌, ◌≤◌, ◌+◌, ◌-◌, ap, ◌∙◌, arith, length, take, drop}
+use Rattle.abt_io.proofs.Lent.{reads_ok, reads_then}
 use Rattle.boot_findings.specs.LeftOut.{set_in}
 use Rattle.boot_findings.proofs.Counts.{counted_all, counted_on}
 use Rattle.boot_findings.proofs.set_bytes.set_between.Goals as goal
@@ -11,9 +12,12 @@ returns-then-seen-ask-clause-value g c = λ tells.
     let from = c.args.from in
     let done = c.loop-done.done in
     let came = c.in-Ok.seen.came in
-    let ended : length x - from ≤ done + came = omega (arith, e.came tells, ap length (v.content tells), c.if-seen-ask.true) in
-    let within : done + came ≤ c.args.end - from = omega (arith, e.few.1, c.min-ask.ensures, c.saturating_sub-all.ensures, v.within, c.loop-done-test.true) in
-    ap (λ k. k + c.in-Ok.seen.set) (v.value tells) ∙ counted_on x _ from done came _ (v.content tells) (e.set tells) ∙ counted_all x from (done + came) (c.args.end - from) within ended
+    let same = v.reads.content tells in
+    let ended : length x - from ≤ done + came = omega (arith, e.came tells, ap length same, c.if-seen-ask.true) in
+    let within : done + came ≤ c.args.end - from = omega
+    (arith, e.few.1, c.min-ask.ensures, c.saturating_sub-all.ensures, v.within, c.loop-done-test.true) in
+    ap (λ k. k + c.in-Ok.seen.set) (v.value tells) ∙ counted_on x _ from done came _ same (e.set tells)
+    ∙ counted_all x from (done + came) (c.args.end - from) within ended
 
 pub loop-done-preserved : goal.loop-done-preserved
 loop-done-preserved g c =
@@ -26,10 +30,11 @@ loop-done-preserved g c =
     let full : came ≡ ask = omega (arith, e.few.1, c.if-seen-ask.false) in
     record {
       within = omega (arith, c.min-ask.ensures, v.within, c.loop-done-test.true);
-      content = λ tells. e.content tells ∙ v.content tells;
-      faults = e.clean ∙ v.faults;
+      reads = reads_ok tt (reads_then v.reads e.reads.only);
       few = omega (arith, e.few.0, e.few.1, v.few);
       value = λ tells.
           let x = g.S.Source.content c.args.source.now in
-          ap (λ k. k + c.in-Ok.seen.set) (v.value tells) ∙ counted_on x _ from done came _ (v.content tells) (e.set tells) ∙ ap (λ k. set_in (take (done + k) (drop from x))) full;
+          ap (λ k. k + c.in-Ok.seen.set) (v.value tells)
+          ∙ counted_on x _ from done came _ (v.reads.content tells) (e.set tells)
+          ∙ ap (λ k. set_in (take (done + k) (drop from x))) full;
     }

@@ -1,5 +1,6 @@
 use Rattle.std.proofs.Common.{◌≡◌, ◌≤◌, ◌-◌, take, drop}
-use Rattle.std.specs.Prelude.{IsTrue}
+use Rattle.std.specs.Prelude.{IsTrue, Ok}
+use Rattle.abt_io.specs.Lent.{OnlyReads}
 use Rattle.boot_findings.specs.LeftOut.{set_in}
 use Rattle.boot_findings.proofs.set_bytes.set_between.Given as goal
 
@@ -8,8 +9,7 @@ invariant-loop-done g l =
     let s = g.S.Source in
     record {
       within : l.done ≤ l.all;
-      content : IsTrue s.tells → s.content l.source ≡ s.content l.fn.source;
-      faults : s.read_faults l.source ≡ s.read_faults l.fn.source;
+      reads : OnlyReads {X = Unit {0}} {E = Unit {0}} (Ok tt) s l.fn.source l.source;
       few : l.count ≤ l.done;
       value : IsTrue s.tells → l.count ≡ set_in (take l.done (drop l.from (s.content l.fn.source)));
     }

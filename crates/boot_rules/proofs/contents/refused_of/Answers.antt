@@ -1,5 +1,4 @@
 use Rattle.std.proofs.Common.{map}
-use Rattle.boot_rules.specs.Refused.{refusal_of}
 use Rattle.boot_rules.proofs.Refusals.{a_refusal, no_refusal, refusal_fixed}
 use Rattle.boot_rules.proofs.contents.refused_of.Goals as goal
 

@@ -21,15 +21,19 @@ loop-i-preserved g c =
     let found = c.in-Ok.ensures in
     let risen = c.loop-i.invariant.faults in
     record {
-      faults = found.clean ∙ risen;
+      faults = found.reads.only.clean ∙ risen;
       prints = (c.loop-i.invariant.prints.0 ++ line (fragment_text c.args.notation i c.in-Ok.entry), c.loop-i.invariant.prints.1 ▸ c.put_fragment.ensures);
       lines = λ tells.
           let before = c.loop-i.invariant.lines tells in
           let entry : c.in-Ok.entry ≡ entry_of x h i = found.entry tells ∙ ap (λ y. entry_of y h i) before.0 in
           let next : suc i ≡ i + 1 = omega arith in
           let all : Prints g.O.Output.written g.O.Output.write_faults c.args.text.now c.put_fragment.new.text (fragment_lines c.args.notation x h (suc i))
-          = before.1 ▸ as_text (ap (λ e. line (fragment_text c.args.notation i e)) entry) c.put_fragment.ensures in
-          (found.content tells ∙ before.0, subst (λ k. Prints g.O.Output.written g.O.Output.write_faults c.args.text.now c.put_fragment.new.text (fragment_lines c.args.notation x h k)) next all);
+          = before.1 ▸ as_text (ap (λ e. line (fragment_text c.args.notation i e)) entry) c.put_fragment.ensures in (
+            found.reads.only.content tells ∙ before.0,
+            subst
+                (λ k. Prints g.O.Output.written g.O.Output.write_faults c.args.text.now c.put_fragment.new.text
+                (fragment_lines c.args.notation x h k)) next all,
+          );
     }
 
 pub returns-in-Err-clause-begun : goal.returns-in-Err-clause-begun
@@ -52,7 +56,8 @@ pub returns-in-Err-is_whole-clause-prints : goal.returns-in-Err-is_whole-clause-
 returns-in-Err-is_whole-clause-prints g c = (_, c.loop-i.invariant.prints.1 ▸ c.put_fragment.ensures)
 
 pub returns-in-Err-clause-reads : goal.returns-in-Err-clause-reads
-returns-in-Err-clause-reads g c = reading_told c.in-Err.fault _ _ _ _ c.loop-i.invariant.faults c.in-Err.ensures.cause c.in-Err.ensures.faults
+returns-in-Err-clause-reads g c = reading_told c.in-Err.fault _ _ _ _ c.loop-i.invariant.faults
+    c.in-Err.ensures.reads.cause c.in-Err.ensures.reads.only.faults
 
 pub returns-in-Err-is_whole-clause-reads : goal.returns-in-Err-is_whole-clause-reads
-returns-in-Err-is_whole-clause-reads g c = omega (arith, c.loop-i.invariant.faults, c.in-Ok.ensures.clean)
+returns-in-Err-is_whole-clause-reads g c = omega (arith, c.loop-i.invariant.faults, c.in-Ok.ensures.reads.only.clean)

@@ -1,6 +1,7 @@
 use Rattle.std.proofs.Common.{subst, ap}
 use Rattle.abt_sections.specs.Header.{view_of}
-use Rattle.boot_texts.specs.Info.{IsVerdict, check_text, line}
+use Rattle.abt_sections.specs.Check.{IsVerdict}
+use Rattle.boot_texts.specs.Info.{check_text, line}
 use Rattle.boot_texts.proofs.Informing.{all_printed, as_far_as_fields, as_far_as_fragments, reading_told, same_verdict}
 use Rattle.abt_text.proofs.Printing.{◌▸◌, as_text, front_exactly}
 use Rattle.boot_texts.proofs.info.image_lines.Goals as goal
@@ -21,15 +22,8 @@ returns-in-Err-check-clause-prints g c = (_, c.put_kind.ensures ▸ c.section_li
 pub returns-clause-verdict : goal.returns-clause-verdict
 returns-clause-verdict g c = λ tells.
     let h = view_of c.args.image.now.header in
-    let v = c.in-Ok-check.verdict in
-    let found = c.in-Ok-check.ensures in
-    let verdict : IsVerdict (g.S.Source.content c.fragment_lines.new.source) h v = record {
-      padding = found.padding tells;
-      id = found.id tells;
-      offset = found.offset;
-      canonical = found.canonical tells;
-    } in
-    subst (λ x. IsVerdict x h v) (c.in-Ok.ensures.content tells) verdict
+    subst (λ x. IsVerdict x h c.in-Ok-check.verdict) (c.in-Ok.ensures.content tells)
+    (c.in-Ok-check.ensures.verdict tells)
 
 pub returns-clause-lines : goal.returns-clause-lines
 returns-clause-lines g c = λ tells. record {
@@ -51,4 +45,5 @@ returns-clause-prints g c =
     (_, c.put_kind.ensures ▸ c.section_lines.ensures ▸ c.fragment_lines.ensures.prints.1 ▸ c.header_lines.ensures ▸ c.put_check.ensures)
 
 pub returns-in-Err-check-clause-reads : goal.returns-in-Err-check-clause-reads
-returns-in-Err-check-clause-reads g c = reading_told c.in-Err-check.fault _ _ _ _ c.in-Ok.ensures.reads c.in-Err-check.ensures.cause c.in-Err-check.ensures.faults
+returns-in-Err-check-clause-reads g c = reading_told c.in-Err-check.fault _ _ _ _ c.in-Ok.ensures.reads
+    c.in-Err-check.ensures.reads.cause c.in-Err-check.ensures.reads.only.faults

@@ -1,5 +1,4 @@
-use Rattle.std.proofs.Common.{◌≡◌, ◌-◌, ◌/◌, false, drop, length-set, sym, ap, ◌∙◌, arith}
-use Rattle.std.specs.Fmt.{digits_onto}
+use Rattle.std.proofs.Common.{◌-◌, length-set, ◌∙◌, arith}
 use Rattle.boot_texts.proofs.Digits.{all_to_come, before_digit, last_digit}
 use Rattle.boot_texts.proofs.info_lines.put_hexadecimal.Goals as goal
 

@@ -1,4 +1,4 @@
-use Rattle.std.proofs.Common.{◌≡◌, ◌≤◌, ℕ, false, length, drop}
+use Rattle.std.proofs.Common.{◌≡◌, ◌≤◌, false, length, drop}
 use Rattle.std.specs.Fmt.{digits, digits_onto}
 use Rattle.boot_texts.proofs.info_lines.put_hexadecimal.Given as goal
 

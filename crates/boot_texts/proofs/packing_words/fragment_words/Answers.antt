@@ -23,7 +23,7 @@ loop-i-preserved g c =
     let i = c.loop-i.i in
     let found = c.in-Ok-fragment.ensures in
     record {
-      faults = found.clean ∙ c.loop-i.invariant.faults;
+      faults = found.reads.only.clean ∙ c.loop-i.invariant.faults;
       prints = (
         c.loop-i.invariant.prints.0 ++ words_text (entry_words folder i c.in-Ok-fragment.entry),
         c.loop-i.invariant.prints.1 ▸ c.entry_words.ensures,
@@ -34,15 +34,21 @@ loop-i-preserved g c =
           let next : suc i ≡ i + 1 = omega arith in
           let all : PrintsWords g.O.Output.written g.O.Output.write_faults c.args.text.now c.entry_words.new.text (fragment_words folder x h (suc i))
           = more_words (fragment_words folder x h i) (entry_words folder i (entry_of x h i)) before.1
-          (as_text (ap (λ e. words_text (entry_words folder i e)) entry) c.entry_words.ensures) in
-          (found.content tells ∙ before.0, subst (λ k. PrintsWords g.O.Output.written g.O.Output.write_faults c.args.text.now c.entry_words.new.text (fragment_words folder x h k)) next all);
+          (as_text (ap (λ e. words_text (entry_words folder i e)) entry) c.entry_words.ensures) in (
+            found.reads.only.content tells ∙ before.0,
+            subst
+                (λ k. PrintsWords g.O.Output.written g.O.Output.write_faults c.args.text.now c.entry_words.new.text
+                (fragment_words folder x h k)) next all,
+          );
     }
 
 pub returns-in-Err-fragment-clause-refused : goal.returns-in-Err-fragment-clause-refused
 returns-in-Err-fragment-clause-refused g c = λ tells opened.
     let before = (c.loop-i.invariant.lines tells).0 in
     let now = subst (λ x. IsOpened x c.args.image.now) (sym before) opened in
-    read_refuses c.in-Err-fragment.fault _ _ _ _ (omega (arith, c.loop-i.invariant.faults)) c.in-Err-fragment.ensures.cause (λ changed. changed tells now)
+    read_refuses c.in-Err-fragment.fault _ _ _ _ (omega (arith, c.loop-i.invariant.faults))
+    c.in-Err-fragment.ensures.reads.cause (λ changed. changed tells now)
 
 pub returns-in-Err-fragment-clause-reads : goal.returns-in-Err-fragment-clause-reads
-returns-in-Err-fragment-clause-reads g c = reading_told c.in-Err-fragment.fault _ _ _ _ c.loop-i.invariant.faults c.in-Err-fragment.ensures.cause c.in-Err-fragment.ensures.faults
+returns-in-Err-fragment-clause-reads g c = reading_told c.in-Err-fragment.fault _ _ _ _ c.loop-i.invariant.faults
+    c.in-Err-fragment.ensures.reads.cause c.in-Err-fragment.ensures.reads.only.faults

@@ -1,4 +1,3 @@
-use Rattle.std.proofs.Common.{◌++◌}
 use Rattle.abt_sections.specs.Header.{fragment_count, view_of}
 use Rattle.abt_text.proofs.Printing.{◌▸◌}
 use Rattle.boot_texts.specs.Words.{fragment_words, header_words}

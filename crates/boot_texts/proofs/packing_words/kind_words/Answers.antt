@@ -1,6 +1,6 @@
 use Rattle.std.proofs.Common.{[], ◌∷◌, codes, sym, ap}
 use Rattle.abt_headers.specs.Boot.{boot_page, boot_version}
-use Rattle.abt_headers.specs.Vendor.{vendor_page, vendor_version, view}
+use Rattle.abt_headers.specs.Vendor.{vendor_page, vendor_version, vendor_view}
 use Rattle.abt_sections.specs.Header.{view_of}
 use Rattle.abt_text.proofs.Printing.{as_text}
 use Rattle.boot_texts.specs.Words.{flag_word, kind_words, number_word, words_text}
@@ -21,7 +21,7 @@ returns-in-Boot g c =
 
 pub returns-in-Vendor : goal.returns-in-Vendor
 returns-in-Vendor g c =
-    let h = view c.in-Vendor.header in
+    let h = vendor_view c.in-Vendor.header in
     let escaped = flag_word (codes "escaped") in
     let vendor = flag_word (codes "vendor") in
     let version = number_word (codes "version") (vendor_version h) in

@@ -1,4 +1,4 @@
-use Rattle.std.proofs.Common.{◌∙◌, ap, is_some, refl, rules}
+use Rattle.std.proofs.Common.{ap, is_some, rules}
 use Rattle.boot_texts.proofs.Informing.{reads_rise}
 use Rattle.boot_texts.proofs.Refusing.{told_writes, writes_clean, writes_fail}
 use Rattle.boot_texts.proofs.packing_words.write_words.Goals as goal

@@ -1,4 +1,4 @@
-use Rattle.std.proofs.Common.{rules, ◌≡◌, option_map, arith}
+use Rattle.std.proofs.Common.{rules, option_map}
 use Rattle.abt_io.specs.Count.{count_of}
 use Rattle.boot_rules.proofs.Ranging.{read_bytes}
 use Rattle.boot_rules.proofs.part_source.PartSourceSource.read_at.Goals as goal
