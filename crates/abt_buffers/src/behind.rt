@@ -1,10 +1,11 @@
 //! What a spool holds back of what it took, and what of it went to its file. The file may keep its pages where it is
 //! cleared: then what stands there of before is written over, and cut off before a magic number is laid.
 
-ghost use Rattle.std.specs.Prelude.{◌≡◌, ◌≤◌, ◌+◌, ◌<◌, ◌++◌, [], false, IsTrue, IsErr, IfOk, IfErr, OnOk, OnErr};
+ghost use Rattle.std.specs.Prelude.{◌≡◌, ◌≤◌, ◌+◌, ◌<◌, ◌++◌, [], false, IsTrue, IsErr, IfErr, OnOk, OnErr};
 ghost use Rattle.std.specs.Prelude.{◌-◌, length, take};
 ghost use Rattle.abt_io.specs.Count.{count_of};
 ghost use Rattle.abt_io.specs.Moment.{put_at};
+ghost use Rattle.abt_buffers.specs.Writes.{WritesOrFails, Flushes, KeepsTaken, KeepsHeld};
 
 use crate::held_file::put_held;
 use abt_io::{DeviceFault, Log, WINDOW};
@@ -64,14 +65,12 @@ impl Behind {
         bytes: &[u8],
     ) -> Result<usize, DeviceFault>
         requires { length self.old.sent.state.bytes + length self.old.held.items ≡ used }
-        ensures within { count_of result ≤ length bytes.now }
-        ensures progress { IfOk result (λ n. 0 < length bytes.now → 0 < n) }
+        ensures writes { WritesOrFails result bytes.now }
         ensures taken { self.new.sent.state.bytes ++ self.new.held.items
             ≡ (self.old.sent.state.bytes ++ self.old.held.items) ++ take (count_of result) bytes.now }
         ensures lost { IsTrue self.old.is_lost → IsErr result }
         ensures found { OnOk result (self.new.is_lost ≡ false) }
         ensures place { length self.new.sent.state.bytes + length self.new.held.items ≡ used + count_of result }
-        ensures failed { IfErr result (λ e. e ≡ DeviceFault.Failed) }
     {
         if self.is_lost {
             return Err(DeviceFault::Failed);
@@ -93,14 +92,9 @@ impl Behind {
     /// before; then the file ends behind what was.
     pub(crate) fn settle(&mut self, file: &File, used: u64) -> Result<(), DeviceFault>
         requires { length self.old.sent.state.bytes + length self.old.held.items ≡ used }
-        ensures held { OnOk result (self.new.held.items ≡ []) }
+        ensures flushes { Flushes result self.old self.new }
         ensures cut { OnOk result (self.new.stale ≡ 0) }
-        ensures whole { self.new.sent.state.bytes ++ self.new.held.items ≡ self.old.sent.state.bytes ++ self.old.held.items }
-        ensures place { length self.new.sent.state.bytes + length self.new.held.items ≡ used }
-        ensures lost { OnErr result (IsTrue self.new.is_lost) }
-        ensures found { OnOk result (self.new.is_lost ≡ false) }
-        ensures still { IsTrue self.old.is_lost → IsErr result }
-        ensures failed { IfErr result (λ e. e ≡ DeviceFault.Failed) }
+        ensures keeps { KeepsTaken used self.old self.new }
     {
         let flushed = self.flush(file, used);
         self.cut_off(file, used)?;
@@ -110,13 +104,10 @@ impl Behind {
     // Writes all that is held. Refused where some of it could not be written, now or before.
     fn flush(&mut self, file: &File, used: u64) -> Result<(), DeviceFault>
         requires { length self.old.sent.state.bytes + length self.old.held.items ≡ used }
-        ensures held { OnOk result (self.new.held.items ≡ []) }
+        ensures flushes { Flushes result self.old self.new }
         ensures sent { OnOk result (self.new.sent.state.bytes ≡ self.old.sent.state.bytes ++ self.old.held.items) }
-        ensures kept { OnErr result ((self.new.held.items ≡ self.old.held.items) × (self.new.sent.state ≡ self.old.sent.state)) }
-        ensures lost { OnErr result (IsTrue self.new.is_lost) }
-        ensures found { OnOk result (self.new.is_lost ≡ false) }
-        ensures still { IsTrue self.old.is_lost → IsErr result }
-        ensures failed { IfErr result (λ e. e ≡ DeviceFault.Failed) }
+        ensures kept { OnErr result ((self.new.held.items ≡ self.old.held.items)
+            × (self.new.sent.state ≡ self.old.sent.state)) }
     {
         if self.is_lost {
             return Err(DeviceFault::Failed);
@@ -160,12 +151,10 @@ impl Behind {
     /// One write to the file, behind all that it was given.
     fn send(&mut self, file: &File, used: u64, bytes: &[u8]) -> Result<usize, DeviceFault>
         requires { length self.old.sent.state.bytes ≡ used }
-        ensures within { count_of result ≤ length bytes.now }
-        ensures progress { IfOk result (λ n. 0 < length bytes.now → 0 < n) }
+        ensures writes { WritesOrFails result bytes.now }
         ensures sent { self.new.sent.state.bytes ≡ self.old.sent.state.bytes ++ take (count_of result) bytes.now }
         ensures held { self.new.held.items ≡ self.old.held.items }
         ensures lost { self.new.is_lost ≡ self.old.is_lost }
-        ensures failed { IfErr result (λ e. e ≡ DeviceFault.Failed) }
     {
         match write_at(file, used, bytes) {
             Ok(n) => {
@@ -188,15 +177,13 @@ impl Behind {
     ) -> Result<usize, DeviceFault>
         requires place { length self.old.sent.state.bytes + length self.old.held.items ≡ used }
         requires stands { at + length bytes.now ≤ used }
-        ensures within { count_of result ≤ length bytes.now }
-        ensures progress { IfOk result (λ n. 0 < length bytes.now → 0 < n) }
+        ensures writes { WritesOrFails result bytes.now }
         ensures laid { self.new.sent.state.bytes ++ self.new.held.items
             ≡ put_at (self.old.sent.state.bytes ++ self.old.held.items) at (take (count_of result) bytes.now) }
         ensures lost { IsTrue self.old.is_lost → IsErr result }
         ensures found { OnOk result (self.new.is_lost ≡ false) }
         ensures cut { at < 4 → OnOk result (self.new.stale ≡ 0) }
         ensures place { length self.new.sent.state.bytes + length self.new.held.items ≡ used }
-        ensures failed { IfErr result (λ e. e ≡ DeviceFault.Failed) }
     {
         if self.is_lost {
             return Err(DeviceFault::Failed);
@@ -217,12 +204,9 @@ impl Behind {
     // Writes all that is held, before something is laid at a place. At the front nothing is to stand behind it.
     fn make_way(&mut self, file: &File, used: u64, at: u64) -> Result<(), DeviceFault>
         requires { length self.old.sent.state.bytes + length self.old.held.items ≡ used }
-        ensures held { OnOk result (self.new.held.items ≡ []) }
+        ensures flushes { Flushes result self.old self.new }
         ensures cut { at < 4 → OnOk result (self.new.stale ≡ 0) }
-        ensures whole { self.new.sent.state.bytes ++ self.new.held.items ≡ self.old.sent.state.bytes ++ self.old.held.items }
-        ensures place { length self.new.sent.state.bytes + length self.new.held.items ≡ used }
-        ensures found { OnOk result (self.new.is_lost ≡ false) }
-        ensures failed { IfErr result (λ e. e ≡ DeviceFault.Failed) }
+        ensures keeps { KeepsTaken used self.old self.new }
     {
         if at < MAGIC {
             self.settle(file, used)
@@ -255,9 +239,7 @@ impl Behind {
     pub(crate) fn may_clear(&mut self) -> bool
         ensures lost { IsTrue result → IsTrue self.new.is_lost → IsTrue self.new.is_told }
         ensures found { self.old.is_lost ≡ false → IsTrue result }
-        ensures held { self.new.held.items ≡ self.old.held.items }
-        ensures sent { self.new.sent.state ≡ self.old.sent.state }
-        ensures kept { self.new.is_lost ≡ self.old.is_lost }
+        ensures keeps { KeepsHeld self.old self.new }
     {
         if self.is_lost && !self.is_told {
             self.is_told = true;
@@ -270,9 +252,7 @@ impl Behind {
     /// the rest to be written over. `used` bytes were taken since the last clear.
     pub(crate) fn blank(&mut self, file: &File, used: u64) -> Result<(), DeviceFault>
         ensures stale { (used ≤ self.new.stale) × (self.old.stale ≤ self.new.stale) }
-        ensures held { self.new.held.items ≡ self.old.held.items }
-        ensures sent { self.new.sent.state ≡ self.old.sent.state }
-        ensures lost { self.new.is_lost ≡ self.old.is_lost }
+        ensures keeps { KeepsHeld self.old self.new }
         ensures told { self.new.is_told ≡ self.old.is_told }
         ensures failed { IfErr result (λ e. e ≡ DeviceFault.Failed) }
     {
@@ -303,9 +283,7 @@ impl Behind {
 
 // One write at a place, once more where a signal came in between.
 fn write_at(file: &File, at: u64, bytes: &[u8]) -> Result<usize, DeviceFault>
-    ensures within { count_of result ≤ length bytes.now }
-    ensures progress { IfOk result (λ n. 0 < length bytes.now → 0 < n) }
-    ensures failed { IfErr result (λ e. e ≡ DeviceFault.Failed) }
+    ensures writes { WritesOrFails result bytes.now }
 {
     for _ in 0..u64::MAX {
         match file.write_at(bytes, at) {

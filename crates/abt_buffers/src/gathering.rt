@@ -7,6 +7,7 @@ ghost use Rattle.abt_io.specs.Count.{count_of};
 ghost use Rattle.abt_io.specs.Frame.{last_cut, nothing_logged, and_cut};
 ghost use Rattle.abt_io.specs.Held.{filled_count};
 ghost use Rattle.abt_buffers.specs.Since.{since_cut, Kept, SameButClears};
+ghost use Rattle.abt_buffers.specs.Writes.{KeepsHeld};
 
 use crate::ahead::{Ahead, read_at};
 use crate::ahead_file::AheadFile;
@@ -311,9 +312,7 @@ fn cleared(spool: &mut FileSpool, behind: &mut Behind) -> Result<(), DeviceFault
     ensures calls { spool.new.clears.number ≡ spool.old.clears.number + 1 }
     ensures cause { OnErr result (spool.new.clear_faults.number ≡ spool.old.clear_faults.number + 1) }
     ensures clean { OnOk result (spool.new.clear_faults.number ≡ spool.old.clear_faults.number) }
-    ensures held { behind.new.held.items ≡ behind.old.held.items }
-    ensures sent { behind.new.sent.state ≡ behind.old.sent.state }
-    ensures lost { behind.new.is_lost ≡ behind.old.is_lost }
+    ensures keeps { KeepsHeld behind.old behind.new }
     ensures told { behind.new.is_told ≡ behind.old.is_told }
     ensures failed { IfErr result (λ e. e ≡ DeviceFault.Failed) }
 {

@@ -6,11 +6,11 @@
 
 ghost use Rattle.std.specs.Prelude.{◌≡◌, ◌<◌, ◌≤◌, ◌+◌, ◌^◌, [], false, IsTrue, length, take, IfOk, OnOk, OnErr};
 ghost use Rattle.std.specs.Io.{WritesAtMost};
-ghost use Rattle.abt_io.specs.Count.{count_of};
 ghost use Rattle.abt_io.specs.Frame.{nothing_logged, and_bytes};
 ghost use Rattle.abt_io.specs.Over.{and_put};
 ghost use Rattle.abt_io.specs.Moment.{put_at};
 ghost use Rattle.abt_buffers.specs.Since.{whole};
+ghost use Rattle.abt_buffers.specs.Writes.{WritesSome, HasRoomBehind, AsLong};
 
 use crate::room::Room;
 use crate::under::{Under, write_front, write_over};
@@ -43,10 +43,8 @@ pub(crate) struct Laid {
 impl Laid {
     // Takes it back where fewer bytes were written than it was laid behind, in the file too.
     fn take_back<U: Under>(&self, file: &mut U, sent: u64, done: usize, held: &mut Vec<u8>)
-        requires stands { sent + done ≤ length (U.stands file.old) }
-        requires fits { sent + length held.old.items < 2 ^ 64 }
-        ensures file { length (U.stands file.new) ≡ length (U.stands file.old) }
-        ensures held { length held.new.items ≡ length held.old.items }
+        requires { HasRoomBehind sent done (U.stands file.old) held.old.items }
+        ensures { AsLong (U.stands file.old) (U.stands file.new) held.old.items held.new.items }
     {
         let from = self.from;
         if done >= self.behind || from > held.len() || held.len() - from < HEADER {
@@ -140,8 +138,7 @@ impl<U: Under + Drop> HeldFile<U> {
     /// Writes a front of these bytes over what was taken. What stands at the front, as the magic does, is laid once all
     /// else is in the file. Why the call failed, by its number, where it did.
     pub fn put_over(&mut self, at: u64, bytes: &[u8]) -> Result<usize, Option<i32>>
-        ensures within { count_of result ≤ length bytes.now }
-        ensures progress { IfOk result (λ n. 0 < length bytes.now → 0 < n) }
+        ensures writes { WritesSome result bytes.now }
         ensures taken { IfOk result (λ n. self.new.given.state ≡ and_put self.old.given.state at (take n bytes.now)) }
         ensures kept { OnErr result (self.new.given.state ≡ self.old.given.state) }
     {
@@ -258,10 +255,8 @@ impl<U: Under + Drop> HeldFile<U> {
 
 // Takes headers back, the last one first.
 fn take_all_back<U: Under>(laid: &[Laid], file: &mut U, sent: u64, done: usize, held: &mut Vec<u8>)
-    requires stands { sent + done ≤ length (U.stands file.old) }
-    requires fits { sent + length held.old.items < 2 ^ 64 }
-    ensures file { length (U.stands file.new) ≡ length (U.stands file.old) }
-    ensures held { length held.new.items ≡ length held.old.items }
+    requires { HasRoomBehind sent done (U.stands file.old) held.old.items }
+    ensures { AsLong (U.stands file.old) (U.stands file.new) held.old.items held.new.items }
 {
     for one in laid.iter().rev() {
         one.take_back(file, sent, done, held);

@@ -1,10 +1,10 @@
 //! A file as what is held back goes to it: it is known by what its calls answered, and by nothing else.
 
 ghost use Rattle.std.specs.Prelude.{◌≡◌, ◌<◌, ◌≤◌, ◌+◌, ◌^◌, List, ℕ, length, take, IfOk, OnOk, OnErr};
-ghost use Rattle.abt_io.specs.Count.{count_of};
 ghost use Rattle.std.specs.Io.{WritesAtMost};
 ghost use Rattle.abt_io.specs.Frame.{nothing_logged};
 ghost use Rattle.abt_io.specs.Moment.{put_at};
+ghost use Rattle.abt_buffers.specs.Writes.{WritesSome};
 
 use abt_io::Log;
 use std::fs::File;
@@ -73,8 +73,7 @@ pub(crate) fn write_over<U: Under>(
     at: u64,
     bytes: &[u8],
 ) -> Result<usize, Option<i32>>
-    ensures within { count_of result ≤ length bytes.now }
-    ensures progress { IfOk result (λ n. 0 < length bytes.now → 0 < n) }
+    ensures writes { WritesSome result bytes.now }
     ensures written { IfOk result (λ n. U.stands file.new ≡ put_at (U.stands file.old) at (take n bytes.now)) }
     ensures kept { OnErr result (U.stands file.new ≡ U.stands file.old) }
 {

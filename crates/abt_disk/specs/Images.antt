@@ -1,5 +1,6 @@
 -- The file of an image that has a magic, which is laid last.
-use Rattle.std.specs.Prelude.{◌≡◌, ◌<◌, ◌⊎◌, ℕ, List, [], ◌∷◌, Bool, true, false, not, Option, Some, None, length, take, codes, bytes_eq}
+use Rattle.std.specs.Prelude.{◌≡◌, ◌<◌, ◌⊎◌, ℕ, List, [], ◌∷◌, Bool, true, false, not, Option, Some, None, length}
+use Rattle.std.specs.Prelude.{take, codes, bytes_eq}
 use Rattle.abt_disk.specs.World.{World}
 use Rattle.abt_disk.specs.declared.image_to.ImageTo.{ImageTo}
 use Rattle.abt_disk.specs.declared.image_to.ImageTo.TheVariants.{File, Stream}

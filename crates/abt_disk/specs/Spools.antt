@@ -11,8 +11,8 @@ through file h = record h { begun = file ∷ h.begun; spool = Some file }
 abbrev pub closed_spool : ℕ → Held → Held
 closed_spool failures h = record h { spool = None; failed = h.failed + failures }
 
--- the file at this path was created or emptied, and pieces go through it: none that is read or was begun, and all others
--- are as before
+-- the file at this path was created or emptied, and pieces go through it: none that is read or was begun, and all
+-- others are as before
 pub record OpensSpool (path : List ℕ) (held held' : Held) (old new : World) : Type 0 where
   pub file : ℕ
   pub begins : held' ≡ through file held

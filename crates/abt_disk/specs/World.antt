@@ -1,7 +1,6 @@
 -- The files of a disk, which of them are open, and what the calls of a run leave of them.
 use Rattle.std.specs.Prelude.{◌≡◌, ◌≢◌, ◌<◌, ℕ, ◌+◌, List, [], ◌∷◌, ◌++◌, Option, Some, None, Bool, true, false}
-use Rattle.std.specs.Prelude.{Contains, ◌&&◌}
-use Rattle.std.specs.Prelude.{if◌then◌else◌}
+use Rattle.std.specs.Prelude.{Contains, IsTrue, ◌&&◌, if◌then◌else◌}
 
 -- which file each path leads to, by a number, and what each file holds
 pub record World : Type 0 where
@@ -59,6 +58,13 @@ ended is_done failures h = record h {
   failed = h.failed + failures;
 }
 
+-- the output that was open is closed: it was brought to its end exactly where nothing has failed
+pub record ClosesOutput (is_done : Bool) (old new : Held) : Type 0 where
+  pub failures : ℕ
+  pub closed : new ≡ ended is_done failures old
+  pub clean : IsTrue is_done → failures ≡ 0
+  pub cause : is_done ≡ false → 0 < failures
+
 -- 1 where the end was refused of what was done before
 abbrev pub unended : Bool → Bool → ℕ
 unended true is_done = unless is_done
@@ -88,7 +94,8 @@ pub record Creates (path : List ℕ) (held held' : Held) (old new : World) : Typ
 -- nothing has changed, but what the file at this path holds, which is none that is read
 pub data OnlyAt (read path : List ℕ) (old new : World) : Type 0 where
   untouched : new ≡ old → OnlyAt read path old new
-  in_output : (file : ℕ) → new.at path ≡ Some file → ¬ Contains read file → Spares file old new → OnlyAt read path old new
+  in_output : (file : ℕ) → new.at path ≡ Some file → ¬ Contains read file → Spares file old new
+      → OnlyAt read path old new
 
 -- no file that is read or was begun is at this path
 abbrev pub IsFree : List ℕ → Held → World → Type 0

@@ -4,10 +4,10 @@ use Rattle.abt_host.specs.declared.opening.Access.{Access}
 use Rattle.abt_host.specs.declared.opening.Access.TheVariants as ways
 
 -- it is written
-abbrev pub writes : Access → Bool
-writes ways.Forward = false
-writes ways.AnyPlace = false
-writes ways.InPlace = true
-writes ways.Create = true
-writes ways.CreateFile = true
-writes ways.Spool = true
+abbrev pub may_write : Access → Bool
+may_write ways.Forward = false
+may_write ways.AnyPlace = false
+may_write ways.InPlace = true
+may_write ways.Create = true
+may_write ways.CreateFile = true
+may_write ways.Spool = true

@@ -2,7 +2,7 @@
 
 ghost use Rattle.std.specs.Prelude.{◌≡◌, false};
 ghost use Rattle.std.specs.Fs.{asks_write};
-ghost use Rattle.abt_host.specs.Access.{writes};
+ghost use Rattle.abt_host.specs.Access.{may_write};
 
 use crate::identity::Identity;
 use abt_refusals::{HostFault, HostRefusal, Place};
@@ -114,7 +114,7 @@ fn opened_at(rt: HostRuntime, path: &str, access: Access) -> io::Result<Opened> 
 
 // How the system is asked. What is only read is not opened for more.
 fn options(access: Access) -> OpenOptions
-    ensures { asks_write result ≡ writes access }
+    ensures { asks_write result ≡ may_write access }
 {
     let mut how = OpenOptions::new();
     match access {

@@ -1,7 +1,7 @@
 //! All that a command reads, which is open before it writes.
 
 ghost use Rattle.std.specs.Prelude.{◌≡◌, ◌≤◌, ◌^◌, [], false, length, string_bytes, IsTrue, OnOk, IfOk, IfErr};
-ghost use Rattle.abt_host.specs.Access.{writes};
+ghost use Rattle.abt_host.specs.Access.{may_write};
 ghost use Rattle.abt_host.specs.Streams.{Reported};
 ghost use Rattle.abt_host.specs.Taken.{Adds, ReadsOne};
 
@@ -123,7 +123,7 @@ impl Reading {
 
     // Opens a file that is read.
     fn opened<'a>(&mut self, place: Place<'a>, access: Access) -> Result<Opened, HostRefusal<'a>>
-        requires { writes access ≡ false }
+        requires { may_write access ≡ false }
         ensures spared { IfOk result (λ opened. ¬ Reported self.old.streams opened.found.identity) }
         ensures taken { IfOk result (λ opened. Adds self.old.taken self.new.taken opened.found.identity) }
     {

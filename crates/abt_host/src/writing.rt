@@ -2,9 +2,9 @@
 
 ghost use Rattle.std.specs.Prelude.{◌≡◌, ◌≤◌, ◌↔◌, ◌⊎◌, [], true, IsTrue, OnOk, OnErr, IfOk, IfErr};
 ghost use Rattle.abt_output.specs.Blank.{IsBlank};
-ghost use Rattle.abt_output.specs.Given.{given};
+ghost use Rattle.abt_output.specs.Given.{given_by_writer};
 ghost use Rattle.abt_io.specs.Frame.{nothing_logged};
-ghost use Rattle.abt_host.specs.Access.{writes};
+ghost use Rattle.abt_host.specs.Access.{may_write};
 ghost use Rattle.abt_host.specs.Taken.{Forbidden, Adds, WritesOne};
 
 use crate::identity::{Identity, identity_at};
@@ -55,7 +55,7 @@ impl Writing {
     /// Creates or empties the file of a raw image, in which zeros may be holes. `-` is standard output.
     pub fn raw<'a>(&mut self, place: Place<'a>) -> Result<OutputFile, HostRefusal<'a>>
         ensures writes { OnOk result (WritesOne self.old self.new) }
-        ensures empty { IfOk result (λ output. given output.to.writer ≡ []) }
+        ensures empty { IfOk result (λ output. given_by_writer output.to.writer ≡ []) }
     {
         if place.is_standard() {
             return self.standard(place);
@@ -96,7 +96,7 @@ impl Writing {
     /// Creates or empties a file.
     pub fn plain<'a>(&mut self, place: Place<'a>) -> Result<OutputFile, HostRefusal<'a>>
         ensures writes { OnOk result (WritesOne self.old self.new) }
-        ensures empty { IfOk result (λ output. given output.to.writer ≡ []) }
+        ensures empty { IfOk result (λ output. given_by_writer output.to.writer ≡ []) }
     {
         let Opened { file, found } = self.created(place, Access::Create)?;
         self.buffered(place, Sink::file(file), found.identity.holds_data)
@@ -178,7 +178,7 @@ impl Writing {
     // Data goes to standard output.
     fn standard<'a>(&mut self, place: Place<'a>) -> Result<OutputFile, HostRefusal<'a>>
         ensures writes { OnOk result (WritesOne self.old self.new) }
-        ensures empty { IfOk result (λ output. given output.to.writer ≡ []) }
+        ensures empty { IfOk result (λ output. given_by_writer output.to.writer ≡ []) }
     {
         let identity = self.reading.streams.out;
         self.admit(identity, place)?;
@@ -212,7 +212,7 @@ impl Writing {
         holds_data: bool,
     ) -> Result<OutputFile, HostRefusal<'a>>
         requires { sink.log.state ≡ nothing_logged }
-        ensures empty { IfOk result (λ output. given output.to.writer ≡ []) }
+        ensures empty { IfOk result (λ output. given_by_writer output.to.writer ≡ []) }
         ensures data { IfOk result (λ output. output.is_data_on_output ≡ self.now.is_data_on_output) }
     {
         let is_synced = self.reading.is_synced && holds_data;
@@ -221,7 +221,7 @@ impl Writing {
 
     // Opens an output as it is, and empties it once it is known that it is no other file of this run.
     fn created<'a>(&mut self, place: Place<'a>, access: Access) -> Result<Opened, HostRefusal<'a>>
-        requires { writes access ≡ true }
+        requires { may_write access ≡ true }
         ensures free { IfOk result (λ opened. ¬ Forbidden self.old.reading.taken opened.found.identity) }
         ensures taken { IfOk result (λ opened. Adds self.old.reading.taken self.new.reading.taken opened.found.identity) }
     {
@@ -234,7 +234,7 @@ impl Writing {
 
     // Opens an output as it is.
     fn admitted<'a>(&mut self, place: Place<'a>, access: Access) -> Result<Opened, HostRefusal<'a>>
-        requires { writes access ≡ true }
+        requires { may_write access ≡ true }
         ensures free { IfOk result (λ opened. ¬ Forbidden self.old.reading.taken opened.found.identity) }
         ensures taken { IfOk result (λ opened. Adds self.old.reading.taken self.new.reading.taken opened.found.identity) }
     {

@@ -1,5 +1,6 @@
 -- What holds bytes back was given what its sink was given.
-use Rattle.std.specs.Prelude.{◌≡◌, ℕ, List, []}
+use Rattle.std.specs.Prelude.{◌≡◌, ℕ, List, [], ◌++◌, take, Result, IfOk, OnErr}
+use Rattle.std.specs.Io.{WritesAtMost}
 use Rattle.abt_output.specs.declared.target.Target.{Target}
 use Rattle.abt_output.specs.declared.target.Target.TheVariants.{File, Holes, Held, Standard}
 
@@ -19,3 +20,9 @@ HoldsNothing (File file) = Unit {0}
 HoldsNothing (Holes file len) = Unit {0}
 HoldsNothing (Held held) = held.held.items ≡ []
 HoldsNothing (Standard stdout file) = Unit {0}
+
+-- a target takes a front of these bytes behind all that it was given, or nothing
+pub record PutsFront {E : Type 0} (r : Result ℕ E) (bytes : List ℕ) (old new : Target) : Type 0 where
+  pub bound : WritesAtMost r bytes
+  pub taken : IfOk r (λ n. (given : List ℕ) → Follows old given → Follows new (given ++ take n bytes))
+  pub kept : OnErr r ((given : List ℕ) → Follows old given → Follows new given)

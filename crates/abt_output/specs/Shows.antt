@@ -12,3 +12,7 @@ abbrev pub Shows : Report → Report → List ℕ → Type 0
 Shows old new told =
     GoesOut new.is_data_on_output old.out.log.state.bytes new.out.log.state.bytes old.err.log.state.bytes
     new.err.log.state.bytes told
+
+-- a line that could not be printed
+abbrev pub unprinted : List ℕ → Type 0
+unprinted line = Unit {0}

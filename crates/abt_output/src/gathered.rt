@@ -1,9 +1,10 @@
 //! An output that takes small writes together. What it was given is what the system took and what it holds still.
 
 ghost use Rattle.std.specs.Prelude.{◌≡◌, ◌<◌, ◌≤◌, ◌+◌, ◌++◌, false, length, take, replicate, IfOk, IfErr, OnOk, OnErr};
-ghost use Rattle.abt_output.specs.Given.{given, IsSettled};
+ghost use Rattle.abt_output.specs.Given.{given_by_writer, IsSettled};
 ghost use Rattle.abt_io.specs.Count.{count_of};
 ghost use Rattle.abt_io.specs.Moment.{put_at};
+ghost use Rattle.abt_buffers.specs.Writes.{WritesOrFails};
 
 use crate::sink::Sink;
 use abt_io::{DeviceFault, Log, Output, Tally};
@@ -35,15 +36,13 @@ impl Gathered {
 
     /// Sends what it holds, and writes a front of these bytes over what stands at a place. All of them have to fit there.
     pub(crate) fn put(&mut self, at: u64, bytes: &[u8]) -> Result<usize, DeviceFault>
-        ensures within { count_of result ≤ length bytes.now }
-        ensures progress { IfOk result (λ n. 0 < length bytes.now → 0 < n) }
+        ensures writes { WritesOrFails result bytes.now }
         ensures written { IfOk result (λ n.
-            given self.new.writer ≡ put_at (given self.old.writer) at (take n bytes.now)) }
-        ensures kept { OnErr result (given self.new.writer ≡ given self.old.writer) }
+            given_by_writer self.new.writer ≡ put_at (given_by_writer self.old.writer) at (take n bytes.now)) }
+        ensures kept { OnErr result (given_by_writer self.new.writer ≡ given_by_writer self.old.writer) }
         ensures calls { self.new.calls.number ≡ self.old.calls.number + 1 }
         ensures clean { IfOk result (λ _. self.new.faults.number ≡ self.old.faults.number) }
         ensures cause { OnErr result (self.new.faults.number ≡ self.old.faults.number + 1) }
-        ensures failed { IfErr result (λ e. e ≡ DeviceFault.Failed) }
     {
         self.calls.add(1);
         match put_through(&mut self.writer, at, bytes) {
@@ -58,7 +57,7 @@ impl Gathered {
     /// Has all written that was sent to the sink.
     pub(crate) fn settle(&mut self) -> Result<(), DeviceFault>
         ensures none { OnOk result (IsSettled self.new.writer) }
-        ensures kept { given self.new.writer ≡ given self.old.writer }
+        ensures kept { given_by_writer self.new.writer ≡ given_by_writer self.old.writer }
         ensures faults { self.new.faults ≡ self.old.faults }
         ensures failed { IfErr result (λ e. e ≡ DeviceFault.Failed) }
     {
@@ -73,7 +72,7 @@ impl Gathered {
     /// Sends what it holds, and has it synced, where that is wanted. Answers what the system took: all that it was given.
     /// Why that could not be done, by the number of the system's error; then it is sent as far as that goes.
     pub(crate) fn finish(self, is_synced: bool) -> Result<Log, Option<i32>>
-        ensures { IfOk result (λ sent. sent.state.bytes ≡ given self.writer) }
+        ensures { IfOk result (λ sent. sent.state.bytes ≡ given_by_writer self.writer) }
     {
         match self.writer.into_inner() {
             Ok(sink) => sink.end(is_synced),
@@ -93,11 +92,10 @@ fn given_up(writer: BufWriter<Sink>) -> Option<i32> {
 
 // Sends what a writer holds, and writes at a place.
 fn put_through(writer: &mut BufWriter<Sink>, at: u64, bytes: &[u8]) -> Result<usize, DeviceFault>
-    ensures within { count_of result ≤ length bytes.now }
-    ensures progress { IfOk result (λ n. 0 < length bytes.now → 0 < n) }
-    ensures written { IfOk result (λ n. given writer.new ≡ put_at (given writer.old) at (take n bytes.now)) }
-    ensures kept { OnErr result (given writer.new ≡ given writer.old) }
-    ensures failed { IfErr result (λ e. e ≡ DeviceFault.Failed) }
+    ensures writes { WritesOrFails result bytes.now }
+    ensures written { IfOk result
+        (λ n. given_by_writer writer.new ≡ put_at (given_by_writer writer.old) at (take n bytes.now)) }
+    ensures kept { OnErr result (given_by_writer writer.new ≡ given_by_writer writer.old) }
 {
     if writer.flush().is_err() {
         return Err(DeviceFault::Failed);
@@ -108,7 +106,7 @@ fn put_through(writer: &mut BufWriter<Sink>, at: u64, bytes: &[u8]) -> Result<us
 // Sends what a writer holds, and makes its file longer by a hole. How many zeros that gave it.
 fn lay_through(writer: &mut BufWriter<Sink>, n: u64) -> Result<u64, DeviceFault>
     ensures within { count_of result ≤ n }
-    ensures written { given writer.new ≡ given writer.old ++ replicate (count_of result) 0 }
+    ensures written { given_by_writer writer.new ≡ given_by_writer writer.old ++ replicate (count_of result) 0 }
     ensures failed { IfErr result (λ e. e ≡ DeviceFault.Failed) }
 {
     if writer.flush().is_err() {
@@ -118,7 +116,7 @@ fn lay_through(writer: &mut BufWriter<Sink>, n: u64) -> Result<u64, DeviceFault>
 }
 
 impl Output for Gathered {
-    ghost written = { λ o. given o.writer };
+    ghost written = { λ o. given_by_writer o.writer };
 
     ghost is_full = { λ _. false };
 

@@ -2,7 +2,7 @@
 //! over.
 
 ghost use Rattle.std.specs.Prelude.{◌≡◌, [], false, length, IfOk};
-ghost use Rattle.abt_output.specs.Given.{given};
+ghost use Rattle.abt_output.specs.Given.{given_by_writer};
 
 use crate::output_file::{Finished, OutputFile};
 use abt_disk::{Late, Reasons};
@@ -14,13 +14,13 @@ use abt_refusals::{HostRefusal, Place};
 pub struct ImageFile {
     pub output: OutputFile,
     used: u64,
-    ghost long: { used ≡ length (given output.to.writer) },
+    ghost long: { used ≡ length (given_by_writer output.to.writer) },
 }
 
 impl ImageFile {
     /// Begins at the front of this output, which is an empty file.
     pub fn new(output: OutputFile) -> ImageFile
-        requires { given output.to.writer ≡ [] }
+        requires { given_by_writer output.to.writer ≡ [] }
         ensures { result.output ≡ output }
     {
         ImageFile { output, used: 0 }
@@ -33,7 +33,7 @@ impl ImageFile {
 
     /// Brings it to its end.
     pub fn finish<'a>(self, place: Place<'a>) -> Result<Finished, HostRefusal<'a>>
-        ensures { IfOk result (λ finished. finished.sent.state.bytes ≡ given self.output.to.writer) }
+        ensures { IfOk result (λ finished. finished.sent.state.bytes ≡ given_by_writer self.output.to.writer) }
     {
         self.output.finish(place)
     }
@@ -45,7 +45,7 @@ impl ImageFile {
 }
 
 impl Output for ImageFile {
-    ghost written = { λ o. given o.output.to.writer };
+    ghost written = { λ o. given_by_writer o.output.to.writer };
 
     ghost is_full = { λ _. false };
 

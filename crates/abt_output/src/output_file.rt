@@ -1,7 +1,7 @@
 //! An output that is written from its front on, and how it is brought to its end.
 
 ghost use Rattle.std.specs.Prelude.{◌≡◌, [], false, IfErr, IfOk, OnOk};
-ghost use Rattle.abt_output.specs.Given.{given, IsSettled};
+ghost use Rattle.abt_output.specs.Given.{given_by_writer, IsSettled};
 ghost use Rattle.abt_io.specs.Frame.{nothing_logged};
 
 use crate::gathered::Gathered;
@@ -59,7 +59,7 @@ impl OutputFile {
         is_data_on_output: bool,
     ) -> Result<OutputFile, HostRefusal<'a>>
         requires { sink.log.state ≡ nothing_logged }
-        ensures empty { IfOk result (λ output. given output.to.writer ≡ []) }
+        ensures empty { IfOk result (λ output. given_by_writer output.to.writer ≡ []) }
         ensures data { IfOk result (λ output. output.is_data_on_output ≡ is_data_on_output) }
     {
         match BufWriter::with_capacity(alloc, PAGE, sink) {
@@ -81,7 +81,7 @@ impl OutputFile {
     /// cannot be done, a write is refused that came before the call at hand.
     pub fn settle(&mut self) -> Result<(), DeviceFault>
         ensures none { OnOk result (IsSettled self.new.to.writer) }
-        ensures kept { given self.new.to.writer ≡ given self.old.to.writer }
+        ensures kept { given_by_writer self.new.to.writer ≡ given_by_writer self.old.to.writer }
         ensures faults { self.new.to.faults ≡ self.old.to.faults }
         ensures failed { IfErr result (λ e. e ≡ DeviceFault.Failed) }
     {
@@ -90,7 +90,7 @@ impl OutputFile {
 
     /// Brings it to its end: what it holds is sent, and it is synced, where that is wanted.
     pub fn finish<'a>(self, place: Place<'a>) -> Result<Finished, HostRefusal<'a>>
-        ensures { IfOk result (λ finished. finished.sent.state.bytes ≡ given self.to.writer) }
+        ensures { IfOk result (λ finished. finished.sent.state.bytes ≡ given_by_writer self.to.writer) }
     {
         let is_data_on_output = self.is_data_on_output;
         match self.to.finish(self.is_synced) {
@@ -109,7 +109,7 @@ impl OutputFile {
 }
 
 impl Output for OutputFile {
-    ghost written = { λ o. given o.to.writer };
+    ghost written = { λ o. given_by_writer o.to.writer };
 
     ghost is_full = { λ _. false };
 

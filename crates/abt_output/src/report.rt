@@ -80,9 +80,4 @@ impl Report {
     pub fn cannot_print<'a>(&self) -> HostRefusal<'a> {
         HostRefusal::of(HostFault::Write, self.out.writer.why)
     }
-
-    /// Erases the line that says how far it is.
-    pub fn erase_progress(&mut self) {
-        self.progress.erase();
-    }
 }

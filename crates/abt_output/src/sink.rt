@@ -1,9 +1,9 @@
 //! Where bytes go, and all that was given there.
 
 ghost use Rattle.std.specs.Prelude.{◌≡◌, ◌<◌, ◌≤◌, [], Some, length, take, replicate, IfOk, IfErr, OnOk, OnErr};
-ghost use Rattle.abt_io.specs.Count.{count_of};
 ghost use Rattle.abt_io.specs.Frame.{nothing_logged, and_bytes};
 ghost use Rattle.abt_io.specs.Over.{and_put};
+ghost use Rattle.abt_buffers.specs.Writes.{WritesOrFails};
 ghost use Rattle.abt_output.specs.Follows.{Follows, HoldsNothing};
 
 use crate::target::Target;
@@ -75,11 +75,9 @@ impl Sink {
 
     /// Writes a front of these bytes over what stands at a place of a file.
     pub(crate) fn put_at(&mut self, at: u64, bytes: &[u8]) -> Result<usize, DeviceFault>
-        ensures within { count_of result ≤ length bytes.now }
-        ensures progress { IfOk result (λ n. 0 < length bytes.now → 0 < n) }
+        ensures writes { WritesOrFails result bytes.now }
         ensures taken { IfOk result (λ n. self.new.log.state ≡ and_put self.old.log.state at (take n bytes.now)) }
         ensures kept { OnErr result (self.new.log.state ≡ self.old.log.state) }
-        ensures failed { IfErr result (λ e. e ≡ DeviceFault.Failed) }
     {
         let answer = self.target.put_over(at, bytes);
         match answer {

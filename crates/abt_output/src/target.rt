@@ -1,10 +1,10 @@
 //! What bytes are written to: a file, a raw image with holes for its zeros, what holds bytes back, or standard output.
 
 ghost use Rattle.std.specs.Prelude.{◌≡◌, ◌<◌, ◌≤◌, ◌++◌, ℕ, List, length, take, replicate, IfOk, OnOk, OnErr};
-ghost use Rattle.std.specs.Io.{WritesAtMost};
-ghost use Rattle.abt_io.specs.Count.{count_of};
 ghost use Rattle.abt_io.specs.Moment.{put_at};
-ghost use Rattle.abt_output.specs.Follows.{Follows, HoldsNothing};
+ghost use Rattle.std.specs.Io.{WritesAtMost};
+ghost use Rattle.abt_buffers.specs.Writes.{WritesSome};
+ghost use Rattle.abt_output.specs.Follows.{Follows, HoldsNothing, PutsFront};
 
 use abt_buffers::{HeldFile, SentFile};
 use abt_io::Log;
@@ -33,10 +33,7 @@ pub(crate) enum Target {
 impl Target {
     /// One write, once more where a signal came in between.
     pub(crate) fn put(&mut self, bytes: &[u8]) -> io::Result<usize>
-        ensures bound { WritesAtMost result bytes.now }
-        ensures taken { IfOk result (λ n. (given : List ℕ) → Follows self.old given
-            → Follows self.new (given ++ take n bytes.now)) }
-        ensures kept { OnErr result ((given : List ℕ) → Follows self.old given → Follows self.new given) }
+        ensures { PutsFront result bytes.now self.old self.new }
     {
         for _ in 0..u64::MAX {
             match self.put_once(bytes) {
@@ -52,10 +49,7 @@ impl Target {
     }
 
     fn put_once(&mut self, bytes: &[u8]) -> io::Result<usize>
-        ensures bound { WritesAtMost result bytes.now }
-        ensures taken { IfOk result (λ n. (given : List ℕ) → Follows self.old given
-            → Follows self.new (given ++ take n bytes.now)) }
-        ensures kept { OnErr result ((given : List ℕ) → Follows self.old given → Follows self.new given) }
+        ensures { PutsFront result bytes.now self.old self.new }
     {
         match self {
             Target::File(file) => file.write(bytes),
@@ -71,8 +65,7 @@ impl Target {
 
     /// One write over what stands at a place. Why the call failed, by its number, where it did.
     pub(crate) fn put_over(&mut self, at: u64, bytes: &[u8]) -> Result<usize, Option<i32>>
-        ensures within { count_of result ≤ length bytes.now }
-        ensures progress { IfOk result (λ n. 0 < length bytes.now → 0 < n) }
+        ensures writes { WritesSome result bytes.now }
         ensures taken { IfOk result (λ n. (given : List ℕ) → Follows self.old given
             → Follows self.new (put_at given at (take n bytes.now))) }
         ensures kept { OnErr result ((given : List ℕ) → Follows self.old given → Follows self.new given) }
@@ -161,8 +154,7 @@ fn sync(file: &File, is_synced: bool) -> io::Result<()> {
 
 // Writes at a place, once more where a signal came in between. Why the call failed, by its number, where it did.
 fn write_over(file: &File, at: u64, bytes: &[u8]) -> Result<usize, Option<i32>>
-    ensures within { count_of result ≤ length bytes.now }
-    ensures progress { IfOk result (λ n. 0 < length bytes.now → 0 < n) }
+    ensures writes { WritesSome result bytes.now }
 {
     for _ in 0..u64::MAX {
         match file.write_at(bytes, at) {

@@ -6,6 +6,6 @@ use Rattle.host_disk.specs.declared.source.HostSource.{HostSource}
 use Rattle.host_disk.specs.declared.source.HostSource.TheVariants.{Plain, Ahead}
 
 -- a count of the one or of the other
-abbrev pub number_of : (FileSource → ℕ) → (AheadSource → ℕ) → HostSource → ℕ
-number_of plain ahead (Plain source) = plain source
-number_of plain ahead (Ahead source) = ahead source
+abbrev pub number_of_source : (FileSource → ℕ) → (AheadSource → ℕ) → HostSource → ℕ
+number_of_source plain ahead (Plain source) = plain source
+number_of_source plain ahead (Ahead source) = ahead source

@@ -2,7 +2,7 @@
 
 ghost use Rattle.std.specs.Prelude.{[], false};
 ghost use Rattle.std.proofs.lemmas.Bool.{false≢true};
-ghost use Rattle.host_disk.specs.Sources.{number_of};
+ghost use Rattle.host_disk.specs.Sources.{number_of_source};
 
 use abt_buffers::{AheadFile, AheadSource};
 use abt_disk::Lasting;
@@ -55,13 +55,14 @@ impl Source for HostSource {
 
     ghost content = { λ _. [] };
 
-    ghost size = { λ s. number_of ⟦<FileSource as Source>⟧.size ⟦<AheadSource as Source>⟧.size s };
+    ghost size = { λ s. number_of_source ⟦<FileSource as Source>⟧.size ⟦<AheadSource as Source>⟧.size s };
 
-    ghost reads = { λ s. number_of ⟦<FileSource as Source>⟧.reads ⟦<AheadSource as Source>⟧.reads s };
+    ghost reads = { λ s. number_of_source ⟦<FileSource as Source>⟧.reads ⟦<AheadSource as Source>⟧.reads s };
 
-    ghost given = { λ s. number_of ⟦<FileSource as Source>⟧.given ⟦<AheadSource as Source>⟧.given s };
+    ghost given = { λ s. number_of_source ⟦<FileSource as Source>⟧.given ⟦<AheadSource as Source>⟧.given s };
 
-    ghost read_faults = { λ s. number_of ⟦<FileSource as Source>⟧.read_faults ⟦<AheadSource as Source>⟧.read_faults s };
+    ghost read_faults = { λ s. number_of_source ⟦<FileSource as Source>⟧.read_faults
+        ⟦<AheadSource as Source>⟧.read_faults s };
 
     ghost sized = { λ _ t. absurd (false≢true t) };
 

@@ -8,10 +8,12 @@ use Rattle.std.proofs.Math.Seq.{drop-cons}
 use Rattle.std.proofs.lemmas.Option.{none-some}
 use Rattle.std.proofs.lemmas.Bool.{cond-true, cond-false}
 use Rattle.std.proofs.lemmas.Slice.Eq.{bytes_eq-Decides}
-use Rattle.memory_disk.specs.Memory.{contents, leads, world_of_files}
+use Rattle.memory_disk.specs.Memory.{contents, leads, world_of_files, world_of, held_of, Untouched, RefusesAt}
 use Rattle.abt_disk.specs.Images.{HoldsSame}
-use Rattle.abt_disk.specs.World.{World, Spares, Ends, SparesRest, OnlyAt, in_output, Creates, Held, creating, KeepsBegun}
+use Rattle.abt_disk.specs.World.{World, Spares, Ends, SparesRest, OnlyAt, untouched, in_output, KeepsBegun}
+use Rattle.abt_disk.specs.World.{Creates, Held, creating}
 use Rattle.abt_disk.proofs.Worlds.{spares_trans}
+use Rattle.memory_disk.specs.declared.disk.MemoryDisk.{MemoryDisk}
 use Rattle.memory_disk.specs.declared.disk.MemoryFile.{MemoryFile}
 use Rattle.memory_disk.specs.declared.disk.MemoryPath.{MemoryPath}
 
@@ -166,18 +168,38 @@ begun_created path file h h' h'' a b c same there made free begins fresh spares 
   spares = spares_trans file a b c made spares;
 }
 
--- it was made, and could not be begun
-pub only_created : (read path : List ℕ) (file : ℕ) (a b c : World) → b.at path ≡ Some file → Spares file a b
-    → ¬ Contains read file → c ≡ b → OnlyAt read path a c
-only_created read path file a b c there made free same =
-    subst (λ w. OnlyAt read path a w) (sym same) (in_output file there free made)
-
-pub only_at : (read path path' : List ℕ) (a b : World) → path ≡ path' → OnlyAt read path a b → OnlyAt read path' a b
-only_at read path path' a b e only = subst (λ p. OnlyAt read p a b) e only
-
--- and nothing is changed then
+-- nothing is changed after that
 pub only_then : (read path : List ℕ) (a b c : World) → c ≡ b → OnlyAt read path a b → OnlyAt read path a c
 only_then read path a b c e only = subst (λ w. OnlyAt read path a w) (sym e) only
+
+-- nothing was done
+pub refuses_untouched : (path : List ℕ) (a b : MemoryDisk) → Untouched a b → RefusesAt path a b
+refuses_untouched path a b same = record {
+  kept = same.held;
+  only = untouched same.world;
+  same = λ f. ap (λ w. w.holds f) same.world;
+}
+
+-- it was made, and could not be begun
+pub refuses_created : (path : List ℕ) (file : ℕ) (a b c : MemoryDisk) → held_of b ≡ held_of a
+    → HoldsSame (world_of a) (world_of b) → (world_of b).at path ≡ Some file → Spares file (world_of a) (world_of b)
+    → ¬ Contains a.read.items file → Untouched b c → RefusesAt path a c
+refuses_created path file a b c held holds there made free same = record {
+  kept = same.held ∙ held;
+  only = only_then a.read.items path (world_of a) (world_of b) (world_of c) same.world (in_output file there free made);
+  same = λ f. ap (λ w. w.holds f) same.world ∙ holds f;
+}
+
+-- it is so of a disk before that differs in nothing that is told
+pub refuses_at : (path path' : List ℕ) (old old' new : MemoryDisk) → held_of old' ≡ held_of old
+    → world_of old' ≡ world_of old → path ≡ path' → RefusesAt path old new → RefusesAt path' old' new
+refuses_at path path' old old' new held same e refused = record {
+  kept = refused.kept ∙ sym held;
+  only = subst (λ p. OnlyAt old'.read.items p (world_of old') (world_of new)) e
+      (subst (λ w. OnlyAt old'.read.items path w (world_of new)) (sym same)
+      (subst (λ (h : Held). OnlyAt h.read path (world_of old) (world_of new)) (sym held) refused.only));
+  same = λ f. refused.same f ∙ ap (λ w. w.holds f) (sym same);
+}
 
 -- no file that was begun has changed then
 pub begun_then : (begun : List ℕ) (a b c : World) → c ≡ b → HoldsSame a b → KeepsBegun begun a c

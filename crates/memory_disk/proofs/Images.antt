@@ -1,6 +1,6 @@
 -- What an image leaves in its file.
 use Rattle.std.proofs.Common.{inl, inr, arith, ◌≡◌, ℕ, ◌<◌, ◌≤◌, List, [], ◌∷◌, ◌++◌, Option, Some, sym, ◌∙◌, ap, subst}
-use Rattle.std.specs.Prelude.{get_or, set, length, Result, Ok, Err, OnErr}
+use Rattle.std.specs.Prelude.{get_or, set, length}
 use Rattle.std.proofs.lemmas.List.{get_or_past, length-map}
 use Rattle.abt_disk.specs.Images.{Leaves, HoldsSame, EmptiesAt, HasNoFront}
 use Rattle.memory_disk.specs.Memory.{contents, world_of_files}
@@ -31,16 +31,8 @@ pub same_made : (ps ps' : List MemoryPath) (fs fs' : List MemoryFile) (x : Memor
     → x.bytes.items ≡ [] → HoldsSame (world_of_files ps fs) (world_of_files ps' fs')
 same_made ps ps' fs fs' x e empty file = ap (λ l. get_or (contents l) file []) e ∙ holds_more fs x empty file
 
-pub same_then : (held : ℕ → List ℕ) (b c : World) → ((f : ℕ) → b.holds f ≡ held f) → c ≡ b → (f : ℕ)
-    → c.holds f ≡ held f
-same_then held b c same e file = ap (λ w. w.holds file) e ∙ same file
-
 pub empties : (path : List ℕ) (a b : World) → HoldsSame a b → EmptiesAt path a b
 empties path a b same file at = inl (same file)
-
-pub same_world : {A E : Type 0} (r : Result A E) (a b : World) → OnErr r (b ≡ a) → OnErr r (HoldsSame a b)
-same_world (Ok x) a b e = e
-same_world (Err f) a b e = λ file. ap (λ w. w.holds file) e
 
 pub empties_then : (path : List ℕ) (a b c : World) → c ≡ b → EmptiesAt path a b → EmptiesAt path a c
 empties_then path a b c e h = subst (λ w. EmptiesAt path a w) (sym e) h

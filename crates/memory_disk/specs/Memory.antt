@@ -1,10 +1,12 @@
 -- The files of a disk in memory.
-use Rattle.std.specs.Prelude.{◌≡◌, ℕ, List, [], ◌∷◌, Option, Some, None, Contains, cond}
-use Rattle.std.specs.Prelude.{bytes_eq, string_bytes, map, get_or}
-use Rattle.abt_disk.specs.World.{World, Held, Spares}
+use Rattle.std.specs.Prelude.{◌≡◌, ℕ, ◌<◌, ◌≤◌, ◌-◌, List, [], ◌∷◌, Option, Some, None, Contains, cond}
+use Rattle.std.specs.Prelude.{bytes_eq, string_bytes, map, get_or, Result, OnOk, OnErr, length, take, drop}
+use Rattle.abt_disk.specs.Images.{HoldsSame}
+use Rattle.abt_disk.specs.World.{World, Held, Spares, Creates, OnlyAt, failing}
 use Rattle.memory_disk.specs.declared.disk.MemoryDisk.{MemoryDisk}
 use Rattle.memory_disk.specs.declared.disk.MemoryFile.{MemoryFile}
 use Rattle.memory_disk.specs.declared.disk.MemoryPath.{MemoryPath}
+use Rattle.memory_disk.specs.declared.failures.Failures.{Failures}
 
 -- the file that this path leads to: the first that is listed of this name
 unfoldable pub leads : List MemoryPath → List ℕ → Option ℕ
@@ -35,15 +37,54 @@ held_of d = record {
 }
 
 -- this file more is written, as an output or in any other way
-abbrev pub beginning : ℕ → Held → Held
-beginning file h = record h { begun = file ∷ h.begun }
+abbrev pub with_file_begun : ℕ → Held → Held
+with_file_begun file h = record h { begun = file ∷ h.begun }
 
 -- the file at this path was created or emptied, and holds these bytes: none that is read or was begun, and all others
 -- are as before
 pub record Starts (file : ℕ) (path bytes : List ℕ) (held held' : Held) (old new : World) : Type 0 where
-  pub begins : held' ≡ beginning file held
+  pub begins : held' ≡ with_file_begun file held
   pub there : new.at path ≡ Some file
   pub free : ¬ Contains held.read file
   pub fresh : ¬ Contains held.begun file
   pub holds : new.holds file ≡ bytes
   pub spares : Spares file old new
+
+-- what is opened, and what each file holds, is as before
+pub record Untouched (old new : MemoryDisk) : Type 0 where
+  pub held : held_of new ≡ held_of old
+  pub world : world_of new ≡ world_of old
+
+-- n calls more have failed, and no file has changed
+pub record CountsFailed (n : ℕ) (old new : MemoryDisk) : Type 0 where
+  pub held : held_of new ≡ failing n (held_of old)
+  pub world : world_of new ≡ world_of old
+
+-- no file has changed, and where the call is refused nothing was opened
+pub record OpensOnly {X E : Type 0} (r : Result X E) (old new : MemoryDisk) : Type 0 where
+  pub kept : OnErr r (held_of new ≡ held_of old)
+  pub world : world_of new ≡ world_of old
+
+-- A file at this path could not be begun: nothing was opened, no file holds anything else, and nothing else has changed
+-- but what stands at this path.
+pub record RefusesAt (path : List ℕ) (old new : MemoryDisk) : Type 0 where
+  pub kept : held_of new ≡ held_of old
+  pub only : OnlyAt old.read.items path (world_of old) (world_of new)
+  pub same : HoldsSame (world_of old) (world_of new)
+
+-- the file at this path is the output that is open, or could not be begun
+pub record OpensOutput {X E : Type 0} (r : Result X E) (path : List ℕ) (old new : MemoryDisk) : Type 0 where
+  pub created : OnOk r (Creates path (held_of old) (held_of new) (world_of old) (world_of new))
+  pub refused : OnErr r (RefusesAt path old new)
+
+-- what is opened holds these bytes, and has not failed yet
+pub record IsUnused {B : Type 0} (expected found : B) (failed : Failures) : Type 0 where
+  pub bytes : found ≡ expected
+  pub clean : failed.tally.number ≡ 0
+
+-- so many bytes from this place on were copied to the front of what is lent: none only where there are none
+pub record CopiesFrom (at : ℕ) (source : List ℕ) (n : ℕ) (out : List ℕ) : Type 0 where
+  pub within : n ≤ length out
+  pub present : n ≤ length source - at
+  pub bytes : take n out ≡ take n (drop at source)
+  pub ended : n ≡ 0 → 0 < length out → length source ≤ at

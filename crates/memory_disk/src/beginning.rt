@@ -2,8 +2,9 @@
 
 ghost use Rattle.std.specs.Prelude.{◌≡◌, [], Some, None, string_bytes, IsTrue, IfOk, OnOk, OnErr, Contains, false};
 ghost use Rattle.abt_disk.specs.Images.{HoldsSame, Leaves};
-ghost use Rattle.abt_disk.specs.World.{Creates, OnlyAt, Spares, Ends, SparesRest, ended};
-ghost use Rattle.memory_disk.specs.Memory.{leads, world_of, held_of, beginning, Starts};
+ghost use Rattle.abt_disk.specs.World.{OnlyAt, Spares, Ends, SparesRest, ended};
+ghost use Rattle.memory_disk.specs.Memory.{leads, world_of, held_of, with_file_begun, Starts};
+ghost use Rattle.memory_disk.specs.Memory.{Untouched, RefusesAt, OpensOutput};
 
 use crate::disk::{MemoryDisk, MemoryFile, MemoryPath};
 use abt_refusals::HostFault;
@@ -12,12 +13,7 @@ impl MemoryDisk {
     // Begins an output at this path, which is created where none is there, and else emptied.
     pub(crate) fn begin(&mut self, path: String) -> Result<(), HostFault>
         requires { self.old.output ≡ None }
-        ensures created { OnOk result (Creates (string_bytes path) (held_of self.old) (held_of self.new)
-            (world_of self.old) (world_of self.new)) }
-        ensures kept { OnErr result (held_of self.new ≡ held_of self.old) }
-        ensures only { OnErr result (OnlyAt self.old.read.items (string_bytes path) (world_of self.old)
-            (world_of self.new)) }
-        ensures same { OnErr result (HoldsSame (world_of self.old) (world_of self.new)) }
+        ensures begins { OpensOutput result (string_bytes path) self.old self.new }
     {
         match self.start(path, Vec::new(self.alloc)) {
             Ok(file) => {
@@ -32,10 +28,7 @@ impl MemoryDisk {
     pub(crate) fn start(&mut self, path: String, bytes: Vec<u8>) -> Result<u64, HostFault>
         ensures starts { IfOk result (λ file. Starts file (string_bytes path) bytes.items (held_of self.old)
             (held_of self.new) (world_of self.old) (world_of self.new)) }
-        ensures kept { OnErr result (held_of self.new ≡ held_of self.old) }
-        ensures only { OnErr result (OnlyAt self.old.read.items (string_bytes path) (world_of self.old)
-            (world_of self.new)) }
-        ensures same { OnErr result (HoldsSame (world_of self.old) (world_of self.new)) }
+        ensures refused { OnErr result (RefusesAt (string_bytes path) self.old self.new) }
     {
         match self.file_at(path.as_str()) {
             Some(file) => match self.fill(file, bytes) {
@@ -57,12 +50,11 @@ impl MemoryDisk {
 
     // Begins a file that is there, which holds these bytes then.
     fn fill(&mut self, file: u64, bytes: Vec<u8>) -> Result<(), HostFault>
-        ensures held { OnOk result (held_of self.new ≡ beginning file (held_of self.old)) }
-        ensures kept { OnErr result (held_of self.new ≡ held_of self.old) }
+        ensures held { OnOk result (held_of self.new ≡ with_file_begun file (held_of self.old)) }
+        ensures refused { OnErr result (Untouched self.old self.new) }
         ensures free { OnOk result (¬ Contains self.old.read.items file) }
         ensures fresh { OnOk result (¬ Contains self.old.begun.items file) }
         ensures holds { OnOk result ((world_of self.new).holds file ≡ bytes.items) }
-        ensures same { OnErr result (world_of self.new ≡ world_of self.old) }
         ensures spares { OnOk result (Spares file (world_of self.old) (world_of self.new)) }
         ensures paths { self.new.paths ≡ self.old.paths }
     {

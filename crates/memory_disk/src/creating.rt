@@ -2,9 +2,9 @@
 
 ghost use Rattle.std.specs.Prelude.{◌≡◌, [], None, IfOk, OnOk, OnErr, Contains};
 ghost use Rattle.abt_refusals.specs.Paths.{path_of, path_out};
-ghost use Rattle.abt_disk.specs.Images.{is_file, is_over, OfImage, HoldsSame, EmptiesAt};
-ghost use Rattle.abt_disk.specs.World.{Creates, IsFree, OnlyAt};
-ghost use Rattle.memory_disk.specs.Memory.{world_of, held_of};
+ghost use Rattle.abt_disk.specs.Images.{is_file, is_over, OfImage, EmptiesAt};
+ghost use Rattle.abt_disk.specs.World.{IsFree};
+ghost use Rattle.memory_disk.specs.Memory.{world_of, held_of, OpensOutput, IsUnused};
 
 use crate::{MemoryDisk, MemoryImage, MemoryOutput};
 use abt_disk::ImageTo;
@@ -38,14 +38,8 @@ impl MemoryDisk {
     // Creates or empties a file.
     pub(crate) fn plain_at<'a>(&mut self, place: Place<'a>) -> Result<MemoryOutput, HostRefusal<'a>>
         requires { self.old.output ≡ None }
-        ensures empty { IfOk result (λ onto. onto.bytes.items ≡ []) }
-        ensures clean { IfOk result (λ onto. onto.failed.tally.number ≡ 0) }
-        ensures created { OnOk result (Creates (path_of place.entry) (held_of self.old) (held_of self.new)
-            (world_of self.old) (world_of self.new)) }
-        ensures kept { OnErr result (held_of self.new ≡ held_of self.old) }
-        ensures only { OnErr result (OnlyAt self.old.read.items (path_of place.entry) (world_of self.old)
-            (world_of self.new)) }
-        ensures same { OnErr result (HoldsSame (world_of self.old) (world_of self.new)) }
+        ensures unused { IfOk result (λ onto. IsUnused [] onto.bytes.items onto.failed) }
+        ensures begins { OpensOutput result (path_of place.entry) self.old self.new }
     {
         if self.faults.calls.is_over() {
             return Err(HostRefusal::at(HostFault::CannotOpen, place, None));
@@ -62,14 +56,8 @@ impl MemoryDisk {
     // Creates or empties the file of a raw image.
     pub(crate) fn raw_at<'a>(&mut self, place: Place<'a>) -> Result<MemoryOutput, HostRefusal<'a>>
         requires { self.old.output ≡ None }
-        ensures empty { IfOk result (λ onto. onto.bytes.items ≡ []) }
-        ensures clean { IfOk result (λ onto. onto.failed.tally.number ≡ 0) }
-        ensures created { OnOk result (Creates (path_out place.entry) (held_of self.old) (held_of self.new)
-            (world_of self.old) (world_of self.new)) }
-        ensures kept { OnErr result (held_of self.new ≡ held_of self.old) }
-        ensures only { OnErr result (OnlyAt self.old.read.items (path_out place.entry) (world_of self.old)
-            (world_of self.new)) }
-        ensures same { OnErr result (HoldsSame (world_of self.old) (world_of self.new)) }
+        ensures unused { IfOk result (λ onto. IsUnused [] onto.bytes.items onto.failed) }
+        ensures begins { OpensOutput result (path_out place.entry) self.old self.new }
     {
         if self.faults.calls.is_over() {
             return Err(HostRefusal::at(HostFault::CannotOpen, place, None));
@@ -89,16 +77,10 @@ impl MemoryDisk {
         place: Place<'a>,
     ) -> Result<ImageTo<MemoryImage, MemoryOutput>, HostRefusal<'a>>
         requires { self.old.output ≡ None }
-        ensures empty { IfOk result (OfImage (λ file. file.bytes.items ≡ []) (λ onto. onto.bytes.items ≡ [])) }
-        ensures clean { IfOk result (OfImage (λ file. file.failed.tally.number ≡ 0)
-            (λ onto. onto.failed.tally.number ≡ 0)) }
+        ensures unused { IfOk result (OfImage (λ file. IsUnused [] file.bytes.items file.failed)
+            (λ onto. IsUnused [] onto.bytes.items onto.failed)) }
         ensures kind { IfOk result (λ image. is_file image ≡ is_over (path_out place.entry)) }
-        ensures created { OnOk result (Creates (path_out place.entry) (held_of self.old) (held_of self.new)
-            (world_of self.old) (world_of self.new)) }
-        ensures kept { OnErr result (held_of self.new ≡ held_of self.old) }
-        ensures only { OnErr result (OnlyAt self.old.read.items (path_out place.entry) (world_of self.old)
-            (world_of self.new)) }
-        ensures same { OnErr result (HoldsSame (world_of self.old) (world_of self.new)) }
+        ensures begins { OpensOutput result (path_out place.entry) self.old self.new }
         ensures empties { OnErr result (EmptiesAt (path_out place.entry) (world_of self.old) (world_of self.new)) }
     {
         if self.faults.calls.is_over() {

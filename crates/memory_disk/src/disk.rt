@@ -1,8 +1,7 @@
 //! A disk in memory, which tells what its files hold.
 
 ghost use Rattle.std.specs.Prelude.{◌≡◌, [], None, false, IfOk, Contains, get_or};
-ghost use Rattle.abt_disk.specs.World.{failing};
-ghost use Rattle.memory_disk.specs.Memory.{contents, leads, world_of, held_of};
+ghost use Rattle.memory_disk.specs.Memory.{contents, leads, CountsFailed};
 
 use crate::{Failures, Faults};
 use abt_io::Tally;
@@ -100,8 +99,7 @@ impl MemoryDisk {
 
     // Counts a refusal.
     pub(crate) fn refused<'a>(&mut self, refusal: HostRefusal<'a>) -> HostRefusal<'a>
-        ensures held { held_of self.new ≡ failing 1 (held_of self.old) }
-        ensures world { world_of self.new ≡ world_of self.old }
+        ensures { CountsFailed 1 self.old self.new }
     {
         self.failed.add();
         refusal
@@ -109,8 +107,7 @@ impl MemoryDisk {
 
     // Counts how often a device has failed that is given back.
     pub(crate) fn add_failures(&mut self, failures: &Failures)
-        ensures held { held_of self.new ≡ failing failures.now.tally.number (held_of self.old) }
-        ensures world { world_of self.new ≡ world_of self.old }
+        ensures { CountsFailed failures.now.tally.number self.old self.new }
     {
         self.failed.add_all(failures);
     }

@@ -3,6 +3,7 @@
 ghost use Rattle.std.specs.Prelude.{◌≡◌, ◌≤◌, ◌+◌, false, length};
 ghost use Rattle.abt_disk.specs.Images.{HasNoFront};
 ghost use Rattle.abt_io.specs.Moment.{put_at};
+ghost use Rattle.memory_disk.specs.Memory.{IsUnused};
 
 use crate::{Countdown, Failures};
 use abt_disk::{Late, Reasons};
@@ -20,8 +21,7 @@ pub struct MemoryImage {
 impl MemoryImage {
     /// These bytes, where a write may fail.
     pub fn new(bytes: Vec<u8>, faults: Countdown) -> MemoryImage
-        ensures bytes { result.bytes ≡ bytes }
-        ensures clean { result.failed.tally.number ≡ 0 }
+        ensures unused { IsUnused bytes result.bytes result.failed }
     {
         MemoryImage {
             bytes,

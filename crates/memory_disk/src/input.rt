@@ -1,9 +1,9 @@
 //! What a disk in memory opens to be read forward.
 
-ghost use Rattle.std.specs.Prelude.{◌≡◌, ◌≤◌, ◌<◌, ◌-◌, ◌++◌, [], true, false, length, drop, take};
+ghost use Rattle.std.specs.Prelude.{◌≡◌, true, drop};
 ghost use Rattle.abt_io.specs.Bytes.{AreBytes};
 ghost use Rattle.abt_io.specs.BytesLaws.{bytes_of_drop};
-ghost use Rattle.abt_io.specs.Count.{count_of};
+ghost use Rattle.memory_disk.specs.Memory.{CopiesFrom, IsUnused};
 
 use crate::{Countdown, Failures};
 use abt_disk::{Measured, Reasons};
@@ -24,9 +24,8 @@ pub struct MemoryInput {
 impl MemoryInput {
     /// These bytes, where a read may fail.
     pub fn new(bytes: Vec<u8>, faults: Countdown) -> MemoryInput
-        ensures bytes { result.bytes ≡ bytes }
         ensures position { result.position ≡ 0 }
-        ensures clean { result.failed.tally.number ≡ 0 }
+        ensures unused { IsUnused bytes result.bytes result.failed }
     {
         are_bytes(bytes.as_slice());
         MemoryInput {
@@ -68,10 +67,7 @@ impl Input for MemoryInput {
 
 // Copies bytes from a place on, as many as there are and have room.
 pub(crate) fn copied(bytes: &[u8], at: usize, out: &mut [u8]) -> usize
-    ensures within { result ≤ length out.new }
-    ensures present { result ≤ length bytes.now - at }
-    ensures bytes { take result out.new ≡ take result (drop at bytes.now) }
-    ensures ended { result ≡ 0 → 0 < length out.new → length bytes.now ≤ at }
+    ensures { CopiesFrom at bytes.now result out.new }
 {
     if at >= bytes.len() {
         return 0;

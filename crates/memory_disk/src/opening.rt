@@ -3,7 +3,7 @@
 ghost use Rattle.std.specs.Prelude.{◌≡◌, string_bytes, IfOk, OnErr};
 ghost use Rattle.abt_refusals.specs.Paths.{path_in, path_of};
 ghost use Rattle.abt_disk.specs.World.{OpensFile};
-ghost use Rattle.memory_disk.specs.Memory.{world_of, held_of};
+ghost use Rattle.memory_disk.specs.Memory.{world_of, held_of, Untouched, OpensOnly, IsUnused};
 
 use crate::{MemoryDisk, MemoryInput, MemorySource};
 use abt_refusals::{HostFault, HostRefusal, Place};
@@ -18,8 +18,7 @@ impl MemoryDisk {
             (held_of self.old) (held_of self.new)) }
         ensures position { IfOk result (λ from. from.position ≡ 0) }
         ensures clean { IfOk result (λ from. from.failed.tally.number ≡ 0) }
-        ensures kept { OnErr result (held_of self.new ≡ held_of self.old) }
-        ensures world { world_of self.new ≡ world_of self.old }
+        ensures leaves { OpensOnly result self.old self.new }
     {
         if self.faults.calls.is_over() {
             return Err(HostRefusal::at(HostFault::CannotOpen, place, None));
@@ -47,8 +46,7 @@ impl MemoryDisk {
         ensures opened { IfOk result (λ at. OpensFile (world_of self.old) (path_of place.entry) at.bytes.items
             (held_of self.old) (held_of self.new)) }
         ensures clean { IfOk result (λ at. at.failed.tally.number ≡ 0) }
-        ensures kept { OnErr result (held_of self.new ≡ held_of self.old) }
-        ensures world { world_of self.new ≡ world_of self.old }
+        ensures leaves { OpensOnly result self.old self.new }
     {
         if self.faults.calls.is_over() {
             return Err(HostRefusal::at(HostFault::CannotOpen, place, None));
@@ -74,10 +72,8 @@ impl MemoryDisk {
         at: &MemorySource,
         place: Place<'a>,
     ) -> Result<MemorySource, HostRefusal<'a>>
-        ensures content { IfOk result (λ again. again.bytes.items ≡ at.now.bytes.items) }
-        ensures clean { IfOk result (λ again. again.failed.tally.number ≡ 0) }
-        ensures held { held_of self.new ≡ held_of self.old }
-        ensures world { world_of self.new ≡ world_of self.old }
+        ensures unused { IfOk result (λ again. IsUnused at.now.bytes.items again.bytes.items again.failed) }
+        ensures untouched { Untouched self.old self.new }
     {
         if self.faults.calls.is_over() {
             return Err(HostRefusal::at(HostFault::CannotOpen, place, None));
@@ -92,8 +88,7 @@ impl MemoryDisk {
     pub(crate) fn text_at<'a>(&mut self, place: Place<'a>) -> Result<String, HostRefusal<'a>>
         ensures opened { IfOk result (λ text. OpensFile (world_of self.old) (path_in place.entry) (string_bytes text)
             (held_of self.old) (held_of self.new)) }
-        ensures kept { OnErr result (held_of self.new ≡ held_of self.old) }
-        ensures world { world_of self.new ≡ world_of self.old }
+        ensures leaves { OpensOnly result self.old self.new }
     {
         if self.faults.calls.is_over() {
             return Err(HostRefusal::at(HostFault::CannotOpen, place, None));

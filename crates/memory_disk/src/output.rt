@@ -1,6 +1,7 @@
 //! What a disk in memory opens to be written from its front on.
 
-ghost use Rattle.std.specs.Prelude.{◌≡◌, false};
+ghost use Rattle.std.specs.Prelude.{false};
+ghost use Rattle.memory_disk.specs.Memory.{IsUnused};
 
 use crate::{Countdown, Failures};
 use abt_disk::Reasons;
@@ -18,8 +19,7 @@ pub struct MemoryOutput {
 impl MemoryOutput {
     /// These bytes, where a write may fail.
     pub fn new(bytes: Vec<u8>, faults: Countdown) -> MemoryOutput
-        ensures bytes { result.bytes ≡ bytes }
-        ensures clean { result.failed.tally.number ≡ 0 }
+        ensures unused { IsUnused bytes result.bytes result.failed }
     {
         MemoryOutput {
             bytes,

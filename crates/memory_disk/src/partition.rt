@@ -4,6 +4,7 @@ ghost use Rattle.std.specs.Prelude.{◌≡◌, ◌≤◌, ◌+◌, true, refl, l
 ghost use Rattle.abt_io.specs.Bytes.{AreBytes};
 ghost use Rattle.abt_io.specs.Moment.{no_past, put_at};
 ghost use Rattle.abt_disk.specs.InPlace.{is_settled};
+ghost use Rattle.memory_disk.specs.Memory.{IsUnused};
 
 use crate::source::copied_from;
 use crate::{Countdown, Failures};
@@ -38,9 +39,8 @@ impl MemoryPartition {
         read_countdown: Countdown,
         write_countdown: Countdown,
     ) -> MemoryPartition
-        ensures bytes { result.bytes ≡ bytes }
         ensures history { result.history.past ≡ no_past }
-        ensures clean { result.failed.tally.number ≡ 0 }
+        ensures unused { IsUnused bytes result.bytes result.failed }
     {
         are_bytes(bytes.as_slice());
         MemoryPartition {

@@ -3,10 +3,9 @@
 ghost use Rattle.std.specs.Prelude.{◌≡◌, None, IsTrue, IfOk, OnOk, OnErr};
 ghost use Rattle.abt_io.specs.Frame.{nothing_logged};
 ghost use Rattle.abt_refusals.specs.Paths.{path_of};
-ghost use Rattle.abt_disk.specs.Images.{HoldsSame};
 ghost use Rattle.abt_disk.specs.Spools.{OpensSpool, closed_spool};
-ghost use Rattle.abt_disk.specs.World.{OnlyAt, Ends, SparesRest};
-ghost use Rattle.memory_disk.specs.Memory.{world_of, held_of};
+ghost use Rattle.abt_disk.specs.World.{Ends, SparesRest};
+ghost use Rattle.memory_disk.specs.Memory.{world_of, held_of, RefusesAt};
 
 use crate::{MemoryDisk, MemoryFile, MemorySpool};
 use abt_refusals::{HostFault, HostRefusal, Place};
@@ -25,10 +24,7 @@ impl MemoryDisk {
         ensures clears { IfOk result (λ through. through.clear_failures.tally.number ≡ 0) }
         ensures opened { OnOk result (OpensSpool (path_of place.entry) (held_of self.old) (held_of self.new)
             (world_of self.old) (world_of self.new)) }
-        ensures kept { OnErr result (held_of self.new ≡ held_of self.old) }
-        ensures only { OnErr result (OnlyAt self.old.read.items (path_of place.entry) (world_of self.old)
-            (world_of self.new)) }
-        ensures same { OnErr result (HoldsSame (world_of self.old) (world_of self.new)) }
+        ensures refused { OnErr result (RefusesAt (path_of place.entry) self.old self.new) }
     {
         if self.faults.calls.is_over() {
             return Err(HostRefusal::at(HostFault::CannotOpen, place, None));

@@ -3,10 +3,9 @@
 ghost use Rattle.std.specs.Prelude.{◌≡◌, None, IfOk, OnOk, OnErr, length, replicate, if◌then◌else◌};
 ghost use Rattle.abt_io.specs.Moment.{no_past};
 ghost use Rattle.abt_refusals.specs.Paths.{path_of};
-ghost use Rattle.abt_disk.specs.Images.{HoldsSame};
 ghost use Rattle.abt_disk.specs.InPlace.{OpensPart, MakesZeros, IsAsLong, closed_part};
-ghost use Rattle.abt_disk.specs.World.{OnlyAt, Spares, Ends, SparesRest};
-ghost use Rattle.memory_disk.specs.Memory.{world_of, held_of};
+ghost use Rattle.abt_disk.specs.World.{Spares, Ends, SparesRest};
+ghost use Rattle.memory_disk.specs.Memory.{world_of, held_of, OpensOnly, RefusesAt, IsUnused};
 
 use crate::{MemoryDisk, MemoryFile, MemoryPartition};
 use abt_refusals::{HostFault, HostRefusal, Place};
@@ -20,10 +19,8 @@ impl MemoryDisk {
     ) -> Result<MemoryPartition, HostRefusal<'a>>
         ensures opened { IfOk result (λ part. OpensPart (world_of self.old) (path_of place.entry) part.bytes.items
             (held_of self.old) (held_of self.new)) }
-        ensures past { IfOk result (λ part. part.history.past ≡ no_past) }
-        ensures clean { IfOk result (λ part. part.failed.tally.number ≡ 0) }
-        ensures kept { OnErr result (held_of self.new ≡ held_of self.old) }
-        ensures world { world_of self.new ≡ world_of self.old }
+        ensures unused { IfOk result (λ part. IsUnused no_past part.history.past part.failed) }
+        ensures leaves { OpensOnly result self.old self.new }
     {
         if self.faults.calls.is_over() {
             return Err(HostRefusal::at(HostFault::CannotOpen, place, None));
@@ -56,12 +53,8 @@ impl MemoryDisk {
         ensures made { OnOk result (MakesZeros bytes (path_of place.entry) (held_of self.old) (held_of self.new)
             (world_of self.old) (world_of self.new)) }
         ensures zeros { IfOk result (λ part. part.bytes.items ≡ replicate bytes 0) }
-        ensures past { IfOk result (λ part. part.history.past ≡ no_past) }
-        ensures clean { IfOk result (λ part. part.failed.tally.number ≡ 0) }
-        ensures kept { OnErr result (held_of self.new ≡ held_of self.old) }
-        ensures only { OnErr result (OnlyAt self.old.read.items (path_of place.entry) (world_of self.old)
-            (world_of self.new)) }
-        ensures same { OnErr result (HoldsSame (world_of self.old) (world_of self.new)) }
+        ensures unused { IfOk result (λ part. IsUnused no_past part.history.past part.failed) }
+        ensures refused { OnErr result (RefusesAt (path_of place.entry) self.old self.new) }
     {
         if self.faults.calls.is_over() {
             return Err(HostRefusal::at(HostFault::CannotOpen, place, None));

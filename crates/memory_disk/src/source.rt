@@ -1,7 +1,8 @@
 //! What a disk in memory opens to be read at any place.
 
-ghost use Rattle.std.specs.Prelude.{◌≡◌, ◌≤◌, ◌<◌, ◌-◌, true, refl, length, take, drop};
+ghost use Rattle.std.specs.Prelude.{true, refl, length};
 ghost use Rattle.abt_io.specs.Bytes.{AreBytes};
+ghost use Rattle.memory_disk.specs.Memory.{CopiesFrom, IsUnused};
 
 use crate::{Countdown, Failures};
 use abt_disk::Lasting;
@@ -21,8 +22,7 @@ pub struct MemorySource {
 impl MemorySource {
     /// These bytes, where a read may fail.
     pub fn new(bytes: Vec<u8>, faults: Countdown) -> MemorySource
-        ensures bytes { result.bytes ≡ bytes }
-        ensures clean { result.failed.tally.number ≡ 0 }
+        ensures unused { IsUnused bytes result.bytes result.failed }
     {
         are_bytes(bytes.as_slice());
         MemorySource {
@@ -84,10 +84,7 @@ impl Lasting for MemorySource {
 
 // Copies bytes from a place on, as many as there are and have room.
 pub(crate) fn copied_from(bytes: &[u8], at: u64, out: &mut [u8]) -> usize
-    ensures within { result ≤ length out.new }
-    ensures present { result ≤ length bytes.now - at }
-    ensures bytes { take result out.new ≡ take result (drop at bytes.now) }
-    ensures ended { result ≡ 0 → 0 < length out.new → length bytes.now ≤ at }
+    ensures { CopiesFrom at bytes.now result out.new }
 {
     let len = bytes.len();
     if at >= len as u64 {

@@ -14,6 +14,6 @@ loop-done-preserved g c =
     let i = c.loop-done.invariant in
     let e = c.in-Ok.ensures in
     record {
-      within = omega (arith, e.within, i.within);
+      within = omega (arith, e.writes.within, i.within);
       written = put_on _ _ _ _ c.args.at c.loop-done.done c.in-Ok.n i.within c.requires.stands i.written e.written;
     }

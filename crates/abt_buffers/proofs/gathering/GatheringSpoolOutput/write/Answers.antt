@@ -7,7 +7,7 @@ pub invariant_of-spool-in-Ok-clause-since : goal.invariant_of-spool-in-Ok-clause
 invariant_of-spool-in-Ok-clause-since c =
     let n = c.in-Ok.n in
     let bytes = c.args.bytes.now in
-    let within : n ≤ length bytes = omega (arith, c.in-Ok.ensures.within, length-take c.min-most.result c.args.bytes.now) in
+    let within : n ≤ length bytes = omega (arith, c.in-Ok.ensures.writes.within, length-take c.min-most.result c.args.bytes.now) in
     let long = length-take-le n bytes within in
     let old = c.args.self.now.spool.since in
     let more = length-append c.args.self.now.spool.log.state.bytes (take n bytes) in
@@ -16,7 +16,7 @@ invariant_of-spool-in-Ok-clause-since c =
 pub invariant_of-self-in-Ok-clause-whole : goal.invariant_of-self-in-Ok-clause-whole
 invariant_of-self-in-Ok-clause-whole c =
     let n = c.in-Ok.n in
-    let some : n ≤ c.min-most.result = omega (arith, c.in-Ok.ensures.within, length-take c.min-most.result c.args.bytes.now) in
+    let some : n ≤ c.min-most.result = omega (arith, c.in-Ok.ensures.writes.within, length-take c.min-most.result c.args.bytes.now) in
     let front = take-take n c.min-most.result c.args.bytes.now some in
     let b = c.args.self.now.behind in
     let d = c.take.new.self in

@@ -9,7 +9,7 @@ invariant_of-self-in-Ok-clause-whole c =
     let b = c.args.self.now.behind in
     let d = c.put_over.new.self in
     let x = take c.in-Ok.n c.args.bytes.now in
-    let long : length x ≡ c.in-Ok.n = length-take-le c.in-Ok.n c.args.bytes.now c.in-Ok.ensures.within in
-    let fits : c.args.at + length x ≤ length s.log.state.bytes = omega (arith, long, c.in-Ok.ensures.within, c.requires.stands) in
+    let long : length x ≡ c.in-Ok.n = length-take-le c.in-Ok.n c.args.bytes.now c.in-Ok.ensures.writes.within in
+    let fits : c.args.at + length x ≤ length s.log.state.bytes = omega (arith, long, c.in-Ok.ensures.writes.within, c.requires.stands) in
     laid_since b.sent.state.bytes b.held.items d.sent.state.bytes d.held.items x s.log.state c.put.new.self.state s.cleared c.args.at
     c.args.self.now.whole c.in-Ok.ensures.laid c.put.ensures s.cut c.if-at-cleared.false fits

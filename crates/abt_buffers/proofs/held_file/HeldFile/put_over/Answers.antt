@@ -10,8 +10,8 @@ invariant_of-self-2-clause-faithful g c = λ sound.
     let e = c.in_ok-n.ensures in
     let settled = c.in_default.ensures in
     let x = take c.in_ok-n.n c.args.bytes.now in
-    let long : length x ≡ c.in_ok-n.n = length-take-le c.in_ok-n.n c.args.bytes.now e.within in
-    let fits : c.args.at + length x ≤ s.sent = omega (arith, long, e.within, settled.reach) in
+    let long : length x ≡ c.in_ok-n.n = length-take-le c.in_ok-n.n c.args.bytes.now e.writes.within in
+    let fits : c.args.at + length x ≤ s.sent = omega (arith, long, e.writes.within, settled.reach) in
     sent_over _ _ s.held.items s.given.state.bytes _ x s.sent c.args.at
     record { sends = s.sends; stand = s.stand; none = settled.none }
     (settled.all sound) e.written fits (ap (λ (l : Logged). l.bytes) c.put.ensures)

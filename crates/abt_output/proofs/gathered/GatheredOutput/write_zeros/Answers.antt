@@ -1,5 +1,5 @@
 use Rattle.std.proofs.Common.{◌≡◌, ◌≤◌, length, arith, refl, length-take}
-use Rattle.abt_output.specs.Given.{given}
+use Rattle.abt_output.specs.Given.{given_by_writer}
 use Rattle.abt_output.proofs.Zeros.{none_laid, zeros_written}
 use Rattle.abt_output.proofs.gathered.GatheredOutput.write_zeros.Goals as goal
 use Rattle.abt_output.proofs.gathered.GatheredOutput.write_zeros.Goals.{then-takes_hole+in-Ok+else-laid-gt0, else-takes_hole}
@@ -11,7 +11,7 @@ returns-in-Ok-write-clause-written c =
     let some = c.min-some.result in
     let room : some ≤ length zeros = omega arith in
     let within : k ≤ some = omega (arith, c.in-Ok-write.ensures.within, length-take some zeros) in
-    let same : given c.if-takes_hole.self.writer ≡ given c.args.self.now.writer = elim c.if-takes_hole.branch [
+    let same : given_by_writer c.if-takes_hole.self.writer ≡ given_by_writer c.args.self.now.writer = elim c.if-takes_hole.branch [
       | then-takes_hole+in-Ok+else-laid-gt0 w ↦
           let none : w.in-Ok.laid ≡ 0 = omega arith in
           rw w.self-is (none_laid _ _ w.in-Ok.laid w.in-Ok.ensures.written none)

@@ -1,5 +1,6 @@
-use Rattle.memory_disk.proofs.Files.{only_at}
+use Rattle.std.proofs.Common.{refl}
+use Rattle.memory_disk.proofs.Files.{refuses_at}
 use Rattle.memory_disk.proofs.disk.MemoryDisk.zeros_at.Goals as goal
 
-pub returns-in-Err-clause-only : goal.returns-in-Err-clause-only
-returns-in-Err-clause-only c = only_at _ _ _ _ _ c.in-Ok.ensures c.in-Err.ensures.only
+pub returns-in-Err-clause-refused : goal.returns-in-Err-clause-refused
+returns-in-Err-clause-refused c = refuses_at _ _ _ _ _ refl refl c.in-Ok.ensures c.in-Err.ensures.refused
