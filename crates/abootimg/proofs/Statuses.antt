@@ -7,7 +7,7 @@ use Rattle.abt_disk.specs.World.{World, Held}
 use Rattle.abt_output.specs.declared.report.Report.{Report}
 use Rattle.abt_output.specs.declared.progress.Progress.{Progress}
 use Rattle.abt_host.specs.Answering.{PrintsNothing}
-use Rattle.sparse_commands.specs.Commands.{DoesTask, Expands, SparesExpanded, SparesFiles, State, state}
+use Rattle.sparse_commands.specs.Commands.{DoesTask, ExpandsImages, SparesExpanded, SparesFiles, State, state}
 
 not_zero : (n : ℕ) (wrong : Bool) → n ≡ cond wrong 2 1 → n ≡ 0 → ⊥
 not_zero n true is zero_is = omega (arith, is, zero_is)
@@ -22,7 +22,7 @@ status_zero (Err e) n P wrong refused zero_is is = absurd (not_zero n (wrong e) 
 -- ---- how far it is has no part in what is done, nor in what stays
 
 expands_as : (words : List (List ℕ)) (output : List ℕ) (a : State) (w : World) (h : Held) (r : Report) (p : Progress)
-    → Expands words output a (state w h r) → Expands words output a (state w h (record r { progress = p }))
+    → ExpandsImages words output a (state w h r) → ExpandsImages words output a (state w h (record r { progress = p }))
 expands_as [] output a w h r p is = is
 expands_as (x ∷ []) output a w h r p is = is
 expands_as (x ∷ (y ∷ rest)) output a w h r p is = is

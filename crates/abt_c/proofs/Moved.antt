@@ -5,7 +5,7 @@ use Rattle.abt_sparse.specs.declared.kind.ChunkKind.{ChunkKind}
 use Rattle.abt_sparse.specs.Chunk.{Header}
 use Rattle.abt_chunks.specs.ListingAhead.{at_end, is_spent}
 use Rattle.abt_chunks.specs.Pulling.{PullFalls, PullLeaves, PullMoves}
-use Rattle.abt_chunks.specs.Turns.{IsOver, todo}
+use Rattle.abt_chunks.specs.Turns.{IsWalkOver, todo}
 use Rattle.abt_chunks.specs.declared.feed.Pull.{Pull}
 use Rattle.abt_chunks.specs.declared.feed.Pull.TheVariants as pulls
 use Rattle.abt_chunks.specs.declared.feed.Puller.{Puller}
@@ -16,15 +16,15 @@ use Rattle.abt_chunks.specs.declared.walk.Walk.{Walk}
 use Rattle.abt_c.specs.declared.state.AbtPart.{AbtPart}
 use Rattle.abt_c.specs.declared.state.AbtSparse.{AbtSparse}
 use Rattle.abt_c.specs.Moving.{Moves, Nears, chunk_ended, left_to_do}
-use Rattle.abt_c.specs.Standing.{Stands, kept_detail, kept_fault, kind_of, kind_or, phase_number}
+use Rattle.abt_c.specs.Standing.{StandsFor, kept_detail, kept_fault, state_kind, kind_or, phase_number}
 use Rattle.abt_c.specs.Telling.{PartIs}
 use Rattle.abt_c.proofs.Carried.{due_back}
 
 -- ---- the numbers of a state are those of its machine
 
-pub ended_is : (s : AbtSparse) (p : Puller) → Stands s p → chunk_ended s ≡ at_end p.walk
+pub ended_is : (s : AbtSparse) (p : Puller) → StandsFor s p → chunk_ended s ≡ at_end p.walk
 ended_is s p e =
-    ap (λ (v : ℕ). (v == 0) && is_spent (kind_of s) (s.due == 1) s.raw s.words) e.extra
+    ap (λ (v : ℕ). (v == 0) && is_spent (state_kind s) (s.due == 1) s.raw s.words) e.extra
     ∙ ap (λ (v : ChunkKind). (p.walk.extra == 0) && is_spent v (s.due == 1) s.raw s.words) (ap kind_or e.kind)
     ∙ ap (λ (v : Bool). (p.walk.extra == 0) && is_spent p.walk.kind v s.raw s.words) (ap (λ (n : ℕ). n == 1) e.due ∙ due_back p.walk.due)
     ∙ ap (λ (v : ℕ). (p.walk.extra == 0) && is_spent p.walk.kind p.walk.due v s.words) e.raw
@@ -42,7 +42,7 @@ todo_in_phase phases.Body w e = rw e refl
 todo_in_phase phases.Done w e = rw e refl
 todo_in_phase (phases.Failed f) w e = rw e refl
 
-pub todo_is : (s : AbtSparse) (p : Puller) → Stands s p → left_to_do s ≡ todo p.walk
+pub todo_is : (s : AbtSparse) (p : Puller) → StandsFor s p → left_to_do s ≡ todo p.walk
 todo_is s p e =
     ap (λ (v : ℕ). todo_numbers v s.extra s.raw s.words (s.due == 1) s.total_chunks s.index) e.phase
     ∙ ap (λ (v : ℕ). todo_numbers (phase_number p.walk.phase) v s.raw s.words (s.due == 1) s.total_chunks s.index) e.extra
@@ -53,7 +53,7 @@ todo_is s p e =
     ∙ ap (λ (v : ℕ). todo_numbers (phase_number p.walk.phase) p.walk.extra p.walk.raw p.walk.words p.walk.due p.walk.header.total_chunks v) e.index
     ∙ todo_in_phase p.walk.phase p.walk refl
 
-falls_in : (s s' : AbtSparse) (p p' : Puller) → Stands s p → Stands s' p' → todo p'.walk < todo p.walk → left_to_do s' < left_to_do s
+falls_in : (s s' : AbtSparse) (p p' : Puller) → StandsFor s p → StandsFor s' p' → todo p'.walk < todo p.walk → left_to_do s' < left_to_do s
 falls_in s s' p p' e f h = let a = todo_is s p e in let b = todo_is s' p' f in omega (arith, a, b, h)
 
 -- ---- a pull
@@ -66,7 +66,7 @@ going o s s' k is le h = record {
 }
 
 -- what a pull leaves, where s' keeps the fault of its machine
-pub nears : (q : Pull) (o : AbtPart) (s s' : AbtSparse) (p p' : Puller) → PartIs q o → Stands s p → Stands s' p'
+pub nears : (q : Pull) (o : AbtPart) (s s' : AbtSparse) (p p' : Puller) → PartIs q o → StandsFor s p → StandsFor s' p'
     → s'.fault ≡ kept_fault p'.walk.phase → s'.detail ≡ kept_detail p'.walk.phase
     → PullFalls q p.walk p'.walk → PullLeaves q p' → Nears o s s'
 nears pulls.Need o s s' p p' is e f n d l x = record {
@@ -93,7 +93,7 @@ nears (pulls.Gives (parts.Fault y)) o s s' p p' is e f n d l x = record {
   fault = λ j. (f.phase ∙ ap phase_number x, n ∙ ap kept_fault x ∙ sym is.1, d ∙ ap kept_detail x ∙ sym is.2);
 }
 
-pub moved : (q : Pull) (o : AbtPart) (s s' : AbtSparse) (p p' : Puller) (used n : ℕ) → o.used ≡ used → PartIs q o → Stands s p → Stands s' p'
+pub moved : (q : Pull) (o : AbtPart) (s s' : AbtSparse) (p p' : Puller) (used n : ℕ) → o.used ≡ used → PartIs q o → StandsFor s p → StandsFor s' p'
     → PullMoves q p.walk p'.walk used n → Nears o s s' → Moves o s s' n
 moved pulls.Need o s s' p p' used n u is e f m near = record {
   raw = λ j. absurd (omega (arith, is.0, j));
@@ -154,7 +154,7 @@ moved (pulls.Gives (parts.Fault y)) o s s' p p' used n u is e f m near = record 
 
 -- ---- an image that has ended
 
-pub done_is_over : (q : Phase) → phase_number q ≡ 2 → IsOver q
+pub done_is_over : (q : Phase) → phase_number q ≡ 2 → IsWalkOver q
 done_is_over phases.Header e = absurd (omega (arith, e))
 done_is_over phases.Body e = absurd (omega (arith, e))
 done_is_over phases.Done e = tt

@@ -12,10 +12,11 @@ use Rattle.abt_sparse.specs.declared.fault.SparseFault.{SparseFault}
 use Rattle.abt_sparse.specs.declared.fault.SparseFault.TheVariants as faults
 use Rattle.abt_sparse.specs.declared.kind.ChunkKind.{ChunkKind}
 use Rattle.abt_sparse.specs.declared.kind.ChunkKind.TheVariants as kinds
-use Rattle.abt_chunks.proofs.Onward.{IsOwn, header_own}
+use Rattle.abt_chunks.proofs.Onward.{header_own}
 use Rattle.abt_chunks.specs.Ahead.{Ahead, stopping, before, somes, seen_chunks, seen, chunks_ahead}
 use Rattle.abt_chunks.specs.Ahead.{body_ahead, walk}
-use Rattle.abt_chunks.specs.Parts.{Leaves, Says, ahead, ahead_in}
+use Rattle.abt_chunks.specs.Cause.{IsOwn}
+use Rattle.abt_chunks.specs.Parts.{PartLeaves, Says, ahead, ahead_in}
 use Rattle.abt_chunks.specs.Pulling as pulling
 use Rattle.abt_chunks.specs.Pulling.{PullLeaves, PullSays}
 use Rattle.abt_chunks.specs.declared.feed.Pull.{Pull}
@@ -220,7 +221,7 @@ none_in : (q r : Phase) → q ≡ r → kept_fault r ≡ 0 → kept_fault q ≤ 
 none_in q r e z = let n : kept_fault q ≡ kept_fault r = ap kept_fault e in omega (arith, n, z)
 
 pub part_own : (q : Part) (w w' : Walk) (c : List ℕ) → (phase_number w.phase ≡ 3 → ⊥) → Says q w w' c []
-    → Leaves q w'.phase → kept_fault w'.phase ≤ 10
+    → PartLeaves q w'.phase → kept_fault w'.phase ≤ 10
 part_own (parts.Raw n) w w' c live x l = none_in w'.phase phases.Body l refl
 part_own (parts.Words word n) w w' c live x l = none_in w'.phase phases.Body l refl
 part_own (parts.Skip n) w w' c live x l = none_in w'.phase phases.Body l refl
@@ -236,4 +237,4 @@ pub pull_own : (q : Pull) (p p' : Puller) (c : List ℕ) → (phase_number p.wal
     → PullLeaves q p' → kept_fault p'.walk.phase ≤ 10
 pull_own pulls.Need p p' c live x l = let n : kept_fault p'.walk.phase ≡ kept_fault p.walk.phase = ap
     (λ (w : Walk). kept_fault w.phase) x.0 in omega (arith, n, live_none p.walk.phase live)
-pull_own (pulls.Gives q) p p' c live x l = part_own q p.walk p'.walk (pulling.front_of p ++ c) live x l
+pull_own (pulls.Gives q) p p' c live x l = part_own q p.walk p'.walk (pulling.pulled_front p ++ c) live x l

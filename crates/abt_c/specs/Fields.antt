@@ -9,7 +9,7 @@ use Rattle.abt_headers.specs.declared.entry.RamdiskEntry.{RamdiskEntry}
 use Rattle.abt_headers.specs.declared.fault.HeaderFault.{HeaderFault}
 use Rattle.abt_headers.specs.declared.fault.HeaderFault.TheVariants as faults
 use Rattle.abt_headers.specs.declared.os.OsParts.{OsParts}
-use Rattle.abt_headers.specs.Fault.{fault_number}
+use Rattle.abt_headers.specs.Fault.{header_fault_number}
 use Rattle.abt_headers.specs.Os.{os_parts}
 use Rattle.abt_headers.specs.Vendor.{Tail, Vendor}
 use Rattle.abt_c.specs.declared.boot_fields.AbtFields.{AbtFields}
@@ -109,7 +109,7 @@ FieldsOfVendor v o = TellsVendorFront v.front o × (o.fragments ≡ fragments_of
 
 -- a fault, and 0 in all else
 pub record Lacks (f : HeaderFault) (o : AbtFields) : Type 0 where
-  pub fault : o.fault ≡ fault_number f
+  pub fault : o.fault ≡ header_fault_number f
   pub detail : o.detail ≡ header_detail f
   pub reserved : o.reserved ≡ 0
   pub has : o.has ≡ 0

@@ -5,7 +5,7 @@ use Rattle.abt_sparse.specs.declared.kind.ChunkKind.TheVariants as kinds
 use Rattle.abt_c.specs.declared.state.AbtSparse.{AbtSparse}
 use Rattle.abt_c.specs.declared.sparse_header.AbtChunk.{AbtChunk}
 use Rattle.abt_c.specs.declared.sparse_header.AbtHeader.{AbtHeader}
-use Rattle.abt_c.specs.Standing.{kind_of}
+use Rattle.abt_c.specs.Standing.{state_kind}
 
 abbrev pub chunk_kind : ChunkKind → ℕ
 chunk_kind kinds.Raw = 1
@@ -34,7 +34,7 @@ chunk_told s = record {
   left = s.raw;
   headers = s.index;
   blocks = s.have;
-  kind = chunk_kind (kind_of s);
+  kind = chunk_kind (state_kind s);
   due = s.due;
   extra = s.extra;
   word = s.word;

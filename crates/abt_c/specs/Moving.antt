@@ -3,11 +3,11 @@ use Rattle.std.specs.Prelude.{◌≡◌, ℕ, ◌+◌, ◌-◌, ◌*◌, ◌^◌
 use Rattle.abt_chunks.specs.ListingAhead.{is_spent}
 use Rattle.abt_c.specs.declared.state.AbtPart.{AbtPart}
 use Rattle.abt_c.specs.declared.state.AbtSparse.{AbtSparse}
-use Rattle.abt_c.specs.Standing.{kind_of}
+use Rattle.abt_c.specs.Standing.{state_kind}
 
 -- nothing is left of the chunk whose header was read last
 abbrev pub chunk_ended : AbtSparse → Bool
-chunk_ended s = (s.extra == 0) && is_spent (kind_of s) (s.due == 1) s.raw s.words
+chunk_ended s = (s.extra == 0) && is_spent (state_kind s) (s.due == 1) s.raw s.words
 
 -- how much is left to do: bytes and words of a chunk, and 2 ^ 68, more than any chunk takes, for each to come
 abbrev pub left_to_do : AbtSparse → ℕ

@@ -57,7 +57,7 @@ header_of s = record {
 }
 
 -- a state and the machine of the same numbers
-pub record Stands (s : AbtSparse) (p : Puller) : Type 0 where
+pub record StandsFor (s : AbtSparse) (p : Puller) : Type 0 where
   pub phase : s.phase ≡ phase_number p.walk.phase
   pub header : header_of s ≡ view p.walk.header
   pub kind : kind_at s.kind ≡ Some p.walk.kind
@@ -75,7 +75,7 @@ pub record Stands (s : AbtSparse) (p : Puller) : Type 0 where
 
 -- the same with the fault that is kept: one of an image, whose numbers are from 1 to 10, or 0 where it has not failed
 pub record StandsWhole (s : AbtSparse) (p : Puller) : Type 0 where
-  pub stands : Stands s p
+  pub stands : StandsFor s p
   pub fault : s.fault ≡ kept_fault p.walk.phase
   pub detail : s.detail ≡ kept_detail p.walk.phase
   pub own : s.fault ≤ 10
@@ -104,15 +104,15 @@ abbrev pub kind_or : Option ChunkKind → ChunkKind
 kind_or (Some k) = k
 kind_or None = kinds.Skip
 
-abbrev pub kind_of : AbtSparse → ChunkKind
-kind_of s = kind_or (kind_at s.kind)
+abbrev pub state_kind : AbtSparse → ChunkKind
+state_kind s = kind_or (kind_at s.kind)
 
 -- where the next byte of a block lies in the expanded image
-abbrev pub place_in : ℕ → ChunkKind → ℕ → ℕ → ℕ → ℕ → ℕ
-place_in phase kind have size raw words = if phase == 0 then 0 else have * size - left_of kind raw words
+abbrev pub state_place_in : ℕ → ChunkKind → ℕ → ℕ → ℕ → ℕ → ℕ
+state_place_in phase kind have size raw words = if phase == 0 then 0 else have * size - left_of kind raw words
 
-abbrev pub place_of : AbtSparse → ℕ
-place_of s = place_in s.phase (kind_of s) s.have s.blk_sz s.raw s.words
+abbrev pub state_place : AbtSparse → ℕ
+state_place s = state_place_in s.phase (state_kind s) s.have s.blk_sz s.raw s.words
 
 -- the bytes that it holds of a header or of a word
 abbrev pub front_of : AbtSparse → List ℕ
@@ -125,23 +125,25 @@ coming_of phase k due h index have extra raw words word position y =
     else record { cells = []; ending = Ok (h, y) }
 
 -- what lies ahead of a state that has not failed, where these bytes are still to be given
-abbrev pub coming : AbtSparse → List ℕ → Ahead
-coming s y =
-    coming_of s.phase (kind_of s) (s.due == 1) (header_of s) s.index s.have s.extra s.raw s.words s.word s.position
+abbrev pub state_ahead : AbtSparse → List ℕ → Ahead
+state_ahead s y =
+    coming_of s.phase (state_kind s) (s.due == 1) (header_of s) s.index s.have s.extra s.raw s.words s.word s.position
     (front_of s ++ y)
 
 -- ---- what a call says
 
 -- of what lay ahead, whatever bytes t follow those that were used
 abbrev pub StateSays : Pull → AbtSparse → AbtSparse → List ℕ → List ℕ → Type 0
-StateSays pulls.Need s s' c t = coming s (c ++ t) ≡ coming s' t
+StateSays pulls.Need s s' c t = state_ahead s (c ++ t) ≡ state_ahead s' t
 StateSays (pulls.Gives (parts.Raw n)) s s' c t = (length (front_of s ++ c) ≡ n)
-    × (coming s (c ++ t) ≡ before (somes (front_of s ++ c)) (coming s' t))
-StateSays (pulls.Gives (parts.Words word n)) s s' c t = coming s (c ++ t) ≡ before (fills n word) (coming s' t)
-StateSays (pulls.Gives (parts.Skip n)) s s' c t = coming s (c ++ t) ≡ before (gaps n) (coming s' t)
-StateSays (pulls.Gives parts.Nothing) s s' c t = coming s (c ++ t) ≡ coming s' t
-StateSays (pulls.Gives parts.End) s s' c t = coming s (c ++ t) ≡ record { cells = []; ending = Ok (header_of s', t) }
-StateSays (pulls.Gives (parts.Fault f)) s s' c t = coming s (c ++ t) ≡ stopping f
+    × (state_ahead s (c ++ t) ≡ before (somes (front_of s ++ c)) (state_ahead s' t))
+StateSays (pulls.Gives (parts.Words word n)) s s' c t = state_ahead s (c ++ t)
+    ≡ before (fills n word) (state_ahead s' t)
+StateSays (pulls.Gives (parts.Skip n)) s s' c t = state_ahead s (c ++ t) ≡ before (gaps n) (state_ahead s' t)
+StateSays (pulls.Gives parts.Nothing) s s' c t = state_ahead s (c ++ t) ≡ state_ahead s' t
+StateSays (pulls.Gives parts.End) s s' c t = state_ahead s (c ++ t)
+    ≡ record { cells = []; ending = Ok (header_of s', t) }
+StateSays (pulls.Gives (parts.Fault f)) s s' c t = state_ahead s (c ++ t) ≡ stopping f
 
 -- a part o was told, for which the bytes c were used
 pub record Told (o : AbtPart) (s s' : AbtSparse) (c : List ℕ) : Type 0 where

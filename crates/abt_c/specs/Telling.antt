@@ -1,4 +1,5 @@
 -- A part of an image as the numbers that C is told.
+use Rattle.abt_chunks.specs.Listing.{no_word}
 use Rattle.std.specs.Prelude.{◌≡◌, ℕ, ◌+◌, ◌*◌, List, [], ◌∷◌}
 use Rattle.abt_sparse.specs.Number.{number_of}
 use Rattle.abt_sparse.specs.declared.fault.SparseFault.{SparseFault}
@@ -22,10 +23,6 @@ detail_of (faults.TooFewBlocks n) = n
 detail_of (faults.Truncated at) = at
 detail_of (faults.Read d) = 0
 detail_of (faults.Write d) = 0
-
--- the word of a part that has none
-abbrev pub no_word : List ℕ
-no_word = 0 ∷ 0 ∷ 0 ∷ 0 ∷ []
 
 -- a part that refuses nothing: what its kind does not use is 0
 abbrev pub HasNumbers : AbtPart → ℕ → ℕ → List ℕ → Type 0

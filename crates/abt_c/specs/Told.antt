@@ -9,7 +9,7 @@ use Rattle.abt_headers.specs.declared.sections.Section.TheVariants.{Signature, V
 use Rattle.abt_headers.specs.declared.sections.Place.{Place}
 use Rattle.abt_headers.specs.Boot.{boot_version, boot_page, boot_places, boot_size}
 use Rattle.abt_headers.specs.Vendor.{Vendor, vendor_version, vendor_page, vendor_places, vendor_size}
-use Rattle.abt_headers.specs.Fault.{fault_number}
+use Rattle.abt_headers.specs.Fault.{header_fault_number}
 use Rattle.abt_c.specs.declared.boot_told.AbtBoot.{AbtBoot}
 use Rattle.abt_c.specs.declared.boot_told.AbtSection.{AbtSection}
 
@@ -37,7 +37,7 @@ section_at (q ∷ qs) zero = section_told q
 section_at (q ∷ qs) (suc i) = section_at qs i
 
 -- the sections, in their order
-pub record Shows (ps : List Place) (o : AbtBoot) : Type 0 where
+pub record TellsSections (ps : List Place) (o : AbtBoot) : Type 0 where
   pub count : o.count ≡ length ps
   pub sections : o.sections
       ≡ section_at ps 0 ∷ section_at ps 1 ∷ section_at ps 2 ∷ section_at ps 3 ∷ section_at ps 4 ∷ []
@@ -50,7 +50,7 @@ pub record TellsBoot (h : BootHeader) (o : AbtBoot) : Type 0 where
   pub version : o.version ≡ boot_version h
   pub page_size : o.page_size ≡ boot_page h
   pub header_size : o.header_size ≡ boot_size h
-  pub shows : Shows (boot_places h) o
+  pub shows : TellsSections (boot_places h) o
 
 pub record TellsVendor (h : Vendor) (o : AbtBoot) : Type 0 where
   pub fault : o.fault ≡ 0
@@ -60,7 +60,7 @@ pub record TellsVendor (h : Vendor) (o : AbtBoot) : Type 0 where
   pub version : o.version ≡ vendor_version h
   pub page_size : o.page_size ≡ vendor_page h
   pub header_size : o.header_size ≡ vendor_size h
-  pub shows : Shows (vendor_places h) o
+  pub shows : TellsSections (vendor_places h) o
 
 -- of a version, a page size and a header that is cut short what they tell
 abbrev pub header_detail : HeaderFault → ℕ
@@ -70,19 +70,19 @@ header_detail (faults.Short need) = need
 header_detail f = 0
 
 -- a fault, and 0 in all else
-pub record Fails (f : HeaderFault) (o : AbtBoot) : Type 0 where
-  pub fault : o.fault ≡ fault_number f
+pub record TellsFault (f : HeaderFault) (o : AbtBoot) : Type 0 where
+  pub fault : o.fault ≡ header_fault_number f
   pub detail : o.detail ≡ header_detail f
   pub reserved : o.reserved ≡ 0
   pub kind : o.kind ≡ 0
   pub version : o.version ≡ 0
   pub page_size : o.page_size ≡ 0
   pub header_size : o.header_size ≡ 0
-  pub shows : Shows [] o
+  pub shows : TellsSections [] o
 
 -- a boot image; where the magic is not its own, a vendor boot image
 abbrev pub InfoIs : Result BootHeader HeaderFault → Result Vendor HeaderFault → AbtBoot → Type 0
 InfoIs (Ok h) r o = TellsBoot h o
 InfoIs (Err faults.Magic) (Ok v) o = TellsVendor v o
-InfoIs (Err faults.Magic) (Err f) o = Fails f o
-InfoIs (Err f) r o = Fails f o
+InfoIs (Err faults.Magic) (Err f) o = TellsFault f o
+InfoIs (Err f) r o = TellsFault f o

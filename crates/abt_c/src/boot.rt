@@ -2,8 +2,9 @@
 
 ghost use Rattle.std.specs.Prelude.{◌≡◌, ◌≤◌, length};
 ghost use Rattle.abt_headers.specs.Boot.{boot_at};
-ghost use Rattle.abt_headers.specs.Vendor.{vendor_at, view};
-ghost use Rattle.abt_c.specs.Told.{Fails, InfoIs, Shows, TellsBoot, TellsVendor, header_detail, section_at};
+ghost use Rattle.abt_headers.specs.Vendor.{vendor_at, vendor_view};
+ghost use Rattle.abt_c.specs.Told.{TellsFault, InfoIs, TellsSections, TellsBoot, TellsVendor, header_detail};
+ghost use Rattle.abt_c.specs.Told.{section_at};
 ghost use Rattle.abt_c.specs.Told.{section_number};
 
 use crate::boot_told::{AbtBoot, AbtSection};
@@ -49,7 +50,7 @@ fn section(places: &Sections, i: usize) -> AbtSection
 /// The sections of an image, and nothing else of it.
 fn shown(places: &Sections) -> AbtBoot
     requires { length places.now ≤ 5 }
-    ensures shows { Shows places.now result }
+    ensures shows { TellsSections places.now result }
     ensures fault { result.fault ≡ 0 }
     ensures detail { result.detail ≡ 0 }
     ensures reserved { result.reserved ≡ 0 }
@@ -89,7 +90,7 @@ fn boot_told(header: &BootHeader) -> AbtBoot
 /// What a vendor boot header says.
 #[tactic(auto, using(crate::proofs::Sections::vendor_few))]
 fn vendor_told(header: &VendorHeader) -> AbtBoot
-    ensures { TellsVendor (view header.now) result }
+    ensures { TellsVendor (vendor_view header.now) result }
 {
     let mut told = shown(&header.sections());
     told.kind = 2;
@@ -115,7 +116,7 @@ pub fn detail(fault: HeaderFault) -> u32
 
 /// A fault and nothing else.
 fn refused(fault: HeaderFault) -> AbtBoot
-    ensures { Fails fault result }
+    ensures { TellsFault fault result }
 {
     let none = AbtSection {
         kind: 0,

@@ -3,7 +3,7 @@
 ghost use Rattle.std.specs.Prelude.{◌≡◌, ◌≤◌, ◌<◌, ◌-◌, drop, length, take};
 ghost use Rattle.abt_headers.specs.Boot.{boot_at};
 ghost use Rattle.abt_headers.specs.Entry.{entry_at};
-ghost use Rattle.abt_headers.specs.Vendor.{vendor_at, view};
+ghost use Rattle.abt_headers.specs.Vendor.{vendor_at, vendor_view};
 ghost use Rattle.abt_c.specs.Fields.{FieldsAre, FieldsOfBoot, FieldsOfVendor, HasNoAddress, HasNoText, Lacks};
 ghost use Rattle.abt_c.specs.Fields.{TellsFront, TellsShort, TellsVendorFront, fragment_told, no_os, os_told, zeros};
 
@@ -171,7 +171,7 @@ fn vendor_front_told(front: &VendorFront) -> AbtFields
 }
 
 fn vendor_fields(header: &VendorHeader) -> AbtFields
-    ensures { FieldsOfVendor (view header.now) result }
+    ensures { FieldsOfVendor (vendor_view header.now) result }
 {
     match header {
         VendorHeader::V3(front) => vendor_front_told(front),

@@ -1,7 +1,7 @@
 //! A sparse image, read by a program that has it in pieces.
 
 ghost use Rattle.std.specs.Prelude.{◌≡◌, ◌≤◌, ◌<◌, ◌+◌, ◌*◌, ◌↔◌, take, length};
-ghost use Rattle.abt_c.specs.Standing.{Ended, IsLeft, Told, no_size, place_of};
+ghost use Rattle.abt_c.specs.Standing.{Ended, IsLeft, Told, no_size, state_place};
 ghost use Rattle.abt_c.specs.Moving.{Moves, Nears};
 ghost use Rattle.abt_c.specs.Telling.{IsBare};
 
@@ -64,7 +64,7 @@ pub extern "C" fn abt_sparse_next(state: &mut AbtSparse, input: &[u8], out: &mut
         Moves out.new state.old state.new (length input.now) }
     ensures lent { out.new.kind ≡ 1 → out.new.offset + out.new.length ≤ out.new.used }
     ensures offset { (out.new.kind ≡ 1 → ⊥) → out.new.offset ≡ 0 }
-    ensures place { state.old.phase < 3 → (out.new.fault ≡ 90 → ⊥) → out.new.position ≡ place_of state.old }
+    ensures place { state.old.phase < 3 → (out.new.fault ≡ 90 → ⊥) → out.new.position ≡ state_place state.old }
     // A state that these calls left is taken and left so; each other one is answered with 90, and left as it is.
     ensures left { (IsLeft state.old ↔ (out.new.fault ≡ 90 → ⊥)) × (IsLeft state.old → IsLeft state.new) }
     ensures spoiled { out.new.fault ≡ 90 → state.new ≡ state.old }
@@ -103,7 +103,7 @@ pub extern "C" fn abt_sparse_last(state: &mut AbtSparse, out: &mut AbtPart) -> u
     ensures kind { (out.new.kind ≡ 6) ↔ (0 < out.new.fault) }
     ensures used { out.new.used ≡ 0 }
     ensures told { state.old.phase < 3 → (out.new.fault ≡ 90 → ⊥) → Ended out.new state.old state.new }
-    ensures place { state.old.phase < 3 → (out.new.fault ≡ 90 → ⊥) → out.new.position ≡ place_of state.old }
+    ensures place { state.old.phase < 3 → (out.new.fault ≡ 90 → ⊥) → out.new.position ≡ state_place state.old }
     // Behind each answer but the end and a fault less is left to do; these two are kept, and answered again.
     ensures nears { state.old.phase < 3 → (out.new.fault ≡ 90 → ⊥) → Nears out.new state.old state.new }
     ensures ended { state.old.phase ≡ 2 → (out.new.fault ≡ 90 → ⊥) → out.new.kind ≡ 5 }

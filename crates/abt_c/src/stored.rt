@@ -6,7 +6,7 @@ ghost use Rattle.abt_sparse.specs.View.{view};
 ghost use Rattle.abt_chunks.specs.Ahead.{left_of};
 ghost use Rattle.abt_chunks.specs.declared.feed.Puller.{Puller as FedWalk};
 ghost use Rattle.abt_sparse.specs.declared.header.SparseHeader.{SparseHeader as ReadHeader};
-ghost use Rattle.abt_c.specs.Standing.{CanKeep, StandsWhole, Stands, details, header_of, kept_detail, kept_fault};
+ghost use Rattle.abt_c.specs.Standing.{CanKeep, StandsWhole, StandsFor, details, header_of, kept_detail, kept_fault};
 ghost use Rattle.abt_c.specs.Standing.{phase_number};
 ghost use Rattle.abt_c.specs.Telling.{detail_of};
 
@@ -209,7 +209,7 @@ pub fn puller_in(s: &AbtSparse) -> Option<Puller>
 
 /// The numbers of a machine.
 pub fn state_of(p: &Puller) -> AbtSparse
-    ensures stands { Stands result p.now }
+    ensures stands { StandsFor result p.now }
     ensures fault { result.fault ≡ kept_fault p.now.walk.phase }
     ensures detail { result.detail ≡ kept_detail p.now.walk.phase }
     ensures bits { result.detail < details result.fault }

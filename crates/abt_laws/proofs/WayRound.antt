@@ -12,7 +12,7 @@ use Rattle.abt_flash.specs.Sparse.{size_in, sparse_image}
 use Rattle.abt_sections.specs.Header.{Header, places_of}
 use Rattle.abt_sections.specs.Layout.{parts_of}
 use Rattle.abt_sections.specs.Open.{HasImage}
-use Rattle.abt_sections.specs.Unpacked.{Holds}
+use Rattle.abt_sections.specs.Unpacked.{HoldsParts}
 use Rattle.abt_laws.specs.WayRound.{Sparsed, SentAs, sparse, raw, Arrives, at_once, going_on, Carried}
 
 -- what an arrival leaves
@@ -54,7 +54,7 @@ carried keeps reads one x p q c = sent_front keeps reads one x c.image p q c.sen
 same_header : (a b : Header) → (let r : Result Header HeaderFault = Ok a in let s : Result Header HeaderFault = Ok b in r ≡ s) → a ≡ b
 same_header a b e = cc
 
-pub found_again : (q : List ℕ) (h found : Header) (parts : List (List ℕ)) → Holds q h parts → HasImage q found → (found ≡ h) × (parts_of q (places_of found) ≡ parts)
+pub found_again : (q : List ℕ) (h found : Header) (parts : List (List ℕ)) → HoldsParts q h parts → HasImage q found → (found ≡ h) × (parts_of q (places_of found) ≡ parts)
 found_again q h found parts holds has =
     let same : found ≡ h = same_header found h (sym has.header ∙ holds.has.header) in
     (same, ap (λ (k : Header). parts_of q (places_of k)) same ∙ holds.each)

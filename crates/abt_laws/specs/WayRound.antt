@@ -19,7 +19,7 @@ use Rattle.abt_sections.specs.Fields.{BootFields, VendorFields}
 use Rattle.abt_sections.specs.Header.{Header, OfVendor, places_of}
 use Rattle.abt_sections.specs.Layout.{parts_of}
 use Rattle.abt_sections.specs.Open.{HasImage}
-use Rattle.abt_sections.specs.Unpacked.{Holds, HoldsBoot, HoldsFragment, HoldsVendor}
+use Rattle.abt_sections.specs.Unpacked.{HoldsParts, HoldsBoot, HoldsFragment, HoldsVendor}
 use Rattle.abt_sections.specs.VendorCanon.{VendorParts, vendor_canon, vendor_header_of}
 
 -- y is the sparse image of the bytes x, in blocks of b bytes, with raw chunks of at most r blocks
@@ -69,5 +69,5 @@ FragmentWay = (s : VendorFields) (v : VendorParts) (p q : List ℕ) (k : ℕ) �
 
 -- What opening finds there is that header and no other, so what is unpacked is the parts.
 abbrev pub FoundAgain : Type 0
-FoundAgain = (q : List ℕ) (h found : Header) (parts : List (List ℕ)) → Holds q h parts → HasImage q found
+FoundAgain = (q : List ℕ) (h found : Header) (parts : List (List ℕ)) → HoldsParts q h parts → HasImage q found
     → (found ≡ h) × (parts_of q (places_of found) ≡ parts)

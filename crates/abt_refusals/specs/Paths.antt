@@ -1,5 +1,6 @@
 -- The path of a file that the words name, as the system takes it.
-use Rattle.std.specs.Prelude.{ℕ, List, ◌∷◌, ◌++◌, Option, Some, None, is_none, option_map, Bool, ◌&&◌, if◌then◌else◌, codes, decimal, bytes_eq}
+use Rattle.std.specs.Prelude.{ℕ, List, ◌∷◌, ◌++◌, Option, Some, None, is_none, option_map, Bool, ◌&&◌, if◌then◌else◌}
+use Rattle.std.specs.Prelude.{codes, decimal, bytes_eq}
 use Rattle.abt_refusals.specs.declared.place.Place.{Place}
 
 -- with its folder in front
@@ -25,3 +26,7 @@ path_in p = if is_standard p then codes "/dev/stdin" else path_of p
 
 abbrev pub path_out : Place → List ℕ
 path_out p = if is_standard p then codes "/dev/stdout" else path_of p
+
+-- the path that a word leads to which names an output
+abbrev pub output_path : List ℕ → List ℕ
+output_path word = if bytes_eq word (codes "-") then codes "/dev/stdout" else word

@@ -10,7 +10,7 @@ use Rattle.abt_sections.specs.Cause.{MoveCause, OpenCause, ReadCause}
 use Rattle.abt_sections.specs.Open.{RefusedAs}
 use Rattle.boot_rules.specs.declared.fault.BootCommandFault.{BootCommandFault}
 use Rattle.boot_rules.specs.declared.fault.BootCommandFault.TheVariants as faults
-use Rattle.boot_texts.specs.Info.{PrintCause, ReadTold, WriteTold}
+use Rattle.boot_texts.specs.Info.{PrintCause, SectionReadTold, SectionWriteTold}
 use Rattle.boot_bodies.specs.Faults.{IsFaultOf, IsAnswerOf, IsRefusalOf, IsRefusedOver, RefusesImage}
 
 -- ---- faults of the engine's calls
@@ -53,7 +53,7 @@ moved_behind f r q r' w w' x changed clean cause same reads writes =
     (moved f q r' w w' x changed cause same reads writes)
 
 pub printed : (X : Type 0) (f : SectionFault) (r r' w w' : ℕ) (x : List ℕ) → PrintCause f r r'
-    → ReadTold {X = X} (Err f) r r' → WriteTold f w w' → IsFaultOf x (r + w < r' + w') f
+    → SectionReadTold {X = X} (Err f) r r' → SectionWriteTold f w w' → IsFaultOf x (r + w < r' + w') f
 printed X (sections.Read f) r r' w w' x cause reads writes = omega (arith, cause, writes)
 printed X (sections.Write f) r r' w w' x cause reads writes = omega (arith, reads, writes)
 printed X sections.SourceChanged r r' w w' x cause reads writes = absurd cause

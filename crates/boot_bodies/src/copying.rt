@@ -1,11 +1,10 @@
 //! The bytes of a part, from the image to an output.
 
-ghost use Rattle.std.specs.Prelude.{◌≡◌, ◌<◌, ◌+◌, ◌++◌, IsTrue, IfOk, IfErr, OnOk, length, slice_index_or};
+ghost use Rattle.std.specs.Prelude.{◌≡◌, ◌<◌, ◌++◌, IsTrue, IfOk, OnOk, length, slice_index_or};
 ghost use Rattle.abt_headers.specs.declared.sections.Place.{Place};
 ghost use Rattle.abt_sections.specs.Header.{entry_of, fragment_count, fragment_of, places_of, view_of};
 ghost use Rattle.abt_sections.specs.Layout.{part_of};
-ghost use Rattle.abt_sections.specs.Open.{IsOpened};
-ghost use Rattle.boot_bodies.specs.Faults.{IsFaultOf};
+ghost use Rattle.boot_bodies.specs.Copying.{CopiesPart};
 ghost use Rattle.boot_texts.specs.Words.{image_words, words_text};
 
 use abt_io::{Meter, Output, Source, Window};
@@ -24,16 +23,11 @@ pub(crate) fn copy_section<S: Source, O: Output>(
     m: &mut Meter,
 ) -> (O, Result<u64, SectionFault>)
     requires { i < length (places_of (view_of image.now.header)) }
-    ensures content { IsTrue S.tells → OnOk result.1 (S.content source.new ≡ S.content source.old) }
+    ensures copies { CopiesPart result.1 S.Source source.old source.new O.Output onto result.0 image.now }
     ensures written { (p : Place) → p ≡ slice_index_or (places_of (view_of image.now.header)) i p → IsTrue S.tells →
         OnOk result.1 (O.written result.0 ≡ O.written onto ++ part_of (S.content source.old) p) }
     ensures count { (p : Place) → p ≡ slice_index_or (places_of (view_of image.now.header)) i p →
         IfOk result.1 (λ bytes. bytes ≡ p.size) }
-    ensures refused { IsTrue S.tells → IsOpened (S.content source.old) image.now →
-        IfErr result.1 (IsFaultOf (S.content source.old) (S.read_faults source.old + O.write_faults onto
-        < S.read_faults source.new + O.write_faults result.0)) }
-    ensures clean { OnOk result.1 (S.read_faults source.new + O.write_faults result.0
-        ≡ S.read_faults source.old + O.write_faults onto) }
 {
     let mut carried = Carried {
         device: onto,
@@ -58,16 +52,11 @@ pub(crate) fn copy_fragment<S: Source, O: Output>(
     m: &mut Meter,
 ) -> (O, Result<u64, SectionFault>)
     requires { index < fragment_count (view_of image.now.header) }
-    ensures content { IsTrue S.tells → OnOk result.1 (S.content source.new ≡ S.content source.old) }
+    ensures copies { CopiesPart result.1 S.Source source.old source.new O.Output onto result.0 image.now }
     ensures written { IsTrue S.tells → OnOk result.1 (O.written result.0 ≡ O.written onto
         ++ fragment_of (S.content source.old) (view_of image.now.header) index) }
     ensures count { IsTrue S.tells → IfOk result.1 (λ bytes. bytes
         ≡ (entry_of (S.content source.old) (view_of image.now.header) index).ramdisk_size) }
-    ensures refused { IsTrue S.tells → IsOpened (S.content source.old) image.now →
-        IfErr result.1 (IsFaultOf (S.content source.old) (S.read_faults source.old + O.write_faults onto
-        < S.read_faults source.new + O.write_faults result.0)) }
-    ensures clean { OnOk result.1 (S.read_faults source.new + O.write_faults result.0
-        ≡ S.read_faults source.old + O.write_faults onto) }
 {
     let entry = match fragment(image, index, source, w, m) {
         Ok(entry) => entry,
@@ -95,14 +84,9 @@ pub(crate) fn copy_words<S: Source, O: Output>(
     w: &mut Window,
     m: &mut Meter,
 ) -> (O, Result<u64, SectionFault>)
-    ensures content { IsTrue S.tells → OnOk result.1 (S.content source.new ≡ S.content source.old) }
+    ensures copies { CopiesPart result.1 S.Source source.old source.new O.Output onto result.0 image.now }
     ensures written { IsTrue S.tells → OnOk result.1 (O.written result.0 ≡ O.written onto
         ++ words_text (image_words folder.now (S.content source.old) (view_of image.now.header))) }
-    ensures refused { IsTrue S.tells → IsOpened (S.content source.old) image.now →
-        IfErr result.1 (IsFaultOf (S.content source.old) (S.read_faults source.old + O.write_faults onto
-        < S.read_faults source.new + O.write_faults result.0)) }
-    ensures clean { OnOk result.1 (S.read_faults source.new + O.write_faults result.0
-        ≡ S.read_faults source.old + O.write_faults onto) }
 {
     let before = progress.done;
     let mut carried = Carried {

@@ -1,9 +1,10 @@
 -- What a command over boot images does with the files that its words name, leaves of them, and is refused for.
 use Rattle.std.specs.Prelude.{◌≡◌, ◌+◌, ℕ, List, Bool, IsTrue, if◌then◌else◌}
+use Rattle.abt_refusals.specs.Paths.{output_path}
 use Rattle.abt_words.specs.declared.order.BootTask.{BootTask}
 use Rattle.abt_words.specs.declared.order.BootTask.TheVariants as tasks
 use Rattle.abt_output.specs.declared.report.Report.{Report}
-use Rattle.abt_output.specs.Shows.{Shows}
+use Rattle.abt_output.specs.Shows.{Shows, unprinted}
 use Rattle.abt_disk.specs.Among.{OnlyAmong}
 use Rattle.abt_disk.specs.World.{World, Held, HasFailed, OnlyAt, KeepsFile}
 use Rattle.boot_rules.specs.declared.fault.BootCommandFault.{BootCommandFault}
@@ -11,11 +12,10 @@ use Rattle.boot_bodies.specs.Faults.{RefusesImage}
 use Rattle.boot_bodies.specs.Lines.{ShowsEach}
 use Rattle.boot_bodies.specs.Unpacking.{IsPartOf, PartsStand, SyncsParts, Unpacks}
 use Rattle.info_bodies.specs.Informing.{RefusesInfo, TellsFile, notation_of}
-use Rattle.pack_bodies.specs.Packing.{HoldsNoPart, KeepsGiven, PacksFile, output_path}
+use Rattle.pack_bodies.specs.Packing.{HoldsNoPart, KeepsGiven, PacksFile}
 use Rattle.pack_bodies.specs.Refusing.{RefusesPack}
 use Rattle.pack_bodies.specs.RefusingAgain.{RefusesRepack}
 use Rattle.pack_bodies.specs.Repacking.{HoldsNoPartAgain, KeepsRead, RepacksFile, ShowsFirst}
-use Rattle.pack_bodies.specs.Writing.{unprinted}
 use Rattle.boot_commands.specs.Ordered.{IsCommandOf}
 use Rattle.boot_commands.specs.declared.command.BootCommand.{BootCommand}
 use Rattle.boot_commands.specs.declared.command.Kind.{Kind}
@@ -61,13 +61,13 @@ SparesKind (kinds.Unpack input folder with_words) world held world' held' =
 SparesKind (kinds.Info input with_check with_hex) world held world' held' = world' ≡ world
 
 -- OUT of these is no image unless all of it is there, where it can be written over
-abbrev pub LeavesNoPart : (List ℕ → Bool) → Kind → World → World → Type 0
-LeavesNoPart over (kinds.Pack command) world world' =
+abbrev pub LeavesNoPartOfBoot : (List ℕ → Bool) → Kind → World → World → Type 0
+LeavesNoPartOfBoot over (kinds.Pack command) world world' =
     IsTrue (over (output_path command.output.now)) → HoldsNoPart command world world'
-LeavesNoPart over (kinds.Repack input command) world world' =
+LeavesNoPartOfBoot over (kinds.Repack input command) world world' =
     IsTrue (over (output_path command.output.now)) → HoldsNoPartAgain input.now command world world'
-LeavesNoPart over (kinds.Unpack input folder with_words) world world' = Unit {0}
-LeavesNoPart over (kinds.Info input with_check with_hex) world world' = Unit {0}
+LeavesNoPartOfBoot over (kinds.Unpack input folder with_words) world world' = Unit {0}
+LeavesNoPartOfBoot over (kinds.Info input with_check with_hex) world world' = Unit {0}
 
 -- ---- why it is refused
 

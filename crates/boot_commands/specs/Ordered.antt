@@ -56,28 +56,28 @@ command_options texts = map command_option texts
 -- ---- fragments
 
 -- a word says this of a fragment, and that its file has this path
-abbrev pub SaysFragment : Bool → List ℕ → FragmentSpec → List ℕ → Type 0
-SaysFragment true word spec path = IsEscapedFragment word spec path
-SaysFragment false word spec path = IsFragment word spec path
+abbrev pub WordSaysFragment : Bool → List ℕ → FragmentSpec → List ℕ → Type 0
+WordSaysFragment true word spec path = IsEscapedFragment word spec path
+WordSaysFragment false word spec path = IsFragment word spec path
 
 -- that a word says none
 abbrev pub SaysNone : Bool → List ℕ → Type 0
-SaysNone is_escaped word = (spec : FragmentSpec) (path : List ℕ) → SaysFragment is_escaped word spec path → ⊥
+SaysNone is_escaped word = (spec : FragmentSpec) (path : List ℕ) → WordSaysFragment is_escaped word spec path → ⊥
 
 -- what was read of a word is what it says
 abbrev pub IsReadOf : Bool → List ℕ → Option FragmentWord → Type 0
 IsReadOf is_escaped word None = SaysNone is_escaped word
-IsReadOf is_escaped word (Some read) = SaysFragment is_escaped word read.spec read.path.now
+IsReadOf is_escaped word (Some read) = WordSaysFragment is_escaped word read.spec read.path.now
 
 -- a fragment is what its word says, and has the bytes of the path; or its word says none
-abbrev pub IsFragmentOf : Bool → List ℕ → Option FragmentSpec → List ℕ → Type 0
-IsFragmentOf is_escaped word None bytes = SaysNone is_escaped word
-IsFragmentOf is_escaped word (Some spec) bytes =
-    (path : List ℕ) × SaysFragment is_escaped word spec path × (bytes ≡ bytes_for is_escaped path)
+abbrev pub IsFragmentOfWord : Bool → List ℕ → Option FragmentSpec → List ℕ → Type 0
+IsFragmentOfWord is_escaped word None bytes = SaysNone is_escaped word
+IsFragmentOfWord is_escaped word (Some spec) bytes =
+    (path : List ℕ) × WordSaysFragment is_escaped word spec path × (bytes ≡ bytes_for is_escaped path)
 
 -- the same of a fragment of the command
 abbrev pub IsOfItsWord : Bool → FragmentText → Type 0
-IsOfItsWord is_escaped text = IsFragmentOf is_escaped text.word.now text.spec text.path.items
+IsOfItsWord is_escaped text = IsFragmentOfWord is_escaped text.word.now text.spec text.path.items
 
 -- ---- the command
 

@@ -3,7 +3,7 @@
 ghost use Rattle.std.specs.Prelude.{◌≡◌, IsTrue, IfErr, IfOk, OnOk};
 ghost use Rattle.abt_disk.specs.World.{HasNotFailed, IsReading};
 ghost use Rattle.abt_refusals.specs.Paths.{path_of};
-ghost use Rattle.boot_commands.specs.Commands.{DoesKind, IsKindOf, LeavesNoPart, RefusesKind, SparesKind};
+ghost use Rattle.boot_commands.specs.Commands.{DoesKind, IsKindOf, LeavesNoPartOfBoot, RefusesKind, SparesKind};
 
 use crate::pack_order::command_of;
 use abt_disk::Disk;
@@ -95,7 +95,8 @@ pub fn boot_command<'t, 'a, D: Disk>(
     // whatever the outcome, what it reads holds what it held, and none has changed but what it is to write
     ensures spares { IsTrue D.tells → SparesKind command.now.kind (D.world disk.old) (D.held disk.old)
         (D.world disk.new) (D.held disk.new) }
-    ensures whole { IsTrue D.tells → LeavesNoPart D.is_over command.now.kind (D.world disk.old) (D.world disk.new) }
+    ensures whole { IsTrue D.tells
+        → LeavesNoPartOfBoot D.is_over command.now.kind (D.world disk.old) (D.world disk.new) }
     // it is done only where nothing failed
     ensures clean { IsTrue D.tells → OnOk result (HasNotFailed (D.held disk.old) (D.held disk.new)) }
     // it is refused for what its body is refused for

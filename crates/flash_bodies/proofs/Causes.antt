@@ -2,16 +2,16 @@
 use Rattle.std.proofs.Common.{◌≡◌, ◌<◌, ◌≤◌, ◌+◌, ℕ, List, Bool, true, length, Option, refl, sym, subst, arith}
 use Rattle.std.specs.Prelude.{Result, Ok, Err, IsTrue}
 use Rattle.abt_chunks.specs.Ahead.{somes}
-use Rattle.abt_chunks.specs.Expanding.{UnlessDevice}
-use Rattle.abt_flash.specs.Fault.{HasCause}
+use Rattle.abt_chunks.specs.Expanding.{UnlessExpandingDevice}
+use Rattle.abt_flash.specs.Fault.{FlashCause}
 use Rattle.abt_flash.specs.Flashing.{Flashes, Holds}
 use Rattle.abt_flash.specs.declared.fault.FlashFault.{FlashFault}
 use Rattle.abt_flash.specs.declared.fault.FlashFault.TheVariants as flashes
 use Rattle.abt_sparse.specs.declared.fault.SparseFault.{SparseFault}
 use Rattle.abt_sparse.specs.declared.fault.SparseFault.TheVariants as of_sparse
 use Rattle.abt_sparse.specs.Fails.{Fails}
-use Rattle.abt_verify.specs.Fault.{HasCause as VerifyCause, RawCause}
-use Rattle.abt_verify.specs.Raw.{Sized, VerifiesRaw}
+use Rattle.abt_verify.specs.Fault.{HasVerifyCause as VerifyCause, RawCause}
+use Rattle.abt_verify.specs.Raw.{JudgesBlockSize, VerifiesRaw}
 use Rattle.abt_verify.specs.Verifying.{Verifies}
 use Rattle.abt_verify.specs.declared.fault.VerifyFault.{VerifyFault}
 use Rattle.abt_verify.specs.declared.stage.Verified.{Verified}
@@ -23,7 +23,7 @@ use Rattle.flash_bodies.specs.Listing.{IsUnlisted}
 use Rattle.flash_bodies.specs.Verifying.{IsNotThere, IsNotThereRaw}
 
 pub unflashed : (f : FlashFault) (size taken taken' r r' t t' : ℕ) (x rest p p' : List ℕ) → size ≡ length p
-    → Flashes (Err f) size taken taken' x rest → Holds (Err f) p p' x → HasCause f r r' t t'
+    → Flashes (Err f) size taken taken' x rest → Holds (Err f) p p' x → FlashCause f r r' t t'
     → IsUnflashed (r + t < r' + t') f x p p'
 unflashed (flashes.Sparse f) size taken taken' r r' t t' x rest p p' long found holds cause =
     record { given = found.given; fails = found.fails; holds = holds }
@@ -65,7 +65,7 @@ not_there tells f r r' t t' g g' x rest p is found cause =
     not_there_true f r r' t t' g g' x rest p (subst (λ (b : Bool). Verifies b (Err f) p x rest g g') is found) cause
 
 raw_true : (f : VerifyFault) (b r r' t t' g g' : ℕ) (x p : List ℕ) → VerifiesRaw true (Err f) b p x g g'
-    → Sized (Err f) b → RawCause {X = Verified} (Err f) true r r' t t' → IsNotThereRaw (r + t < r' + t') f b x p
+    → JudgesBlockSize (Err f) b → RawCause {X = Verified} (Err f) true r r' t t' → IsNotThereRaw (r + t < r' + t') f b x p
 raw_true (verifies.Sparse f) b r r' t t' g g' x p found sized cause = absurd cause
 raw_true (verifies.Differs n) b r r' t t' g g' x p found sized cause = found refl
 raw_true (verifies.Read d) b r r' t t' g g' x p found sized cause =
@@ -76,14 +76,14 @@ raw_true verifies.SourceChanged b r r' t t' g g' x p found sized cause = absurd 
 raw_true (verifies.BadBlock n) b r r' t t' g g' x p found sized cause = sized
 
 pub not_there_raw : (source tells : Bool) (f : VerifyFault) (b r r' t t' g g' : ℕ) (x p : List ℕ) → IsTrue source
-    → IsTrue tells → VerifiesRaw tells (Err f) b p x g g' → Sized (Err f) b
+    → IsTrue tells → VerifiesRaw tells (Err f) b p x g g' → JudgesBlockSize (Err f) b
     → RawCause {X = Verified} (Err f) source r r' t t' → IsNotThereRaw (r + t < r' + t') f b x p
 not_there_raw source tells f b r r' t t' g g' x p all is found sized cause =
     raw_true f b r r' t t' g g' x p (subst (λ (z : Bool). VerifiesRaw z (Err f) b p x g g') is found) sized
     (subst (λ (z : Bool). RawCause {X = Verified} (Err f) z r r' t t') all cause)
 
 pub unlisted_for : (f : SparseFault) (r r' w w' : ℕ) (x : List ℕ)
-    → UnlessDevice f ((given : List (Option ℕ)) × Fails x f given) → ReadTold {X = Unit {0}} (Err f) r r' → WriteTold f w w'
+    → UnlessExpandingDevice f ((given : List (Option ℕ)) × Fails x f given) → ReadTold {X = Unit {0}} (Err f) r r' → WriteTold f w w'
     → IsUnlisted (r < r') (w < w') f x
 unlisted_for (of_sparse.Read d) r r' w w' x own read write = read
 unlisted_for (of_sparse.Write d) r r' w w' x own read write = write

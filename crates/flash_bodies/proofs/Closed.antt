@@ -11,7 +11,7 @@ use Rattle.abt_flash.specs.declared.fault.Cause.{Cause}
 use Rattle.abt_flash.specs.declared.fault.FlashFault.{FlashFault}
 use Rattle.abt_flash.specs.declared.fault.FlashFault.TheVariants as flashes
 use Rattle.abt_flash.specs.Delivering.{pieces_in, blocks_in_first}
-use Rattle.flash_bodies.specs.InPieces.{Delivers, IsDelivered, IsStopped, IsUndelivered, StandsUpTo, image_as}
+use Rattle.flash_bodies.specs.InPieces.{DeliversPieces, IsDelivered, IsStopped, IsUndelivered, StandsUpTo, image_as}
 use Rattle.flash_bodies.specs.Through.{last_from, told}
 use Rattle.flash_bodies.proofs.Deliveries.{stands_whole}
 
@@ -30,7 +30,7 @@ undelivered_for F G raw f limit before x p p' go is = is
 
 pub delivers_for : (F G : Type 0) (raw : Option ℕ) (r : Result Delivered FlashFault) (limit before : ℕ) (x p p' : List
     ℕ)
-    → (F → G) → Delivers F raw r limit before x p p' → Delivers G raw r limit before x p p'
+    → (F → G) → DeliversPieces F raw r limit before x p p' → DeliversPieces G raw r limit before x p p'
 delivers_for F G raw (Ok d) limit before x p p' go is = is
 delivers_for F G raw (Err f) limit before x p p' go is = undelivered_for F G raw f limit before x p p' go is
 
@@ -55,7 +55,7 @@ late_last G raw limit from d x p p' some small one failed is =
 late_fault : (F G : Type 0) (raw : Option ℕ) (f : FlashFault) (limit from : ℕ) (c : Cause) (x p p' : List ℕ) → (F
     → G) → G
     → IsUndelivered F raw f limit (from - 1) x p p'
-    → Delivers G raw (told (Err f) from (Some c)) limit (from - 1) x p p'
+    → DeliversPieces G raw (told (Err f) from (Some c)) limit (from - 1) x p p'
 late_fault F G raw (flashes.Stopped j d) limit from c x p p' go failed is =
     stopped_for F G raw limit (from - 1) j x p p' go is
 late_fault F G raw (flashes.Read d) limit from c x p p' go failed is = (go is.0, is.1)
@@ -65,8 +65,8 @@ late_fault F G raw f limit from c x p p' go failed is = is
 pub told_right : (F G : Type 0) (raw : Option ℕ) (r : Result Delivered FlashFault) (limit from : ℕ) (late : Option
     Cause)
     (x p p' : List ℕ) → 1 ≤ from → from < 2 ^ 32 → IfOk r (λ d. 0 < d.pieces) → (F → G)
-    → ((c : Cause) → late ≡ Some c → G) → Delivers F raw r limit (from - 1) x p p'
-    → Delivers G raw (told r from late) limit (from - 1) x p p'
+    → ((c : Cause) → late ≡ Some c → G) → DeliversPieces F raw r limit (from - 1) x p p'
+    → DeliversPieces G raw (told r from late) limit (from - 1) x p p'
 told_right F G raw r limit from None x p p' some small one go failed is =
     delivers_for F G raw r limit (from - 1) x p p' go is
 told_right F G raw (Ok d) limit from (Some c) x p p' some small one go failed is =
@@ -138,14 +138,14 @@ held_same h h' u n s p closed one none =
 pub told_held : (h h' : Held) (none s t u n : ℕ) (raw : Option ℕ) (r r' : Result Delivered FlashFault) (limit from : ℕ)
     (late : Option Cause) (x p p' : List ℕ) → 1 ≤ from → from < 2 ^ 32 → IfOk r (λ d. 0 < d.pieces)
     → h' ≡ closed_spool (u + n) h → ((c : Cause) → late ≡ Some c → u ≡ 1) → r' ≡ told r from late
-    → Delivers (none ≡ 0 → 0 < s + t + n) raw r limit (from - 1) x p p'
-    → Delivers (none ≡ 0 → h.failed < h'.failed + (s + t)) raw r' limit (from - 1) x p p'
+    → DeliversPieces (none ≡ 0 → 0 < s + t + n) raw r limit (from - 1) x p p'
+    → DeliversPieces (none ≡ 0 → h.failed < h'.failed + (s + t)) raw r' limit (from - 1) x p p'
 told_held h h' none s t u n raw r r' limit from late x p p' some small one closed cause same is =
     let go : (none ≡ 0 → 0 < s + t + n) → none ≡ 0 → h.failed < h'.failed + (s + t) =
     λ rose clean. held_rose h h' u n s t closed (rose clean) in
     let failed : (c : Cause) → late ≡ Some c → none ≡ 0 → h.failed < h'.failed + (s + t) =
     λ c is clean. held_late h h' u n s t closed (cause c is) in
     subst (λ (q : Result Delivered FlashFault).
-    Delivers (none ≡ 0 → h.failed < h'.failed + (s + t)) raw q limit (from - 1) x p p') (sym same)
+    DeliversPieces (none ≡ 0 → h.failed < h'.failed + (s + t)) raw q limit (from - 1) x p p') (sym same)
     (told_right (none ≡ 0 → 0 < s + t + n) (none ≡ 0 → h.failed < h'.failed + (s + t)) raw r limit from late x p p' some
     small one go failed is)

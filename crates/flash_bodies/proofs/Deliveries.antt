@@ -19,7 +19,7 @@ use Rattle.abt_flash.specs.Devices.{Counts, PartitionState}
 use Rattle.abt_flash.specs.Raw.{IsAllowed, RawRefused, raw_image}
 use Rattle.abt_flash.specs.Sparse.{Fits, SparseRefused, sparse_image}
 use Rattle.abt_flash.proofs.Mended.{leaves_same}
-use Rattle.flash_bodies.specs.InPieces.{Delivers, IsDelivered, IsEarly, IsRefused, IsStopped, IsUndelivered, IsWhole}
+use Rattle.flash_bodies.specs.InPieces.{DeliversPieces, IsDelivered, IsEarly, IsRefused, IsStopped, IsUndelivered, IsWhole}
 use Rattle.flash_bodies.specs.InPieces.{StandsUpTo, image_as}
 use Rattle.flash_bodies.specs.Through.{last_from, told}
 
@@ -125,7 +125,7 @@ undelivered raw limit before (flashes.NoSuchPiece k) x old new a z none o =
 pub delivers : (raw : Option ℕ) (limit before : ℕ) (r : Result Delivered FlashFault) (x : List ℕ) (old new :
     PartitionState)
     (a z : Counts) → old.past.pending ≡ [] → Answered raw limit before r x old new a z
-    → Delivers (faults_in a ≡ 0 → 0 < faults_in z) raw r limit before x old.content new.content
+    → DeliversPieces (faults_in a ≡ 0 → 0 < faults_in z) raw r limit before x old.content new.content
 delivers raw limit before (Ok d) x old new a z none o = record {
   whole = o.granted;
   counts = o.counted;

@@ -13,8 +13,8 @@ use Rattle.sparse_rules.specs.declared.fault.SparseCommandFault.TheVariants as f
 use Rattle.flash_bodies.specs.Files.{OfFile}
 use Rattle.abt_refusals.specs.declared.refusal.HostFault.{HostFault}
 use Rattle.sparse_rules.specs.declared.lines.Line.TheVariants as lines
-use Rattle.sparse_rules.specs.Lines.{text_of}
-use Rattle.flash_bodies.specs.InPieces.{Across, Delivers, FlashesPieces, FlashesPiecesUntold, IsDelivered, IsUncuttable}
+use Rattle.sparse_rules.specs.Lines.{line_text}
+use Rattle.flash_bodies.specs.InPieces.{Across, DeliversPieces, FlashesPieces, FlashesPiecesUntold, IsDelivered, IsUncuttable}
 use Rattle.flash_bodies.specs.InPieces.{IsUndelivered, RefusesPieces}
 use Rattle.flash_bodies.specs.Through.{count_delivered}
 use Rattle.flash_bodies.proofs.Closed.{undelivered_for}
@@ -40,7 +40,7 @@ pub refuses_pieces : (r : Result Delivered FlashFault) (f : SparseCommandFault) 
     before : ℕ)
     (input path spool x p p' : List ℕ) (a c : World) (h h' : Held) → count_delivered r ≡ Err f → (G → HasFailed h h')
     → ((P : List ℕ → List ℕ → List ℕ → Type 0) → P x p p' → Across input path spool a c P)
-    → Delivers G raw r limit before x p p' → RefusesPieces f raw limit before input path spool a c h h'
+    → DeliversPieces G raw r limit before x p p' → RefusesPieces f raw limit before input path spool a c h h'
 refuses_pieces (Ok d) f G raw limit before input path spool x p p' a c h h' is go across delivers =
     absurd (subst IsCount is tt)
 refuses_pieces (Err fault) f G raw limit before input path spool x p p' a c h h' is go across delivers =
@@ -51,7 +51,7 @@ refuses_pieces (Err fault) f G raw limit before input path spool x p p' a c h h'
 
 pub pieces_done : (r : Result Delivered FlashFault) (n : ℕ) (G : Type 0) (raw : Option ℕ) (limit before : ℕ) (x p p' :
     List ℕ)
-    → count_delivered r ≡ Ok n → Delivers G raw r limit before x p p' → IsDelivered raw limit before n x p p'
+    → count_delivered r ≡ Ok n → DeliversPieces G raw r limit before x p p' → IsDelivered raw limit before n x p p'
 pieces_done (Ok d) n G raw limit before x p p' is delivers =
     subst (λ (k : ℕ). IsDelivered raw limit before k x p p') (ap (count_or d.pieces) is) delivers
 pieces_done (Err fault) n G raw limit before x p p' is delivers = absurd (subst IsFault is tt)
@@ -114,7 +114,7 @@ clean_across r n none s t input path spool x p p' a c h h3 h4 h' past all is cle
 pub refuses_across : (r : Result Delivered FlashFault) (f : SparseCommandFault) (none s t : ℕ) (raw : Option ℕ)
     (limit before before' : ℕ) (input path spool x p p' : List ℕ) (a c : World) (h h3 h4 h' : Held) (past : Past)
     → Crossed input path spool x p p' a c h h3 h4 h' (s + t) past → count_delivered r ≡ Err f → none ≡ 0
-    → before' ≡ before → Delivers (none ≡ 0 → h3.failed < h4.failed + (s + t)) raw r limit before' x p p'
+    → before' ≡ before → DeliversPieces (none ≡ 0 → h3.failed < h4.failed + (s + t)) raw r limit before' x p p'
     → RefusesPieces f raw limit before input path spool a c h h'
 refuses_across r f none s t raw limit before before' input path spool x p p' a c h h3 h4 h' past all is clean same
     delivers =
@@ -122,21 +122,21 @@ refuses_across r f none s t raw limit before before' input path spool x p p' a c
     λ more. has_failed_across h h3 h4 h' (s + t) all.began all.failed (more clean) in
     refuses_pieces r f (none ≡ 0 → h3.failed < h4.failed + (s + t)) raw limit before input path spool x p p' a c h h'
     is go
-    all.across (subst (λ (k : ℕ). Delivers (none ≡ 0 → h3.failed < h4.failed + (s + t)) raw r limit k x p p') same
+    all.across (subst (λ (k : ℕ). DeliversPieces (none ≡ 0 → h3.failed < h4.failed + (s + t)) raw r limit k x p p') same
     delivers)
 
 pub done_across : (r : Result Delivered FlashFault) (n : ℕ) (G : Type 0) (raw : Option ℕ) (limit before before' : ℕ)
     (input path spool x p p' : List ℕ) (a c : World) (h h3 h4 h' : Held) (faults : ℕ) (past past' : Past)
     (shows : List ℕ → Type 0) → Crossed input path spool x p p' a c h h3 h4 h' faults past' → count_delivered r ≡ Ok n
     → past ≡ no_past → IfOk r (λ d. 0 < d.pieces) → IfOk r (λ d. past'.synced ≡ past.synced + d.pieces)
-    → OnOk r (past'.pending ≡ []) → before' ≡ before → Delivers G raw r limit before' x p p'
-    → shows (text_of (lines.Pieces n) ++ (10 ∷ [])) → FlashesPieces raw limit before input path spool a c h h' shows
+    → OnOk r (past'.pending ≡ []) → before' ≡ before → DeliversPieces G raw r limit before' x p p'
+    → shows (line_text (lines.Pieces n) ++ (10 ∷ [])) → FlashesPieces raw limit before input path spool a c h h' shows
 done_across r n G raw limit before before' input path spool x p p' a c h h3 h4 h' faults past past' shows all is fresh
     some synced settled same delivers shown =
     record {
       pieces = n;
       delivered = all.across (IsDelivered raw limit before n) (pieces_done r n G raw limit before x p p' is
-          (subst (λ (k : ℕ). Delivers G raw r limit k x p p') same delivers));
+          (subst (λ (k : ℕ). DeliversPieces G raw r limit k x p p') same delivers));
       synced = all.synced (settled_pieces r n past past' is fresh some synced settled);
       shown = shown;
     }

@@ -11,10 +11,10 @@ use Rattle.abt_sparse.specs.Reading.{Outcome, Image, Fault, outcome}
 use Rattle.abt_sparse.proofs.Exactly.{is_so}
 use Rattle.abt_chunks.specs.declared.progress.ChunkInfo.{ChunkInfo}
 use Rattle.abt_chunks.specs.Listing.{Listing, infos, listing_of}
-use Rattle.abt_chunks.specs.Expanding.{UnlessDevice}
+use Rattle.abt_chunks.specs.Expanding.{UnlessExpandingDevice}
 use Rattle.abt_chunks.proofs.Finishing.{unless_map}
 use Rattle.abt_chunks.proofs.ListingLaws.{listings_right}
-use Rattle.sparse_texts.specs.Listed.{Listed, ReadTold, Refuses, WriteTold, chunk_line, header_line}
+use Rattle.sparse_texts.specs.Listed.{Listed, ReadTold, ListingRefuses, WriteTold, chunk_line, header_line}
 use Rattle.flash_bodies.specs.Listing.{IsListed, IsUnlisted}
 use Rattle.flash_bodies.proofs.Causes.{unlisted_for}
 
@@ -92,11 +92,11 @@ listed_whole (Ok u) x y P bytes l =
 listed_whole (Err f) x y P bytes l = tt
 
 pub unlisted : (r : Result (Unit {0}) SparseFault) (x : List ℕ) (n n' w w' : ℕ) (P : List ℕ → Type 0) → AreBytes x
-    → IfErr r (λ f. UnlessDevice f (Refuses (listing_of x) f P)) → ReadTold r n n' → IfErr r (λ f. WriteTold f w w')
+    → IfErr r (λ f. UnlessExpandingDevice f (ListingRefuses (listing_of x) f P)) → ReadTold r n n' → IfErr r (λ f. WriteTold f w w')
     → IfErr r (λ f. IsUnlisted (n < n') (w < w') f x)
 unlisted (Ok u) x n n' w w' P bytes h read write = tt
 unlisted (Err f) x n n' w w' P bytes h read write =
-    unlisted_for f n n' w w' x (unless_map f (Refuses (listing_of x) f P) ((given : List (Option ℕ)) × Fails x f given)
+    unlisted_for f n n' w w' x (unless_map f (ListingRefuses (listing_of x) f P) ((given : List (Option ℕ)) × Fails x f given)
     (λ r. fault_listed x f bytes r.ending) h) read write
 
 pub read_clean : (r : Result (Unit {0}) SparseFault) (n n' : ℕ) → ReadTold r n n' → OnOk r (n' ≡ n)

@@ -1,5 +1,8 @@
 -- What the command `flash` of a sparse image leaves of files, and what it prints.
 use Rattle.std.specs.Prelude.{◌≡◌, ℕ, ◌+◌, ◌*◌, ◌≤◌, ◌<◌, ◌⊎◌, List, [], ◌∷◌, ◌++◌, length, Option, Result, Ok, Err}
+use Rattle.std.specs.Prelude.{IsTrue, OnOk}
+use Rattle.abt_io.specs.declared.device.Source as sources
+use Rattle.abt_io.specs.declared.device.Partition as partitions
 use Rattle.abt_sparse.specs.declared.fault.SparseFault.{SparseFault}
 use Rattle.abt_sparse.specs.Chunk.{Header, Chunk, classed}
 use Rattle.abt_sparse.specs.Fails.{Fails, Spells, SpellsHeader}
@@ -11,7 +14,7 @@ use Rattle.abt_disk.specs.World.{World, Held, HasFailed}
 use Rattle.sparse_rules.specs.declared.fault.SparseCommandFault.{SparseCommandFault}
 use Rattle.sparse_rules.specs.declared.fault.SparseCommandFault.TheVariants as faults
 use Rattle.sparse_rules.specs.declared.lines.Line.TheVariants as lines
-use Rattle.sparse_rules.specs.Lines.{text_of}
+use Rattle.sparse_rules.specs.Lines.{line_text}
 use Rattle.flash_bodies.specs.Files.{Between}
 
 -- ---- one image, over what held p and holds p' then
@@ -50,6 +53,13 @@ IsUnflashed failed (flashes.Write d) x p p' = failed
 IsUnflashed failed (flashes.Sync d) x p p' = failed
 IsUnflashed failed f x p p' = ⊥
 
+-- the partition is as long as it was; and where all was done it was synced once, behind its last byte
+pub record SyncsOnce {X F : Type 0} (r : Result X F) {C : Type 0} (s : sources.Ghosts C) (p : partitions.Ghosts C)
+    (old new : C) : Type 0 where
+  pub synced : OnOk r ((p.past new).synced ≡ (p.past old).synced + 1)
+  pub settled : IsTrue s.tells → OnOk r ((p.past new).pending ≡ [])
+  pub size : s.size new ≡ s.size old
+
 -- ---- of files
 
 -- The one file held an image that fits. The other holds what flashing leaves of what it held, and was synced behind its
@@ -59,7 +69,7 @@ pub record FlashesFile (input partition : List ℕ) (old new : World) (syncs syn
   pub blocks : ℕ
   pub flashed : Between input partition old new (IsFlashed blocks)
   pub synced : syncs' ≡ syncs + 1
-  pub shown : shows (text_of (lines.Blocks blocks) ++ (10 ∷ []))
+  pub shown : shows (line_text (lines.Blocks blocks) ++ (10 ∷ []))
 
 -- all was done, but its line was not printed
 abbrev pub FlashesUntold : List ℕ → List ℕ → World → World → Held → Held → Type 0

@@ -2,7 +2,7 @@
 use Rattle.std.specs.Prelude.{◌≡◌, ℕ, ◌+◌, ◌*◌, ◌≤◌, ◌<◌, ◌⊎◌, List, [], ◌∷◌, ◌++◌, length, Result, Ok, Err}
 use Rattle.abt_io.specs.Moment.{put_at}
 use Rattle.abt_sparse.specs.Block.{filled_to}
-use Rattle.abt_runs.specs.Raw.{Refused}
+use Rattle.abt_runs.specs.Raw.{RefusedRaw}
 use Rattle.abt_runs.specs.declared.part.RunFault.{RunFault}
 use Rattle.abt_runs.specs.declared.part.RunFault.TheVariants as of_runs
 use Rattle.abt_flash.specs.Raw.{IsFilled}
@@ -12,7 +12,7 @@ use Rattle.abt_disk.specs.World.{World, Held, HasFailed}
 use Rattle.sparse_rules.specs.declared.fault.SparseCommandFault.{SparseCommandFault}
 use Rattle.sparse_rules.specs.declared.fault.SparseCommandFault.TheVariants as faults
 use Rattle.sparse_rules.specs.declared.lines.Line.TheVariants as lines
-use Rattle.sparse_rules.specs.Lines.{text_of}
+use Rattle.sparse_rules.specs.Lines.{line_text}
 use Rattle.flash_bodies.specs.Files.{Between}
 
 -- ---- one image, over what held p and holds p' then
@@ -35,7 +35,7 @@ pub record HasNoRoomRaw (need b : ℕ) (x p p' : List ℕ) : Type 0 where
 -- it has no such blocks, or more than can be, and nothing was written; or a device has failed
 abbrev pub IsUnopened : Type 0 → RunFault → ℕ → List ℕ → List ℕ → List ℕ → Type 0
 IsUnopened failed (of_runs.Read d) b x p p' = failed
-IsUnopened failed f b x p p' = Refused f b (length x) × (p' ≡ p)
+IsUnopened failed f b x p p' = RefusedRaw f b (length x) × (p' ≡ p)
 
 -- there is no room, or a device has failed
 abbrev pub IsUnlaid : Type 0 → FlashFault → ℕ → List ℕ → List ℕ → List ℕ → Type 0
@@ -63,7 +63,7 @@ pub record FlashesRawFile (size : ℕ) (input partition : List ℕ) (old new : W
   pub blocks : ℕ
   pub flashed : Between input partition old new (IsFlashedRaw blocks size)
   pub synced : syncs' ≡ syncs + 1
-  pub shown : shows (text_of (lines.Blocks blocks) ++ (10 ∷ []))
+  pub shown : shows (line_text (lines.Blocks blocks) ++ (10 ∷ []))
 
 -- all was done, but its line was not printed
 abbrev pub FlashesRawUntold : ℕ → List ℕ → List ℕ → World → World → Held → Held → Type 0

@@ -1,6 +1,8 @@
 -- What the command `flash` in pieces leaves of files, and what it prints.
 use Rattle.std.specs.Prelude.{◌≡◌, ◌≢◌, ℕ, ◌+◌, ◌-◌, ◌≤◌, ◌<◌, ◌⊎◌, List, [], ◌∷◌, ◌++◌, length, Option, Some, None}
-use Rattle.std.specs.Prelude.{Bool, true, Result, Ok, Err}
+use Rattle.std.specs.Prelude.{Bool, true, IsTrue, Result, Ok, Err, OnOk, IfOk}
+use Rattle.abt_io.specs.declared.device.Source as sources
+use Rattle.abt_io.specs.declared.device.Partition as partitions
 use Rattle.abt_sparse.specs.Block.{cells, over}
 use Rattle.abt_sparse.specs.Mending.{Mendable}
 use Rattle.abt_flash.specs.declared.answer.Delivered.{Delivered}
@@ -11,11 +13,11 @@ use Rattle.abt_flash.specs.Devices.{Counts}
 use Rattle.abt_flash.specs.Raw.{IsAllowed, RawRefused, raw_image}
 use Rattle.abt_flash.specs.Sparse.{Fits, SparseRefused, sparse_image}
 use Rattle.abt_disk.specs.World.{World, Held, HasFailed}
-use Rattle.sparse_rules.specs.Blocks.{IsUncut}
+use Rattle.sparse_rules.specs.Blocks.{RefusedCut}
 use Rattle.sparse_rules.specs.declared.fault.SparseCommandFault.{SparseCommandFault}
 use Rattle.sparse_rules.specs.declared.fault.SparseCommandFault.TheVariants as faults
 use Rattle.sparse_rules.specs.declared.lines.Line.TheVariants as lines
-use Rattle.sparse_rules.specs.Lines.{text_of}
+use Rattle.sparse_rules.specs.Lines.{line_text}
 use Rattle.flash_bodies.specs.Files.{OfFile}
 
 -- ---- the image that bytes are: a sparse one at their front, or a raw one in blocks of so many bytes
@@ -78,9 +80,17 @@ IsUndelivered failed raw (flashes.Read d) limit before x p p' = failed × (p' �
 IsUndelivered failed raw fault limit before x p p' = IsEarly raw fault limit before x p p'
 
 -- what is answered of x
-abbrev pub Delivers : Type 0 → Option ℕ → Result Delivered FlashFault → ℕ → ℕ → List ℕ → List ℕ → List ℕ → Type 0
-Delivers failed raw (Ok d) limit before x p p' = IsDelivered raw limit before d.pieces x p p'
-Delivers failed raw (Err fault) limit before x p p' = IsUndelivered failed raw fault limit before x p p'
+abbrev pub DeliversPieces : Type 0 → Option ℕ → Result Delivered FlashFault → ℕ → ℕ → List ℕ → List ℕ → List ℕ → Type 0
+DeliversPieces failed raw (Ok d) limit before x p p' = IsDelivered raw limit before d.pieces x p p'
+DeliversPieces failed raw (Err fault) limit before x p p' = IsUndelivered failed raw fault limit before x p p'
+
+-- the partition is as long as it was; and where pieces were delivered, of which there is one, it was synced behind each
+pub record SyncsPieces {F : Type 0} (r : Result Delivered F) {C : Type 0} (s : sources.Ghosts C)
+    (p : partitions.Ghosts C) (old new : C) : Type 0 where
+  pub some : IfOk r (λ d. 0 < d.pieces)
+  pub synced : IfOk r (λ d. (p.past new).synced ≡ (p.past old).synced + d.pieces)
+  pub settled : IsTrue s.tells → OnOk r ((p.past new).pending ≡ [])
+  pub size : s.size new ≡ s.size old
 
 -- ---- of files
 
@@ -113,7 +123,7 @@ pub record FlashesPieces (raw : Option ℕ) (limit before : ℕ) (input partitio
   pub pieces : ℕ
   pub delivered : Across input partition spool old new (IsDelivered raw limit before pieces)
   pub synced : held'.syncs ≡ held.syncs + 1
-  pub shown : shows (text_of (lines.Pieces pieces) ++ (10 ∷ []))
+  pub shown : shows (line_text (lines.Pieces pieces) ++ (10 ∷ []))
 
 -- all was done, but its line was not printed
 abbrev pub FlashesPiecesUntold : Option ℕ → ℕ → ℕ → List ℕ → List ℕ → List ℕ → World → World → Held → Held → Type 0
@@ -122,7 +132,7 @@ FlashesPiecesUntold raw limit before input partition spool old new held held' =
 
 -- of a raw image: no image has such blocks, or the limit has no room for one
 abbrev pub IsUncuttable : Option ℕ → SparseCommandFault → ℕ → List ℕ → Type 0
-IsUncuttable raw fault limit x = (size : ℕ) × (raw ≡ Some size) × IsUncut fault size (length x) limit
+IsUncuttable raw fault limit x = (size : ℕ) × (raw ≡ Some size) × RefusedCut fault size (length x) limit
 
 -- why the command is refused: for what the files hold; or a file or a device has failed, or the report
 abbrev pub RefusesPieces : SparseCommandFault → Option ℕ → ℕ → ℕ → List ℕ → List ℕ → List ℕ → World → World → Held

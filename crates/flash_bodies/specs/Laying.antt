@@ -1,5 +1,7 @@
 -- What laying a source over the front of a partition may be refused for.
-use Rattle.std.specs.Prelude.{◌≡◌, Bool, false}
+use Rattle.std.specs.Prelude.{◌≡◌, ◌<◌, ◌+◌, Bool, false, Result, OnOk, IfErr}
+use Rattle.abt_io.specs.declared.device.Source as sources
+use Rattle.abt_io.specs.declared.device.Partition as partitions
 use Rattle.abt_runs.specs.declared.part.RunFault.TheVariants as of_runs
 use Rattle.abt_flash.specs.declared.fault.FlashFault.TheVariants as flashes
 use Rattle.sparse_rules.specs.declared.fault.SparseCommandFault.{SparseCommandFault}
@@ -18,3 +20,13 @@ abbrev pub unlaid : CopyFault → SparseCommandFault
 unlaid (copies.Read d) = faults.Run (of_runs.Read d)
 unlaid (copies.Write d) = faults.Flash (flashes.Write d)
 unlaid copies.Changed = faults.Run of_runs.SourceChanged
+
+-- Laying a source's bytes over a partition leaves it as long as it was, and syncs nothing. It is refused where one of the
+-- two has failed, and else none has.
+pub record OnlyLays {X : Type 0} (r : Result X CopyFault) {A C : Type 0} (s : sources.Ghosts A) (t : sources.Ghosts C)
+    (p : partitions.Ghosts C) (source source' : A) (onto onto' : C) : Type 0 where
+  pub synced : (p.past onto').synced ≡ (p.past onto).synced
+  pub size : t.size onto' ≡ t.size onto
+  pub refused : IfErr r (IsOfDevices s.tells
+      (s.read_faults source + p.put_faults onto < s.read_faults source' + p.put_faults onto'))
+  pub clean : OnOk r (s.read_faults source' + p.put_faults onto' ≡ s.read_faults source + p.put_faults onto)

@@ -7,14 +7,14 @@ use Rattle.abt_sparse.specs.Fails.{Spells}
 use Rattle.abt_chunks.specs.Ahead.{somes}
 use Rattle.abt_verify.specs.Raw.{IsRawBlock}
 use Rattle.abt_verify.specs.Standing.{FirstDiffers, Stands, held_in}
-use Rattle.abt_verify.specs.Verifying.{Different, Refused}
+use Rattle.abt_verify.specs.Verifying.{Different, RefusedVerify}
 use Rattle.abt_verify.specs.declared.fault.VerifyFault.{VerifyFault}
 use Rattle.abt_verify.specs.declared.fault.VerifyFault.TheVariants as verifies
 use Rattle.abt_disk.specs.World.{World, Held, HasFailed}
 use Rattle.sparse_rules.specs.declared.fault.SparseCommandFault.{SparseCommandFault}
 use Rattle.sparse_rules.specs.declared.fault.SparseCommandFault.TheVariants as faults
 use Rattle.sparse_rules.specs.declared.lines.Line.TheVariants as lines
-use Rattle.sparse_rules.specs.Lines.{text_of}
+use Rattle.sparse_rules.specs.Lines.{line_text}
 use Rattle.flash_bodies.specs.Files.{OfBoth}
 
 -- ---- a sparse image x, and a partition that holds p
@@ -30,7 +30,7 @@ pub record IsThere (n : ℕ) (x p : List ℕ) : Type 0 where
 
 -- the first fault of x, behind what stands; the first byte that differs; or a device has failed
 abbrev pub IsNotThere : Type 0 → VerifyFault → List ℕ → List ℕ → Type 0
-IsNotThere failed (verifies.Sparse f) x p = Refused true f p x
+IsNotThere failed (verifies.Sparse f) x p = RefusedVerify true f p x
 IsNotThere failed (verifies.Differs n) x p = Different true n p x
 IsNotThere failed (verifies.Read d) x p = failed
 IsNotThere failed (verifies.PartitionRead d) x p = failed
@@ -70,12 +70,12 @@ FindsRaw failed (Err f) b x p = ⊥
 pub record VerifiesFile (input partition : List ℕ) (world : World) (shows : List ℕ → Type 0) : Type 0 where
   pub blocks : ℕ
   pub both : OfBoth input partition world (IsThere blocks)
-  pub shown : shows (text_of (lines.Blocks blocks) ++ (10 ∷ []))
+  pub shown : shows (line_text (lines.Blocks blocks) ++ (10 ∷ []))
 
 pub record VerifiesRawFile (size : ℕ) (input partition : List ℕ) (world : World) (shows : List ℕ → Type 0) : Type 0 where
   pub blocks : ℕ
   pub both : OfBoth input partition world (IsThereRaw blocks size)
-  pub shown : shows (text_of (lines.Blocks blocks) ++ (10 ∷ []))
+  pub shown : shows (line_text (lines.Blocks blocks) ++ (10 ∷ []))
 
 -- why the command is refused: for what both files hold; or a file or a device has failed, or all was compared, but its
 -- line was not printed

@@ -1,7 +1,8 @@
 //! Each block of a raw image to a partition.
 
-ghost use Rattle.std.specs.Prelude.{◌≡◌, ◌≤◌, ◌<◌, ◌+◌, ◌*◌, [], IsTrue, OnOk, IfOk};
+ghost use Rattle.std.specs.Prelude.{◌≡◌, ◌≤◌, ◌<◌, ◌+◌, ◌*◌, IsTrue, OnOk, IfOk};
 ghost use Rattle.abt_flash.specs.Raw.{IsFilled};
+ghost use Rattle.flash_bodies.specs.Flashing.{SyncsOnce};
 ghost use Rattle.flash_bodies.specs.FlashingRaw.{LaysRaw};
 ghost use Rattle.flash_bodies.specs.Laying.{unlaid};
 
@@ -29,9 +30,7 @@ pub(crate) fn flash_blocks<S: Source, P: Partition>(
         size (S.content source.old) (P.content onto.old) (P.content onto.new) }
     ensures clean { OnOk result
         (S.read_faults source.new + P.put_faults onto.new ≡ S.read_faults source.old + P.put_faults onto.old) }
-    ensures synced { OnOk result ((P.past onto.new).synced ≡ (P.past onto.old).synced + 1) }
-    ensures settled { IsTrue P.tells → OnOk result ((P.past onto.new).pending ≡ []) }
-    ensures size { P.size onto.new ≡ P.size onto.old }
+    ensures syncs { SyncsOnce result P.Source P.Partition.own onto.old onto.new }
 {
     let runs = match RawRuns::open(source, size) {
         Ok(runs) => runs,

@@ -1,7 +1,7 @@
 //! The pieces of an image to a partition, by the engine.
 
-ghost use Rattle.std.specs.Prelude.{◌≡◌, ◌≤◌, ◌<◌, ◌+◌, ◌-◌, [], IsTrue, OnOk, IfOk};
-ghost use Rattle.flash_bodies.specs.InPieces.{Delivers};
+ghost use Rattle.std.specs.Prelude.{◌≡◌, ◌≤◌, ◌<◌, ◌+◌, ◌-◌, [], IsTrue, OnOk};
+ghost use Rattle.flash_bodies.specs.InPieces.{DeliversPieces, SyncsPieces};
 
 use abt_flash::{Delivered, FlashFault, resume, resume_raw_at};
 use abt_io::{Meter, Overwrite, Partition, Source, Spool, Window};
@@ -21,15 +21,13 @@ pub(crate) fn delivered<S: Source, L: Spool + Overwrite, P: Partition>(
     requires some { 1 ≤ from }
     requires capacity { limit ≤ L.size spool.old }
     // what the partition holds, or why not: a device's fault where one has failed of devices that had not yet
-    ensures delivers { IsTrue S.tells → IsTrue L.tells → IsTrue P.tells → (P.past onto.old).pending ≡ [] → Delivers
+    ensures delivers { IsTrue S.tells → IsTrue L.tells → IsTrue P.tells → (P.past onto.old).pending ≡ []
+        → DeliversPieces
         (S.read_faults source.old.device + P.put_faults onto.old + (L.write_faults spool.old + (L.read_faults spool.old
         + L.clear_faults spool.old)) ≡ 0 → 0 < S.read_faults source.new.device + P.put_faults onto.new
         + (L.write_faults spool.new + (L.read_faults spool.new + L.clear_faults spool.new)))
         raw result limit (from - 1) (S.content source.old.device) (P.content onto.old) (P.content onto.new) }
-    ensures some { IfOk result (λ d. 0 < d.pieces) }
-    ensures synced { IfOk result (λ d. (P.past onto.new).synced ≡ (P.past onto.old).synced + d.pieces) }
-    ensures settled { IsTrue P.tells → OnOk result ((P.past onto.new).pending ≡ []) }
-    ensures size { P.size onto.new ≡ P.size onto.old }
+    ensures syncs { SyncsPieces result P.Source P.Partition.own onto.old onto.new }
     ensures clean { OnOk result (S.read_faults source.new.device + P.put_faults onto.new + (L.write_faults spool.new
         + (L.read_faults spool.new + L.clear_faults spool.new)) ≡ S.read_faults source.old.device
         + P.put_faults onto.old + (L.write_faults spool.old + (L.read_faults spool.old + L.clear_faults spool.old))) }

@@ -5,7 +5,7 @@ ghost use Rattle.abt_refusals.specs.Paths.{path_in, path_of};
 ghost use Rattle.abt_disk.specs.InPlace.{SparesOthers};
 ghost use Rattle.abt_disk.specs.World.{HasNotFailed, KeepsFile};
 ghost use Rattle.abt_output.specs.Shows.{Shows};
-ghost use Rattle.flash_bodies.specs.Flashing.{FlashesFile, Lays, RefusesFlash};
+ghost use Rattle.flash_bodies.specs.Flashing.{FlashesFile, Lays, RefusesFlash, SyncsOnce};
 
 use abt_disk::{Disk, Measured, Reasons, closed};
 use abt_flash::flash;
@@ -71,9 +71,7 @@ fn flashed<I: Input, P: Partition>(
         result (I.remaining from.old.device) (P.content onto.old) (P.content onto.new) }
     ensures clean { OnOk result (I.read_faults from.new.device + P.put_faults onto.new
         ≡ I.read_faults from.old.device + P.put_faults onto.old) }
-    ensures synced { OnOk result ((P.past onto.new).synced ≡ (P.past onto.old).synced + 1) }
-    ensures settled { IsTrue P.tells → OnOk result ((P.past onto.new).pending ≡ []) }
-    ensures size { P.size onto.new ≡ P.size onto.old }
+    ensures syncs { SyncsOnce result P.Source P.Partition.own onto.old onto.new }
 {
     match flash(from, onto, w, m) {
         Ok(flashed) => Ok(flashed.blocks),

@@ -1,10 +1,10 @@
 //! A source that is laid over the front of a partition.
 
-ghost use Rattle.std.specs.Prelude.{◌≡◌, ◌≤◌, ◌<◌, ◌+◌, ◌-◌, ◌^◌, IsTrue, OnOk, IfOk, IfErr, length, take, drop, replicate};
+ghost use Rattle.std.specs.Prelude.{◌≡◌, ◌≤◌, ◌<◌, ◌+◌, ◌-◌, ◌^◌, IsTrue, OnOk, IfOk, length, take, drop, replicate};
 ghost use Rattle.std.specs.Prelude.{slice_range};
 ghost use Rattle.abt_io.specs.Moment.{put_at};
 ghost use Rattle.abt_sparse.specs.Block.{filled_to};
-ghost use Rattle.flash_bodies.specs.Laying.{IsOfDevices};
+ghost use Rattle.flash_bodies.specs.Laying.{OnlyLays};
 
 use abt_io::{CopyFault, Meter, Partition, Source, WINDOW, Window, write_all_at};
 
@@ -22,12 +22,7 @@ pub(crate) fn lay_filled<S: Source, P: Partition>(
     requires room { need ≤ P.size onto.old }
     ensures laid { IsTrue S.tells → IsTrue P.tells → OnOk result (P.content onto.new
         ≡ put_at (P.content onto.old) 0 (filled_to need (S.content source.old))) }
-    ensures synced { (P.past onto.new).synced ≡ (P.past onto.old).synced }
-    ensures size { P.size onto.new ≡ P.size onto.old }
-    ensures refused { IfErr result (λ fault. IsOfDevices S.tells (S.read_faults source.old + P.put_faults onto.old
-        < S.read_faults source.new + P.put_faults onto.new) fault) }
-    ensures clean { OnOk result
-        (S.read_faults source.new + P.put_faults onto.new ≡ S.read_faults source.old + P.put_faults onto.old) }
+    ensures lays { OnlyLays result S.Source P.Source P.Partition.own source.old source.new onto.old onto.new }
 {
     let held = source.length();
     lay_source(source, held, onto, w, m)?;
@@ -51,12 +46,7 @@ fn lay_source<S: Source, P: Partition>(
     requires room { held ≤ P.size onto.old }
     ensures laid { IsTrue S.tells → IsTrue P.tells → OnOk result (P.content onto.new
         ≡ put_at (P.content onto.old) 0 (S.content source.old)) }
-    ensures synced { (P.past onto.new).synced ≡ (P.past onto.old).synced }
-    ensures size { P.size onto.new ≡ P.size onto.old }
-    ensures refused { IfErr result (λ fault. IsOfDevices S.tells (S.read_faults source.old + P.put_faults onto.old
-        < S.read_faults source.new + P.put_faults onto.new) fault) }
-    ensures clean { OnOk result
-        (S.read_faults source.new + P.put_faults onto.new ≡ S.read_faults source.old + P.put_faults onto.old) }
+    ensures lays { OnlyLays result S.Source P.Source P.Partition.own source.old source.new onto.old onto.new }
 {
     let mut at = 0;
     while at < held {
@@ -88,12 +78,7 @@ fn lay_step<S: Source, P: Partition>(
     ensures laid { IsTrue S.tells → IsTrue P.tells → IfOk result (λ got. P.content onto.new
         ≡ put_at (P.content onto.old) at (take got (drop at (S.content source.old)))) }
     ensures content { IsTrue S.tells → S.content source.new ≡ S.content source.old }
-    ensures synced { (P.past onto.new).synced ≡ (P.past onto.old).synced }
-    ensures size { P.size onto.new ≡ P.size onto.old }
-    ensures refused { IfErr result (λ fault. IsOfDevices S.tells (S.read_faults source.old + P.put_faults onto.old
-        < S.read_faults source.new + P.put_faults onto.new) fault) }
-    ensures clean { OnOk result
-        (S.read_faults source.new + P.put_faults onto.new ≡ S.read_faults source.old + P.put_faults onto.old) }
+    ensures lays { OnlyLays result S.Source P.Source P.Partition.own source.old source.new onto.old onto.new }
 {
     match source.read_at(at, w.part_mut(0, ask)) {
         Ok(got) => {

@@ -3,7 +3,7 @@
 ghost use Rattle.std.specs.Prelude.{◌≡◌, ◌≤◌, ◌<◌, ◌+◌, ◌-◌, [], IfErr, IfOk, IsTrue, OnOk, Some, None, false};
 ghost use Rattle.abt_disk.specs.World.{SparesRest};
 ghost use Rattle.abt_flash.specs.declared.fault.Cause.{Cause};
-ghost use Rattle.flash_bodies.specs.InPieces.{Delivers};
+ghost use Rattle.flash_bodies.specs.InPieces.{DeliversPieces, SyncsPieces};
 ghost use Rattle.flash_bodies.specs.Through.{ClosesSpool, told};
 
 use crate::delivering::delivered;
@@ -27,16 +27,13 @@ pub(crate) fn delivered_through<D: Disk>(
     requires some { 1 ≤ from }
     requires capacity { limit ≤ D.Through.Spool.size through }
     // what the partition holds, or why not: a device's fault where one has failed of devices that had not yet
-    ensures delivers { IsTrue D.tells → (D.Part.past onto.old).pending ≡ [] → Delivers
+    ensures delivers { IsTrue D.tells → (D.Part.past onto.old).pending ≡ [] → DeliversPieces
         (D.At.read_faults source.old.device + D.Part.put_faults onto.old + (D.Through.Output.write_faults through
         + (D.Through.Input.read_faults through + D.Through.Spool.clear_faults through)) ≡ 0
         → (D.held disk.old).failed < (D.held disk.new).failed + (D.At.read_faults source.new.device
         + D.Part.put_faults onto.new)) raw result limit (from - 1) (D.At.content source.old.device)
         (D.Part.content onto.old) (D.Part.content onto.new) }
-    ensures some { IfOk result (λ d. 0 < d.pieces) }
-    ensures synced { IfOk result (λ d. (D.Part.past onto.new).synced ≡ (D.Part.past onto.old).synced + d.pieces) }
-    ensures settled { IsTrue D.tells → OnOk result ((D.Part.past onto.new).pending ≡ []) }
-    ensures size { D.Part.size onto.new ≡ D.Part.size onto.old }
+    ensures syncs { SyncsPieces result D.Part.Source D.Part.Partition.own onto.old onto.new }
     ensures clean { IsTrue D.tells → OnOk result (D.At.read_faults source.old.device + D.Part.put_faults onto.old
         + (D.Through.Output.write_faults through + (D.Through.Input.read_faults through
         + D.Through.Spool.clear_faults through)) ≡ 0 → (D.held disk.new).failed + (D.At.read_faults source.new.device

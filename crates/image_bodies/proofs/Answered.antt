@@ -1,7 +1,7 @@
 -- What the engine's answers mean for the file that an image goes to.
 use Rattle.std.proofs.Common.{inl, inr, arith, ◌⊎◌, ◌+◌, ◌-◌, ◌*◌, ◌^◌, ◌≡◌, ℕ, ◌<◌, ◌≤◌, List, [], ◌++◌, length, drop}
-use Rattle.std.proofs.Common.{Option, Some, None, Bool, true, false, refl, sym, ◌∙◌, ap, subst}
-use Rattle.std.specs.Prelude.{IsTrue}
+use Rattle.std.proofs.Common.{Option, Some, None, Bool, sym, ◌∙◌, ap, subst}
+use Rattle.std.specs.Prelude.{IsTrue, IfOk, OnOk, Result, Ok, Err}
 use Rattle.std.proofs.lemmas.Bool.{false≢true}
 use Rattle.abt_sparse.specs.Block.{classify}
 use Rattle.abt_sparse.specs.Chunk.{chunks_of, spelling}
@@ -13,11 +13,11 @@ use Rattle.abt_placed.specs.Unfinished.{IsNoImage}
 use Rattle.abt_placed.proofs.Refusing.{refused, unfinished_by}
 use Rattle.abt_disk.specs.Images.{HasNoFront, Leaves}
 use Rattle.abt_disk.specs.World.{World, Ends}
-use Rattle.sparse_rules.specs.Blocks.{IsBlockSize, most_of}
-use Rattle.image_bodies.specs.Sparsing.{HoldsNone, IsOfPieceDevices, IsWritten, HoldsWritten, LeavesNoPart}
+use Rattle.sparse_rules.specs.Blocks.{IsRawBlockSize, most_of}
+use Rattle.image_bodies.specs.Sparsing.{HoldsNoSparse, IsOfPieceDevices, IsWritten, HoldsWritten, LeavesNoneOrSparse}
 
 -- nothing stood there before
-pub broken : (old new : List ℕ) → old ≡ [] → (new ≡ old) ⊎ IsNoImage (drop (length old) new) → HoldsNone new
+pub broken : (old new : List ℕ) → old ≡ [] → (new ≡ old) ⊎ IsNoImage (drop (length old) new) → HoldsNoSparse new
 broken old new empty (inl same) = inl (subst (λ l. length l < 4) (sym (same ∙ empty)) (omega arith))
 broken old new empty (inr none) = inr (subst (λ l. IsNoImage (drop (length l) new)) empty none)
 
@@ -36,7 +36,7 @@ written size most x old new a empty is counts more whole =
     }
 
 -- the block size is one that the image has
-pub outside : (e : PieceFault) (b long : ℕ) (tells : Bool) (r r' w w' : ℕ) → IsTrue tells → IsBlockSize b
+pub outside : (e : PieceFault) (b long : ℕ) (tells : Bool) (r r' w w' : ℕ) → IsTrue tells → IsRawBlockSize b
     → long ≤ (2 ^ 32 - 1) * b → SparsifyCause e b long tells r r' w w' → IsOfPieceDevices e
 outside (pieces.Read f) b long tells r r' w w' t sized few cause = tt
 outside (pieces.Write f) b long tells r r' w w' t sized few cause = tt
@@ -45,7 +45,7 @@ outside pieces.TooLarge b long tells r r' w w' t sized few cause = absurd (omega
 outside (pieces.BadBlock n) b long tells r r' w w' t sized few cause = absurd (cause.1 sized)
 outside (pieces.LimitTooSmall n) b long tells r r' w w' t sized few cause = absurd cause
 
-pub torn : (x : List ℕ) → HasNoFront x → HoldsNone x
+pub torn : (x : List ℕ) → HasNoFront x → HoldsNoSparse x
 torn x (inl few) = inl few
 torn x (inr zero) = inr (refused x (unfinished_by 1 x (omega arith) zero))
 
@@ -55,15 +55,23 @@ pub holds : (o : Option ℕ) (size : ℕ) (x bytes : List ℕ) (a : Written) (ol
 holds None size x bytes a old new is ends = tt
 holds (Some file) size x bytes a old new is ends = (subst (λ l. IsWritten size x a l) (sym ends.0) is, ends.1)
 
+pub holds_end : {F G : Type 0} (answer : Result Written F) (result : Result (Written × Bool) G) (o : Option ℕ) (size : ℕ)
+    (x bytes : List ℕ) (old new : World) → IfOk answer (λ a. IsWritten size x a bytes)
+    → IfOk result (λ end. answer ≡ Ok end.0) → OnOk result (Ends o bytes old new)
+    → IfOk result (λ end. HoldsWritten size x end.0 o old new)
+holds_end answer (Ok end) o size x bytes old new own is ends =
+    holds o size x bytes end.0 old new (subst (λ r. IfOk r (λ a. IsWritten size x a bytes)) is own) ends
+holds_end answer (Err e) o size x bytes old new own is ends = tt
+
 pub left_whole : (o : Option ℕ) (size : ℕ) (x bytes : List ℕ) (a : Written) (new : World) → IsWritten size x a bytes
-    → Leaves o bytes new → LeavesNoPart size x o new
+    → Leaves o bytes new → LeavesNoneOrSparse size x o new
 left_whole None size x bytes a new is left = tt
 left_whole (Some file) size x bytes a new is (inl same) = inr (same ∙ is.holds)
 left_whole (Some file) size x bytes a new is (inr short) = inl (torn _ short)
 
 -- it was let go
-pub left_broken : (o : Option ℕ) (size : ℕ) (x bytes : List ℕ) (new : World) → HoldsNone bytes → Leaves o bytes new
-    → LeavesNoPart size x o new
+pub left_broken : (o : Option ℕ) (size : ℕ) (x bytes : List ℕ) (new : World) → HoldsNoSparse bytes → Leaves o bytes new
+    → LeavesNoneOrSparse size x o new
 left_broken None size x bytes new is left = tt
-left_broken (Some file) size x bytes new is (inl same) = inl (subst HoldsNone (sym same) is)
+left_broken (Some file) size x bytes new is (inl same) = inl (subst HoldsNoSparse (sym same) is)
 left_broken (Some file) size x bytes new is (inr short) = inl (torn _ short)

@@ -32,9 +32,9 @@ beside_undone r r' w0 w h h' none end clean = record {
   cause = λ f. omega (arith, none, clean);
 }
 
-pub beside_given_up : (r r' w0 w : ℕ) (h h' : Held) → w0 ≡ 0 → GivesUp w h h' → r + w0 < r' + w
+pub beside_given_up : (r r' w0 w : ℕ) (h h' : Held) (a b : World) → w0 ≡ 0 → GivesUp w h h' a b → r + w0 < r' + w
     → ClosesBeside false r r' h h'
-beside_given_up r r' w0 w h h' none given cause = record {
+beside_given_up r r' w0 w h h' a b none given cause = record {
   failures = given.failures;
   closed = given.closed;
   clean = λ t. absurd (false≢true t);

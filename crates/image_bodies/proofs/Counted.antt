@@ -1,23 +1,21 @@
 -- What has failed, counted over the calls of a run.
-use Rattle.std.proofs.Common.{inl, inr, arith, ◌⊎◌, ◌+◌, ◌*◌, ◌-◌, ◌^◌, ◌≡◌, ℕ, ◌<◌, ◌≤◌, List, [], ◌∷◌, Some, None}
-use Rattle.std.proofs.Common.{Bool, true, false, refl, sym, ◌∙◌, ap, subst}
-use Rattle.std.specs.Prelude.{IsTrue, IsOk, IfOk, IfErr, OnOk, OnErr, Result, Ok, Err, is_ok, if◌then◌else◌, ◌&&◌}
+use Rattle.std.proofs.Common.{arith, ◌+◌, ◌*◌, ◌-◌, ◌^◌, ◌≡◌, ℕ, ◌<◌, ◌≤◌, List, None}
+use Rattle.std.proofs.Common.{Bool, true, false, refl, sym, ◌∙◌, ap}
+use Rattle.std.specs.Prelude.{IsTrue, IsOk, IfOk, OnOk, OnErr, Result, Ok, Err, is_ok, if◌then◌else◌, ◌&&◌}
 use Rattle.std.proofs.lemmas.Bool.{false≢true}
 use Rattle.abt_pieces.specs.declared.fault.PieceFault.{PieceFault}
 use Rattle.abt_pieces.specs.declared.fault.PieceFault.TheVariants as pieces
-use Rattle.abt_pieces.specs.Fault.{HasCause}
+use Rattle.abt_pieces.specs.Fault.{CutCause}
 use Rattle.abt_sparsify.specs.Sparsify.{SparsifyCause}
 use Rattle.abt_disk.specs.World.{World, Held, OpensFile, Creates, HasFailed, HasNotFailed, failing, ended, unended}
-use Rattle.abt_disk.specs.World.{unless, reading, creating}
-use Rattle.sparse_rules.specs.Blocks.{IsBlockSize}
-use Rattle.sparse_rules.specs.declared.fault.SparseCommandFault.{SparseCommandFault}
-use Rattle.sparse_rules.specs.declared.fault.SparseCommandFault.TheVariants as faults
-use Rattle.image_bodies.specs.Sparsing.{ClosesOutput, GivesUp, IsOfPieceDevices, IsOutside}
+use Rattle.abt_disk.specs.World.{ClosesOutput, SparesRest}
+use Rattle.sparse_rules.specs.Blocks.{IsRawBlockSize}
+use Rattle.image_bodies.specs.Sparsing.{GivesUp, IsOfPieceDevices}
 
 -- ---- of the engine's calls
 
 -- where a raw image was not written, a device has failed
-pub fails_raw : (e : PieceFault) (b long : ℕ) (tells : Bool) (r r' w w' : ℕ) → IsTrue tells → IsBlockSize b
+pub fails_raw : (e : PieceFault) (b long : ℕ) (tells : Bool) (r r' w w' : ℕ) → IsTrue tells → IsRawBlockSize b
     → long ≤ (2 ^ 32 - 1) * b → r ≤ r' → w ≤ w' → SparsifyCause e b long tells r r' w w' → r + w < r' + w'
 fails_raw (pieces.Read f) b long tells r r' w w' t sized few reads writes cause = omega (arith, cause.0, writes)
 fails_raw (pieces.Write f) b long tells r r' w w' t sized few reads writes cause = omega (arith, cause, reads)
@@ -29,7 +27,7 @@ fails_raw (pieces.LimitTooSmall n) b long tells r r' w w' t sized few reads writ
 
 -- where a piece was not, too
 pub fails_piece : (e : PieceFault) (tells : Bool) (r r' w w' : ℕ) → IsTrue tells → r ≤ r' → w ≤ w'
-    → HasCause e tells r r' w w' → r + w < r' + w'
+    → CutCause e tells r r' w w' → r + w < r' + w'
 fails_piece (pieces.Read f) tells r r' w w' t reads writes cause = omega (arith, cause.0, writes)
 fails_piece (pieces.Write f) tells r r' w w' t reads writes cause = omega (arith, cause, reads)
 fails_piece pieces.SourceChanged tells r r' w w' t reads writes cause = absurd (false≢true (sym cause ∙ t))
@@ -37,7 +35,7 @@ fails_piece pieces.TooLarge tells r r' w w' t reads writes cause = absurd cause
 fails_piece (pieces.BadBlock n) tells r r' w w' t reads writes cause = absurd cause
 fails_piece (pieces.LimitTooSmall n) tells r r' w w' t reads writes cause = absurd cause
 
-pub outside_piece : (e : PieceFault) (tells : Bool) (r r' w w' : ℕ) → IsTrue tells → HasCause e tells r r' w w'
+pub outside_piece : (e : PieceFault) (tells : Bool) (r r' w w' : ℕ) → IsTrue tells → CutCause e tells r r' w w'
     → IsOfPieceDevices e
 outside_piece (pieces.Read f) tells r r' w w' t cause = tt
 outside_piece (pieces.Write f) tells r r' w w' t cause = tt
@@ -80,13 +78,14 @@ closes_undone r n h h' h'' before end some = record {
   cause = λ f. some;
 }
 
-pub closes_given_up : (r n : ℕ) (h h' h'' : Held) → h' ≡ failing r h → GivesUp n h' h'' → 0 < r + n
+pub closes_given_up : (r n : ℕ) (h h' h'' : Held) (a b : World) → h' ≡ failing r h → GivesUp n h' h'' a b → 0 < r + n
     → ClosesOutput false h h''
-closes_given_up r n h h' h'' before given some =
+closes_given_up r n h h' h'' a b before given some =
     closes_undone r given.failures h h' h'' before given.closed (omega (arith, given.least, some))
 
-pub gives_up : (f n : ℕ) (h h' : Held) → h' ≡ ended false n h → f ≤ n → GivesUp f h h'
-gives_up f n h h' end more = record { failures = n; closed = end; least = more }
+pub gives_up : (f n : ℕ) (h h' : Held) (a b : World) → h' ≡ ended false n h → f ≤ n → SparesRest h.output a b
+    → GivesUp f h h' a b
+gives_up f n h h' a b end more rest = record { failures = n; closed = end; least = more; rest = rest }
 
 -- the answer is that of the call
 pub answered : {X F G : Type 0} (answer : Result X F) (result : Result (X × Bool) G)

@@ -17,9 +17,8 @@ use Rattle.abt_pieces.specs.declared.stage.Stage.TheVariants.{Between, Done}
 use Rattle.abt_refusals.specs.Paths.{path_out, path_of, is_standard, numbered, in_folder}
 use Rattle.abt_refusals.specs.declared.place.Place.{Place}
 use Rattle.abt_disk.specs.World.{World, Held}
-use Rattle.image_bodies.specs.Cutting.{AddsNone, AddsPiece, AreApart, CutsSoFar, IsFirstPath, IsPiecePath, PieceStands}
-use Rattle.image_bodies.specs.Cutting.{PiecesStand}
-use Rattle.image_bodies.specs.Cutting.{piece_path}
+use Rattle.image_bodies.specs.Cutting.{AddsNone, AddsPiece, AreApart, CutsSoFar, IsFirstPiecePath, IsPiecePath, PieceStands}
+use Rattle.image_bodies.specs.Cutting.{OnlyLeaves, PiecesStand, piece_path}
 use Rattle.abt_disk.specs.Among.{GoesAmong, IsMade, KeepsMade}
 use Rattle.abt_disk.proofs.Amongs.{made_later, goes_more, goes_still, goes_then}
 
@@ -28,7 +27,7 @@ use Rattle.abt_disk.proofs.Amongs.{made_later, goes_more, goes_still, goes_then}
 pub cuts_none : (prefix : List ℕ) (ps : List (List ℕ)) (m : ℕ) (h : Held) (a : World) → h.output ≡ None
     → CutsSoFar prefix ps 0 m h h a a
 cuts_none prefix ps m h a closed = record {
-  goes = goes_still (IsFirstPath prefix m) h a;
+  goes = goes_still (IsFirstPiecePath prefix m) h a;
   stand = λ j below. absurd (omega (arith, below));
   apart = λ i j f first next at. absurd (omega (arith, next));
   closed = closed;
@@ -88,19 +87,21 @@ apart_later prefix ps n h h' a b keeps stand apart = λ i j f first next at at'.
 
 -- of which the files are
 one_more : (prefix : List ℕ) (n : ℕ) (path : List ℕ) (h h' h'' : Held) (a b c : World)
-    → path ≡ piece_path prefix (n + 1) → GoesAmong (IsFirstPath prefix n) h h' a b
-    → GoesAmong (λ p. p ≡ path) h' h'' b c → GoesAmong (IsFirstPath prefix (n + 1)) h h'' a c
+    → path ≡ piece_path prefix (n + 1) → GoesAmong (IsFirstPiecePath prefix n) h h' a b
+    → GoesAmong (λ p. p ≡ path) h' h'' b c → GoesAmong (IsFirstPiecePath prefix (n + 1)) h h'' a c
 one_more prefix n path h h' h'' a b c is_path first next =
-    goes_then (IsFirstPath prefix (n + 1)) h h' h'' a b c
-    (goes_more (IsFirstPath prefix n) (IsFirstPath prefix (n + 1)) h h' a b
+    goes_then (IsFirstPiecePath prefix (n + 1)) h h' h'' a b c
+    (goes_more (IsFirstPiecePath prefix n) (IsFirstPiecePath prefix (n + 1)) h h' a b
     (λ p is. record { index = is.index; below = omega (arith, is.below); is_path = is.is_path }) first)
-    (goes_more (λ p. p ≡ path) (IsFirstPath prefix (n + 1)) h' h'' b c
+    (goes_more (λ p. p ≡ path) (IsFirstPiecePath prefix (n + 1)) h' h'' b c
     (λ p same. record { index = n; below = omega arith; is_path = same ∙ is_path }) next)
 
-pub cuts_only : (prefix : List ℕ) (ps : List (List ℕ)) (n m : ℕ) (h h' : Held) (a b : World)
-    → CutsSoFar prefix ps n m h h' a b → GoesAmong (IsPiecePath prefix) h h' a b
-cuts_only prefix ps n m h h' a b cuts =
-    goes_more (IsFirstPath prefix m) (IsPiecePath prefix) h h' a b (λ p is. (is.index + 1, is.is_path)) cuts.goes
+pub cuts_left : (prefix : List ℕ) (ps : List (List ℕ)) (n m : ℕ) (h h' : Held) (a b : World)
+    → CutsSoFar prefix ps n m h h' a b → OnlyLeaves (IsPiecePath prefix) h h' a b
+cuts_left prefix ps n m h h' a b cuts = record {
+  only = goes_more (IsFirstPiecePath prefix m) (IsPiecePath prefix) h h' a b (λ p is. (is.index + 1, is.is_path)) cuts.goes;
+  closed = cuts.closed;
+}
 
 synced_more : (b : Bool) (s s' s'' n : ℕ) → s' ≡ s + n * (if b then 1 else 0) → s'' ≡ s' + (if b then 1 else 0)
     → s'' ≡ s + (n + 1) * (if b then 1 else 0)

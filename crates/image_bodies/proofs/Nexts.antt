@@ -10,7 +10,7 @@ use Rattle.abt_pieces.specs.Cutter.{Made, segments_left, has_more, has_failed}
 use Rattle.abt_pieces.specs.Gather.{frame}
 use Rattle.abt_pieces.specs.NextPiece.{LaidNext}
 use Rattle.abt_pieces.specs.Turn.{HasAt}
-use Rattle.abt_pieces.specs.Fault.{HasCause}
+use Rattle.abt_pieces.specs.Fault.{CutCause}
 use Rattle.abt_pieces.specs.declared.outline.Piece.{Piece}
 use Rattle.abt_pieces.specs.declared.stage.Stage.{Stage}
 use Rattle.abt_pieces.specs.declared.stage.Stage.TheVariants.{Between, Done, Failed}
@@ -32,14 +32,14 @@ cause_of C st e between (inl failed) = absurd (not_failed st e between failed)
 cause_of C st e between (inr cause) = cause
 
 pub next_fails : (st : Stage) (e : PieceFault) (tells : Bool) (r r' w w' : ℕ) → IsTrue tells → st ≡ Between → r ≤ r'
-    → w ≤ w' → (st ≡ Failed e) ⊎ HasCause e tells r r' w w' → r + w < r' + w'
+    → w ≤ w' → (st ≡ Failed e) ⊎ CutCause e tells r r' w w' → r + w < r' + w'
 next_fails st e tells r r' w w' t between reads writes cause =
-    fails_piece e tells r r' w w' t reads writes (cause_of (HasCause e tells r r' w w') st e between cause)
+    fails_piece e tells r r' w w' t reads writes (cause_of (CutCause e tells r r' w w') st e between cause)
 
 pub next_outside : (st : Stage) (e : PieceFault) (tells : Bool) (r r' w w' : ℕ) → IsTrue tells → st ≡ Between
-    → (st ≡ Failed e) ⊎ HasCause e tells r r' w w' → IsOfPieceDevices e
+    → (st ≡ Failed e) ⊎ CutCause e tells r r' w w' → IsOfPieceDevices e
 next_outside st e tells r r' w w' t between cause =
-    outside_piece e tells r r' w w' t (cause_of (HasCause e tells r r' w w') st e between cause)
+    outside_piece e tells r r' w w' t (cause_of (CutCause e tells r r' w w') st e between cause)
 
 -- what was written behind nothing is the piece behind those that are made
 pub next_laid : (b limit made first : ℕ) (l : List Block) (p : Piece) (old new : List ℕ) (st : Stage) → st ≡ Between

@@ -9,17 +9,17 @@ use Rattle.abt_sparse.specs.Fails.{Fails, IsOutcome, Spells}
 use Rattle.abt_sparse.specs.Pieces.{pieces}
 use Rattle.abt_sparse.specs.Reading.{Outcome, Image, Fault, outcome}
 use Rattle.abt_sparse.proofs.Exactly.{is_so}
-use Rattle.abt_runs.specs.Raw.{Refused}
+use Rattle.abt_runs.specs.Raw.{RefusedRaw}
 use Rattle.abt_runs.specs.Sparse.{SparseOpened, blocks_in, sparse_list}
 use Rattle.abt_runs.specs.Verdict.{Refuses}
 use Rattle.abt_runs.specs.declared.part.RunFault.{RunFault}
 use Rattle.abt_runs.specs.declared.part.RunFault.TheVariants as of_runs
 use Rattle.abt_pieces.specs.declared.fault.PieceFault.{PieceFault}
 use Rattle.abt_disk.specs.World.{World, Held, HasFailed}
-use Rattle.sparse_rules.specs.Blocks.{IsBlockSize, IsUncut}
+use Rattle.sparse_rules.specs.Blocks.{IsRawBlockSize, RefusedCut}
 use Rattle.sparse_rules.specs.declared.fault.SparseCommandFault.{SparseCommandFault}
 use Rattle.sparse_rules.specs.declared.fault.SparseCommandFault.TheVariants as faults
-use Rattle.image_bodies.specs.Cutting.{CutsAll, CutsImage, CutsSoFar, IsImageOf, IsSparseOf, IsTooSmall, IsUncutSparse}
+use Rattle.image_bodies.specs.Cutting.{CutsAll, CutsImage, CutsSoFar, IsImageOfBlocks, IsSparseOf, IsTooSmall, IsUncutSparse}
 use Rattle.image_bodies.specs.Cutting.{StopsCut, StopsImage, no_cut, no_room, stopped, unread}
 
 pub if_err : {X E : Type 0} (r : Result X E) (P Q : E → Type 0) → ((e : E) → P e → Q e) → IfErr r P → IfErr r Q
@@ -28,7 +28,7 @@ if_err (Err e) P Q go is = go e is
 
 -- an image of these blocks was cut, or not
 pub cut_of : {X E : Type 0} (r : Result X E) (raw : Option ℕ) (size size' limit limit' : ℕ) (l l' : List Block)
-    (prefix x : List ℕ) (h h' : Held) (a b : World) (shows : List ℕ → Type 0) → IsImageOf raw size l x
+    (prefix x : List ℕ) (h h' : Held) (a b : World) (shows : List ℕ → Type 0) → IsImageOfBlocks raw size l x
     → 64 + size ≤ limit
     → size' ≡ size → limit' ≡ limit → l' ≡ l → OnOk r (CutsAll prefix (pieces limit' size' l') h h' a b shows)
     → OnOk r (CutsImage raw limit prefix x h h' a b shows)
@@ -44,7 +44,7 @@ cut_of (Ok y) raw size size' limit limit' l l' prefix x h h' a b shows image gra
 }
 
 pub stop_of : (fault : SparseCommandFault) (raw : Option ℕ) (size size' limit limit' : ℕ) (l l' : List Block)
-    (prefix x : List ℕ) (h h' : Held) (a b : World) (Failed Same : Type 0) → IsImageOf raw size l x
+    (prefix x : List ℕ) (h h' : Held) (a b : World) (Failed Same : Type 0) → IsImageOfBlocks raw size l x
     → size' ≡ size → limit' ≡ limit → l' ≡ l
     → StopsCut fault Failed (λ n m. CutsSoFar prefix (pieces limit' size' l') n m h h' a b)
     → StopsImage raw limit x fault Failed Same (λ ps n m. CutsSoFar prefix ps n m h h' a b)
@@ -57,14 +57,14 @@ stop_of fault raw size size' limit limit' l l' prefix x h h' a b Failed Same ima
 
 -- ---- a raw one
 
-pub raw_image : (size : ℕ) (x : List ℕ) → IsBlockSize size → IsImageOf (Some size) size (classify size x) x
+pub raw_image : (size : ℕ) (x : List ℕ) → IsRawBlockSize size → IsImageOfBlocks (Some size) size (classify size x) x
 raw_image size x sized = (refl, sized, refl)
 
 pub raw_uncut : (fault told : SparseCommandFault) (size long limit : ℕ) (x : List ℕ) (Failed Same : Type 0)
-    (Cut : List (List ℕ) → ℕ → ℕ → Type 0) → told ≡ fault → long ≡ length x → IsUncut fault size long limit → Same
+    (Cut : List (List ℕ) → ℕ → ℕ → Type 0) → told ≡ fault → long ≡ length x → RefusedCut fault size long limit → Same
     → StopsImage (Some size) limit x told Failed Same Cut
 raw_uncut (faults.Run f) told size long limit x Failed Same Cut is sized why same =
-    no_cut f is (subst (λ (n : ℕ). Refused f size n) sized why) same
+    no_cut f is (subst (λ (n : ℕ). RefusedRaw f size n) sized why) same
 raw_uncut (faults.Piece f) told size long limit x Failed Same Cut is sized why same =
     no_room size refl (is ∙ ap faults.Piece why.0) why.1 same
 raw_uncut (faults.Sparse f) told size long limit x Failed Same Cut is sized why same = absurd why
@@ -80,7 +80,7 @@ spelled_by : (x : List ℕ) (header : Header) (chunks : List Chunk) (rest : List
 spelled_by x header chunks rest is same = subst (λ o. IsOutcome x o) same is
 
 pub sparse_image : (header : Header) (long image : ℕ) (x : List ℕ) → IsOutcome x (outcome x)
-    → SparseOpened header long image x → IsImageOf None header.blk_sz (sparse_list x) x
+    → SparseOpened header long image x → IsImageOfBlocks None header.blk_sz (sparse_list x) x
 sparse_image header long image x is o = record {
   header = header;
   chunks = o.chunks;

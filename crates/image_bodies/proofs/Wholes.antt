@@ -11,14 +11,14 @@ use Rattle.abt_pieces.specs.Turn.{HasAt}
 use Rattle.abt_refusals.specs.declared.refusal.HostFault.{HostFault}
 use Rattle.abt_refusals.specs.declared.refusal.HostFault.TheVariants as hosts
 use Rattle.abt_disk.specs.World.{World, Held, OpensFile, KeepsFile, HasFailed, HasNotFailed, failing, reading}
-use Rattle.sparse_rules.specs.Lines.{text_of}
+use Rattle.sparse_rules.specs.Lines.{line_text}
 use Rattle.sparse_rules.specs.declared.lines.Line.TheVariants as lines
 use Rattle.sparse_rules.specs.declared.fault.SparseCommandFault.{SparseCommandFault}
 use Rattle.sparse_rules.specs.declared.fault.SparseCommandFault.TheVariants as faults
-use Rattle.image_bodies.specs.Sparsing.{IsOutside}
-use Rattle.image_bodies.specs.Cutting.{AreApart, CutsAll, CutsFile, CutsImage, CutsSoFar, FirstStand, IsImageOf}
-use Rattle.image_bodies.specs.Cutting.{IsFirstPath, IsPiecePath, OnlyFails, PieceStands, PiecesStand, RefusesCut}
-use Rattle.image_bodies.specs.Cutting.{StopsCut}
+use Rattle.image_bodies.specs.Sparsing.{IsOutsideSparse}
+use Rattle.image_bodies.specs.Cutting.{AreApart, CutsAll, CutsFile, CutsImage, CutsSoFar, FirstStand, IsImageOfBlocks}
+use Rattle.image_bodies.specs.Cutting.{IsFirstPiecePath, IsPiecePath, OnlyFails, OnlyLeaves, PieceStands, PiecesStand}
+use Rattle.image_bodies.specs.Cutting.{RefusesCut, StopsCut}
 use Rattle.image_bodies.specs.Cutting.{StopsImage, failed, no_cut, no_memory, no_room, opened, piece_path, stopped}
 use Rattle.image_bodies.specs.Cutting.{unopened, unread, untold}
 use Rattle.abt_disk.specs.Among.{GoesAmong, IsMade, OnlyAmong}
@@ -39,8 +39,8 @@ made_past h h' a b path bytes n later same made = record {
 pub cuts_past : (prefix : List ℕ) (ps : List (List ℕ)) (n m r : ℕ) (h h' h'' : Held) (a b c : World)
     → h'' ≡ failing r h' → c ≡ b → CutsSoFar prefix ps n m h h' a b → CutsSoFar prefix ps n m h h'' a c
 cuts_past prefix ps n m r h h' h'' a b c later same cuts = record {
-  goes = goes_then (IsFirstPath prefix m) h h' h'' a b c cuts.goes
-      (goes_none (IsFirstPath prefix m) h' h'' b c r later same);
+  goes = goes_then (IsFirstPiecePath prefix m) h h' h'' a b c cuts.goes
+      (goes_none (IsFirstPiecePath prefix m) h' h'' b c r later same);
   stand = λ j below.
       let s = cuts.stand j below in
       record {
@@ -75,7 +75,7 @@ stops_host fault k prefix ps h h' a b closed fails same told (inl memory) =
     no_memory (told ∙ ap faults.Host memory)
     (cuts_past prefix ps 0 0 fails.failures h h h' a a b fails.same same (cuts_none prefix ps 0 h a closed))
 stops_host fault k prefix ps h h' a b closed fails same told (inr why) =
-    failed (subst IsOutside (sym told) tt) why 0
+    failed (subst IsOutsideSparse (sym told) tt) why 0
     (cuts_past prefix ps 0 1 fails.failures h h h' a a b fails.same same (cuts_none prefix ps 1 h a closed))
 
 -- ---- the files of a run
@@ -105,7 +105,7 @@ first_stand prefix path bytes ps n m h h' h'' a b c none o same cuts = record {
   beside = beside_read prefix ps n m o.file h' h'' b c (ap (λ k. k.begun) o.taken ∙ none)
       (subst (λ k. Contains k.read o.file) (sym o.taken) (Contains-push h.read o.file)) cuts;
   synced = cuts.synced ∙ ap (λ k. k.syncs + n * (if k.is_synced then 1 else 0)) o.taken;
-  only = among_behind (IsFirstPath prefix m) path bytes h h' h'' a b c none o same cuts.goes;
+  only = among_behind (IsFirstPiecePath prefix m) path bytes h h' h'' a b c none o same cuts.goes;
 }
 
 pub cuts_file : (raw : Option ℕ) (limit : ℕ) (input prefix bytes : List ℕ) (h h' h'' : Held) (a b c : World)
@@ -116,7 +116,7 @@ cuts_file raw limit input prefix bytes h h' h'' a b c shows none o same i = reco
   there = o.there;
   size = i.size;
   blocks = i.blocks;
-  image = subst (λ x. IsImageOf raw i.size i.blocks x) o.held i.image;
+  image = subst (λ x. IsImageOfBlocks raw i.size i.blocks x) o.held i.image;
   granted = i.granted;
   count = i.all.count;
   all = i.all.all;
@@ -188,15 +188,20 @@ not_there o is none = false≢true (sym (is ∙ ap is_some none))
 
 -- ---- between the opening of the image and its end
 
-pub goes_fails : (P : List ℕ → Type 0) (h h' : Held) (a b : World) → OnlyFails h h' → b ≡ a → GoesAmong P h h' a b
-goes_fails P h h' a b fails same = goes_none P h h' a b fails.failures fails.same same
+pub left_failed : (P : List ℕ → Type 0) (h h' : Held) (a b : World) → h.output ≡ None → OnlyFails h h' → b ≡ a
+    → OnlyLeaves P h h' a b
+left_failed P h h' a b none fails same = record {
+  only = goes_none P h h' a b fails.failures fails.same same;
+  closed = ap (λ k. k.output) fails.same ∙ none;
+}
 
-pub goes_between : (P : List ℕ → Type 0) (r : ℕ) (h h1 h2 h3 : Held) (a a1 b c : World) → h1 ≡ h → a1 ≡ a
-    → GoesAmong P h1 h2 a1 b → h3 ≡ failing r h2 → c ≡ b → GoesAmong P h h3 a c
-goes_between P r h h1 h2 h3 a a1 b c held world goes later same =
-    goes_then P h h2 h3 a b c
-    (subst (λ (k : Held). GoesAmong P k h2 a b) held (subst (λ (w : World). GoesAmong P h1 h2 w b) world goes))
-    (goes_none P h2 h3 b c r later same)
+pub left_between : (P : List ℕ → Type 0) (r : ℕ) (h h1 h2 h3 : Held) (a a1 b c : World) → h1 ≡ h → a1 ≡ a
+    → OnlyLeaves P h1 h2 a1 b → h3 ≡ failing r h2 → c ≡ b → OnlyLeaves P h h3 a c
+left_between P r h h1 h2 h3 a a1 b c held world left later same = record {
+  only = goes_then P h h2 h3 a b c (subst (λ (k : Held). GoesAmong P k h2 a b) held
+      (subst (λ (w : World). GoesAmong P h1 h2 w b) world left.only)) (goes_none P h2 h3 b c r later same);
+  closed = ap (λ k. k.output) later ∙ left.closed;
+}
 
 pub cuts_between : (prefix : List ℕ) (ps : List (List ℕ)) (n m r : ℕ) (h h1 h2 h3 : Held) (a a1 b c : World) → h1 ≡ h
     → a1 ≡ a → CutsSoFar prefix ps n m h1 h2 a1 b → h3 ≡ failing r h2 → c ≡ b → CutsSoFar prefix ps n m h h3 a c

@@ -1,32 +1,40 @@
 -- What the command `cut` leaves of files, and what it prints.
 use Rattle.std.specs.Prelude.{◌≡◌, ◌≢◌, ◌<◌, ◌≤◌, ◌⊎◌, ◌+◌, ◌*◌, ℕ, List, [], ◌∷◌, ◌++◌, length, Option, Some, None}
-use Rattle.std.specs.Prelude.{Bool, true, false}
-use Rattle.std.specs.Prelude.{Contains, if◌then◌else◌}
+use Rattle.std.specs.Prelude.{Bool, true, false, IsTrue, Contains, if◌then◌else◌, Result, OnOk, IfOk, IfErr, is_ok}
+use Rattle.abt_io.specs.declared.device.Source as sources
 use Rattle.abt_sparse.specs.declared.fault.SparseFault.{SparseFault}
 use Rattle.abt_sparse.specs.Block.{Block, classify}
 use Rattle.abt_sparse.specs.Chunk.{Header, Chunk, classed}
 use Rattle.abt_sparse.specs.Fails.{Fails, Spells}
 use Rattle.abt_sparse.specs.Pieces.{pieces}
 use Rattle.abt_sparse.specs.Reading.{Image, outcome}
-use Rattle.abt_runs.specs.Raw.{Refused}
+use Rattle.abt_runs.specs.Raw.{RefusedRaw}
 use Rattle.abt_runs.specs.Verdict.{Refuses}
 use Rattle.abt_runs.specs.declared.part.RunFault.{RunFault}
 use Rattle.abt_runs.specs.declared.part.RunFault.TheVariants as of_runs
+use Rattle.abt_runs.specs.declared.part.Cursor.{Cursor}
+use Rattle.abt_runs.specs.declared.runs.BlockRuns as images
+use Rattle.abt_pieces.specs.Cutter.{ToldCutter}
+use Rattle.abt_pieces.specs.NextPiece.{IsNext, SameCutter}
+use Rattle.abt_pieces.specs.Ready.{ReadyCutter}
 use Rattle.abt_pieces.specs.Turn.{HasAt}
+use Rattle.abt_pieces.specs.declared.outline.Piece.{Piece}
+use Rattle.abt_pieces.specs.declared.stage.Stage.{Stage}
+use Rattle.abt_pieces.specs.declared.stage.Stage.TheVariants.{Between}
 use Rattle.abt_pieces.specs.declared.fault.PieceFault.{PieceFault}
 use Rattle.abt_pieces.specs.declared.fault.PieceFault.TheVariants as of_pieces
 use Rattle.abt_refusals.specs.Paths.{numbered}
 use Rattle.abt_refusals.specs.declared.refusal.HostFault.{HostFault}
 use Rattle.abt_refusals.specs.declared.refusal.HostFault.TheVariants as hosts
-use Rattle.abt_disk.specs.World.{World, Held, Ends, Spares, HasFailed, ended, failing}
-use Rattle.sparse_rules.specs.Blocks.{IsBlockSize}
-use Rattle.sparse_rules.specs.Lines.{text_of}
+use Rattle.abt_disk.specs.World.{World, Held, Ends, Spares, SparesRest, HasFailed, ended, failing}
+use Rattle.sparse_rules.specs.Blocks.{IsRawBlockSize}
+use Rattle.sparse_rules.specs.Lines.{line_text}
 use Rattle.sparse_rules.specs.declared.fault.SparseCommandFault.{SparseCommandFault}
 use Rattle.sparse_rules.specs.declared.fault.SparseCommandFault.TheVariants as faults
 use Rattle.sparse_rules.specs.declared.lines.Line.TheVariants as lines
 use Rattle.abt_output.specs.Shows.{Shows}
 use Rattle.abt_output.specs.declared.report.Report.{Report}
-use Rattle.image_bodies.specs.Sparsing.{IsOutside}
+use Rattle.image_bodies.specs.Sparsing.{IsOutsideSparse}
 use Rattle.abt_disk.specs.Among.{GoesAmong, IsMade, KeepsMade, OnlyAmong}
 
 -- ---- what is cut
@@ -41,9 +49,9 @@ pub record IsSparseOf (size : ℕ) (blocks : List Block) (x : List ℕ) : Type 0
   pub holds : blocks ≡ classed chunks
 
 -- x is an image of these blocks of so many bytes: a sparse one, or a raw one in such blocks
-abbrev pub IsImageOf : Option ℕ → ℕ → List Block → List ℕ → Type 0
-IsImageOf None size blocks x = IsSparseOf size blocks x
-IsImageOf (Some n) size blocks x = (size ≡ n) × IsBlockSize n × (blocks ≡ classify n x)
+abbrev pub IsImageOfBlocks : Option ℕ → ℕ → List Block → List ℕ → Type 0
+IsImageOfBlocks None size blocks x = IsSparseOf size blocks x
+IsImageOfBlocks (Some n) size blocks x = (size ≡ n) × IsRawBlockSize n × (blocks ≡ classify n x)
 
 -- the pieces of an image of these blocks of so many bytes, for a limit
 abbrev pub cut_into : ℕ → ℕ → List Block → List (List ℕ)
@@ -63,7 +71,7 @@ abbrev pub IsPiecePath : List ℕ → List ℕ → Type 0
 IsPiecePath prefix path = (n : ℕ) × (path ≡ piece_path prefix n)
 
 -- of one of the first m
-pub record IsFirstPath (prefix : List ℕ) (m : ℕ) (path : List ℕ) : Type 0 where
+pub record IsFirstPiecePath (prefix : List ℕ) (m : ℕ) (path : List ℕ) : Type 0 where
   pub index : ℕ
   pub below : index < m
   pub is_path : path ≡ piece_path prefix (index + 1)
@@ -87,7 +95,7 @@ AreApart prefix n world = (i j f : ℕ) → i < j → j < n → world.at (piece_
 -- wanted. Nothing but the files of the first m was changed, and no output is open.
 pub record CutsSoFar (prefix : List ℕ) (ps : List (List ℕ)) (n m : ℕ) (held held' : Held) (old new : World)
     : Type 0 where
-  pub goes : GoesAmong (IsFirstPath prefix m) held held' old new
+  pub goes : GoesAmong (IsFirstPiecePath prefix m) held held' old new
   pub stand : PiecesStand prefix ps n held' new
   pub apart : AreApart prefix n new
   pub closed : held'.output ≡ None
@@ -101,9 +109,35 @@ pub record CutsAll (prefix : List ℕ) (ps : List (List ℕ)) (held held' : Held
   pub all : count ≡ length ps
   pub cuts : CutsSoFar prefix ps count count held held' old new
   pub shown : count < 4294967295 → new.at (piece_path prefix (count + 1)) ≡ None
-      → shows (text_of (lines.Pieces count) ++ (10 ∷ []))
+      → shows (line_text (lines.Pieces count) ++ (10 ∷ []))
+
+-- no output is open, and what is read has not failed
+pub record IsUnbegun (held : Held) (reads : ℕ) : Type 0 where
+  pub one : held.output ≡ None
+  pub clean : reads ≡ 0
+
+-- only files at such paths were created or changed, and no output is open
+pub record OnlyLeaves (named : List ℕ → Type 0) (held held' : Held) (old new : World) : Type 0 where
+  pub only : GoesAmong named held held' old new
+  pub closed : held'.output ≡ None
 
 -- ---- one piece
+
+-- the next piece of an image is to be cut, and none is begun
+pub record ReadyPiece {R A : Type 0} (g : images.Ghosts R) (s : sources.Ghosts A) (image : R) (source : A)
+    (limit made : ℕ) (start : Cursor) (st : Stage) : Type 0 where
+  pub between : st ≡ Between
+  pub ready : ReadyCutter g s image source limit made start st
+
+-- what the piece is that was cut, and that what cuts, and the source, go on as they were
+pub record CutsPiece {X E : Type 0} (r : Result X E) (piece : X → Piece) {R A : Type 0} (g : images.Ghosts R)
+    (s : sources.Ghosts A) (image image' : R) (source source' : A) (limit limit' made made' : ℕ) (start start' : Cursor)
+    (st' : Stage) : Type 0 where
+  pub is_next : IfOk r (λ x. IsNext (g.count image) limit start.block start'.block made made' st' (piece x))
+  pub cutter : SameCutter image image' limit limit' st'
+  pub content : IsTrue s.tells → s.content source' ≡ s.content source
+  pub told : IsTrue s.tells → ToldCutter (g.place image (s.content source)) (g.together image (s.content source))
+      (g.size image) (g.list image (s.content source)) limit' made' start' st'
 
 -- the output that was open holds the piece behind so many others, and all other files are as before
 pub record HoldsPiece (ps : List (List ℕ)) (made : ℕ) (output : Option ℕ) (old new : World) : Type 0 where
@@ -117,6 +151,15 @@ pub record ClosesBeside (is_done : Bool) (reads reads' : ℕ) (old new : Held) :
   pub closed : new ≡ ended is_done failures old
   pub clean : is_done ≡ true → reads' + failures ≡ reads
   pub cause : is_done ≡ false → reads < reads' + failures
+
+-- The output that was open is brought to its end and closed, beside what is read: where the answer is Ok it holds the
+-- piece behind so many others; no other file has changed; and where it is refused a device or a file was at fault.
+pub record PutsPiece {X E : Type 0} (r : Result X E) (fault : E → SparseCommandFault) (ps : List (List ℕ))
+    (made reads reads' : ℕ) (held held' : Held) (old new : World) : Type 0 where
+  pub holds : OnOk r (HoldsPiece ps made held.output old new)
+  pub closed : ClosesBeside (is_ok r) reads reads' held held'
+  pub rest : SparesRest held.output old new
+  pub outside : IfErr r (λ refusal. IsOutsideSparse (fault refusal))
 
 -- the next piece stands under its name, in a file that was not begun before
 pub record AddsPiece (ps : List (List ℕ)) (made : ℕ) (path : List ℕ) (held held' : Held)
@@ -141,7 +184,7 @@ pub record AddsNone (held held' : Held) (old new : World) : Type 0 where
 -- of the first m were changed: a device has failed, or a call of the disk, over the piece behind those that stand; or a
 -- line could not be printed; or memory was refused where a file was looked for, before the first piece.
 pub data StopsCut (fault : SparseCommandFault) (Failed : Type 0) (Cut : ℕ → ℕ → Type 0) : Type 0 where
-  failed : IsOutside fault → Failed → (n : ℕ) → Cut n (n + 1) → StopsCut fault Failed Cut
+  failed : IsOutsideSparse fault → Failed → (n : ℕ) → Cut n (n + 1) → StopsCut fault Failed Cut
   untold : (f : HostFault) → fault ≡ faults.Host f → (n : ℕ) → 0 < n → Cut n n → StopsCut fault Failed Cut
   no_memory : fault ≡ faults.Host hosts.Memory → Cut 0 0 → StopsCut fault Failed Cut
 
@@ -149,7 +192,7 @@ pub data StopsCut (fault : SparseCommandFault) (Failed : Type 0) (Cut : ℕ → 
 abbrev pub HasNoCut : Option ℕ → RunFault → List ℕ → Type 0
 HasNoCut None (of_runs.Sparse f) x = (given : List (Option ℕ)) × Fails x f given
 HasNoCut None f x = ⊥
-HasNoCut (Some size) f x = Refused f size (length x)
+HasNoCut (Some size) f x = RefusedRaw f size (length x)
 
 -- the blocks of x have so many bytes
 abbrev pub HasBlocksOf : Option ℕ → ℕ → List ℕ → Type 0
@@ -165,7 +208,7 @@ pub data StopsImage (raw : Option ℕ) (limit : ℕ) (x : List ℕ) (fault : Spa
   unread : (f : RunFault) → fault ≡ faults.Run f → Failed → Same → StopsImage raw limit x fault Failed Same Cut
   no_room : (size : ℕ) → HasBlocksOf raw size x → fault ≡ faults.Piece (of_pieces.LimitTooSmall (64 + size))
       → limit < 64 + size → Same → StopsImage raw limit x fault Failed Same Cut
-  stopped : (size : ℕ) (blocks : List Block) → IsImageOf raw size blocks x
+  stopped : (size : ℕ) (blocks : List Block) → IsImageOfBlocks raw size blocks x
       → StopsCut fault Failed (Cut (pieces limit size blocks)) → StopsImage raw limit x fault Failed Same Cut
 
 -- the limit has no room for one block of the image at the front of x
@@ -197,7 +240,7 @@ pub record CutsImage (raw : Option ℕ) (limit : ℕ) (prefix x : List ℕ) (hel
     (shows : List ℕ → Type 0) : Type 0 where
   pub size : ℕ
   pub blocks : List Block
-  pub image : IsImageOf raw size blocks x
+  pub image : IsImageOfBlocks raw size blocks x
   pub granted : 64 + size ≤ limit
   pub all : CutsAll prefix (pieces limit size blocks) held held' old new shows
 
@@ -211,7 +254,7 @@ pub record FirstStand (prefix : List ℕ) (from : ℕ) (held held' : Held) (old 
   pub apart : AreApart prefix n new
   pub beside : (j f : ℕ) → j < n → new.at (piece_path prefix (j + 1)) ≡ Some f → f ≢ from
   pub synced : held'.syncs ≡ held.syncs + n * (if held.is_synced then 1 else 0)
-  pub only : OnlyAmong (IsFirstPath prefix m) held.read held'.begun old new
+  pub only : OnlyAmong (IsFirstPiecePath prefix m) held.read held'.begun old new
 
 -- The file at one path held an image, and all its pieces stand. The last line that was printed has their number, where
 -- none of an older cut is left to be noted.
@@ -221,13 +264,13 @@ pub record CutsFile (raw : Option ℕ) (limit : ℕ) (input prefix : List ℕ) (
   pub there : old.at input ≡ Some from
   pub size : ℕ
   pub blocks : List Block
-  pub image : IsImageOf raw size blocks (old.holds from)
+  pub image : IsImageOfBlocks raw size blocks (old.holds from)
   pub granted : 64 + size ≤ limit
   pub count : ℕ
   pub all : count ≡ length (pieces limit size blocks)
   pub first : FirstStand prefix from held held' old new (pieces limit size blocks) count count
   pub shown : count < 4294967295 → new.at (piece_path prefix (count + 1)) ≡ None
-      → shows (text_of (lines.Pieces count) ++ (10 ∷ []))
+      → shows (line_text (lines.Pieces count) ++ (10 ∷ []))
 
 -- why the command is refused: the file could not be opened, before anything was changed; or for what it holds
 pub data RefusesCut (raw : Option ℕ) (limit : ℕ) (input prefix : List ℕ) (fault : SparseCommandFault)

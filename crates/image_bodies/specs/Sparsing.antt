@@ -1,17 +1,18 @@
 -- What the command `sparse` leaves of files, and what it prints.
-use Rattle.std.specs.Prelude.{◌≡◌, ◌≢◌, ◌<◌, ◌≤◌, ◌⊎◌, ℕ, List, [], ◌∷◌, ◌++◌, Option, Some, None, length, Bool, false}
-use Rattle.std.specs.Prelude.{IsTrue}
+use Rattle.std.specs.Prelude.{◌≡◌, ◌≢◌, ◌<◌, ◌≤◌, ◌⊎◌, ◌+◌, ◌-◌, ◌*◌, ◌^◌, ℕ, List, [], ◌∷◌, ◌++◌, length, Bool, false}
+use Rattle.std.specs.Prelude.{Option, Some, None, IsTrue, Result, OnOk, OnErr, IfOk, IfErr, is_ok, if◌then◌else◌}
 use Rattle.abt_sparse.specs.Block.{classify}
 use Rattle.abt_sparse.specs.Chunk.{chunks_of, spelling}
 use Rattle.abt_runs.specs.declared.part.RunFault.{RunFault}
-use Rattle.abt_runs.specs.Raw.{Refused}
+use Rattle.abt_runs.specs.Raw.{RefusedRaw}
 use Rattle.abt_pieces.specs.declared.fault.PieceFault.{PieceFault}
 use Rattle.abt_pieces.specs.declared.fault.PieceFault.TheVariants as pieces
 use Rattle.abt_placed.specs.Unfinished.{IsNoImage}
 use Rattle.abt_sparsify.specs.declared.count.Written.{Written}
-use Rattle.abt_disk.specs.World.{World, Held, Spares, HasFailed, ended}
-use Rattle.sparse_rules.specs.Blocks.{IsBlockSize, most_of}
-use Rattle.sparse_rules.specs.Lines.{text_of}
+use Rattle.abt_disk.specs.World.{World, Held, ClosesOutput, OnlyAt, Spares, SparesRest, HasFailed, ended}
+use Rattle.sparse_rules.specs.Blocks.{IsRawBlockSize, most_of}
+use Rattle.sparse_rules.specs.declared.blocks.Blocks.{Blocks}
+use Rattle.sparse_rules.specs.Lines.{line_text}
 use Rattle.sparse_rules.specs.declared.fault.SparseCommandFault.{SparseCommandFault}
 use Rattle.sparse_rules.specs.declared.fault.SparseCommandFault.TheVariants as faults
 use Rattle.sparse_rules.specs.declared.lines.Line.TheVariants as lines
@@ -34,15 +35,15 @@ pub record SparsifiesFile (input output : List ℕ) (size : ℕ) (old new : Worl
   pub there : old.at input ≡ Some from
   pub here : new.at output ≡ Some onto
   pub apart : from ≢ onto
-  pub sized : IsBlockSize size
+  pub sized : IsRawBlockSize size
   pub holds : new.holds onto ≡ image_of_raw size (old.holds from)
   pub spares : Spares onto old new
-  pub shown : shows (text_of (lines.Sparse (blocks_of_raw size (old.holds from)) (chunks_of_raw size (old.holds from))
+  pub shown : shows (line_text (lines.Sparse (blocks_of_raw size (old.holds from)) (chunks_of_raw size (old.holds from))
       (length (new.holds onto))) ++ (10 ∷ []))
 
 -- what is no image: it has fewer than four bytes, or no reader finds one, whatever follows
-abbrev pub HoldsNone : List ℕ → Type 0
-HoldsNone x = (length x < 4) ⊎ IsNoImage x
+abbrev pub HoldsNoSparse : List ℕ → Type 0
+HoldsNoSparse x = (length x < 4) ⊎ IsNoImage x
 
 -- the file at this path holds the sparse image of what the file at the other one held
 pub record HoldsImage (input : List ℕ) (size : ℕ) (old : World) (bytes : List ℕ) : Type 0 where
@@ -51,15 +52,26 @@ pub record HoldsImage (input : List ℕ) (size : ℕ) (old : World) (bytes : Lis
   pub holds : bytes ≡ image_of_raw size (old.holds from)
 
 -- whatever the outcome, the file at this path holds what it held, or what is no image, or the whole image
-abbrev pub HoldsNoPart : List ℕ → List ℕ → ℕ → World → World → Type 0
-HoldsNoPart input output size old new = (file : ℕ) → new.at output ≡ Some file → (new.holds file ≡ old.holds file)
-    ⊎ (HoldsNone (new.holds file) ⊎ HoldsImage input size old (new.holds file))
+abbrev pub HoldsNoPartOfSparse : List ℕ → List ℕ → ℕ → World → World → Type 0
+HoldsNoPartOfSparse input output size old new = (file : ℕ) → new.at output ≡ Some file
+    → (new.holds file ≡ old.holds file)
+    ⊎ (HoldsNoSparse (new.holds file) ⊎ HoldsImage input size old (new.holds file))
+
+-- What a call leaves that writes the sparse image of one file to another, whatever it answers: that one alone may hold
+-- anything else, no output is open, and a file that can be written over has no part of an image; after an Ok it was
+-- synced, where that is wanted.
+pub record LeavesImage {X F : Type 0} (r : Result X F) (input output : List ℕ) (size : ℕ) (is_over : Bool)
+    (held held' : Held) (old new : World) : Type 0 where
+  pub synced : OnOk r (held'.syncs ≡ held.syncs + (if held.is_synced then 1 else 0))
+  pub others : OnlyAt held.read output old new
+  pub closed : held'.output ≡ None
+  pub whole : IsTrue is_over → HoldsNoPartOfSparse input output size old new
 
 -- the file at this path has no blocks of this size, or too many, and nothing has changed
 pub record HasNoBlocks (path : List ℕ) (size : ℕ) (old new : World) (fault : RunFault) : Type 0 where
   pub file : ℕ
   pub there : old.at path ≡ Some file
-  pub fails : Refused fault size (length (old.holds file))
+  pub fails : RefusedRaw fault size (length (old.holds file))
   pub untouched : new ≡ old
 
 -- a device failed
@@ -72,14 +84,14 @@ IsOfPieceDevices (pieces.BadBlock n) = ⊥
 IsOfPieceDevices (pieces.LimitTooSmall n) = ⊥
 
 -- a fault of the devices or of files
-abbrev pub IsOutside : SparseCommandFault → Type 0
-IsOutside (faults.Sparse f) = ⊥
-IsOutside (faults.Run f) = ⊥
-IsOutside (faults.Piece f) = IsOfPieceDevices f
-IsOutside (faults.Flash f) = ⊥
-IsOutside (faults.Verify f) = ⊥
-IsOutside (faults.OtherBlocks image) = ⊥
-IsOutside (faults.Host f) = Unit {0}
+abbrev pub IsOutsideSparse : SparseCommandFault → Type 0
+IsOutsideSparse (faults.Sparse f) = ⊥
+IsOutsideSparse (faults.Run f) = ⊥
+IsOutsideSparse (faults.Piece f) = IsOfPieceDevices f
+IsOutsideSparse (faults.Flash f) = ⊥
+IsOutsideSparse (faults.Verify f) = ⊥
+IsOutsideSparse (faults.OtherBlocks image) = ⊥
+IsOutsideSparse (faults.Host f) = Unit {0}
 
 -- the block size is none that the file at this path has, which is told before anything is touched; or a device failed;
 -- or a call of the disk did, or all was done and the line could not be printed
@@ -92,22 +104,26 @@ RefusesRaw path size old new held held' Done (faults.Flash f) = ⊥
 RefusesRaw path size old new held held' Done (faults.Verify f) = ⊥
 RefusesRaw path size old new held held' Done (faults.OtherBlocks image) = ⊥
 
--- a line that could not be printed
-abbrev pub unprinted : List ℕ → Type 0
-unprinted line = Unit {0}
-
--- the output that was open is closed: it was brought to its end exactly where nothing has failed
-pub record ClosesOutput (is_done : Bool) (old new : Held) : Type 0 where
+-- the output that was open was let go, which had failed so often, or more often in the end; no other file has changed
+pub record GivesUp (faults : ℕ) (held held' : Held) (old new : World) : Type 0 where
   pub failures : ℕ
-  pub closed : new ≡ ended is_done failures old
-  pub clean : IsTrue is_done → failures ≡ 0
-  pub cause : is_done ≡ false → 0 < failures
-
--- the output that was open was let go, which had failed so often, or more often in the end
-pub record GivesUp (faults : ℕ) (old new : Held) : Type 0 where
-  pub failures : ℕ
-  pub closed : new ≡ ended false failures old
+  pub closed : held' ≡ ended false failures held
   pub least : faults ≤ failures
+  pub rest : SparesRest held.output old new
+
+-- a raw image of so many bytes can be written in these blocks
+pub record FitsBlocks (blocks : Blocks) (bytes : ℕ) : Type 0 where
+  pub sized : IsRawBlockSize blocks.size
+  pub most : blocks.most ≡ most_of blocks.size
+  pub few : bytes ≤ (2 ^ 32 - 1) * blocks.size
+
+-- Of devices that had failed so often before, and have now, none has failed more where all was done; and where it was
+-- not, one has, and the fault is theirs.
+pub record OnlyDevicesFail {X : Type 0} (r : Result X SparseCommandFault) (tells : Bool) (failed failed' : ℕ)
+    : Type 0 where
+  pub outside : IsTrue tells → IfErr r IsOutsideSparse
+  pub clean : OnOk r (failed' ≡ failed)
+  pub cause : IsTrue tells → OnErr r (failed < failed')
 
 -- these are the numbers of the sparse image of these bytes, and behind nothing it was written
 pub record IsWritten (size : ℕ) (x : List ℕ) (a : Written) (bytes : List ℕ) : Type 0 where
@@ -122,6 +138,15 @@ HoldsWritten size x a None old new = Unit {0}
 HoldsWritten size x a (Some file) old new = IsWritten size x a (new.holds file) × Spares file old new
 
 -- the output that was open holds no part of the sparse image of these bytes, but nothing of it or all
-abbrev pub LeavesNoPart : ℕ → List ℕ → Option ℕ → World → Type 0
-LeavesNoPart size x None new = Unit {0}
-LeavesNoPart size x (Some file) new = HoldsNone (new.holds file) ⊎ (new.holds file ≡ image_of_raw size x)
+abbrev pub LeavesNoneOrSparse : ℕ → List ℕ → Option ℕ → World → Type 0
+LeavesNoneOrSparse size x None new = Unit {0}
+LeavesNoneOrSparse size x (Some file) new = HoldsNoSparse (new.holds file) ⊎ (new.holds file ≡ image_of_raw size x)
+
+-- The output that was open is brought to its end and closed: where the answer is Ok it holds the sparse image of these
+-- bytes, which has these numbers; no other file has changed; and where it is refused a device or a file was at fault.
+pub record WritesImage {F : Type 0} (r : Result (Written × Bool) F) (fault : F → SparseCommandFault) (size : ℕ)
+    (x : List ℕ) (held held' : Held) (old new : World) : Type 0 where
+  pub holds : IfOk r (λ end. HoldsWritten size x end.0 held.output old new)
+  pub closed : ClosesOutput (is_ok r) held held'
+  pub rest : SparesRest held.output old new
+  pub outside : IfErr r (λ refusal. IsOutsideSparse (fault refusal))

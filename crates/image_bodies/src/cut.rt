@@ -7,9 +7,9 @@ ghost use Rattle.abt_pieces.specs.declared.stage.Stage.{Stage};
 ghost use Rattle.abt_refusals.specs.Paths.{path_of};
 ghost use Rattle.abt_runs.specs.Sparse.{SparseOpened, SparsePlace, blocks_together, sparse_list};
 ghost use Rattle.abt_sparse.specs.View.{view};
-ghost use Rattle.image_bodies.specs.Cutting.{IsUncutSparse, ShowsLast};
-ghost use Rattle.image_bodies.specs.Cutting.{CutsFile, CutsImage, CutsSoFar, IsPiecePath, RefusesCut, StopsImage};
-ghost use Rattle.abt_disk.specs.Among.{GoesAmong, OnlyAmong};
+ghost use Rattle.image_bodies.specs.Cutting.{CutsFile, CutsImage, CutsSoFar, IsPiecePath, IsUnbegun, IsUncutSparse};
+ghost use Rattle.image_bodies.specs.Cutting.{OnlyLeaves, RefusesCut, ShowsLast, StopsImage};
+ghost use Rattle.abt_disk.specs.Among.{OnlyAmong};
 
 use crate::turns::cut_pieces;
 use abt_disk::{Disk, Lasting};
@@ -87,13 +87,11 @@ fn cut_raw<'a, D: Disk>(
     w: &mut Window,
     m: &mut Meter,
 ) -> Result<(), SparseRefusal<'a>>
-    requires one { IsTrue D.tells → (D.held disk.old).output ≡ None }
-    requires clean { IsTrue D.tells → D.At.read_faults source ≡ 0 }
+    requires fresh { IsTrue D.tells → IsUnbegun (D.held disk.old) (D.At.read_faults source) }
     ensures done { IsTrue D.tells → OnOk result (CutsImage (Some size) order.entry.limit order.entry.prefix.now (D.At.content source)
         (D.held disk.old) (D.held disk.new) (D.world disk.old) (D.world disk.new) (ShowsLast report.new)) }
-    ensures only { IsTrue D.tells → GoesAmong (IsPiecePath order.entry.prefix.now) (D.held disk.old) (D.held disk.new)
+    ensures left { IsTrue D.tells → OnlyLeaves (IsPiecePath order.entry.prefix.now) (D.held disk.old) (D.held disk.new)
         (D.world disk.old) (D.world disk.new) }
-    ensures closed { IsTrue D.tells → (D.held disk.new).output ≡ None }
     ensures refused { IsTrue D.tells → IfErr result (λ refusal. StopsImage (Some size) order.entry.limit (D.At.content source)
         refusal.fault (HasFailed (D.held disk.old) (D.held disk.new)) (D.world disk.new ≡ D.world disk.old)
         (λ ps n m. CutsSoFar order.entry.prefix.now ps n m (D.held disk.old) (D.held disk.new) (D.world disk.old)
@@ -125,13 +123,11 @@ fn cut_sparse<'a, D: Disk>(
     w: &mut Window,
     m: &mut Meter,
 ) -> Result<(), SparseRefusal<'a>>
-    requires one { IsTrue D.tells → (D.held disk.old).output ≡ None }
-    requires clean { IsTrue D.tells → D.At.read_faults source ≡ 0 }
+    requires fresh { IsTrue D.tells → IsUnbegun (D.held disk.old) (D.At.read_faults source) }
     ensures done { IsTrue D.tells → OnOk result (CutsImage None order.entry.limit order.entry.prefix.now (D.At.content source)
         (D.held disk.old) (D.held disk.new) (D.world disk.old) (D.world disk.new) (ShowsLast report.new)) }
-    ensures only { IsTrue D.tells → GoesAmong (IsPiecePath order.entry.prefix.now) (D.held disk.old) (D.held disk.new)
+    ensures left { IsTrue D.tells → OnlyLeaves (IsPiecePath order.entry.prefix.now) (D.held disk.old) (D.held disk.new)
         (D.world disk.old) (D.world disk.new) }
-    ensures closed { IsTrue D.tells → (D.held disk.new).output ≡ None }
     ensures refused { IsTrue D.tells → IfErr result (λ refusal. StopsImage None order.entry.limit (D.At.content source)
         refusal.fault (HasFailed (D.held disk.old) (D.held disk.new)) (D.world disk.new ≡ D.world disk.old)
         (λ ps n m. CutsSoFar order.entry.prefix.now ps n m (D.held disk.old) (D.held disk.new) (D.world disk.old)

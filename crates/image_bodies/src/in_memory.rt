@@ -1,12 +1,12 @@
 //! The commands over a disk in memory, which tells what its files hold: no clause is left that says nothing.
 
-ghost use Rattle.std.specs.Prelude.{◌≡◌, ◌+◌, None, IsTrue, IfErr, OnOk, if◌then◌else◌};
+ghost use Rattle.std.specs.Prelude.{◌≡◌, None, IfErr, OnOk};
 ghost use Rattle.abt_disk.specs.Images.{is_over};
 ghost use Rattle.memory_disk.specs.Memory.{held_of, world_of};
-ghost use Rattle.abt_disk.specs.World.{IsReading, OnlyAt, KeepsFile, HasNotFailed};
-ghost use Rattle.abt_output.specs.Shows.{Shows};
+ghost use Rattle.abt_disk.specs.World.{IsReading, KeepsFile, HasNotFailed};
+ghost use Rattle.abt_output.specs.Shows.{Shows, unprinted};
 ghost use Rattle.abt_refusals.specs.Paths.{path_of, path_out};
-ghost use Rattle.image_bodies.specs.Sparsing.{SparsifiesFile, HoldsNoPart, RefusesRaw, unprinted};
+ghost use Rattle.image_bodies.specs.Sparsing.{LeavesImage, RefusesRaw, SparsifiesFile};
 ghost use Rattle.image_bodies.specs.Cutting.{CutsFile, IsPiecePath, RefusesCut, ShowsLast};
 ghost use Rattle.abt_disk.specs.Among.{OnlyAmong};
 
@@ -31,13 +31,9 @@ pub fn sparse_in_memory<'a>(
     requires { IsReading (held_of disk.old) }
     ensures done { OnOk result (SparsifiesFile (path_of input.entry) (path_out output.entry) block (world_of disk.old)
         (world_of disk.new) (Shows report.old report.new)) }
-    ensures synced { OnOk result ((held_of disk.new).syncs
-        ≡ (held_of disk.old).syncs + (if (held_of disk.old).is_synced then 1 else 0)) }
-    ensures closed { (held_of disk.new).output ≡ None }
-    ensures others { OnlyAt (held_of disk.old).read (path_out output.entry) (world_of disk.old) (world_of disk.new) }
+    ensures left { LeavesImage result (path_of input.entry) (path_out output.entry) block
+        (is_over (path_out output.entry)) (held_of disk.old) (held_of disk.new) (world_of disk.old) (world_of disk.new) }
     ensures input { KeepsFile (path_of input.entry) (world_of disk.old) (world_of disk.new) }
-    ensures whole { IsTrue (is_over (path_out output.entry)) → HoldsNoPart (path_of input.entry)
-        (path_out output.entry) block (world_of disk.old) (world_of disk.new) }
     ensures refused { IfErr result (λ refusal. RefusesRaw (path_of input.entry) block (world_of disk.old)
         (world_of disk.new) (held_of disk.old) (held_of disk.new) (SparsifiesFile (path_of input.entry)
         (path_out output.entry) block (world_of disk.old) (world_of disk.new) unprinted) refusal.fault) }

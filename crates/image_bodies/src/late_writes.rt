@@ -2,8 +2,7 @@
 
 ghost use Rattle.std.specs.Prelude.{◌≡◌, ◌≤◌, false, IsTrue, IfErr, IfOk, OnOk};
 ghost use Rattle.abt_disk.specs.Images.{Leaves};
-ghost use Rattle.abt_disk.specs.World.{SparesRest};
-ghost use Rattle.image_bodies.specs.Sparsing.{IsOutside, GivesUp};
+ghost use Rattle.image_bodies.specs.Sparsing.{IsOutsideSparse, GivesUp};
 
 use abt_disk::{Disk, Late, Reasons};
 use abt_io::DeviceFault;
@@ -20,10 +19,9 @@ pub(crate) fn stopped<'a, D: Disk>(
     sides: Sides<'a>,
 ) -> SparseRefusal<'a>
     ensures left { IsTrue D.tells → Leaves (D.held disk.old).output (D.Image.Output.written image) (D.world disk.new) }
-    ensures closed { IsTrue D.tells → GivesUp (D.Image.Output.write_faults image) (D.held disk.old)
-        (D.held disk.new) }
-    ensures rest { IsTrue D.tells → SparesRest (D.held disk.old).output (D.world disk.old) (D.world disk.new) }
-    ensures outside { IsOutside fault → IsOutside result.fault }
+    ensures closed { IsTrue D.tells → GivesUp (D.Image.Output.write_faults image) (D.held disk.old) (D.held disk.new)
+        (D.world disk.old) (D.world disk.new) }
+    ensures outside { IsOutsideSparse fault → IsOutsideSparse result.fault }
 {
     let mut image = image;
     let fault = first_of(image.settle(), fault);

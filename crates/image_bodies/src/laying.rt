@@ -1,8 +1,7 @@
 //! The sparse image of a raw one, as far as it goes, while it is known how far the command is.
 
-ghost use Rattle.std.specs.Prelude.{◌≡◌, ◌<◌, ◌≤◌, ◌+◌, ◌-◌, ◌*◌, ◌^◌, [], IsTrue, IfOk, IfErr, OnOk, OnErr};
-ghost use Rattle.image_bodies.specs.Sparsing.{HoldsNone, IsOutside, IsWritten};
-ghost use Rattle.sparse_rules.specs.Blocks.{IsBlockSize, most_of};
+ghost use Rattle.std.specs.Prelude.{◌≡◌, ◌+◌, [], IsTrue, IfOk, OnErr};
+ghost use Rattle.image_bodies.specs.Sparsing.{FitsBlocks, HoldsNoSparse, IsWritten, OnlyDevicesFail};
 
 use abt_io::{Meter, Output, Overwrite, Source, Window};
 use abt_output::Carried;
@@ -18,18 +17,13 @@ pub(crate) fn lay_image<S: Source, O: Overwrite>(
     w: &mut Window,
     m: &mut Meter,
 ) -> Result<Written, SparseCommandFault>
-    requires sized { IsBlockSize blocks.size }
-    requires most { blocks.most ≡ most_of blocks.size }
-    requires few { S.size source.old.device ≤ (2 ^ 32 - 1) * blocks.size }
+    requires fits { FitsBlocks blocks (S.size source.old.device) }
     requires empty { O.written output.old ≡ [] }
     ensures written { IsTrue S.tells → IfOk result (λ a. IsWritten blocks.size (S.content source.old.device) a
         (O.written output.new)) }
-    ensures broken { OnErr result (HoldsNone (O.written output.new)) }
-    ensures outside { IsTrue S.tells → IfErr result IsOutside }
-    ensures clean { OnOk result (S.read_faults source.new.device + O.write_faults output.new
-        ≡ S.read_faults source.old.device + O.write_faults output.old) }
-    ensures cause { IsTrue S.tells → OnErr result (S.read_faults source.old.device + O.write_faults output.old
-        < S.read_faults source.new.device + O.write_faults output.new) }
+    ensures broken { OnErr result (HoldsNoSparse (O.written output.new)) }
+    ensures fails { OnlyDevicesFail result S.tells (S.read_faults source.old.device + O.write_faults output.old)
+        (S.read_faults source.new.device + O.write_faults output.new) }
 {
     let Blocks { size, most } = blocks;
     match sparsify_at(source, size, most, output, w, m) {
@@ -46,17 +40,12 @@ pub(crate) fn write_image<S: Source, O: Output>(
     w: &mut Window,
     m: &mut Meter,
 ) -> Result<Written, SparseCommandFault>
-    requires sized { IsBlockSize blocks.size }
-    requires most { blocks.most ≡ most_of blocks.size }
-    requires few { S.size source.old.device ≤ (2 ^ 32 - 1) * blocks.size }
+    requires fits { FitsBlocks blocks (S.size source.old.device) }
     requires empty { O.written output.old ≡ [] }
     ensures written { IsTrue S.tells → IfOk result (λ a. IsWritten blocks.size (S.content source.old.device) a
         (O.written output.new)) }
-    ensures outside { IsTrue S.tells → IfErr result IsOutside }
-    ensures clean { OnOk result (S.read_faults source.new.device + O.write_faults output.new
-        ≡ S.read_faults source.old.device + O.write_faults output.old) }
-    ensures cause { IsTrue S.tells → OnErr result (S.read_faults source.old.device + O.write_faults output.old
-        < S.read_faults source.new.device + O.write_faults output.new) }
+    ensures fails { OnlyDevicesFail result S.tells (S.read_faults source.old.device + O.write_faults output.old)
+        (S.read_faults source.new.device + O.write_faults output.new) }
 {
     let Blocks { size, most } = blocks;
     match sparsify(source, size, most, output, w, m) {

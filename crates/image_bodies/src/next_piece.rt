@@ -1,12 +1,10 @@
 //! The next piece of an image, as far as it goes, while it is known how far the command is.
 
-ghost use Rattle.std.specs.Prelude.{◌≡◌, ◌<◌, ◌≤◌, ◌+◌, [], None, Some, length, IsTrue, IfOk, IfErr, IfSome, OnOk, OnErr};
-ghost use Rattle.abt_pieces.specs.Cutter.{ToldCutter};
-ghost use Rattle.abt_pieces.specs.NextPiece.{IsNext, SameCutter};
+ghost use Rattle.std.specs.Prelude.{◌≡◌, ◌+◌, [], None, Some, IsTrue, IfOk, IfSome};
 ghost use Rattle.abt_pieces.specs.Turn.{HasAt};
-ghost use Rattle.abt_pieces.specs.declared.stage.Stage.{Stage};
 ghost use Rattle.abt_sparse.specs.Pieces.{pieces};
-ghost use Rattle.image_bodies.specs.Sparsing.{IsOutside};
+ghost use Rattle.image_bodies.specs.Cutting.{CutsPiece, ReadyPiece};
+ghost use Rattle.image_bodies.specs.Sparsing.{OnlyDevicesFail};
 
 use abt_disk::Lasting;
 use abt_io::{FrontLast, Meter, Output, Overwrite, Window};
@@ -25,31 +23,18 @@ pub(crate) fn write_next<B: BlockRuns + Drop, S: Lasting, O: Output>(
     w: &mut Window,
     m: &mut Meter,
 ) -> Result<Piece, SparseCommandFault>
-    requires between { cutter.old.stage ≡ Stage.Between }
-    requires opened { IsTrue S.tells → B.opened cutter.old.runs (S.content source.old.device) }
-    requires told { IsTrue S.tells → ToldCutter (B.place cutter.old.runs (S.content source.old.device))
-        (B.together cutter.old.runs (S.content source.old.device)) (B.size cutter.old.runs)
-        (B.list cutter.old.runs (S.content source.old.device)) cutter.old.limit cutter.old.made cutter.old.start
-        cutter.old.stage }
+    requires ready { ReadyPiece B.BlockRuns S.Source cutter.old.runs source.old.device cutter.old.limit cutter.old.made
+        cutter.old.start cutter.old.stage }
     requires empty { O.written output.old ≡ [] }
     // it is the piece behind those that are made
     ensures laid { IsTrue S.tells → IfOk result (λ p. HasAt (pieces cutter.old.limit (B.size cutter.old.runs)
         (B.list cutter.old.runs (S.content source.old.device))) cutter.old.made (O.written output.new)) }
-    ensures piece { IfOk result (λ p. IsNext (B.count cutter.old.runs) cutter.old.limit cutter.old.start.block
-        cutter.new.start.block cutter.old.made cutter.new.made cutter.new.stage p) }
-    // what stays
-    ensures cutter { SameCutter cutter.old.runs cutter.new.runs cutter.old.limit cutter.new.limit cutter.new.stage }
-    ensures told { IsTrue S.tells → ToldCutter (B.place cutter.old.runs (S.content source.old.device))
-        (B.together cutter.old.runs (S.content source.old.device)) (B.size cutter.old.runs)
-        (B.list cutter.old.runs (S.content source.old.device)) cutter.new.limit cutter.new.made cutter.new.start
-        cutter.new.stage }
-    ensures content { IsTrue S.tells → S.content source.new.device ≡ S.content source.old.device }
+    ensures cuts { CutsPiece result (λ p. p) B.BlockRuns S.Source cutter.old.runs cutter.new.runs source.old.device
+        source.new.device cutter.old.limit cutter.new.limit cutter.old.made cutter.new.made cutter.old.start
+        cutter.new.start cutter.new.stage }
     // it is refused where one of the devices has failed
-    ensures outside { IsTrue S.tells → IfErr result IsOutside }
-    ensures clean { OnOk result (S.read_faults source.new.device + O.write_faults output.new
-        ≡ S.read_faults source.old.device + O.write_faults output.old) }
-    ensures cause { IsTrue S.tells → OnErr result (S.read_faults source.old.device + O.write_faults output.old
-        < S.read_faults source.new.device + O.write_faults output.new) }
+    ensures fails { OnlyDevicesFail result S.tells (S.read_faults source.old.device + O.write_faults output.old)
+        (S.read_faults source.new.device + O.write_faults output.new) }
 {
     let answer = cutter.next_piece(source, output, w, m);
     match changed(source.device.shorter()) {
@@ -86,32 +71,18 @@ pub(crate) trait LaysPieces: BlockRuns + Drop {
         w: &mut Window,
         m: &mut Meter,
     ) -> (O, Result<Piece, SparseCommandFault>)
-        requires between { cutter.old.stage ≡ Stage.Between }
-        requires opened { IsTrue S.tells → Self.opened cutter.old.runs (S.content source.old.device) }
-        requires told { IsTrue S.tells → ToldCutter (Self.place cutter.old.runs (S.content source.old.device))
-            (Self.together cutter.old.runs (S.content source.old.device)) (Self.size cutter.old.runs)
-            (Self.list cutter.old.runs (S.content source.old.device)) cutter.old.limit cutter.old.made cutter.old.start
-            cutter.old.stage }
+        requires ready { ReadyPiece Self.BlockRuns S.Source cutter.old.runs source.old.device cutter.old.limit cutter.old.made
+            cutter.old.start cutter.old.stage }
         requires empty { O.written image ≡ [] }
         // it is the piece behind those that are made
         ensures laid { IsTrue S.tells → IfOk result.1 (λ p. HasAt (pieces cutter.old.limit (Self.size cutter.old.runs)
             (Self.list cutter.old.runs (S.content source.old.device))) cutter.old.made (O.written result.0)) }
-        ensures piece { IfOk result.1 (λ p. IsNext (Self.count cutter.old.runs) cutter.old.limit
-            cutter.old.start.block cutter.new.start.block cutter.old.made cutter.new.made cutter.new.stage p) }
-        // what stays
-        ensures cutter { SameCutter cutter.old.runs cutter.new.runs cutter.old.limit cutter.new.limit
-            cutter.new.stage }
-        ensures told { IsTrue S.tells → ToldCutter (Self.place cutter.old.runs (S.content source.old.device))
-            (Self.together cutter.old.runs (S.content source.old.device)) (Self.size cutter.old.runs)
-            (Self.list cutter.old.runs (S.content source.old.device)) cutter.new.limit cutter.new.made cutter.new.start
-            cutter.new.stage }
-        ensures content { IsTrue S.tells → S.content source.new.device ≡ S.content source.old.device }
+        ensures cuts { CutsPiece result.1 (λ p. p) Self.BlockRuns S.Source cutter.old.runs cutter.new.runs
+            source.old.device source.new.device cutter.old.limit cutter.new.limit cutter.old.made cutter.new.made
+            cutter.old.start cutter.new.start cutter.new.stage }
         // it is refused where one of the devices has failed
-        ensures outside { IsTrue S.tells → IfErr result.1 IsOutside }
-        ensures clean { OnOk result.1 (S.read_faults source.new.device + O.write_faults result.0
-            ≡ S.read_faults source.old.device + O.write_faults image) }
-        ensures cause { IsTrue S.tells → OnErr result.1 (S.read_faults source.old.device + O.write_faults image
-            < S.read_faults source.new.device + O.write_faults result.0) };
+        ensures fails { OnlyDevicesFail result.1 S.tells (S.read_faults source.old.device + O.write_faults image)
+            (S.read_faults source.new.device + O.write_faults result.0) };
 }
 
 /// Those of a sparse image are written from the front on.

@@ -1,14 +1,9 @@
 //! One piece of an image, to a file of its own.
 
-ghost use Rattle.std.specs.Prelude.{◌≡◌, ◌<◌, ◌+◌, [], None, length, IsTrue, IfOk, IfErr, OnOk, OnErr, is_ok};
-ghost use Rattle.abt_disk.specs.World.{SparesRest};
-ghost use Rattle.abt_pieces.specs.Cutter.{ToldCutter};
-ghost use Rattle.abt_pieces.specs.NextPiece.{IsNext, SameCutter};
-ghost use Rattle.abt_pieces.specs.declared.stage.Stage.{Stage};
+ghost use Rattle.std.specs.Prelude.{◌≡◌, ◌<◌, ◌+◌, [], None, IsTrue, IfErr, OnOk, OnErr};
 ghost use Rattle.abt_refusals.specs.Paths.{path_out};
-ghost use Rattle.image_bodies.specs.Cutting.{AddsNone, AddsPiece, ClosesBeside, HoldsPiece, cut_into};
-ghost use Rattle.image_bodies.specs.Sparsing.{IsOutside, GivesUp};
-ghost use Rattle.abt_disk.specs.Among.{GoesAmong};
+ghost use Rattle.image_bodies.specs.Cutting.{AddsNone, AddsPiece, CutsPiece, OnlyLeaves, PutsPiece, ReadyPiece, cut_into};
+ghost use Rattle.image_bodies.specs.Sparsing.{IsOutsideSparse, GivesUp};
 
 use crate::late_writes::stopped;
 use crate::next_piece::{LaysPieces, write_next};
@@ -33,35 +28,24 @@ pub(crate) fn put_piece<'a, D: Disk, B: BlockRuns + LaysPieces + Drop>(
     m: &mut Meter,
 ) -> Result<(Piece, bool), SparseRefusal<'a>>
     requires one { IsTrue D.tells → (D.held disk.old).output ≡ None }
-    requires between { pieces.old.cutter.stage ≡ Stage.Between }
-    requires opened { IsTrue D.At.tells → B.opened pieces.old.cutter.runs (D.At.content source.old.device) }
-    requires told { IsTrue D.At.tells → ToldCutter (B.place pieces.old.cutter.runs (D.At.content source.old.device))
-        (B.together pieces.old.cutter.runs (D.At.content source.old.device)) (B.size pieces.old.cutter.runs)
-        (B.list pieces.old.cutter.runs (D.At.content source.old.device)) pieces.old.cutter.limit pieces.old.cutter.made
-        pieces.old.cutter.start pieces.old.cutter.stage }
+    requires ready { ReadyPiece B.BlockRuns D.At.Source pieces.old.cutter.runs source.old.device
+        pieces.old.cutter.limit pieces.old.cutter.made pieces.old.cutter.start pieces.old.cutter.stage }
     // its file is a new one, and holds it
     ensures adds { IsTrue D.tells → OnOk result (AddsPiece (cut_into pieces.old.cutter.limit
         (B.size pieces.old.cutter.runs) (B.list pieces.old.cutter.runs (D.At.content source.old.device)))
         pieces.old.cutter.made (path_out place.entry) (D.held disk.old) (D.held disk.new) (D.world disk.old)
         (D.world disk.new)) }
-    ensures piece { IfOk result (λ end. IsNext (B.count pieces.old.cutter.runs) pieces.old.cutter.limit
-        pieces.old.cutter.start.block pieces.new.cutter.start.block pieces.old.cutter.made pieces.new.cutter.made
-        pieces.new.cutter.stage end.0) }
     ensures keeps { IsTrue D.tells → OnErr result (AddsNone (D.held disk.old) (D.held disk.new) (D.world disk.old)
         (D.world disk.new)) }
     // whatever comes, no other file was changed, and none is open
-    ensures only { IsTrue D.tells → GoesAmong (λ path. path ≡ path_out place.entry) (D.held disk.old)
+    ensures left { IsTrue D.tells → OnlyLeaves (λ path. path ≡ path_out place.entry) (D.held disk.old)
         (D.held disk.new) (D.world disk.old) (D.world disk.new) }
-    ensures closed { IsTrue D.tells → (D.held disk.new).output ≡ None }
-    ensures cutter { SameCutter pieces.old.cutter.runs pieces.new.cutter.runs pieces.old.cutter.limit
-        pieces.new.cutter.limit pieces.new.cutter.stage }
-    ensures content { IsTrue D.At.tells → D.At.content source.new.device ≡ D.At.content source.old.device }
-    ensures told { IsTrue D.At.tells → ToldCutter (B.place pieces.old.cutter.runs (D.At.content source.old.device))
-        (B.together pieces.old.cutter.runs (D.At.content source.old.device)) (B.size pieces.old.cutter.runs)
-        (B.list pieces.old.cutter.runs (D.At.content source.old.device)) pieces.new.cutter.limit pieces.new.cutter.made
-        pieces.new.cutter.start pieces.new.cutter.stage }
+    ensures cuts { CutsPiece result (λ end. end.0) B.BlockRuns D.At.Source pieces.old.cutter.runs
+        pieces.new.cutter.runs source.old.device source.new.device pieces.old.cutter.limit pieces.new.cutter.limit
+        pieces.old.cutter.made pieces.new.cutter.made pieces.old.cutter.start pieces.new.cutter.start
+        pieces.new.cutter.stage }
     // it is refused where something has failed
-    ensures outside { IsTrue D.tells → IfErr result (λ refusal. IsOutside refusal.fault) }
+    ensures outside { IsTrue D.tells → IfErr result (λ refusal. IsOutsideSparse refusal.fault) }
     ensures clean { IsTrue D.tells → OnOk result ((D.held disk.new).failed + D.At.read_faults source.new.device
         ≡ (D.held disk.old).failed + D.At.read_faults source.old.device) }
     ensures cause { IsTrue D.tells → OnErr result ((D.held disk.old).failed + D.At.read_faults source.old.device
@@ -108,29 +92,16 @@ fn put_in_file<'a, D: Disk, B: BlockRuns + LaysPieces + Drop>(
 ) -> Result<(Piece, bool), SparseRefusal<'a>>
     requires empty { D.Image.Output.written image ≡ [] }
     requires clean { IsTrue D.tells → D.Image.Output.write_faults image ≡ 0 }
-    requires between { pieces.old.cutter.stage ≡ Stage.Between }
-    requires opened { IsTrue D.At.tells → B.opened pieces.old.cutter.runs (D.At.content source.old.device) }
-    requires told { IsTrue D.At.tells → ToldCutter (B.place pieces.old.cutter.runs (D.At.content source.old.device))
-        (B.together pieces.old.cutter.runs (D.At.content source.old.device)) (B.size pieces.old.cutter.runs)
-        (B.list pieces.old.cutter.runs (D.At.content source.old.device)) pieces.old.cutter.limit pieces.old.cutter.made
-        pieces.old.cutter.start pieces.old.cutter.stage }
-    ensures holds { IsTrue D.tells → OnOk result (HoldsPiece (cut_into pieces.old.cutter.limit
+    requires ready { ReadyPiece B.BlockRuns D.At.Source pieces.old.cutter.runs source.old.device
+        pieces.old.cutter.limit pieces.old.cutter.made pieces.old.cutter.start pieces.old.cutter.stage }
+    ensures puts { IsTrue D.tells → PutsPiece result (λ refusal. refusal.fault) (cut_into pieces.old.cutter.limit
         (B.size pieces.old.cutter.runs) (B.list pieces.old.cutter.runs (D.At.content source.old.device)))
-        pieces.old.cutter.made (D.held disk.old).output (D.world disk.old) (D.world disk.new)) }
-    ensures piece { IfOk result (λ end. IsNext (B.count pieces.old.cutter.runs) pieces.old.cutter.limit
-        pieces.old.cutter.start.block pieces.new.cutter.start.block pieces.old.cutter.made pieces.new.cutter.made
-        pieces.new.cutter.stage end.0) }
-    ensures closed { IsTrue D.tells → ClosesBeside (is_ok result) (D.At.read_faults source.old.device)
-        (D.At.read_faults source.new.device) (D.held disk.old) (D.held disk.new) }
-    ensures rest { IsTrue D.tells → SparesRest (D.held disk.old).output (D.world disk.old) (D.world disk.new) }
-    ensures cutter { SameCutter pieces.old.cutter.runs pieces.new.cutter.runs pieces.old.cutter.limit
-        pieces.new.cutter.limit pieces.new.cutter.stage }
-    ensures content { IsTrue D.At.tells → D.At.content source.new.device ≡ D.At.content source.old.device }
-    ensures told { IsTrue D.At.tells → ToldCutter (B.place pieces.old.cutter.runs (D.At.content source.old.device))
-        (B.together pieces.old.cutter.runs (D.At.content source.old.device)) (B.size pieces.old.cutter.runs)
-        (B.list pieces.old.cutter.runs (D.At.content source.old.device)) pieces.new.cutter.limit pieces.new.cutter.made
-        pieces.new.cutter.start pieces.new.cutter.stage }
-    ensures outside { IsTrue D.tells → IfErr result (λ refusal. IsOutside refusal.fault) }
+        pieces.old.cutter.made (D.At.read_faults source.old.device) (D.At.read_faults source.new.device)
+        (D.held disk.old) (D.held disk.new) (D.world disk.old) (D.world disk.new) }
+    ensures cuts { CutsPiece result (λ end. end.0) B.BlockRuns D.At.Source pieces.old.cutter.runs
+        pieces.new.cutter.runs source.old.device source.new.device pieces.old.cutter.limit pieces.new.cutter.limit
+        pieces.old.cutter.made pieces.new.cutter.made pieces.old.cutter.start pieces.new.cutter.start
+        pieces.new.cutter.stage }
 {
     let (image, answer) = B::lay_next(&mut pieces.cutter, source, image, w, m);
     match answer {
@@ -156,29 +127,16 @@ fn put_in_stream<'a, D: Disk, B: BlockRuns + LaysPieces + Drop>(
 ) -> Result<(Piece, bool), SparseRefusal<'a>>
     requires empty { D.Onto.written onto ≡ [] }
     requires clean { IsTrue D.tells → D.Onto.write_faults onto ≡ 0 }
-    requires between { pieces.old.cutter.stage ≡ Stage.Between }
-    requires opened { IsTrue D.At.tells → B.opened pieces.old.cutter.runs (D.At.content source.old.device) }
-    requires told { IsTrue D.At.tells → ToldCutter (B.place pieces.old.cutter.runs (D.At.content source.old.device))
-        (B.together pieces.old.cutter.runs (D.At.content source.old.device)) (B.size pieces.old.cutter.runs)
-        (B.list pieces.old.cutter.runs (D.At.content source.old.device)) pieces.old.cutter.limit pieces.old.cutter.made
-        pieces.old.cutter.start pieces.old.cutter.stage }
-    ensures holds { IsTrue D.tells → OnOk result (HoldsPiece (cut_into pieces.old.cutter.limit
+    requires ready { ReadyPiece B.BlockRuns D.At.Source pieces.old.cutter.runs source.old.device
+        pieces.old.cutter.limit pieces.old.cutter.made pieces.old.cutter.start pieces.old.cutter.stage }
+    ensures puts { IsTrue D.tells → PutsPiece result (λ refusal. refusal.fault) (cut_into pieces.old.cutter.limit
         (B.size pieces.old.cutter.runs) (B.list pieces.old.cutter.runs (D.At.content source.old.device)))
-        pieces.old.cutter.made (D.held disk.old).output (D.world disk.old) (D.world disk.new)) }
-    ensures piece { IfOk result (λ end. IsNext (B.count pieces.old.cutter.runs) pieces.old.cutter.limit
-        pieces.old.cutter.start.block pieces.new.cutter.start.block pieces.old.cutter.made pieces.new.cutter.made
-        pieces.new.cutter.stage end.0) }
-    ensures closed { IsTrue D.tells → ClosesBeside (is_ok result) (D.At.read_faults source.old.device)
-        (D.At.read_faults source.new.device) (D.held disk.old) (D.held disk.new) }
-    ensures rest { IsTrue D.tells → SparesRest (D.held disk.old).output (D.world disk.old) (D.world disk.new) }
-    ensures cutter { SameCutter pieces.old.cutter.runs pieces.new.cutter.runs pieces.old.cutter.limit
-        pieces.new.cutter.limit pieces.new.cutter.stage }
-    ensures content { IsTrue D.At.tells → D.At.content source.new.device ≡ D.At.content source.old.device }
-    ensures told { IsTrue D.At.tells → ToldCutter (B.place pieces.old.cutter.runs (D.At.content source.old.device))
-        (B.together pieces.old.cutter.runs (D.At.content source.old.device)) (B.size pieces.old.cutter.runs)
-        (B.list pieces.old.cutter.runs (D.At.content source.old.device)) pieces.new.cutter.limit pieces.new.cutter.made
-        pieces.new.cutter.start pieces.new.cutter.stage }
-    ensures outside { IsTrue D.tells → IfErr result (λ refusal. IsOutside refusal.fault) }
+        pieces.old.cutter.made (D.At.read_faults source.old.device) (D.At.read_faults source.new.device)
+        (D.held disk.old) (D.held disk.new) (D.world disk.old) (D.world disk.new) }
+    ensures cuts { CutsPiece result (λ end. end.0) B.BlockRuns D.At.Source pieces.old.cutter.runs
+        pieces.new.cutter.runs source.old.device source.new.device pieces.old.cutter.limit pieces.new.cutter.limit
+        pieces.old.cutter.made pieces.new.cutter.made pieces.old.cutter.start pieces.new.cutter.start
+        pieces.new.cutter.stage }
 {
     let mut onto = onto;
     let answer = write_next(&mut pieces.cutter, source, &mut onto, w, m);
@@ -187,10 +145,9 @@ fn put_in_stream<'a, D: Disk, B: BlockRuns + LaysPieces + Drop>(
 
 // Lets an image go whose magic could not be laid.
 fn unended<'a, D: Disk>(disk: &mut D, image: D::Image, place: Place<'a>) -> SparseRefusal<'a>
-    ensures closed { IsTrue D.tells → GivesUp (D.Image.Output.write_faults image) (D.held disk.old)
-        (D.held disk.new) }
-    ensures rest { IsTrue D.tells → SparesRest (D.held disk.old).output (D.world disk.old) (D.world disk.new) }
-    ensures outside { IsOutside result.fault }
+    ensures closed { IsTrue D.tells → GivesUp (D.Image.Output.write_faults image) (D.held disk.old) (D.held disk.new)
+        (D.world disk.old) (D.world disk.new) }
+    ensures outside { IsOutsideSparse result.fault }
 {
     let refused = HostRefusal::at(HostFault::Write, place, image.why()).begun(place);
     disk.give_up_image(image);

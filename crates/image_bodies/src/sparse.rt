@@ -1,11 +1,11 @@
 //! The body of the command `sparse`.
 
-ghost use Rattle.std.specs.Prelude.{◌≡◌, ◌+◌, ◌++◌, ◌∷◌, [], None, IsTrue, IfErr, OnOk, if◌then◌else◌};
-ghost use Rattle.abt_disk.specs.World.{IsReading, OnlyAt, KeepsFile, HasNotFailed};
-ghost use Rattle.abt_output.specs.Shows.{Shows};
+ghost use Rattle.std.specs.Prelude.{◌++◌, ◌∷◌, [], IsTrue, IfErr, OnOk};
+ghost use Rattle.abt_disk.specs.World.{IsReading, KeepsFile, HasNotFailed};
+ghost use Rattle.abt_output.specs.Shows.{Shows, unprinted};
 ghost use Rattle.abt_refusals.specs.Paths.{path_of, path_out};
-ghost use Rattle.sparse_rules.specs.Lines.{text_of};
-ghost use Rattle.image_bodies.specs.Sparsing.{SparsifiesFile, HoldsNoPart, RefusesRaw, unprinted};
+ghost use Rattle.sparse_rules.specs.Lines.{line_text};
+ghost use Rattle.image_bodies.specs.Sparsing.{LeavesImage, RefusesRaw, SparsifiesFile};
 
 use crate::writing::write_whole;
 use abt_disk::Disk;
@@ -32,16 +32,11 @@ pub fn sparse_file<'a, D: Disk>(
     // OUT is another file than IN, and holds the sparse image of what IN holds; what was printed tells of it
     ensures done { IsTrue D.tells → OnOk result (SparsifiesFile (path_of input.entry) (path_out output.entry) block
         (D.world disk.old) (D.world disk.new) (Shows report.old report.new)) }
-    // it was synced, where that is wanted
-    ensures synced { IsTrue D.tells → OnOk result ((D.held disk.new).syncs
-        ≡ (D.held disk.old).syncs + (if (D.held disk.old).is_synced then 1 else 0)) }
-    // whatever the outcome, OUT alone may hold anything else, IN holds what it held, and a file has no part of an image
-    ensures others { IsTrue D.tells → OnlyAt (D.held disk.old).read (path_out output.entry) (D.world disk.old)
-        (D.world disk.new) }
-    ensures closed { IsTrue D.tells → (D.held disk.new).output ≡ None }
+    // whatever the outcome, OUT alone may hold anything else, IN holds what it held, and a file has no part of an image;
+    // where all is done OUT was synced, where that is wanted
+    ensures left { IsTrue D.tells → LeavesImage result (path_of input.entry) (path_out output.entry) block
+        (D.is_over (path_out output.entry)) (D.held disk.old) (D.held disk.new) (D.world disk.old) (D.world disk.new) }
     ensures input { IsTrue D.tells → KeepsFile (path_of input.entry) (D.world disk.old) (D.world disk.new) }
-    ensures whole { IsTrue D.tells → IsTrue (D.is_over (path_out output.entry)) → HoldsNoPart (path_of input.entry)
-        (path_out output.entry) block (D.world disk.old) (D.world disk.new) }
     // it is refused for a block size that IN hasn't, before anything is touched, or for a fault of files or devices that
     // came, or where all is done and can't be told; and else nothing has failed
     ensures refused { IsTrue D.tells → IfErr result (λ refusal. RefusesRaw (path_of input.entry) block
@@ -85,7 +80,7 @@ fn printed<'a>(
     is_on_output: bool,
     report: &mut Report,
 ) -> Result<(), HostRefusal<'a>>
-    ensures { OnOk result (Shows report.old report.new (text_of (Line.Sparse written.blocks written.chunks written.bytes)
+    ensures { OnOk result (Shows report.old report.new (line_text (Line.Sparse written.blocks written.chunks written.bytes)
         ++ (10 ∷ []))) }
 {
     let line = Line::Sparse {

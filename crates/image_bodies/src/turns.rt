@@ -1,13 +1,11 @@
 //! All pieces of an image, one after another.
 
-ghost use Rattle.std.specs.Prelude.{◌≡◌, ◌<◌, ◌≤◌, ◌+◌, ◌++◌, ◌∷◌, ◌⊎◌, [], None, Some, length, IsTrue, IfOk, IfErr, OnOk};
-ghost use Rattle.abt_disk.specs.World.{HasFailed, HasNotFailed, failing};
+ghost use Rattle.std.specs.Prelude.{◌≡◌, ◌<◌, ◌+◌, ◌++◌, ◌∷◌, ◌⊎◌, [], None, length, IsTrue, IfOk, IfErr, OnOk};
+ghost use Rattle.abt_disk.specs.World.{HasFailed, HasNotFailed};
 ghost use Rattle.abt_output.specs.Shows.{Shows};
-ghost use Rattle.abt_pieces.specs.Cutter.{ToldCutter};
-ghost use Rattle.abt_pieces.specs.declared.stage.Stage.{Stage};
-ghost use Rattle.sparse_rules.specs.Lines.{text_of};
-ghost use Rattle.image_bodies.specs.Cutting.{CutsAll, CutsSoFar, IsPiecePath, OnlyFails, ShowsLast, StopsCut, cut_into, piece_path};
-ghost use Rattle.abt_disk.specs.Among.{GoesAmong};
+ghost use Rattle.sparse_rules.specs.Lines.{line_text};
+ghost use Rattle.image_bodies.specs.Cutting.{CutsAll, CutsSoFar, IsPiecePath, IsUnbegun, OnlyFails, OnlyLeaves};
+ghost use Rattle.image_bodies.specs.Cutting.{ReadyPiece, ShowsLast, StopsCut, cut_into, piece_path};
 
 use crate::next_piece::LaysPieces;
 use crate::pieces::put_piece;
@@ -31,23 +29,17 @@ pub(crate) fn cut_pieces<'a, D: Disk, B: BlockRuns + LaysPieces + Drop>(
     w: &mut Window,
     m: &mut Meter,
 ) -> Result<(), SparseRefusal<'a>>
-    requires one { IsTrue D.tells → (D.held disk.old).output ≡ None }
-    requires clean { IsTrue D.tells → D.At.read_faults source ≡ 0 }
+    requires fresh { IsTrue D.tells → IsUnbegun (D.held disk.old) (D.At.read_faults source) }
     requires first { pieces.cutter.made ≡ 0 }
-    requires between { pieces.cutter.stage ≡ Stage.Between }
-    requires opened { IsTrue D.At.tells → B.opened pieces.cutter.runs (D.At.content source) }
-    requires told { IsTrue D.At.tells → ToldCutter (B.place pieces.cutter.runs (D.At.content source))
-        (B.together pieces.cutter.runs (D.At.content source)) (B.size pieces.cutter.runs)
-        (B.list pieces.cutter.runs (D.At.content source)) pieces.cutter.limit pieces.cutter.made pieces.cutter.start
-        pieces.cutter.stage }
+    requires ready { ReadyPiece B.BlockRuns D.At.Source pieces.cutter.runs source pieces.cutter.limit
+        pieces.cutter.made pieces.cutter.start pieces.cutter.stage }
     // each piece stands under its name, and the last line tells how many they are
     ensures done { IsTrue D.tells → OnOk result (CutsAll prefix.now (cut_into pieces.cutter.limit
         (B.size pieces.cutter.runs) (B.list pieces.cutter.runs (D.At.content source))) (D.held disk.old)
         (D.held disk.new) (D.world disk.old) (D.world disk.new) (ShowsLast report.new)) }
     // whatever comes, only files of pieces were created or changed, and none is open
-    ensures only { IsTrue D.tells → GoesAmong (IsPiecePath prefix.now) (D.held disk.old) (D.held disk.new)
+    ensures left { IsTrue D.tells → OnlyLeaves (IsPiecePath prefix.now) (D.held disk.old) (D.held disk.new)
         (D.world disk.old) (D.world disk.new) }
-    ensures closed { IsTrue D.tells → (D.held disk.new).output ≡ None }
     // it is refused where something has failed, or can't be told
     ensures refused { IsTrue D.tells → IfErr result (λ refusal. StopsCut refusal.fault
         (HasFailed (D.held disk.old) (D.held disk.new)) (λ n m. CutsSoFar prefix.now (cut_into pieces.cutter.limit
@@ -81,7 +73,7 @@ fn tell_all<'a, D: Disk>(
 ) -> Result<(), HostRefusal<'a>>
     ensures shown { IsTrue D.tells → OnOk result (files.entry.count < 4294967295
         → (D.world disk.now).at (piece_path files.entry.prefix.now (files.entry.count + 1)) ≡ None
-        → Shows report.old report.new (text_of (Line.Pieces files.entry.count) ++ (10 ∷ []))) }
+        → Shows report.old report.new (line_text (Line.Pieces files.entry.count) ++ (10 ∷ []))) }
 {
     let mut files = files;
     match report.line(Line::Pieces(files.count)) {
@@ -113,12 +105,8 @@ fn write_pieces<'a, D: Disk, B: BlockRuns + LaysPieces + Drop>(
 ) -> (D::At, Result<PieceFiles<'a>, SparseRefusal<'a>>)
     requires one { IsTrue D.tells → (D.held disk.old).output ≡ None }
     requires first { pieces.cutter.made ≡ 0 }
-    requires between { pieces.cutter.stage ≡ Stage.Between }
-    requires opened { IsTrue D.At.tells → B.opened pieces.cutter.runs (D.At.content source) }
-    requires told { IsTrue D.At.tells → ToldCutter (B.place pieces.cutter.runs (D.At.content source))
-        (B.together pieces.cutter.runs (D.At.content source)) (B.size pieces.cutter.runs)
-        (B.list pieces.cutter.runs (D.At.content source)) pieces.cutter.limit pieces.cutter.made
-        pieces.cutter.start pieces.cutter.stage }
+    requires ready { ReadyPiece B.BlockRuns D.At.Source pieces.cutter.runs source pieces.cutter.limit
+        pieces.cutter.made pieces.cutter.start pieces.cutter.stage }
     ensures done { IsTrue D.tells → IfOk result.1 (λ files. CutsSoFar prefix.now (cut_into pieces.cutter.limit
         (B.size pieces.cutter.runs) (B.list pieces.cutter.runs (D.At.content source))) files.count files.count
         (D.held disk.old) (D.held disk.new) (D.world disk.old) (D.world disk.new)) }
@@ -126,9 +114,8 @@ fn write_pieces<'a, D: Disk, B: BlockRuns + LaysPieces + Drop>(
         (B.size pieces.cutter.runs) (B.list pieces.cutter.runs (D.At.content source)))) }
     ensures some { IfOk result.1 (λ files. 0 < files.count) }
     ensures prefix { IfOk result.1 (λ files. files.prefix.now ≡ prefix.now) }
-    ensures only { IsTrue D.tells → GoesAmong (IsPiecePath prefix.now) (D.held disk.old) (D.held disk.new)
+    ensures left { IsTrue D.tells → OnlyLeaves (IsPiecePath prefix.now) (D.held disk.old) (D.held disk.new)
         (D.world disk.old) (D.world disk.new) }
-    ensures closed { IsTrue D.tells → (D.held disk.new).output ≡ None }
     ensures refused { IsTrue D.tells → IfErr result.1 (λ refusal. StopsCut refusal.fault
         ((D.held disk.old).failed + D.At.read_faults source
         < (D.held disk.new).failed + D.At.read_faults result.0)
@@ -174,7 +161,7 @@ fn print_piece<'a>(
     piece: Piece,
     is_on_output: bool,
 ) -> Result<(), HostRefusal<'a>>
-    ensures { OnOk result (Shows report.old report.new (text_of (Line.Piece number piece.first piece.past piece.bytes)
+    ensures { OnOk result (Shows report.old report.new (line_text (Line.Piece number piece.first piece.past piece.bytes)
         ++ (10 ∷ []))) }
 {
     let line = Line::Piece {

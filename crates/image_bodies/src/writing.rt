@@ -1,10 +1,8 @@
 //! The sparse image of a raw one in its file, which is at its end then.
 
-ghost use Rattle.std.specs.Prelude.{◌≡◌, ◌≤◌, ◌-◌, ◌*◌, ◌^◌, [], IsTrue, IfOk, IfErr, OnErr, is_ok};
+ghost use Rattle.std.specs.Prelude.{◌≡◌, [], IsTrue, OnErr};
 ghost use Rattle.abt_disk.specs.Images.{OfImage, is_file};
-ghost use Rattle.abt_disk.specs.World.{SparesRest};
-ghost use Rattle.image_bodies.specs.Sparsing.{HoldsWritten, LeavesNoPart, IsOutside, ClosesOutput};
-ghost use Rattle.sparse_rules.specs.Blocks.{IsBlockSize, most_of};
+ghost use Rattle.image_bodies.specs.Sparsing.{FitsBlocks, LeavesNoneOrSparse, WritesImage};
 
 use crate::late_writes::stopped;
 use crate::laying::{lay_image, write_image};
@@ -32,20 +30,15 @@ pub(crate) fn write_whole<'a, D: Disk>(
     w: &mut Window,
     m: &mut Meter,
 ) -> Result<(Written, bool), SparseRefusal<'a>>
-    requires sized { IsBlockSize blocks.size }
-    requires most { blocks.most ≡ most_of blocks.size }
-    requires few { D.At.size source ≤ (2 ^ 32 - 1) * blocks.size }
+    requires fits { FitsBlocks blocks (D.At.size source) }
     requires empty { OfImage (λ file. D.Image.Output.written file ≡ []) (λ onto. D.Onto.written onto ≡ []) image }
     requires read { IsTrue D.tells → D.At.read_faults source ≡ 0 }
     requires clean { IsTrue D.tells → OfImage (λ file. D.Image.Output.write_faults file ≡ 0)
         (λ onto. D.Onto.write_faults onto ≡ 0) image }
-    ensures holds { IsTrue D.tells → IfOk result (λ end. HoldsWritten blocks.size (D.At.content source) end.0
-        (D.held disk.old).output (D.world disk.old) (D.world disk.new)) }
-    ensures closed { IsTrue D.tells → ClosesOutput (is_ok result) (D.held disk.old) (D.held disk.new) }
-    ensures rest { IsTrue D.tells → SparesRest (D.held disk.old).output (D.world disk.old) (D.world disk.new) }
-    ensures broken { IsTrue D.tells → IsTrue (is_file image) → OnErr result (LeavesNoPart blocks.size
+    ensures writes { IsTrue D.tells → WritesImage result (λ refusal. refusal.fault) blocks.size (D.At.content source)
+        (D.held disk.old) (D.held disk.new) (D.world disk.old) (D.world disk.new) }
+    ensures broken { IsTrue D.tells → IsTrue (is_file image) → OnErr result (LeavesNoneOrSparse blocks.size
         (D.At.content source) (D.held disk.old).output (D.world disk.new)) }
-    ensures outside { IsTrue D.tells → IfErr result (λ refusal. IsOutside refusal.fault) }
 {
     match image {
         ImageTo::File(file) => write_over(
@@ -70,19 +63,14 @@ fn write_over<'a, D: Disk>(
     w: &mut Window,
     m: &mut Meter,
 ) -> Result<(Written, bool), SparseRefusal<'a>>
-    requires sized { IsBlockSize blocks.size }
-    requires most { blocks.most ≡ most_of blocks.size }
-    requires few { D.At.size source ≤ (2 ^ 32 - 1) * blocks.size }
+    requires fits { FitsBlocks blocks (D.At.size source) }
     requires empty { D.Image.Output.written image ≡ [] }
     requires read { IsTrue D.tells → D.At.read_faults source ≡ 0 }
     requires clean { IsTrue D.tells → D.Image.Output.write_faults image ≡ 0 }
-    ensures holds { IsTrue D.tells → IfOk result (λ end. HoldsWritten blocks.size (D.At.content source) end.0
-        (D.held disk.old).output (D.world disk.old) (D.world disk.new)) }
-    ensures closed { IsTrue D.tells → ClosesOutput (is_ok result) (D.held disk.old) (D.held disk.new) }
-    ensures rest { IsTrue D.tells → SparesRest (D.held disk.old).output (D.world disk.old) (D.world disk.new) }
-    ensures broken { IsTrue D.tells → OnErr result (LeavesNoPart blocks.size (D.At.content source)
+    ensures writes { IsTrue D.tells → WritesImage result (λ refusal. refusal.fault) blocks.size (D.At.content source)
+        (D.held disk.old) (D.held disk.new) (D.world disk.old) (D.world disk.new) }
+    ensures broken { IsTrue D.tells → OnErr result (LeavesNoneOrSparse blocks.size (D.At.content source)
         (D.held disk.old).output (D.world disk.new)) }
-    ensures outside { IsTrue D.tells → IfErr result (λ refusal. IsOutside refusal.fault) }
 {
     let mut carried = Carried {
         device: source,
@@ -113,17 +101,12 @@ fn write_through<'a, D: Disk>(
     w: &mut Window,
     m: &mut Meter,
 ) -> Result<(Written, bool), SparseRefusal<'a>>
-    requires sized { IsBlockSize blocks.size }
-    requires most { blocks.most ≡ most_of blocks.size }
-    requires few { D.At.size source ≤ (2 ^ 32 - 1) * blocks.size }
+    requires fits { FitsBlocks blocks (D.At.size source) }
     requires empty { D.Onto.written onto ≡ [] }
     requires read { IsTrue D.tells → D.At.read_faults source ≡ 0 }
     requires clean { IsTrue D.tells → D.Onto.write_faults onto ≡ 0 }
-    ensures holds { IsTrue D.tells → IfOk result (λ end. HoldsWritten blocks.size (D.At.content source) end.0
-        (D.held disk.old).output (D.world disk.old) (D.world disk.new)) }
-    ensures closed { IsTrue D.tells → ClosesOutput (is_ok result) (D.held disk.old) (D.held disk.new) }
-    ensures rest { IsTrue D.tells → SparesRest (D.held disk.old).output (D.world disk.old) (D.world disk.new) }
-    ensures outside { IsTrue D.tells → IfErr result (λ refusal. IsOutside refusal.fault) }
+    ensures writes { IsTrue D.tells → WritesImage result (λ refusal. refusal.fault) blocks.size (D.At.content source)
+        (D.held disk.old) (D.held disk.new) (D.world disk.old) (D.world disk.new) }
 {
     let mut carried = Carried {
         device: source,

@@ -7,6 +7,7 @@ use Rattle.abt_output.specs.declared.report.Report.{Report}
 use Rattle.abt_refusals.specs.declared.refusal.HostFault.{HostFault}
 use Rattle.abt_sections.proofs.Canonical.{canonical_iff}
 use Rattle.abt_sections.specs.Canonical.{StartsAsPacked}
+use Rattle.abt_sections.specs.Check.{IsVerdict}
 use Rattle.abt_sections.specs.Cause.{MoveCause}
 use Rattle.abt_sections.specs.declared.checking.Verdict.{Verdict}
 use Rattle.abt_sections.specs.declared.fault.SectionFault.{SectionFault}
@@ -16,7 +17,7 @@ use Rattle.abt_sections.specs.Open.{HasImage}
 use Rattle.boot_findings.specs.Reasons.{ReasonCause}
 use Rattle.boot_rules.specs.declared.fault.BootCommandFault.{BootCommandFault}
 use Rattle.boot_rules.specs.declared.fault.BootCommandFault.TheVariants as faults
-use Rattle.boot_texts.specs.Info.{InfoCause, IsVerdict, Reports, WriteTold}
+use Rattle.boot_texts.specs.Info.{InfoCause, Reports, SectionWriteTold}
 use Rattle.boot_texts.specs.declared.info_lines.Notation.{Notation}
 use Rattle.info_bodies.specs.Informing.{IsCheckRefusal, IsFailedHost, IsFlawedImage, IsInfoFault, IsInfoRefusal, IsSound, IsSoundImage}
 use Rattle.info_bodies.specs.Informing.{RefusesInfo, TellsFile, TellsImage, TellsText, is_good}
@@ -66,7 +67,7 @@ flawed x h v bytes image right bad = (
 
 -- of printing the text
 pub informed : (f : SectionFault) (x : List ℕ) (with_check : Bool) (r r' : ℕ) (nothing : Type 0) (old new : Report)
-    → InfoCause f x r r' nothing → WriteTold f old.out.faults.number new.out.faults.number
+    → InfoCause f x r r' nothing → SectionWriteTold f old.out.faults.number new.out.faults.number
     → IsInfoFault x with_check (r < r') old new f
 informed (sections.Read f) x with_check r r' nothing old new cause writes = cause
 informed (sections.Write f) x with_check r r' nothing old new cause writes = writes

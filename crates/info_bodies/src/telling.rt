@@ -3,7 +3,7 @@
 ghost use Rattle.std.specs.Prelude.{◌≡◌, ◌<◌, ◌&&◌, IsTrue, IfErr, OnOk};
 ghost use Rattle.abt_sections.specs.Header.{view_of};
 ghost use Rattle.abt_sections.specs.Open.{IsOpened};
-ghost use Rattle.boot_texts.specs.Info.{IsVerdict};
+ghost use Rattle.abt_sections.specs.Check.{IsVerdict};
 ghost use Rattle.info_bodies.specs.Informing as spec;
 
 use crate::info::InfoOutcome;

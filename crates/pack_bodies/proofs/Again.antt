@@ -1,8 +1,9 @@
 -- An image that is packed again: all that it is written from, and what is left of files.
 use Rattle.std.proofs.Common.{◌≡◌, ◌+◌, ◌⊎◌, inl, inr, ℕ, List, [], ◌∷◌, ◌++◌, Option}
 use Rattle.std.proofs.Common.{Bor, length, map, refl, sym, ap, ◌∙◌, subst, arith}
-use Rattle.std.specs.Prelude.{Contains, OnOk, Result, Ok, Err, if◌then◌else◌}
+use Rattle.std.specs.Prelude.{Bool, Contains, IsTrue, OnOk, Result, Ok, Err, if◌then◌else◌}
 use Rattle.std.proofs.lemmas.List.Elements.{Contains-append_left}
+use Rattle.abt_refusals.specs.Paths.{output_path}
 use Rattle.abt_disk.specs.World.{World, Held, HasFailed, HasNotFailed, OnlyAt, untouched, in_output, Spares}
 use Rattle.abt_disk.specs.World.{failing}
 use Rattle.abt_refusals.specs.declared.refusal.HostFault.{HostFault}
@@ -24,11 +25,11 @@ use Rattle.boot_rules.specs.declared.pack_texts.OptionText.{OptionText}
 use Rattle.boot_rules.specs.declared.pack_texts.PackTexts.{PackTexts}
 use Rattle.pack_bodies.specs.Contents.{Packing, image_from, refusal_from}
 use Rattle.pack_bodies.specs.Filling.{loaded_at}
-use Rattle.pack_bodies.specs.Lines.{counted, image_line}
+use Rattle.pack_bodies.specs.Lines.{counted_in_u64, image_line}
 use Rattle.pack_bodies.specs.Opening.{OpensMore, StopsOpening, failed, no_memory, no_text}
 use Rattle.pack_bodies.specs.Own.{StandsIn, kept_behind, own_fields}
-use Rattle.pack_bodies.specs.Packing.{board_words, output_path}
-use Rattle.pack_bodies.specs.Parts.{ArePartsOf, IsFragmentPath, IsGivenPath, IsPartPath, of_fragment}
+use Rattle.pack_bodies.specs.Packing.{board_id_words}
+use Rattle.pack_bodies.specs.Parts.{ArePartsOf, IsFragmentInput, IsGivenPath, IsPartInput, of_fragment}
 use Rattle.pack_bodies.specs.Parts.{of_part}
 use Rattle.pack_bodies.specs.Refusing.{IsBadBoard}
 use Rattle.pack_bodies.specs.RefusingAgain as again
@@ -36,8 +37,9 @@ use Rattle.pack_bodies.specs.RefusingAgain.{RefusesAgain, StopsFillingAgain, Sto
 use Rattle.pack_bodies.specs.Repacking.{AreAskedAgain, AreFieldsAgain, AreFragmentsAgain, IsPackedAgain}
 use Rattle.pack_bodies.specs.Repacking.{KeepsGivenAgain}
 use Rattle.pack_bodies.specs.Repacking.{PacksAgain}
-use Rattle.pack_bodies.specs.Writing.{HoldsNoPartOf, IsOutside, LaysImage, StopsWriting}
+use Rattle.pack_bodies.specs.Writing.{HoldsNoPartOf, IsOutsideBoot, LaysImage, LeavesOut, StopsWriting}
 use Rattle.pack_bodies.specs.Writing as writing
+use Rattle.pack_bodies.proofs.Closes.{on_ok_by}
 use Rattle.pack_bodies.proofs.Openings.{failed_still, opens_none, opens_then, same_failing, stops_then}
 
 -- ---- ramdisk fragments
@@ -45,12 +47,12 @@ use Rattle.pack_bodies.proofs.Openings.{failed_still, opens_none, opens_then, sa
 contains_none : (fs : List FragmentText) (text : FragmentText) → fs ≡ [] → Contains fs text → ⊥
 contains_none fs text none is = let e : Contains [] text = subst (λ l. Contains l text) none is in omega (arith, e.1)
 
-pub no_fragments : (fs : List FragmentText) → fs ≡ [] → (path : List ℕ) → IsFragmentPath fs path → ⊥
+pub no_fragments : (fs : List FragmentText) → fs ≡ [] → (path : List ℕ) → IsFragmentInput fs path → ⊥
 no_fragments fs none path is = contains_none fs is.text none is.is_one
 
 pub opened_none : {X E : Type 0} (r : Result X E) (fs : List FragmentText) (w : World) (h h' : Held) → fs ≡ []
-    → OnOk r (h' ≡ h) → OnOk r (OpensMore (IsFragmentPath fs) w h h')
-opened_none (Ok x) fs w h h' none same = opens_none (IsFragmentPath fs) w h h' same (no_fragments fs none)
+    → OnOk r (h' ≡ h) → OnOk r (OpensMore (IsFragmentInput fs) w h h')
+opened_none (Ok x) fs w h h' none same = opens_none (IsFragmentInput fs) w h h' same (no_fragments fs none)
 opened_none (Err e) fs w h h' none same = tt
 
 -- ---- all that it is written from
@@ -61,7 +63,7 @@ pub asked_again : (command : PackCommand) (w w' : World) (x : List ℕ) (h : Hea
     → kind ≡ kind_of h → w' ≡ w
     → ArePartsOf w' command.texts.options.items (StandsIn x h) (part_sections kind) parts → p.parts ≡ parts
     → AreFragmentsAgain w command.texts.fragments.items x h said ramdisks → p.ramdisks ≡ ramdisks
-    → AreSet (board_words command) said p.specs
+    → AreSet (board_id_words command) said p.specs
     → boot_fields p.fields ≡ loaded_at kind command.texts.options.items parts given
     → AreAskedAgain command w x h given p
 asked_again command w w' x h kind given p parts ramdisks said is same of_parts ps of_all rs boards loaded = record {
@@ -76,18 +78,18 @@ asked_again command w w' x h kind given p parts ramdisks said is same of_parts p
 }
 
 pub each_path : (texts : PackTexts) (kind : ImageKind) (path : List ℕ) → IsGivenPath texts kind path
-    → IsFragmentPath texts.fragments.items path ⊎ IsPartPath texts.options.items (part_sections kind) path
+    → IsFragmentInput texts.fragments.items path ⊎ IsPartInput texts.options.items (part_sections kind) path
 each_path texts kind path (of_part is) = inr is
 each_path texts kind path (of_fragment is) = inl is
 
 -- the files of the fragments, and then those of the parts
 pub opens_given : (texts : PackTexts) (kind : ImageKind) (w w' : World) (h h' h'' h3 : Held) → w' ≡ w
-    → OpensMore (IsFragmentPath texts.fragments.items) w h h'
-    → OpensMore (IsPartPath texts.options.items (part_sections kind)) w' h' h'' → h3 ≡ failing 0 h''
+    → OpensMore (IsFragmentInput texts.fragments.items) w h h'
+    → OpensMore (IsPartInput texts.options.items (part_sections kind)) w' h' h'' → h3 ≡ failing 0 h''
     → OpensMore (IsGivenPath texts kind) w h h3
 opens_given texts kind w w' h h' h'' h3 same a b last = subst (OpensMore (IsGivenPath texts kind) w h)
     (sym (last ∙ same_failing h''))
-    (opens_then (IsFragmentPath texts.fragments.items) (IsPartPath texts.options.items (part_sections kind))
+    (opens_then (IsFragmentInput texts.fragments.items) (IsPartInput texts.options.items (part_sections kind))
     (IsGivenPath texts kind) w w' h h' h'' same a b (each_path texts kind))
 
 pub none_unread : (a b c d : ℕ) → a ≡ 0 → b ≡ 0 → c ≡ 0 → d ≡ 0 → a + b + c + d ≡ 0
@@ -95,8 +97,8 @@ none_unread a b c d e f g h = omega (arith, e, f, g, h)
 
 -- ---- why not all is at hand
 
-outside_host : (fault : BootCommandFault) (f : HostFault) → fault ≡ faults.Host f → IsOutside fault
-outside_host fault f same = subst IsOutside (sym same) tt
+outside_host : (fault : BootCommandFault) (f : HostFault) → fault ≡ faults.Host f → IsOutsideBoot fault
+outside_host fault f same = subst IsOutsideBoot (sym same) tt
 
 pub filling_stops : (command : PackCommand) (w : World) (x : List ℕ) (h : Header) (A : List ℕ → Type 0) (k k' : Held)
     (f : HostFault) (fault : BootCommandFault)
@@ -110,13 +112,13 @@ filling_stops command w x h A k k' f fault wider (no_memory told) same =
 
 pub parts_stop : (command : PackCommand) (w : World) (x : List ℕ) (h : Header) (kind : ImageKind) (k k' k'' : Held)
     (f : HostFault) (fault : BootCommandFault) → kind ≡ kind_of h
-    → OpensMore (IsFragmentPath command.texts.fragments.items) w k k'
-    → StopsOpening (IsPartPath command.texts.options.items (part_sections kind)) k' k'' f → fault ≡ faults.Host f
+    → OpensMore (IsFragmentInput command.texts.fragments.items) w k k'
+    → StopsOpening (IsPartInput command.texts.options.items (part_sections kind)) k' k'' f → fault ≡ faults.Host f
     → StopsFillingAgain command w x h (HasFailed k k'') fault
 parts_stop command w x h kind k k' k'' f fault is opened stop same =
     filling_stops command w x h (IsGivenPath command.texts (kind_of h)) k k'' f fault (λ path given. given)
-    (stops_then (IsFragmentPath command.texts.fragments.items)
-    (IsPartPath command.texts.options.items (part_sections kind)) (IsGivenPath command.texts (kind_of h)) w k k' k'' f
+    (stops_then (IsFragmentInput command.texts.fragments.items)
+    (IsPartInput command.texts.options.items (part_sections kind)) (IsGivenPath command.texts (kind_of h)) w k k' k'' f
     opened stop (λ path p. subst (λ q. IsGivenPath command.texts q path) is (of_part p))) same
 
 pub board_stops : (command : PackCommand) (w : World) (x : List ℕ) (h : Header) (P : Type 0)
@@ -133,19 +135,19 @@ board_stops command w x h P said ramdisks words fault are same bad =
 
 pub boards_set : (command : PackCommand) (words : List (Bor (List ℕ))) (said set all : List FragmentSpec)
     → words ≡ command.board_ids.items → AreSet (map (λ word. word.now) words) said set → all ≡ set
-    → AreSet (board_words command) said all
-boards_set command words said set all same are told = subst (AreSet (board_words command) said) (sym told)
+    → AreSet (board_id_words command) said all
+boards_set command words said set all same are told = subst (AreSet (board_id_words command) said) (sym told)
     (subst (λ l. AreSet (map (λ word. word.now) l) said set) same are)
 
 pub behind_stops : (command : PackCommand) (w : World) (x : List ℕ) (h : Header) (kind : ImageKind) (k k' k'' k3 : Held)
     (v : World) (f : HostFault) (fault : BootCommandFault)
-    → OpensMore (IsFragmentPath command.texts.fragments.items) w k k'
-    → OpensMore (IsPartPath command.texts.options.items (part_sections kind)) v k' k'' → k3 ≡ failing 1 k''
+    → OpensMore (IsFragmentInput command.texts.fragments.items) w k k'
+    → OpensMore (IsPartInput command.texts.options.items (part_sections kind)) v k' k'' → k3 ≡ failing 1 k''
     → fault ≡ faults.Host f → StopsFillingAgain command w x h (HasFailed k k3) fault
 behind_stops command w x h kind k k' k'' k3 v f fault a b more same =
-    let i : k'.failed ≡ k.failed = failed_still (IsFragmentPath command.texts.fragments.items) w k k' a in
+    let i : k'.failed ≡ k.failed = failed_still (IsFragmentInput command.texts.fragments.items) w k k' a in
     let j : k''.failed ≡ k'.failed =
-    failed_still (IsPartPath command.texts.options.items (part_sections kind)) v k' k'' b in
+    failed_still (IsPartInput command.texts.options.items (part_sections kind)) v k' k'' b in
     let n : k3.failed ≡ k''.failed + 1 = ap (λ q. q.failed) more in
     again.unopened (outside_host fault f same) (omega (arith, i, j, n))
 
@@ -217,10 +219,10 @@ module _ (command : PackCommand) (x : List ℕ) (h : Header) (w w' : World) (k k
     apart = λ p given there. lays.free (r.opened.listed p lays.onto given there);
     image = packed_again (w''.holds lays.onto) lays.holds;
     spares = spares_old w'' lays.onto lays.spares;
-    shown = subst (λ n. shows (image_line (counted n) ++ (10 ∷ []))) (sym (ap length lays.holds)) lays.shown;
+    shown = subst (λ n. shows (image_line (counted_in_u64 n) ++ (10 ∷ []))) (sym (ap length lays.holds)) lays.shown;
   }
 
-  pub only_again : (w'' : World) (path : List ℕ) → path ≡ output_path command.output.now → OnlyAt k'.read path w' w''
+  only_again : (w'' : World) (path : List ℕ) → path ≡ output_path command.output.now → OnlyAt k'.read path w' w''
       → OnlyAt k.read (output_path command.output.now) w w''
   only_again w'' path named (untouched same) = untouched (same ∙ r.same)
   only_again w'' path named (in_output file there free s) =
@@ -232,7 +234,7 @@ module _ (command : PackCommand) (x : List ℕ) (h : Header) (w w' : World) (k k
       s.files file (λ one. free (subst (Contains k'.read) one (r.opened.listed p file given there)))
       ∙ ap (λ v. v.holds file) r.same
 
-  pub whole_again : (w'' : World) (path : List ℕ) → path ≡ output_path command.output.now
+  whole_again : (w'' : World) (path : List ℕ) → path ≡ output_path command.output.now
       → HoldsNoPartOf path (λ y. y ≡ bytes) w' w''
       → HoldsNoPartOf (output_path command.output.now) (IsPackedAgain command x h w) w w''
   whole_again w'' path named whole file there = elim (whole file (ap w''.at named ∙ there)) [
@@ -243,9 +245,20 @@ module _ (command : PackCommand) (x : List ℕ) (h : Header) (w w' : World) (k k
     ])
   ]
 
-  pub synced_again : (k'' : Held) → k''.syncs ≡ k'.syncs + (if k'.is_synced then 1 else 0)
+  synced_again : (k'' : Held) → k''.syncs ≡ k'.syncs + (if k'.is_synced then 1 else 0)
       → k''.syncs ≡ k.syncs + (if k.is_synced then 1 else 0)
   synced_again k'' s = s ∙ ap (λ (q : Held). q.syncs + (if q.is_synced then 1 else 0)) r.opened.taken
+
+  pub left_again : {X F : Type 0} (q : Result X F) (w'' : World) (k'' : Held) (path : List ℕ) (over : List ℕ → Bool)
+      → path ≡ output_path command.output.now → LeavesOut q path (over path) (λ y. y ≡ bytes) k' k'' w' w''
+      → LeavesOut q (output_path command.output.now) (over (output_path command.output.now))
+      (IsPackedAgain command x h w) k k'' w w''
+  left_again q w'' k'' path over named left = record {
+    others = only_again w'' path named left.others;
+    closed = left.closed;
+    whole = λ o. whole_again w'' path named (left.whole (subst (λ p. IsTrue (over p)) (sym named) o));
+    synced = on_ok_by q (synced_again k'') left.synced;
+  }
 
   same_failed : k'.failed ≡ k.failed
   same_failed = ap (λ q. q.failed) r.opened.taken
@@ -316,7 +329,7 @@ judging_refuses command x h w w' P P' Q kind f fault same is told (again.untaken
     words_refuse command x h w w' P' Q kind (own_fields h) f fault same is refl told
     (untaken_wrong (own_fields h) kind command.texts.options.items command.texts.fragments.items f u)
 judging_refuses command x h w w' P P' Q kind f fault same is told (again.not_read (again.unread outside read)) more =
-    again.failed (subst IsOutside (sym told) outside) (more read)
+    again.failed (subst IsOutsideBoot (sym told) outside) (more read)
 judging_refuses command x h w w' P P' Q kind f fault same is told (again.not_read (again.no_room memory)) more =
     again.no_memory (told ∙ memory) same
 
@@ -337,10 +350,12 @@ pub content_done : (command : PackCommand) (x y : List ℕ) (h : Header) (read :
     (shows : List ℕ → Type 0) → x ≡ y → PacksAgain command x h read w w' shows → PacksAgain command y h read w w' shows
 content_done command x y h read w w' shows same done = subst (λ z. PacksAgain command z h read w w' shows) same done
 
-pub content_whole : (command : PackCommand) (x y : List ℕ) (h : Header) (v w w' : World) (path : List ℕ) → x ≡ y
-    → HoldsNoPartOf path (IsPackedAgain command x h v) w w' → HoldsNoPartOf path (IsPackedAgain command y h v) w w'
-content_whole command x y h v w w' path same whole =
-    subst (λ z. HoldsNoPartOf path (IsPackedAgain command z h v) w w') same whole
+pub content_left : {X F : Type 0} (r : Result X F) (command : PackCommand) (x y : List ℕ) (h : Header) (v : World)
+    (path : List ℕ) (over : Bool) (k k' : Held) (w w' : World) → x ≡ y
+    → LeavesOut r path over (IsPackedAgain command x h v) k k' w w'
+    → LeavesOut r path over (IsPackedAgain command y h v) k k' w w'
+content_left r command x y h v path over k k' w w' same left =
+    subst (λ z. LeavesOut r path over (IsPackedAgain command z h v) k k' w w') same left
 
 pub content_refused : (command : PackCommand) (x y : List ℕ) (h : Header) (w w' : World) (P P' : Type 0)
     (read : List ℕ) (shows : List ℕ → Type 0) (fault : BootCommandFault) → x ≡ y

@@ -1,12 +1,13 @@
 -- What has failed, counted over the calls of a run, and an output that is closed.
 use Rattle.std.proofs.Common.{arith, ◌+◌, ◌≡◌, ℕ, ◌<◌, List, [], ◌∷◌, ◌++◌, None, length}
-use Rattle.std.proofs.Common.{Bool, true, false, refl, sym, ◌∙◌, ap}
-use Rattle.std.specs.Prelude.{IsOk, IfOk, OnOk, OnErr, Result, Ok, Err, is_ok, if◌then◌else◌, ◌&&◌}
+use Rattle.std.proofs.Common.{Bool, true, false, refl, sym, ◌∙◌, ap, inl}
+use Rattle.std.specs.Prelude.{IsOk, IsTrue, IfOk, OnOk, OnErr, Result, Ok, Err, is_ok, if◌then◌else◌, ◌&&◌}
 use Rattle.std.proofs.lemmas.Bool.{false≢true}
 use Rattle.std.proofs.lemmas.List.Sums.{sum_by-append}
 use Rattle.abt_sections.specs.Cause.{total}
-use Rattle.abt_disk.specs.World.{World, Held, Creates, HasFailed, HasNotFailed, failing, ended, unended}
-use Rattle.pack_bodies.specs.Writing.{ClosesOutput}
+use Rattle.abt_disk.specs.World.{ClosesOutput, Creates, HasFailed, HasNotFailed, Held, World, ended, failing, unended}
+use Rattle.abt_disk.specs.World.{OnlyAt, untouched}
+use Rattle.pack_bodies.specs.Writing.{HoldsNoPartOf, LeavesOut}
 
 -- ---- what was read is let go
 
@@ -122,3 +123,30 @@ closed_created d h h' closes = ap (λ k. k.output) closes.closed
 
 pub failed_once : (h h' : Held) → h' ≡ failing 1 h → HasFailed h h'
 failed_once h h' now = let e : h'.failed ≡ h.failed + 1 = ap (λ k. k.failed) now in omega (arith, e)
+
+-- ---- what OUT is left as
+
+-- it was not opened
+pub left_unopened : {X F : Type 0} (e : F) (output : List ℕ) (over : Bool) (W : List ℕ → Type 0) (h h' : Held)
+    (a b : World) → h'.output ≡ None → b ≡ a → LeavesOut {X = X} (Err e) output over W h h' a b
+left_unopened e output over W h h' a b none same = record {
+  others = untouched same;
+  closed = none;
+  whole = λ o file at. inl (ap (λ (u : World). u.holds file) same);
+  synced = tt;
+}
+
+-- what is so where a call was answered so follows from this
+pub on_ok_by : {X F : Type 0} {P Q : Type 0} (r : Result X F) → (P → Q) → OnOk r P → OnOk r Q
+on_ok_by (Ok x) to p = to p
+on_ok_by (Err e) to p = tt
+
+-- the same told with another answer
+pub left_told : {X Y F G : Type 0} {x : X} (y : Y) {output : List ℕ} {over : Bool} {W : List ℕ → Type 0} {h h' : Held}
+    {a b : World} → LeavesOut {F = F} (Ok x) output over W h h' a b → LeavesOut {F = G} (Ok y) output over W h h' a b
+left_told y left =
+    record { others = left.others; closed = left.closed; whole = left.whole; synced = left.synced }
+
+pub left_refused : {X Y F G : Type 0} {e : F} (f : G) {output : List ℕ} {over : Bool} {W : List ℕ → Type 0} {h h' : Held}
+    {a b : World} → LeavesOut {X = X} (Err e) output over W h h' a b → LeavesOut {X = Y} (Err f) output over W h h' a b
+left_refused f left = record { others = left.others; closed = left.closed; whole = left.whole; synced = tt }

@@ -4,7 +4,7 @@ use Rattle.std.proofs.Common.{refl, sym, ap, ◌∙◌}
 use Rattle.std.proofs.Common.{arith}
 use Rattle.std.specs.Prelude.{if◌then◌else◌}
 use Rattle.abt_headers.specs.declared.entry.RamdiskEntry.{RamdiskEntry}
-use Rattle.abt_headers.specs.Vendor.{Tail, version_of}
+use Rattle.abt_headers.specs.Vendor.{Tail, vendor_version_with}
 use Rattle.abt_sections.specs.Cause.{ReadCause}
 use Rattle.abt_sections.specs.Header.{Header, OfBoot, OfVendor, entries_in, fragment_count}
 use Rattle.abt_sections.specs.declared.fault.SectionFault.{SectionFault}
@@ -36,7 +36,7 @@ unread_since r s r' fault same (unread outside more) = unread outside (omega (ar
 unread_since r s r' fault same (no_room memory) = no_room memory
 
 -- an image of another kind than version 4 of a vendor boot image has no fragments
-vendor_count : (tail : Option Tail) → (version_of tail ≡ 4 → ⊥) → entries_in tail ≡ 0
+vendor_count : (tail : Option Tail) → (vendor_version_with tail ≡ 4 → ⊥) → entries_in tail ≡ 0
 vendor_count None other = refl
 vendor_count (Some t) other = absurd (other refl)
 

@@ -24,8 +24,8 @@ use Rattle.boot_rules.specs.declared.pack_texts.FragmentText.{FragmentText}
 use Rattle.boot_rules.specs.declared.pack_texts.OptionText.{OptionText}
 use Rattle.boot_rules.specs.declared.part_rows.PartRow.{PartRow}
 use Rattle.pack_bodies.specs.Opening.{OpensMore, StopsOpening}
-use Rattle.pack_bodies.specs.Parts.{AddsFragment, AreFragmentsOf, ArePartsOf, IsFragmentOf, IsFragmentPath, IsPartBy}
-use Rattle.pack_bodies.specs.Parts.{IsPartPath, IsPathOf}
+use Rattle.pack_bodies.specs.Parts.{AddsFragment, AreFragmentsOf, ArePartsOf, IsFragmentOf, IsFragmentInput, IsPartBy}
+use Rattle.pack_bodies.specs.Parts.{IsPartInput, IsPathOf}
 use Rattle.pack_bodies.specs.Refusing.{IsBadBoard}
 use Rattle.pack_bodies.proofs.Openings.{opens_file, opens_none, opens_then, same_failing, stops_more, stops_then}
 
@@ -87,11 +87,11 @@ none_at_all faults ps none = ap (total faults) none
 
 -- ---- the paths of parts
 
-pub no_paths : (o : List OptionText) (path : List ℕ) → IsPartPath o [] path → ⊥
+pub no_paths : (o : List OptionText) (path : List ℕ) → IsPartInput o [] path → ⊥
 no_paths o path is = omega (arith, is.is_one.1)
 
 path_split : (o : List OptionText) (ss : List Section) (s : Section) (path : List ℕ)
-    → IsPartPath o (ss ++ (s ∷ [])) path → IsPartPath o ss path ⊎ IsPathOf o (option_of s) path
+    → IsPartInput o (ss ++ (s ∷ [])) path → IsPartInput o ss path ⊎ IsPathOf o (option_of s) path
 path_split o ss s path is = elim (Contains-push_cases ss s is.section is.is_one) [
   | inl before ↦ inl (record { section = is.section; is_one = before; is_path = is.is_path })
   | inr same ↦ inr (subst (λ t. IsPathOf o (option_of t) path) (sym same) is.is_path)
@@ -99,30 +99,30 @@ path_split o ss s path is = elim (Contains-push_cases ss s is.section is.is_one)
 
 pub paths_so_far : (w w' : World) (o : List OptionText) (rows : List PartRow) (i : ℕ) (d : PartRow)
     (h h' h'' : Held) → i < length rows → All (λ (r : PartRow). r.option.now ≡ option_of r.section) rows → w' ≡ w
-    → OpensMore (IsPartPath o (map (λ (r : PartRow). r.section) (take i rows))) w h h'
+    → OpensMore (IsPartInput o (map (λ (r : PartRow). r.section) (take i rows))) w h h'
     → OpensMore (IsPathOf o (get_or rows i d).option.now) w' h' h''
-    → OpensMore (IsPartPath o (map (λ (r : PartRow). r.section) (take (i + 1) rows))) w h h''
+    → OpensMore (IsPartInput o (map (λ (r : PartRow). r.section) (take (i + 1) rows))) w h h''
 paths_so_far w w' o rows i d h h' h'' there named same before more =
     let row = get_or rows i d in
     let front = map (λ (r : PartRow). r.section) (take i rows) in
-    subst (λ l. OpensMore (IsPartPath o l) w h h'') (sym (more_sections rows i d there))
-    (opens_then (IsPartPath o front) (IsPathOf o row.option.now) (IsPartPath o (front ++ (row.section ∷ [])))
+    subst (λ l. OpensMore (IsPartInput o l) w h h'') (sym (more_sections rows i d there))
+    (opens_then (IsPartInput o front) (IsPathOf o row.option.now) (IsPartInput o (front ++ (row.section ∷ [])))
     w w' h h' h'' same before more
-    (λ p q. subst (λ n. IsPartPath o front p ⊎ IsPathOf o n p) (sym (named i d there))
+    (λ p q. subst (λ n. IsPartInput o front p ⊎ IsPathOf o n p) (sym (named i d there))
     (path_split o front row.section p q)))
 
 pub paths_all : (w : World) (o : List OptionText) (rows : List PartRow) (i : ℕ) (ss : List Section) (h h' : Held)
     → length rows ≤ i → map (λ (r : PartRow). r.section) rows ≡ ss
-    → OpensMore (IsPartPath o (map (λ (r : PartRow). r.section) (take i rows))) w h h'
-    → OpensMore (IsPartPath o ss) w h h'
+    → OpensMore (IsPartInput o (map (λ (r : PartRow). r.section) (take i rows))) w h h'
+    → OpensMore (IsPartInput o ss) w h h'
 paths_all w o rows i ss h h' end is opens =
-    subst (λ l. OpensMore (IsPartPath o l) w h h')
+    subst (λ l. OpensMore (IsPartInput o l) w h h')
     (ap (map (λ (r : PartRow). r.section)) (take_all i rows end) ∙ is) opens
 
 -- the path of a row is one of all
 row_path : (o : List OptionText) (rows : List PartRow) (i : ℕ) (d : PartRow) (ss : List Section) (path : List ℕ)
     → i < length rows → All (λ (r : PartRow). r.option.now ≡ option_of r.section) rows
-    → map (λ (r : PartRow). r.section) rows ≡ ss → IsPathOf o (get_or rows i d).option.now path → IsPartPath o ss path
+    → map (λ (r : PartRow). r.section) rows ≡ ss → IsPathOf o (get_or rows i d).option.now path → IsPartInput o ss path
 row_path o rows i d ss path there named sections of_row =
     let row = get_or rows i d in
     let long = length-map rows (λ (r : PartRow). r.section) in
@@ -140,11 +140,11 @@ row_path o rows i d ss path there named sections of_row =
 pub row_stops : (w : World) (o : List OptionText) (rows : List PartRow) (i : ℕ) (d : PartRow) (ss : List Section)
     (h h' h'' : Held) (f : HostFault) → i < length rows → All (λ (r : PartRow). r.option.now ≡ option_of r.section) rows
     → map (λ (r : PartRow). r.section) rows ≡ ss
-    → OpensMore (IsPartPath o (map (λ (r : PartRow). r.section) (take i rows))) w h h'
-    → StopsOpening (IsPathOf o (get_or rows i d).option.now) h' h'' f → StopsOpening (IsPartPath o ss) h h'' f
+    → OpensMore (IsPartInput o (map (λ (r : PartRow). r.section) (take i rows))) w h h'
+    → StopsOpening (IsPathOf o (get_or rows i d).option.now) h' h'' f → StopsOpening (IsPartInput o ss) h h'' f
 row_stops w o rows i d ss h h' h'' f there named sections before stops =
-    stops_then (IsPartPath o (map (λ (r : PartRow). r.section) (take i rows))) (IsPathOf o (get_or rows i d).option.now)
-    (IsPartPath o ss) w h h' h'' f before stops (λ p q. row_path o rows i d ss p there named sections q)
+    stops_then (IsPartInput o (map (λ (r : PartRow). r.section) (take i rows))) (IsPathOf o (get_or rows i d).option.now)
+    (IsPartInput o ss) w h h' h'' f before stops (λ p q. row_path o rows i d ss p there named sections q)
 
 -- ---- fragments
 
@@ -197,11 +197,11 @@ fragments_count w (v ∷ ts) (z ∷ ss) [] are = absurd are
 fragments_count w (v ∷ ts) (z ∷ ss) (y ∷ xs) are =
     let e = fragments_count w ts ss xs are.1 in omega (arith, e)
 
-pub no_fragments : (path : List ℕ) → IsFragmentPath [] path → ⊥
+pub no_fragments : (path : List ℕ) → IsFragmentInput [] path → ⊥
 no_fragments path is = omega (arith, is.is_one.1)
 
-fragment_split : (ts : List FragmentText) (t : FragmentText) (path : List ℕ) → IsFragmentPath (ts ++ (t ∷ [])) path
-    → IsFragmentPath ts path ⊎ (path ≡ t.path.items)
+fragment_split : (ts : List FragmentText) (t : FragmentText) (path : List ℕ) → IsFragmentInput (ts ++ (t ∷ [])) path
+    → IsFragmentInput ts path ⊎ (path ≡ t.path.items)
 fragment_split ts t path is = elim (Contains-push_cases ts t is.text is.is_one) [
   | inl before ↦ inl (record { text = is.text; is_one = before; is_path = is.is_path })
   | inr same ↦ inr (is.is_path ∙ ap (λ (x : FragmentText). x.path.items) (sym same))
@@ -209,31 +209,31 @@ fragment_split ts t path is = elim (Contains-push_cases ts t is.text is.is_one) 
 
 pub files_so_far : (w w' : World) (texts items : List FragmentText) (i : ℕ) (d : FragmentText) (h h' h'' : Held)
     → items ≡ texts → i < length items → d ≡ get_or items i d → w' ≡ w
-    → OpensMore (IsFragmentPath (take i texts)) w h h' → OpensMore (λ path. path ≡ d.path.items) w' h' h''
-    → OpensMore (IsFragmentPath (take (i + 1) texts)) w h h''
+    → OpensMore (IsFragmentInput (take i texts)) w h h' → OpensMore (λ path. path ≡ d.path.items) w' h' h''
+    → OpensMore (IsFragmentInput (take (i + 1) texts)) w h h''
 files_so_far w w' texts items i d h h' h'' all there at same before more =
     let text = get_or texts i d in
     let within : i < length texts = subst (λ l. i < length l) all there in
     let now : OpensMore (λ path. path ≡ text.path.items) w' h' h''
     = subst (λ l. OpensMore (λ path. path ≡ (get_or l i d).path.items) w' h' h'') all
     (subst (λ (x : FragmentText). OpensMore (λ path. path ≡ x.path.items) w' h' h'') at more) in
-    subst (λ l. OpensMore (IsFragmentPath l) w h h'') (sym (take_more texts i d within))
-    (opens_then (IsFragmentPath (take i texts)) (λ path. path ≡ text.path.items)
-    (IsFragmentPath (take i texts ++ (text ∷ []))) w w' h h' h'' same before now
+    subst (λ l. OpensMore (IsFragmentInput l) w h h'') (sym (take_more texts i d within))
+    (opens_then (IsFragmentInput (take i texts)) (λ path. path ≡ text.path.items)
+    (IsFragmentInput (take i texts ++ (text ∷ []))) w w' h h' h'' same before now
     (λ p q. fragment_split (take i texts) text p q))
 
 pub files_all : (w : World) (texts items : List FragmentText) (i : ℕ) (h h' : Held) → items ≡ texts
-    → length items ≤ i → OpensMore (IsFragmentPath (take i texts)) w h h' → OpensMore (IsFragmentPath texts) w h h'
+    → length items ≤ i → OpensMore (IsFragmentInput (take i texts)) w h h' → OpensMore (IsFragmentInput texts) w h h'
 files_all w texts items i h h' all end opens =
-    subst (λ l. OpensMore (IsFragmentPath l) w h h') (take_all i texts (subst (λ l. length l ≤ i) all end)) opens
+    subst (λ l. OpensMore (IsFragmentInput l) w h h') (take_all i texts (subst (λ l. length l ≤ i) all end)) opens
 
 -- a fragment's file was not opened
 pub file_stops : (w : World) (texts items : List FragmentText) (i : ℕ) (d : FragmentText) (h h' h'' : Held)
     (f : HostFault) → items ≡ texts → i < length items → d ≡ get_or items i d
-    → OpensMore (IsFragmentPath (take i texts)) w h h' → StopsOpening (λ path. path ≡ d.path.items) h' h'' f
-    → StopsOpening (IsFragmentPath texts) h h'' f
+    → OpensMore (IsFragmentInput (take i texts)) w h h' → StopsOpening (λ path. path ≡ d.path.items) h' h'' f
+    → StopsOpening (IsFragmentInput texts) h h'' f
 file_stops w texts items i d h h' h'' f all there at before stops =
-    stops_then (IsFragmentPath (take i texts)) (λ path. path ≡ d.path.items) (IsFragmentPath texts)
+    stops_then (IsFragmentInput (take i texts)) (λ path. path ≡ d.path.items) (IsFragmentInput texts)
     w h h' h'' f before stops
     (λ p q. record {
       text = d;

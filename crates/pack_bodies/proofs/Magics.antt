@@ -10,7 +10,7 @@ use Rattle.abt_sections.specs.Broken.{IsBrokenOff, OpensAsNothing}
 use Rattle.abt_disk.specs.Images.{EmptiesAt, HasNoFront, Leaves}
 use Rattle.abt_disk.specs.World.{World}
 use Rattle.pack_bodies.specs.Magic.{HoldsNone, HasZeroInMagic, has_zero, is_short, opens_as_nothing}
-use Rattle.pack_bodies.specs.Writing.{LeavesNoPart}
+use Rattle.pack_bodies.specs.Writing.{LeavesNoneOrAll}
 
 pub empty_none : (x : List ℕ) → x ≡ [] → HoldsNone x
 empty_none x e = is_short (let l : length x ≡ 0 = ap length e in omega (arith, l))
@@ -83,13 +83,13 @@ no_front x (inr zero) = elim (cases_lt (length x) 8) [
 
 -- it holds what is no image
 pub left_none : (o : Option ℕ) (x bytes : List ℕ) (new : World) → HoldsNone x → Leaves o x new
-    → LeavesNoPart o bytes new
+    → LeavesNoneOrAll o bytes new
 left_none None x bytes new none left = tt
 left_none (Some file) x bytes new none (inl same) = inl (subst HoldsNone (sym same) none)
 left_none (Some file) x bytes new none (inr gone) = inl (no_front (new.holds file) gone)
 
 -- or all, or nothing at its front
-pub left_all : (o : Option ℕ) (x bytes : List ℕ) (new : World) → x ≡ bytes → Leaves o x new → LeavesNoPart o bytes new
+pub left_all : (o : Option ℕ) (x bytes : List ℕ) (new : World) → x ≡ bytes → Leaves o x new → LeavesNoneOrAll o bytes new
 left_all None x bytes new all left = tt
 left_all (Some file) x bytes new all (inl same) = inr (same ∙ all)
 left_all (Some file) x bytes new all (inr gone) = inl (no_front (new.holds file) gone)

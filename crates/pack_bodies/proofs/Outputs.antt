@@ -2,17 +2,20 @@
 use Rattle.std.proofs.Common.{inl, inr, ◌⊎◌, ◌+◌, ◌≡◌, ◌≢◌, ℕ, List, [], ◌∷◌, ◌++◌, Option, Some}
 use Rattle.std.proofs.Common.{Bool, true, false, sym, ◌∙◌, ap, subst, length}
 use Rattle.std.proofs.lemmas.Bool.{false≢true}
-use Rattle.std.specs.Prelude.{unwrap_or, IsOk, IfOk, IfErr, OnOk, OnErr, MatchResult, Result, Ok, Err, is_ok}
-use Rattle.abt_disk.specs.World.{World, Held, Spares, Creates, Ends, SparesRest, failing}
+use Rattle.std.specs.Prelude.{if◌then◌else◌, unwrap_or, IsOk, IfOk, IfErr, OnOk, OnErr, MatchResult, Result, Ok, Err, is_ok}
+use Rattle.abt_disk.specs.World.{ClosesOutput, Creates, Ends, Held, Spares, SparesRest, World, failing}
 use Rattle.abt_sections.specs.declared.fault.SectionFault.{SectionFault}
 use Rattle.boot_rules.specs.Refused.{IsJudged, IsOfMoving}
 use Rattle.boot_rules.specs.declared.fault.BootCommandFault.{BootCommandFault}
 use Rattle.boot_rules.specs.declared.fault.BootCommandFault.TheVariants as faults
 use Rattle.abt_refusals.specs.declared.refusal.HostFault.{HostFault}
-use Rattle.pack_bodies.specs.Lines.{counted, image_line}
+use Rattle.pack_bodies.specs.Lines.{counted_in_u64, image_line}
 use Rattle.pack_bodies.specs.Magic.{HoldsNone}
-use Rattle.pack_bodies.specs.Writing.{HoldsNoPartOf, IsOutside, LaysImage, LeavesNoPart, StopsWriting}
+use Rattle.pack_bodies.specs.Writing.{HoldsNoPartOf, IsOutsideBoot, LaysImage, LeavesNoneOrAll, LeavesOut}
+use Rattle.pack_bodies.specs.Writing.{StopsWriting}
 use Rattle.pack_bodies.specs.Writing.{no_memory, refused}
+use Rattle.abt_disk.proofs.Worlds.{only_written}
+use Rattle.pack_bodies.proofs.Closes.{closed_created}
 use Rattle.pack_bodies.proofs.Magics.{empty_none}
 
 one : (o : Option ℕ) (f g : ℕ) → o ≡ Some f → o ≡ Some g → f ≡ g
@@ -27,13 +30,13 @@ part_emptied x y A (inr none) = inr (inl (empty_none y none))
 
 -- it was begun, and could not be brought to its end
 pub part_left : (output bytes : List ℕ) (h h' : Held) (a b c : World) → Creates output h h' a b
-    → SparesRest h'.output b c → LeavesNoPart h'.output bytes c → HoldsNoPartOf output (λ x. x ≡ bytes) a c
+    → SparesRest h'.output b c → LeavesNoneOrAll h'.output bytes c → HoldsNoPartOf output (λ x. x ≡ bytes) a c
 part_left output bytes h h' a b c made rest left = λ file at.
     let t : Spares made.file b c = subst (λ (k : Held). SparesRest k.output b c) made.begins rest in
     let is : made.file ≡ file = one (c.at output) made.file file (t.paths output made.file made.there) at in
-    let it : LeavesNoPart (Some made.file) bytes c
-    = subst (λ (k : Held). LeavesNoPart k.output bytes c) made.begins left in
-    inr (subst (λ f. LeavesNoPart (Some f) bytes c) is it)
+    let it : LeavesNoneOrAll (Some made.file) bytes c
+    = subst (λ (k : Held). LeavesNoneOrAll k.output bytes c) made.begins left in
+    inr (subst (λ f. LeavesNoneOrAll (Some f) bytes c) is it)
 
 -- it was brought to its end
 pub part_whole : (output bytes : List ℕ) (h h' : Held) (a b c : World) → Creates output h h' a b
@@ -43,6 +46,17 @@ part_whole output bytes h h' a b c made ends = λ file at.
     let is : made.file ≡ file = one (c.at output) made.file file (it.1.paths output made.file made.there) at in
     inr (inr (ap (λ f. c.holds f) (sym is) ∙ it.0))
 
+-- whatever was told of it then
+pub left_done : {X F : Type 0} (r : Result X F) (output bytes : List ℕ) (over : Bool) (h h' h'' : Held) (a b c : World)
+    → Creates output h h' a b → SparesRest h'.output b c → Ends h'.output bytes b c
+    → ClosesOutput true h' h'' → OnOk r (h''.syncs ≡ h.syncs + (if h.is_synced then 1 else 0)) → LeavesOut r output over (λ x. x ≡ bytes) h h'' a c
+left_done r output bytes over h h' h'' a b c made rest ends closes synced = record {
+  others = only_written output h h' a b c made rest;
+  closed = closed_created true h' h'' closes;
+  whole = λ o. part_whole output bytes h h' a b c made ends;
+  synced = synced;
+}
+
 spares_then : (f : ℕ) (a b c : World) → Spares f a b → Spares f b c → Spares f a c
 spares_then f a b c s t = record {
   paths = λ p g h. t.paths p g (s.paths p g h);
@@ -51,7 +65,7 @@ spares_then f a b c s t = record {
 
 -- and all is done
 pub lays : (output bytes : List ℕ) (n : ℕ) (h h' : Held) (a b c : World) (shows : List ℕ → Type 0)
-    → Creates output h h' a b → Ends h'.output bytes b c → n ≡ counted (length bytes)
+    → Creates output h h' a b → Ends h'.output bytes b c → n ≡ counted_in_u64 (length bytes)
     → shows (image_line n ++ (10 ∷ [])) → LaysImage output h.read bytes a c shows
 lays output bytes n h h' a b c shows made ends counts shown =
     let it : Ends (Some made.file) bytes b c = subst (λ (k : Held). Ends k.output bytes b c) made.begins ends in
@@ -77,8 +91,8 @@ judged_stops o h h' a b Done (faults.BadNumber w) g judged told held same = absu
 judged_stops o h h' a b Done (faults.BadBoardId w) g judged told held same = absurd judged
 judged_stops o h h' a b Done faults.CheckFailed g judged told held same = absurd judged
 
-pub host_outside : (f : BootCommandFault) (k : HostFault) → f ≡ faults.Host k → IsOutside f
-host_outside f k told = subst IsOutside (sym told) tt
+pub host_outside : (f : BootCommandFault) (k : HostFault) → f ≡ faults.Host k → IsOutsideBoot f
+host_outside f k told = subst IsOutsideBoot (sym told) tt
 
 -- ---- the answer of a call that wrote bytes, told as one of a command
 
@@ -120,7 +134,7 @@ ends_end a b (Err y) to x w bytes n h h' u v c told done none held same is ends 
 pub outside_end : {Y R : Type 0} (a : Result ℕ SectionFault) (b : Result ℕ BootCommandFault) (r : Result Y R)
     (fault : R → BootCommandFault) → MatchResult a (λ n. b ≡ Ok n) (λ f. b ≡ Err (faults.Section f))
     → IfErr a IsOfMoving → IfErr b (λ f. IfErr r (λ x. fault x ≡ f))
-    → (IsOk b → IfErr r (λ x. (k : HostFault) × (fault x ≡ faults.Host k))) → IfErr r (λ x. IsOutside (fault x))
+    → (IsOk b → IfErr r (λ x. (k : HostFault) × (fault x ≡ faults.Host k))) → IfErr r (λ x. IsOutsideBoot (fault x))
 outside_end a b (Ok y) fault told moving is host = tt
 outside_end (Ok n) b (Err x) fault told moving is host =
     let it = host (ap is_ok told) in host_outside (fault x) it.0 it.1
@@ -128,7 +142,7 @@ outside_end {Y} {R} (Err f) b (Err x) fault told moving is host =
     let r : Result Y R = Err x in
     let e : fault x ≡ faults.Section f
     = subst (λ (k : Result ℕ BootCommandFault). IfErr k (λ f. IfErr r (λ x. fault x ≡ f))) told is in
-    subst IsOutside (sym e) moving
+    subst IsOutsideBoot (sym e) moving
 
 -- ---- behind what was read is let go
 
@@ -138,7 +152,12 @@ ends_behind x bytes n h h' u v c held same is ends =
     let o : h'.output ≡ h.output = ap (λ (k : Held). k.output) held in
     subst (λ o. Ends o bytes u c) o (subst (λ l. Ends h'.output l u c) is (subst (λ k. Ends h'.output x k c) same ends))
 
-pub part_behind : (bytes : List ℕ) (n : ℕ) (h h' : Held) (c : World) → h' ≡ failing n h → LeavesNoPart h'.output bytes c
-    → LeavesNoPart h.output bytes c
+pub part_behind : (bytes : List ℕ) (n : ℕ) (h h' : Held) (c : World) → h' ≡ failing n h → LeavesNoneOrAll h'.output bytes c
+    → LeavesNoneOrAll h.output bytes c
 part_behind bytes n h h' c held left =
-    let o : h'.output ≡ h.output = ap (λ (k : Held). k.output) held in subst (λ o. LeavesNoPart o bytes c) o left
+    let o : h'.output ≡ h.output = ap (λ (k : Held). k.output) held in subst (λ o. LeavesNoneOrAll o bytes c) o left
+
+pub rest_behind : (n : ℕ) (h h' : Held) (u v c : World) → h' ≡ failing n h → v ≡ u → SparesRest h'.output v c
+    → SparesRest h.output u c
+rest_behind n h h' u v c held same rest = subst (λ w. SparesRest h.output w c) same
+    (subst (λ o. SparesRest o v c) (ap (λ (k : Held). k.output) held) rest)

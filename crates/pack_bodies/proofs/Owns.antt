@@ -22,7 +22,7 @@ use Rattle.abt_sections.specs.Header.{ramdisk_at}
 use Rattle.abt_sections.specs.Header.{ramdisk_size}
 use Rattle.abt_sections.specs.Open.{beyond, ends_beyond}
 use Rattle.boot_findings.specs.LeftOut.{end_of}
-use Rattle.boot_findings.specs.Places.{place_of, stands_at}
+use Rattle.boot_findings.specs.Places.{first_place_of, stands_at}
 use Rattle.pack_bodies.specs.Own.{AllEndBehind, EndsBehind, entries_to}
 
 -- ---- where it stands
@@ -66,13 +66,13 @@ behind_is x h end n at all =
 -- ---- the vendor ramdisk
 
 vendor_place : (f : VendorFront) (tail : Option Tail) (place : Place)
-    → Some place ≡ place_of (OfVendor (record { front = f; tail = tail })) VendorRamdisk
+    → Some place ≡ first_place_of (OfVendor (record { front = f; tail = tail })) VendorRamdisk
     → (place.at ≡ ramdisk_at (OfVendor (record { front = f; tail = tail })))
     × (place.size ≡ ramdisk_size (OfVendor (record { front = f; tail = tail })))
 vendor_place f None place e = (ap (λ o. (unwrap_or o place).at) e, ap (λ o. (unwrap_or o place).size) e)
 vendor_place f (Some t) place e = (ap (λ o. (unwrap_or o place).at) e, ap (λ o. (unwrap_or o place).size) e)
 
-pub ramdisk_place : (h : Header) (place : Place) → Some place ≡ place_of h VendorRamdisk
+pub ramdisk_place : (h : Header) (place : Place) → Some place ≡ first_place_of h VendorRamdisk
     → (place.at ≡ ramdisk_at h) × (place.size ≡ ramdisk_size h)
 ramdisk_place (OfBoot (V0 f)) place e = absurd (none-some place (sym e))
 ramdisk_place (OfBoot (V1 f d)) place e = absurd (none-some place (sym e))
@@ -82,11 +82,11 @@ ramdisk_place (OfBoot (V4 f signature)) place e = absurd (none-some place (sym e
 ramdisk_place (OfVendor v) place e = vendor_place v.front v.tail place e
 
 vendor_has : (f : VendorFront) (tail : Option Tail)
-    → None ≡ place_of (OfVendor (record { front = f; tail = tail })) VendorRamdisk → ⊥
+    → None ≡ first_place_of (OfVendor (record { front = f; tail = tail })) VendorRamdisk → ⊥
 vendor_has f None e = none-some _ e
 vendor_has f (Some t) e = none-some _ e
 
-pub no_ramdisk : (h : Header) → None ≡ place_of h VendorRamdisk → fragment_count h ≡ 0
+pub no_ramdisk : (h : Header) → None ≡ first_place_of h VendorRamdisk → fragment_count h ≡ 0
 no_ramdisk (OfBoot b) e = refl
 no_ramdisk (OfVendor v) e = absurd (vendor_has v.front v.tail e)
 
@@ -135,7 +135,7 @@ map_more f ys ys' es i d there so_far more = more ∙ ap (λ l. l ++ (f (get_or 
     ∙ sym (map-append f (take i es) (get_or es i d ∷ [])) ∙ sym (ap (map f) (take_more es i d there))
 
 pub lies_there : (x : List ℕ) (h : Header) (place : Place) → beyond (places_of h) (length x) ≡ None
-    → Some place ≡ place_of h VendorRamdisk → place.size ≡ ramdisk_size h
+    → Some place ≡ first_place_of h VendorRamdisk → place.size ≡ ramdisk_size h
     → 0 < ramdisk_size h → place.at + ramdisk_size h ≤ length x
 lies_there x h place there found size some =
     let within = lies (stands_at VendorRamdisk) (places_of h) (length x) place (sym found) there

@@ -3,7 +3,8 @@ use Rattle.std.proofs.Common.{inl, inr, arith, ◌⊎◌, ◌+◌, ◌≡◌, �
 use Rattle.std.proofs.Common.{refl, sym, ◌∙◌, ap, subst, length}
 use Rattle.std.proofs.lemmas.List.{append-nil}
 use Rattle.std.proofs.lemmas.List.Elements.{Contains-append_left}
-use Rattle.std.specs.Prelude.{Contains, IsTrue, map, if◌then◌else◌}
+use Rattle.std.specs.Prelude.{Bool, Contains, IsTrue, Result, map, if◌then◌else◌}
+use Rattle.abt_refusals.specs.Paths.{output_path}
 use Rattle.abt_disk.specs.World.{World, Held, Spares, OnlyAt, in_output, untouched}
 use Rattle.abt_refusals.specs.declared.refusal.HostFault.{HostFault}
 use Rattle.abt_sections.specs.Cause.{total}
@@ -21,41 +22,42 @@ use Rattle.boot_rules.specs.declared.pack_command.PackCommand.{PackCommand}
 use Rattle.boot_rules.specs.declared.pack_texts.FragmentText.{FragmentText}
 use Rattle.boot_rules.specs.declared.pack_texts.OptionText.{OptionText}
 use Rattle.boot_rules.specs.declared.pack_texts.PackTexts.{PackTexts}
-use Rattle.pack_bodies.specs.Contents.{faults_in, image_from, image_of, packing_of, refusal_from}
+use Rattle.pack_bodies.specs.Contents.{faults_in, image_from, packed_image, packing_of, refusal_from}
 use Rattle.pack_bodies.specs.Filling.{loaded_at}
-use Rattle.pack_bodies.specs.Lines.{counted, image_line}
+use Rattle.pack_bodies.specs.Lines.{counted_in_u64, image_line}
 use Rattle.pack_bodies.specs.Opening.{OpensMore, StopsOpening}
 use Rattle.pack_bodies.specs.Opening as opening
-use Rattle.pack_bodies.specs.Packing.{AreAskedFor, IsPackedBy, KeepsGiven, PacksFile, board_words, kind_of}
-use Rattle.pack_bodies.specs.Packing.{nothing, output_path}
-use Rattle.pack_bodies.specs.Parts.{AreFragmentsOf, ArePartsOf, IsFragmentPath, IsGivenPath, IsPartPath}
+use Rattle.pack_bodies.specs.Packing.{AreAskedFor, IsPackedBy, KeepsGiven, PacksFile, board_id_words, asked_kind}
+use Rattle.pack_bodies.specs.Packing.{nothing}
+use Rattle.pack_bodies.specs.Parts.{AreFragmentsOf, ArePartsOf, IsFragmentInput, IsGivenPath, IsPartInput}
 use Rattle.pack_bodies.specs.Parts.{of_fragment, of_part}
 use Rattle.pack_bodies.specs.Refusing.{IsBadBoard, RefusesPack, StopsFilling}
 use Rattle.pack_bodies.specs.Refusing as refusing
-use Rattle.pack_bodies.specs.Writing.{HoldsNoPartOf, IsOutside, LaysImage, StopsWriting}
+use Rattle.pack_bodies.specs.Writing.{HoldsNoPartOf, IsOutsideBoot, LaysImage, LeavesOut, StopsWriting}
 use Rattle.pack_bodies.specs.Writing as writing
 use Rattle.pack_bodies.specs.declared.contents.Contents.{Contents}
 use Rattle.pack_bodies.proofs.Openings.{failed_still, opens_then, stops_then}
+use Rattle.pack_bodies.proofs.Closes.{on_ok_by}
 
 -- ---- what is opened
 
 given_split : (texts : PackTexts) (kind : ImageKind) (p : List ℕ) → IsGivenPath texts kind p
-    → IsPartPath texts.options.items (part_sections kind) p ⊎ IsFragmentPath texts.fragments.items p
+    → IsPartInput texts.options.items (part_sections kind) p ⊎ IsFragmentInput texts.fragments.items p
 given_split texts kind p (of_part is) = inl is
 given_split texts kind p (of_fragment is) = inr is
 
 pub both_open : (texts : PackTexts) (kind : ImageKind) (w w' : World) (h h' h'' : Held) → w' ≡ w
-    → OpensMore (IsPartPath texts.options.items (part_sections kind)) w h h'
-    → OpensMore (IsFragmentPath texts.fragments.items) w' h' h'' → OpensMore (IsGivenPath texts kind) w h h''
+    → OpensMore (IsPartInput texts.options.items (part_sections kind)) w h h'
+    → OpensMore (IsFragmentInput texts.fragments.items) w' h' h'' → OpensMore (IsGivenPath texts kind) w h h''
 both_open texts kind w w' h h' h'' same parts fragments =
-    opens_then (IsPartPath texts.options.items (part_sections kind)) (IsFragmentPath texts.fragments.items)
+    opens_then (IsPartInput texts.options.items (part_sections kind)) (IsFragmentInput texts.fragments.items)
     (IsGivenPath texts kind) w w' h h' h'' same parts fragments (given_split texts kind)
 
 pub filling_stops : (A B : List ℕ → Type 0) (words : List (List ℕ)) (count : ℕ) (h h' : Held) (k : HostFault)
     (f : BootCommandFault) → StopsOpening A h h' k → f ≡ faults.Host k → ((p : List ℕ) → A p → B p)
     → StopsFilling B words count h h' f
 filling_stops A B words count h h' k f (opening.failed more) told wider =
-    refusing.unopened (subst IsOutside (sym told) tt) more
+    refusing.unopened (subst IsOutsideBoot (sym told) tt) more
 filling_stops A B words count h h' k f (opening.no_text path is bad why) told wider =
     refusing.no_text path (wider path is) bad (told ∙ ap faults.Host why)
 filling_stops A B words count h h' k f (opening.no_memory why) told wider =
@@ -69,12 +71,12 @@ board_stops A words words' m n h h' f bad named same =
 -- the files of fragments, behind those of parts
 pub fragments_stop : (texts : PackTexts) (kind : ImageKind) (words : List (List ℕ)) (count : ℕ) (w : World)
     (h h' h'' : Held) (k : HostFault) (f : BootCommandFault)
-    → OpensMore (IsPartPath texts.options.items (part_sections kind)) w h h'
-    → StopsOpening (IsFragmentPath texts.fragments.items) h' h'' k → f ≡ faults.Host k
+    → OpensMore (IsPartInput texts.options.items (part_sections kind)) w h h'
+    → StopsOpening (IsFragmentInput texts.fragments.items) h' h'' k → f ≡ faults.Host k
     → StopsFilling (IsGivenPath texts kind) words count h h'' f
 fragments_stop texts kind words count w h h' h'' k f parts stops told =
     filling_stops (IsGivenPath texts kind) (IsGivenPath texts kind) words count h h'' k f
-    (stops_then (IsPartPath texts.options.items (part_sections kind)) (IsFragmentPath texts.fragments.items)
+    (stops_then (IsPartInput texts.options.items (part_sections kind)) (IsFragmentInput texts.fragments.items)
     (IsGivenPath texts kind) w h h' h'' k parts stops (λ p is. of_fragment is)) told (λ p is. is)
 
 -- there are as many as are given
@@ -94,7 +96,7 @@ fragments_counted w (text ∷ texts) (spec ∷ specs) [] are = absurd are
 
 pub asks : {P : Type 0} (content : P → List ℕ) (command : PackCommand) (w w' : World) (kind : ImageKind)
     (given : BootFields) (c : Contents P) (parts sources : List P) (said specs : List FragmentSpec)
-    (words : List (List ℕ)) → words ≡ board_words command → kind ≡ kind_of command → w' ≡ w → c.parts.items ≡ parts
+    (words : List (List ℕ)) → words ≡ board_id_words command → kind ≡ asked_kind command → w' ≡ w → c.parts.items ≡ parts
     → c.sources.items ≡ sources → c.specs.items ≡ specs
     → ArePartsOf w command.texts.options.items nothing (part_sections kind) (map content parts)
     → AreFragmentsOf w' command.texts.fragments.items said (map content sources) → AreSet words said specs
@@ -109,7 +111,7 @@ asks content command w w' kind given c parts sources said specs words named is s
       said = said;
       fragments = subst (λ l. AreFragmentsOf w command.texts.fragments.items said (map content l)) (sym s)
           (subst (λ v. AreFragmentsOf v command.texts.fragments.items said (map content sources)) same s_are);
-      boards = subst (λ l. AreSet (board_words command) said l) (sym f) (subst (λ ws. AreSet ws said specs) named set);
+      boards = subst (λ l. AreSet (board_id_words command) said l) (sym f) (subst (λ ws. AreSet ws said specs) named set);
       loaded = loaded ∙ ap (λ l. loaded_at kind command.texts.options.items (map content l) given) (sym p)
           ∙ ap (λ k. loaded_at k command.texts.options.items (map content c.parts.items) given) is;
     }
@@ -128,8 +130,8 @@ unread F c parts sources t p s e none_p none_s none_n none_t =
 
 pub packed_by : {P : Type 0} (content : P → List ℕ) (command : PackCommand) (w : World) (given : BootFields)
     (c : Contents P) (x : List ℕ) → IsTrue (is_version command.is_vendor command.version)
-    → AreGiven no_fields (kind_of command) command.page command.texts.options.items given → c.kind ≡ kind_of command
-    → AreAskedFor command w given (packing_of content c) → content c.trailing ≡ [] → x ≡ image_of content c
+    → AreGiven no_fields (asked_kind command) command.page command.texts.options.items given → c.kind ≡ asked_kind command
+    → AreAskedFor command w given (packing_of content c) → content c.trailing ≡ [] → x ≡ packed_image content c
     → IsPackedBy command w x
 packed_by content command w given c x known are_given kind asked alone is = record {
   known = known;
@@ -142,7 +144,7 @@ packed_by content command w given c x known are_given kind asked alone is = reco
 }
 
 pub packs : (command : PackCommand) (path bytes : List ℕ) (w w' v : World) (h h' : Held) (shows : List ℕ → Type 0)
-    → path ≡ output_path command.output.now → w' ≡ w → OpensMore (IsGivenPath command.texts (kind_of command)) w h h'
+    → path ≡ output_path command.output.now → w' ≡ w → OpensMore (IsGivenPath command.texts (asked_kind command)) w h h'
     → IsPackedBy command w bytes → LaysImage path h'.read bytes w' v shows → PacksFile command w v shows
 packs command path bytes w w' v h h' shows named same opens packed l = record {
   onto = l.onto;
@@ -150,10 +152,10 @@ packs command path bytes w w' v h h' shows named same opens packed l = record {
   apart = λ p is at. l.free (opens.listed p l.onto is at);
   image = subst (IsPackedBy command w) (sym l.holds) packed;
   spares = subst (λ u. Spares l.onto u v) same l.spares;
-  shown = subst (λ y. shows (image_line (counted (length y)) ++ (10 ∷ []))) (sym l.holds) l.shown;
+  shown = subst (λ y. shows (image_line (counted_in_u64 (length y)) ++ (10 ∷ []))) (sym l.holds) l.shown;
 }
 
-pub only_before : (A : List ℕ → Type 0) (q path : List ℕ) (w w' v : World) (h h' : Held) → q ≡ path → w' ≡ w
+only_before : (A : List ℕ → Type 0) (q path : List ℕ) (w w' v : World) (h h' : Held) → q ≡ path → w' ≡ w
     → OpensMore A w h h' → OnlyAt h'.read q w' v → OnlyAt h.read path w v
 only_before A q path w w' v h h' named same opens (untouched is) = untouched (is ∙ same)
 only_before A q path w w' v h h' named same opens (in_output file at free spares) =
@@ -163,21 +165,34 @@ only_before A q path w w' v h h' named same opens (in_output file at free spares
     (subst (λ u. Spares file u v) same spares)
 
 pub keeps_given : (command : PackCommand) (q : List ℕ) (w w' v : World) (h h' : Held) → w' ≡ w
-    → OpensMore (IsGivenPath command.texts (kind_of command)) w h h' → OnlyAt h'.read q w' v → KeepsGiven command w v
+    → OpensMore (IsGivenPath command.texts (asked_kind command)) w h h' → OnlyAt h'.read q w' v → KeepsGiven command w v
 keeps_given command q w w' v h h' same opens (untouched is) = λ path given f there. ap (λ u. u.holds f) (is ∙ same)
 keeps_given command q w w' v h h' same opens (in_output file at free spares) = λ path given f there.
     spares.files f (λ e. free (subst (Contains h'.read) e (opens.listed path f given there))) ∙ ap (λ u. u.holds f) same
 
-pub whole_as : (W : List ℕ → Type 0) (q path bytes : List ℕ) (w w' v : World) → q ≡ path → w' ≡ w
+whole_as : (W : List ℕ → Type 0) (q path bytes : List ℕ) (w w' v : World) → q ≡ path → w' ≡ w
     → ((x : List ℕ) → x ≡ bytes → W x) → HoldsNoPartOf q (λ x. x ≡ bytes) w' v → HoldsNoPartOf path W w v
 whole_as W q path bytes w w' v named same to part = λ f at. elim (part f (ap v.at named ∙ at)) [
   | inl kept ↦ inl (kept ∙ ap (λ u. u.holds f) same)
   | inr rest ↦ inr (elim rest [ inl none ↦ inl none | inr e ↦ inr (to (v.holds f) e) ])
 ]
 
-pub synced_behind : (A : List ℕ → Type 0) (w : World) (h h' h'' : Held) → OpensMore A w h h'
+synced_behind : (A : List ℕ → Type 0) (w : World) (h h' h'' : Held) → OpensMore A w h h'
     → h''.syncs ≡ h'.syncs + (if h'.is_synced then 1 else 0) → h''.syncs ≡ h.syncs + (if h.is_synced then 1 else 0)
 synced_behind A w h h' h'' opens synced = synced ∙ ap (λ k. k.syncs + (if k.is_synced then 1 else 0)) opens.taken
+
+-- the image was written behind the opening of its parts
+pub left_behind : {X F : Type 0} (r : Result X F) (A : List ℕ → Type 0) (q path : List ℕ) (over : List ℕ → Bool)
+    (W : List ℕ → Type 0) (bytes : List ℕ) (w w' v : World) (h h' h'' : Held) → q ≡ path → w' ≡ w → OpensMore A w h h'
+    → ((x : List ℕ) → x ≡ bytes → W x) → LeavesOut r q (over q) (λ x. x ≡ bytes) h' h'' w' v
+    → LeavesOut r path (over path) W h h'' w v
+left_behind r A q path over W bytes w w' v h h' h'' named same opens to left = record {
+  others = only_before A q path w w' v h h' named same opens left.others;
+  closed = left.closed;
+  whole = λ o. whole_as W q path bytes w w' v named same to
+      (left.whole (subst (λ p. IsTrue (over p)) (sym named) o));
+  synced = on_ok_by r (synced_behind A w h h' h'' opens) left.synced;
+}
 
 -- ---- of another name of the kind
 
@@ -198,13 +213,13 @@ given_kind k k' page options given same are = subst (λ q. AreGiven no_fields q 
 -- ---- why it is refused
 
 pub refuses_words : (command : PackCommand) (w : World) (h : Held) (Done : Type 0) (f g : BootCommandFault)
-    → IsWrong no_fields (kind_of command) command.texts.options.items command.texts.fragments.items f → g ≡ f
+    → IsWrong no_fields (asked_kind command) command.texts.options.items command.texts.fragments.items f → g ≡ f
     → RefusesPack command w w h h Done g
 refuses_words command w h Done f g wrong told =
     subst (RefusesPack command w w h h Done) (sym told) (refusing.wrong_words wrong refl refl)
 
 pub refuses_filling : (command : PackCommand) (w v : World) (h h' : Held) (Done : Type 0) (f : BootCommandFault) → v ≡ w
-    → StopsFilling (IsGivenPath command.texts (kind_of command)) (board_words command)
+    → StopsFilling (IsGivenPath command.texts (asked_kind command)) (board_id_words command)
     (length command.texts.fragments.items) h h' f → RefusesPack command w v h h' Done f
 refuses_filling command w v h h' Done f same (refusing.unopened outside more) = refusing.failed outside more
 refuses_filling command w v h h' Done f same (refusing.no_text path is bad told) =
@@ -214,8 +229,8 @@ refuses_filling command w v h h' Done f same (refusing.wrong_board bad) = refusi
 
 pub refuses_writing : {P : Type 0} (content : P → List ℕ) (command : PackCommand) (w w' v : World) (h h' h'' : Held)
     (given : BootFields) (c : Contents P) (Laid Done : Type 0) (f : BootCommandFault) → w' ≡ w
-    → OpensMore (IsGivenPath command.texts (kind_of command)) w h h'
-    → AreGiven no_fields (kind_of command) command.page command.texts.options.items given → c.kind ≡ kind_of command
+    → OpensMore (IsGivenPath command.texts (asked_kind command)) w h h'
+    → AreGiven no_fields (asked_kind command) command.page command.texts.options.items given → c.kind ≡ asked_kind command
     → AreAskedFor command w given (packing_of content c) → (Laid → Done)
     → StopsWriting (refusal_from c.kind (packing_of content c)) h' h'' w' v Laid f
     → RefusesPack command w v h h'' Done f
@@ -234,7 +249,7 @@ refuses_writing content command w w' v h h' h'' given c Laid Done f same opens a
 refuses_writing content command w w' v h h' h'' given c Laid Done f same opens are_given kind asked done
     (writing.failed outside more) =
     refusing.failed outside
-    (let e : h'.failed ≡ h.failed = failed_still (IsGivenPath command.texts (kind_of command)) w h h' opens in
+    (let e : h'.failed ≡ h.failed = failed_still (IsGivenPath command.texts (asked_kind command)) w h h' opens in
     omega (arith, e, more))
 refuses_writing content command w w' v h h' h'' given c Laid Done f same opens are_given kind asked done
     (writing.untold k told laid) =

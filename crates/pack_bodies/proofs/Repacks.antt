@@ -1,28 +1,29 @@
 -- The command `repack` from the opening of IN to the end.
 use Rattle.std.proofs.Common.{◌≡◌, ◌<◌, ◌+◌, ◌⊎◌, inl, inr, ℕ, List, [], ◌∷◌, ◌++◌, Some, Bool, length, sym, ap}
 use Rattle.std.proofs.Common.{◌∙◌, subst, arith}
-use Rattle.std.specs.Prelude.{Contains, Result, Ok, Err, unwrap_or}
+use Rattle.std.specs.Prelude.{Contains, OnOk, Result, Ok, Err, if◌then◌else◌, unwrap_or}
 use Rattle.std.proofs.lemmas.List.Elements.{Contains-append_left, Contains-push}
+use Rattle.abt_refusals.specs.Paths.{output_path}
 use Rattle.abt_disk.specs.World.{World, Held, HasFailed, HasNotFailed, KeepsFile, OnlyAt, OpensFile, Spares, failing}
 use Rattle.abt_disk.specs.World.{untouched, in_output}
 use Rattle.std.proofs.Common.{append_assoc, append-nil, true, false}
 use Rattle.abt_output.specs.Shows.{GoesOut, Shows}
 use Rattle.abt_output.specs.declared.report.Report.{Report}
-use Rattle.abt_sections.specs.Header.{Header, header_at, view_of}
+use Rattle.abt_sections.specs.Header.{Header, image_header_at, view_of}
 use Rattle.abt_sections.specs.Open.{IsOpened}
 use Rattle.abt_sections.specs.declared.image.Image.{Image}
 use Rattle.boot_bodies.specs.Faults.{NoMoreFailed, SomeFailed}
 use Rattle.boot_rules.specs.declared.fault.BootCommandFault.{BootCommandFault}
 use Rattle.boot_rules.specs.declared.pack_command.PackCommand.{PackCommand}
-use Rattle.pack_bodies.specs.Lines.{counted, image_line}
+use Rattle.pack_bodies.specs.Lines.{counted_in_u64, image_line}
 use Rattle.pack_bodies.specs.Magic.{HoldsNone}
-use Rattle.pack_bodies.specs.Packing.{output_path}
 use Rattle.pack_bodies.specs.RefusingAgain.{RefusesAgain, RefusesRepack, not_again}
 use Rattle.pack_bodies.specs.Repacking.{BeginsWith, HoldsNoPartAgain, IsPackedAgain, IsRepackedOf}
 use Rattle.pack_bodies.specs.Repacking.{KeepsGivenAgain}
 use Rattle.pack_bodies.specs.Repacking.{KeepsRead, PacksAgain, RepacksFile}
-use Rattle.pack_bodies.specs.Writing.{HoldsNoPartOf}
+use Rattle.pack_bodies.specs.Writing.{HoldsNoPartOf, LeavesOut}
 use Rattle.pack_bodies.proofs.Again.{again_more}
+use Rattle.pack_bodies.proofs.Closes.{on_ok_by}
 
 -- ---- what has failed
 
@@ -57,7 +58,7 @@ one_header : (input x y : List ℕ) (w : World) (h k : Header) → BeginsWith in
 one_header input x y w h k a b =
     let one : a.file.file ≡ b.file.file = ap (λ o. unwrap_or o 0) (sym a.file.there ∙ b.file.there) in
     let same : x ≡ y = sym a.file.holds ∙ ap w.holds one ∙ b.file.holds in
-    same_ok h k (header_at x) a.has.header (ap header_at same ∙ b.has.header)
+    same_ok h k (image_header_at x) a.has.header (ap image_header_at same ∙ b.has.header)
 
 -- ---- from its opening to the end
 
@@ -79,7 +80,7 @@ module _ (input : List ℕ) (command : PackCommand) (x : List ℕ) (image : Imag
       let one : o.file ≡ file = ap (λ q. unwrap_or q 0) (sym o.there ∙ there) in
       free (subst (Contains h1.read) one listed)
 
-  pub only_all : OnlyAt h1.read (output_path command.output.now) w1 w2
+  only_all : OnlyAt h1.read (output_path command.output.now) w1 w2
       → OnlyAt h.read (output_path command.output.now) w w3
   only_all (untouched same) = untouched (last ∙ same ∙ first)
   only_all (in_output file there free s) = in_output file (ap (λ v. v.at (output_path command.output.now)) last ∙ there)
@@ -122,11 +123,11 @@ module _ (input : List ℕ) (command : PackCommand) (x : List ℕ) (image : Imag
     image = subst (λ v. IsPackedAgain command x (view_of image.header) w (v.holds p.onto)) (sym last)
         (packed_first (w2.holds p.onto) p.image);
     spares = subst (λ v. Spares p.onto w v) (sym last) (subst (λ v. Spares p.onto v w2) first p.spares);
-    shown = subst (λ v. shows' (image_line (counted (length (v.holds p.onto))) ++ (10 ∷ []))) (sym last)
-        (more (image_line (counted (length (w2.holds p.onto))) ++ (10 ∷ [])) p.shown);
+    shown = subst (λ v. shows' (image_line (counted_in_u64 (length (v.holds p.onto))) ++ (10 ∷ []))) (sym last)
+        (more (image_line (counted_in_u64 (length (w2.holds p.onto))) ++ (10 ∷ [])) p.shown);
   }
 
-  pub whole_all : HoldsNoPartOf (output_path command.output.now) (IsPackedAgain command x (view_of image.header) w1)
+  whole_all : HoldsNoPartOf (output_path command.output.now) (IsPackedAgain command x (view_of image.header) w1)
       w1 w2
       → HoldsNoPartAgain input command w w3
   whole_all whole file there =
@@ -144,6 +145,20 @@ module _ (input : List ℕ) (command : PackCommand) (x : List ℕ) (image : Imag
               })
             ]))
       ]
+
+  pub left_all : {X Y F : Type 0} (r : Result X F) (q : Result Y F) (over : Bool) (h2 h3 : Held) (n : ℕ)
+      → (OnOk q (h3.syncs ≡ h1.syncs + (if h1.is_synced then 1 else 0))
+      → OnOk r (h3.syncs ≡ h1.syncs + (if h1.is_synced then 1 else 0)))
+      → h3 ≡ failing n h2
+      → LeavesOut q (output_path command.output.now) over (IsPackedAgain command x (view_of image.header) w1) h1 h2 w1 w2
+      → LeavesOut r (output_path command.output.now) over (IsRepackedOf input command w) h h3 w w3
+  left_all r q over h2 h3 n told let_go left = record {
+    others = only_all left.others;
+    closed = ap (λ (k : Held). k.output) let_go ∙ left.closed;
+    whole = λ o. whole_all (left.whole o);
+    synced = on_ok_by r (λ e. e ∙ ap (λ (k : Held). k.syncs + (if k.is_synced then 1 else 0)) o.taken)
+        (told (on_ok_by q (λ e. ap (λ (k : Held). k.syncs) let_go ∙ e) left.synced));
+  }
 
   pub refuses_all : (P Done Done' : Type 0) (fault : BootCommandFault) (h3 : Held)
       → RefusesAgain command x (view_of image.header) w1 w2 P Done fault → (P → HasFailed h h3) → (Done → Done')

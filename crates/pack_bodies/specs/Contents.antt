@@ -33,8 +33,8 @@ packing_of content c = record {
 }
 
 -- the image, and what stands behind it
-abbrev pub image_of : {P : Type 0} → (P → List ℕ) → Contents P → List ℕ
-image_of content c = image_from c.kind (packing_of content c) ++ content c.trailing
+abbrev pub packed_image : {P : Type 0} → (P → List ℕ) → Contents P → List ℕ
+packed_image content c = image_from c.kind (packing_of content c) ++ content c.trailing
 
 -- what packing refuses, by the sizes of the sources
 abbrev pub refusal_in : {P : Type 0} → (P → ℕ) → Contents P → Option SectionFault

@@ -6,5 +6,5 @@ abbrev pub image_line : ℕ → List ℕ
 image_line bytes = codes "bytes " ++ decimal bytes
 
 -- as far as 64 bits count
-abbrev pub counted : ℕ → ℕ
-counted n = min n (2 ^ 64 - 1)
+abbrev pub counted_in_u64 : ℕ → ℕ
+counted_in_u64 n = min n (2 ^ 64 - 1)

@@ -15,6 +15,11 @@ pub record OpensMore (named : List ℕ → Type 0) (world : World) (old new : He
   pub taken : new ≡ reading_all files old
   pub listed : (path : List ℕ) (file : ℕ) → named path → world.at path ≡ Some file → Contains new.read file
 
+-- files may have been opened to be read: no file has changed, and the output that is open is the same
+pub record OnlyOpens (held held' : Held) (old new : World) : Type 0 where
+  pub world : new ≡ old
+  pub output : held'.output ≡ held.output
+
 -- why one of the files at these paths was not opened: a call of the disk failed; or a path is no UTF-8; or there was no
 -- memory
 pub data StopsOpening (named : List ℕ → Type 0) (old new : Held) (fault : HostFault) : Type 0 where

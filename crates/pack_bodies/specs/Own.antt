@@ -14,8 +14,8 @@ use Rattle.abt_sections.specs.Open.{IsOpened}
 use Rattle.abt_sections.specs.declared.spec.FragmentSpec.{FragmentSpec}
 use Rattle.boot_fields.specs.Fields.{address_of, os_number_of, text_of}
 use Rattle.boot_fields.specs.declared.fields.Address.TheVariants.{Kernel, Ramdisk, Second, Tags, Dtb}
-use Rattle.boot_findings.specs.LeftOut.{cmdline_of, end_of, name_of}
-use Rattle.boot_findings.specs.Places.{place_of}
+use Rattle.boot_findings.specs.LeftOut.{cmdline_of, end_of, header_name}
+use Rattle.boot_findings.specs.Places.{first_place_of}
 use Rattle.pack_bodies.specs.declared.own.Own.{Own}
 
 -- ---- parts
@@ -27,7 +27,7 @@ bytes_at x (Some place) = part_of x place
 
 -- the part that stands in a section of the image x, or no bytes
 abbrev pub StandsIn : List ℕ → Header → Section → List ℕ → Type 0
-StandsIn x h section bytes = bytes ≡ bytes_at x (place_of h section)
+StandsIn x h section bytes = bytes ≡ bytes_at x (first_place_of h section)
 
 -- the part that an image has in a section: no bytes, where there is no image
 abbrev pub IsOwnPart : {S : Type 0} → (S → List ℕ) → Option (Bor (Own S)) → Section → List ℕ → Type 0
@@ -61,7 +61,7 @@ own_fields h = record {
   tags_addr = or_zero (address_of h Tags);
   dtb_addr = or_zero (address_of h Dtb);
   os = record { number = or_zero (os_number_of h) };
-  name = text_of (name_of h);
+  name = text_of (header_name h);
   cmdline = text_of (cmdline_of h);
 }
 
@@ -80,8 +80,8 @@ said_of e = record { kind = e.ramdisk_type; name = e.name; board_id = e.board_id
 abbrev pub bytes_behind : List ℕ → ℕ → RamdiskEntry → List ℕ
 bytes_behind x front e = take e.ramdisk_size (drop (front + e.ramdisk_offset) x)
 
-abbrev pub bytes_of : List ℕ → Header → RamdiskEntry → List ℕ
-bytes_of x h e = bytes_behind x (ramdisk_at h) e
+abbrev pub fragment_bytes : List ℕ → Header → RamdiskEntry → List ℕ
+fragment_bytes x h e = bytes_behind x (ramdisk_at h) e
 
 -- the fragment is empty, or ends within n bytes
 abbrev pub EndsBehind : ℕ → ℕ → RamdiskEntry → Type 0

@@ -1,7 +1,6 @@
 -- What the command `pack` leaves of files, and what it prints.
 use Rattle.std.specs.Prelude.{◌≡◌, ◌≢◌, ◌⊎◌, ℕ, Bool, List, [], ◌∷◌, ◌++◌, IsTrue, length, map, Some}
-use Rattle.std.specs.Str.{bytes_eq}
-use Rattle.std.specs.Prelude.{if◌then◌else◌, codes}
+use Rattle.abt_refusals.specs.Paths.{output_path}
 use Rattle.abt_headers.specs.declared.sections.Section.{Section}
 use Rattle.abt_sections.specs.Fields.{BootFields, boot_fields}
 use Rattle.abt_sections.specs.declared.spec.FragmentSpec.{FragmentSpec}
@@ -15,7 +14,7 @@ use Rattle.boot_rules.specs.declared.pack_command.PackCommand.{PackCommand}
 use Rattle.boot_rules.specs.declared.pack_texts.PackTexts.{PackTexts}
 use Rattle.pack_bodies.specs.Contents.{Packing, image_from}
 use Rattle.pack_bodies.specs.Filling.{loaded_at}
-use Rattle.pack_bodies.specs.Lines.{image_line, counted}
+use Rattle.pack_bodies.specs.Lines.{image_line, counted_in_u64}
 use Rattle.pack_bodies.specs.Parts.{ArePartsOf, AreFragmentsOf, IsGivenPath}
 use Rattle.pack_bodies.specs.Writing.{HoldsNoPartOf}
 
@@ -33,11 +32,11 @@ pub record ArePacked (world : World) (texts : PackTexts) (words : List (List ℕ
 -- ---- of the words of `pack`
 
 -- the kind of image that they ask for
-abbrev pub kind_of : PackCommand → ImageKind
-kind_of command = kind_for command.is_vendor command.version
+abbrev pub asked_kind : PackCommand → ImageKind
+asked_kind command = kind_for command.is_vendor command.version
 
-abbrev pub board_words : PackCommand → List (List ℕ)
-board_words command = map (λ word. word.now) command.board_ids.items
+abbrev pub board_id_words : PackCommand → List (List ℕ)
+board_id_words command = map (λ word. word.now) command.board_ids.items
 
 -- nothing stands in a section that no file was given for
 abbrev pub nothing : Section → List ℕ → Type 0
@@ -45,32 +44,28 @@ nothing section bytes = bytes ≡ []
 
 -- what they ask for, of these fields and of what the files hold that they name
 abbrev pub AreAskedFor : PackCommand → World → BootFields → Packing → Type 0
-AreAskedFor command world given p = ArePacked world command.texts (board_words command) nothing
-    (AreFragmentsOf world command.texts.fragments.items) (kind_of command) given p
+AreAskedFor command world given p = ArePacked world command.texts (board_id_words command) nothing
+    (AreFragmentsOf world command.texts.fragments.items) (asked_kind command) given p
 
 -- The image that the words ask for: of the kind that they say, with the fields that they give, of what the files hold
 -- that they name.
 pub record IsPackedBy (command : PackCommand) (world : World) (bytes : List ℕ) : Type 0 where
   pub known : IsTrue (is_version command.is_vendor command.version)
   pub given : BootFields
-  pub are_given : AreGiven no_fields (kind_of command) command.page command.texts.options.items given
+  pub are_given : AreGiven no_fields (asked_kind command) command.page command.texts.options.items given
   pub packing : Packing
   pub asked : AreAskedFor command world given packing
-  pub is : bytes ≡ image_from (kind_of command) packing
-
--- where a word names the output: `-` is standard output
-abbrev pub output_path : List ℕ → List ℕ
-output_path word = if bytes_eq word (codes "-") then codes "/dev/stdout" else word
+  pub is : bytes ≡ image_from (asked_kind command) packing
 
 -- OUT's file holds the image that the words ask for, no other file has changed, none that the words name is OUT's, and
 -- the line that was printed has the image's number of bytes
 pub record PacksFile (command : PackCommand) (old new : World) (shows : List ℕ → Type 0) : Type 0 where
   pub onto : ℕ
   pub here : new.at (output_path command.output.now) ≡ Some onto
-  pub apart : (path : List ℕ) → IsGivenPath command.texts (kind_of command) path → old.at path ≢ Some onto
+  pub apart : (path : List ℕ) → IsGivenPath command.texts (asked_kind command) path → old.at path ≢ Some onto
   pub image : IsPackedBy command old (new.holds onto)
   pub spares : Spares onto old new
-  pub shown : shows (image_line (counted (length (new.holds onto))) ++ (10 ∷ []))
+  pub shown : shows (image_line (counted_in_u64 (length (new.holds onto))) ++ (10 ∷ []))
 
 -- whatever the outcome, OUT's file holds what it held, or what is no image, or all of it
 abbrev pub HoldsNoPart : PackCommand → World → World → Type 0
@@ -79,4 +74,4 @@ HoldsNoPart command old new = HoldsNoPartOf (output_path command.output.now) (Is
 -- and each file that the words name holds what it held
 abbrev pub KeepsGiven : PackCommand → World → World → Type 0
 KeepsGiven command old new =
-    (path : List ℕ) → IsGivenPath command.texts (kind_of command) path → KeepsFile path old new
+    (path : List ℕ) → IsGivenPath command.texts (asked_kind command) path → KeepsFile path old new

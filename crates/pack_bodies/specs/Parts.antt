@@ -54,18 +54,18 @@ pub record IsPathOf (options : List OptionText) (name path : List ℕ) : Type 0 
   pub is_path : path ≡ option.bytes.items
 
 -- of a file that the words name for one of these sections
-pub record IsPartPath (options : List OptionText) (sections : List Section) (path : List ℕ) : Type 0 where
+pub record IsPartInput (options : List OptionText) (sections : List Section) (path : List ℕ) : Type 0 where
   pub section : Section
   pub is_one : Contains sections section
   pub is_path : IsPathOf options (option_of section) path
 
 -- of the file of a FRAGMENT
-pub record IsFragmentPath (texts : List FragmentText) (path : List ℕ) : Type 0 where
+pub record IsFragmentInput (texts : List FragmentText) (path : List ℕ) : Type 0 where
   pub text : FragmentText
   pub is_one : Contains texts text
   pub is_path : path ≡ text.path.items
 
 -- of a file that the words name for an image of this kind
 pub data IsGivenPath (texts : PackTexts) (kind : ImageKind) (path : List ℕ) : Type 0 where
-  of_part : IsPartPath texts.options.items (part_sections kind) path → IsGivenPath texts kind path
-  of_fragment : IsFragmentPath texts.fragments.items path → IsGivenPath texts kind path
+  of_part : IsPartInput texts.options.items (part_sections kind) path → IsGivenPath texts kind path
+  of_fragment : IsFragmentInput texts.fragments.items path → IsGivenPath texts kind path

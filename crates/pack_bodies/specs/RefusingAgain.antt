@@ -17,11 +17,11 @@ use Rattle.boot_rules.specs.declared.fault.BootCommandFault.TheVariants as fault
 use Rattle.boot_rules.specs.declared.pack_command.PackCommand.{PackCommand}
 use Rattle.pack_bodies.specs.Contents.{Packing, refusal_from}
 use Rattle.pack_bodies.specs.Own.{own_fields}
-use Rattle.pack_bodies.specs.Packing.{board_words}
+use Rattle.pack_bodies.specs.Packing.{board_id_words}
 use Rattle.pack_bodies.specs.Parts.{IsGivenPath}
 use Rattle.pack_bodies.specs.Refusing.{IsBadBoard}
 use Rattle.pack_bodies.specs.Repacking.{AreAskedAgain, AreFieldsAgain, AreFragmentsAgain, BeginsWith}
-use Rattle.pack_bodies.specs.Writing.{IsOutside}
+use Rattle.pack_bodies.specs.Writing.{IsOutsideBoot}
 
 -- the words are wrong of an image with this header
 abbrev pub IsWrongAgain : PackCommand → Header → BootCommandFault → Type 0
@@ -34,7 +34,7 @@ pub record IsBadBoardAgain (command : PackCommand) (world : World) (x : List ℕ
   pub said : List FragmentSpec
   pub ramdisks : List (List ℕ)
   pub fragments : AreFragmentsAgain world command.texts.fragments.items x h said ramdisks
-  pub bad : IsBadBoard (board_words command) (length said) fault
+  pub bad : IsBadBoard (board_id_words command) (length said) fault
 
 -- packing refuses what the words ask for, of the image x: of these fields and of the sizes of the parts
 pub record IsNotRepacked (command : PackCommand) (world : World) (x : List ℕ) (h : Header) (f : SectionFault) : Type 0
@@ -62,7 +62,7 @@ pub data RefusesAgain (command : PackCommand) (x : List ℕ) (h : Header) (old n
   -- there is no memory, before OUT is opened
   no_memory : fault ≡ faults.Host hosts.Memory → new ≡ old → RefusesAgain command x h old new Failed Done fault
   -- a call of the disk failed, or a device
-  failed : IsOutside fault → Failed → RefusesAgain command x h old new Failed Done fault
+  failed : IsOutsideBoot fault → Failed → RefusesAgain command x h old new Failed Done fault
   -- all is done, and the line could not be printed
   untold : (f : HostFault) → fault ≡ faults.Host f → Done → RefusesAgain command x h old new Failed Done fault
 
@@ -80,7 +80,7 @@ pub data RefusesRepack (input : List ℕ) (command : PackCommand) (old new : Wor
 
 -- why an image is not read again: a read failed, or there was no memory
 pub data IsUnread (Failed : Type 0) (fault : BootCommandFault) : Type 0 where
-  unread : IsOutside fault → Failed → IsUnread Failed fault
+  unread : IsOutsideBoot fault → Failed → IsUnread Failed fault
   no_room : fault ≡ faults.Host hosts.Memory → IsUnread Failed fault
 
 -- why the words are not taken by an image of this kind, or it is not read again
@@ -94,7 +94,7 @@ pub data StopsJudging (command : PackCommand) (kind : ImageKind) (Failed : Type 
 -- or a board id is wrong
 pub data StopsFillingAgain (command : PackCommand) (world : World) (x : List ℕ) (h : Header) (Failed : Type 0)
     (fault : BootCommandFault) : Type 0 where
-  unopened : IsOutside fault → Failed → StopsFillingAgain command world x h Failed fault
+  unopened : IsOutsideBoot fault → Failed → StopsFillingAgain command world x h Failed fault
   not_text : (path : List ℕ) → IsGivenPath command.texts (kind_of h) path → ¬ IsUtf8 path
       → fault ≡ faults.Host hosts.CannotOpen → StopsFillingAgain command world x h Failed fault
   no_space : fault ≡ faults.Host hosts.Memory → StopsFillingAgain command world x h Failed fault

@@ -1,6 +1,7 @@
 -- What the command `repack` leaves of files, and what it prints.
 use Rattle.std.specs.Prelude.{◌≡◌, ◌≢◌, ◌⊎◌, ℕ, List, [], ◌∷◌, ◌++◌, length, map, Some}
 use Rattle.std.specs.Prelude.{Contains}
+use Rattle.abt_refusals.specs.Paths.{output_path}
 use Rattle.abt_sections.specs.Fields.{BootFields}
 use Rattle.abt_sections.specs.Header.{Header, fragment_count}
 use Rattle.abt_sections.specs.Open.{HasImage}
@@ -14,9 +15,9 @@ use Rattle.boot_rules.specs.Given.{AreGiven}
 use Rattle.boot_rules.specs.declared.pack_command.PackCommand.{PackCommand}
 use Rattle.boot_rules.specs.declared.pack_texts.FragmentText.{FragmentText}
 use Rattle.pack_bodies.specs.Contents.{Packing, image_from}
-use Rattle.pack_bodies.specs.Lines.{image_line, counted}
-use Rattle.pack_bodies.specs.Own.{StandsIn, bytes_of, entries_to, kept_behind, own_fields, said_of}
-use Rattle.pack_bodies.specs.Packing.{ArePacked, board_words, output_path}
+use Rattle.pack_bodies.specs.Lines.{image_line, counted_in_u64}
+use Rattle.pack_bodies.specs.Own.{StandsIn, fragment_bytes, entries_to, kept_behind, own_fields, said_of}
+use Rattle.pack_bodies.specs.Packing.{ArePacked, board_id_words}
 use Rattle.pack_bodies.specs.Parts.{AreFragmentsOf, IsGivenPath}
 use Rattle.pack_bodies.specs.Writing.{HoldsNoPartOf}
 
@@ -24,7 +25,7 @@ use Rattle.pack_bodies.specs.Writing.{HoldsNoPartOf}
 pub record AreOwnFragments (x : List ℕ) (h : Header) (said : List FragmentSpec) (ramdisks : List (List ℕ)) : Type 0
   where
     pub specs : said ≡ map said_of (entries_to x h (fragment_count h))
-    pub bytes : ramdisks ≡ map (bytes_of x h) (entries_to x h (fragment_count h))
+    pub bytes : ramdisks ≡ map (fragment_bytes x h) (entries_to x h (fragment_count h))
 
 -- the fragments that were given, and where none was, those of the image
 abbrev pub AreFragmentsAgain : World → List FragmentText → List ℕ → Header → List FragmentSpec → List (List ℕ) → Type 0
@@ -33,7 +34,7 @@ AreFragmentsAgain world (text ∷ texts) x h said ramdisks = AreFragmentsOf worl
 
 -- what the words ask for, and what the image x has where they give nothing
 abbrev pub AreAskedAgain : PackCommand → World → List ℕ → Header → BootFields → Packing → Type 0
-AreAskedAgain command world x h given p = ArePacked world command.texts (board_words command) (StandsIn x h)
+AreAskedAgain command world x h given p = ArePacked world command.texts (board_id_words command) (StandsIn x h)
     (AreFragmentsAgain world command.texts.fragments.items x h) (kind_of h) given p
 
 -- the fields that the words give, and else those of the header
@@ -69,7 +70,7 @@ pub record PacksAgain (command : PackCommand) (x : List ℕ) (h : Header) (read 
   pub apart : (path : List ℕ) → IsGivenPath command.texts (kind_of h) path → old.at path ≢ Some onto
   pub image : IsPackedAgain command x h old (new.holds onto)
   pub spares : Spares onto old new
-  pub shown : shows (image_line (counted (length (new.holds onto))) ++ (10 ∷ []))
+  pub shown : shows (image_line (counted_in_u64 (length (new.holds onto))) ++ (10 ∷ []))
 
 -- each file that the words name holds what it held
 abbrev pub KeepsGivenAgain : PackCommand → Header → World → World → Type 0
@@ -88,7 +89,7 @@ pub record RepacksFile (input : List ℕ) (command : PackCommand) (old new : Wor
     pub apart : (path : List ℕ) → IsReadPath input command header path → old.at path ≢ Some onto
     pub image : IsPackedAgain command own header old (new.holds onto)
     pub spares : Spares onto old new
-    pub shown : shows (image_line (counted (length (new.holds onto))) ++ (10 ∷ []))
+    pub shown : shows (image_line (counted_in_u64 (length (new.holds onto))) ++ (10 ∷ []))
 
 -- this went out, and maybe a note behind it
 abbrev pub ShowsFirst : Report → Report → List ℕ → Type 0

@@ -1,8 +1,8 @@
 -- The file that an image is written to.
 use Rattle.std.specs.Prelude.{◌≡◌, ◌<◌, ◌⊎◌, ℕ, Bool, false, List, [], ◌∷◌, ◌++◌, length, Option, Some, None, IsTrue}
-use Rattle.std.specs.Prelude.{Contains}
+use Rattle.std.specs.Prelude.{Contains, Result, IfErr, IfOk, OnErr, OnOk, ◌+◌, if◌then◌else◌, is_ok}
 use Rattle.abt_sections.specs.declared.fault.SectionFault.{SectionFault}
-use Rattle.abt_disk.specs.World.{World, Held, Spares, HasFailed, ended}
+use Rattle.abt_disk.specs.World.{ClosesOutput, Ends, HasFailed, Held, OnlyAt, Spares, SparesRest, World, ended}
 use Rattle.abt_refusals.specs.declared.refusal.HostFault.{HostFault}
 use Rattle.abt_refusals.specs.declared.refusal.HostFault.TheVariants as hosts
 use Rattle.boot_rules.specs.Refused.{IsOfMoving}
@@ -10,35 +10,56 @@ use Rattle.boot_rules.specs.declared.fault.BootCommandFault.{BootCommandFault}
 use Rattle.boot_rules.specs.declared.fault.BootCommandFault.TheVariants as faults
 use Rattle.pack_bodies.specs.declared.laying.LayFault.{LayFault}
 use Rattle.pack_bodies.specs.declared.laying.LayFault.TheVariants as laying
-use Rattle.pack_bodies.specs.Lines.{image_line, counted}
+use Rattle.pack_bodies.specs.Contents.{faults_in, refusal_in}
+use Rattle.pack_bodies.specs.declared.contents.Contents.{Contents}
+use Rattle.pack_bodies.specs.Lines.{image_line, counted_in_u64}
 use Rattle.pack_bodies.specs.Magic.{HoldsNone}
 
--- the output that was open is closed: it was brought to its end exactly where nothing has failed
-pub record ClosesOutput (is_done : Bool) (old new : Held) : Type 0 where
-  pub failures : ℕ
-  pub closed : new ≡ ended is_done failures old
-  pub clean : IsTrue is_done → failures ≡ 0
-  pub cause : is_done ≡ false → 0 < failures
+-- an image can be written from these sources: packing refuses none of them, nothing stands for nothing, and none has
+-- failed yet
+pub record IsReady {P : Type 0} (tells : Bool) (size faults : P → ℕ) (c : Contents P) : Type 0 where
+  pub accepted : refusal_in size c ≡ None
+  pub nothing : size c.nothing ≡ 0
+  pub unread : IsTrue tells → faults_in faults c ≡ 0
+
+-- An output that held x holds y, and the sources and it have failed so often, before and now: behind x came all of
+-- these bytes, and the answer is their number, where nothing has failed; where it is refused something has.
+pub record PacksBytes {F : Type 0} (r : Result ℕ F) (tells : Bool) (bytes x y : List ℕ) (failed failed' : ℕ) : Type 0
+  where
+    pub written : IsTrue tells → OnOk r (y ≡ x ++ bytes)
+    pub number : IsTrue tells → IfOk r (λ n. n ≡ counted_in_u64 (length bytes))
+    pub clean : OnOk r (failed' ≡ failed)
+    pub cause : IsTrue tells → OnErr r (failed < failed')
 
 -- the output that was open holds no image, or all of these bytes
-abbrev pub LeavesNoPart : Option ℕ → List ℕ → World → Type 0
-LeavesNoPart None bytes new = Unit {0}
-LeavesNoPart (Some file) bytes new = HoldsNone (new.holds file) ⊎ (new.holds file ≡ bytes)
+abbrev pub LeavesNoneOrAll : Option ℕ → List ℕ → World → Type 0
+LeavesNoneOrAll None bytes new = Unit {0}
+LeavesNoneOrAll (Some file) bytes new = HoldsNone (new.holds file) ⊎ (new.holds file ≡ bytes)
 
 -- a fault of the devices or of files
-abbrev pub IsOutside : BootCommandFault → Type 0
-IsOutside (faults.Host f) = Unit {0}
-IsOutside (faults.Section f) = IsOfMoving f
-IsOutside (faults.OptionNotCarried name) = ⊥
-IsOutside (faults.BadFragment word) = ⊥
-IsOutside (faults.BadNumber word) = ⊥
-IsOutside (faults.BadBoardId word) = ⊥
-IsOutside faults.CheckFailed = ⊥
+abbrev pub IsOutsideBoot : BootCommandFault → Type 0
+IsOutsideBoot (faults.Host f) = Unit {0}
+IsOutsideBoot (faults.Section f) = IsOfMoving f
+IsOutsideBoot (faults.OptionNotCarried name) = ⊥
+IsOutsideBoot (faults.BadFragment word) = ⊥
+IsOutsideBoot (faults.BadNumber word) = ⊥
+IsOutsideBoot (faults.BadBoardId word) = ⊥
+IsOutsideBoot faults.CheckFailed = ⊥
 
 -- the same of an image that is laid over a file
 abbrev pub IsOfLaying : LayFault → Type 0
 IsOfLaying (laying.Packing f) = IsOfMoving f
 IsOfLaying laying.Magic = Unit {0}
+
+-- The output that is open is written to its end and closed: where the answer is Ok it holds these bytes, of which the
+-- answer has the number; no other file has changed; and where it is refused a device or a file was at fault.
+pub record WritesBytes {F : Type 0} (r : Result (ℕ × Bool) F) (fault : F → BootCommandFault) (bytes : List ℕ)
+    (held held' : Held) (old new : World) : Type 0 where
+  pub ended : OnOk r (Ends held.output bytes old new)
+  pub number : IfOk r (λ end. end.0 ≡ counted_in_u64 (length bytes))
+  pub closed : ClosesOutput (is_ok r) held held'
+  pub rest : SparesRest held.output old new
+  pub outside : IfErr r (λ refusal. IsOutsideBoot (fault refusal))
 
 -- OUT's file is none of those that are read, and holds these bytes; no other file has changed; and the line that was
 -- printed has their number
@@ -48,16 +69,21 @@ pub record LaysImage (output : List ℕ) (read bytes : List ℕ) (old new : Worl
   pub free : ¬ Contains read onto
   pub holds : new.holds onto ≡ bytes
   pub spares : Spares onto old new
-  pub shown : shows (image_line (counted (length bytes)) ++ (10 ∷ []))
+  pub shown : shows (image_line (counted_in_u64 (length bytes)) ++ (10 ∷ []))
 
 -- whatever the outcome, the file at this path holds what it held, or what is no image, or all of these bytes
 abbrev pub HoldsNoPartOf : List ℕ → (List ℕ → Type 0) → World → World → Type 0
 HoldsNoPartOf output Whole old new = (file : ℕ) → new.at output ≡ Some file → (new.holds file ≡ old.holds file)
     ⊎ (HoldsNone (new.holds file) ⊎ Whole (new.holds file))
 
--- a line that could not be printed
-abbrev pub unprinted : List ℕ → Type 0
-unprinted line = Unit {0}
+-- What a call that writes OUT leaves, whatever it answers: OUT alone may hold anything else, no output is open, and
+-- OUT's file, where it can be written over, has no part of an image; after an Ok it was synced, where that is wanted.
+pub record LeavesOut {X F : Type 0} (r : Result X F) (output : List ℕ) (is_over : Bool) (Whole : List ℕ → Type 0)
+    (held held' : Held) (old new : World) : Type 0 where
+  pub others : OnlyAt held.read output old new
+  pub closed : held'.output ≡ None
+  pub whole : IsTrue is_over → HoldsNoPartOf output Whole old new
+  pub synced : OnOk r (held'.syncs ≡ held.syncs + (if held.is_synced then 1 else 0))
 
 -- why an image is not written: packing refuses it, or there was no memory to ask, both before anything is touched; or a
 -- call of the disk or a device failed; or all was done, and the line could not be printed
@@ -67,5 +93,5 @@ pub data StopsWriting (refusal : Option SectionFault) (held held' : Held) (old n
       → StopsWriting refusal held held' old new Done fault
   no_memory : fault ≡ faults.Host hosts.Memory → held' ≡ held → new ≡ old
       → StopsWriting refusal held held' old new Done fault
-  failed : IsOutside fault → HasFailed held held' → StopsWriting refusal held held' old new Done fault
+  failed : IsOutsideBoot fault → HasFailed held held' → StopsWriting refusal held held' old new Done fault
   untold : (f : HostFault) → fault ≡ faults.Host f → Done → StopsWriting refusal held held' old new Done fault

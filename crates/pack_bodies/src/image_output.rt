@@ -3,17 +3,15 @@
 ghost use Rattle.std.specs.Prelude.{◌≡◌, ◌+◌, ◌++◌, ◌∷◌, [], None, Ok, IsTrue, IfErr, IfOk, OnErr, OnOk, is_ok, length};
 ghost use Rattle.std.specs.Prelude.{false, if◌then◌else◌};
 ghost use Rattle.abt_disk.specs.Images.{Leaves, OfImage, is_file};
-ghost use Rattle.abt_disk.specs.World.{Ends, HasNotFailed, OnlyAt, SparesRest, ended};
-ghost use Rattle.abt_output.specs.Shows.{Shows};
+ghost use Rattle.abt_disk.specs.World.{HasNotFailed, SparesRest, ended};
+ghost use Rattle.abt_output.specs.Shows.{Shows, unprinted};
 ghost use Rattle.abt_refusals.specs.Paths.{path_out};
 ghost use Rattle.boot_rules.specs.Refused.{IsJudged};
-ghost use Rattle.pack_bodies.specs.Contents.{faults_in, image_of, packing_of, refusal_from, refusal_in};
-ghost use Rattle.pack_bodies.specs.Lines.{counted, image_line};
-ghost use Rattle.pack_bodies.specs.Writing.{ClosesOutput, HoldsNoPartOf, IsOutside, LaysImage, LeavesNoPart};
-ghost use Rattle.pack_bodies.specs.Writing.{StopsWriting};
-ghost use Rattle.pack_bodies.specs.Writing.{IsOfLaying, unprinted};
+ghost use Rattle.pack_bodies.specs.Contents.{faults_in, packed_image, packing_of, refusal_from, refusal_in};
+ghost use Rattle.pack_bodies.specs.Lines.{image_line};
+ghost use Rattle.pack_bodies.specs.Writing.{IsOfLaying, IsOutsideBoot, IsReady, LaysImage, LeavesNoneOrAll, LeavesOut};
+ghost use Rattle.pack_bodies.specs.Writing.{StopsWriting, WritesBytes};
 
-use crate::carried::Carried;
 use crate::contents::Contents;
 use crate::laying::{LayFault, lay_image};
 use crate::letting_go::{bytes_of, let_go, sides_of};
@@ -21,7 +19,7 @@ use crate::lines::ImageLine;
 use crate::packing::{pack_contents, refusal_of};
 use abt_disk::{Disk, ImageTo, Lasting, Reasons, ended};
 use abt_io::{Meter, Source, Window};
-use abt_output::{Progress, Report};
+use abt_output::{Carried, Progress, Report};
 use abt_refusals::{HostFault, HostRefusal, Place, Refusal, Sides};
 use boot_bodies::BootOutcome;
 use boot_rules::{BootCommandFault, PartSource};
@@ -44,24 +42,19 @@ pub(crate) fn write_image<'f, 't, 'a, D: Disk>(
     requires unread { IsTrue D.tells → faults_in ⟦<PartSource<'t, D::At> as Source>⟧.read_faults contents ≡ 0 }
     // OUT is none of the files that are read, and holds the image; what was printed tells how many bytes it has
     ensures done { IsTrue D.tells → OnOk result (LaysImage (path_out output.entry) (D.held disk.old).read
-        (image_of ⟦<PartSource<'t, D::At> as Source>⟧.content contents.entry) (D.world disk.old) (D.world disk.new)
+        (packed_image ⟦<PartSource<'t, D::At> as Source>⟧.content contents.entry) (D.world disk.old) (D.world disk.new)
         (Shows report.old report.new)) }
-    ensures synced { IsTrue D.tells → OnOk result ((D.held disk.new).syncs
-        ≡ (D.held disk.old).syncs + (if (D.held disk.old).is_synced then 1 else 0)) }
     ensures clean { IsTrue D.tells → OnOk result (HasNotFailed (D.held disk.old) (D.held disk.new)) }
     // whatever the outcome, OUT alone may hold anything else, and its file has no part of an image
-    ensures others { IsTrue D.tells → OnlyAt (D.held disk.old).read (path_out output.entry) (D.world disk.old)
-        (D.world disk.new) }
-    ensures closed { IsTrue D.tells → (D.held disk.new).output ≡ None }
-    ensures whole { IsTrue D.tells → IsTrue (D.is_over (path_out output.entry)) → HoldsNoPartOf (path_out output.entry)
-        (λ x. x ≡ image_of ⟦<PartSource<'t, D::At> as Source>⟧.content contents.entry) (D.world disk.old)
-        (D.world disk.new) }
+    ensures left { IsTrue D.tells → LeavesOut result (path_out output.entry) (D.is_over (path_out output.entry))
+        (λ x. x ≡ packed_image ⟦<PartSource<'t, D::At> as Source>⟧.content contents.entry) (D.held disk.old)
+        (D.held disk.new) (D.world disk.old) (D.world disk.new) }
     // it is refused for what packing refuses, for a fault that came, or where all is done and can't be told
     ensures refused { IsTrue D.tells → IfErr result (λ refusal. StopsWriting
         (refusal_from contents.entry.kind (packing_of ⟦<PartSource<'t, D::At> as Source>⟧.content contents.entry))
         (D.held disk.old) (D.held disk.new)
         (D.world disk.old) (D.world disk.new) (LaysImage (path_out output.entry) (D.held disk.old).read
-        (image_of ⟦<PartSource<'t, D::At> as Source>⟧.content contents.entry) (D.world disk.old) (D.world disk.new)
+        (packed_image ⟦<PartSource<'t, D::At> as Source>⟧.content contents.entry) (D.world disk.old) (D.world disk.new)
         unprinted) refusal.fault) }
 {
     match judged(alloc, &contents, w, m) {
@@ -123,18 +116,13 @@ fn write_to<'f, 't, 'a, D: Disk>(
     requires empty { OfImage (λ file. D.Image.Output.written file ≡ []) (λ onto. D.Onto.written onto ≡ []) image }
     requires clean { IsTrue D.tells → OfImage (λ file. D.Image.Output.write_faults file ≡ 0)
         (λ onto. D.Onto.write_faults onto ≡ 0) image }
-    requires accepted { refusal_in ⟦<PartSource<'t, D::At> as Source>⟧.size contents ≡ None }
-    requires nothing { ⟦<PartSource<'t, D::At> as Source>⟧.size contents.nothing ≡ 0 }
-    requires unread { IsTrue D.tells → faults_in ⟦<PartSource<'t, D::At> as Source>⟧.read_faults contents ≡ 0 }
-    ensures broken { IsTrue D.tells → IsTrue (is_file image) → OnErr result (LeavesNoPart (D.held disk.old).output
-        (image_of ⟦<PartSource<'t, D::At> as Source>⟧.content contents.entry) (D.world disk.new)) }
-    ensures ended { IsTrue D.tells → OnOk result (Ends (D.held disk.old).output
-        (image_of ⟦<PartSource<'t, D::At> as Source>⟧.content contents.entry) (D.world disk.old) (D.world disk.new)) }
-    ensures counted { IsTrue D.tells → IfOk result (λ end. end.0
-        ≡ counted (length (image_of ⟦<PartSource<'t, D::At> as Source>⟧.content contents.entry))) }
-    ensures closed { IsTrue D.tells → ClosesOutput (is_ok result) (D.held disk.old) (D.held disk.new) }
-    ensures rest { IsTrue D.tells → SparesRest (D.held disk.old).output (D.world disk.old) (D.world disk.new) }
-    ensures outside { IsTrue D.tells → IfErr result (λ refusal. IsOutside refusal.fault) }
+    requires ready { IsReady D.tells ⟦<PartSource<'t, D::At> as Source>⟧.size
+        ⟦<PartSource<'t, D::At> as Source>⟧.read_faults contents }
+    ensures broken { IsTrue D.tells → IsTrue (is_file image) → OnErr result (LeavesNoneOrAll (D.held disk.old).output
+        (packed_image ⟦<PartSource<'t, D::At> as Source>⟧.content contents.entry) (D.world disk.new)) }
+    ensures writes { IsTrue D.tells → WritesBytes result (λ refusal. refusal.fault)
+        (packed_image ⟦<PartSource<'t, D::At> as Source>⟧.content contents.entry) (D.held disk.old) (D.held disk.new)
+        (D.world disk.old) (D.world disk.new) }
 {
     match image {
         ImageTo::Stream(onto) => write_through(disk, onto, output, progress, contents, w, m),
@@ -154,16 +142,11 @@ fn write_through<'f, 't, 'a, D: Disk>(
 ) -> Result<(u64, bool), Refusal<'t, BootCommandFault<'a>>>
     requires empty { D.Onto.written onto ≡ [] }
     requires clean { IsTrue D.tells → D.Onto.write_faults onto ≡ 0 }
-    requires accepted { refusal_in ⟦<PartSource<'t, D::At> as Source>⟧.size contents ≡ None }
-    requires nothing { ⟦<PartSource<'t, D::At> as Source>⟧.size contents.nothing ≡ 0 }
-    requires unread { IsTrue D.tells → faults_in ⟦<PartSource<'t, D::At> as Source>⟧.read_faults contents ≡ 0 }
-    ensures ended { IsTrue D.tells → OnOk result (Ends (D.held disk.old).output
-        (image_of ⟦<PartSource<'t, D::At> as Source>⟧.content contents.entry) (D.world disk.old) (D.world disk.new)) }
-    ensures counted { IsTrue D.tells → IfOk result (λ end. end.0
-        ≡ counted (length (image_of ⟦<PartSource<'t, D::At> as Source>⟧.content contents.entry))) }
-    ensures closed { IsTrue D.tells → ClosesOutput (is_ok result) (D.held disk.old) (D.held disk.new) }
-    ensures rest { IsTrue D.tells → SparesRest (D.held disk.old).output (D.world disk.old) (D.world disk.new) }
-    ensures outside { IsTrue D.tells → IfErr result (λ refusal. IsOutside refusal.fault) }
+    requires ready { IsReady D.tells ⟦<PartSource<'t, D::At> as Source>⟧.size
+        ⟦<PartSource<'t, D::At> as Source>⟧.read_faults contents }
+    ensures writes { IsTrue D.tells → WritesBytes result (λ refusal. refusal.fault)
+        (packed_image ⟦<PartSource<'t, D::At> as Source>⟧.content contents.entry) (D.held disk.old) (D.held disk.new)
+        (D.world disk.old) (D.world disk.new) }
 {
     let mut contents = contents;
     let mut carried = Carried {
@@ -195,18 +178,13 @@ fn write_over<'f, 't, 'a, D: Disk>(
 ) -> Result<(u64, bool), Refusal<'t, BootCommandFault<'a>>>
     requires empty { D.Image.Output.written file ≡ [] }
     requires clean { IsTrue D.tells → D.Image.Output.write_faults file ≡ 0 }
-    requires accepted { refusal_in ⟦<PartSource<'t, D::At> as Source>⟧.size contents ≡ None }
-    requires nothing { ⟦<PartSource<'t, D::At> as Source>⟧.size contents.nothing ≡ 0 }
-    requires unread { IsTrue D.tells → faults_in ⟦<PartSource<'t, D::At> as Source>⟧.read_faults contents ≡ 0 }
-    ensures broken { IsTrue D.tells → OnErr result (LeavesNoPart (D.held disk.old).output
-        (image_of ⟦<PartSource<'t, D::At> as Source>⟧.content contents.entry) (D.world disk.new)) }
-    ensures ended { IsTrue D.tells → OnOk result (Ends (D.held disk.old).output
-        (image_of ⟦<PartSource<'t, D::At> as Source>⟧.content contents.entry) (D.world disk.old) (D.world disk.new)) }
-    ensures counted { IsTrue D.tells → IfOk result (λ end. end.0
-        ≡ counted (length (image_of ⟦<PartSource<'t, D::At> as Source>⟧.content contents.entry))) }
-    ensures closed { IsTrue D.tells → ClosesOutput (is_ok result) (D.held disk.old) (D.held disk.new) }
-    ensures rest { IsTrue D.tells → SparesRest (D.held disk.old).output (D.world disk.old) (D.world disk.new) }
-    ensures outside { IsTrue D.tells → IfErr result (λ refusal. IsOutside refusal.fault) }
+    requires ready { IsReady D.tells ⟦<PartSource<'t, D::At> as Source>⟧.size
+        ⟦<PartSource<'t, D::At> as Source>⟧.read_faults contents }
+    ensures broken { IsTrue D.tells → OnErr result (LeavesNoneOrAll (D.held disk.old).output
+        (packed_image ⟦<PartSource<'t, D::At> as Source>⟧.content contents.entry) (D.world disk.new)) }
+    ensures writes { IsTrue D.tells → WritesBytes result (λ refusal. refusal.fault)
+        (packed_image ⟦<PartSource<'t, D::At> as Source>⟧.content contents.entry) (D.held disk.old) (D.held disk.new)
+        (D.world disk.old) (D.world disk.new) }
 {
     let mut contents = contents;
     let (file, answer) = lay_image(&mut contents, file, progress, w, m);
@@ -233,7 +211,7 @@ fn stopped<'t, 'a, D: Disk>(
     ensures closed { IsTrue D.tells → D.held disk.new ≡ ended false (D.Image.Output.write_faults file)
         (D.held disk.old) }
     ensures rest { IsTrue D.tells → SparesRest (D.held disk.old).output (D.world disk.old) (D.world disk.new) }
-    ensures outside { IsOfLaying fault → IsOutside result.fault }
+    ensures outside { IsOfLaying fault → IsOutsideBoot result.fault }
 {
     let why = file.why();
     disk.give_up_image(file);

@@ -1,13 +1,14 @@
 //! The commands over the disk in memory, which tells what its files hold: no clause is left that says nothing.
 
-ghost use Rattle.std.specs.Prelude.{◌≡◌, ◌+◌, None, IsTrue, IfErr, OnOk, if◌then◌else◌};
+ghost use Rattle.std.specs.Prelude.{IfErr, OnOk};
+ghost use Rattle.abt_refusals.specs.Paths.{output_path};
 ghost use Rattle.abt_disk.specs.Images.{is_over};
-ghost use Rattle.abt_disk.specs.World.{HasNotFailed, IsReading, OnlyAt};
-ghost use Rattle.abt_output.specs.Shows.{Shows};
+ghost use Rattle.abt_disk.specs.World.{HasNotFailed, IsReading};
+ghost use Rattle.abt_output.specs.Shows.{Shows, unprinted};
 ghost use Rattle.memory_disk.specs.Memory.{held_of, world_of};
-ghost use Rattle.pack_bodies.specs.Packing.{HoldsNoPart, KeepsGiven, PacksFile, output_path};
+ghost use Rattle.pack_bodies.specs.Packing.{IsPackedBy, KeepsGiven, PacksFile};
 ghost use Rattle.pack_bodies.specs.Refusing.{RefusesPack};
-ghost use Rattle.pack_bodies.specs.Writing.{unprinted};
+ghost use Rattle.pack_bodies.specs.Writing.{LeavesOut};
 
 use crate::pack::pack_file;
 use abt_io::{Meter, Window};
@@ -27,15 +28,11 @@ pub fn pack_in_memory<'t, 'a>(
     requires { IsReading (held_of disk.old) }
     ensures done { OnOk result (PacksFile command.now (world_of disk.old) (world_of disk.new)
         (Shows report.old report.new)) }
-    ensures synced { OnOk result ((held_of disk.new).syncs
-        ≡ (held_of disk.old).syncs + (if (held_of disk.old).is_synced then 1 else 0)) }
     ensures clean { OnOk result (HasNotFailed (held_of disk.old) (held_of disk.new)) }
-    ensures others { OnlyAt (held_of disk.old).read (output_path command.now.output.now) (world_of disk.old)
+    ensures left { LeavesOut result (output_path command.now.output.now) (is_over (output_path command.now.output.now))
+        (IsPackedBy command.now (world_of disk.old)) (held_of disk.old) (held_of disk.new) (world_of disk.old)
         (world_of disk.new) }
     ensures inputs { KeepsGiven command.now (world_of disk.old) (world_of disk.new) }
-    ensures closed { (held_of disk.new).output ≡ None }
-    ensures whole { IsTrue (is_over (output_path command.now.output.now)) → HoldsNoPart command.now (world_of disk.old)
-        (world_of disk.new) }
     ensures refused { IfErr result (λ refusal. RefusesPack command.now (world_of disk.old) (world_of disk.new)
         (held_of disk.old) (held_of disk.new) (PacksFile command.now (world_of disk.old) (world_of disk.new)
         unprinted) refusal.fault) }

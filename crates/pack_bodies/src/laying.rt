@@ -1,19 +1,17 @@
 //! An image that is laid over a file, so that no reader takes what was broken off for a whole one.
 
 ghost use Rattle.std.specs.Prelude.{◌≡◌, ◌<◌, ◌+◌, [], None, IsTrue, IfErr, IfOk, OnErr, OnOk, length};
-ghost use Rattle.pack_bodies.specs.Contents.{faults_in, image_of, refusal_in};
-ghost use Rattle.pack_bodies.specs.Lines.{counted};
+ghost use Rattle.pack_bodies.specs.Contents.{faults_in, packed_image, refusal_in};
 ghost use Rattle.pack_bodies.specs.Magic.{HoldsNone};
-ghost use Rattle.pack_bodies.specs.Writing.{IsOfLaying};
+ghost use Rattle.pack_bodies.specs.Writing.{IsOfLaying, PacksBytes};
 ghost use Rattle.boot_rules.specs.Parts.{IsBoot};
 
-use crate::carried::Carried;
 use crate::contents::Contents;
 use crate::magic_last::MagicLast;
 use crate::packing::{is_read_once, pack_contents, pack_once};
 use abt_disk::Lasting;
 use abt_io::{Meter, Overwrite, Source, Window};
-use abt_output::Progress;
+use abt_output::{Carried, Progress};
 use abt_sections::SectionFault;
 use boot_rules::PartSource;
 
@@ -38,18 +36,12 @@ pub(crate) fn lay_image<'t, S: Source + Lasting + Drop, O: Overwrite>(
     requires empty { O.written file ≡ [] }
     requires nothing { ⟦<PartSource<'t, S> as Source>⟧.size contents.old.nothing ≡ 0 }
     requires accepted { refusal_in ⟦<PartSource<'t, S> as Source>⟧.size contents.old ≡ None }
-    ensures written { IsTrue S.tells → OnOk result.1 (O.written result.0
-        ≡ image_of ⟦<PartSource<'t, S> as Source>⟧.content contents.old) }
-    ensures counted { IsTrue S.tells → IfOk result.1 (λ bytes. bytes
-        ≡ counted (length (image_of ⟦<PartSource<'t, S> as Source>⟧.content contents.old))) }
+    ensures packs { PacksBytes result.1 S.tells (packed_image ⟦<PartSource<'t, S> as Source>⟧.content contents.old)
+        [] (O.written result.0)
+        (faults_in ⟦<PartSource<'t, S> as Source>⟧.read_faults contents.old + O.write_faults file)
+        (faults_in ⟦<PartSource<'t, S> as Source>⟧.read_faults contents.new + O.write_faults result.0) }
     ensures broken { OnErr result.1 (HoldsNone (O.written result.0)) }
     ensures moving { IfErr result.1 IsOfLaying }
-    ensures clean { OnOk result.1 (
-        faults_in ⟦<PartSource<'t, S> as Source>⟧.read_faults contents.new + O.write_faults result.0
-        ≡ faults_in ⟦<PartSource<'t, S> as Source>⟧.read_faults contents.old + O.write_faults file) }
-    ensures cause { IsTrue S.tells → OnErr result.1 (
-        faults_in ⟦<PartSource<'t, S> as Source>⟧.read_faults contents.old + O.write_faults file
-        < faults_in ⟦<PartSource<'t, S> as Source>⟧.read_faults contents.new + O.write_faults result.0) }
 {
     if is_read_once(contents) {
         lay_once(contents, file, progress, w, m)
@@ -70,18 +62,12 @@ fn lay_once<'t, S: Source + Lasting + Drop, O: Overwrite>(
     requires boot { IsBoot contents.old.kind }
     requires alone { ⟦<PartSource<'t, S> as Source>⟧.size contents.old.trailing ≡ 0 }
     requires accepted { refusal_in ⟦<PartSource<'t, S> as Source>⟧.size contents.old ≡ None }
-    ensures written { IsTrue S.tells → OnOk result.1 (O.written result.0
-        ≡ image_of ⟦<PartSource<'t, S> as Source>⟧.content contents.old) }
-    ensures counted { IsTrue S.tells → IfOk result.1 (λ bytes. bytes
-        ≡ counted (length (image_of ⟦<PartSource<'t, S> as Source>⟧.content contents.old))) }
+    ensures packs { PacksBytes result.1 S.tells (packed_image ⟦<PartSource<'t, S> as Source>⟧.content contents.old)
+        [] (O.written result.0)
+        (faults_in ⟦<PartSource<'t, S> as Source>⟧.read_faults contents.old + O.write_faults file)
+        (faults_in ⟦<PartSource<'t, S> as Source>⟧.read_faults contents.new + O.write_faults result.0) }
     ensures broken { OnErr result.1 (HoldsNone (O.written result.0)) }
     ensures moving { IfErr result.1 IsOfLaying }
-    ensures clean { OnOk result.1 (
-        faults_in ⟦<PartSource<'t, S> as Source>⟧.read_faults contents.new + O.write_faults result.0
-        ≡ faults_in ⟦<PartSource<'t, S> as Source>⟧.read_faults contents.old + O.write_faults file) }
-    ensures cause { IsTrue S.tells → OnErr result.1 (
-        faults_in ⟦<PartSource<'t, S> as Source>⟧.read_faults contents.old + O.write_faults file
-        < faults_in ⟦<PartSource<'t, S> as Source>⟧.read_faults contents.new + O.write_faults result.0) }
 {
     let mut carried = Carried {
         device: file,
@@ -106,18 +92,12 @@ fn lay_magic_last<'t, S: Source + Lasting + Drop, O: Overwrite>(
     requires empty { O.written file ≡ [] }
     requires nothing { ⟦<PartSource<'t, S> as Source>⟧.size contents.old.nothing ≡ 0 }
     requires accepted { refusal_in ⟦<PartSource<'t, S> as Source>⟧.size contents.old ≡ None }
-    ensures written { IsTrue S.tells → OnOk result.1 (O.written result.0
-        ≡ image_of ⟦<PartSource<'t, S> as Source>⟧.content contents.old) }
-    ensures counted { IsTrue S.tells → IfOk result.1 (λ bytes. bytes
-        ≡ counted (length (image_of ⟦<PartSource<'t, S> as Source>⟧.content contents.old))) }
+    ensures packs { PacksBytes result.1 S.tells (packed_image ⟦<PartSource<'t, S> as Source>⟧.content contents.old)
+        [] (O.written result.0)
+        (faults_in ⟦<PartSource<'t, S> as Source>⟧.read_faults contents.old + O.write_faults file)
+        (faults_in ⟦<PartSource<'t, S> as Source>⟧.read_faults contents.new + O.write_faults result.0) }
     ensures broken { OnErr result.1 (HoldsNone (O.written result.0)) }
     ensures moving { IfErr result.1 IsOfLaying }
-    ensures clean { OnOk result.1 (
-        faults_in ⟦<PartSource<'t, S> as Source>⟧.read_faults contents.new + O.write_faults result.0
-        ≡ faults_in ⟦<PartSource<'t, S> as Source>⟧.read_faults contents.old + O.write_faults file) }
-    ensures cause { IsTrue S.tells → OnErr result.1 (
-        faults_in ⟦<PartSource<'t, S> as Source>⟧.read_faults contents.old + O.write_faults file
-        < faults_in ⟦<PartSource<'t, S> as Source>⟧.read_faults contents.new + O.write_faults result.0) }
 {
     let mut carried = Carried {
         device: MagicLast::new(file),

@@ -12,12 +12,11 @@
 //! | `own_ramdisks.rt` | the fragments that an image has of its own |
 //! | `contents.rt`, `filling.rt`, `letting_go.rt` | all that it is written from, and letting it go |
 //! | `image_output.rt`, `laying.rt`, `packing.rt` | the file that it is written to, and writing it |
-//! | `magic_last.rt`, `carried.rt` | an output whose magic is laid last; a device with how far the command is |
+//! | `magic_last.rt` | an output whose magic is laid last |
 //! | `places.rt`, `lines.rt`, `telling.rt` | the files that the words name; what is printed of what was done |
 //! | `in_memory.rt`, `in_memory_again.rt` | the commands over the disk in memory |
 #![tactic(auto)]
 
-mod carried;
 mod contents;
 mod filling;
 mod image_output;

@@ -6,6 +6,7 @@ ghost use Rattle.abt_refusals.specs.Paths.{path_of};
 ghost use Rattle.abt_sections.specs.Header.{view_of};
 ghost use Rattle.abt_sections.specs.Open.{IsOpened};
 ghost use Rattle.boot_bodies.specs.Faults.{RefusesImage};
+ghost use Rattle.pack_bodies.specs.Opening.{OnlyOpens};
 ghost use Rattle.pack_bodies.specs.Own.{IsOpenOwn, IsOwnPart, kept_behind};
 
 use abt_disk::{Disk, Lasting};
@@ -38,8 +39,8 @@ pub(crate) fn open_own<'t, 'a, D: Disk>(
     ensures clean { IsTrue D.tells → IfOk result (λ own. D.At.read_faults own.source ≡ 0) }
     ensures refused { IsTrue D.tells → IfErr result (λ refusal. RefusesImage (path_of place.entry)
         (D.world disk.old) (HasFailed (D.held disk.old) (D.held disk.new)) ⊥ refusal.fault) }
-    ensures output { IsTrue D.tells → (D.held disk.new).output ≡ (D.held disk.old).output }
-    ensures world { IsTrue D.tells → D.world disk.new ≡ D.world disk.old }
+    ensures keeps { IsTrue D.tells → OnlyOpens (D.held disk.old) (D.held disk.new) (D.world disk.old)
+        (D.world disk.new) }
 {
     let mut source = match disk.source(place) {
         Ok(source) => source,

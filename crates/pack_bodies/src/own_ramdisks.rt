@@ -5,8 +5,9 @@ ghost use Rattle.std.specs.Prelude.{take, drop};
 ghost use Rattle.abt_sections.specs.Cause.{total};
 ghost use Rattle.abt_sections.specs.Header.{fragment_count, ramdisk_at, view_of};
 ghost use Rattle.abt_sections.specs.Open.{IsOpened};
-ghost use Rattle.pack_bodies.specs.Opening.{StopsOpening};
-ghost use Rattle.pack_bodies.specs.Own.{AllEndBehind, EndsBehind, bytes_behind, bytes_of, entries_to, no_path, said_of};
+ghost use Rattle.pack_bodies.specs.Opening.{OnlyOpens, StopsOpening};
+ghost use Rattle.pack_bodies.specs.Own.{AllEndBehind, EndsBehind, bytes_behind, fragment_bytes, entries_to, no_path};
+ghost use Rattle.pack_bodies.specs.Own.{said_of};
 
 use crate::own::{Own, range_of};
 use crate::ramdisks::Ramdisks;
@@ -31,14 +32,15 @@ pub(crate) fn own_fragments<'a, D: Disk>(
         (view_of own.now.image.header) (fragment_count (view_of own.now.image.header)) }
     ensures specs { IsTrue D.tells → IfOk result (λ all. all.specs.items ≡ map said_of entries.now) }
     ensures bytes { IsTrue D.tells → IfOk result (λ all. map ⟦<PartSource<'a, D::At> as Source>⟧.content
-        all.sources.items ≡ map (bytes_of (D.At.content own.now.source) (view_of own.now.image.header)) entries.now) }
+        all.sources.items ≡ map
+        (fragment_bytes (D.At.content own.now.source) (view_of own.now.image.header)) entries.now) }
     ensures unread { IsTrue D.tells → IfOk result (λ all.
         total ⟦<PartSource<'a, D::At> as Source>⟧.read_faults all.sources.items ≡ 0) }
     ensures held { IsTrue D.tells → OnOk result (D.held disk.new ≡ D.held disk.old) }
     ensures refused { IsTrue D.tells → IfErr result (λ refusal. StopsOpening no_path (D.held disk.old)
         (D.held disk.new) refusal.fault) }
-    ensures output { IsTrue D.tells → (D.held disk.new).output ≡ (D.held disk.old).output }
-    ensures world { IsTrue D.tells → D.world disk.new ≡ D.world disk.old }
+    ensures keeps { IsTrue D.tells → OnlyOpens (D.held disk.old) (D.held disk.new) (D.world disk.old)
+        (D.world disk.new) }
 {
     match place_of(&own.image, Section::VendorRamdisk) {
         Some(place) => with_entries(disk, alloc, own, place.at, entries),
@@ -64,8 +66,8 @@ fn with_entries<'a, D: Disk>(
     ensures held { IsTrue D.tells → OnOk result (D.held disk.new ≡ D.held disk.old) }
     ensures refused { IsTrue D.tells → IfErr result (λ refusal. StopsOpening no_path (D.held disk.old)
         (D.held disk.new) refusal.fault) }
-    ensures output { IsTrue D.tells → (D.held disk.new).output ≡ (D.held disk.old).output }
-    ensures world { IsTrue D.tells → D.world disk.new ≡ D.world disk.old }
+    ensures keeps { IsTrue D.tells → OnlyOpens (D.held disk.old) (D.held disk.new) (D.world disk.old)
+        (D.world disk.new) }
 {
     let mut ramdisks = Ramdisks::new(alloc);
     for entry in entries {
@@ -98,8 +100,8 @@ fn with_entry<'a, D: Disk>(
     ensures held { IsTrue D.tells → OnOk result (D.held disk.new ≡ D.held disk.old) }
     ensures refused { IsTrue D.tells → IfErr result (λ refusal. StopsOpening no_path (D.held disk.old)
         (D.held disk.new) refusal.fault) }
-    ensures output { IsTrue D.tells → (D.held disk.new).output ≡ (D.held disk.old).output }
-    ensures world { IsTrue D.tells → D.world disk.new ≡ D.world disk.old }
+    ensures keeps { IsTrue D.tells → OnlyOpens (D.held disk.old) (D.held disk.new) (D.world disk.old)
+        (D.world disk.new) }
 {
     let at = front.saturating_add(entry.ramdisk_offset as u64);
     let source = match range_of(disk, own, at, entry.ramdisk_size as u64) {

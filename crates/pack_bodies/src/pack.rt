@@ -1,19 +1,19 @@
 //! The command `pack`: a boot image or a vendor boot image of its parts.
 
-ghost use Rattle.std.specs.Prelude.{◌≡◌, ◌+◌, [], None, IsTrue, IfErr, IfOk, OnOk, length, if◌then◌else◌};
+ghost use Rattle.std.specs.Prelude.{◌≡◌, ◌+◌, [], IsTrue, IfErr, IfOk, OnOk, length};
 ghost use Rattle.std.specs.List.{All};
-ghost use Rattle.abt_disk.specs.World.{HasNotFailed, IsReading, OnlyAt};
-ghost use Rattle.abt_output.specs.Shows.{Shows};
+ghost use Rattle.abt_refusals.specs.Paths.{output_path};
+ghost use Rattle.abt_disk.specs.World.{HasNotFailed, IsReading};
+ghost use Rattle.abt_output.specs.Shows.{Shows, unprinted};
 ghost use Rattle.abt_sections.specs.Fields.{boot_fields};
 ghost use Rattle.boot_fields.specs.Kind.{version_of};
 ghost use Rattle.boot_rules.specs.Carried.{IsTaken};
 ghost use Rattle.pack_bodies.specs.Contents.{faults_in, packing_of};
-ghost use Rattle.pack_bodies.specs.Opening.{OpensMore};
-ghost use Rattle.pack_bodies.specs.Packing.{AreAskedFor, HoldsNoPart, KeepsGiven, PacksFile, board_words, kind_of};
-ghost use Rattle.pack_bodies.specs.Packing.{output_path};
+ghost use Rattle.pack_bodies.specs.Opening.{OnlyOpens, OpensMore};
+ghost use Rattle.pack_bodies.specs.Packing.{AreAskedFor, IsPackedBy, KeepsGiven, PacksFile, board_id_words, asked_kind};
 ghost use Rattle.pack_bodies.specs.Parts.{IsGivenPath};
 ghost use Rattle.pack_bodies.specs.Refusing.{RefusesPack, StopsFilling};
-ghost use Rattle.pack_bodies.specs.Writing.{unprinted};
+ghost use Rattle.pack_bodies.specs.Writing.{LeavesOut};
 
 use crate::contents::Contents;
 use crate::filling::filled;
@@ -45,18 +45,14 @@ pub fn pack_file<'t, 'a, D: Disk>(
     // what was printed tells of it
     ensures done { IsTrue D.tells → OnOk result (PacksFile command.now (D.world disk.old) (D.world disk.new)
         (Shows report.old report.new)) }
-    // it was synced, where that is wanted, and no call failed
-    ensures synced { IsTrue D.tells → OnOk result ((D.held disk.new).syncs
-        ≡ (D.held disk.old).syncs + (if (D.held disk.old).is_synced then 1 else 0)) }
+    // and no call failed
     ensures clean { IsTrue D.tells → OnOk result (HasNotFailed (D.held disk.old) (D.held disk.new)) }
     // whatever the outcome, OUT alone may hold anything else, the given files hold what they held, and OUT's file has
     // no part of an image
-    ensures others { IsTrue D.tells → OnlyAt (D.held disk.old).read (output_path command.now.output.now)
-        (D.world disk.old) (D.world disk.new) }
+    ensures left { IsTrue D.tells → LeavesOut result (output_path command.now.output.now)
+        (D.is_over (output_path command.now.output.now)) (IsPackedBy command.now (D.world disk.old))
+        (D.held disk.old) (D.held disk.new) (D.world disk.old) (D.world disk.new) }
     ensures inputs { IsTrue D.tells → KeepsGiven command.now (D.world disk.old) (D.world disk.new) }
-    ensures closed { IsTrue D.tells → (D.held disk.new).output ≡ None }
-    ensures whole { IsTrue D.tells → IsTrue (D.is_over (output_path command.now.output.now)) → HoldsNoPart command.now
-        (D.world disk.old) (D.world disk.new) }
     // each fault is so: of the words before anything is opened, of what is packed before OUT is; or a call has failed;
     // or all is done and can't be told
     ensures refused { IsTrue D.tells → IfErr result (λ refusal. RefusesPack command.now (D.world disk.old)
@@ -86,7 +82,7 @@ fn contents_of<'t, 'a, D: Disk>(
     command: &'t PackCommand<'a>,
 ) -> Result<Contents<'t, PartSource<'t, D::At>>, Refusal<'t, BootCommandFault<'a>>>
     requires first { IsTrue D.tells → (D.held disk.old).begun ≡ [] }
-    requires kind { kind ≡ kind_of command.now }
+    requires kind { kind ≡ asked_kind command.now }
     requires versioned { fields.version ≡ version_of kind }
     requires taken { All (IsTaken kind) command.now.texts.fragments.items }
     ensures kind { IfOk result (λ contents. contents.kind ≡ kind) }
@@ -99,10 +95,10 @@ fn contents_of<'t, 'a, D: Disk>(
     ensures opened { IsTrue D.tells → OnOk result (OpensMore (IsGivenPath command.now.texts kind) (D.world disk.old)
         (D.held disk.old) (D.held disk.new)) }
     ensures refused { IsTrue D.tells → IfErr result (λ refusal. StopsFilling (IsGivenPath command.now.texts kind)
-        (board_words command.now) (length command.now.texts.fragments.items) (D.held disk.old) (D.held disk.new)
+        (board_id_words command.now) (length command.now.texts.fragments.items) (D.held disk.old) (D.held disk.new)
         refusal.fault) }
-    ensures output { IsTrue D.tells → (D.held disk.new).output ≡ (D.held disk.old).output }
-    ensures world { IsTrue D.tells → D.world disk.new ≡ D.world disk.old }
+    ensures keeps { IsTrue D.tells → OnlyOpens (D.held disk.old) (D.held disk.new) (D.world disk.old)
+        (D.world disk.new) }
 {
     let texts = &command.texts;
     let parts = match open_parts(disk, command.alloc, kind, texts, None) {

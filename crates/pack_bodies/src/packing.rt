@@ -4,8 +4,8 @@ ghost use Rattle.std.specs.Prelude.{◌≡◌, ◌<◌, ◌+◌, ◌++◌, None,
 ghost use Rattle.abt_sections.specs.Broken.{IsBrokenOff};
 ghost use Rattle.boot_rules.specs.Parts.{IsBoot};
 ghost use Rattle.boot_rules.specs.Refused.{IsOfMoving};
-ghost use Rattle.pack_bodies.specs.Contents.{faults_in, image_from, image_of, packing_of, refusal_from, refusal_in};
-ghost use Rattle.pack_bodies.specs.Lines.{counted};
+ghost use Rattle.pack_bodies.specs.Contents.{faults_in, image_from, packed_image, packing_of, refusal_from, refusal_in};
+ghost use Rattle.pack_bodies.specs.Writing.{PacksBytes};
 
 use crate::contents::Contents;
 use abt_io::{CopyFault, Meter, Output, Overwrite, Source, Window, copy_range};
@@ -56,16 +56,11 @@ pub(crate) fn pack_once<P: Source + Drop, O: Overwrite>(
     requires boot { IsBoot contents.old.kind }
     requires alone { P.size contents.old.trailing ≡ 0 }
     requires accepted { refusal_in P.size contents.old ≡ None }
-    ensures written { IsTrue P.tells → OnOk result (O.written output.new ≡ O.written output.old
-        ++ image_of P.content contents.old) }
-    ensures counted { IsTrue P.tells → IfOk result (λ bytes. bytes
-        ≡ counted (length (image_of P.content contents.old))) }
+    ensures packs { PacksBytes result P.tells (packed_image P.content contents.old) (O.written output.old)
+        (O.written output.new) (faults_in P.read_faults contents.old + O.write_faults output.old)
+        (faults_in P.read_faults contents.new + O.write_faults output.new) }
     ensures broken { OnErr result (IsBrokenOff (O.written output.old) (O.written output.new)) }
     ensures moving { IfErr result IsOfMoving }
-    ensures clean { OnOk result (faults_in P.read_faults contents.new + O.write_faults output.new
-        ≡ faults_in P.read_faults contents.old + O.write_faults output.old) }
-    ensures cause { IsTrue P.tells → OnErr result (faults_in P.read_faults contents.old + O.write_faults output.old
-        < faults_in P.read_faults contents.new + O.write_faults output.new) }
 {
     let parts = contents.parts.as_mut_slice();
     match pack_boot_once(&contents.fields, parts, output, w, m) {
@@ -83,15 +78,10 @@ pub(crate) fn pack_contents<P: Source + Drop, O: Output>(
 ) -> Result<u64, SectionFault>
     requires empty { P.size contents.old.nothing ≡ 0 }
     requires accepted { refusal_in P.size contents.old ≡ None }
-    ensures written { IsTrue P.tells → OnOk result (O.written output.new ≡ O.written output.old
-        ++ image_of P.content contents.old) }
-    ensures counted { IsTrue P.tells → IfOk result (λ bytes. bytes
-        ≡ counted (length (image_of P.content contents.old))) }
+    ensures packs { PacksBytes result P.tells (packed_image P.content contents.old) (O.written output.old)
+        (O.written output.new) (faults_in P.read_faults contents.old + O.write_faults output.old)
+        (faults_in P.read_faults contents.new + O.write_faults output.new) }
     ensures moving { IfErr result IsOfMoving }
-    ensures clean { OnOk result (faults_in P.read_faults contents.new + O.write_faults output.new
-        ≡ faults_in P.read_faults contents.old + O.write_faults output.old) }
-    ensures cause { IsTrue P.tells → OnErr result (faults_in P.read_faults contents.old + O.write_faults output.old
-        < faults_in P.read_faults contents.new + O.write_faults output.new) }
 {
     let bytes = match pack_parts(contents, output, w, m) {
         Ok(bytes) => bytes,

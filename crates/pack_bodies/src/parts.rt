@@ -6,9 +6,9 @@ ghost use Rattle.abt_sections.specs.Cause.{total};
 ghost use Rattle.boot_fields.specs.Options.{option_of};
 ghost use Rattle.boot_rules.specs.Given.{found};
 ghost use Rattle.boot_rules.specs.Parts.{part_sections, row_count};
-ghost use Rattle.pack_bodies.specs.Opening.{OpensMore, StopsOpening};
+ghost use Rattle.pack_bodies.specs.Opening.{OnlyOpens, OpensMore, StopsOpening};
 ghost use Rattle.pack_bodies.specs.Own.{IsOpenOwn, IsOwnPart};
-ghost use Rattle.pack_bodies.specs.Parts.{ArePartsOf, IsPartBy, IsPartPath, IsPathOf};
+ghost use Rattle.pack_bodies.specs.Parts.{ArePartsOf, IsPartBy, IsPartInput, IsPathOf};
 
 use crate::own::{Own, own_part};
 use crate::places::file_at;
@@ -35,12 +35,12 @@ pub(crate) fn open_parts<'t, D: Disk>(
         (map ⟦<PartSource<'t, D::At> as Source>⟧.content parts.items)) }
     ensures unread { IsTrue D.tells → IfOk result (λ parts.
         total ⟦<PartSource<'t, D::At> as Source>⟧.read_faults parts.items ≡ 0) }
-    ensures opened { IsTrue D.tells → OnOk result (OpensMore (IsPartPath texts.now.options.items (part_sections kind))
+    ensures opened { IsTrue D.tells → OnOk result (OpensMore (IsPartInput texts.now.options.items (part_sections kind))
         (D.world disk.old) (D.held disk.old) (D.held disk.new)) }
-    ensures refused { IsTrue D.tells → IfErr result (λ refusal. StopsOpening (IsPartPath texts.now.options.items
+    ensures refused { IsTrue D.tells → IfErr result (λ refusal. StopsOpening (IsPartInput texts.now.options.items
         (part_sections kind)) (D.held disk.old) (D.held disk.new) refusal.fault) }
-    ensures output { IsTrue D.tells → (D.held disk.new).output ≡ (D.held disk.old).output }
-    ensures world { IsTrue D.tells → D.world disk.new ≡ D.world disk.old }
+    ensures keeps { IsTrue D.tells → OnlyOpens (D.held disk.old) (D.held disk.new) (D.world disk.old)
+        (D.world disk.new) }
 {
     let rows = rows_of(kind);
     let mut parts = Vec::new(alloc);
@@ -75,8 +75,8 @@ fn open_part<'t, D: Disk>(
         (D.world disk.old) (D.held disk.old) (D.held disk.new)) }
     ensures refused { IsTrue D.tells → IfErr result (λ refusal. StopsOpening (IsPathOf texts.now.options.items
         row.option.now) (D.held disk.old) (D.held disk.new) refusal.fault) }
-    ensures output { IsTrue D.tells → (D.held disk.new).output ≡ (D.held disk.old).output }
-    ensures world { IsTrue D.tells → D.world disk.new ≡ D.world disk.old }
+    ensures keeps { IsTrue D.tells → OnlyOpens (D.held disk.old) (D.held disk.new) (D.world disk.old)
+        (D.world disk.new) }
 {
     match texts.find(row.option) {
         Some(option) => open_file(disk, row.option, &*option.word, option.bytes.as_slice()),
@@ -98,8 +98,8 @@ pub(crate) fn open_file<'t, D: Disk>(
         ⟦<PartSource<'t, D::At> as Source>⟧.read_faults part ≡ 0) }
     ensures refused { IsTrue D.tells → IfErr result (λ refusal. StopsOpening (λ p. p ≡ path.now) (D.held disk.old)
         (D.held disk.new) refusal.fault) }
-    ensures output { IsTrue D.tells → (D.held disk.new).output ≡ (D.held disk.old).output }
-    ensures world { IsTrue D.tells → D.world disk.new ≡ D.world disk.old }
+    ensures keeps { IsTrue D.tells → OnlyOpens (D.held disk.old) (D.held disk.new) (D.world disk.old)
+        (D.world disk.new) }
 {
     match str::from_utf8(path) {
         Ok(path) => {

@@ -1,8 +1,7 @@
 //! The files of a command, as its words name them.
 
 ghost use Rattle.std.specs.Prelude.{◌≡◌};
-ghost use Rattle.abt_refusals.specs.Paths.{path_of, path_out};
-ghost use Rattle.pack_bodies.specs.Packing.{output_path};
+ghost use Rattle.abt_refusals.specs.Paths.{output_path, path_of, path_out};
 
 use abt_refusals::Place;
 

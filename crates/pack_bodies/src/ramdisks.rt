@@ -4,8 +4,8 @@ ghost use Rattle.std.specs.Prelude.{◌≡◌, ◌++◌, ◌∷◌, [], IsSome, 
 ghost use Rattle.std.specs.List.{All};
 ghost use Rattle.abt_sections.specs.Cause.{total};
 ghost use Rattle.boot_rules.specs.Boards.{AreSet};
-ghost use Rattle.pack_bodies.specs.Opening.{OpensMore, StopsOpening};
-ghost use Rattle.pack_bodies.specs.Parts.{AddsFragment, AreFragmentsOf, IsFragmentPath};
+ghost use Rattle.pack_bodies.specs.Opening.{OnlyOpens, OpensMore, StopsOpening};
+ghost use Rattle.pack_bodies.specs.Parts.{AddsFragment, AreFragmentsOf, IsFragmentInput};
 ghost use Rattle.pack_bodies.specs.Refusing.{IsBadBoard};
 
 use crate::parts::open_file;
@@ -91,12 +91,12 @@ pub(crate) fn open_fragments<'a, D: Disk>(
         all.specs.items (map ⟦<PartSource<'a, D::At> as Source>⟧.content all.sources.items)) }
     ensures unread { IsTrue D.tells → IfOk result (λ all.
         total ⟦<PartSource<'a, D::At> as Source>⟧.read_faults all.sources.items ≡ 0) }
-    ensures opened { IsTrue D.tells → OnOk result (OpensMore (IsFragmentPath texts.now.fragments.items)
+    ensures opened { IsTrue D.tells → OnOk result (OpensMore (IsFragmentInput texts.now.fragments.items)
         (D.world disk.old) (D.held disk.old) (D.held disk.new)) }
-    ensures refused { IsTrue D.tells → IfErr result (λ refusal. StopsOpening (IsFragmentPath
+    ensures refused { IsTrue D.tells → IfErr result (λ refusal. StopsOpening (IsFragmentInput
         texts.now.fragments.items) (D.held disk.old) (D.held disk.new) refusal.fault) }
-    ensures output { IsTrue D.tells → (D.held disk.new).output ≡ (D.held disk.old).output }
-    ensures world { IsTrue D.tells → D.world disk.new ≡ D.world disk.old }
+    ensures keeps { IsTrue D.tells → OnlyOpens (D.held disk.old) (D.held disk.new) (D.world disk.old)
+        (D.world disk.new) }
 {
     let mut ramdisks = Ramdisks::new(alloc);
     for fragment in &texts.fragments {
@@ -127,8 +127,8 @@ fn with_file<'a, D: Disk>(
         (D.world disk.old) (D.held disk.old) (D.held disk.new)) }
     ensures refused { IsTrue D.tells → IfErr result (λ refusal. StopsOpening (λ path. path ≡ fragment.now.path.items)
         (D.held disk.old) (D.held disk.new) refusal.fault) }
-    ensures output { IsTrue D.tells → (D.held disk.new).output ≡ (D.held disk.old).output }
-    ensures world { IsTrue D.tells → D.world disk.new ≡ D.world disk.old }
+    ensures keeps { IsTrue D.tells → OnlyOpens (D.held disk.old) (D.held disk.new) (D.world disk.old)
+        (D.world disk.new) }
 {
     let Some(spec) = fragment.spec else {
         return Ok(ramdisks);

@@ -1,10 +1,10 @@
 //! The command `repack`: an image with other parts and fields, all else kept.
 
-ghost use Rattle.std.specs.Prelude.{◌≡◌, ◌+◌, ◌++◌, [], None, IsTrue, IfErr, IfOk, OnOk, if◌then◌else◌, map};
+ghost use Rattle.std.specs.Prelude.{◌≡◌, ◌+◌, ◌++◌, [], IsTrue, IfErr, IfOk, OnOk, map};
 ghost use Rattle.std.specs.List.{All};
-ghost use Rattle.abt_disk.specs.World.{HasFailed, HasNotFailed, IsReading, OnlyAt};
-ghost use Rattle.abt_output.specs.Shows.{Shows};
-ghost use Rattle.abt_refusals.specs.Paths.{path_of};
+ghost use Rattle.abt_disk.specs.World.{HasFailed, HasNotFailed, IsReading};
+ghost use Rattle.abt_output.specs.Shows.{Shows, unprinted};
+ghost use Rattle.abt_refusals.specs.Paths.{output_path, path_of};
 ghost use Rattle.abt_sections.specs.Cause.{total};
 ghost use Rattle.abt_sections.specs.Fields.{boot_fields};
 ghost use Rattle.abt_sections.specs.Header.{fragment_count, view_of};
@@ -15,14 +15,13 @@ ghost use Rattle.boot_fields.specs.Kind.{kind_of, version_of};
 ghost use Rattle.boot_findings.specs.LeftOut.{cmdline_of};
 ghost use Rattle.boot_rules.specs.Carried.{IsTaken};
 ghost use Rattle.pack_bodies.specs.Contents.{faults_in, packing_of};
-ghost use Rattle.pack_bodies.specs.Opening.{OpensMore, StopsOpening};
+ghost use Rattle.pack_bodies.specs.Opening.{OnlyOpens, OpensMore, StopsOpening};
 ghost use Rattle.pack_bodies.specs.Own.{entries_to, kept_behind};
-ghost use Rattle.pack_bodies.specs.Packing.{output_path};
-ghost use Rattle.pack_bodies.specs.Parts.{IsFragmentPath, IsGivenPath};
+ghost use Rattle.pack_bodies.specs.Parts.{IsFragmentInput, IsGivenPath};
 ghost use Rattle.pack_bodies.specs.RefusingAgain.{RefusesAgain, RefusesRepack, StopsFillingAgain};
-ghost use Rattle.pack_bodies.specs.Repacking.{AreAskedAgain, AreFragmentsAgain, HoldsNoPartAgain, IsPackedAgain};
+ghost use Rattle.pack_bodies.specs.Repacking.{AreAskedAgain, AreFragmentsAgain, IsPackedAgain, IsRepackedOf};
 ghost use Rattle.pack_bodies.specs.Repacking.{KeepsGivenAgain, KeepsRead, PacksAgain, RepacksFile, ShowsFirst};
-ghost use Rattle.pack_bodies.specs.Writing.{HoldsNoPartOf, unprinted};
+ghost use Rattle.pack_bodies.specs.Writing.{LeavesOut};
 
 use crate::contents::Contents;
 use crate::filling::filled;
@@ -63,19 +62,15 @@ pub fn repack_file<'t, 'a, D: Disk>(
     // printed tells of it
     ensures done { IsTrue D.tells → OnOk result (RepacksFile (path_of input.entry) command.now (D.world disk.old)
         (D.world disk.new) (ShowsFirst report.old report.new)) }
-    // it was synced, where that is wanted, and no call failed
-    ensures synced { IsTrue D.tells → OnOk result ((D.held disk.new).syncs
-        ≡ (D.held disk.old).syncs + (if (D.held disk.old).is_synced then 1 else 0)) }
+    // and no call failed
     ensures clean { IsTrue D.tells → OnOk result (HasNotFailed (D.held disk.old) (D.held disk.new)) }
     // whatever the outcome, OUT alone may hold anything else, IN and the given files hold what they held, and OUT's
     // file has no part of an image
-    ensures others { IsTrue D.tells → OnlyAt (D.held disk.old).read (output_path command.now.output.now)
-        (D.world disk.old) (D.world disk.new) }
+    ensures left { IsTrue D.tells → LeavesOut result (output_path command.now.output.now)
+        (D.is_over (output_path command.now.output.now)) (IsRepackedOf (path_of input.entry) command.now (D.world disk.old))
+        (D.held disk.old) (D.held disk.new) (D.world disk.old) (D.world disk.new) }
     ensures inputs { IsTrue D.tells → KeepsRead (path_of input.entry) command.now (D.world disk.old)
         (D.world disk.new) }
-    ensures closed { IsTrue D.tells → (D.held disk.new).output ≡ None }
-    ensures whole { IsTrue D.tells → IsTrue (D.is_over (output_path command.now.output.now)) → HoldsNoPartAgain
-        (path_of input.entry) command.now (D.world disk.old) (D.world disk.new) }
     // each fault is so: of IN's bytes, of the words or of what is packed before OUT is opened; or a call has failed; or
     // all is done and can't be told
     ensures refused { IsTrue D.tells → IfErr result (λ refusal. RefusesRepack (path_of input.entry) command.now
@@ -111,18 +106,14 @@ fn pack_again<'t, 'a, D: Disk>(
     ensures done { IsTrue D.tells → OnOk result (PacksAgain command.now (D.At.content own.old.source)
         (view_of own.old.image.header) (D.held disk.old).read (D.world disk.old) (D.world disk.new)
         (Shows report.old report.new)) }
-    ensures synced { IsTrue D.tells → OnOk result ((D.held disk.new).syncs
-        ≡ (D.held disk.old).syncs + (if (D.held disk.old).is_synced then 1 else 0)) }
     ensures clean { IsTrue D.tells → OnOk result (NoMoreFailed (D.held disk.old) (D.At.read_faults own.old.source)
         (D.held disk.new) (D.At.read_faults own.new.source)) }
-    ensures others { IsTrue D.tells → OnlyAt (D.held disk.old).read (output_path command.now.output.now)
-        (D.world disk.old) (D.world disk.new) }
+    ensures left { IsTrue D.tells → LeavesOut result (output_path command.now.output.now)
+        (D.is_over (output_path command.now.output.now)) (IsPackedAgain command.now (D.At.content own.old.source)
+        (view_of own.old.image.header) (D.world disk.old))
+        (D.held disk.old) (D.held disk.new) (D.world disk.old) (D.world disk.new) }
     ensures given { IsTrue D.tells → KeepsGivenAgain command.now (view_of own.old.image.header) (D.world disk.old)
         (D.world disk.new) }
-    ensures closed { IsTrue D.tells → (D.held disk.new).output ≡ None }
-    ensures whole { IsTrue D.tells → IsTrue (D.is_over (output_path command.now.output.now)) → HoldsNoPartOf
-        (output_path command.now.output.now) (IsPackedAgain command.now (D.At.content own.old.source)
-        (view_of own.old.image.header) (D.world disk.old)) (D.world disk.old) (D.world disk.new) }
     ensures refused { IsTrue D.tells → IfErr result (λ refusal. RefusesAgain command.now (D.At.content own.old.source)
         (view_of own.old.image.header) (D.world disk.old) (D.world disk.new) (SomeFailed (D.held disk.old)
         (D.At.read_faults own.old.source) (D.held disk.new) (D.At.read_faults own.new.source)) (PacksAgain command.now
@@ -172,17 +163,13 @@ fn write_again<'t, 'a, D: Disk>(
     ensures done { IsTrue D.tells → OnOk result (PacksAgain command.now (D.At.content own.now.source)
         (view_of own.now.image.header) (D.held disk.old).read (D.world disk.old) (D.world disk.new)
         (Shows report.old report.new)) }
-    ensures synced { IsTrue D.tells → OnOk result ((D.held disk.new).syncs
-        ≡ (D.held disk.old).syncs + (if (D.held disk.old).is_synced then 1 else 0)) }
     ensures clean { IsTrue D.tells → OnOk result (HasNotFailed (D.held disk.old) (D.held disk.new)) }
-    ensures others { IsTrue D.tells → OnlyAt (D.held disk.old).read (output_path command.now.output.now)
-        (D.world disk.old) (D.world disk.new) }
+    ensures left { IsTrue D.tells → LeavesOut result (output_path command.now.output.now)
+        (D.is_over (output_path command.now.output.now)) (IsPackedAgain command.now (D.At.content own.now.source)
+        (view_of own.now.image.header) (D.world disk.old))
+        (D.held disk.old) (D.held disk.new) (D.world disk.old) (D.world disk.new) }
     ensures given { IsTrue D.tells → KeepsGivenAgain command.now (view_of own.now.image.header) (D.world disk.old)
         (D.world disk.new) }
-    ensures closed { IsTrue D.tells → (D.held disk.new).output ≡ None }
-    ensures whole { IsTrue D.tells → IsTrue (D.is_over (output_path command.now.output.now)) → HoldsNoPartOf
-        (output_path command.now.output.now) (IsPackedAgain command.now (D.At.content own.now.source)
-        (view_of own.now.image.header) (D.world disk.old)) (D.world disk.old) (D.world disk.new) }
     ensures refused { IsTrue D.tells → IfErr result (λ refusal. RefusesAgain command.now (D.At.content own.now.source)
         (view_of own.now.image.header) (D.world disk.old) (D.world disk.new) (HasFailed (D.held disk.old)
         (D.held disk.new)) (PacksAgain command.now (D.At.content own.now.source) (view_of own.now.image.header)
@@ -236,8 +223,8 @@ fn contents_of<'t, 'f, 'a, D: Disk>(
     ensures refused { IsTrue D.tells → IfErr result (λ refusal. StopsFillingAgain command.now (D.world disk.old)
         (D.At.content own.now.source) (view_of own.now.image.header) (HasFailed (D.held disk.old) (D.held disk.new))
         refusal.fault) }
-    ensures output { IsTrue D.tells → (D.held disk.new).output ≡ (D.held disk.old).output }
-    ensures world { IsTrue D.tells → D.world disk.new ≡ D.world disk.old }
+    ensures keeps { IsTrue D.tells → OnlyOpens (D.held disk.old) (D.held disk.new) (D.world disk.old)
+        (D.world disk.new) }
 {
     let texts = &command.texts;
     let ramdisks = match ramdisks_of(disk, command.alloc, own, kept, texts) {
@@ -277,12 +264,12 @@ fn ramdisks_of<'t, D: Disk>(
         (map ⟦<PartSource<'t, D::At> as Source>⟧.content all.sources.items)) }
     ensures unread { IsTrue D.tells → IfOk result (λ all.
         total ⟦<PartSource<'t, D::At> as Source>⟧.read_faults all.sources.items ≡ 0) }
-    ensures opened { IsTrue D.tells → OnOk result (OpensMore (IsFragmentPath texts.now.fragments.items)
+    ensures opened { IsTrue D.tells → OnOk result (OpensMore (IsFragmentInput texts.now.fragments.items)
         (D.world disk.old) (D.held disk.old) (D.held disk.new)) }
-    ensures refused { IsTrue D.tells → IfErr result (λ refusal. StopsOpening (IsFragmentPath
+    ensures refused { IsTrue D.tells → IfErr result (λ refusal. StopsOpening (IsFragmentInput
         texts.now.fragments.items) (D.held disk.old) (D.held disk.new) refusal.fault) }
-    ensures output { IsTrue D.tells → (D.held disk.new).output ≡ (D.held disk.old).output }
-    ensures world { IsTrue D.tells → D.world disk.new ≡ D.world disk.old }
+    ensures keeps { IsTrue D.tells → OnlyOpens (D.held disk.old) (D.held disk.new) (D.world disk.old)
+        (D.world disk.new) }
 {
     if texts.fragments.as_slice().is_empty() {
         own_fragments(disk, alloc, own, kept.entries.as_slice())

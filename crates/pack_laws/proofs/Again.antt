@@ -35,11 +35,11 @@ use Rattle.boot_rules.specs.declared.pack_texts.OptionText.{OptionText}
 use Rattle.boot_rules.specs.declared.part_names.Part.TheVariants as files
 use Rattle.boot_laws.specs.Said.{IsHeld, SaysFiles, boot_fields_of, is_said, value_of, values_of, vendor_fields_of}
 use Rattle.boot_laws.specs.Said.{without_board}
-use Rattle.boot_laws.specs.WayBack.{PacksAgain, PacksBoot, PacksVendor, SaysImage, boot_parts_of, ramdisks_of, specs_of}
+use Rattle.boot_laws.specs.WayBack.{PacksFromParts, PacksBoot, PacksVendor, SaysImage, boot_parts_of, ramdisks_of, specs_of}
 use Rattle.boot_laws.specs.WayBack.{vendor_part, vendor_parts_of}
 use Rattle.boot_texts.specs.Words.{image_words, words_text}
 use Rattle.pack_bodies.specs.Contents.{Packing, image_from}
-use Rattle.pack_bodies.specs.Packing.{ArePacked, IsPackedBy, PacksFile, board_words, kind_of, nothing}
+use Rattle.pack_bodies.specs.Packing.{ArePacked, IsPackedBy, PacksFile, board_id_words, asked_kind, nothing}
 use Rattle.pack_bodies.specs.Parts.{AreFragmentsOf, ArePartsOf}
 use Rattle.pack_laws.specs.Said.{GivesNumber, GivesText, IsGivenBy, IsFragmentBy, SaysCommand, number_options}
 use Rattle.pack_laws.specs.Said.{text_options}
@@ -102,7 +102,7 @@ module _ (folder x : List ℕ) (h : Header) (command : PackCommand) (world : Wor
 
 -- what an order asks for, where its kind and its page are known
 abbrev Asked : PackCommand → World → ImageKind → BootFields → Packing → Type 0
-Asked command world kind given p = ArePacked world command.texts (board_words command) nothing
+Asked command world kind given p = ArePacked world command.texts (board_id_words command) nothing
     (AreFragmentsOf world command.texts.fragments.items) kind given p
 
 -- ---- boot images
@@ -129,7 +129,7 @@ boot_parts folder x (V4 f s) command world r parts a =
 
 module _ (folder x : List ℕ) (h : BootHeader) (command : PackCommand) (world : World)
     (r : Ready folder x (OfBoot h) command world) where
-  boot_kind : kind_of command ≡ kinds.Boot (boot_fields_of h).version
+  boot_kind : asked_kind command ≡ kinds.Boot (boot_fields_of h).version
   boot_kind = ap (λ (t : Bool). kind_for t command.version) (r.said.vendor ∙ r.says.vendor) ∙ ap kinds.Boot
       (r.said.version (boot_fields_of h).version r.says.fields.version)
 
@@ -140,7 +140,7 @@ module _ (folder x : List ℕ) (h : BootHeader) (command : PackCommand) (world :
       let options = command.texts.options.items in
       let given : AreGiven no_fields (kinds.Boot s.version) (Some s.page) options p.given =
       subst (λ (k : ImageKind). AreGiven no_fields k (Some s.page) options p.given) boot_kind
-      (subst (λ (o : Option ℕ). AreGiven no_fields (kind_of command) o options p.given)
+      (subst (λ (o : Option ℕ). AreGiven no_fields (asked_kind command) o options p.given)
       (r.said.page s.page r.says.fields.page) p.are_given) in
       let asked : Asked command world (kinds.Boot s.version) p.given p.packing = subst
       (λ (k : ImageKind). Asked command world k p.given p.packing) boot_kind p.asked in
@@ -157,26 +157,26 @@ module _ (folder x : List ℕ) (h : BootHeader) (command : PackCommand) (world :
 
 module _ (folder x : List ℕ) (v : Vendor) (command : PackCommand) (world : World)
     (r : Ready folder x (OfVendor v) command world) (bytes : List ℕ) (p : IsPackedBy command world bytes) where
-  vendor_kind : kind_of command ≡ kinds.Vendor (vendor_fields_of v).version
+  vendor_kind : asked_kind command ≡ kinds.Vendor (vendor_fields_of v).version
   vendor_kind = ap (λ (t : Bool). kind_for t command.version) (r.said.vendor ∙ r.says.vendor) ∙ ap kinds.Vendor
       (r.said.version (vendor_fields_of v).version r.says.fields.version)
 
   vendor_asked : Asked command world (kinds.Vendor (vendor_fields_of v).version) p.given p.packing
   vendor_asked = subst (λ (k : ImageKind). Asked command world k p.given p.packing) vendor_kind p.asked
 
-  vendor_fields_are : rules.vendor_fields_of p.packing.fields ≡ vendor_fields_of v
+  vendor_fields_are : rules.vendor_fields_asked p.packing.fields ≡ vendor_fields_of v
   vendor_fields_are =
       let s = vendor_fields_of v in
       let options = command.texts.options.items in
       let given : AreGiven no_fields (kinds.Vendor s.version) (Some s.page) options p.given =
       subst (λ (k : ImageKind). AreGiven no_fields k (Some s.page) options p.given) vendor_kind
-      (subst (λ (o : Option ℕ). AreGiven no_fields (kind_of command) o options p.given)
+      (subst (λ (o : Option ℕ). AreGiven no_fields (asked_kind command) o options p.given)
       (r.said.page s.page r.says.fields.page) p.are_given) in
       ap vendor_of vendor_asked.loaded ∙ vendor_given (image_words folder x (OfVendor v)) options
       (orders folder x (OfVendor v) command world r) s p.given r.says.fields given
 
   abbrev canon_of : VendorFields → List (List ℕ) → List FragmentSpec → List (List ℕ) → List ℕ
-  canon_of s parts specs ramdisks = vendor_canon s (rules.vendor_parts_of s.version parts specs ramdisks)
+  canon_of s parts specs ramdisks = vendor_canon s (rules.vendor_parts_asked s.version parts specs ramdisks)
 
   vendor_image_is : bytes ≡ canon_of (vendor_fields_of v) p.packing.parts p.packing.specs p.packing.ramdisks
   vendor_image_is =
@@ -230,7 +230,7 @@ module _ (folder x : List ℕ) (f : VendorFront) (t : Tail) (command : PackComma
       (hold_each world folder x h t.entry_num r.fragments) (same_count x h t.entry_num) in
       let set : AreSet boards (map without_board fs) p.packing.specs =
       subst (λ (ws : List (List ℕ)). AreSet ws (map without_board fs) p.packing.specs) r.said.board_ids
-      (subst (λ (l : List FragmentSpec). AreSet (board_words command) l p.packing.specs) bare asked.boards) in
+      (subst (λ (l : List FragmentSpec). AreSet (board_id_words command) l p.packing.specs) bare asked.boards) in
       let specs = boards_set fs boards r.says.fragments.boards p.packing.specs packs.taken.fragments
       r.says.fragments.are_boards r.says.fragments.board_ids set in
       let at = canon_of folder x four command world r bytes p (vendor_fields_of four) in
@@ -251,7 +251,7 @@ vendor_again folder x f (Some t) command world r packs bytes p = subst (StartsWi
     (sym (vendor_four folder x f t command world r packs bytes p)) packs.again
 
 again : (folder x : List ℕ) (h : Header) (command : PackCommand) (world : World) → Ready folder x h command world
-    → PacksAgain x h → (bytes : List ℕ) → IsPackedBy command world bytes → StartsWith x bytes
+    → PacksFromParts x h → (bytes : List ℕ) → IsPackedBy command world bytes → StartsWith x bytes
 again folder x (OfBoot h) command world r packs bytes p = subst (StartsWith x)
     (sym (boot_is folder x h command world r bytes p)) packs.again
 again folder x (OfVendor v) command world r packs bytes p =
@@ -259,7 +259,7 @@ again folder x (OfVendor v) command world r packs bytes p =
 
 -- what the laws of boot images say
 abbrev pub Packs : Type 0
-Packs = (x : List ℕ) (h : Header) → AreBytes x → HasImage x h → IsCanonical x h → PacksAgain x h
+Packs = (x : List ℕ) (h : Header) → AreBytes x → HasImage x h → IsCanonical x h → PacksFromParts x h
 
 abbrev pub Says : Type 0
 Says = (folder x : List ℕ) (h : Header) → AreBytes folder → AreBytes x → HasImage x h → IsCanonical x h

@@ -8,7 +8,7 @@ use Rattle.abt_headers.specs.declared.vendor.VendorFront.{VendorFront}
 use Rattle.abt_headers.specs.Os.{os_parts}
 use Rattle.abt_headers.specs.Vendor.{Tail}
 use Rattle.abt_sections.specs.Header.{Header, OfBoot, OfVendor, entry_of}
-use Rattle.boot_laws.specs.Said.{behind, first_of, value_of}
+use Rattle.boot_laws.specs.Said.{without_front, first_of, value_of}
 use Rattle.boot_texts.specs.Info as info
 use Rattle.boot_texts.specs.Words.{escaped_in_name, fragment_option, name_bytes}
 use Rattle.boot_texts.specs.Words.{board_option, board_word, board_words, entry_words, fragment_words, image_words}
@@ -86,18 +86,18 @@ first_first None b c = refl
 value_both : (name : List ℕ) (a b : List (List ℕ))
     → value_of name (a ++ b) ≡ first_of (value_of name a) (value_of name b)
 value_both name [] b = refl
-value_both name (w ∷ a) b = ap (first_of (behind (option_front name) w)) (value_both name a b) ∙ first_first
-    (behind (option_front name) w) (value_of name a) (value_of name b)
+value_both name (w ∷ a) b = ap (first_of (without_front (option_front name) w)) (value_both name a b) ∙ first_first
+    (without_front (option_front name) w) (value_of name a) (value_of name b)
 
 none_both : (name : List ℕ) (a b : List (List ℕ)) → value_of name a ≡ None → value_of name b ≡ None
     → value_of name (a ++ b) ≡ None
 none_both name a b e f = value_both name a b ∙ first_none (value_of name a) (value_of name b) e f
 
-module _ (name : List ℕ) (no_fragment : (t : List ℕ) → behind (option_front name) (codes "--fragment=" ++ t) ≡ None)
-    (no_board : (t : List ℕ) → behind (option_front name) (codes "--board-id=" ++ t) ≡ None) where
+module _ (name : List ℕ) (no_fragment : (t : List ℕ) → without_front (option_front name) (codes "--fragment=" ++ t) ≡ None)
+    (no_board : (t : List ℕ) → without_front (option_front name) (codes "--board-id=" ++ t) ≡ None) where
   one_board : (left_out : Bool) (i k n : ℕ) → value_of name (cond left_out [] (board_option i k n ∷ [])) ≡ None
   one_board true i k n = refl
-  one_board false i k n = first_none (behind (option_front name) (board_option i k n)) None
+  one_board false i k n = first_none (without_front (option_front name) (board_option i k n)) None
       (no_board (decimal i ++ (codes ":" ++ (decimal k ++ (codes "=" ++ decimal n))))) refl
 
   in_boards : (i k : ℕ) (ns : List ℕ) → value_of name (board_words i k ns) ≡ None
@@ -114,7 +114,7 @@ module _ (name : List ℕ) (no_fragment : (t : List ℕ) → behind (option_fron
       let word = fragment_option k e.ramdisk_type (name_bytes e.name) folder in
       let boards = board_words k 0 e.board_id in
       none_both name (fragment_words folder x h k) (entry_words folder k e) (in_fragments folder x h k)
-      (first_none (behind (option_front name) word) (value_of name boards) (no_fragment value)
+      (first_none (without_front (option_front name) word) (value_of name boards) (no_fragment value)
       (in_boards k 0 e.board_id))
 
 fragments_alone : (folder x : List ℕ) (h : Header) (k : ℕ) → SaysNoSum (fragment_words folder x h k)

@@ -9,7 +9,7 @@ use Rattle.abt_disk.specs.World.{World, Held}
 use Rattle.image_bodies.specs.Cutting.{IsPiecePath, PiecesStand}
 use Rattle.abt_disk.specs.Among.{IsAmong}
 use Rattle.sparse_bodies.specs.Overlaying.{LeadTo}
-use Rattle.program_laws.specs.InTurn.{Cuts, CutThenExpanded, CutThenFlashed, HoldPieces, IsCuttable, IsNoPiece}
+use Rattle.program_laws.specs.InTurn.{CutsInTurn, CutThenExpanded, CutThenFlashed, HoldPieces, IsCuttable, IsNoPiece}
 use Rattle.program_laws.specs.InTurn.{piece_paths}
 use Rattle.program_laws.proofs.Cuts.{expanded_together, flashed_in_turn_are}
 
@@ -36,7 +36,7 @@ files_of prefix ps n j (suc k) held w all e stand =
           ∙ ap (λ l. get_or ps j [] ∷ l) rest.hold ∙ sym more;
     }
 
-abbrev cuttable : (limit : ℕ) (input prefix : List ℕ) (held held' : Held) (a b : World) (cut : Cuts limit input prefix held
+abbrev cuttable : (limit : ℕ) (input prefix : List ℕ) (held held' : Held) (a b : World) (cut : CutsInTurn limit input prefix held
     held' a b)
     → IsCuttable limit (a.holds cut.done.from)
 cuttable limit input prefix held held' a b cut =
@@ -51,7 +51,7 @@ cuttable limit input prefix held held' a b cut =
     }
 
 held_pieces : (limit : ℕ) (input prefix : List ℕ) (held held' : Held) (a b : World)
-    (cut : Cuts limit input prefix held held' a b)
+    (cut : CutsInTurn limit input prefix held held' a b)
     → HoldPieces limit (a.holds cut.done.from) (cuttable limit input prefix held held' a b cut)
     (piece_paths prefix 1 cut.done.count) b
 held_pieces limit input prefix held held' a b cut =

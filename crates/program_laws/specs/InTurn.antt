@@ -56,7 +56,7 @@ piece_paths prefix first zero = []
 piece_paths prefix first (suc n) = piece_path prefix first ∷ piece_paths prefix (first + 1) n
 
 -- `cut` of a sparse image was done, and only files under its names were changed
-pub record Cuts (limit : ℕ) (input prefix : List ℕ) (held held' : Held) (old new : World) : Type 0 where
+pub record CutsInTurn (limit : ℕ) (input prefix : List ℕ) (held held' : Held) (old new : World) : Type 0 where
   pub done : CutsFile None limit input prefix held held' old new (λ line. Unit {0})
   pub only : OnlyAmong (IsPiecePath prefix) held.read held'.begun old new
   pub low : limit < 2 ^ 32
@@ -69,13 +69,13 @@ IsNoPiece prefix world file = (n : ℕ) → ¬ (world.at (piece_path prefix n) �
 -- what flashing the image leaves of what it held before.
 abbrev pub CutThenFlashed : Type 0
 CutThenFlashed = (limit : ℕ) (input prefix partition : List ℕ) (held held' : Held) (a b c : World) (onto : ℕ)
-    (cut : Cuts limit input prefix held held' a b) → a.at partition ≡ Some onto → IsNoPiece prefix b onto
+    (cut : CutsInTurn limit input prefix held held' a b) → a.at partition ≡ Some onto → IsNoPiece prefix b onto
     → FlashesEach partition (piece_paths prefix 1 cut.done.count) b c
     → c.holds onto ≡ flashed (a.holds onto) (a.holds cut.done.from)
 
 -- An image is cut, and its pieces are expanded together: OUT holds the expansion of the image.
 abbrev pub CutThenExpanded : Type 0
 CutThenExpanded = (limit : ℕ) (input prefix output : List ℕ) (held held' : Held) (a b c : World)
-    (cut : Cuts limit input prefix held held' a b)
+    (cut : CutsInTurn limit input prefix held held' a b)
     (out : OverlaysFiles (piece_paths prefix 1 cut.done.count) output b c (λ line. Unit {0}))
     → c.holds out.onto ≡ expansion cut.done.size cut.done.blocks

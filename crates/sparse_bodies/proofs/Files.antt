@@ -10,17 +10,17 @@ use Rattle.abt_chunks.specs.declared.progress.Expanded.{Expanded}
 use Rattle.abt_sparse.specs.declared.fault.SparseFault.{SparseFault}
 use Rattle.abt_sparse.specs.declared.fault.SparseFault.TheVariants as of_sparse
 use Rattle.abt_chunks.specs.Cause.{Clean}
-use Rattle.abt_chunks.specs.Expanding.{Rises, UnlessDevice}
+use Rattle.abt_chunks.specs.Expanding.{ExpandingRises, UnlessExpandingDevice}
 use Rattle.abt_chunks.specs.Whole.{Expansion, Refusal}
 use Rattle.abt_disk.specs.World.{World, Held, Spares, OpensFile, Creates, Ends, SparesRest, HasFailed, HasNotFailed}
 use Rattle.abt_disk.specs.World.{failing, ended, unended}
 use Rattle.abt_disk.proofs.Worlds.{spares_trans}
 use Rattle.abt_disk.proofs.Worlds.{apart}
 use Rattle.sparse_rules.specs.declared.lines.Line.TheVariants as lines
-use Rattle.sparse_rules.specs.Lines.{text_of}
+use Rattle.sparse_rules.specs.Lines.{line_text}
 use Rattle.sparse_rules.specs.declared.fault.SparseCommandFault.{SparseCommandFault}
 use Rattle.sparse_rules.specs.declared.fault.SparseCommandFault.TheVariants as faults
-use Rattle.sparse_bodies.specs.Expanding.{Blames, ExpandsFile, Says, RefusesFile, HasFault, FromHost, OfDevice}
+use Rattle.sparse_bodies.specs.Expanding.{Blames, ExpandsFile, ExpandingSays, RefusesFile, HasFault, FromHost, OfDevice}
 
 -- ---- what was read is let go before the output is at its end
 
@@ -46,7 +46,7 @@ synced_once input path bytes h h1 h2 h3 h4 w a b r n opened made gone closed =
 pub expands : (input path bytes x y rest : List ℕ) (h h' h'' : Held) (a a' b c : World) (e : Expanded)
     (shows : List ℕ → Type 0) → OpensFile a input x h h' → a' ≡ a → Creates path h' h'' a' b
     → Ends h''.output bytes b c → y ≡ [] → Expansion e y bytes x rest
-    → shows (text_of (lines.Expanded e.blocks e.bytes) ++ (10 ∷ [])) → ExpandsFile input path a c shows
+    → shows (line_text (lines.Expanded e.blocks e.bytes) ++ (10 ∷ [])) → ExpandsFile input path a c shows
 expands input path bytes x y rest h h' h'' a a' b c e shows opened same made ends empty whole shown =
     let after : (c.holds made.file ≡ bytes) × Spares made.file b c
     = subst (λ k. Ends k.output bytes b c) made.begins ends in
@@ -63,8 +63,8 @@ expands input path bytes x y rest h h' h'' a a' b c e shows opened same made end
       spelled = subst (λ z. Spells z whole.header whole.chunks rest) opened.held whole.spelled;
       holds = after.0 ∙ whole.written ∙ ap (λ z. z ++ expansion whole.header.blk_sz (classed whole.chunks)) empty;
       spares = spares_trans made.file a b c spared after.1;
-      shown = subst (λ n. shows (text_of (lines.Expanded whole.header.total_blks n) ++ (10 ∷ []))) whole.bytes
-          (subst (λ n. shows (text_of (lines.Expanded n e.bytes) ++ (10 ∷ []))) whole.blocks shown);
+      shown = subst (λ n. shows (line_text (lines.Expanded whole.header.total_blks n) ++ (10 ∷ []))) whole.bytes
+          (subst (λ n. shows (line_text (lines.Expanded n e.bytes) ++ (10 ∷ []))) whole.blocks shown);
     }
 
 -- ---- what has failed
@@ -82,14 +82,14 @@ failed_behind input path bytes h h1 h2 h3 h4 w a b r n done opened made gone clo
 
 -- a fault of what IN's file holds, or a device failed and its count rose
 pub of_image : (f : SparseFault) (risen failed : Type 0) (P Q : Type 0) → (risen → failed) → (P → Q)
-    → OfDevice f risen (Unit {0}) → UnlessDevice f P → OfDevice f failed Q
+    → OfDevice f risen (Unit {0}) → UnlessExpandingDevice f P → OfDevice f failed Q
 of_image (of_sparse.Read d) risen failed P Q up go rose is = up rose
 of_image (of_sparse.Write d) risen failed P Q up go rose is = up rose
 of_image f risen failed P Q up go rose is = go is
 
 own : (input path x old new : List ℕ) (h h1 k : Held) (a c : World) (f : SparseCommandFault) (r0 r w w' : ℕ)
     → OpensFile a input x h h1 → r0 ≡ 0 → w ≡ 0 → k.failed ≡ h.failed + (r + w')
-    → Says (Err f) x old new → Blames (Err f) r0 r w w' → RefusesFile f input path a c h k
+    → ExpandingSays (Err f) x old new → Blames (Err f) r0 r w w' → RefusesFile f input path a c h k
 own input path x old new h h1 k a c (faults.Sparse f) r0 r w w' opened first none count says blames =
     of_image f (r0 + w < r + w') (HasFailed h k) (Refusal f old new x) (HasFault input a f)
     (λ rose. omega (arith, first, none, count, rose))
@@ -122,7 +122,7 @@ of_unprinted input path a c h k r made done =
 pub refuses : (input path x old new : List ℕ) (h h1 k : Held) (a c : World)
     (answer : Result Expanded SparseCommandFault) (told : SparseCommandFault)
     (r0 r w w' : ℕ) → OpensFile a input x h h1 → r0 ≡ 0 → w ≡ 0
-    → k.failed ≡ h.failed + (r + (unended (is_ok answer) false + w')) → Says answer x old new
+    → k.failed ≡ h.failed + (r + (unended (is_ok answer) false + w')) → ExpandingSays answer x old new
     → Blames answer r0 r w w' → (IsOk answer → FromHost told) → IfErr answer (λ f. told ≡ f)
     → RefusesFile told input path a c h k
 refuses input path x old new h h1 k a c (Ok e) told r0 r w w' opened first none count says blames files is =
@@ -159,7 +159,7 @@ handed_on (Ok x) P Q go is = tt
 handed_on (Err r) P Q go is = go r is
 
 -- the engine blames a device whose count rose
-pub of_rising : (f : SparseFault) (r0 r r' w w' : ℕ) → r ≡ r0 → Rises {X = Expanded} (Err f) r r' w w'
+pub of_rising : (f : SparseFault) (r0 r r' w w' : ℕ) → r ≡ r0 → ExpandingRises {X = Expanded} (Err f) r r' w w'
     → Clean {X = Expanded} (Err f) r r' w w' → OfDevice f (r0 + w < r' + w') (Unit {0})
 of_rising (of_sparse.Read d) r0 r r' w w' same rise clean = omega (arith, same, rise, clean)
 of_rising (of_sparse.Write d) r0 r r' w w' same rise clean = omega (arith, same, rise, clean)

@@ -12,7 +12,7 @@ use Rattle.abt_sparse.proofs.Exactly.{behind_header, failed_is, spelled_is}
 use Rattle.abt_flash.specs.declared.fault.FlashFault.{FlashFault}
 use Rattle.abt_flash.specs.declared.fault.FlashFault.TheVariants as flashes
 use Rattle.abt_flash.specs.declared.stage.Flashed.{Flashed}
-use Rattle.abt_flash.specs.Fault.{HasCause, Rises}
+use Rattle.abt_flash.specs.Fault.{FlashCause, FlashingRises}
 use Rattle.abt_flash.specs.Flashing.{Flashes, Holds}
 use Rattle.abt_disk.specs.World.{Held, failing}
 use Rattle.sparse_rules.specs.declared.fault.SparseCommandFault.{SparseCommandFault}
@@ -45,7 +45,7 @@ no_fault x n b f given image fails =
     ∙ failed_is x f given fails))
 
 not_flashed : (f : FlashFault) (n b size taken taken' r r' p p' : ℕ) (x rest : List ℕ) → IsImageOf n b x → size ≡ n * b
-    → Flashes (Err f) size taken taken' x rest → HasCause f r r' p p' → IsNotFlashed f (p + r) (p' + r')
+    → Flashes (Err f) size taken taken' x rest → FlashCause f r r' p p' → IsNotFlashed f (p + r) (p' + r')
 not_flashed (flashes.Sparse f) n b size taken taken' r r' p p' x rest image sized says cause =
     absurd (no_fault x n b f says.given image says.fails)
 not_flashed (flashes.PartitionTooSmall need) n b size taken taken' r r' p p' x rest image sized says cause =
@@ -66,7 +66,7 @@ not_flashed (flashes.Stopped j c) n b size taken taken' r r' p p' x rest image s
 not_flashed (flashes.NoSuchPiece k) n b size taken taken' r r' p p' x rest image sized says cause = absurd cause
 
 pub answer_blames : (a : Result Flashed FlashFault) (n b size taken taken' r r' p p' : ℕ) (x rest : List ℕ)
-    → Flashes a size taken taken' x rest → Rises a r r' p p' → size ≡ n * b → IsImageOf n b x
+    → Flashes a size taken taken' x rest → FlashingRises a r r' p p' → size ≡ n * b → IsImageOf n b x
     → IfErr a (λ f. IsNotFlashed f (p + r) (p' + r'))
 answer_blames (Ok e) n b size taken taken' r r' p p' x rest says cause sized image = tt
 answer_blames (Err f) n b size taken taken' r r' p p' x rest says cause sized image =
@@ -128,9 +128,9 @@ done_holds a e p p' x is holds = subst (λ r. Holds r p p' x) is holds
 pub done_so : (a : Result Flashed FlashFault) (e : Flashed) (P : Type 0) → a ≡ Ok e → OnOk a P → P
 done_so a e P is so = subst (λ r. OnOk r P) is so
 
-pub done_even : (a : Result Flashed FlashFault) (e : Flashed) (r r' p p' : ℕ) → a ≡ Ok e → Rises a r r' p p'
+pub done_even : (a : Result Flashed FlashFault) (e : Flashed) (r r' p p' : ℕ) → a ≡ Ok e → FlashingRises a r r' p p'
     → (r' ≡ r) × (p' ≡ p)
-done_even a e r r' p p' is rises = subst (λ q. Rises q r r' p p') is rises
+done_even a e r r' p p' is rises = subst (λ q. FlashingRises q r r' p p') is rises
 
 pub synced_if : (a : Result Flashed FlashFault) (n n' : ℕ) → n' ≡ n + (if is_ok a then 1 else 0) → OnOk a (n' ≡ n + 1)
 synced_if (Ok e) n n' is = is

@@ -17,7 +17,7 @@ use Rattle.abt_disk.proofs.Worlds.{spares_trans}
 use Rattle.sparse_rules.specs.declared.fault.SparseCommandFault.{SparseCommandFault}
 use Rattle.sparse_rules.specs.declared.fault.SparseCommandFault.TheVariants as faults
 use Rattle.sparse_rules.specs.declared.lines.Line.TheVariants as lines
-use Rattle.sparse_rules.specs.Lines.{text_of}
+use Rattle.sparse_rules.specs.Lines.{line_text}
 use Rattle.sparse_bodies.specs.declared.opening.Shape.{Shape}
 use Rattle.sparse_bodies.specs.Expanding.{FromHost}
 use Rattle.sparse_bodies.specs.Overlaying.{IsImageOf, OverlaysFiles, RefusesOverlay, once_if_any}
@@ -110,7 +110,7 @@ pub overlays : (shape : Option Shape) (e : Expanded) (a a1 b b' c : World) (inpu
     → AreOpened a inputs xs h h1 → IsShapeOf shape xs
     → MakesZeros e.bytes output h1 h2 a1 b → a1 ≡ a → z ≡ replicate e.bytes 0
     → y ≡ flashed_in_turn z xs → b' ≡ b → FailsAlone h2 h3 → Ends h3.part y b' c → c.at ≡ b'.at
-    → shows (text_of (lines.Expanded e.blocks e.bytes) ++ (10 ∷ []))
+    → shows (line_text (lines.Expanded e.blocks e.bytes) ++ (10 ∷ []))
     → OverlaysFiles inputs output a c shows
 overlays shape e a a1 b b' c inputs xs output y z h h1 h2 h3 shows whole all is made same zeros laid same' alone ends
     paths shown =
@@ -132,8 +132,8 @@ overlays shape e a a1 b b' c inputs xs output y z h h1 h2 h3 shows whole all is 
       holds = end.0 ∙ laid ∙ ap (λ p. flashed_in_turn p xs) (zeros ∙ ap (λ n. replicate n 0) s.long)
           ∙ ap (flashed_in_turn (replicate (s.number * s.size) 0)) all.bytes;
       spares = end.1;
-      shown = subst (λ n. shows (text_of (lines.Expanded s.number n) ++ (10 ∷ []))) s.long
-          (subst (λ n. shows (text_of (lines.Expanded n e.bytes) ++ (10 ∷ []))) s.counted shown);
+      shown = subst (λ n. shows (line_text (lines.Expanded s.number n) ++ (10 ∷ []))) s.long
+          (subst (λ n. shows (line_text (lines.Expanded n e.bytes) ++ (10 ∷ []))) s.counted shown);
     }
 
 -- ---- what others hold

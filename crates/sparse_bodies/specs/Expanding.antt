@@ -6,25 +6,25 @@ use Rattle.abt_sparse.specs.Block.{expansion}
 use Rattle.abt_sparse.specs.Chunk.{Header, Chunk, classed}
 use Rattle.abt_sparse.specs.Fails.{Fails, Spells}
 use Rattle.abt_chunks.specs.declared.progress.Expanded.{Expanded}
-use Rattle.abt_chunks.specs.Expanding.{UnlessDevice}
+use Rattle.abt_chunks.specs.Expanding.{UnlessExpandingDevice}
 use Rattle.abt_chunks.specs.Whole.{Expansion, Refusal}
 use Rattle.abt_disk.specs.World.{World, Held, Spares, HasFailed}
 use Rattle.abt_refusals.specs.declared.refusal.HostFault.{HostFault}
 use Rattle.sparse_rules.specs.declared.fault.SparseCommandFault.{SparseCommandFault}
 use Rattle.sparse_rules.specs.declared.fault.SparseCommandFault.TheVariants as faults
 use Rattle.sparse_rules.specs.declared.lines.Line.TheVariants as lines
-use Rattle.sparse_rules.specs.Lines.{text_of}
+use Rattle.sparse_rules.specs.Lines.{line_text}
 
 -- what expanding an input x answers and writes
-abbrev pub Says : Result Expanded SparseCommandFault → List ℕ → List ℕ → List ℕ → Type 0
-Says (Ok e) x old new = (rest : List ℕ) × Expansion e old new x rest
-Says (Err (faults.Sparse f)) x old new = UnlessDevice f (Refusal f old new x)
-Says (Err (faults.Run f)) x old new = ⊥
-Says (Err (faults.Piece f)) x old new = ⊥
-Says (Err (faults.Flash f)) x old new = ⊥
-Says (Err (faults.Verify f)) x old new = ⊥
-Says (Err (faults.OtherBlocks image)) x old new = ⊥
-Says (Err (faults.Host f)) x old new = ⊥
+abbrev pub ExpandingSays : Result Expanded SparseCommandFault → List ℕ → List ℕ → List ℕ → Type 0
+ExpandingSays (Ok e) x old new = (rest : List ℕ) × Expansion e old new x rest
+ExpandingSays (Err (faults.Sparse f)) x old new = UnlessExpandingDevice f (Refusal f old new x)
+ExpandingSays (Err (faults.Run f)) x old new = ⊥
+ExpandingSays (Err (faults.Piece f)) x old new = ⊥
+ExpandingSays (Err (faults.Flash f)) x old new = ⊥
+ExpandingSays (Err (faults.Verify f)) x old new = ⊥
+ExpandingSays (Err (faults.OtherBlocks image)) x old new = ⊥
+ExpandingSays (Err (faults.Host f)) x old new = ⊥
 
 -- a fault of files
 abbrev pub FromHost : SparseCommandFault → Type 0
@@ -63,7 +63,7 @@ pub record ExpandsFile (input output : List ℕ) (old new : World) (shows : List
   pub spelled : Spells (old.holds from) header chunks rest
   pub holds : new.holds onto ≡ expansion header.blk_sz (classed chunks)
   pub spares : Spares onto old new
-  pub shown : shows (text_of (lines.Expanded header.total_blks (header.total_blks * header.blk_sz)) ++ (10 ∷ []))
+  pub shown : shows (line_text (lines.Expanded header.total_blks (header.total_blks * header.blk_sz)) ++ (10 ∷ []))
 
 -- why it is refused: for a fault of what IN's file holds; because a device or the system failed; or all was done, and
 -- only the line could not be printed

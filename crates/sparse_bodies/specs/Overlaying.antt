@@ -13,7 +13,7 @@ use Rattle.abt_refusals.specs.declared.refusal.HostFault.TheVariants.{Memory}
 use Rattle.sparse_rules.specs.declared.fault.SparseCommandFault.{SparseCommandFault}
 use Rattle.sparse_rules.specs.declared.fault.SparseCommandFault.TheVariants as faults
 use Rattle.sparse_rules.specs.declared.lines.Line.TheVariants as lines
-use Rattle.sparse_rules.specs.Lines.{text_of}
+use Rattle.sparse_rules.specs.Lines.{line_text}
 use Rattle.sparse_bodies.specs.Expanding.{HasFault}
 
 -- ---- images of one shape
@@ -53,7 +53,7 @@ pub record OverlaysFiles (inputs : List (List ℕ)) (output : List ℕ) (old new
   pub none : inputs ≡ [] → blocks ≡ 0
   pub holds : new.holds onto ≡ flashed_in_turn (replicate (blocks * size) 0) (map old.holds ins.files)
   pub spares : Spares onto old new
-  pub shown : shows (text_of (lines.Expanded blocks (blocks * size)) ++ (10 ∷ []))
+  pub shown : shows (line_text (lines.Expanded blocks (blocks * size)) ++ (10 ∷ []))
 
 -- 1 where there is one at least
 abbrev pub once_if_any : {X : Type 0} → List X → ℕ

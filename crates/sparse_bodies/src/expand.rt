@@ -4,8 +4,8 @@ ghost use Rattle.std.specs.Prelude.{◌≡◌, ◌+◌, ◌++◌, [], ◌∷◌,
 ghost use Rattle.abt_refusals.specs.Paths.{path_in, path_out};
 ghost use Rattle.abt_disk.specs.World.{IsReading, OnlyAt, KeepsFile, HasNotFailed};
 ghost use Rattle.abt_output.specs.Shows.{Shows};
-ghost use Rattle.sparse_rules.specs.Lines.{text_of};
-ghost use Rattle.sparse_bodies.specs.Expanding.{Blames, Says, ExpandsFile, RefusesFile};
+ghost use Rattle.sparse_rules.specs.Lines.{line_text};
+ghost use Rattle.sparse_bodies.specs.Expanding.{Blames, ExpandingSays, ExpandsFile, RefusesFile};
 
 use abt_chunks::{Expanded, expand};
 use abt_disk::{Disk, Measured, Reasons, ended};
@@ -70,7 +70,7 @@ pub(crate) fn printed<'a>(
     is_on_output: bool,
     report: &mut Report,
 ) -> Result<(), HostRefusal<'a>>
-    ensures { OnOk result (Shows report.old report.new (text_of (Line.Expanded expanded.blocks expanded.bytes)
+    ensures { OnOk result (Shows report.old report.new (line_text (Line.Expanded expanded.blocks expanded.bytes)
         ++ (10 ∷ []))) }
 {
     let Expanded { blocks, bytes } = expanded;
@@ -83,7 +83,7 @@ fn expanded<I: Input, O: Output>(
     w: &mut Window,
     m: &mut Meter,
 ) -> Result<Expanded, SparseCommandFault>
-    ensures says { IsTrue I.tells → Says result (I.remaining from.old.device) (O.written onto.old)
+    ensures says { IsTrue I.tells → ExpandingSays result (I.remaining from.old.device) (O.written onto.old)
         (O.written onto.new) }
     ensures blames { Blames result (I.read_faults from.old.device) (I.read_faults from.new.device)
         (O.write_faults onto.old) (O.write_faults onto.new) }

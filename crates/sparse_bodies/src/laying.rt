@@ -2,7 +2,7 @@
 
 ghost use Rattle.std.specs.Prelude.{◌≡◌, ◌+◌, ◌*◌, ℕ, [], None, Ok, IsTrue, IfOk, IfErr, OnOk, length, map, IfSome, IsErr};
 ghost use Rattle.std.specs.List.{AllByRecursion};
-ghost use Rattle.abt_flash.specs.Fault.{Rises};
+ghost use Rattle.abt_flash.specs.Fault.{FlashingRises};
 ghost use Rattle.abt_flash.specs.Flashing.{Holds};
 ghost use Rattle.abt_sparse.specs.Pieces.{flashed, flashed_in_turn};
 ghost use Rattle.sparse_bodies.specs.Overlaying.{IsImageOf};
@@ -141,7 +141,7 @@ fn flash_one<S: Source, P: Partition>(
     ensures size { P.size onto.new ≡ P.size onto.old }
     ensures synced { OnOk result ((P.past onto.new).synced ≡ (P.past onto.old).synced + 1) }
     ensures settled { IsTrue P.tells → OnOk result ((P.past onto.new).pending ≡ []) }
-    ensures cause { Rises result (S.read_faults from.old.device.source) (S.read_faults from.new.device.source)
+    ensures cause { FlashingRises result (S.read_faults from.old.device.source) (S.read_faults from.new.device.source)
         (P.put_faults onto.old) (P.put_faults onto.new) }
     ensures refused { IsTrue S.tells → (blocks : ℕ) → (block : ℕ) → P.size onto.old ≡ blocks * block →
         IsImageOf blocks block (S.content from.old.device.source) → IfErr result (λ fault. IsNotFlashed fault

@@ -2,13 +2,14 @@
 use Rattle.std.proofs.Common.{◌≡◌, ◌≢◌, ℕ, Bool, List, [], ◌∷◌, length, map, get_or, Bor, refl, ap, subst, arith}
 use Rattle.std.specs.Prelude.{IsTrue, Result, Ok, Err, IfErr, OnOk}
 use Rattle.std.specs.List.{AllByRecursion}
+use Rattle.abt_refusals.specs.Paths.{output_path}
 use Rattle.abt_disk.specs.World.{World, OnlyAt, KeepsFile}
 use Rattle.abt_output.specs.Shows.{Shows}
-use Rattle.image_bodies.specs.Sparsing.{HoldsNoPart}
+use Rattle.image_bodies.specs.Sparsing.{HoldsNoPartOfSparse}
 use Rattle.sparse_rules.specs.ImagePath.{image_path}
 use Rattle.sparse_rules.specs.declared.fault.SparseCommandFault.{SparseCommandFault}
 use Rattle.sparse_bodies.specs.Overlaying.{OverlaysFiles, RefusesOverlay, once_if_any}
-use Rattle.sparse_commands.specs.Commands.{State, Expands, RefusesExpand, SparesExpanded, Syncs, output_path}
+use Rattle.sparse_commands.specs.Commands.{State, ExpandsImages, RefusesExpand, SparesExpanded, SyncsOutputs}
 
 -- the paths of words, by one way and by the other
 paths_of : (inputs : List (Bor (List ℕ)))
@@ -33,13 +34,13 @@ both (Err e) P Q R join p q = tt
 pub several_done : {X E : Type 0} (r : Result X E) (inputs : List (Bor (List ℕ))) (output place : List ℕ) (a z : State)
     → length inputs ≢ 1 → place ≡ output
     → OnOk r (OverlaysFiles (map (λ word. image_path word.now) inputs) place a.world z.world (Shows a.report z.report))
-    → OnOk r (Syncs (once_if_any (map (λ word. image_path word.now) inputs)) a z)
-    → OnOk r (Expands (map (λ word. word.now) inputs) output a z)
+    → OnOk r (SyncsOutputs (once_if_any (map (λ word. image_path word.now) inputs)) a z)
+    → OnOk r (ExpandsImages (map (λ word. word.now) inputs) output a z)
 several_done r inputs output place a z not at done synced =
     both r _ _ _ (λ d s. several
     (λ paths. OverlaysFiles paths output a.world z.world (Shows a.report z.report)
-    × Syncs (once_if_any paths) a z)
-    (λ words. Expands words output a z) inputs not (λ is. is) (λ x y rest is. is) (
+    × SyncsOutputs (once_if_any paths) a z)
+    (λ words. ExpandsImages words output a z) inputs not (λ is. is) (λ x y rest is. is) (
       subst (λ p. OverlaysFiles (map (λ word. image_path word.now) inputs) p a.world z.world
           (Shows a.report z.report)) at d,
       s,
@@ -87,7 +88,7 @@ kept_at path place a z at kept = subst (λ p. KeepsFile p a z) at kept
 
 -- what is so of OUT, under the path that its word says
 pub whole_at : (over : List ℕ → Bool) (i i' o o' : List ℕ) (size : ℕ) (a z : World) → i ≡ i' → o ≡ o'
-    → (IsTrue (over o) → HoldsNoPart i o size a z) → IsTrue (over o') → HoldsNoPart i' o' size a z
+    → (IsTrue (over o) → HoldsNoPartOfSparse i o size a z) → IsTrue (over o') → HoldsNoPartOfSparse i' o' size a z
 whole_at over i i' o o' size a z same_i same_o whole is =
-    subst (λ p. HoldsNoPart p o' size a z) same_i
-    (subst (λ p. IsTrue (over p) → HoldsNoPart i p size a z) same_o whole is)
+    subst (λ p. HoldsNoPartOfSparse p o' size a z) same_i
+    (subst (λ p. IsTrue (over p) → HoldsNoPartOfSparse i p size a z) same_o whole is)

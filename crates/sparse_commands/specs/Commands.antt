@@ -1,19 +1,20 @@
 -- What a command over sparse images does with the files that its words name, leaves of them, and is refused for.
-use Rattle.std.specs.Prelude.{◌≡◌, ◌<◌, ◌+◌, ◌-◌, ◌++◌, max, ℕ, List, [], ◌∷◌, Option, Some, None, Bool, IsTrue, map, codes}
-use Rattle.std.specs.Prelude.{bytes_eq, if◌then◌else◌}
+use Rattle.std.specs.Prelude.{◌≡◌, ◌<◌, ◌+◌, ◌-◌, ◌++◌, max, ℕ, List, [], ◌∷◌, Option, Some, None, Bool, IsTrue, map}
+use Rattle.std.specs.Prelude.{if◌then◌else◌}
 use Rattle.std.specs.List.{AllByRecursion}
+use Rattle.abt_refusals.specs.Paths.{output_path}
 use Rattle.abt_words.specs.declared.order.SparseTask.{SparseTask}
 use Rattle.abt_words.specs.declared.order.SparseTask.TheVariants as tasks
 use Rattle.abt_words.specs.declared.order.Pieces.{Pieces}
 use Rattle.abt_output.specs.declared.report.Report.{Report}
-use Rattle.abt_output.specs.Shows.{Shows}
+use Rattle.abt_output.specs.Shows.{Shows, unprinted}
 use Rattle.abt_disk.specs.World.{World, Held, OnlyAt, KeepsFile}
 use Rattle.abt_disk.specs.InPlace.{SparesOthers}
 use Rattle.sparse_rules.specs.ImagePath.{image_path}
 use Rattle.sparse_rules.specs.declared.fault.SparseCommandFault.{SparseCommandFault}
 use Rattle.sparse_bodies.specs.Expanding.{ExpandsFile, RefusesFile}
 use Rattle.sparse_bodies.specs.Overlaying.{OverlaysFiles, RefusesOverlay}
-use Rattle.image_bodies.specs.Sparsing.{HoldsNoPart, RefusesRaw, SparsifiesFile, unprinted}
+use Rattle.image_bodies.specs.Sparsing.{HoldsNoPartOfSparse, RefusesRaw, SparsifiesFile}
 use Rattle.image_bodies.specs.Cutting.{CutsFile, IsPiecePath, RefusesCut, ShowsLast}
 use Rattle.abt_disk.specs.Among.{OnlyAmong}
 use Rattle.flash_bodies.specs.Files.{OfFile}
@@ -32,13 +33,9 @@ pub record State : Type 0 where
 abbrev pub state : World → Held → Report → State
 state world held report = record { world = world; held = held; report = report }
 
--- the path of OUT, where `-` is standard output
-abbrev pub output_path : List ℕ → List ℕ
-output_path word = if bytes_eq word (codes "-") then codes "/dev/stdout" else word
-
 -- from one moment to the other so many outputs were synced
-abbrev pub Syncs : ℕ → State → State → Type 0
-Syncs n a z = z.held.syncs ≡ a.held.syncs + n
+abbrev pub SyncsOutputs : ℕ → State → State → Type 0
+SyncsOutputs n a z = z.held.syncs ≡ a.held.syncs + n
 
 -- one, where that is wanted
 abbrev pub one_if_wanted : State → ℕ
@@ -47,24 +44,24 @@ one_if_wanted a = if a.held.is_synced then 1 else 0
 -- ---- what is done, from the moment a to the moment z
 
 -- one image is expanded, or several that are laid over one another
-abbrev pub Expands : List (List ℕ) → List ℕ → State → State → Type 0
-Expands [] output a z = OverlaysFiles [] output a.world z.world (Shows a.report z.report) × Syncs 0 a z
-Expands (input ∷ []) output a z =
+abbrev pub ExpandsImages : List (List ℕ) → List ℕ → State → State → Type 0
+ExpandsImages [] output a z = OverlaysFiles [] output a.world z.world (Shows a.report z.report) × SyncsOutputs 0 a z
+ExpandsImages (input ∷ []) output a z =
     ExpandsFile (image_path input) (output_path output) a.world z.world (Shows a.report z.report)
-    × Syncs (one_if_wanted a) a z
-Expands inputs output a z =
-    OverlaysFiles (map image_path inputs) output a.world z.world (Shows a.report z.report) × Syncs 1 a z
+    × SyncsOutputs (one_if_wanted a) a z
+ExpandsImages inputs output a z =
+    OverlaysFiles (map image_path inputs) output a.world z.world (Shows a.report z.report) × SyncsOutputs 1 a z
 
 -- the header and the chunks of an image are printed
-abbrev pub Lists : List ℕ → State → State → Type 0
-Lists input a z = OfFile (image_path input) a.world (λ x. IsListed x (λ text.
+abbrev pub ListsImage : List ℕ → State → State → Type 0
+ListsImage input a z = OfFile (image_path input) a.world (λ x. IsListed x (λ text.
     z.report.out.log.state.bytes ≡ a.report.out.log.state.bytes ++ text))
 
 -- a raw image is written as a sparse one, in blocks of so many bytes
 abbrev pub Sparsifies : List ℕ → List ℕ → ℕ → State → State → Type 0
 Sparsifies input output block a z =
     SparsifiesFile input (output_path output) block a.world z.world (Shows a.report z.report)
-    × Syncs (one_if_wanted a) a z
+    × SyncsOutputs (one_if_wanted a) a z
 
 -- an image is cut into pieces of at most so many bytes
 abbrev pub Cuts : List ℕ → ℕ → List ℕ → Option ℕ → State → State → Type 0
@@ -72,29 +69,30 @@ Cuts input limit prefix raw a z =
     CutsFile raw limit input prefix a.held z.held a.world z.world (ShowsLast z.report)
 
 -- an image is flashed straight to a partition, or in pieces from one of them on
-abbrev pub Flashes : List ℕ → List ℕ → Option ℕ → Option Pieces → State → State → Type 0
-Flashes input partition None None a z = FlashesFile (image_path input) partition a.world z.world
+abbrev pub FlashesImage : List ℕ → List ℕ → Option ℕ → Option Pieces → State → State → Type 0
+FlashesImage input partition None None a z = FlashesFile (image_path input) partition a.world z.world
     a.held.syncs z.held.syncs (Shows a.report z.report)
-Flashes input partition (Some size) None a z = FlashesRawFile size (image_path input) partition a.world z.world
+FlashesImage input partition (Some size) None a z = FlashesRawFile size (image_path input) partition a.world z.world
     a.held.syncs z.held.syncs (Shows a.report z.report)
-Flashes input partition raw (Some p) a z = FlashesPieces raw p.limit (max 1 p.from - 1) (image_path input) partition
+FlashesImage input partition raw (Some p) a z =
+    FlashesPieces raw p.limit (max 1 p.from - 1) (image_path input) partition
     p.spool.now a.world z.world a.held z.held (Shows a.report z.report)
 
 -- an image stands on a partition
-abbrev pub Verifies : List ℕ → List ℕ → Option ℕ → State → State → Type 0
-Verifies input partition None a z =
+abbrev pub VerifiesImage : List ℕ → List ℕ → Option ℕ → State → State → Type 0
+VerifiesImage input partition None a z =
     VerifiesFile (image_path input) partition a.world (Shows a.report z.report)
-Verifies input partition (Some size) a z =
+VerifiesImage input partition (Some size) a z =
     VerifiesRawFile size (image_path input) partition a.world (Shows a.report z.report)
 
 -- what a task asks for is done
 abbrev pub DoesTask : SparseTask → State → State → Type 0
-DoesTask (tasks.Expand inputs output) a z = Expands (map (λ word. word.now) inputs.items) output.now a z
-DoesTask (tasks.List input) a z = Lists input.now a z
+DoesTask (tasks.Expand inputs output) a z = ExpandsImages (map (λ word. word.now) inputs.items) output.now a z
+DoesTask (tasks.List input) a z = ListsImage input.now a z
 DoesTask (tasks.Sparse input output block) a z = Sparsifies input.now output.now block a z
 DoesTask (tasks.Cut input limit prefix raw) a z = Cuts input.now limit prefix.now raw a z
-DoesTask (tasks.Flash input partition raw pieces) a z = Flashes input.now partition.now raw pieces a z
-DoesTask (tasks.Verify input partition raw) a z = Verifies input.now partition.now raw a z
+DoesTask (tasks.Flash input partition raw pieces) a z = FlashesImage input.now partition.now raw pieces a z
+DoesTask (tasks.Verify input partition raw) a z = VerifiesImage input.now partition.now raw a z
 
 -- ---- what stays, whatever the outcome
 
@@ -132,10 +130,10 @@ SparesFiles (tasks.Flash input partition raw pieces) a z = SparesFlashed input.n
 SparesFiles (tasks.Verify input partition raw) a z = z.world ≡ a.world
 
 -- of a sparse image that is written over a file none has a part: the file holds what it held, no image, or all of it
-abbrev pub LeavesNoPart : (List ℕ → Bool) → SparseTask → State → State → Type 0
-LeavesNoPart is_over (tasks.Sparse input output block) a z = IsTrue (is_over (output_path output.now))
-    → HoldsNoPart input.now (output_path output.now) block a.world z.world
-LeavesNoPart is_over task a z = Unit {0}
+abbrev pub LeavesNoPartOfSparse : (List ℕ → Bool) → SparseTask → State → State → Type 0
+LeavesNoPartOfSparse is_over (tasks.Sparse input output block) a z = IsTrue (is_over (output_path output.now))
+    → HoldsNoPartOfSparse input.now (output_path output.now) block a.world z.world
+LeavesNoPartOfSparse is_over task a z = Unit {0}
 
 -- ---- why it is refused
 

@@ -2,7 +2,7 @@
 
 ghost use Rattle.std.specs.Prelude.{◌≡◌, None, IsTrue, IfErr, OnOk};
 ghost use Rattle.abt_disk.specs.World.{HasNotFailed, IsReading};
-ghost use Rattle.sparse_commands.specs.Commands.{DoesTask, LeavesNoPart, RefusesTask, SparesFiles, state};
+ghost use Rattle.sparse_commands.specs.Commands.{DoesTask, LeavesNoPartOfSparse, RefusesTask, SparesFiles, state};
 
 use crate::commands::{
     cut_image, expand_files, flash_pieces, flash_straight, list_image, sparsify, verify_image,
@@ -32,7 +32,7 @@ pub fn sparse_command<'a, D: Disk>(
     // whatever the outcome, what it reads holds what it held, and none has changed but what it is to write
     ensures spares { IsTrue D.tells → SparesFiles task.entry (state (D.world disk.old) (D.held disk.old) report.old)
         (state (D.world disk.new) (D.held disk.new) report.new) }
-    ensures whole { IsTrue D.tells → LeavesNoPart D.is_over task.entry
+    ensures whole { IsTrue D.tells → LeavesNoPartOfSparse D.is_over task.entry
         (state (D.world disk.old) (D.held disk.old) report.old)
         (state (D.world disk.new) (D.held disk.new) report.new) }
     // it is done only where nothing failed

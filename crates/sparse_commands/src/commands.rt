@@ -1,13 +1,14 @@
 //! The commands over sparse images over any disk: each is one call of its body, at the files that the words name.
 
 ghost use Rattle.std.specs.Prelude.{◌≡◌, [], None, Some, IsTrue, IfErr, OnOk, map};
+ghost use Rattle.abt_refusals.specs.Paths.{output_path};
 ghost use Rattle.abt_disk.specs.World.{HasNotFailed, IsReading};
-ghost use Rattle.image_bodies.specs.Sparsing.{HoldsNoPart};
-ghost use Rattle.sparse_commands.specs.Commands.{Cuts, Expands, Flashes, Lists, Sparsifies, Verifies, state};
+ghost use Rattle.image_bodies.specs.Sparsing.{HoldsNoPartOfSparse};
+ghost use Rattle.sparse_commands.specs.Commands.{Cuts, ExpandsImages, FlashesImage, ListsImage, Sparsifies};
+ghost use Rattle.sparse_commands.specs.Commands.{VerifiesImage, state};
 ghost use Rattle.sparse_commands.specs.Commands.{RefusesCutting, RefusesExpand, RefusesFlashing, RefusesListing};
 ghost use Rattle.sparse_commands.specs.Commands.{RefusesSparse, RefusesVerifying};
 ghost use Rattle.sparse_commands.specs.Commands.{SparesCut, SparesExpanded, SparesFlashed, SparesSparsified};
-ghost use Rattle.sparse_commands.specs.Commands.{output_path};
 
 use crate::places::place;
 use abt_disk::Disk;
@@ -37,7 +38,7 @@ pub(crate) fn expand_files<'a, D: Disk>(
 ) -> Result<(), SparseRefusal<'a>>
     requires first { IsTrue D.tells → IsReading (D.held disk.old) }
     requires one { IsTrue D.tells → (D.held disk.old).part ≡ None }
-    ensures done { IsTrue D.tells → OnOk result (Expands (map (λ word. word.now) inputs.now) output.now
+    ensures done { IsTrue D.tells → OnOk result (ExpandsImages (map (λ word. word.now) inputs.now) output.now
         (state (D.world disk.old) (D.held disk.old) report.old)
         (state (D.world disk.new) (D.held disk.new) report.new)) }
     ensures spares { IsTrue D.tells → SparesExpanded (map (λ word. word.now) inputs.now) output.now
@@ -75,7 +76,7 @@ pub(crate) fn sparsify<'a, D: Disk>(
         (state (D.world disk.old) (D.held disk.old) report.old)
         (state (D.world disk.new) (D.held disk.new) report.new) }
     ensures whole { IsTrue D.tells → IsTrue (D.is_over (output_path output.now)) →
-        HoldsNoPart input.now (output_path output.now) block (D.world disk.old) (D.world disk.new) }
+        HoldsNoPartOfSparse input.now (output_path output.now) block (D.world disk.old) (D.world disk.new) }
     ensures clean { IsTrue D.tells → OnOk result (HasNotFailed (D.held disk.old) (D.held disk.new)) }
     ensures refused { IsTrue D.tells → IfErr result (λ refusal. RefusesSparse refusal.fault input.now output.now block
         (state (D.world disk.old) (D.held disk.old) report.old)
@@ -137,7 +138,7 @@ pub(crate) fn list_image<'a, D: Disk>(
     m: &mut Meter,
 ) -> Result<(), SparseRefusal<'a>>
     requires first { IsTrue D.tells → (D.held disk.old).begun ≡ [] }
-    ensures done { IsTrue D.tells → OnOk result (Lists input.now
+    ensures done { IsTrue D.tells → OnOk result (ListsImage input.now
         (state (D.world disk.old) (D.held disk.old) report.old)
         (state (D.world disk.new) (D.held disk.new) report.new)) }
     ensures spares { IsTrue D.tells → D.world disk.new ≡ D.world disk.old }
@@ -162,7 +163,7 @@ pub(crate) fn flash_straight<'a, D: Disk>(
 ) -> Result<(), SparseRefusal<'a>>
     requires first { IsTrue D.tells → (D.held disk.old).begun ≡ [] }
     requires one { IsTrue D.tells → (D.held disk.old).part ≡ None }
-    ensures done { IsTrue D.tells → OnOk result (Flashes input.now partition.now raw None
+    ensures done { IsTrue D.tells → OnOk result (FlashesImage input.now partition.now raw None
         (state (D.world disk.old) (D.held disk.old) report.old)
         (state (D.world disk.new) (D.held disk.new) report.new)) }
     ensures spares { IsTrue D.tells → SparesFlashed input.now partition.now None
@@ -196,7 +197,7 @@ pub(crate) fn flash_pieces<'a, D: Disk>(
     requires first { IsTrue D.tells → (D.held disk.old).begun ≡ [] }
     requires one { IsTrue D.tells → (D.held disk.old).part ≡ None }
     requires through { IsTrue D.tells → (D.held disk.old).spool ≡ None }
-    ensures done { IsTrue D.tells → OnOk result (Flashes input.now partition.now raw (Some pieces.entry)
+    ensures done { IsTrue D.tells → OnOk result (FlashesImage input.now partition.now raw (Some pieces.entry)
         (state (D.world disk.old) (D.held disk.old) report.old)
         (state (D.world disk.new) (D.held disk.new) report.new)) }
     ensures spares { IsTrue D.tells → SparesFlashed input.now partition.now (Some pieces.entry)
@@ -229,7 +230,7 @@ pub(crate) fn verify_image<'a, D: Disk>(
     m: &mut Meter,
 ) -> Result<(), SparseRefusal<'a>>
     requires first { IsTrue D.tells → (D.held disk.old).begun ≡ [] }
-    ensures done { IsTrue D.tells → OnOk result (Verifies input.now partition.now raw
+    ensures done { IsTrue D.tells → OnOk result (VerifiesImage input.now partition.now raw
         (state (D.world disk.old) (D.held disk.old) report.old)
         (state (D.world disk.new) (D.held disk.new) report.new)) }
     ensures spares { IsTrue D.tells → D.world disk.new ≡ D.world disk.old }

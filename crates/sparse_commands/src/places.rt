@@ -1,9 +1,8 @@
 //! The files that the words of a task name.
 
 ghost use Rattle.std.specs.Prelude.{◌≡◌};
-ghost use Rattle.abt_refusals.specs.Paths.{path_in, path_of, path_out};
+ghost use Rattle.abt_refusals.specs.Paths.{output_path, path_in, path_of, path_out};
 ghost use Rattle.sparse_rules.specs.ImagePath.{image_path};
-ghost use Rattle.sparse_commands.specs.Commands.{output_path};
 
 use abt_refusals::Place;
 

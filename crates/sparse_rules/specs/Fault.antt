@@ -26,14 +26,14 @@ wrong_words (faults.OtherBlocks image) = false
 wrong_words (faults.Host fault) = is_not_text fault
 
 -- the number of a fault of an image or a device, which its own crate gives it
-abbrev pub number_of : SparseCommandFault → Option ℕ
-number_of (faults.Sparse fault) = Some (sparse.number_of fault)
-number_of (faults.Run fault) = Some (run.number_of fault)
-number_of (faults.Piece fault) = Some (piece.fault_number fault)
-number_of (faults.Flash fault) = Some (flash.fault_number fault)
-number_of (faults.Verify fault) = Some (verify.fault_number fault)
-number_of (faults.OtherBlocks image) = Some 36
-number_of (faults.Host fault) = None
+abbrev pub sparse_command_fault_number : SparseCommandFault → Option ℕ
+sparse_command_fault_number (faults.Sparse fault) = Some (sparse.number_of fault)
+sparse_command_fault_number (faults.Run fault) = Some (run.run_fault_number fault)
+sparse_command_fault_number (faults.Piece fault) = Some (piece.piece_fault_number fault)
+sparse_command_fault_number (faults.Flash fault) = Some (flash.flash_fault_number fault)
+sparse_command_fault_number (faults.Verify fault) = Some (verify.verify_fault_number fault)
+sparse_command_fault_number (faults.OtherBlocks image) = Some 36
+sparse_command_fault_number (faults.Host fault) = None
 
 -- the file that a stopped delivery is about
 abbrev pub side_of_cause : Cause → Side

@@ -1,8 +1,8 @@
 //! Which blocks a raw image has.
 
 ghost use Rattle.std.specs.Prelude.{◌≡◌, ◌<◌, ◌≤◌, ◌+◌, ◌-◌, ◌*◌, ◌^◌, IfErr, IfOk, OnOk};
-ghost use Rattle.abt_runs.specs.Raw.{Refused};
-ghost use Rattle.sparse_rules.specs.Blocks.{IsBlockSize, most_of};
+ghost use Rattle.abt_runs.specs.Raw.{RefusedRaw};
+ghost use Rattle.sparse_rules.specs.Blocks.{IsRawBlockSize, most_of};
 
 use abt_io::Source;
 use abt_runs::{BlockRuns, RawRuns, RunFault};
@@ -25,9 +25,9 @@ pub struct Blocks {
 pub fn blocks_of<S: Source>(source: &S, size: u32) -> Result<Blocks, RunFault>
     ensures size { IfOk result (λ blocks. blocks.size ≡ size) }
     ensures most { IfOk result (λ blocks. blocks.most ≡ most_of size) }
-    ensures granted { OnOk result (IsBlockSize size) }
+    ensures granted { OnOk result (IsRawBlockSize size) }
     ensures few { OnOk result (S.size source.now ≤ (2 ^ 32 - 1) * size) }
-    ensures refused { IfErr result (λ fault. Refused fault size (S.size source.now)) }
+    ensures refused { IfErr result (λ fault. RefusedRaw fault size (S.size source.now)) }
 {
     let runs = RawRuns::open(source, size)?;
     let most = CHUNK_DATA / runs.block_size();

@@ -2,7 +2,7 @@
 
 ghost use Rattle.std.specs.Prelude.{◌≡◌, List, ℕ};
 ghost use Rattle.abt_text.specs.Printed.{Prints};
-ghost use Rattle.sparse_rules.specs.Fault.{number_of, side_of_cause, side_of_number, wrong_words};
+ghost use Rattle.sparse_rules.specs.Fault.{sparse_command_fault_number, side_of_cause, side_of_number, wrong_words};
 ghost use Rattle.sparse_rules.specs.declared.fault.SparseCommandFault.TheVariants.{Host};
 
 use abt_flash::{Cause, FlashFault};
@@ -47,7 +47,7 @@ impl From<HostFault> for SparseCommandFault {
 impl SparseCommandFault {
     /// The fault's number, where it has one.
     pub fn number(&self) -> Option<u32>
-        ensures { result ≡ number_of self.now }
+        ensures { result ≡ sparse_command_fault_number self.now }
     {
         match self {
             SparseCommandFault::Sparse(fault) => Some(fault.number()),

@@ -1,7 +1,7 @@
 //! What a command prints of what was done.
 
 ghost use Rattle.std.specs.Prelude.{Some};
-ghost use Rattle.sparse_rules.specs.Lines.{text_of};
+ghost use Rattle.sparse_rules.specs.Lines.{line_text};
 
 use abt_refusals::Place;
 use std::fmt;
@@ -34,7 +34,7 @@ pub enum Line {
 }
 
 impl fmt::Display for Line {
-    ghost output = { λ line. Some (text_of line) };
+    ghost output = { λ line. Some (line_text line) };
 
     fn fmt<W: fmt::Write>(&self, f: &mut fmt::Formatter<W>) -> fmt::Result {
         match *self {

@@ -6,7 +6,7 @@ ghost use Rattle.abt_pieces.specs.Cutter.{ToldCutter};
 ghost use Rattle.abt_pieces.specs.declared.stage.Stage.{Stage};
 ghost use Rattle.abt_runs.specs.Raw.{RawPlace};
 ghost use Rattle.abt_sparse.specs.Block.{classify};
-ghost use Rattle.sparse_rules.specs.Blocks.{IsBlockSize, IsUncut};
+ghost use Rattle.sparse_rules.specs.Blocks.{IsRawBlockSize, RefusedCut};
 
 use crate::fault::SparseCommandFault;
 use abt_io::Source;
@@ -27,7 +27,7 @@ pub fn raw_pieces<S: Source>(
     size: u32,
     limit: u32,
 ) -> Result<PiecesOf<RawRuns>, SparseCommandFault>
-    ensures granted { OnOk result (IsBlockSize size × (64 + size ≤ limit)) }
+    ensures granted { OnOk result (IsRawBlockSize size × (64 + size ≤ limit)) }
     ensures runs { IfOk result (λ pieces. (pieces.cutter.runs.size ≡ size) × (pieces.cutter.limit ≡ limit)) }
     ensures opened { IsTrue S.tells → IfOk result (λ pieces. pieces.cutter.runs.length
         ≡ length (S.content source.now)) }
@@ -36,7 +36,7 @@ pub fn raw_pieces<S: Source>(
         (λ c. RawPlace pieces.cutter.runs.blocks pieces.cutter.runs.size c) (λ c. pieces.cutter.runs.blocks - c.block)
         pieces.cutter.runs.size (classify pieces.cutter.runs.size (S.content source.now)) pieces.cutter.limit
         pieces.cutter.made pieces.cutter.start pieces.cutter.stage) }
-    ensures refused { IfErr result (λ fault. IsUncut fault size (S.size source.now) limit) }
+    ensures refused { IfErr result (λ fault. RefusedCut fault size (S.size source.now) limit) }
 {
     let runs = RawRuns::open(source, size).map_err(SparseCommandFault::Run)?;
     PiecesOf::open(runs, limit)

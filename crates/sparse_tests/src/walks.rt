@@ -117,7 +117,7 @@ fn sparse_calls(source: &mut Faulty<SliceSource<'_>>) -> Result<[u8; 3], RunFaul
     let mut w = Window::new();
     let mut m = Meter::new();
     let mut out = [0u8; 3];
-    let mut runs = SparseRuns::open(source, &mut w, &mut m)?;
+    let runs = SparseRuns::open(source, &mut w, &mut m)?;
     let start = runs.start();
     let raw = runs.next_run(source, start, 9, &mut w, &mut m)?;
     runs.next_part(source, raw.next, 9, &mut w, &mut m)?;
@@ -132,7 +132,7 @@ fn raw_calls(source: &mut Faulty<SliceSource<'_>>) -> Result<[u8; 3], RunFault> 
     let mut w = Window::new();
     let mut m = Meter::new();
     let mut out = [0u8; 3];
-    let mut runs = RawRuns::open(source, 8)?;
+    let runs = RawRuns::open(source, 8)?;
     let start = runs.start();
     let raw = runs.next_part(source, start, 9, &mut w, &mut m)?;
     if let RunKind::Raw = raw.kind {

@@ -9,7 +9,7 @@ use Rattle.abt_sparse.specs.Fails.{Fails}
 use Rattle.abt_sparse.specs.Reading.{Outcome, Image, Fault, outcome, body_at, chunks_at, chunk_at, checked_header, header_at}
 use Rattle.abt_chunks.specs.declared.progress.Expanded.{Expanded}
 use Rattle.abt_sparse.proofs.Exactly.{failed_is, spelled_is}
-use Rattle.abt_chunks.specs.Expanding.{Rises}
+use Rattle.abt_chunks.specs.Expanding.{ExpandingRises}
 use Rattle.abt_chunks.specs.Whole.{Expands, Expansion}
 use Rattle.sparse_texts.specs.Demo.{demo_bytes, demo_image, demo_line}
 
@@ -50,7 +50,7 @@ given_whole e new rest p = p.written ∙ sym (ap given_by (spelled_is demo_image
 
 -- devices that never fail leave no refusal of an image
 given : (a : Result Expanded SparseFault) (new rest : List ℕ)
-    → Expands a [] new demo_image rest → Rises a 0 0 0 0 → new ≡ demo_bytes
+    → Expands a [] new demo_image rest → ExpandingRises a 0 0 0 0 → new ≡ demo_bytes
 given (Ok e) new rest p r = given_whole e new rest p
 given (Err (faults.Read d)) new rest p r = absurd (let q : 0 < 0 = r in omega arith)
 given (Err (faults.Write d)) new rest p r = absurd (let q : 0 < 0 = r in omega arith)
@@ -67,7 +67,7 @@ given (Err (faults.Truncated n)) new rest p r = absurd (no_fault _ p.given p.fai
 
 -- the same, behind nothing, of an input that is the image
 pub image_gives : (a : Result Expanded SparseFault) (old input rest new : List ℕ) → old ≡ [] → input ≡ demo_image
-    → Expands a old new input rest → Rises a 0 0 0 0 → new ≡ demo_bytes
+    → Expands a old new input rest → ExpandingRises a 0 0 0 0 → new ≡ demo_bytes
 image_gives a old input rest new none same p r =
     let q = subst (λ (l : List ℕ). Expands a l new input rest) none p in
     given a new rest (subst (λ (l : List ℕ). Expands a [] new l rest) same q) r

@@ -10,13 +10,13 @@ use Rattle.abt_chunks.specs.declared.progress.ChunkInfo.{ChunkInfo}
 use Rattle.abt_chunks.specs.declared.walk.Phase.TheVariants as phases
 use Rattle.abt_chunks.specs.declared.walk.Walk.{Walk}
 use Rattle.abt_chunks.specs.Cause.{Clean}
-use Rattle.abt_chunks.specs.Expanding.{Rises, UnlessDevice}
+use Rattle.abt_chunks.specs.Expanding.{ExpandingRises, UnlessExpandingDevice}
 use Rattle.abt_chunks.specs.Listing.{Listing, headless, listing_of}
 use Rattle.abt_chunks.specs.ListingAhead.{at_end, shown_before, upcoming}
 use Rattle.abt_text.specs.declared.text_output.Text.{Text}
 use Rattle.abt_chunks.proofs.Finishing.{unless_map}
 use Rattle.abt_text.specs.Shown.{text_in}
-use Rattle.sparse_texts.specs.Listed.{Listed, ReadTold, Refuses, chunk_line, head_text, header_line, listing_text}
+use Rattle.sparse_texts.specs.Listed.{Listed, ReadTold, ListingRefuses, chunk_line, head_text, header_line, listing_text}
 use Rattle.abt_text.specs.Printed.{Prints, PrintsFront}
 use Rattle.sparse_texts.proofs.Counting.{head_upcoming, shown_twice, with_ending}
 use Rattle.abt_text.proofs.Printing.{both_printed, front_behind, printed_as, printed_none, text_whole}
@@ -73,7 +73,7 @@ module _ {O : Type 0} (written : O → List ℕ) (counts : O → ℕ) where
   -- ---- an image that is refused
 
   -- its header
-  pub header_refused : (s : Text O) (l : Listing) (f : SparseFault) → l ≡ headless f → Refuses l f (Prints written counts s s)
+  pub header_refused : (s : Text O) (l : Listing) (f : SparseFault) → l ≡ headless f → ListingRefuses l f (Prints written counts s s)
   header_refused s l f e = record {
     ending = ap (λ (k : Listing). k.ending) e;
     holds = subst (λ (k : Listing). Prints written counts s s (listing_text k)) (sym e) (printed_none written counts s);
@@ -92,8 +92,8 @@ module _ {O : Type 0} (written : O → List ℕ) (counts : O → ℕ) where
   -- the chunks, behind the header's line
   pub listing_refused : {A : Type 0} (s t u : Text O) (x y : List ℕ) (w : Walk) (r : Result A SparseFault)
       → listing_of x ≡ upcoming w y → w.phase ≡ phases.Body → at_end w ≡ true → Prints written counts s t (header_line (view w.header))
-      → IfErr r (λ f. UnlessDevice f (((upcoming w y).ending ≡ Err f) × Prints written counts t u (flat_map chunk_line (upcoming w y).shown)))
-      → IfErr r (λ f. UnlessDevice f (Refuses (listing_of x) f (Prints written counts s u)))
+      → IfErr r (λ f. UnlessExpandingDevice f (((upcoming w y).ending ≡ Err f) × Prints written counts t u (flat_map chunk_line (upcoming w y).shown)))
+      → IfErr r (λ f. UnlessExpandingDevice f (ListingRefuses (listing_of x) f (Prints written counts s u)))
   listing_refused s t u x y w (Ok a) opened body ended header chunks = tt
   listing_refused s t u x y w (Err f) opened body ended header chunks =
       let text = ap (λ (h : Option Header). head_text h ++ flat_map chunk_line (upcoming w y).shown) (sym (head_upcoming w y body ended)) ∙ ap listing_text (sym opened) in
@@ -104,9 +104,9 @@ module _ {O : Type 0} (written : O → List ℕ) (counts : O → ℕ) where
 
   -- and all of it went to the output
   pub refused_written : {A : Type 0} (r : Result A SparseFault) (l : Listing) (s t u : Text O) (old new : List ℕ)
-      → IfErr r (λ f. UnlessDevice f (Refuses l f (Prints written counts s t))) → Prints written counts t u [] → IsNone u.fault
+      → IfErr r (λ f. UnlessExpandingDevice f (ListingRefuses l f (Prints written counts s t))) → Prints written counts t u [] → IsNone u.fault
       → text_in u.held.bytes u.held.used ≡ [] → text_in s.held.bytes s.held.used ≡ [] → written s.output.now ≡ old → written u.output.now ≡ new
-      → IfErr r (λ f. UnlessDevice f (Refuses l f (λ text. new ≡ old ++ text)))
+      → IfErr r (λ f. UnlessExpandingDevice f (ListingRefuses l f (λ text. new ≡ old ++ text)))
   refused_written (Ok a) l s t u old new refused last none sent held from to = tt
   refused_written (Err f) l s t u old new refused last none sent held from to =
       unless_map f _ _ (λ p. record {
@@ -117,7 +117,7 @@ module _ {O : Type 0} (written : O → List ℕ) (counts : O → ℕ) where
 
 -- ---- who failed
 
-pub read_told : (f : SparseFault) (a b c : ℕ) → b ≡ a → Rises {X = ℕ} (Err f) b c 0 0 → Clean {X = ℕ} (Err f) b c 0 0 → ReadTold {X = ℕ} (Err f) a c
+pub read_told : (f : SparseFault) (a b c : ℕ) → b ≡ a → ExpandingRises {X = ℕ} (Err f) b c 0 0 → Clean {X = ℕ} (Err f) b c 0 0 → ReadTold {X = ℕ} (Err f) a c
 read_told (faults.Read d) a b c e rises clean = omega (arith, e, rises)
 read_told (faults.Write d) a b c e rises clean = omega (arith, e, clean)
 read_told f a b c e rises clean = clean.0 ∙ e

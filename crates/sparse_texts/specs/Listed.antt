@@ -31,7 +31,7 @@ listing_text l = head_text l.head ++ flat_map chunk_line l.shown
 -- ---- refusals
 
 -- The fault f is the listing's own, and P holds of the lines of all that came before it.
-pub record Refuses (l : Listing) (f : SparseFault) (P : List ℕ → Type 0) : Type 0 where
+pub record ListingRefuses (l : Listing) (f : SparseFault) (P : List ℕ → Type 0) : Type 0 where
   pub ending : l.ending ≡ Err f
   pub holds : P (listing_text l)
 

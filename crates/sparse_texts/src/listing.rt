@@ -1,11 +1,12 @@
 //! The text of `list`: the header and the chunks of a sparse image, a line each.
 
 ghost use Rattle.std.specs.Prelude.{◌≡◌, ◌++◌, ◌≤◌, IsSome, IsTrue, IfErr, OnOk, Ok, Err, List, ℕ, flat_map, length};
-ghost use Rattle.abt_chunks.specs.Expanding.{IsGoing, UnlessDevice};
+ghost use Rattle.abt_chunks.specs.Expanding.{IsGoing, UnlessExpandingDevice};
 ghost use Rattle.abt_chunks.specs.Listing.{listing_of};
 ghost use Rattle.abt_chunks.specs.ListingAhead.{upcoming};
 ghost use Rattle.abt_text.specs.Grown.{Begins};
-ghost use Rattle.sparse_texts.specs.Listed.{IsWrite, Listed, ReadTold, Refuses, WriteTold, chunk_line, listing_text};
+ghost use Rattle.sparse_texts.specs.Listed.{IsWrite, Listed, ReadTold, ListingRefuses, WriteTold, chunk_line};
+ghost use Rattle.sparse_texts.specs.Listed.{listing_text};
 ghost use Rattle.abt_text.specs.Printed.{Prints, PrintsFront};
 
 use crate::lines::{put_chunk, put_header};
@@ -30,7 +31,7 @@ pub fn report_list<I: Input, O: Output>(
         Begins (O.written out.old) (O.written out.new) (listing_text (listing_of (I.remaining input.old))) }
     // An image that is refused is so for its own fault, behind the lines of all that came before it.
     ensures refused { IsTrue I.tells →
-        IfErr result (λ f. UnlessDevice f (Refuses (listing_of (I.remaining input.old)) f
+        IfErr result (λ f. UnlessExpandingDevice f (ListingRefuses (listing_of (I.remaining input.old)) f
         (λ text. O.written out.new ≡ O.written out.old ++ text))) }
     ensures reads { ReadTold result (I.read_faults input.old) (I.read_faults input.new) }
     ensures failed { IfErr result (λ f. WriteTold f (O.write_faults out.old) (O.write_faults out.new)) }
@@ -57,7 +58,7 @@ fn lines<I: Input, O: Output>(
         PrintsFront O.written O.write_faults text.old text.new (listing_text (listing_of (I.remaining input.old))) }
     ensures prints { (done : List ℕ) × Prints O.written O.write_faults text.old text.new done }
     ensures refused { IsTrue I.tells →
-        IfErr result (λ f. UnlessDevice f (Refuses (listing_of (I.remaining input.old)) f
+        IfErr result (λ f. UnlessExpandingDevice f (ListingRefuses (listing_of (I.remaining input.old)) f
         (Prints O.written O.write_faults text.old text.new))) }
     ensures reads { ReadTold result (I.read_faults input.old) (I.read_faults input.new) }
     ensures told { IfErr result (λ f. IsWrite f → IsSome text.new.fault) }
@@ -89,7 +90,8 @@ fn chunk_lines<I: Input, O: Output>(
         (flat_map chunk_line (upcoming chunks.old.walk (I.remaining input.old)).shown) }
     ensures prints { (done : List ℕ) × Prints O.written O.write_faults text.old text.new done }
     ensures refused { IsTrue I.tells →
-        IfErr result (λ f. UnlessDevice f (((upcoming chunks.old.walk (I.remaining input.old)).ending ≡ Err f) ×
+        IfErr result (λ f. UnlessExpandingDevice f
+        (((upcoming chunks.old.walk (I.remaining input.old)).ending ≡ Err f) ×
         Prints O.written O.write_faults text.old text.new
         (flat_map chunk_line (upcoming chunks.old.walk (I.remaining input.old)).shown))) }
     ensures reads { IsGoing chunks.old.walk.phase →

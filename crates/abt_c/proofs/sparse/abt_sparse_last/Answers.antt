@@ -28,7 +28,7 @@ returns-in-Some-clause-left c =
             arith,
             e,
             part_own h.result c.in-Some.puller.walk h.new.self.walk
-                (pulling.front_of c.in-Some.puller) live h.ensures.says h.ensures.leaves,
+                (pulling.pulled_front c.in-Some.puller) live h.ensures.says h.ensures.leaves,
           );
           bits = o.bits;
         };

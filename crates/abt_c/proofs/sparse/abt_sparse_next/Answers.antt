@@ -14,8 +14,11 @@ returns-in-Some-clause-told c live x =
     record {
       pull = h.result.pull;
       is = c.part_of.ensures.is;
-      says = λ t. subst (λ (n : ℕ). StateSays h.result.pull c.args.state.now c.state_of.result (take n c.args.input.now) t) (sym c.part_of.ensures.used)
-          (carried h.result.pull c.args.state.now c.state_of.result c.in-Some.puller h.new.self (take h.result.used c.args.input.now) t e c.state_of.ensures.stands (λ z. absurd (omega (arith, live, e.phase, z))) (h.ensures.says t) h.ensures.kept h.ensures.leaves);
+      says = λ t. let p = h.ensures.pulls in
+          subst (λ (n : ℕ). StateSays h.result.pull c.args.state.now c.state_of.result (take n c.args.input.now) t)
+          (sym c.part_of.ensures.used) (carried h.result.pull c.args.state.now c.state_of.result c.in-Some.puller
+          h.new.self (take h.result.used c.args.input.now) t e c.state_of.ensures.stands
+          (λ z. absurd (omega (arith, live, e.phase, z))) (p.says t) p.kept p.leaves);
     }
 
 pub returns-in-Some-clause-left : goal.returns-in-Some-clause-left
@@ -38,7 +41,7 @@ returns-in-Some-clause-left c =
             arith,
             e,
             pull_own h.result.pull c.in-Some.puller h.new.self (take
-                h.result.used c.args.input.now) live (h.ensures.says []) h.ensures.leaves,
+                h.result.used c.args.input.now) live (h.ensures.pulls.says []) h.ensures.pulls.leaves,
           );
           bits = o.bits;
         };
@@ -51,9 +54,9 @@ returns-in-Some-clause-moves c live x =
     let e = c.in-Some.ensures.some.stands in
     let o = c.state_of.ensures in
     moved h.result.pull c.part_of.result c.args.state.now c.state_of.result c.in-Some.puller h.new.self h.result.used _
-    c.part_of.ensures.used c.part_of.ensures.is e o.stands h.ensures.moves
+    c.part_of.ensures.used c.part_of.ensures.is e o.stands h.ensures.pulls.moves
     (nears h.result.pull c.part_of.result c.args.state.now c.state_of.result c.in-Some.puller h.new.self
-    c.part_of.ensures.is e o.stands o.fault o.detail h.ensures.falls h.ensures.leaves)
+    c.part_of.ensures.is e o.stands o.fault o.detail h.ensures.pulls.falls h.ensures.pulls.leaves)
 
 pub returns-in-Some-clause-ended : goal.returns-in-Some-clause-ended
 returns-in-Some-clause-ended c done x =
@@ -61,8 +64,11 @@ returns-in-Some-clause-ended c done x =
     let e = c.in-Some.ensures.some.stands in
     let was : phase_number c.in-Some.puller.walk.phase ≡ 2 = sym e.phase ∙ done in
     let again = h.ensures.again (done_is_over c.in-Some.puller.walk.phase was) in
-    let is : phase_number h.new.self.walk.phase ≡ 2 = ap (λ p. phase_number p.walk.phase) again.same ∙ was in
-    (ends_again h.result.pull c.part_of.result h.new.self is again.given h.ensures.leaves c.part_of.ensures.is, c.part_of.ensures.used ∙ again.unused, c.state_of.ensures.stands.phase ∙ is)
+    let is : phase_number h.new.self.walk.phase ≡ 2 = ap (λ p. phase_number p.walk.phase) again.same ∙ was in (
+      ends_again h.result.pull c.part_of.result h.new.self is again.given h.ensures.pulls.leaves c.part_of.ensures.is,
+      c.part_of.ensures.used ∙ again.unused,
+      c.state_of.ensures.stands.phase ∙ is,
+    )
 
 pub returns-in-Some-clause-place : goal.returns-in-Some-clause-place
 returns-in-Some-clause-place c live x = c.part_of.ensures.place ∙ c.place-place.ensures

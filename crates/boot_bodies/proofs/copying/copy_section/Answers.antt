@@ -1,10 +1,21 @@
 use Rattle.boot_bodies.proofs.Causes.{moved, sum_stays}
 use Rattle.boot_bodies.proofs.copying.copy_section.Goals as goal
 
-pub returns-in-Ok-clause-clean : goal.returns-in-Ok-clause-clean
-returns-in-Ok-clause-clean g c = sum_stays _ _ _ _ c.in-Ok.ensures.clean
+pub returns-in-Ok-clause-copies : goal.returns-in-Ok-clause-copies
+returns-in-Ok-clause-copies g c =
+    let e = c.in-Ok.ensures.moves in
+    record {
+      content = e.reads.content;
+      clean = sum_stays _ _ _ _ (e.reads.clean, e.writes.clean);
+      refused = λ tells opened. tt;
+    }
 
-pub returns-in-Err-clause-refused : goal.returns-in-Err-clause-refused
-returns-in-Err-clause-refused g c = λ tells opened.
-    moved c.in-Err.fault _ _ _ _ (g.S.Source.content c.args.source.now) _ c.in-Err.ensures.cause (λ changed. changed tells opened)
-    c.in-Err.ensures.read_faults c.in-Err.ensures.write_faults
+pub returns-in-Err-clause-copies : goal.returns-in-Err-clause-copies
+returns-in-Err-clause-copies g c =
+    let e = c.in-Err.ensures.moves in
+    record {
+      content = λ tells. tt;
+      clean = tt;
+      refused = λ tells opened. moved c.in-Err.fault _ _ _ _ (g.S.Source.content c.args.source.now) _ e.cause
+          (λ changed. changed tells opened) e.reads.faults e.writes.faults;
+    }

@@ -43,7 +43,8 @@ returns-in-Err-open-clause-refused g c = λ t.
     let told = g.met.D.Disk.source_told t in
     refuses_file _ _ _ _ _ _ _ _ _ _ (c.in-Ok.ensures.opened t)
     (section_refused _ _ ⊥ _ _ c.not_opened.ensures
-    (opened c.in-Err-open.fault (g.D.At.Source.content c.in-Ok.device) _ _ _ c.in-Err-open.ensures.cause (c.in-Err-open.ensures.opens told)))
+    (opened c.in-Err-open.fault (g.D.At.Source.content c.in-Ok.device) _ _ _ c.in-Err-open.ensures.reads.cause
+    (c.in-Err-open.ensures.opens told)))
     (λ failed. open_failed _ _ _ _ _ _ _ _ (c.in-Ok.ensures.opened t) (c.in-Ok.ensures.clean t)
     (c.let_go_source.ensures.held t) failed)
     (λ none. absurd none)
@@ -75,7 +76,7 @@ returns-in-Err-refuse_taken-clause-refused g c = λ t.
 pub returns-in-Ok-write_parts-clause-done : goal.returns-in-Ok-write_parts-clause-done
 returns-in-Ok-write_parts-clause-done g c = λ t.
     let told = g.met.D.Disk.source_told t in
-    let same = c.in-Ok-open.ensures.content told in
+    let same = c.in-Ok-open.ensures.reads.only.content told in
     subst (λ w. Unpacks (path_of c.args.input) c.args.folder.now c.args.with_words (g.D.Disk.world c.args.disk.now) w
     (λ lines. ShowsEach lines c.args.report.now c.write_parts.new.report)) (sym (c.let_go_source-in-Ok-write_parts.ensures.world t))
     (unpacks _ _ _ _ _ _ _ _ _ _ _ (opens_as _ _ _ _ _ _ same (c.in-Ok.ensures.opened t))
@@ -85,14 +86,15 @@ returns-in-Ok-write_parts-clause-done g c = λ t.
 pub returns-in-Ok-write_parts-clause-synced : goal.returns-in-Ok-write_parts-clause-synced
 returns-in-Ok-write_parts-clause-synced g c = λ t.
     let told = g.met.D.Disk.source_told t in
-    let same = c.in-Ok-open.ensures.content told in
+    let same = c.in-Ok-open.ensures.reads.only.content told in
     syncs_parts _ _ _ _ _ _ _ _ (c.in-Ok.ensures.opened t) (c.in-Ok-open.ensures.opens told).has
     (syncs_within _ _ _ _ _ _ _ _ _ _ (c.in-Ok.ensures.opened t) (c.in-Ok-refuse_taken.ensures.held t)
     (c.in-Ok-write_parts.ensures.synced t) (c.let_go_source-in-Ok-write_parts.ensures.held t))
 
 pub returns-in-Ok-write_parts-clause-clean : goal.returns-in-Ok-write_parts-clause-clean
 returns-in-Ok-write_parts-clause-clean g c = λ t.
-    clean_within _ _ _ _ _ _ _ _ _ _ _ (c.in-Ok.ensures.opened t) (c.in-Ok.ensures.clean t) c.in-Ok-open.ensures.clean
+    clean_within _ _ _ _ _ _ _ _ _ _ _ (c.in-Ok.ensures.opened t) (c.in-Ok.ensures.clean t)
+    c.in-Ok-open.ensures.reads.only.clean
     (c.in-Ok-refuse_taken.ensures.held t) (c.in-Ok-write_parts.ensures.clean t) (c.let_go_source-in-Ok-write_parts.ensures.held t)
 
 pub returns-in-Ok-write_parts-clause-only : goal.returns-in-Ok-write_parts-clause-only
@@ -125,7 +127,7 @@ returns-in-Err-write_parts-clause-input g c = λ t.
 pub returns-in-Err-write_parts-clause-stands : goal.returns-in-Err-write_parts-clause-stands
 returns-in-Err-write_parts-clause-stands g c = λ t.
     let told = g.met.D.Disk.source_told t in
-    let same = c.in-Ok-open.ensures.content told in
+    let same = c.in-Ok-open.ensures.reads.only.content told in
     leaves_parts _ _ _ _ _ _ _ _ _ _ _ _ _ _ _ (c.requires.first t).begun
     (opens_as _ _ _ _ _ _ same (c.in-Ok.ensures.opened t))
     (c.in-Ok-refuse_taken.ensures.world t ∙ c.in-Ok.ensures.world t)
@@ -136,11 +138,12 @@ returns-in-Err-write_parts-clause-stands g c = λ t.
 pub returns-in-Err-write_parts-clause-refused : goal.returns-in-Err-write_parts-clause-refused
 returns-in-Err-write_parts-clause-refused g c = λ t.
     let told = g.met.D.Disk.source_told t in
-    let same = c.in-Ok-open.ensures.content told in
+    let same = c.in-Ok-open.ensures.reads.only.content told in
     let opens = opens_as _ _ _ _ _ _ same (c.in-Ok.ensures.opened t) in
     refuses_file _ _ _ _ _ _ _ _ _ _ opens
     (c.in-Err-write_parts.ensures.refused t (opened_as _ _ c.in-Ok-open.image same (c.in-Ok-open.ensures.opens told)))
     (λ failed. failed_within _ _ _ _ _ _ _ _ _ _ _ (c.in-Ok.ensures.opened t) (c.in-Ok.ensures.clean t)
-    c.in-Ok-open.ensures.clean (c.in-Ok-refuse_taken.ensures.held t) failed (c.let_go_source-in-Err-write_parts.ensures.held t))
+    c.in-Ok-open.ensures.reads.only.clean (c.in-Ok-refuse_taken.ensures.held t) failed
+    (c.let_go_source-in-Err-write_parts.ensures.held t))
     (λ begun. parts_stand _ _ _ _ _ _ _ _ _ _ opens (has_as _ _ c.in-Ok-open.image same (c.in-Ok-open.ensures.opens told))
     (begun_later _ _ _ _ _ _ _ _ _ (c.let_go_source-in-Err-write_parts.ensures.held t) (c.let_go_source-in-Err-write_parts.ensures.world t) begun))

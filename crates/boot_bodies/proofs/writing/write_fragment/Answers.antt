@@ -23,7 +23,7 @@ returns-in-Err-clause-refused g c = λ t opened.
 
 pub returns-in-Ok-finish-clause-content : goal.returns-in-Ok-finish-clause-content
 returns-in-Ok-finish-clause-content g c = λ t.
-    ok_gives _ _ c.in-Ok-finish.ensures.done (c.copy_fragment-onto.ensures.content (g.met.D.Disk.source_told t))
+    ok_gives _ _ c.in-Ok-finish.ensures.done (c.copy_fragment-onto.ensures.copies.content (g.met.D.Disk.source_told t))
 
 pub returns-in-Ok-finish-clause-done : goal.returns-in-Ok-finish-clause-done
 returns-in-Ok-finish-clause-done g c = λ t.
@@ -54,7 +54,8 @@ returns-in-Ok-finish-clause-synced g c = λ t.
 pub returns-in-Ok-finish-clause-clean : goal.returns-in-Ok-finish-clause-clean
 returns-in-Ok-finish-clause-clean g c = λ t.
     part_clean _ _ _ _ _ _ _ _ _ _ (c.in-Ok.ensures.created t) (c.in-Ok.ensures.clean t)
-    (ok_gives _ _ c.in-Ok-finish.ensures.done c.copy_fragment-onto.ensures.clean) (c.in-Ok-finish.ensures.clean t)
+    (ok_gives _ _ c.in-Ok-finish.ensures.done c.copy_fragment-onto.ensures.copies.clean)
+    (c.in-Ok-finish.ensures.clean t)
 
 pub returns-in-Err-finish-clause-only : goal.returns-in-Err-finish-clause-only
 returns-in-Err-finish-clause-only g c = λ t.
@@ -70,9 +71,9 @@ pub returns-in-Err-finish-clause-refused : goal.returns-in-Err-finish-clause-ref
 returns-in-Err-finish-clause-refused g c = λ t opened.
     let told = g.met.D.Disk.source_told t in
     told_so _ (g.D.At.Source.content c.args.source.now) _ _ _ _ _ _ (c.in-Err-finish.ensures.told t)
-    (c.copy_fragment-onto.ensures.refused told opened)
+    (c.copy_fragment-onto.ensures.copies.refused told opened)
     (λ done failed. end_failed _ _ _ _ _ _ _ _ _ _ (c.in-Ok.ensures.created t) (c.in-Ok.ensures.clean t)
-    (ok_gives _ _ done c.copy_fragment-onto.ensures.clean) failed)
+    (ok_gives _ _ done c.copy_fragment-onto.ensures.copies.clean) failed)
     (λ failed. copy_failed _ _ _ _ _ _ _ _ _ _ (c.in-Ok.ensures.created t) (c.in-Ok.ensures.clean t)
     (c.in-Err-finish.ensures.counts t) failed)
     (λ done ends.

@@ -7,15 +7,15 @@ use Rattle.boot_commands.proofs.command.boot_command.Goals as goal
 
 pub returns-in-Pack-clause-spares : goal.returns-in-Pack-clause-spares
 returns-in-Pack-clause-spares g c = λ t.
-    rw c.in-Pack.is (c.pack_file.ensures.others t, c.pack_file.ensures.inputs t)
+    rw c.in-Pack.is ((c.pack_file.ensures.left t).others, c.pack_file.ensures.inputs t)
 
 pub returns-in-Pack-clause-whole : goal.returns-in-Pack-clause-whole
-returns-in-Pack-clause-whole g c = λ t. rw c.in-Pack.is (c.pack_file.ensures.whole t)
+returns-in-Pack-clause-whole g c = λ t. rw c.in-Pack.is ((c.pack_file.ensures.left t).whole)
 
 pub returns-in-Repack-clause-spares : goal.returns-in-Repack-clause-spares
 returns-in-Repack-clause-spares g c = λ t.
     rw c.in-Repack.is (
-      c.repack_file.ensures.others t,
+      (c.repack_file.ensures.left t).others,
       subst (λ p. KeepsRead p c.in-Repack.command (g.D.Disk.world c.args.disk.now)
           (g.D.Disk.world c.repack_file.new.disk)) c.input_at.ensures (c.repack_file.ensures.inputs t),
     )
@@ -23,7 +23,7 @@ returns-in-Repack-clause-spares g c = λ t.
 pub returns-in-Repack-clause-whole : goal.returns-in-Repack-clause-whole
 returns-in-Repack-clause-whole g c = λ t.
     rw c.in-Repack.is (λ over. subst (λ p. HoldsNoPartAgain p c.in-Repack.command (g.D.Disk.world c.args.disk.now)
-    (g.D.Disk.world c.repack_file.new.disk)) c.input_at.ensures (c.repack_file.ensures.whole t over))
+    (g.D.Disk.world c.repack_file.new.disk)) c.input_at.ensures ((c.repack_file.ensures.left t).whole over))
 
 pub returns-in-Unpack-clause-done : goal.returns-in-Unpack-clause-done
 returns-in-Unpack-clause-done g c = λ t.

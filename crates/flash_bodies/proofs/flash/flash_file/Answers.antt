@@ -79,8 +79,8 @@ returns-clause-done g c = λ t.
           (f.lays (g.met.D.Disk.told t) (g.met.D.Disk.part_told t)));
       synced = all.synced (settled_once (g.D.Part.Partition.past c.in_ok-onto.onto)
           (g.D.Part.Partition.past c.flashed-answer.new.onto) (c.in_ok-onto.ensures.past t)
-          (on_ok c.flashed-answer.result c.in-Ok.end.0 _ done f.synced)
-          (on_ok c.flashed-answer.result c.in-Ok.end.0 _ done (f.settled (g.met.D.Disk.part_told t))));
+          (on_ok c.flashed-answer.result c.in-Ok.end.0 _ done f.syncs.synced)
+          (on_ok c.flashed-answer.result c.in-Ok.end.0 _ done (f.syncs.settled (g.met.D.Disk.part_told t))));
       shown = c.in_ok-line_beside.ensures;
     }
 
@@ -98,8 +98,8 @@ returns-in_err-line_beside-clause-refused g c = λ t.
           (f.lays (g.met.D.Disk.told t) (g.met.D.Disk.part_told t)));
       synced = all.synced (settled_once (g.D.Part.Partition.past c.in_ok-onto.onto)
           (g.D.Part.Partition.past c.flashed-answer.new.onto) (c.in_ok-onto.ensures.past t)
-          (on_ok c.flashed-answer.result c.in-Ok.end.0 _ done f.synced)
-          (on_ok c.flashed-answer.result c.in-Ok.end.0 _ done (f.settled (g.met.D.Disk.part_told t))));
+          (on_ok c.flashed-answer.result c.in-Ok.end.0 _ done f.syncs.synced)
+          (on_ok c.flashed-answer.result c.in-Ok.end.0 _ done (f.syncs.settled (g.met.D.Disk.part_told t))));
       shown = tt;
     }))
     c.from_residual-in_err-line_beside.ensures.1
@@ -109,7 +109,7 @@ closed-requires g c = record {
   long = λ t.
       let one = g.met.D.Part.Source.sized c.flashed-answer.new.onto (g.met.D.Disk.part_told t) in
       let two = g.met.D.Part.Source.sized c.in_ok-onto.onto (g.met.D.Disk.part_told t) in
-      let size = c.flashed-answer.ensures.size in
+      let size = c.flashed-answer.ensures.syncs.size in
       as_long _ _ _ _ _ _ _ _ _ _ (c.in_ok-onto.ensures.opened t) (c.in_ok-onto.ensures.world t)
       (c.let_go.ensures.held t) (c.let_go.ensures.world t) (omega (arith, one, two, size));
 }

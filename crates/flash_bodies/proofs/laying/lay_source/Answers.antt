@@ -8,9 +8,9 @@ loop-at-preserved g c =
     let e = c.in-Ok.ensures in
     record {
       within = omega (arith, e.some, c.min-ask.ensures);
-      size = e.size ∙ i.size;
-      synced = e.synced ∙ i.synced;
-      clean = e.clean ∙ i.clean;
+      size = e.lays.size ∙ i.size;
+      synced = e.lays.synced ∙ i.synced;
+      clean = e.lays.clean ∙ i.clean;
       content = λ t. e.content t ∙ i.content t;
       laid = λ s p.
           let room : length (g.S.Source.content c.args.source.now) ≤ length (g.P.Source.content c.args.onto.now) = omega (arith, c.requires.all, c.requires.room, g.met.S.Source.sized c.args.source.now s, g.met.P.Source.sized c.args.onto.now p) in
@@ -18,8 +18,18 @@ loop-at-preserved g c =
           (rw (i.content s) at (e.laid s p)) (omega (arith, i.within, c.requires.all, g.met.S.Source.sized c.args.source.now s)) room refl;
     }
 
-pub returns-in-Err-clause-refused : goal.returns-in-Err-clause-refused
-returns-in-Err-clause-refused g c = rw c.loop-at.invariant.clean at c.in-Err.ensures.refused
+pub returns-in-Err-clause-lays : goal.returns-in-Err-clause-lays
+returns-in-Err-clause-lays g c =
+    let i = c.loop-at.invariant in
+    let e = c.in-Err.ensures.lays in
+    record {
+      synced = e.synced ∙ i.synced;
+      size = e.size ∙ i.size;
+      refused = rw i.clean at e.refused;
+      clean = tt;
+    }
 
-pub returns-clause-clean : goal.returns-clause-clean
-returns-clause-clean g c = c.loop-at.invariant.clean
+pub returns-clause-lays : goal.returns-clause-lays
+returns-clause-lays g c =
+    let i = c.loop-at.invariant in
+    record { synced = i.synced; size = i.size; refused = tt; clean = i.clean }

@@ -119,8 +119,8 @@ returns-clause-done g c = λ t.
     (c.closed.ensures.ended t) (c.closed.ensures.paths t) (c.closed.ensures.closed t) in
     done_across c.delivered_through-answer.result c.in-Ok.end.0 _ c.args.raw c.args.limit _ _ _ _ _ _ _ _ _ _ _ _ _ _ _
     (g.D.Part.Partition.past c.in_ok-onto.onto) (g.D.Part.Partition.past c.delivered_through-answer.new.onto) _ all
-    (sym c.counted.ensures ∙ c.in-Ok.ensures.done) (c.in_ok-onto.ensures.past t) d.some d.synced (d.settled t)
-    same (d.delivers t (ap (λ (q : Past). q.pending) (c.in_ok-onto.ensures.past t))) c.in_ok-line_beside.ensures
+    (sym c.counted.ensures ∙ c.in-Ok.ensures.done) (c.in_ok-onto.ensures.past t) d.syncs.some
+    d.syncs.synced (d.syncs.settled (g.met.D.Disk.part_told t)) same (d.delivers t (ap (λ (q : Past). q.pending) (c.in_ok-onto.ensures.past t))) c.in_ok-line_beside.ensures
 
 pub returns-in_err-line_beside-clause-refused : goal.returns-in_err-line_beside-clause-refused
 returns-in_err-line_beside-clause-refused g c = λ t.
@@ -137,8 +137,8 @@ returns-in_err-line_beside-clause-refused g c = λ t.
     _ _ _ _ _ _ _ made (done_across c.delivered_through-answer.result c.in-Ok.end.0 _ c.args.raw c.args.limit _ _ _ _ _
     _ _ _ _ _ _ _ _ _ _
     (g.D.Part.Partition.past c.in_ok-onto.onto) (g.D.Part.Partition.past c.delivered_through-answer.new.onto) _ all
-    (sym c.counted.ensures ∙ c.in-Ok.ensures.done) (c.in_ok-onto.ensures.past t) d.some d.synced (d.settled t)
-    same (d.delivers t (ap (λ (q : Past). q.pending) (c.in_ok-onto.ensures.past t))) tt))
+    (sym c.counted.ensures ∙ c.in-Ok.ensures.done) (c.in_ok-onto.ensures.past t) d.syncs.some
+    d.syncs.synced (d.syncs.settled (g.met.D.Disk.part_told t)) same (d.delivers t (ap (λ (q : Past). q.pending) (c.in_ok-onto.ensures.past t))) tt))
     c.from_residual-in_err-line_beside.ensures.1
 
 pub closed-requires : goal.closed-requires
@@ -146,7 +146,7 @@ closed-requires g c = record {
   long = λ t.
       let one = g.met.D.Part.Source.sized c.delivered_through-answer.new.onto (g.met.D.Disk.part_told t) in
       let two = g.met.D.Part.Source.sized c.in_ok-onto.onto (g.met.D.Disk.part_told t) in
-      let size = c.delivered_through-answer.ensures.size in
+      let size = c.delivered_through-answer.ensures.syncs.size in
       as_long_across _ _ _ _ _ _ _ _ _ _ _ _ _ _ _ _ _ _ _ (c.in_ok-source.ensures.opened t)
       (c.in_ok-source.ensures.world t) (c.in_ok-onto.ensures.opened t) (c.in_ok-onto.ensures.world t)
       (c.in_ok-through.ensures.opened t) (c.delivered_through-answer.ensures.closed t)

@@ -22,12 +22,12 @@ returns-in-Some-clause-done g c = λ t.
 pub returns-in-Some-clause-only : goal.returns-in-Some-clause-only
 returns-in-Some-clause-only g c = λ t.
     among_behind (IsPiecePath c.args.order.prefix.now) _ _ _ _ _ _ _ _ (c.requires.first t).begun
-    (c.in-Ok.ensures.opened t) (c.in-Ok.ensures.world t) (c.cut_raw.ensures.only t)
+    (c.in-Ok.ensures.opened t) (c.in-Ok.ensures.world t) (c.cut_raw.ensures.left t).only
 
 pub returns-in-Some-clause-input : goal.returns-in-Some-clause-input
 returns-in-Some-clause-input g c = λ t.
     keeps_input c.args.order.prefix.now _ _ _ _ _ _ _ _ (c.in-Ok.ensures.opened t) (c.in-Ok.ensures.world t)
-    (c.cut_raw.ensures.only t)
+    (c.cut_raw.ensures.left t).only
 
 pub returns-in-Some-clause-refused : goal.returns-in-Some-clause-refused
 returns-in-Some-clause-refused g c = λ t.
@@ -44,12 +44,12 @@ returns-in-None-clause-done g c = λ t.
 pub returns-in-None-clause-only : goal.returns-in-None-clause-only
 returns-in-None-clause-only g c = λ t.
     among_behind (IsPiecePath c.args.order.prefix.now) _ _ _ _ _ _ _ _ (c.requires.first t).begun
-    (c.in-Ok.ensures.opened t) (c.in-Ok.ensures.world t) (c.cut_sparse.ensures.only t)
+    (c.in-Ok.ensures.opened t) (c.in-Ok.ensures.world t) (c.cut_sparse.ensures.left t).only
 
 pub returns-in-None-clause-input : goal.returns-in-None-clause-input
 returns-in-None-clause-input g c = λ t.
     keeps_input c.args.order.prefix.now _ _ _ _ _ _ _ _ (c.in-Ok.ensures.opened t) (c.in-Ok.ensures.world t)
-    (c.cut_sparse.ensures.only t)
+    (c.cut_sparse.ensures.left t).only
 
 pub returns-in-None-clause-refused : goal.returns-in-None-clause-refused
 returns-in-None-clause-refused g c = λ t.

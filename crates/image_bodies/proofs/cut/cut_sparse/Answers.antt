@@ -31,5 +31,5 @@ returns-in-Err-clause-refused g c = λ t.
     let x = g.D.At.Source.content c.args.source in
     sparse_uncut c.in-Err.fault c.refuse.result.fault c.args.order.limit x _ _ _ _ _
     (is_so x (g.met.D.At.Source.are_bytes c.args.source told)) c.refuse.ensures (c.in-Err.ensures.refused told)
-    (λ more. omega (arith, more, c.requires.clean t, ap (λ k. k.failed) (c.let_go_source.ensures.held t)))
+    (λ more. omega (arith, more, (c.requires.fresh t).clean, ap (λ k. k.failed) (c.let_go_source.ensures.held t)))
     (c.let_go_source.ensures.world t)

@@ -1,11 +1,19 @@
 use Rattle.std.proofs.Common.{arith}
+use Rattle.image_bodies.proofs.Answered.{outside}
 use Rattle.image_bodies.proofs.Counted.{fails_raw}
 use Rattle.image_bodies.proofs.laying.write_image.Goals as goal
 
-pub returns-in-Ok-clause-clean : goal.returns-in-Ok-clause-clean
-returns-in-Ok-clause-clean g c = omega (arith, c.in-Ok.ensures.failing.clean.0, c.in-Ok.ensures.failing.clean.1)
+pub returns-in-Ok-clause-fails : goal.returns-in-Ok-clause-fails
+returns-in-Ok-clause-fails g c = record {
+  outside = λ t. tt;
+  clean = omega (arith, c.in-Ok.ensures.reads.clean, c.in-Ok.ensures.writes.clean);
+  cause = λ t. tt;
+}
 
-pub returns-in-Err-clause-cause : goal.returns-in-Err-clause-cause
-returns-in-Err-clause-cause g c = λ t.
-    fails_raw _ _ _ _ _ _ _ _ t c.requires.sized c.requires.few c.in-Err.ensures.failing.read
-    c.in-Err.ensures.failing.write c.in-Err.ensures.cause
+pub returns-in-Err-clause-fails : goal.returns-in-Err-clause-fails
+returns-in-Err-clause-fails g c = record {
+  outside = λ t. outside _ _ _ _ _ _ _ _ t c.requires.fits.sized c.requires.fits.few c.in-Err.ensures.cause;
+  clean = tt;
+  cause = λ t. fails_raw _ _ _ _ _ _ _ _ t c.requires.fits.sized c.requires.fits.few c.in-Err.ensures.reads.faults
+      c.in-Err.ensures.writes.faults c.in-Err.ensures.cause;
+}

@@ -6,7 +6,6 @@ pub returns-in-Ok-Some-clause-laid : goal.returns-in-Ok-Some-clause-laid
 returns-in-Ok-Some-clause-laid g c = λ t.
     let is : c.next_piece-answer.result ≡ Ok (Some c.in-Ok-Some.piece) = first_of (search (rules), cc) in
     let laid = rw is at (c.next_piece-answer.ensures.laid t) in
-    let next = rw is at c.next_piece-answer.ensures.piece in
-    next_laid _ _ _ _ _ c.in-Ok-Some.piece _ _ _ c.requires.between c.requires.empty (c.requires.told t).cuts
-    next.begins
-    laid
+    let next = (rw is at c.next_piece-answer.ensures.made).piece in
+    next_laid _ _ _ _ _ c.in-Ok-Some.piece _ _ _ c.requires.ready.between c.requires.empty
+    (c.requires.ready.ready.told t).cuts next.begins laid

@@ -1,12 +1,14 @@
-use Rattle.std.proofs.Common.{refl, arith}
+use Rattle.std.proofs.Common.{◌∙◌, ap, refl}
 use Rattle.image_bodies.proofs.Beside.{adds_none, adds_none_refused, adds_piece, cause_piece, clean_piece, goes_piece}
 use Rattle.image_bodies.proofs.Beside.{any_refused, none_open}
 use Rattle.abt_disk.proofs.Amongs.{goes_refused}
 use Rattle.image_bodies.proofs.pieces.put_piece.Goals as goal
 
-pub returns-in_err-image-clause-only : goal.returns-in_err-image-clause-only
-returns-in_err-image-clause-only g c = λ t.
-    goes_refused _ _ _ _ _ _ 1 refl (c.in_err-image.ensures.kept t) (c.in_err-image.ensures.only t)
+pub returns-in_err-image-clause-left : goal.returns-in_err-image-clause-left
+returns-in_err-image-clause-left g c = λ t. record {
+  only = goes_refused _ _ _ _ _ _ 1 refl (c.in_err-image.ensures.kept t) (c.in_err-image.ensures.only t);
+  closed = ap (λ k. k.output) (c.in_err-image.ensures.kept t) ∙ c.requires.one t;
+}
 
 pub returns-in_err-image-clause-keeps : goal.returns-in_err-image-clause-keeps
 returns-in_err-image-clause-keeps g c = λ t.
@@ -18,58 +20,56 @@ pub returns-in-File-clause-adds : goal.returns-in-File-clause-adds
 returns-in-File-clause-adds g c = λ t.
     let told = g.met.D.Disk.source_told t in
     adds_piece _ _ _ _ _ _ _ _ _ _ _ _ (c.in_ok-image.ensures.created t)
-    (rw (c.forget.ensures.content told) at (c.put_in_file.ensures.holds t)) (c.put_in_file.ensures.closed t)
-    (c.put_in_file.ensures.rest t)
+    (rw (c.forget.ensures.content told) at (c.put_in_file.ensures.puts t).holds) (c.put_in_file.ensures.puts t).closed
+    (c.put_in_file.ensures.puts t).rest
 
 pub returns-in-File-clause-keeps : goal.returns-in-File-clause-keeps
 returns-in-File-clause-keeps g c = λ t.
-    adds_none c.put_in_file.result _ _ _ _ _ _ _ _ _ (c.in_ok-image.ensures.created t) (c.put_in_file.ensures.closed t)
-    (c.put_in_file.ensures.rest t)
+    adds_none c.put_in_file.result _ _ _ _ _ _ _ _ _ (c.in_ok-image.ensures.created t) (c.put_in_file.ensures.puts t).closed
+    (c.put_in_file.ensures.puts t).rest
 
-pub returns-in-File-clause-only : goal.returns-in-File-clause-only
-returns-in-File-clause-only g c = λ t.
-    goes_piece _ _ _ _ _ _ _ _ _ _ (c.in_ok-image.ensures.created t) (c.put_in_file.ensures.closed t)
-    (c.put_in_file.ensures.rest t)
-
-pub returns-in-File-clause-closed : goal.returns-in-File-clause-closed
-returns-in-File-clause-closed g c = λ t. none_open _ _ _ _ _ (c.put_in_file.ensures.closed t)
+pub returns-in-File-clause-left : goal.returns-in-File-clause-left
+returns-in-File-clause-left g c = λ t. record {
+  only = goes_piece _ _ _ _ _ _ _ _ _ _ (c.in_ok-image.ensures.created t) (c.put_in_file.ensures.puts t).closed
+      (c.put_in_file.ensures.puts t).rest;
+  closed = none_open _ _ _ _ _ (c.put_in_file.ensures.puts t).closed;
+}
 
 pub returns-in-File-clause-clean : goal.returns-in-File-clause-clean
 returns-in-File-clause-clean g c = λ t.
     clean_piece _ _ _ _ _ _ _ _ _ (c.in_ok-image.ensures.created t)
-    (rw c.forget.ensures.faults at (c.put_in_file.ensures.closed t))
+    (rw c.forget.ensures.faults at (c.put_in_file.ensures.puts t).closed)
 
 pub returns-in-File-clause-cause : goal.returns-in-File-clause-cause
 returns-in-File-clause-cause g c = λ t.
     cause_piece _ _ _ _ _ _ _ _ _ (c.in_ok-image.ensures.created t)
-    (rw c.forget.ensures.faults at (c.put_in_file.ensures.closed t))
+    (rw c.forget.ensures.faults at (c.put_in_file.ensures.puts t).closed)
 
 pub returns-in-Stream-clause-adds : goal.returns-in-Stream-clause-adds
 returns-in-Stream-clause-adds g c = λ t.
     let told = g.met.D.Disk.source_told t in
     adds_piece _ _ _ _ _ _ _ _ _ _ _ _ (c.in_ok-image.ensures.created t)
-    (rw (c.forget.ensures.content told) at (c.put_in_stream.ensures.holds t)) (c.put_in_stream.ensures.closed t)
-    (c.put_in_stream.ensures.rest t)
+    (rw (c.forget.ensures.content told) at (c.put_in_stream.ensures.puts t).holds) (c.put_in_stream.ensures.puts t).closed
+    (c.put_in_stream.ensures.puts t).rest
 
 pub returns-in-Stream-clause-keeps : goal.returns-in-Stream-clause-keeps
 returns-in-Stream-clause-keeps g c = λ t.
     adds_none c.put_in_stream.result _ _ _ _ _ _ _ _ _ (c.in_ok-image.ensures.created t)
-    (c.put_in_stream.ensures.closed t) (c.put_in_stream.ensures.rest t)
+    (c.put_in_stream.ensures.puts t).closed (c.put_in_stream.ensures.puts t).rest
 
-pub returns-in-Stream-clause-only : goal.returns-in-Stream-clause-only
-returns-in-Stream-clause-only g c = λ t.
-    goes_piece _ _ _ _ _ _ _ _ _ _ (c.in_ok-image.ensures.created t) (c.put_in_stream.ensures.closed t)
-    (c.put_in_stream.ensures.rest t)
-
-pub returns-in-Stream-clause-closed : goal.returns-in-Stream-clause-closed
-returns-in-Stream-clause-closed g c = λ t. none_open _ _ _ _ _ (c.put_in_stream.ensures.closed t)
+pub returns-in-Stream-clause-left : goal.returns-in-Stream-clause-left
+returns-in-Stream-clause-left g c = λ t. record {
+  only = goes_piece _ _ _ _ _ _ _ _ _ _ (c.in_ok-image.ensures.created t) (c.put_in_stream.ensures.puts t).closed
+      (c.put_in_stream.ensures.puts t).rest;
+  closed = none_open _ _ _ _ _ (c.put_in_stream.ensures.puts t).closed;
+}
 
 pub returns-in-Stream-clause-clean : goal.returns-in-Stream-clause-clean
 returns-in-Stream-clause-clean g c = λ t.
     clean_piece _ _ _ _ _ _ _ _ _ (c.in_ok-image.ensures.created t)
-    (rw c.forget.ensures.faults at (c.put_in_stream.ensures.closed t))
+    (rw c.forget.ensures.faults at (c.put_in_stream.ensures.puts t).closed)
 
 pub returns-in-Stream-clause-cause : goal.returns-in-Stream-clause-cause
 returns-in-Stream-clause-cause g c = λ t.
     cause_piece _ _ _ _ _ _ _ _ _ (c.in_ok-image.ensures.created t)
-    (rw c.forget.ensures.faults at (c.put_in_stream.ensures.closed t))
+    (rw c.forget.ensures.faults at (c.put_in_stream.ensures.puts t).closed)

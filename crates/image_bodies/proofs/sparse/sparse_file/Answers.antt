@@ -1,25 +1,29 @@
-use Rattle.std.proofs.Common.{◌∙◌, inl, inr}
+use Rattle.std.proofs.Common.{◌∙◌, ap, inr, rules}
+use Rattle.abt_disk.specs.World.{untouched}
 use Rattle.abt_refusals.specs.Paths.{path_of, path_out}
 use Rattle.abt_disk.proofs.Worlds.{only_written, only_behind, kept_behind, synced_behind}
-use Rattle.image_bodies.proofs.Files.{none_open, part_same, part_emptied, part_left, part_whole, no_blocks, refuses}
-use Rattle.image_bodies.proofs.Files.{refuses_host, sparsifies}
-use Rattle.image_bodies.specs.Sparsing.{unprinted}
-use Rattle.image_bodies.proofs.Counted.{clean_behind, failed_behind, failed_next, failed_once}
+use Rattle.image_bodies.proofs.Files.{left_unbegun, left_whole, none_open, part_same, part_emptied, part_left}
+use Rattle.image_bodies.proofs.Files.{no_blocks, refuses, refuses_host, sparsifies}
+use Rattle.abt_output.specs.Shows.{unprinted}
+use Rattle.image_bodies.proofs.Counted.{clean_behind, failed_behind}
 use Rattle.image_bodies.proofs.sparse.sparse_file.Goals as goal
 
 -- IN cannot be opened
 
-pub returns-in_err-source-clause-whole : goal.returns-in_err-source-clause-whole
-returns-in_err-source-clause-whole g c = λ t o. part_same _ _ _ _ _ (c.in_err-source.ensures.world t)
+pub returns-in_err-source-clause-left : goal.returns-in_err-source-clause-left
+returns-in_err-source-clause-left g c = λ t. record {
+  synced = search rules;
+  others = untouched (c.in_err-source.ensures.world t);
+  closed = ap (λ k. k.output) (c.in_err-source.ensures.kept t) ∙ (c.requires.first t).output;
+  whole = λ o. part_same _ _ _ _ _ (c.in_err-source.ensures.world t);
+}
 
 -- it has no such blocks
 
-pub returns-in-Err-clause-whole : goal.returns-in-Err-clause-whole
-returns-in-Err-clause-whole g c = λ t o. part_same _ _ _ _ _ (c.in_ok-source.ensures.world t)
-
-pub returns-in-Err-clause-closed : goal.returns-in-Err-clause-closed
-returns-in-Err-clause-closed g c = λ t. none_open _ _ _ _ _ (c.in_ok-source.ensures.opened t) (c.requires.first
-    t).output
+pub returns-in-Err-clause-left : goal.returns-in-Err-clause-left
+returns-in-Err-clause-left g c = λ t.
+    left_unbegun _ _ _ _ _ _ _ _ _ (none_open _ _ _ _ _ (c.in_ok-source.ensures.opened t) (c.requires.first t).output)
+    (c.in_ok-source.ensures.world t)
 
 pub returns-in-Err-clause-refused : goal.returns-in-Err-clause-refused
 returns-in-Err-clause-refused g c = λ t.
@@ -30,64 +34,64 @@ returns-in-Err-clause-refused g c = λ t.
 
 -- OUT cannot be opened
 
-pub returns-in_err-image-clause-others : goal.returns-in_err-image-clause-others
-returns-in_err-image-clause-others g c = λ t.
-    only_behind _ _ _ _ _ _ _ _ (c.in_ok-source.ensures.opened t) (c.in_ok-source.ensures.world t)
-    (c.in_err-image.ensures.only t)
+pub returns-in_err-image-clause-left : goal.returns-in_err-image-clause-left
+returns-in_err-image-clause-left g c = λ t. record {
+  synced = search rules;
+  others = only_behind _ _ _ _ _ _ _ _ (c.in_ok-source.ensures.opened t) (c.in_ok-source.ensures.world t)
+      (c.in_err-image.ensures.only t);
+  closed = ap (λ k. k.output) (c.in_err-image.ensures.kept t) ∙ none_open _ _ _ _ _ (c.in_ok-source.ensures.opened t)
+      (c.requires.first t).output;
+  whole = λ o. part_emptied (path_of c.args.input) (path_out c.args.output) _ (g.D.Disk.world c.args.disk.now)
+      (g.D.Disk.world c.source.new.self) (g.D.Disk.world c.image.new.self) (c.in_ok-source.ensures.world t)
+      (c.in_err-image.ensures.empties t);
+}
 
 pub returns-in_err-image-clause-input : goal.returns-in_err-image-clause-input
 returns-in_err-image-clause-input g c = λ t.
     kept_behind _ _ _ _ _ _ _ _ (c.in_ok-source.ensures.opened t) (c.in_ok-source.ensures.world t)
     (c.in_err-image.ensures.only t)
 
-pub returns-in_err-image-clause-whole : goal.returns-in_err-image-clause-whole
-returns-in_err-image-clause-whole g c = λ t o.
-    part_emptied (path_of c.args.input) (path_out c.args.output) _ (g.D.Disk.world c.args.disk.now)
-    (g.D.Disk.world c.source.new.self) (g.D.Disk.world c.image.new.self) (c.in_ok-source.ensures.world t)
-    (c.in_err-image.ensures.empties t)
-
 -- the image cannot be written
 
-pub returns-in-Err-write_whole-clause-others : goal.returns-in-Err-write_whole-clause-others
-returns-in-Err-write_whole-clause-others g c = λ t.
-    only_behind _ _ _ _ _ _ _ _ (c.in_ok-source.ensures.opened t) (c.in_ok-source.ensures.world t)
-    (only_written _ _ _ _ _ _ (c.in_ok-image.ensures.created t) (c.in-Err-write_whole.ensures.rest t))
+pub returns-in-Err-write_whole-clause-left : goal.returns-in-Err-write_whole-clause-left
+returns-in-Err-write_whole-clause-left g c = λ t.
+    let made = c.in_ok-image.ensures.created t in
+    record {
+      synced = tt;
+      others = only_behind _ _ _ _ _ _ _ _ (c.in_ok-source.ensures.opened t) (c.in_ok-source.ensures.world t)
+          (only_written _ _ _ _ _ _ made (c.in-Err-write_whole.ensures.writes t).rest);
+      closed = ap (λ k. k.output) (c.in-Err-write_whole.ensures.writes t).closed.closed;
+      whole = λ o. part_left _ _ _ _ _ _ _ _ _ _ _ _ c.in-Ok.ensures.size (c.in_ok-source.ensures.opened t) made
+          (c.in-Err-write_whole.ensures.writes t).rest
+          (c.in-Err-write_whole.ensures.broken t (c.in_ok-image.ensures.kind t ∙ o));
+    }
 
 pub returns-in-Err-write_whole-clause-input : goal.returns-in-Err-write_whole-clause-input
 returns-in-Err-write_whole-clause-input g c = λ t.
     kept_behind _ _ _ _ _ _ _ _ (c.in_ok-source.ensures.opened t) (c.in_ok-source.ensures.world t)
-    (only_written _ _ _ _ _ _ (c.in_ok-image.ensures.created t) (c.in-Err-write_whole.ensures.rest t))
-
-pub returns-in-Err-write_whole-clause-whole : goal.returns-in-Err-write_whole-clause-whole
-returns-in-Err-write_whole-clause-whole g c = λ t o.
-    part_left _ _ _ _ _ _ _ _ _ _ _ _ c.in-Ok.ensures.size (c.in_ok-source.ensures.opened t)
-    (c.in_ok-image.ensures.created t)
-    (c.in-Err-write_whole.ensures.rest t) (c.in-Err-write_whole.ensures.broken t (c.in_ok-image.ensures.kind t ∙ o))
+    (only_written _ _ _ _ _ _ (c.in_ok-image.ensures.created t) (c.in-Err-write_whole.ensures.writes t).rest)
 
 pub returns-in-Err-write_whole-clause-refused : goal.returns-in-Err-write_whole-clause-refused
 returns-in-Err-write_whole-clause-refused g c = λ t.
     refuses _ _ _ _ (g.D.Disk.held c.args.disk.now) (g.D.Disk.held c.write_whole.new.disk) _ _
-    (c.in-Err-write_whole.ensures.outside t)
+    (c.in-Err-write_whole.ensures.writes t).outside
     (failed_behind _ _ _ _ _ _ _ _ _ _ (c.in_ok-source.ensures.opened t) (c.in_ok-image.ensures.created t)
-    (c.in-Err-write_whole.ensures.closed t))
+    (c.in-Err-write_whole.ensures.writes t).closed)
 
 -- nothing can be printed
 
-pub returns-in-Err-printed-clause-others : goal.returns-in-Err-printed-clause-others
-returns-in-Err-printed-clause-others g c = λ t.
-    only_behind _ _ _ _ _ _ _ _ (c.in_ok-source.ensures.opened t) (c.in_ok-source.ensures.world t)
-    (only_written _ _ _ _ _ _ (c.in_ok-image.ensures.created t) (c.in-Ok-write_whole.ensures.rest t))
+pub returns-in-Err-printed-clause-left : goal.returns-in-Err-printed-clause-left
+returns-in-Err-printed-clause-left g c = λ t.
+    let made = c.in_ok-image.ensures.created t in
+    left_whole _ _ _ _ _ _ c.in-Ok-write_whole.end.0 _ _ _ _ _ _ _ _ _ c.in-Ok.ensures.size
+    (c.in_ok-source.ensures.opened t) (c.in_ok-source.ensures.world t) made (c.in-Ok-write_whole.ensures.writes t).holds
+    (c.in-Ok-write_whole.ensures.writes t).rest (c.in-Ok-write_whole.ensures.writes t).closed
+    tt
 
 pub returns-in-Err-printed-clause-input : goal.returns-in-Err-printed-clause-input
 returns-in-Err-printed-clause-input g c = λ t.
     kept_behind _ _ _ _ _ _ _ _ (c.in_ok-source.ensures.opened t) (c.in_ok-source.ensures.world t)
-    (only_written _ _ _ _ _ _ (c.in_ok-image.ensures.created t) (c.in-Ok-write_whole.ensures.rest t))
-
-pub returns-in-Err-printed-clause-whole : goal.returns-in-Err-printed-clause-whole
-returns-in-Err-printed-clause-whole g c = λ t o.
-    part_whole _ _ _ _ _ c.in-Ok-write_whole.end.0 _ _ _ _ _ _ _ c.in-Ok.ensures.size (c.in_ok-source.ensures.opened t)
-    (c.in_ok-image.ensures.created t)
-    (c.in-Ok-write_whole.ensures.holds t)
+    (only_written _ _ _ _ _ _ (c.in_ok-image.ensures.created t) (c.in-Ok-write_whole.ensures.writes t).rest)
 
 pub returns-in-Err-printed-clause-refused : goal.returns-in-Err-printed-clause-refused
 returns-in-Err-printed-clause-refused g c = λ t.
@@ -96,38 +100,31 @@ returns-in-Err-printed-clause-refused g c = λ t.
     (inr (sparsifies _ _ _ _ _ c.in-Ok-write_whole.end.0 _ _ _ _ _ _ _ unprinted c.in-Ok.ensures.size
     c.in-Ok.ensures.granted
     (c.in_ok-source.ensures.opened t) (c.in_ok-source.ensures.world t) (c.in_ok-image.ensures.created t)
-    (c.in-Ok-write_whole.ensures.holds t) tt))
+    (c.in-Ok-write_whole.ensures.writes t).holds tt))
 
 -- all is done
 
-pub returns-in-Ok-printed-clause-others : goal.returns-in-Ok-printed-clause-others
-returns-in-Ok-printed-clause-others g c = λ t.
-    only_behind _ _ _ _ _ _ _ _ (c.in_ok-source.ensures.opened t) (c.in_ok-source.ensures.world t)
-    (only_written _ _ _ _ _ _ (c.in_ok-image.ensures.created t) (c.in-Ok-write_whole.ensures.rest t))
+pub returns-in-Ok-printed-clause-left : goal.returns-in-Ok-printed-clause-left
+returns-in-Ok-printed-clause-left g c = λ t.
+    let made = c.in_ok-image.ensures.created t in
+    left_whole _ _ _ _ _ _ c.in-Ok-write_whole.end.0 _ _ _ _ _ _ _ _ _ c.in-Ok.ensures.size
+    (c.in_ok-source.ensures.opened t) (c.in_ok-source.ensures.world t) made (c.in-Ok-write_whole.ensures.writes t).holds
+    (c.in-Ok-write_whole.ensures.writes t).rest (c.in-Ok-write_whole.ensures.writes t).closed
+    (synced_behind _ _ _ _ _ _ _ _ _ _ (c.in_ok-source.ensures.opened t) made
+    (c.in-Ok-write_whole.ensures.writes t).closed.failures (c.in-Ok-write_whole.ensures.writes t).closed.closed)
 
 pub returns-in-Ok-printed-clause-input : goal.returns-in-Ok-printed-clause-input
 returns-in-Ok-printed-clause-input g c = λ t.
     kept_behind _ _ _ _ _ _ _ _ (c.in_ok-source.ensures.opened t) (c.in_ok-source.ensures.world t)
-    (only_written _ _ _ _ _ _ (c.in_ok-image.ensures.created t) (c.in-Ok-write_whole.ensures.rest t))
-
-pub returns-in-Ok-printed-clause-whole : goal.returns-in-Ok-printed-clause-whole
-returns-in-Ok-printed-clause-whole g c = λ t o.
-    part_whole _ _ _ _ _ c.in-Ok-write_whole.end.0 _ _ _ _ _ _ _ c.in-Ok.ensures.size (c.in_ok-source.ensures.opened t)
-    (c.in_ok-image.ensures.created t)
-    (c.in-Ok-write_whole.ensures.holds t)
-
-pub returns-in-Ok-printed-clause-synced : goal.returns-in-Ok-printed-clause-synced
-returns-in-Ok-printed-clause-synced g c = λ t.
-    synced_behind _ _ _ _ _ _ _ _ _ _ (c.in_ok-source.ensures.opened t) (c.in_ok-image.ensures.created t)
-    (c.in-Ok-write_whole.ensures.closed t).failures (c.in-Ok-write_whole.ensures.closed t).closed
+    (only_written _ _ _ _ _ _ (c.in_ok-image.ensures.created t) (c.in-Ok-write_whole.ensures.writes t).rest)
 
 pub returns-in-Ok-printed-clause-clean : goal.returns-in-Ok-printed-clause-clean
 returns-in-Ok-printed-clause-clean g c = λ t.
     clean_behind _ _ _ _ _ _ _ _ _ _ (c.in_ok-source.ensures.opened t) (c.in_ok-image.ensures.created t)
-    (c.in-Ok-write_whole.ensures.closed t)
+    (c.in-Ok-write_whole.ensures.writes t).closed
 
 pub returns-in-Ok-printed-clause-done : goal.returns-in-Ok-printed-clause-done
 returns-in-Ok-printed-clause-done g c = λ t.
     sparsifies _ _ _ _ _ c.in-Ok-write_whole.end.0 _ _ _ _ _ _ _ _ c.in-Ok.ensures.size c.in-Ok.ensures.granted
     (c.in_ok-source.ensures.opened t) (c.in_ok-source.ensures.world t) (c.in_ok-image.ensures.created t)
-    (c.in-Ok-write_whole.ensures.holds t) c.in-Ok-printed.ensures
+    (c.in-Ok-write_whole.ensures.writes t).holds c.in-Ok-printed.ensures

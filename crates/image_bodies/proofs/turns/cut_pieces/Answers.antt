@@ -1,36 +1,41 @@
 use Rattle.std.proofs.Common.{◌≡◌, ◌+◌, None, sym, subst}
 use Rattle.image_bodies.specs.Cutting.{IsPiecePath, piece_path, untold}
-use Rattle.image_bodies.proofs.Wholes.{cuts_between, goes_between, stops_between, stops_host}
+use Rattle.image_bodies.proofs.Wholes.{cuts_between, left_between, left_failed, stops_between, stops_host}
 use Rattle.image_bodies.proofs.turns.cut_pieces.Goals as goal
 
 pub returns-in-Err-clause-refused : goal.returns-in-Err-clause-refused
 returns-in-Err-clause-refused g c = λ t.
-    stops_host _ c.in-Err.refusal.fault c.args.prefix.now _ _ _ _ _ (c.requires.one t)
+    stops_host _ c.in-Err.refusal.fault c.args.prefix.now _ _ _ _ _ (c.requires.fresh t).one
     (c.refuse_image_as_piece.ensures.fails t) (c.refuse_image_as_piece.ensures.world t) c.into.ensures
     (c.in-Err.ensures.refused t)
 
-pub returns-in-Err-answer-clause-only : goal.returns-in-Err-answer-clause-only
-returns-in-Err-answer-clause-only g c = λ t.
-    goes_between (IsPiecePath c.args.prefix.now) _ _ _ _ _ _ _ _ _ (c.in-Ok.ensures.held t)
-    (c.refuse_image_as_piece.ensures.world t) (c.write_pieces-source.ensures.only t) (c.let_go_source.ensures.held t)
+pub returns-in-Err-clause-left : goal.returns-in-Err-clause-left
+returns-in-Err-clause-left g c = λ t.
+    left_failed _ _ _ _ _ (c.requires.fresh t).one (c.refuse_image_as_piece.ensures.fails t)
+    (c.refuse_image_as_piece.ensures.world t)
+
+pub returns-in-Err-answer-clause-left : goal.returns-in-Err-answer-clause-left
+returns-in-Err-answer-clause-left g c = λ t.
+    left_between (IsPiecePath c.args.prefix.now) _ _ _ _ _ _ _ _ _ (c.in-Ok.ensures.held t)
+    (c.refuse_image_as_piece.ensures.world t) (c.write_pieces-source.ensures.left t) (c.let_go_source.ensures.held t)
     (c.let_go_source.ensures.world t)
 
-pub returns-in-Ok-tell_all-clause-only : goal.returns-in-Ok-tell_all-clause-only
-returns-in-Ok-tell_all-clause-only g c = λ t.
-    goes_between (IsPiecePath c.args.prefix.now) _ _ _ _ _ _ _ _ _ (c.in-Ok.ensures.held t)
-    (c.refuse_image_as_piece.ensures.world t) (c.write_pieces-source.ensures.only t) (c.let_go_source.ensures.held t)
+pub returns-in-Ok-tell_all-clause-left : goal.returns-in-Ok-tell_all-clause-left
+returns-in-Ok-tell_all-clause-left g c = λ t.
+    left_between (IsPiecePath c.args.prefix.now) _ _ _ _ _ _ _ _ _ (c.in-Ok.ensures.held t)
+    (c.refuse_image_as_piece.ensures.world t) (c.write_pieces-source.ensures.left t) (c.let_go_source.ensures.held t)
     (c.let_go_source.ensures.world t)
 
-pub returns-in-Err-tell_all-clause-only : goal.returns-in-Err-tell_all-clause-only
-returns-in-Err-tell_all-clause-only g c = λ t.
-    goes_between (IsPiecePath c.args.prefix.now) _ _ _ _ _ _ _ _ _ (c.in-Ok.ensures.held t)
-    (c.refuse_image_as_piece.ensures.world t) (c.write_pieces-source.ensures.only t) (c.let_go_source.ensures.held t)
+pub returns-in-Err-tell_all-clause-left : goal.returns-in-Err-tell_all-clause-left
+returns-in-Err-tell_all-clause-left g c = λ t.
+    left_between (IsPiecePath c.args.prefix.now) _ _ _ _ _ _ _ _ _ (c.in-Ok.ensures.held t)
+    (c.refuse_image_as_piece.ensures.world t) (c.write_pieces-source.ensures.left t) (c.let_go_source.ensures.held t)
     (c.let_go_source.ensures.world t)
 
 pub returns-in-Err-answer-clause-refused : goal.returns-in-Err-answer-clause-refused
 returns-in-Err-answer-clause-refused g c = λ t.
     stops_between c.in-Err-answer.refusal.fault c.args.prefix.now _ _ _ _ _ _ _ _ _ _ _ (c.in-Ok.ensures.held t)
-    (c.refuse_image_as_piece.ensures.world t) (c.requires.clean t)
+    (c.refuse_image_as_piece.ensures.world t) (c.requires.fresh t).clean
     (rw c.in-Err-answer.is at (c.write_pieces-source.ensures.refused t)) (c.let_go_source.ensures.held t)
     (c.let_go_source.ensures.world t)
 

@@ -5,7 +5,7 @@ use Rattle.abt_refusals.specs.Paths.{path_out}
 use Rattle.abt_sparse.specs.Pieces.{pieces}
 use Rattle.image_bodies.specs.Cutting.{CutsSoFar, piece_path, failed, untold}
 use Rattle.image_bodies.proofs.Nexts.{not_done}
-use Rattle.image_bodies.proofs.Cuts.{all_made, countable, cuts_more, cuts_none, cuts_only, cuts_stop, left_less, now_done}
+use Rattle.image_bodies.proofs.Cuts.{all_made, countable, cuts_more, cuts_none, cuts_left, cuts_stop, left_less, now_done}
 use Rattle.image_bodies.proofs.Cuts.{piece_place, stands_more, still_between}
 use Rattle.image_bodies.proofs.turns.write_pieces.Goals as goal
 
@@ -14,13 +14,13 @@ pieces-init g c = record {
   runs = refl;
   limit = refl;
   kept = λ t. refl;
-  told = λ t. c.requires.told t;
+  told = λ t. c.requires.ready.ready.told t;
   stands = record {
-    where_is = inl c.requires.between;
+    where_is = inl c.requires.ready.between;
     inside = g.met.B.BlockRuns.bounded c.args.pieces.cutter.runs c.args.pieces.cutter.start
         c.args.pieces.cutter.sound.within;
     going = λ between. inl c.requires.first;
-    some = λ done. absurd (not_done _ c.requires.between done);
+    some = λ done. absurd (not_done _ c.requires.ready.between done);
   };
   counted = c.new-files.ensures.none ∙ sym c.requires.first;
   named = c.new-files.ensures.begins;
@@ -42,43 +42,41 @@ pieces-preserved g c =
     let left : cutter.made ≤ cutter.start.block = cutter.sound.left (ap has_more is) in
     let few = countable n cutter.made cutter.start.block cutter.stage i.stands is left (omega arith) in
     let one = c.next-place.ensures.counted (omega (arith, few, i.counted)) in
-    let p = rw i.runs at o.piece in
+    let p = rw i.runs at o.cuts.is_next in
     let behind : c.next-place.new.self.count ≡ cutter.made + 1 = omega (arith, one, i.counted) in
     let path : path_out c.next-place.result ≡ piece_path c.args.prefix.now (cutter.made + 1)
     = piece_place c.next-place.result c.args.prefix.now (cutter.made + 1) c.next-place.ensures.folder
     (c.next-place.ensures.number ∙ ap Some behind) (ap (λ s. s.now) c.next-place.ensures.name ∙ i.named) in
     record {
-      runs = c.put_piece-answer.ensures.cutter.same_image ∙ i.runs;
-      limit = c.put_piece-answer.ensures.cutter.same_limit ∙ i.limit;
-      kept = λ t. c.put_piece-answer.ensures.content t ∙ i.kept t;
-      told = λ t. rw (i.runs, i.kept t) at (c.put_piece-answer.ensures.told t);
+      runs = c.put_piece-answer.ensures.cuts.cutter.same_image ∙ i.runs;
+      limit = c.put_piece-answer.ensures.cuts.cutter.same_limit ∙ i.limit;
+      kept = λ t. c.put_piece-answer.ensures.cuts.content t ∙ i.kept t;
+      told = λ t. rw (i.runs, i.kept t) at (c.put_piece-answer.ensures.cuts.told t);
       stands = stands_more n cutter.made _ _ _ _ _ p.passed p.one_more (sym p.ends);
       counted = omega (arith, one, i.counted, p.one_more);
       named = ap (λ s. s.now) c.next-place.ensures.begins ∙ i.named;
       cuts = λ t. rw (sym p.one_more) at
           (cuts_more c.args.prefix.now _ cutter.made _ _ _ _ _ _ _ path (i.cuts t)
-          (rw (i.runs, i.limit, i.kept (g.met.D.Disk.source_told t)) at (o.adds t)) (c.put_piece-answer.ensures.only
-          t));
+          (rw (i.runs, i.limit, i.kept (g.met.D.Disk.source_told t)) at (o.adds t))
+          (c.put_piece-answer.ensures.left t).only);
       fails = λ t. o.clean t ∙ i.fails t;
     }
-
-pub put_piece-answer-requires-clause-between : goal.put_piece-answer-requires-clause-between
-put_piece-answer-requires-clause-between g c =
-    still_between _ c.pieces.invariant.stands.where_is (sym c.more.ensures ∙ c.if-not-more.false)
 
 pub put_piece-answer-requires-clause-one : goal.put_piece-answer-requires-clause-one
 put_piece-answer-requires-clause-one g c = λ t. (c.pieces.invariant.cuts t).closed
 
-pub put_piece-answer-requires-clause-opened : goal.put_piece-answer-requires-clause-opened
-put_piece-answer-requires-clause-opened g c = λ t.
+pub put_piece-answer-requires-clause-ready : goal.put_piece-answer-requires-clause-ready
+put_piece-answer-requires-clause-ready g c =
     let i = c.pieces.invariant in
-    subst (λ r. g.B.BlockRuns.opened r (g.D.At.Source.content c.pieces.source)) (sym i.runs)
-    (subst (λ x. g.B.BlockRuns.opened c.args.pieces.cutter.runs x) (sym (i.kept t)) (c.requires.opened t))
-
-pub put_piece-answer-requires-clause-told : goal.put_piece-answer-requires-clause-told
-put_piece-answer-requires-clause-told g c = λ t.
-    let i = c.pieces.invariant in
-    rw (sym i.runs, sym (i.kept t)) at (i.told t)
+    record {
+      between = still_between _ i.stands.where_is (sym c.more.ensures ∙ c.if-not-more.false);
+      ready = record {
+        opened = λ t. subst (λ r. g.B.BlockRuns.opened r (g.D.At.Source.content c.pieces.source)) (sym i.runs)
+            (subst (λ x. g.B.BlockRuns.opened c.args.pieces.cutter.runs x) (sym (i.kept t))
+            (c.requires.ready.ready.opened t));
+        told = λ t. rw (sym i.runs, sym (i.kept t)) at (i.told t);
+      };
+    }
 
 -- where all are cut
 
@@ -99,16 +97,13 @@ returns-then-not-more-clause-some g c =
     let done = now_done _ i.stands.where_is (sym c.more.ensures ∙ c.if-not-more.true) in
     omega (arith, i.counted, i.stands.some done)
 
-pub returns-then-not-more-clause-only : goal.returns-then-not-more-clause-only
-returns-then-not-more-clause-only g c = λ t. cuts_only _ _ _ _ _ _ _ _ (c.pieces.invariant.cuts t)
-
-pub returns-then-not-more-clause-closed : goal.returns-then-not-more-clause-closed
-returns-then-not-more-clause-closed g c = λ t. (c.pieces.invariant.cuts t).closed
+pub returns-then-not-more-clause-left : goal.returns-then-not-more-clause-left
+returns-then-not-more-clause-left g c = λ t. cuts_left _ _ _ _ _ _ _ _ (c.pieces.invariant.cuts t)
 
 -- a piece could not be written
 
-pub returns-in-Err-clause-only : goal.returns-in-Err-clause-only
-returns-in-Err-clause-only g c = λ t.
+pub returns-in-Err-clause-left : goal.returns-in-Err-clause-left
+returns-in-Err-clause-left g c = λ t.
     let i = c.pieces.invariant in
     let cutter = c.pieces.pieces.cutter in
     let is : cutter.stage ≡ Between = still_between _ i.stands.where_is (sym c.more.ensures ∙ c.if-not-more.false) in
@@ -120,9 +115,9 @@ returns-in-Err-clause-only g c = λ t.
     let path : path_out c.next-place.result ≡ piece_path c.args.prefix.now (cutter.made + 1)
     = piece_place c.next-place.result c.args.prefix.now (cutter.made + 1) c.next-place.ensures.folder
     (c.next-place.ensures.number ∙ ap Some behind) (ap (λ s. s.now) c.next-place.ensures.name ∙ i.named) in
-    cuts_only _ _ _ _ _ _ _ _
+    cuts_left _ _ _ _ _ _ _ _
     (cuts_stop c.args.prefix.now _ cutter.made _ _ _ _ _ _ _ path (i.cuts t) (c.in-Err.ensures.keeps t)
-    (c.in-Err.ensures.only t))
+    (c.in-Err.ensures.left t).only)
 
 pub returns-in-Err-clause-refused : goal.returns-in-Err-clause-refused
 returns-in-Err-clause-refused g c = λ t.
@@ -139,12 +134,12 @@ returns-in-Err-clause-refused g c = λ t.
     (c.next-place.ensures.number ∙ ap Some behind) (ap (λ s. s.now) c.next-place.ensures.name ∙ i.named) in
     failed (c.in-Err.ensures.outside t) (omega (arith, i.fails t, c.in-Err.ensures.cause t)) cutter.made
     (cuts_stop c.args.prefix.now _ cutter.made _ _ _ _ _ _ _ path (i.cuts t) (c.in-Err.ensures.keeps t)
-    (c.in-Err.ensures.only t))
+    (c.in-Err.ensures.left t).only)
 
 -- its line could not be printed
 
-pub returns-in-Err-print_piece-clause-only : goal.returns-in-Err-print_piece-clause-only
-returns-in-Err-print_piece-clause-only g c = λ t.
+pub returns-in-Err-print_piece-clause-left : goal.returns-in-Err-print_piece-clause-left
+returns-in-Err-print_piece-clause-left g c = λ t.
     let i = c.pieces.invariant in
     let cutter = c.pieces.pieces.cutter in
     let is : cutter.stage ≡ Between = still_between _ i.stands.where_is (sym c.more.ensures ∙ c.if-not-more.false) in
@@ -156,10 +151,10 @@ returns-in-Err-print_piece-clause-only g c = λ t.
     let path : path_out c.next-place.result ≡ piece_path c.args.prefix.now (cutter.made + 1)
     = piece_place c.next-place.result c.args.prefix.now (cutter.made + 1) c.next-place.ensures.folder
     (c.next-place.ensures.number ∙ ap Some behind) (ap (λ s. s.now) c.next-place.ensures.name ∙ i.named) in
-    cuts_only _ _ _ _ _ _ _ _
+    cuts_left _ _ _ _ _ _ _ _
     (cuts_more c.args.prefix.now _ cutter.made _ _ _ _ _ _ _ path (i.cuts t)
     (rw (i.runs, i.limit, i.kept (g.met.D.Disk.source_told t)) at (c.in-Ok.ensures.adds t))
-    (c.put_piece-answer.ensures.only t))
+    (c.put_piece-answer.ensures.left t).only)
 
 pub returns-in-Err-print_piece-clause-refused : goal.returns-in-Err-print_piece-clause-refused
 returns-in-Err-print_piece-clause-refused g c = λ t.
@@ -177,4 +172,4 @@ returns-in-Err-print_piece-clause-refused g c = λ t.
     untold c.in-Err-print_piece.refusal.fault c.into.ensures (cutter.made + 1) (omega arith) (cuts_more
     c.args.prefix.now _ cutter.made _ _ _ _ _ _ _ path (i.cuts t)
     (rw (i.runs, i.limit, i.kept (g.met.D.Disk.source_told t)) at (c.in-Ok.ensures.adds t))
-    (c.put_piece-answer.ensures.only t))
+    (c.put_piece-answer.ensures.left t).only)

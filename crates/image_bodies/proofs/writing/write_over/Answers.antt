@@ -1,6 +1,6 @@
-use Rattle.std.proofs.Common.{arith}
+use Rattle.std.proofs.Common.{arith, rules}
 use Rattle.image_bodies.proofs.Answered.{left_whole, left_broken}
-use Rattle.image_bodies.proofs.Counted.{closes_done, closes_given_up, closes_undone}
+use Rattle.image_bodies.proofs.Counted.{closes_given_up, closes_undone}
 use Rattle.image_bodies.proofs.writing.write_over.Goals as goal
 
 pub returns-in-Err-finish_image-clause-broken : goal.returns-in-Err-finish_image-clause-broken
@@ -9,9 +9,14 @@ returns-in-Err-finish_image-clause-broken g c = λ t.
     (left_whole _ c.args.blocks.size (g.D.At.Source.content c.args.source) _ _ _ (c.in-Ok.ensures.written
     (g.met.D.Disk.source_told t)) (c.in-Err-finish_image.ensures.left t))
 
-pub returns-in-Err-finish_image-clause-closed : goal.returns-in-Err-finish_image-clause-closed
-returns-in-Err-finish_image-clause-closed g c = λ t.
-    closes_undone _ _ _ _ _ (c.let_go_source.ensures.held t) (c.in-Err-finish_image.ensures.closed t) (omega arith)
+pub returns-in-Err-finish_image-clause-writes : goal.returns-in-Err-finish_image-clause-writes
+returns-in-Err-finish_image-clause-writes g c = λ t. record {
+  holds = tt;
+  closed = closes_undone _ _ _ _ _ (c.let_go_source.ensures.held t) (c.in-Err-finish_image.ensures.closed t)
+      (omega arith);
+  rest = rw (c.let_go_source.ensures.held t, c.let_go_source.ensures.world t) at (c.in-Err-finish_image.ensures.rest t);
+  outside = search rules;
+}
 
 pub returns-in-Err-clause-broken : goal.returns-in-Err-clause-broken
 returns-in-Err-clause-broken g c = λ t.
@@ -19,7 +24,14 @@ returns-in-Err-clause-broken g c = λ t.
     (left_broken _ c.args.blocks.size (g.D.At.Source.content c.args.source) _ _ c.in-Err.ensures.broken
     (c.stopped.ensures.left t))
 
-pub returns-in-Err-clause-closed : goal.returns-in-Err-clause-closed
-returns-in-Err-clause-closed g c = λ t.
-    closes_given_up _ _ _ _ _ (c.let_go_source.ensures.held t) (c.stopped.ensures.closed t)
-    (omega (arith, c.in-Err.ensures.cause (g.met.D.Disk.source_told t), c.requires.read t, c.requires.clean t))
+pub returns-in-Err-clause-writes : goal.returns-in-Err-clause-writes
+returns-in-Err-clause-writes g c = λ t.
+    let told = g.met.D.Disk.source_told t in
+    let fails = c.in-Err.ensures.fails in
+    record {
+      holds = tt;
+      closed = closes_given_up _ _ _ _ _ _ _ (c.let_go_source.ensures.held t) (c.stopped.ensures.closed t)
+          (omega (arith, fails.cause told, c.requires.read t, c.requires.clean t));
+      rest = rw (c.let_go_source.ensures.held t, c.let_go_source.ensures.world t) at (c.stopped.ensures.closed t).rest;
+      outside = c.stopped.ensures.outside (fails.outside told);
+    }

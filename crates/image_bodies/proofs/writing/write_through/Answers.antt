@@ -1,8 +1,21 @@
+use Rattle.std.proofs.Common.{rules}
+use Rattle.image_bodies.proofs.Answered.{holds_end}
 use Rattle.image_bodies.proofs.Counted.{answered, closes_answer}
 use Rattle.image_bodies.proofs.writing.write_through.Goals as goal
 
-pub returns-clause-closed : goal.returns-clause-closed
-returns-clause-closed g c = λ t.
-    closes_answer _ _ _ _ _ _ _ _ _ (c.requires.read t) (c.requires.clean t) (c.let_go_source.ensures.held t)
-    (c.ended.ensures.closed t) c.write_image-answer.ensures.clean
-    (c.write_image-answer.ensures.cause (g.met.D.Disk.source_told t)) (answered _ _ c.ended.ensures.done)
+pub returns : goal.returns
+returns g c = record {
+  writes = λ t.
+      let told = g.met.D.Disk.source_told t in
+      let fails = c.write_image-answer.ensures.fails in
+      record {
+        holds = rw (c.let_go_source.ensures.held t, c.let_go_source.ensures.world t) at
+            (holds_end c.write_image-answer.result c.ended.result _ _ _ _ _ _
+            (c.write_image-answer.ensures.written told) c.ended.ensures.done (c.ended.ensures.ended t));
+        closed = closes_answer _ _ _ _ _ _ _ _ _ (c.requires.read t) (c.requires.clean t)
+            (c.let_go_source.ensures.held t) (c.ended.ensures.closed t) fails.clean (fails.cause told)
+            (answered _ _ c.ended.ensures.done);
+        rest = rw (c.let_go_source.ensures.held t, c.let_go_source.ensures.world t) at (c.ended.ensures.rest t);
+        outside = search rules;
+      };
+}

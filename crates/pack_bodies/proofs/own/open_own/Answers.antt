@@ -10,31 +10,39 @@ returns-in-Err-clause-refused g c = λ t.
     host_image (path_of c.args.place) (g.D.Disk.world c.args.disk.now) _ _ _ _ c.into.ensures
     (source_failed _ _ (c.in-Err.ensures.kept t))
 
-pub returns-in-Err-clause-output : goal.returns-in-Err-clause-output
-returns-in-Err-clause-output g c = λ t. ap (λ k. k.output) (c.in-Err.ensures.kept t)
+pub returns-in-Err-clause-keeps : goal.returns-in-Err-clause-keeps
+returns-in-Err-clause-keeps g c = λ t. record {
+  world = c.in-Err.ensures.world t;
+  output = ap (λ k. k.output) (c.in-Err.ensures.kept t);
+}
 
 pub returns-in-Err-open-clause-refused : goal.returns-in-Err-open-clause-refused
 returns-in-Err-open-clause-refused g c = λ t.
     let told = g.met.D.Disk.source_told t in
     refuses_file _ _ _ _ _ _ _ _ _ _ (c.in-Ok.ensures.opened t)
     (section_refused _ _ ⊥ _ _ c.refuse.ensures
-    (opened c.in-Err-open.fault (g.D.At.Source.content c.in-Ok.source) _ _ _ c.in-Err-open.ensures.cause
+    (opened c.in-Err-open.fault (g.D.At.Source.content c.in-Ok.source) _ _ _ c.in-Err-open.ensures.reads.cause
     (c.in-Err-open.ensures.opens told)))
     (λ failed. open_failed _ _ _ _ _ _ _ _ (c.in-Ok.ensures.opened t) (c.in-Ok.ensures.clean t)
     (c.let_go_source.ensures.held t) failed)
     (λ none. absurd none)
 
-pub returns-in-Err-open-clause-output : goal.returns-in-Err-open-clause-output
-returns-in-Err-open-clause-output g c = λ t.
-    ap (λ k. k.output) (c.let_go_source.ensures.held t) ∙ ap (λ k. k.output) (c.in-Ok.ensures.opened t).taken
+pub returns-in-Err-open-clause-keeps : goal.returns-in-Err-open-clause-keeps
+returns-in-Err-open-clause-keeps g c = λ t. record {
+  world = c.let_go_source.ensures.world t ∙ c.in-Ok.ensures.world t;
+  output = ap (λ k. k.output) (c.let_go_source.ensures.held t) ∙ ap (λ k. k.output) (c.in-Ok.ensures.opened t).taken;
+}
 
 pub returns-in-Ok-open-clause-opened : goal.returns-in-Ok-open-clause-opened
 returns-in-Ok-open-clause-opened g c = λ t.
-    opens_as _ _ _ _ _ _ (c.in-Ok-open.ensures.content (g.met.D.Disk.source_told t)) (c.in-Ok.ensures.opened t)
+    opens_as _ _ _ _ _ _ (c.in-Ok-open.ensures.reads.only.content (g.met.D.Disk.source_told t)) (c.in-Ok.ensures.opened t)
 
 pub returns-in-Ok-open-clause-image : goal.returns-in-Ok-open-clause-image
 returns-in-Ok-open-clause-image g c = λ told.
-    opened_as _ _ c.in-Ok-open.image (c.in-Ok-open.ensures.content told) (c.in-Ok-open.ensures.opens told)
+    opened_as _ _ c.in-Ok-open.image (c.in-Ok-open.ensures.reads.only.content told) (c.in-Ok-open.ensures.opens told)
 
-pub returns-in-Ok-open-clause-output : goal.returns-in-Ok-open-clause-output
-returns-in-Ok-open-clause-output g c = λ t. ap (λ k. k.output) (c.in-Ok.ensures.opened t).taken
+pub returns-in-Ok-open-clause-keeps : goal.returns-in-Ok-open-clause-keeps
+returns-in-Ok-open-clause-keeps g c = λ t. record {
+  world = c.in-Ok.ensures.world t;
+  output = ap (λ k. k.output) (c.in-Ok.ensures.opened t).taken;
+}

@@ -20,5 +20,5 @@ loop-entry-preserved g c =
           c.loop-entry.entry-index no_entry (search (rules, arith)) (i.bytes t) (made.bytes t);
       unread = λ t. made.unread t ∙ i.unread t;
       held = λ t. made.held t ∙ i.held t;
-      world = λ t. made.world t ∙ i.world t;
+      world = λ t. (made.keeps t).world ∙ i.world t;
     }

@@ -9,14 +9,20 @@ use Rattle.pack_bodies.proofs.own_ramdisks.with_entry.Goals as goal
 pub returns-in-Err-clause-refused : goal.returns-in-Err-clause-refused
 returns-in-Err-clause-refused g c = λ t. stops_once no_path _ _ _ (c.in-Err.ensures.held t)
 
-pub returns-in-Err-clause-output : goal.returns-in-Err-clause-output
-returns-in-Err-clause-output g c = λ t. ap (λ k. k.output) (c.in-Err.ensures.held t)
+pub returns-in-Err-clause-keeps : goal.returns-in-Err-clause-keeps
+returns-in-Err-clause-keeps g c = λ t. record {
+  world = c.in-Err.ensures.world t;
+  output = ap (λ k. k.output) (c.in-Err.ensures.held t);
+}
 
 pub returns-in-Err-with-clause-refused : goal.returns-in-Err-with-clause-refused
 returns-in-Err-with-clause-refused g c = λ t. no_memory c.in-Err-with.ensures.refused
 
-pub returns-in-Err-with-clause-output : goal.returns-in-Err-with-clause-output
-returns-in-Err-with-clause-output g c = λ t. ap (λ k. k.output) (c.in-Ok.ensures.held t)
+pub returns-in-Err-with-clause-keeps : goal.returns-in-Err-with-clause-keeps
+returns-in-Err-with-clause-keeps g c = λ t. record {
+  world = c.in-Ok.ensures.world t;
+  output = ap (λ k. k.output) (c.in-Ok.ensures.held t);
+}
 
 pub returns-in-Ok-with-clause-specs : goal.returns-in-Ok-with-clause-specs
 returns-in-Ok-with-clause-specs g c =
@@ -39,5 +45,8 @@ returns-in-Ok-with-clause-unread g c = λ t.
 pub returns-in-Ok-with-clause-held : goal.returns-in-Ok-with-clause-held
 returns-in-Ok-with-clause-held g c = λ t. c.in-Ok.ensures.held t ∙ same_failing _
 
-pub returns-in-Ok-with-clause-output : goal.returns-in-Ok-with-clause-output
-returns-in-Ok-with-clause-output g c = λ t. ap (λ k. k.output) (c.in-Ok.ensures.held t)
+pub returns-in-Ok-with-clause-keeps : goal.returns-in-Ok-with-clause-keeps
+returns-in-Ok-with-clause-keeps g c = λ t. record {
+  world = c.in-Ok.ensures.world t;
+  output = ap (λ k. k.output) (c.in-Ok.ensures.held t);
+}

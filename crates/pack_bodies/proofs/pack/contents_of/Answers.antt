@@ -36,7 +36,7 @@ pub returns-in-Ok-with_board_ids-clause-asked : goal.returns-in-Ok-with_board_id
 returns-in-Ok-with_board_ids-clause-asked g c = λ t.
     asks (content_of g.D.At.Source.content) c.args.command.now (g.D.Disk.world c.args.disk.now)
     (g.D.Disk.world c.open_parts.new.disk) c.args.kind (boot_fields c.args.fields) c.filled.result _ _ _ _ _
-    (ap (map (λ (word : Bor (List ℕ)). word.now)) c.as_slice.ensures.value) c.requires.kind (c.in-Ok.ensures.world t)
+    (ap (map (λ (word : Bor (List ℕ)). word.now)) c.as_slice.ensures.value) c.requires.kind (c.in-Ok.ensures.keeps t).world
     c.filled.ensures.parts (c.filled.ensures.sources ∙ c.in-Ok-with_board_ids.ensures.sources) c.filled.ensures.specs
     (c.in-Ok.ensures.parts t) (c.in-Ok-open_fragments.ensures.fragments t) c.in-Ok-with_board_ids.ensures.specs
     (c.filled.ensures.loaded (g.met.D.Disk.source_told t))
@@ -50,5 +50,5 @@ returns-in-Ok-with_board_ids-clause-unread g c = λ t.
 
 pub returns-in-Ok-with_board_ids-clause-opened : goal.returns-in-Ok-with_board_ids-clause-opened
 returns-in-Ok-with_board_ids-clause-opened g c = λ t.
-    both_open _ _ _ _ _ _ _ (c.in-Ok.ensures.world t) (c.in-Ok.ensures.opened t)
+    both_open _ _ _ _ _ _ _ (c.in-Ok.ensures.keeps t).world (c.in-Ok.ensures.opened t)
     (c.in-Ok-open_fragments.ensures.opened t)

@@ -1,7 +1,7 @@
 use Rattle.std.proofs.Common.{◌∙◌, ap, length, refl}
 use Rattle.std.specs.Prelude.{[]}
 use Rattle.pack_bodies.specs.Own.{IsOwnPart}
-use Rattle.pack_bodies.specs.Parts.{IsPartPath}
+use Rattle.pack_bodies.specs.Parts.{IsPartInput}
 use Rattle.pack_bodies.specs.Sources.{content_of, faults_of}
 use Rattle.pack_bodies.proofs.Gathered.{no_paths, none_at_all, none_read, one_longer, parts_all, parts_none}
 use Rattle.pack_bodies.proofs.Gathered.{parts_so_far, paths_all, paths_so_far, row_stops}
@@ -15,7 +15,7 @@ loop-row-init g c = (
     parts_none (content_of g.D.At.Source.content) (g.D.Disk.world c.args.disk.now) c.args.texts.now.options.items
         (IsOwnPart g.D.At.Source.content c.args.own) c.new-parts.result.items c.new-parts.ensures.items,
     none_at_all (faults_of g.D.At.Source.read_faults) c.new-parts.result.items c.new-parts.ensures.items,
-    opens_none (IsPartPath c.args.texts.now.options.items []) _ _ _ refl (no_paths c.args.texts.now.options.items),
+    opens_none (IsPartInput c.args.texts.now.options.items []) _ _ _ refl (no_paths c.args.texts.now.options.items),
     refl,
   ),
 )
@@ -35,7 +35,7 @@ loop-row-preserved g c = (
         paths_so_far (g.D.Disk.world c.args.disk.now) (g.D.Disk.world c.loop-row.disk) c.args.texts.now.options.items
             c.rows_of-rows.result.now c.loop-row.row-index _ _ _ _ c.loop-row-test.true c.rows_of-rows.ensures.options i.3
             i.2 (c.in-Ok.ensures.opened t),
-        c.open_part.ensures.world t ∙ i.3,
+        (c.open_part.ensures.keeps t).world ∙ i.3,
       ),
 )
 

@@ -1,5 +1,5 @@
 use Rattle.std.proofs.Common.{[], ◌∙◌, refl}
-use Rattle.pack_bodies.specs.Parts.{IsFragmentPath}
+use Rattle.pack_bodies.specs.Parts.{IsFragmentInput}
 use Rattle.pack_bodies.specs.Sources.{content_of, faults_of}
 use Rattle.pack_bodies.proofs.Gathered.{file_stops, files_all, files_so_far, fragments_all, fragments_none}
 use Rattle.pack_bodies.proofs.Gathered.{fragments_so_far, no_fragments, none_at_all}
@@ -11,7 +11,7 @@ loop-fragment-init g c = λ t. (
   fragments_none (content_of g.D.At.Source.content) (g.D.Disk.world c.args.disk.now) c.new-ramdisks.result.specs.items
       c.new-ramdisks.result.sources.items c.new-ramdisks.ensures.specs c.new-ramdisks.ensures.sources,
   none_at_all (faults_of g.D.At.Source.read_faults) c.new-ramdisks.result.sources.items c.new-ramdisks.ensures.sources,
-  opens_none (IsFragmentPath []) _ _ _ refl no_fragments,
+  opens_none (IsFragmentInput []) _ _ _ refl no_fragments,
   refl,
 )
 
@@ -25,7 +25,7 @@ loop-fragment-preserved g c = λ t.
       files_so_far _ _ c.args.texts.now.fragments.items c.deref-fragment-items.result.now
           c.loop-fragment.fragment-index c.fragment-item.result _ _ _ c.deref-fragment-items.ensures.value
           c.loop-fragment-test.true c.fragment-item.is i.3 i.2 (c.in-Ok.ensures.opened t),
-      c.with_file.ensures.world t ∙ i.3,
+      (c.with_file.ensures.keeps t).world ∙ i.3,
     )
 
 pub returns-in-Err-clause-refused : goal.returns-in-Err-clause-refused

@@ -2,7 +2,7 @@ use Rattle.std.proofs.Common.{◌≡◌, take}
 use Rattle.std.specs.Prelude.{IsTrue, map}
 use Rattle.abt_sections.specs.Cause.{total}
 use Rattle.pack_bodies.specs.Opening.{OpensMore}
-use Rattle.pack_bodies.specs.Parts.{AreFragmentsOf, IsFragmentPath}
+use Rattle.pack_bodies.specs.Parts.{AreFragmentsOf, IsFragmentInput}
 use Rattle.pack_bodies.specs.Sources.{content_of, faults_of}
 use Rattle.pack_bodies.proofs.ramdisks.open_fragments.Given as goal
 
@@ -11,6 +11,6 @@ invariant-loop-fragment g l = IsTrue g.D.Disk.tells →
     AreFragmentsOf (g.D.Disk.world l.initial.disk) (take l.fragment-index l.texts.fragments.items)
     l.ramdisks.specs.items (map (content_of g.D.At.Source.content) l.ramdisks.sources.items)
     × (total (faults_of g.D.At.Source.read_faults) l.ramdisks.sources.items ≡ 0)
-    × OpensMore (IsFragmentPath (take l.fragment-index l.texts.fragments.items))
+    × OpensMore (IsFragmentInput (take l.fragment-index l.texts.fragments.items))
     (g.D.Disk.world l.initial.disk) (g.D.Disk.held l.initial.disk) (g.D.Disk.held l.disk)
     × (g.D.Disk.world l.disk ≡ g.D.Disk.world l.initial.disk)

@@ -5,12 +5,12 @@ use Rattle.pack_bodies.specs.Contents.{packing_of}
 use Rattle.pack_bodies.specs.Sources.{content_of, faults_of}
 use Rattle.pack_bodies.proofs.Again.{asked_again, behind_stops, board_stops, boards_set, filling_stops, opens_given}
 use Rattle.pack_bodies.proofs.Again.{none_unread, parts_stop}
-use Rattle.pack_bodies.specs.Parts.{IsFragmentPath, of_fragment}
+use Rattle.pack_bodies.specs.Parts.{IsFragmentInput, of_fragment}
 use Rattle.pack_bodies.proofs.repack.contents_of.Goals as goal
 
 pub returns-in-Err-clause-refused : goal.returns-in-Err-clause-refused
 returns-in-Err-clause-refused g c = λ t.
-    filling_stops c.args.command.now _ _ _ (IsFragmentPath c.args.command.now.texts.fragments.items) _ _ _ _
+    filling_stops c.args.command.now _ _ _ (IsFragmentInput c.args.command.now.texts.fragments.items) _ _ _ _
     (λ path is. of_fragment is) (c.in-Err.ensures.refused t) c.into.ensures
 
 pub returns-in-Err-open_parts-clause-refused : goal.returns-in-Err-open_parts-clause-refused
@@ -27,7 +27,7 @@ pub returns-in-Ok-trailing_of-clause-asked : goal.returns-in-Ok-trailing_of-clau
 returns-in-Ok-trailing_of-clause-asked g c = λ t.
     let content = content_of g.D.At.Source.content in
     asked_again c.args.command.now _ _ _ _ c.args.kind _ (packing_of content c.filled.result) _ _ _
-    c.requires.kind (c.in-Ok.ensures.world t) (c.in-Ok-open_parts.ensures.parts t)
+    c.requires.kind (c.in-Ok.ensures.keeps t).world (c.in-Ok-open_parts.ensures.parts t)
     (ap (map content) c.filled.ensures.parts) (c.in-Ok.ensures.fragments t)
     (ap (map content) (c.filled.ensures.sources ∙ c.in-Ok-with_board_ids.ensures.sources))
     (boards_set c.args.command.now _ _ _ _ c.as_slice.ensures.value c.in-Ok-with_board_ids.ensures.specs
@@ -40,7 +40,7 @@ returns-in-Ok-trailing_of-clause-behind g c = λ t.
 
 pub returns-in-Ok-trailing_of-clause-opened : goal.returns-in-Ok-trailing_of-clause-opened
 returns-in-Ok-trailing_of-clause-opened g c = λ t.
-    opens_given c.args.command.now.texts c.args.kind _ _ _ _ _ _ (c.in-Ok.ensures.world t) (c.in-Ok.ensures.opened t)
+    opens_given c.args.command.now.texts c.args.kind _ _ _ _ _ _ (c.in-Ok.ensures.keeps t).world (c.in-Ok.ensures.opened t)
     (c.in-Ok-open_parts.ensures.opened t) (c.in-Ok-trailing_of.ensures.held t)
 
 pub returns-in-Ok-trailing_of-clause-unread : goal.returns-in-Ok-trailing_of-clause-unread
@@ -50,16 +50,22 @@ returns-in-Ok-trailing_of-clause-unread g c = λ t.
     (ap (total faults) (c.filled.ensures.sources ∙ c.in-Ok-with_board_ids.ensures.sources) ∙ c.in-Ok.ensures.unread t)
     c.filled.ensures.unread (ap faults c.filled.ensures.trailing ∙ c.in-Ok-trailing_of.ensures.unread t)
 
-pub returns-in-Ok-trailing_of-clause-output : goal.returns-in-Ok-trailing_of-clause-output
-returns-in-Ok-trailing_of-clause-output g c = λ t.
-    ap (λ (k : Held). k.output) (c.in-Ok-trailing_of.ensures.held t) ∙ c.in-Ok-open_parts.ensures.output t
-    ∙ c.in-Ok.ensures.output t
-
-pub returns-in-Ok-trailing_of-clause-world : goal.returns-in-Ok-trailing_of-clause-world
-returns-in-Ok-trailing_of-clause-world g c = λ t.
-    c.in-Ok-trailing_of.ensures.world t ∙ c.in-Ok-open_parts.ensures.world t ∙ c.in-Ok.ensures.world t
+pub returns-in-Ok-trailing_of-clause-keeps : goal.returns-in-Ok-trailing_of-clause-keeps
+returns-in-Ok-trailing_of-clause-keeps g c = λ t. record {
+  world = c.in-Ok-trailing_of.ensures.world t ∙ (c.in-Ok-open_parts.ensures.keeps t).world ∙ (c.in-Ok.ensures.keeps t).world;
+  output = ap (λ (k : Held). k.output) (c.in-Ok-trailing_of.ensures.held t)
+      ∙ (c.in-Ok-open_parts.ensures.keeps t).output ∙ (c.in-Ok.ensures.keeps t).output;
+}
 
 pub returns-clause-refused : goal.returns-clause-refused
 returns-clause-refused g c = λ t.
     behind_stops c.args.command.now _ _ _ c.args.kind _ _ _ _ _ _ _ (c.in-Ok.ensures.opened t)
     (c.in-Ok-open_parts.ensures.opened t) (c.in-Err-trailing_of.ensures.held t) c.into-in-Err-trailing_of.ensures
+
+pub returns-clause-keeps : goal.returns-clause-keeps
+returns-clause-keeps g c = λ t. record {
+  world = c.in-Err-trailing_of.ensures.world t ∙ (c.in-Ok-open_parts.ensures.keeps t).world
+      ∙ (c.in-Ok.ensures.keeps t).world;
+  output = ap (λ (k : Held). k.output) (c.in-Err-trailing_of.ensures.held t)
+      ∙ (c.in-Ok-open_parts.ensures.keeps t).output ∙ (c.in-Ok.ensures.keeps t).output;
+}

@@ -1,24 +1,20 @@
-use Rattle.std.proofs.Common.{◌∙◌, ap, inl, refl, subst, sym}
-use Rattle.abt_disk.specs.World.{untouched}
-use Rattle.abt_output.specs.Shows.{Shows}
+use Rattle.std.proofs.Common.{◌∙◌, ap, refl, subst, sym}
+use Rattle.abt_refusals.specs.Paths.{output_path}
+use Rattle.abt_output.specs.Shows.{Shows, unprinted}
 use Rattle.abt_sections.specs.Header.{fragment_count, view_of}
 use Rattle.abt_sections.specs.Open.{IsOpened}
 use Rattle.pack_bodies.specs.Own.{entries_to}
-use Rattle.pack_bodies.specs.Packing.{output_path}
-use Rattle.pack_bodies.specs.Writing.{unprinted}
-use Rattle.pack_bodies.proofs.Again.{content_done, content_refused, content_whole, judging_refuses, stays_kept}
+use Rattle.pack_bodies.proofs.Again.{content_done, content_left, content_refused, judging_refuses, stays_kept}
 use Rattle.pack_bodies.proofs.Repacks.{calls_failed, nothing_more, reads_failed}
+use Rattle.pack_bodies.proofs.Closes.{left_refused, left_told, left_unopened}
 use Rattle.pack_bodies.proofs.repack.pack_again.Goals as goal
 
 -- the words are wrong, or the image could not be read
-pub returns-in-Err-clause-others : goal.returns-in-Err-clause-others
-returns-in-Err-clause-others g c = λ t. untouched refl
-
 pub returns-in-Err-clause-given : goal.returns-in-Err-clause-given
 returns-in-Err-clause-given g c = λ t. stays_kept c.args.command.now _ _ _ refl
 
-pub returns-in-Err-clause-whole : goal.returns-in-Err-clause-whole
-returns-in-Err-clause-whole g c = λ t over file there. inl refl
+pub returns-in-Err-clause-left : goal.returns-in-Err-clause-left
+returns-in-Err-clause-left g c = λ t. left_unopened _ _ _ _ _ _ _ _ (c.requires.first t).output refl
 
 pub returns-in-Err-clause-refused : goal.returns-in-Err-clause-refused
 returns-in-Err-clause-refused g c = λ t.
@@ -36,20 +32,18 @@ pub returns-in-Ok-write_again-clause-clean : goal.returns-in-Ok-write_again-clau
 returns-in-Ok-write_again-clause-clean g c = λ t.
     nothing_more _ _ _ _ (c.in-Ok-write_again.ensures.clean t) c.in-Ok.ensures.clean
 
-pub returns-in-Ok-write_again-clause-whole : goal.returns-in-Ok-write_again-clause-whole
-returns-in-Ok-write_again-clause-whole g c = λ t over.
-    content_whole c.args.command.now _ _ (view_of c.args.own.now.image.header) (g.D.Disk.world c.args.disk.now)
-    (g.D.Disk.world c.args.disk.now) (g.D.Disk.world c.write_again.new.disk)
-    (output_path c.args.command.now.output.now) (c.in-Ok.ensures.content (g.met.D.Disk.source_told t))
-    (c.in-Ok-write_again.ensures.whole t over)
+pub returns-in-Ok-write_again-clause-left : goal.returns-in-Ok-write_again-clause-left
+returns-in-Ok-write_again-clause-left g c = λ t.
+    content_left _ c.args.command.now _ _ (view_of c.args.own.now.image.header) (g.D.Disk.world c.args.disk.now)
+    (output_path c.args.command.now.output.now) _ _ _ _ _ (c.in-Ok.ensures.content (g.met.D.Disk.source_told t))
+    (left_told _ (c.in-Ok-write_again.ensures.left t))
 
 -- it is not
-pub returns-clause-whole : goal.returns-clause-whole
-returns-clause-whole g c = λ t over.
-    content_whole c.args.command.now _ _ (view_of c.args.own.now.image.header) (g.D.Disk.world c.args.disk.now)
-    (g.D.Disk.world c.args.disk.now) (g.D.Disk.world c.write_again.new.disk)
-    (output_path c.args.command.now.output.now) (c.in-Ok.ensures.content (g.met.D.Disk.source_told t))
-    (c.in-Err-write_again.ensures.whole t over)
+pub returns-clause-left : goal.returns-clause-left
+returns-clause-left g c = λ t.
+    content_left _ c.args.command.now _ _ (view_of c.args.own.now.image.header) (g.D.Disk.world c.args.disk.now)
+    (output_path c.args.command.now.output.now) _ _ _ _ _ (c.in-Ok.ensures.content (g.met.D.Disk.source_told t))
+    (left_refused _ (c.in-Err-write_again.ensures.left t))
 
 pub returns-clause-refused : goal.returns-clause-refused
 returns-clause-refused g c = λ t.

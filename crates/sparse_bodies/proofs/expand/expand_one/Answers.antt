@@ -2,7 +2,7 @@ use Rattle.std.proofs.Common.{◌+◌, true, false, Ok, subst}
 use Rattle.std.specs.Prelude.{is_ok}
 use Rattle.abt_disk.specs.World.{unended}
 use Rattle.abt_disk.proofs.Worlds.{only_written, only_behind, kept_behind}
-use Rattle.sparse_bodies.specs.Expanding.{Says}
+use Rattle.sparse_bodies.specs.Expanding.{ExpandingSays}
 use Rattle.sparse_bodies.proofs.Files.{clean_behind, ends_behind, expands, failed_behind, failed_first, failed_second}
 use Rattle.sparse_bodies.proofs.Files.{handed_on, of_failed, of_unprinted, refuses, rest_behind, synced_once}
 use Rattle.sparse_bodies.proofs.expand.expand_one.Goals as goal
@@ -81,9 +81,9 @@ returns-in-Err-clause-refused g c = λ t.
 
 pub returns-in-Err-printed-clause-refused : goal.returns-in-Err-printed-clause-refused
 returns-in-Err-printed-clause-refused g c = λ t.
-    let says : Says (Ok c.in-Ok.end.0) (g.D.From.Input.remaining c.in_ok-from.from)
+    let says : ExpandingSays (Ok c.in-Ok.end.0) (g.D.From.Input.remaining c.in_ok-from.from)
     (g.D.Onto.Output.written c.in_ok-onto.onto) (g.D.Onto.Output.written c.expanded-answer.new.onto)
-    = subst (λ a. Says a (g.D.From.Input.remaining c.in_ok-from.from) (g.D.Onto.Output.written c.in_ok-onto.onto)
+    = subst (λ a. ExpandingSays a (g.D.From.Input.remaining c.in_ok-from.from) (g.D.Onto.Output.written c.in_ok-onto.onto)
     (g.D.Onto.Output.written c.expanded-answer.new.onto)) c.in-Ok.ensures.done
     (c.expanded-answer.ensures.says (g.met.D.Disk.told t)) in
     of_unprinted _ _ _ _ _ _ c.into.result.fault (_, c.into.ensures)
@@ -111,9 +111,9 @@ returns-in-Ok-printed-clause-clean g c = λ t.
 
 pub returns-in-Ok-printed-clause-done : goal.returns-in-Ok-printed-clause-done
 returns-in-Ok-printed-clause-done g c = λ t.
-    let says : Says (Ok c.in-Ok.end.0) (g.D.From.Input.remaining c.in_ok-from.from)
+    let says : ExpandingSays (Ok c.in-Ok.end.0) (g.D.From.Input.remaining c.in_ok-from.from)
     (g.D.Onto.Output.written c.in_ok-onto.onto) (g.D.Onto.Output.written c.expanded-answer.new.onto)
-    = subst (λ a. Says a (g.D.From.Input.remaining c.in_ok-from.from) (g.D.Onto.Output.written c.in_ok-onto.onto)
+    = subst (λ a. ExpandingSays a (g.D.From.Input.remaining c.in_ok-from.from) (g.D.Onto.Output.written c.in_ok-onto.onto)
     (g.D.Onto.Output.written c.expanded-answer.new.onto)) c.in-Ok.ensures.done
     (c.expanded-answer.ensures.says (g.met.D.Disk.told t)) in
     expands _ _ _ _ _ _ _ _ _ _ _ _ _ c.in-Ok.end.0 _ (c.in_ok-from.ensures.opened t)

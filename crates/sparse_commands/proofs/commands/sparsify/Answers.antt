@@ -5,7 +5,7 @@ pub returns-clause-spares : goal.returns-clause-spares
 returns-clause-spares g c = λ t.
     let a = g.D.Disk.world c.args.disk.now in
     let z = g.D.Disk.world c.sparse_file.new.disk in (
-      spared_at _ _ _ a z c.place-2.ensures.written (c.sparse_file.ensures.others t),
+      spared_at _ _ _ a z c.place-2.ensures.written (c.sparse_file.ensures.left t).others,
       kept_at _ _ a z c.place.ensures.at (c.sparse_file.ensures.input t),
     )
 
@@ -13,4 +13,4 @@ pub returns-clause-whole : goal.returns-clause-whole
 returns-clause-whole g c = λ t.
     whole_at g.D.Disk.is_over _ _ _ _ c.args.block (g.D.Disk.world c.args.disk.now)
     (g.D.Disk.world c.sparse_file.new.disk) c.place.ensures.at c.place-2.ensures.written
-    (c.sparse_file.ensures.whole t)
+    (c.sparse_file.ensures.left t).whole

@@ -5,4 +5,7 @@ copy-requires-clause-told c = λ tells.
     let part = c.in_ok-next_part.ensures in
     let run = c.in_ok-raw.ensures in
     let image = c.in_ok-runs.ensures in
-    rw (part.content tells, part.same, run.content tells, run.same, image.content tells) (image.opened tells, rw (image.content tells) at (run.places tells).0)
+    rw (part.reads.content tells, run.reads.content tells, image.reads.content tells) (
+      image.opened tells,
+      rw (image.reads.content tells) at (run.told tells).places.0,
+    )

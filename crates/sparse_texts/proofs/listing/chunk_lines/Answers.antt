@@ -30,7 +30,8 @@ loop-listed-preserved g c =
     let stands = subst (λ (r : Option ChunkInfo). Stands_next (Ok r) t.phase) c.in-Some.is c.in-Ok.ensures.stands in
     record {
       going = λ first. subst IsGoing (sym stands) tt;
-      faults = λ first. c.in-Ok.ensures.clean.0 ∙ c.loop-listed.invariant.faults first;
+      faults = λ first. let i = c.loop-listed.invariant in
+          (c.in-Ok.ensures.blame (i.going first)).clean.0 ∙ i.faults first;
       prints = (c.loop-listed.invariant.prints.0 ++ chunk_line info, c.loop-listed.invariant.prints.1 ▸ c.put_chunk.ensures);
       lines = λ tells.
           let (done, long, so_far, printed) = c.loop-listed.invariant.lines tells in
@@ -63,7 +64,9 @@ returns-in-Err-clause-refused g c = λ tells.
 pub returns-in-Err-clause-reads : goal.returns-in-Err-clause-reads
 returns-in-Err-clause-reads g c = λ first.
     let i = c.loop-listed.invariant in
-    read_told c.in-Err.fault _ _ _ (i.faults first) (c.in-Err.ensures.cause (i.going first)) c.in-Err.ensures.clean
+    let blame = c.in-Err.ensures.blame (i.going first) in
+    read_told c.in-Err.fault _ _ _ (i.faults first) blame.cause blame.clean
 
 pub returns-in-Err-is_whole-clause-reads : goal.returns-in-Err-is_whole-clause-reads
-returns-in-Err-is_whole-clause-reads g c = λ first. omega (arith, c.loop-listed.invariant.faults first, c.in-Ok.ensures.clean.0)
+returns-in-Err-is_whole-clause-reads g c = λ first. let i = c.loop-listed.invariant in
+    omega (arith, i.faults first, (c.in-Ok.ensures.blame (i.going first)).clean.0)

@@ -46,7 +46,8 @@ pub returns-in-Err-clause-refused : goal.returns-in-Err-clause-refused
 returns-in-Err-clause-refused g c = λ tells. unless_map c.in-Err.fault _ _ (header_refused _ _ _ _ _) (c.in-Err.ensures.opens tells)
 
 pub returns-in-Err-clause-reads : goal.returns-in-Err-clause-reads
-returns-in-Err-clause-reads g c = read_told c.in-Err.fault _ _ _ refl c.in-Err.ensures.cause c.in-Err.ensures.clean
+returns-in-Err-clause-reads g c = let blame = c.in-Err.ensures.blame in
+    read_told c.in-Err.fault _ _ _ refl blame.cause blame.clean
 
 pub returns-clause-refused : goal.returns-clause-refused
 returns-clause-refused g c = λ tells.
@@ -60,4 +61,5 @@ returns-clause-refused g c = λ tells.
 
 pub returns-clause-reads : goal.returns-clause-reads
 returns-clause-reads g c =
-    subst (λ n. ReadTold c.chunk_lines.result n (g.I.Input.read_faults c.chunk_lines.new.input)) c.in-Ok.ensures.clean.0 (c.chunk_lines.ensures.reads c.in-Ok.ensures.going)
+    subst (λ n. ReadTold c.chunk_lines.result n (g.I.Input.read_faults c.chunk_lines.new.input))
+    c.in-Ok.ensures.blame.clean.0 (c.chunk_lines.ensures.reads c.in-Ok.ensures.going)
