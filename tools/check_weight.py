@@ -22,12 +22,25 @@ from repository import HERE, crate_lines
 FUNCTIONS = 100
 MORE_FUNCTIONS = {"abt_io": 160, "abt_sections": 122}
 # How many functions have contracts of more clauses than this.
-LONG_CONTRACTS = {15: 108, 20: 46}
+LONG_CONTRACTS = {15: 22, 20: 8}
 # How many clauses are, to the letter, one that stands before, in any function of any crate.
-REPEATED_CLAUSES = 2616
-NAMES_DEFINED_TWICE = 133
-# How many lines of specs/ and proofs/ are longer than this.
-COLUMNS, LONG_LINES = 120, 5958
+REPEATED_CLAUSES = 1386
+# The names that two files define, each with what it says in the one and in the other.
+NAMES_DEFINED_TWICE = {
+    "Begins": "of a spool's bytes, of which they are a front; of a text, which has grown by one",
+    "Header": "of a sparse image (`sparse_header_t`); of a boot image of either kind",
+    "LaysBlocks": "a law of definitions; what a delivery leaves on a partition",
+    "Leaves": "what an output holds that was broken off; the phase that an answer leaves",
+    "Stands": "bytes on a partition; an answer among the words",
+    "expansion": "of blocks; of words `@FILE`",
+    "laid": "cells over zeros; parts one after another, each padded",
+    "left_of": "of a chunk; of a byte behind a crash; of words that were met",
+    "number_at": "the same in `abt_sparse` and `abt_headers`, which stand on nothing of ours together",
+    "text_of": "the same: `boot_texts` hands on that of `boot_fields`",
+    "with_part": "a window with bytes in it; a placer with blocks taken",
+}
+# How many lines of specs/ and proofs/ are longer than this, and how many of specs/ alone.
+COLUMNS, LONG_LINES, LONG_DEFINITIONS = 120, 5286, 16
 
 FUNCTION = re.compile(r"\s*(?:pub(?:\(\w+\))? )?(?:const )?(?:unsafe )?(?:extern \"C\" )?(?:final )?fn (\w+)")
 CLAUSE = re.compile(r"\s*(?:requires|ensures)\b")
@@ -69,9 +82,9 @@ def clauses_of(crates):
                     clause, open_braces = None, 0
 
 
-def long_lines(crates):
-    """How many lines of definitions and of proofs are too long."""
-    parts = (lines_below(crate, part, "antt") for crate in crates for part in ("specs", "proofs"))
+def long_lines(crates, folders):
+    """How many lines of definitions, or of these and of proofs, are too long."""
+    parts = (lines_below(crate, folder, "antt") for crate in crates for folder in folders)
     return sum(len(line) > COLUMNS for part in parts for _, lines in part for line in lines)
 
 
@@ -109,10 +122,13 @@ def main():
     total = sum(clauses.values())
     repeated = total - len(clauses)
     that(repeated == REPEATED_CLAUSES, f"{repeated} of {total} clauses repeat an earlier one; {REPEATED_CLAUSES}")
-    wide = long_lines(crates)
-    that(wide == LONG_LINES, f"{wide} lines of specs/ and proofs/ have more than {COLUMNS} columns; {LONG_LINES}")
+    for folders, figure in ((("specs", "proofs"), LONG_LINES), (("specs",), LONG_DEFINITIONS)):
+        wide = long_lines(crates, folders)
+        that(wide == figure, f"{wide} lines of {' and '.join(folders)} have more than {COLUMNS} columns; {figure}")
     twice = defined_twice(crates)
-    that(len(twice) == NAMES_DEFINED_TWICE, f"{len(twice)} names are defined in two files of specs/; {NAMES_DEFINED_TWICE}")
+    for name in sorted({name for name, _ in twice} ^ set(NAMES_DEFINED_TWICE)):
+        that(False, f"{name} is {'not ' * (name in NAMES_DEFINED_TWICE)}defined in two files of specs/")
+    that(len(twice) == len(NAMES_DEFINED_TWICE), f"{len(twice)} names are defined in two files of specs/")
     if show:
         print(*(f"{many} times: {clause}" for clause, many in clauses.most_common() if many > 9), sep="\n")
         print(*(f"{many} {name}" for many, name in sorted(functions, reverse=True) if many > min(LONG_CONTRACTS)), sep="\n")
