@@ -1,5 +1,9 @@
 -- What a call leaves of the devices and of the meter that it is lent, whatever it answers.
-use Rattle.std.specs.Prelude.{◌≡◌, ℕ, ◌+◌, ◌≤◌, IsTrue, Result, OnOk, List, length, map, max, sum_by}
+use Rattle.std.specs.Prelude.{◌≡◌, ℕ, ◌+◌, ◌<◌, ◌≤◌, IsTrue, Result, OnOk, Option, IsNone, IfSome, List, length}
+use Rattle.std.specs.Prelude.{drop, map, max, sum_by}
+use Rattle.abt_io.specs.declared.device.DeviceFault.{DeviceFault}
+use Rattle.abt_io.specs.declared.device.DeviceFault.TheVariants.{Failed}
+use Rattle.abt_io.specs.declared.device.Input as inputs
 use Rattle.abt_io.specs.declared.device.Source as sources
 use Rattle.abt_io.specs.declared.device.Output as outputs
 use Rattle.abt_io.specs.declared.meter.Meter.{Meter}
@@ -41,3 +45,34 @@ pub record NoStep (old new : Meter) : Type 0 where
 pub record OneStep (n : ℕ) (old new : Meter) : Type 0 where
   pub steps : new.steps.number ≡ old.steps.number + 1
   pub greatest : new.greatest.number ≡ max old.greatest.number n
+
+-- n bytes are read forward, in any number of calls; the last of them may have failed.
+pub record ReadsForward {A : Type 0} (i : inputs.Ghosts A) (old new : A) (n : ℕ) (fault : Option DeviceFault) : Type 0
+  where
+    pub given : i.given new ≡ i.given old + n
+    pub present : IsTrue i.tells → n ≤ length (i.remaining old)
+    pub rest : IsTrue i.tells → i.remaining new ≡ drop n (i.remaining old)
+    pub frame : i.read_frame new ≡ i.read_frame old
+    pub faults : i.read_faults old ≤ i.read_faults new
+    pub cause : IfSome fault (λ _. i.read_faults old < i.read_faults new)
+    pub clean : IsNone fault → i.read_faults new ≡ i.read_faults old
+    pub failed : IfSome fault (λ e. e ≡ Failed)
+
+-- The same of a source, which holds what it held.
+pub record ReadsFrom {A : Type 0} (s : sources.Ghosts A) (old new : A) (n : ℕ) (fault : Option DeviceFault) : Type 0
+  where
+    pub given : s.given new ≡ s.given old + n
+    pub content : IsTrue s.tells → s.content new ≡ s.content old
+    pub size : IsTrue s.tells → s.size new ≡ s.size old
+    pub frame : s.read_frame new ≡ s.read_frame old
+    pub faults : s.read_faults old ≤ s.read_faults new
+    pub cause : IfSome fault (λ _. s.read_faults old < s.read_faults new)
+    pub clean : IsNone fault → s.read_faults new ≡ s.read_faults old
+    pub failed : IfSome fault (λ e. e ≡ Failed)
+
+-- What they cost: a call and a turn for each byte at most, and one. No step ends.
+pub record ReadCosts (calls calls' n : ℕ) (old new : Meter) : Type 0 where
+  pub reads : calls' ≤ calls + n + 1
+  pub turns : new.turns.number ≤ old.turns.number + n + 1
+  pub steps : new.steps.number ≡ old.steps.number
+  pub greatest : new.greatest.number ≡ old.greatest.number

@@ -1,5 +1,7 @@
 pub mod Bytes
 pub mod BytesLaws
+pub mod Called
+pub mod Calls
 pub mod Cause
 pub mod Count
 pub mod Crash
@@ -10,4 +12,5 @@ pub mod Inner
 pub mod Lent
 pub mod Moment
 pub mod Over
+pub mod Testing
 pub mod Window

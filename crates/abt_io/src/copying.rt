@@ -4,6 +4,7 @@ ghost use Rattle.std.specs.Prelude.{◌≡◌, ◌<◌, ◌≤◌, ◌+◌, ◌-
 ghost use Rattle.std.specs.Prelude.{length, take, drop, replicate};
 ghost use Rattle.abt_io.specs.Cause.{CopyCause, full_copied};
 ghost use Rattle.abt_io.specs.Count.{full_of};
+ghost use Rattle.abt_io.specs.Lent.{OnlyReads, OnlyWrites, NoStep};
 
 use crate::laying::lay_byte;
 use crate::{DeviceFault, Meter, Output, Source, WINDOW, Window, write_out};
@@ -36,28 +37,21 @@ pub fn copy_step<S: Source, O: Output>(
     ensures asked { S.given source.old ≤ S.given source.new × S.given source.new ≤ S.given source.old + ask }
     ensures held { length (O.written output.old) ≤ length (O.written output.new) × length (O.written output.new)
         ≤ length (O.written output.old) + (S.given source.new - S.given source.old) }
-    ensures content { IsTrue S.tells → S.content source.new ≡ S.content source.old }
-    ensures size { IsTrue S.tells → S.size source.new ≡ S.size source.old }
     ensures present { IsTrue S.tells → S.given source.new - S.given source.old ≤ length (S.content source.old) - at }
     ensures front { IsTrue S.tells → O.written output.new ≡ O.written output.old ++ take
         (length (O.written output.new) - length (O.written output.old)) (drop at (S.content source.old)) }
     ensures grown { take (length (O.written output.old)) (O.written output.new) ≡ O.written output.old }
-    ensures frame { S.read_frame source.new ≡ S.read_frame source.old }
-    ensures write_frame { O.write_frame output.new ≡ O.write_frame output.old }
-    ensures read_faults { S.read_faults source.old ≤ S.read_faults source.new }
-    ensures write_faults { O.write_faults output.old ≤ O.write_faults output.new }
     ensures cause { IfErr result (λ e. CopyCause e (IsTrue S.tells → length (S.content source.old) ≤ at)
         (S.read_faults source.old) (S.read_faults source.new) (O.write_faults output.old) (O.write_faults output.new)) }
-    ensures clean { OnOk result ((S.read_faults source.new ≡ S.read_faults source.old) ×
-        (O.write_faults output.new ≡ O.write_faults output.old)) }
-    ensures full_faults { O.full_faults output.new ≡ O.full_faults output.old + full_copied result }
-    ensures reads { S.reads source.new ≡ S.reads source.old + 1 }
-    ensures writes { O.writes output.new
+    ensures calls { S.reads source.new ≡ S.reads source.old + 1 }
+    ensures write_calls { O.writes output.new
         ≤ O.writes output.old + (length (O.written output.new) - length (O.written output.old)) + 1 }
     ensures turns { m.new.turns.number
         ≤ m.old.turns.number + (length (O.written output.new) - length (O.written output.old)) + 1 }
     ensures steps { m.new.steps.number ≡ m.old.steps.number + 1 }
     ensures greatest { m.new.greatest.number ≡ max m.old.greatest.number (S.given source.new - S.given source.old) }
+    ensures reads { OnlyReads result S.Source source.old source.new }
+    ensures writes { OnlyWrites result (full_copied result) O.Output output.old output.new }
 {
     match source.read_at(at, w.part_mut(0, ask)) {
         Ok(got) => {
@@ -98,30 +92,22 @@ pub fn copy_range<S: Source, O: Output>(
     ensures given { OnOk result (S.given source.new ≡ S.given source.old + n) }
     ensures there { IsTrue S.tells → OnOk result (n ≤ length (S.content source.old) - from) }
     ensures asked { S.given source.old ≤ S.given source.new × S.given source.new ≤ S.given source.old + n }
-    ensures least { length (O.written output.old) ≤ length (O.written output.new) }
     ensures most { length (O.written output.new) ≤ length (O.written output.old) + n }
     ensures held { length (O.written output.new)
         ≤ length (O.written output.old) + (S.given source.new - S.given source.old) }
-    ensures content { IsTrue S.tells → S.content source.new ≡ S.content source.old }
-    ensures size { IsTrue S.tells → S.size source.new ≡ S.size source.old }
     ensures grown { take (length (O.written output.old)) (O.written output.new) ≡ O.written output.old }
-    ensures frame { S.read_frame source.new ≡ S.read_frame source.old }
-    ensures write_frame { O.write_frame output.new ≡ O.write_frame output.old }
-    ensures read_faults { S.read_faults source.old ≤ S.read_faults source.new }
-    ensures write_faults { O.write_faults output.old ≤ O.write_faults output.new }
     ensures cause { IfErr result (λ e. CopyCause e (IsTrue S.tells → length (S.content source.old) < from + n)
         (S.read_faults source.old) (S.read_faults source.new) (O.write_faults output.old) (O.write_faults output.new)) }
-    ensures clean { OnOk result ((S.read_faults source.new ≡ S.read_faults source.old) ×
-        (O.write_faults output.new ≡ O.write_faults output.old)) }
-    ensures full_faults { O.full_faults output.new ≡ O.full_faults output.old + full_copied result }
-    ensures reads { S.reads source.new ≤ S.reads source.old + (S.given source.new - S.given source.old) + 1 }
-    ensures writes { O.writes output.new
+    ensures calls { S.reads source.new ≤ S.reads source.old + (S.given source.new - S.given source.old) + 1 }
+    ensures write_calls { O.writes output.new
         ≤ O.writes output.old + 2 * (length (O.written output.new) - length (O.written output.old)) + 1 }
     ensures turns { m.new.turns.number
         ≤ m.old.turns.number + 3 * (length (O.written output.new) - length (O.written output.old)) + 2 }
     ensures steps { (S.given source.new - S.given source.old) + 65536 * m.old.steps.number
         ≤ 65536 * m.new.steps.number }
     ensures greatest { m.new.greatest.number ≤ max m.old.greatest.number 65536 }
+    ensures reads { OnlyReads result S.Source source.old source.new }
+    ensures writes { OnlyWrites result (full_copied result) O.Output output.old output.new }
 {
     let mut at = 0;
     while at < n {
@@ -144,19 +130,14 @@ pub fn write_zeros<O: Output>(
     ensures front { O.written output.new ≡ O.written output.old ++ take
         (length (O.written output.new) - length (O.written output.old)) (replicate n 0) }
     ensures all { OnOk result (length (O.written output.new) ≡ length (O.written output.old) + n) }
-    ensures least { length (O.written output.old) ≤ length (O.written output.new) }
     ensures most { length (O.written output.new) ≤ length (O.written output.old) + n }
-    ensures write_frame { O.write_frame output.new ≡ O.write_frame output.old }
-    ensures write_faults { O.write_faults output.old ≤ O.write_faults output.new }
     ensures cause { OnErr result (O.write_faults output.old < O.write_faults output.new) }
-    ensures clean { OnOk result (O.write_faults output.new ≡ O.write_faults output.old) }
-    ensures full_faults { O.full_faults output.new ≡ O.full_faults output.old + full_of result }
-    ensures writes { O.writes output.new
+    ensures write_calls { O.writes output.new
         ≤ O.writes output.old + (length (O.written output.new) - length (O.written output.old)) + 1 }
     ensures turns { m.new.turns.number
         ≤ m.old.turns.number + (length (O.written output.new) - length (O.written output.old)) + 1 }
-    ensures steps { m.new.steps.number ≡ m.old.steps.number }
-    ensures greatest { m.new.greatest.number ≡ m.old.greatest.number }
+    ensures writes { OnlyWrites result (full_of result) O.Output output.old output.new }
+    ensures no_step { NoStep m.old m.new }
 {
     let front = n.min(WINDOW as u64) as usize;
     lay_byte(w, front, 0);

@@ -1,7 +1,8 @@
 //! A source read as an input, from byte 0 on.
 
-ghost use Rattle.std.specs.Prelude.{◌≡◌, ◌<◌, ◌≤◌, ◌+◌, [], IsTrue, IfOk, IfErr, OnOk, OnErr, min, length, take, drop};
+ghost use Rattle.std.specs.Prelude.{◌≡◌, ◌≤◌, ◌+◌, IsTrue, min, length, take, drop};
 ghost use Rattle.abt_io.specs.BytesLaws.{bytes_of_drop};
+ghost use Rattle.abt_io.specs.Called.{PassesOnce};
 ghost use Rattle.abt_io.specs.Count.{count_of};
 
 use crate::{DeviceFault, Input, Source};
@@ -48,21 +49,9 @@ impl<S: Source> Input for Forward<S> {
 
     fn read(&mut self, out: &mut [u8]) -> Result<usize, DeviceFault>
         requires { length out.old ≤ 65536 }
-        ensures within { count_of result ≤ length out.new }
-        ensures present { IsTrue S.tells → count_of result
-            ≤ length (drop self.old.position (S.content self.old.source)) }
+        ensures passed { PassesOnce ⟦<Forward<S> as Input>⟧ result self.old self.new (length out.new) }
         ensures bytes { IsTrue S.tells → take (count_of result) out.new
             ≡ take (count_of result) (drop self.old.position (S.content self.old.source)) }
-        ensures rest { IsTrue S.tells → drop self.new.position (S.content self.new.source)
-            ≡ drop (count_of result) (drop self.old.position (S.content self.old.source)) }
-        ensures ended { IsTrue S.tells →
-            IfOk result (λ n. n ≡ 0 → 0 < length out.new → drop self.old.position (S.content self.old.source) ≡ []) }
-        ensures calls { S.reads self.new.source ≡ S.reads self.old.source + 1 }
-        ensures counted { S.given self.new.source ≡ S.given self.old.source + count_of result }
-        ensures faults { S.read_faults self.old.source ≤ S.read_faults self.new.source }
-        ensures cause { OnErr result (S.read_faults self.old.source < S.read_faults self.new.source) }
-        ensures clean { OnOk result (S.read_faults self.new.source ≡ S.read_faults self.old.source) }
-        ensures failed { IfErr result (λ e. e ≡ DeviceFault.Failed) }
         ensures position { self.new.position ≡ min (self.old.position + count_of result) u64.MAX }
     {
         let n = self.source.read_at(self.position, out)?;

@@ -1,9 +1,10 @@
 //! An output whose first bytes are laid last, so that no reader takes what was broken off for a whole
 //! image: an image without its magic is none.
 
-ghost use Rattle.std.specs.Prelude.{◌≡◌, ◌<◌, ◌≤◌, ◌+◌, ◌++◌, [], IsTrue, IfOk, IfErr, OnOk, OnErr, IsErrOf, false};
+ghost use Rattle.std.specs.Prelude.{◌≡◌, ◌<◌, ◌≤◌, ◌+◌, [], IsTrue, IfErr, OnOk, OnErr};
 ghost use Rattle.std.specs.Prelude.{length, take, replicate};
-ghost use Rattle.abt_io.specs.Count.{count_of, full_of};
+ghost use Rattle.abt_io.specs.Called.{WritesOnce};
+ghost use Rattle.abt_io.specs.Lent.{OnlyWrites, NoStep};
 ghost use Rattle.abt_io.specs.Over.{WritesFront, with_front};
 
 use crate::{DeviceFault, Meter, Output, Overwrite, write_over_all};
@@ -54,16 +55,12 @@ impl<O: Overwrite> FrontLast<O> {
         ensures front { OnErr result (WritesFront (O.written self.old.output) (O.written self.new.output) 0
             (take self.old.kept self.old.front)) }
         ensures kept { self.new.kept ≡ 0 }
-        ensures frame { O.write_frame self.new.output ≡ O.write_frame self.old.output }
         ensures calls { O.writes self.new.output ≤ O.writes self.old.output + 8 }
-        ensures faults { O.write_faults self.old.output ≤ O.write_faults self.new.output }
         ensures cause { OnErr result (O.write_faults self.old.output < O.write_faults self.new.output) }
-        ensures clean { OnOk result (O.write_faults self.new.output ≡ O.write_faults self.old.output) }
-        ensures full_faults { O.full_faults self.new.output ≡ O.full_faults self.old.output }
         ensures failed { IfErr result (λ e. e ≡ DeviceFault.Failed) }
         ensures turns { m.new.turns.number ≤ m.old.turns.number + 8 }
-        ensures steps { m.new.steps.number ≡ m.old.steps.number }
-        ensures greatest { m.new.greatest.number ≡ m.old.greatest.number }
+        ensures writes { OnlyWrites result 0 O.Output self.old.output self.new.output }
+        ensures no_step { NoStep m.old m.new }
     {
         let kept = self.kept;
         self.kept = 0;
@@ -75,18 +72,7 @@ impl<O: Overwrite> FrontLast<O> {
     fn keep_back(&mut self, bytes: &[u8]) -> Result<usize, DeviceFault>
         requires open { IsTrue self.old.is_open }
         requires room { self.old.kept < 8 }
-        ensures within { count_of result ≤ length bytes.now }
-        ensures progress { IfOk result (λ n. 0 < length bytes.now → 0 < n) }
-        ensures written { with_front self.new.front self.new.kept (O.written self.new.output)
-            ≡ with_front self.old.front self.old.kept (O.written self.old.output) ++ take (count_of result) bytes.now }
-        ensures frame { O.write_frame self.new.output ≡ O.write_frame self.old.output }
-        ensures calls { O.writes self.new.output ≡ O.writes self.old.output + 1 }
-        ensures faults { O.write_faults self.old.output ≤ O.write_faults self.new.output }
-        ensures cause { OnErr result (O.write_faults self.old.output < O.write_faults self.new.output) }
-        ensures clean { OnOk result (O.write_faults self.new.output ≡ O.write_faults self.old.output) }
-        ensures full_faults { O.full_faults self.new.output ≡ O.full_faults self.old.output + full_of result }
-        ensures full { IsErrOf result DeviceFault.Full → IsTrue (O.is_full self.old.output) }
-        ensures still_full { IsErrOf result DeviceFault.Full → IsTrue (O.is_full self.new.output) }
+        ensures wrote { WritesOnce ⟦<FrontLast<O> as Output>⟧ result self.old self.new bytes.now }
     {
         let kept = self.kept;
         let zeros = [0u8; FRONT];

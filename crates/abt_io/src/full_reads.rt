@@ -1,6 +1,7 @@
 //! Reading one ask to its end: from an input, and from a source at a place.
 
-ghost use Rattle.std.specs.Prelude.{◌≡◌, ◌<◌, ◌≤◌, ◌+◌, ◌-◌, ◌^◌, IsTrue, IsNone, IfSome, min, length, take, drop};
+ghost use Rattle.std.specs.Prelude.{◌≡◌, ◌<◌, ◌≤◌, ◌+◌, ◌-◌, ◌^◌, IsTrue, IsNone, min, length, take, drop};
+ghost use Rattle.abt_io.specs.Lent.{ReadsForward, ReadsFrom, ReadCosts};
 
 use crate::{DeviceFault, Input, Meter, Source};
 
@@ -18,22 +19,12 @@ pub struct FullRead {
 pub fn read_full<I: Input>(input: &mut I, out: &mut [u8], m: &mut Meter) -> FullRead
     requires { length out.old ≤ 65536 }
     ensures within { result.count ≤ length out.new }
-    ensures given { I.given input.new ≡ I.given input.old + result.count }
-    ensures present { IsTrue I.tells → result.count ≤ length (I.remaining input.old) }
     ensures all { IsTrue I.tells → IsNone result.fault →
         result.count ≡ min (length out.new) (length (I.remaining input.old)) }
     ensures bytes { IsTrue I.tells → take result.count out.new ≡ take result.count (I.remaining input.old) }
-    ensures rest { IsTrue I.tells → I.remaining input.new ≡ drop result.count (I.remaining input.old) }
     ensures none { length out.old ≡ 0 → input.new ≡ input.old }
-    ensures frame { I.read_frame input.new ≡ I.read_frame input.old }
-    ensures faults { I.read_faults input.old ≤ I.read_faults input.new }
-    ensures cause { IfSome result.fault (λ _. I.read_faults input.old < I.read_faults input.new) }
-    ensures clean { IsNone result.fault → I.read_faults input.new ≡ I.read_faults input.old }
-    ensures failed { IfSome result.fault (λ e. e ≡ DeviceFault.Failed) }
-    ensures reads { I.reads input.new ≤ I.reads input.old + result.count + 1 }
-    ensures turns { m.new.turns.number ≤ m.old.turns.number + result.count + 1 }
-    ensures steps { m.new.steps.number ≡ m.old.steps.number }
-    ensures greatest { m.new.greatest.number ≡ m.old.greatest.number }
+    ensures forward { ReadsForward I.Input input.old input.new result.count result.fault }
+    ensures costs { ReadCosts (I.reads input.old) (I.reads input.new) result.count m.old m.new }
 {
     let mut at = 0;
     while at < out.len() {
@@ -69,23 +60,13 @@ pub fn read_full_at<S: Source>(source: &mut S, at: u64, out: &mut [u8], m: &mut 
     requires window { length out.old ≤ 65536 }
     requires below { at + length out.old < 2 ^ 64 }
     ensures within { result.count ≤ length out.new }
-    ensures given { S.given source.new ≡ S.given source.old + result.count }
     ensures present { IsTrue S.tells → result.count ≤ length (S.content source.old) - at }
     ensures all { IsTrue S.tells → IsNone result.fault →
         result.count ≡ min (length out.new) (length (S.content source.old) - at) }
     ensures bytes { IsTrue S.tells → take result.count out.new ≡ take result.count (drop at (S.content source.old)) }
-    ensures content { IsTrue S.tells → S.content source.new ≡ S.content source.old }
-    ensures size { IsTrue S.tells → S.size source.new ≡ S.size source.old }
     ensures none { length out.old ≡ 0 → source.new ≡ source.old }
-    ensures frame { S.read_frame source.new ≡ S.read_frame source.old }
-    ensures faults { S.read_faults source.old ≤ S.read_faults source.new }
-    ensures cause { IfSome result.fault (λ _. S.read_faults source.old < S.read_faults source.new) }
-    ensures clean { IsNone result.fault → S.read_faults source.new ≡ S.read_faults source.old }
-    ensures failed { IfSome result.fault (λ e. e ≡ DeviceFault.Failed) }
-    ensures reads { S.reads source.new ≤ S.reads source.old + result.count + 1 }
-    ensures turns { m.new.turns.number ≤ m.old.turns.number + result.count + 1 }
-    ensures steps { m.new.steps.number ≡ m.old.steps.number }
-    ensures greatest { m.new.greatest.number ≡ m.old.greatest.number }
+    ensures source { ReadsFrom S.Source source.old source.new result.count result.fault }
+    ensures costs { ReadCosts (S.reads source.old) (S.reads source.new) result.count m.old m.new }
 {
     let mut done = 0;
     while done < out.len() {

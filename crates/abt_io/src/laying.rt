@@ -2,6 +2,7 @@
 
 ghost use Rattle.std.specs.Prelude.{◌≡◌, ◌<◌, ◌≤◌, ◌+◌, ◌*◌, length, take, replicate};
 ghost use Rattle.std.specs.List.{concat};
+ghost use Rattle.abt_io.specs.Lent.{NoStep};
 
 use crate::{Meter, Window};
 
@@ -16,8 +17,7 @@ pub fn lay_word(w: &mut Window, word: [u8; 4], n: usize, m: &mut Meter)
     ensures laid { take (4 * n) w.new.bytes ≡ concat (replicate n word) }
     ensures few { m.new.turns.number ≤ m.old.turns.number + 14 }
     ensures turns { m.new.turns.number ≤ m.old.turns.number + n }
-    ensures steps { m.new.steps.number ≡ m.old.steps.number }
-    ensures greatest { m.new.greatest.number ≡ m.old.greatest.number }
+    ensures no_step { NoStep m.old m.new }
 {
     w.bytes[..4].copy_from_slice(&word);
     let mut done = 1;

@@ -1,8 +1,7 @@
 //! An output whose written bytes can be written over, and a lent slice as one.
 
-ghost use Rattle.std.specs.Prelude.{◌≡◌, ◌<◌, ◌≤◌, ◌+◌, IfOk, IfErr, OnOk, OnErr, length, take};
-ghost use Rattle.abt_io.specs.Count.{count_of};
-ghost use Rattle.abt_io.specs.Moment.{put_at};
+ghost use Rattle.std.specs.Prelude.{◌≡◌, ◌≤◌, ◌+◌, length};
+ghost use Rattle.abt_io.specs.Calls.{HasWrittenOver};
 
 use crate::bytes::put_part;
 use crate::{DeviceFault, Output, SliceOutput};
@@ -22,16 +21,8 @@ pub trait Overwrite: Output {
     fn write_over(&mut self, at: u64, bytes: &[u8]) -> Result<usize, DeviceFault>
         requires window { length bytes.now ≤ 65536 }
         requires stands { at + length bytes.now ≤ length (Self.written self.old) }
-        ensures within { count_of result ≤ length bytes.now }
-        ensures progress { IfOk result (λ n. 0 < length bytes.now → 0 < n) }
-        ensures written { Self.written self.new ≡ put_at (Self.written self.old) at (take (count_of result) bytes.now) }
-        ensures frame { Self.write_frame self.new ≡ Self.write_frame self.old }
-        ensures calls { Self.writes self.new ≡ Self.writes self.old + 1 }
-        ensures faults { Self.write_faults self.old ≤ Self.write_faults self.new }
-        ensures cause { OnErr result (Self.write_faults self.old < Self.write_faults self.new) }
-        ensures clean { OnOk result (Self.write_faults self.new ≡ Self.write_faults self.old) }
-        ensures full_faults { Self.full_faults self.new ≡ Self.full_faults self.old }
-        ensures failed { IfErr result (λ e. e ≡ DeviceFault.Failed) };
+        ensures wrote { HasWrittenOver Self.written Self.writes Self.write_faults Self.full_faults Self.write_frame result
+            self.old self.new at bytes.now };
 }
 
 impl<'a> Overwrite for SliceOutput<'a> {

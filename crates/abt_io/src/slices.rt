@@ -1,9 +1,10 @@
 //! A lent slice as a source, and as an output.
 
-ghost use Rattle.std.specs.Prelude.{◌≡◌, ◌<◌, ◌≤◌, ◌+◌, ◌-◌, ◌++◌, IsTrue, IfOk, OnOk, OnErr, IsErrOf, min, length};
+ghost use Rattle.std.specs.Prelude.{◌≡◌, ◌<◌, ◌≤◌, ◌-◌, OnOk, OnErr, min, length};
 ghost use Rattle.std.specs.Prelude.{take, drop, true, not, nat_lt, refl};
 ghost use Rattle.abt_io.specs.Bytes.{AreBytes};
-ghost use Rattle.abt_io.specs.Count.{count_of, full_of};
+ghost use Rattle.abt_io.specs.Called.{WritesOnce};
+ghost use Rattle.abt_io.specs.Count.{count_of};
 
 use crate::bytes::{are_bytes, read_part};
 use crate::{DeviceFault, Output, Source, Tally};
@@ -110,19 +111,7 @@ impl<'a> Output for SliceOutput<'a> {
 
     fn write(&mut self, bytes: &[u8]) -> Result<usize, DeviceFault>
         requires { length bytes.now ≤ 65536 }
-        ensures within { count_of result ≤ length bytes.now }
-        ensures progress { IfOk result (λ n. 0 < length bytes.now → 0 < n) }
-        ensures written { take self.new.used self.new.room.now ≡ take self.old.used self.old.room.now
-            ++ take (count_of result) bytes.now }
-        ensures calls { self.new.calls.number ≡ self.old.calls.number + 1 }
-        ensures faults { self.old.faults.number ≤ self.new.faults.number }
-        ensures cause { OnErr result (self.old.faults.number < self.new.faults.number) }
-        ensures clean { OnOk result (self.new.faults.number ≡ self.old.faults.number) }
-        ensures full_faults { self.new.faults.number ≡ self.old.faults.number + full_of result }
-        ensures full { IsErrOf result DeviceFault.Full →
-            IsTrue (not (nat_lt self.old.used (length self.old.room.now))) }
-        ensures still_full { IsErrOf result DeviceFault.Full →
-            IsTrue (not (nat_lt self.new.used (length self.new.room.now))) }
+        ensures wrote { WritesOnce ⟦<SliceOutput<'a> as Output>⟧ result self.old self.new bytes.now }
         ensures takes { OnOk result (count_of result
             ≡ min (length bytes.now) (length self.old.room.now - self.old.used)) }
         ensures refuses { OnErr result (0 < length bytes.now) }

@@ -3,6 +3,7 @@
 ghost use Rattle.std.specs.Prelude.{◌≡◌, ◌<◌, ◌≤◌, ◌+◌, ◌-◌, ◌^◌, ◌++◌, IsTrue, OnOk, OnErr, IfErr, IsErrOf, length};
 ghost use Rattle.std.specs.Prelude.{take};
 ghost use Rattle.abt_io.specs.Count.{full_of};
+ghost use Rattle.abt_io.specs.Lent.{OnlyWrites, NoStep};
 ghost use Rattle.abt_io.specs.Moment.{Keeps, KeepsUnsynced, EachSince, in_range, moment_of, put_at};
 ghost use Rattle.abt_io.specs.Over.{WritesFront};
 
@@ -16,21 +17,16 @@ pub fn write_out<O: Output>(output: &mut O, bytes: &[u8], m: &mut Meter) -> Resu
     ensures front { O.written output.new ≡ O.written output.old ++ take
         (length (O.written output.new) - length (O.written output.old)) bytes.now }
     ensures all { OnOk result (length (O.written output.new) ≡ length (O.written output.old) + length bytes.now) }
-    ensures grown { length (O.written output.old) ≤ length (O.written output.new) }
     ensures within { length (O.written output.new) ≤ length (O.written output.old) + length bytes.now }
-    ensures frame { O.write_frame output.new ≡ O.write_frame output.old }
-    ensures faults { O.write_faults output.old ≤ O.write_faults output.new }
     ensures cause { OnErr result (O.write_faults output.old < O.write_faults output.new) }
-    ensures clean { OnOk result (O.write_faults output.new ≡ O.write_faults output.old) }
-    ensures full_faults { O.full_faults output.new ≡ O.full_faults output.old + full_of result }
     ensures full { IsErrOf result DeviceFault.Full → IsTrue (O.is_full output.new) }
     ensures short { OnErr result (length (O.written output.new) < length (O.written output.old) + length bytes.now) }
     ensures calls { O.writes output.new + length (O.written output.old) ≤ O.writes output.old + length
         (O.written output.new) + 1 }
     ensures turns { m.new.turns.number + length (O.written output.old) ≤ m.old.turns.number + length
         (O.written output.new) + 1 }
-    ensures steps { m.new.steps.number ≡ m.old.steps.number }
-    ensures greatest { m.new.greatest.number ≡ m.old.greatest.number }
+    ensures writes { OnlyWrites result (full_of result) O.Output output.old output.new }
+    ensures no_step { NoStep m.old m.new }
 {
     let mut at = 0;
     while at < bytes.len() {
@@ -79,8 +75,7 @@ pub fn write_all_at<P: Partition>(
     ensures few_calls { P.puts partition.new + P.taken partition.old ≤ P.puts partition.old + P.taken
         partition.new + 1 }
     ensures few_turns { m.new.turns.number + P.taken partition.old ≤ m.old.turns.number + P.taken partition.new + 1 }
-    ensures steps { m.new.steps.number ≡ m.old.steps.number }
-    ensures greatest { m.new.greatest.number ≡ m.old.greatest.number }
+    ensures no_step { NoStep m.old m.new }
 {
     let mut done = 0;
     while done < bytes.len() {
@@ -105,16 +100,12 @@ pub fn write_over_all<O: Overwrite>(
     ensures before { take at (O.written output.new) ≡ take at (O.written output.old) }
     ensures front { OnErr result (WritesFront (O.written output.old) (O.written output.new) at bytes.now) }
     ensures long { length (O.written output.new) ≡ length (O.written output.old) }
-    ensures frame { O.write_frame output.new ≡ O.write_frame output.old }
-    ensures faults { O.write_faults output.old ≤ O.write_faults output.new }
     ensures cause { OnErr result (O.write_faults output.old < O.write_faults output.new) }
-    ensures clean { OnOk result (O.write_faults output.new ≡ O.write_faults output.old) }
-    ensures full_faults { O.full_faults output.new ≡ O.full_faults output.old }
     ensures failed { IfErr result (λ e. e ≡ DeviceFault.Failed) }
     ensures calls { O.writes output.new ≤ O.writes output.old + length bytes.now }
     ensures turns { m.new.turns.number ≤ m.old.turns.number + length bytes.now }
-    ensures steps { m.new.steps.number ≡ m.old.steps.number }
-    ensures greatest { m.new.greatest.number ≡ m.old.greatest.number }
+    ensures writes { OnlyWrites result 0 O.Output output.old output.new }
+    ensures no_step { NoStep m.old m.new }
 {
     let mut done = 0;
     while done < bytes.len() {

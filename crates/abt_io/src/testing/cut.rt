@@ -1,10 +1,10 @@
 //! A device that moves few bytes a call.
 
-ghost use Rattle.std.specs.Prelude.{◌≡◌, ◌<◌, ◌≤◌, ◌+◌, ◌-◌, ◌^◌, ◌++◌, [], IsTrue, IfOk, IfErr, OnOk, OnErr};
-ghost use Rattle.std.specs.Prelude.{IsErrOf, length, take, drop};
-ghost use Rattle.abt_io.specs.Count.{count_of, full_of};
-ghost use Rattle.abt_io.specs.Moment.{Keeps, EachSince, IsNewest, MayLeave, StaysPending, AllPending};
-ghost use Rattle.abt_io.specs.Moment.{in_range, moment_of, put_at};
+ghost use Rattle.std.specs.Prelude.{◌≡◌, ◌<◌, ◌≤◌, ◌+◌, IsTrue, length, take};
+ghost use Rattle.abt_io.specs.Called.{PassesOnce, WritesOnce, WritesOverOnce, ReadsPlaceOnce};
+ghost use Rattle.abt_io.specs.Calls.{HasLaid, HasPut};
+ghost use Rattle.abt_io.specs.Count.{count_of};
+ghost use Rattle.abt_io.specs.Testing.{MovesAtMost};
 
 use crate::{DeviceFault, Input, Output, Overwrite, Partition, Source, Spool};
 
@@ -54,23 +54,10 @@ impl<D: Input> Input for Cut<D> {
 
     fn read(&mut self, out: &mut [u8]) -> Result<usize, DeviceFault>
         requires { length out.old ≤ 65536 }
-        ensures within { count_of result ≤ length out.new }
-        ensures present { IsTrue D.tells → count_of result ≤ length (D.remaining self.old.device) }
+        ensures passed { PassesOnce ⟦<Cut<D> as Input>⟧ result self.old self.new (length out.new) }
         ensures bytes { IsTrue D.tells → take (count_of result) out.new
             ≡ take (count_of result) (D.remaining self.old.device) }
-        ensures rest { IsTrue D.tells → D.remaining self.new.device
-            ≡ drop (count_of result) (D.remaining self.old.device) }
-        ensures ended { IsTrue D.tells →
-            IfOk result (λ n. n ≡ 0 → 0 < length out.new → D.remaining self.old.device ≡ []) }
-        ensures frame { D.read_frame self.new.device ≡ D.read_frame self.old.device }
-        ensures calls { D.reads self.new.device ≡ D.reads self.old.device + 1 }
-        ensures counted { D.given self.new.device ≡ D.given self.old.device + count_of result }
-        ensures faults { D.read_faults self.old.device ≤ D.read_faults self.new.device }
-        ensures cause { OnErr result (D.read_faults self.old.device < D.read_faults self.new.device) }
-        ensures clean { OnOk result (D.read_faults self.new.device ≡ D.read_faults self.old.device) }
-        ensures failed { IfErr result (λ e. e ≡ DeviceFault.Failed) }
-        ensures most { count_of result ≤ self.old.most }
-        ensures same { self.new.most ≡ self.old.most }
+        ensures most { MovesAtMost (count_of result) self.old.most self.new.most }
     {
         let n = self.share(out.len());
         self.device.read(&mut out[..n])
@@ -102,24 +89,8 @@ impl<D: Source> Source for Cut<D> {
 
     fn read_at(&mut self, at: u64, out: &mut [u8]) -> Result<usize, DeviceFault>
         requires { length out.old ≤ 65536 }
-        ensures within { count_of result ≤ length out.new }
-        ensures present { IsTrue D.tells → count_of result ≤ length (D.content self.old.device) - at }
-        ensures bytes { IsTrue D.tells → take (count_of result) out.new
-            ≡ take (count_of result) (drop at (D.content self.old.device)) }
-        ensures content { IsTrue D.tells → D.content self.new.device ≡ D.content self.old.device }
-        ensures size { IsTrue D.tells → D.size self.new.device ≡ D.size self.old.device }
-        ensures told { IsTrue D.tells → OnOk result (length (D.content self.old.device) < 2 ^ 64) }
-        ensures ended { IsTrue D.tells →
-            IfOk result (λ n. n ≡ 0 → 0 < length out.new → length (D.content self.old.device) ≤ at) }
-        ensures frame { D.read_frame self.new.device ≡ D.read_frame self.old.device }
-        ensures calls { D.reads self.new.device ≡ D.reads self.old.device + 1 }
-        ensures counted { D.given self.new.device ≡ D.given self.old.device + count_of result }
-        ensures faults { D.read_faults self.old.device ≤ D.read_faults self.new.device }
-        ensures cause { OnErr result (D.read_faults self.old.device < D.read_faults self.new.device) }
-        ensures clean { OnOk result (D.read_faults self.new.device ≡ D.read_faults self.old.device) }
-        ensures failed { IfErr result (λ e. e ≡ DeviceFault.Failed) }
-        ensures most { count_of result ≤ self.old.most }
-        ensures same { self.new.most ≡ self.old.most }
+        ensures has_read { ReadsPlaceOnce ⟦<Cut<D> as Source>⟧ result self.old self.new at out.new }
+        ensures most { MovesAtMost (count_of result) self.old.most self.new.most }
     {
         let n = self.share(out.len());
         self.device.read_at(at, &mut out[..n])
@@ -141,19 +112,8 @@ impl<D: Output> Output for Cut<D> {
 
     fn write(&mut self, bytes: &[u8]) -> Result<usize, DeviceFault>
         requires { length bytes.now ≤ 65536 }
-        ensures within { count_of result ≤ length bytes.now }
-        ensures progress { IfOk result (λ n. 0 < length bytes.now → 0 < n) }
-        ensures written { D.written self.new.device ≡ D.written self.old.device ++ take (count_of result) bytes.now }
-        ensures frame { D.write_frame self.new.device ≡ D.write_frame self.old.device }
-        ensures calls { D.writes self.new.device ≡ D.writes self.old.device + 1 }
-        ensures faults { D.write_faults self.old.device ≤ D.write_faults self.new.device }
-        ensures cause { OnErr result (D.write_faults self.old.device < D.write_faults self.new.device) }
-        ensures clean { OnOk result (D.write_faults self.new.device ≡ D.write_faults self.old.device) }
-        ensures full_faults { D.full_faults self.new.device ≡ D.full_faults self.old.device + full_of result }
-        ensures full { IsErrOf result DeviceFault.Full → IsTrue (D.is_full self.old.device) }
-        ensures still_full { IsErrOf result DeviceFault.Full → IsTrue (D.is_full self.new.device) }
-        ensures most { count_of result ≤ self.old.most }
-        ensures same { self.new.most ≡ self.old.most }
+        ensures wrote { WritesOnce ⟦<Cut<D> as Output>⟧ result self.old self.new bytes.now }
+        ensures most { MovesAtMost (count_of result) self.old.most self.new.most }
     {
         let n = self.share(bytes.len());
         self.device.write(&bytes[..n])
@@ -168,19 +128,8 @@ impl<D: Overwrite> Overwrite for Cut<D> {
     fn write_over(&mut self, at: u64, bytes: &[u8]) -> Result<usize, DeviceFault>
         requires window { length bytes.now ≤ 65536 }
         requires stands { at + length bytes.now ≤ length (D.written self.old.device) }
-        ensures within { count_of result ≤ length bytes.now }
-        ensures progress { IfOk result (λ n. 0 < length bytes.now → 0 < n) }
-        ensures written { D.written self.new.device
-            ≡ put_at (D.written self.old.device) at (take (count_of result) bytes.now) }
-        ensures frame { D.write_frame self.new.device ≡ D.write_frame self.old.device }
-        ensures calls { D.writes self.new.device ≡ D.writes self.old.device + 1 }
-        ensures faults { D.write_faults self.old.device ≤ D.write_faults self.new.device }
-        ensures cause { OnErr result (D.write_faults self.old.device < D.write_faults self.new.device) }
-        ensures clean { OnOk result (D.write_faults self.new.device ≡ D.write_faults self.old.device) }
-        ensures full_faults { D.full_faults self.new.device ≡ D.full_faults self.old.device }
-        ensures failed { IfErr result (λ e. e ≡ DeviceFault.Failed) }
-        ensures most { count_of result ≤ self.old.most }
-        ensures same { self.new.most ≡ self.old.most }
+        ensures wrote { WritesOverOnce ⟦<Cut<D> as Output>⟧ result self.old self.new at bytes.now }
+        ensures most { MovesAtMost (count_of result) self.old.most self.new.most }
     {
         let n = self.share(bytes.len());
         self.device.write_over(at, &bytes[..n])
@@ -203,39 +152,10 @@ impl<D: Partition> Partition for Cut<D> {
     fn write_at(&mut self, at: u64, bytes: &[u8]) -> Result<usize, DeviceFault>
         requires window { length bytes.now ≤ 65536 }
         requires fits { at + length bytes.now ≤ D.size self.old.device }
-        ensures within { count_of result ≤ length bytes.now }
-        ensures progress { IfOk result (λ n. 0 < length bytes.now → 0 < n) }
-        ensures size { D.size self.new.device ≡ D.size self.old.device }
-        ensures written { IsTrue D.tells →
-            IfOk result (λ n. D.content self.new.device ≡ put_at (D.content self.old.device) at (take n bytes.now)) }
-        ensures kept { IsTrue D.tells →
-            Keeps (in_range at (length bytes.now)) (moment_of (D.past self.old.device) (D.content self.old.device))
-            (moment_of (D.past self.new.device) (D.content self.new.device)) }
-        ensures moments { IsTrue D.tells →
-            EachSince (D.past self.old.device).moments (D.past self.new.device).moments (λ m. m
-            ≡ moment_of (D.past self.new.device) (D.content self.new.device)) }
-        ensures newest { IsTrue D.tells →
-            OnOk result (IsNewest (moment_of (D.past self.new.device) (D.content self.new.device))
-            (D.past self.new.device).moments) }
-        ensures pending { IsTrue D.tells → AllPending (in_range at (count_of result)) (D.past self.new.device).pending }
-        ensures stays { IsTrue D.tells →
-            StaysPending (D.past self.old.device).pending (D.past self.new.device).pending }
-        ensures unsettled { IsTrue D.tells →
-            MayLeave (moment_of (D.past self.new.device) (D.content self.new.device))
-            (D.content self.old.device) }
-        ensures synced { (D.past self.new.device).synced ≡ (D.past self.old.device).synced }
-        ensures calls { D.puts self.new.device ≡ D.puts self.old.device + 1 }
-        ensures counted { D.taken self.new.device ≡ D.taken self.old.device + count_of result }
-        ensures sync_calls { D.syncs self.new.device ≡ D.syncs self.old.device }
-        ensures reads { D.reads self.new.device ≡ D.reads self.old.device }
-        ensures given { D.given self.new.device ≡ D.given self.old.device }
-        ensures read_faults { D.read_faults self.new.device ≡ D.read_faults self.old.device }
-        ensures faults { D.put_faults self.old.device ≤ D.put_faults self.new.device }
-        ensures cause { OnErr result (D.put_faults self.old.device < D.put_faults self.new.device) }
-        ensures clean { OnOk result (D.put_faults self.new.device ≡ D.put_faults self.old.device) }
-        ensures failed { IfErr result (λ e. e ≡ DeviceFault.Failed) }
-        ensures most { count_of result ≤ self.old.most }
-        ensures same { self.new.most ≡ self.old.most }
+        ensures laid { let p = ⟦<Cut<D> as Partition>⟧ in HasLaid p.tells p.content p.past result self.old self.new at bytes.now }
+        ensures put { let p = ⟦<Cut<D> as Partition>⟧ in HasPut p.size p.reads p.given p.read_faults p.puts p.taken
+            p.syncs p.put_faults result self.old self.new (length bytes.now) }
+        ensures most { MovesAtMost (count_of result) self.old.most self.new.most }
     {
         let n = self.share(bytes.len());
         self.device.write_at(at, &bytes[..n])

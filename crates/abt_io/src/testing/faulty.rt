@@ -1,14 +1,14 @@
 //! A device that fails once.
 
-ghost use Rattle.std.specs.Prelude.{◌≡◌, ◌<◌, ◌≤◌, ◌+◌, ◌-◌, ◌^◌, ◌++◌, ◌∷◌, ◌↔◌, [], false, IsTrue, IfOk, IfErr};
-ghost use Rattle.std.specs.Prelude.{OnOk, OnErr, IsErrOf, is_ok, if◌then◌else◌, min, length, take, drop};
+ghost use Rattle.std.specs.Prelude.{◌≡◌, ◌≤◌, ◌+◌, ◌↔◌, IsTrue, min, length, take};
 ghost use Rattle.std.specs.Borrow.{sem};
-ghost use Rattle.abt_io.specs.Count.{count_of, full_of};
-ghost use Rattle.abt_io.specs.Inner.{LendsInner};
-ghost use Rattle.abt_io.specs.Moment.{Keeps, EachSince, IsNewest, MayLeave, StaysPending, AllPending};
-ghost use Rattle.abt_io.specs.Moment.{in_range, moment_of, put_at};
+ghost use Rattle.abt_io.specs.Called.{PassesOnce, WritesOnce, WritesOverOnce, ReadsPlaceOnce};
+ghost use Rattle.abt_io.specs.Calls.{HasLaid, HasPut, HasSettled, HasSynced, HasCleared, HasCountedClear};
+ghost use Rattle.abt_io.specs.Count.{count_of};
 ghost use Rattle.abt_io.specs.FrameLaws.{counted_reading, counted_writing, counted_partition, more_reading};
 ghost use Rattle.abt_io.specs.FrameLaws.{more_writing, more_partition};
+ghost use Rattle.abt_io.specs.Inner.{LendsInner};
+ghost use Rattle.abt_io.specs.Testing.{FailsOnce};
 
 use crate::{DeviceFault, Input, Output, Overwrite, Partition, Source, Spool, Tally};
 
@@ -85,30 +85,11 @@ impl<D: Input> Input for Faulty<D> {
 
     fn read(&mut self, out: &mut [u8]) -> Result<usize, DeviceFault>
         requires { length out.old ≤ 65536 }
-        ensures within { count_of result ≤ length out.new }
-        ensures present { IsTrue D.tells → count_of result ≤ length (D.remaining self.old.device) }
+        ensures passed { PassesOnce ⟦<Faulty<D> as Input>⟧ result self.old self.new (length out.new) }
         ensures bytes { IsTrue D.tells → take (count_of result) out.new
             ≡ take (count_of result) (D.remaining self.old.device) }
-        ensures rest { IsTrue D.tells → D.remaining self.new.device
-            ≡ drop (count_of result) (D.remaining self.old.device) }
-        ensures ended { IsTrue D.tells →
-            IfOk result (λ n. n ≡ 0 → 0 < length out.new → D.remaining self.old.device ≡ []) }
-        ensures frame { more_reading (D.read_frame self.new.device) self.new.writes.number self.new.others.number
-            ≡ more_reading (D.read_frame self.old.device) self.old.writes.number self.old.others.number }
-        ensures calls { (D.reads self.new.device + self.new.reads.number)
-            ≡ (D.reads self.old.device + self.old.reads.number) + 1 }
-        ensures counted { D.given self.new.device ≡ D.given self.old.device + count_of result }
-        ensures faults { (D.read_faults self.old.device + self.old.reads.number)
-            ≤ (D.read_faults self.new.device + self.new.reads.number) }
-        ensures cause { OnErr result ((D.read_faults self.old.device + self.old.reads.number)
-            < (D.read_faults self.new.device + self.new.reads.number)) }
-        ensures clean { OnOk result ((D.read_faults self.new.device + self.new.reads.number)
-            ≡ (D.read_faults self.old.device + self.old.reads.number)) }
-        ensures failed { IfErr result (λ e. e ≡ DeviceFault.Failed) }
-        ensures seen { self.new.seen ≡ min (self.old.seen + 1) u64.MAX }
-        ensures same { self.new.at ≡ self.old.at }
-        ensures fails { self.new.seen ≡ self.old.at → IsErrOf result DeviceFault.Failed }
-        ensures passes { (self.new.seen ≡ self.old.at → ⊥) → self.new.reads.number ≡ self.old.reads.number }
+        ensures once { FailsOnce result self.old.at self.new.at self.old.seen self.new.seen self.old.reads.number
+            self.new.reads.number }
     {
         if self.fails() {
             self.reads.add(1);
@@ -133,26 +114,9 @@ impl<D: Output> Output for Faulty<D> {
 
     fn write(&mut self, bytes: &[u8]) -> Result<usize, DeviceFault>
         requires { length bytes.now ≤ 65536 }
-        ensures within { count_of result ≤ length bytes.now }
-        ensures progress { IfOk result (λ n. 0 < length bytes.now → 0 < n) }
-        ensures written { D.written self.new.device ≡ D.written self.old.device ++ take (count_of result) bytes.now }
-        ensures frame { more_writing (D.write_frame self.new.device) self.new.reads.number self.new.others.number
-            ≡ more_writing (D.write_frame self.old.device) self.old.reads.number self.old.others.number }
-        ensures calls { (D.writes self.new.device + self.new.writes.number)
-            ≡ (D.writes self.old.device + self.old.writes.number) + 1 }
-        ensures faults { (D.write_faults self.old.device + self.old.writes.number)
-            ≤ (D.write_faults self.new.device + self.new.writes.number) }
-        ensures cause { OnErr result ((D.write_faults self.old.device + self.old.writes.number)
-            < (D.write_faults self.new.device + self.new.writes.number)) }
-        ensures clean { OnOk result ((D.write_faults self.new.device + self.new.writes.number)
-            ≡ (D.write_faults self.old.device + self.old.writes.number)) }
-        ensures full_faults { D.full_faults self.new.device ≡ D.full_faults self.old.device + full_of result }
-        ensures full { IsErrOf result DeviceFault.Full → IsTrue (D.is_full self.old.device) }
-        ensures still_full { IsErrOf result DeviceFault.Full → IsTrue (D.is_full self.new.device) }
-        ensures seen { self.new.seen ≡ min (self.old.seen + 1) u64.MAX }
-        ensures same { self.new.at ≡ self.old.at }
-        ensures fails { self.new.seen ≡ self.old.at → IsErrOf result DeviceFault.Failed }
-        ensures passes { (self.new.seen ≡ self.old.at → ⊥) → self.new.writes.number ≡ self.old.writes.number }
+        ensures wrote { WritesOnce ⟦<Faulty<D> as Output>⟧ result self.old self.new bytes.now }
+        ensures once { FailsOnce result self.old.at self.new.at self.old.seen self.new.seen self.old.writes.number
+            self.new.writes.number }
     {
         if self.fails() {
             self.writes.add(1);
@@ -170,26 +134,9 @@ impl<D: Overwrite> Overwrite for Faulty<D> {
     fn write_over(&mut self, at: u64, bytes: &[u8]) -> Result<usize, DeviceFault>
         requires window { length bytes.now ≤ 65536 }
         requires stands { at + length bytes.now ≤ length (D.written self.old.device) }
-        ensures within { count_of result ≤ length bytes.now }
-        ensures progress { IfOk result (λ n. 0 < length bytes.now → 0 < n) }
-        ensures written { D.written self.new.device
-            ≡ put_at (D.written self.old.device) at (take (count_of result) bytes.now) }
-        ensures frame { more_writing (D.write_frame self.new.device) self.new.reads.number self.new.others.number
-            ≡ more_writing (D.write_frame self.old.device) self.old.reads.number self.old.others.number }
-        ensures calls { (D.writes self.new.device + self.new.writes.number)
-            ≡ (D.writes self.old.device + self.old.writes.number) + 1 }
-        ensures faults { (D.write_faults self.old.device + self.old.writes.number)
-            ≤ (D.write_faults self.new.device + self.new.writes.number) }
-        ensures cause { OnErr result ((D.write_faults self.old.device + self.old.writes.number)
-            < (D.write_faults self.new.device + self.new.writes.number)) }
-        ensures clean { OnOk result ((D.write_faults self.new.device + self.new.writes.number)
-            ≡ (D.write_faults self.old.device + self.old.writes.number)) }
-        ensures full_faults { D.full_faults self.new.device ≡ D.full_faults self.old.device }
-        ensures failed { IfErr result (λ e. e ≡ DeviceFault.Failed) }
-        ensures seen { self.new.seen ≡ min (self.old.seen + 1) u64.MAX }
-        ensures same { self.new.at ≡ self.old.at }
-        ensures fails { self.new.seen ≡ self.old.at → IsErrOf result DeviceFault.Failed }
-        ensures passes { (self.new.seen ≡ self.old.at → ⊥) → self.new.writes.number ≡ self.old.writes.number }
+        ensures wrote { WritesOverOnce ⟦<Faulty<D> as Output>⟧ result self.old self.new at bytes.now }
+        ensures once { FailsOnce result self.old.at self.new.at self.old.seen self.new.seen self.old.writes.number
+            self.new.writes.number }
     {
         if self.fails() {
             self.writes.add(1);
@@ -224,31 +171,9 @@ impl<D: Source> Source for Faulty<D> {
 
     fn read_at(&mut self, at: u64, out: &mut [u8]) -> Result<usize, DeviceFault>
         requires { length out.old ≤ 65536 }
-        ensures within { count_of result ≤ length out.new }
-        ensures present { IsTrue D.tells → count_of result ≤ length (D.content self.old.device) - at }
-        ensures bytes { IsTrue D.tells → take (count_of result) out.new
-            ≡ take (count_of result) (drop at (D.content self.old.device)) }
-        ensures content { IsTrue D.tells → D.content self.new.device ≡ D.content self.old.device }
-        ensures size { IsTrue D.tells → D.size self.new.device ≡ D.size self.old.device }
-        ensures told { IsTrue D.tells → OnOk result (length (D.content self.old.device) < 2 ^ 64) }
-        ensures ended { IsTrue D.tells →
-            IfOk result (λ n. n ≡ 0 → 0 < length out.new → length (D.content self.old.device) ≤ at) }
-        ensures frame { more_partition (D.read_frame self.new.device) self.new.writes.number self.new.others.number
-            ≡ more_partition (D.read_frame self.old.device) self.old.writes.number self.old.others.number }
-        ensures calls { (D.reads self.new.device + self.new.reads.number)
-            ≡ (D.reads self.old.device + self.old.reads.number) + 1 }
-        ensures counted { D.given self.new.device ≡ D.given self.old.device + count_of result }
-        ensures faults { (D.read_faults self.old.device + self.old.reads.number)
-            ≤ (D.read_faults self.new.device + self.new.reads.number) }
-        ensures cause { OnErr result ((D.read_faults self.old.device + self.old.reads.number)
-            < (D.read_faults self.new.device + self.new.reads.number)) }
-        ensures clean { OnOk result ((D.read_faults self.new.device + self.new.reads.number)
-            ≡ (D.read_faults self.old.device + self.old.reads.number)) }
-        ensures failed { IfErr result (λ e. e ≡ DeviceFault.Failed) }
-        ensures seen { self.new.seen ≡ min (self.old.seen + 1) u64.MAX }
-        ensures same { self.new.at ≡ self.old.at }
-        ensures fails { self.new.seen ≡ self.old.at → IsErrOf result DeviceFault.Failed }
-        ensures passes { (self.new.seen ≡ self.old.at → ⊥) → self.new.reads.number ≡ self.old.reads.number }
+        ensures has_read { ReadsPlaceOnce ⟦<Faulty<D> as Source>⟧ result self.old self.new at out.new }
+        ensures once { FailsOnce result self.old.at self.new.at self.old.seen self.new.seen self.old.reads.number
+            self.new.reads.number }
     {
         if self.fails() {
             self.reads.add(1);
@@ -274,48 +199,11 @@ impl<D: Partition> Partition for Faulty<D> {
     fn write_at(&mut self, at: u64, bytes: &[u8]) -> Result<usize, DeviceFault>
         requires window { length bytes.now ≤ 65536 }
         requires fits { at + length bytes.now ≤ D.size self.old.device }
-        ensures within { count_of result ≤ length bytes.now }
-        ensures progress { IfOk result (λ n. 0 < length bytes.now → 0 < n) }
-        ensures size { D.size self.new.device ≡ D.size self.old.device }
-        ensures written { IsTrue D.tells →
-            IfOk result (λ n. D.content self.new.device ≡ put_at (D.content self.old.device) at (take n bytes.now)) }
-        ensures kept { IsTrue D.tells →
-            Keeps (in_range at (length bytes.now)) (moment_of (D.past self.old.device) (D.content self.old.device))
-            (moment_of (D.past self.new.device) (D.content self.new.device)) }
-        ensures moments { IsTrue D.tells →
-            EachSince (D.past self.old.device).moments (D.past self.new.device).moments (λ m. m
-            ≡ moment_of (D.past self.new.device) (D.content self.new.device)) }
-        ensures newest { IsTrue D.tells →
-            OnOk result (IsNewest (moment_of (D.past self.new.device) (D.content self.new.device))
-            (D.past self.new.device).moments) }
-        ensures pending { IsTrue D.tells → AllPending (in_range at (count_of result)) (D.past self.new.device).pending }
-        ensures stays { IsTrue D.tells →
-            StaysPending (D.past self.old.device).pending (D.past self.new.device).pending }
-        ensures unsettled { IsTrue D.tells →
-            MayLeave (moment_of (D.past self.new.device) (D.content self.new.device))
-            (D.content self.old.device) }
-        ensures synced { (D.past self.new.device).synced ≡ (D.past self.old.device).synced }
-        ensures calls { (D.puts self.new.device + self.new.writes.number)
-            ≡ (D.puts self.old.device + self.old.writes.number) + 1 }
-        ensures counted { D.taken self.new.device ≡ D.taken self.old.device + count_of result }
-        ensures sync_calls { (D.syncs self.new.device + self.new.others.number)
-            ≡ (D.syncs self.old.device + self.old.others.number) }
-        ensures reads { (D.reads self.new.device + self.new.reads.number)
-            ≡ (D.reads self.old.device + self.old.reads.number) }
-        ensures given { D.given self.new.device ≡ D.given self.old.device }
-        ensures read_faults { (D.read_faults self.new.device + self.new.reads.number)
-            ≡ (D.read_faults self.old.device + self.old.reads.number) }
-        ensures faults { (D.put_faults self.old.device + self.old.writes.number + self.old.others.number)
-            ≤ (D.put_faults self.new.device + self.new.writes.number + self.new.others.number) }
-        ensures cause { OnErr result ((D.put_faults self.old.device + self.old.writes.number + self.old.others.number)
-            < (D.put_faults self.new.device + self.new.writes.number + self.new.others.number)) }
-        ensures clean { OnOk result ((D.put_faults self.new.device + self.new.writes.number + self.new.others.number)
-            ≡ (D.put_faults self.old.device + self.old.writes.number + self.old.others.number)) }
-        ensures failed { IfErr result (λ e. e ≡ DeviceFault.Failed) }
-        ensures seen { self.new.seen ≡ min (self.old.seen + 1) u64.MAX }
-        ensures same { self.new.at ≡ self.old.at }
-        ensures fails { self.new.seen ≡ self.old.at → IsErrOf result DeviceFault.Failed }
-        ensures passes { (self.new.seen ≡ self.old.at → ⊥) → self.new.writes.number ≡ self.old.writes.number }
+        ensures laid { let p = ⟦<Faulty<D> as Partition>⟧ in HasLaid p.tells p.content p.past result self.old self.new at bytes.now }
+        ensures put { let p = ⟦<Faulty<D> as Partition>⟧ in HasPut p.size p.reads p.given p.read_faults p.puts p.taken
+            p.syncs p.put_faults result self.old self.new (length bytes.now) }
+        ensures once { FailsOnce result self.old.at self.new.at self.old.seen self.new.seen self.old.writes.number
+            self.new.writes.number }
     {
         if self.fails() {
             self.writes.add(1);
@@ -325,42 +213,11 @@ impl<D: Partition> Partition for Faulty<D> {
     }
 
     fn sync(&mut self) -> Result<(), DeviceFault>
-        ensures size { D.size self.new.device ≡ D.size self.old.device }
-        ensures kept { IsTrue D.tells →
-            Keeps (λ _. false) (moment_of (D.past self.old.device) (D.content self.old.device))
-            (moment_of (D.past self.new.device) (D.content self.new.device)) }
-        ensures settled { IsTrue D.tells → OnOk result ((D.past self.new.device).pending ≡ []) }
-        ensures newest { IsTrue D.tells →
-            OnOk result (IsNewest (moment_of (D.past self.new.device) (D.content self.new.device))
-            (D.past self.new.device).moments) }
-        ensures stays { IsTrue D.tells →
-            OnErr result (StaysPending (D.past self.old.device).pending (D.past self.new.device).pending) }
-        ensures moments { IsTrue D.tells →
-            EachSince (D.past self.old.device).moments (D.past self.new.device).moments (λ m. m
-            ≡ moment_of (D.past self.new.device) (D.content self.new.device)) }
-        ensures synced { (D.past self.new.device).synced
-            ≡ (D.past self.old.device).synced + (if is_ok result then 1 else 0) }
-        ensures puts { (D.puts self.new.device + self.new.writes.number)
-            ≡ (D.puts self.old.device + self.old.writes.number) }
-        ensures taken { D.taken self.new.device ≡ D.taken self.old.device }
-        ensures calls { (D.syncs self.new.device + self.new.others.number)
-            ≡ (D.syncs self.old.device + self.old.others.number) + 1 }
-        ensures reads { (D.reads self.new.device + self.new.reads.number)
-            ≡ (D.reads self.old.device + self.old.reads.number) }
-        ensures given { D.given self.new.device ≡ D.given self.old.device }
-        ensures read_faults { (D.read_faults self.new.device + self.new.reads.number)
-            ≡ (D.read_faults self.old.device + self.old.reads.number) }
-        ensures faults { (D.put_faults self.old.device + self.old.writes.number + self.old.others.number)
-            ≤ (D.put_faults self.new.device + self.new.writes.number + self.new.others.number) }
-        ensures cause { OnErr result ((D.put_faults self.old.device + self.old.writes.number + self.old.others.number)
-            < (D.put_faults self.new.device + self.new.writes.number + self.new.others.number)) }
-        ensures clean { OnOk result ((D.put_faults self.new.device + self.new.writes.number + self.new.others.number)
-            ≡ (D.put_faults self.old.device + self.old.writes.number + self.old.others.number)) }
-        ensures failed { IfErr result (λ e. e ≡ DeviceFault.Failed) }
-        ensures seen { self.new.seen ≡ min (self.old.seen + 1) u64.MAX }
-        ensures same { self.new.at ≡ self.old.at }
-        ensures fails { self.new.seen ≡ self.old.at → IsErrOf result DeviceFault.Failed }
-        ensures passes { (self.new.seen ≡ self.old.at → ⊥) → self.new.others.number ≡ self.old.others.number }
+        ensures settled { let p = ⟦<Faulty<D> as Partition>⟧ in HasSettled p.tells p.content p.past result self.old self.new }
+        ensures synced { let p = ⟦<Faulty<D> as Partition>⟧ in HasSynced p.size p.reads p.given p.read_faults p.puts p.taken
+            p.syncs p.put_faults result self.old self.new }
+        ensures once { FailsOnce result self.old.at self.new.at self.old.seen self.new.seen self.old.others.number
+            self.new.others.number }
     {
         if self.fails() {
             self.others.add(1);
@@ -394,36 +251,11 @@ impl<D: Spool> Spool for Faulty<D> {
     }
 
     fn clear(&mut self) -> Result<(), DeviceFault>
-        ensures written { D.written self.new.device ≡ D.written self.old.device }
-        ensures cut { OnOk result (D.cuts self.new.device
-            ≡ length (D.written self.old.device) ∷ D.cuts self.old.device) }
-        ensures gone { OnOk result (D.gone self.new.device ≡ length (D.written self.old.device)) }
-        ensures kept { OnErr result ((D.cuts self.new.device ≡ D.cuts self.old.device)
-            × (D.gone self.new.device ≡ D.gone self.old.device)) }
-        ensures size { D.size self.new.device ≡ D.size self.old.device }
-        ensures given { D.given self.new.device ≡ D.given self.old.device }
-        ensures reads { (D.reads self.new.device + self.new.reads.number)
-            ≡ (D.reads self.old.device + self.old.reads.number) }
-        ensures writes { (D.writes self.new.device + self.new.writes.number)
-            ≡ (D.writes self.old.device + self.old.writes.number) }
-        ensures read_faults { (D.read_faults self.new.device + self.new.reads.number)
-            ≡ (D.read_faults self.old.device + self.old.reads.number) }
-        ensures write_faults { (D.write_faults self.new.device + self.new.writes.number)
-            ≡ (D.write_faults self.old.device + self.old.writes.number) }
-        ensures full_faults { D.full_faults self.new.device ≡ D.full_faults self.old.device }
-        ensures calls { (D.clears self.new.device + self.new.others.number)
-            ≡ (D.clears self.old.device + self.old.others.number) + 1 }
-        ensures faults { (D.clear_faults self.old.device + self.old.others.number)
-            ≤ (D.clear_faults self.new.device + self.new.others.number) }
-        ensures cause { OnErr result ((D.clear_faults self.old.device + self.old.others.number)
-            < (D.clear_faults self.new.device + self.new.others.number)) }
-        ensures clean { OnOk result ((D.clear_faults self.new.device + self.new.others.number)
-            ≡ (D.clear_faults self.old.device + self.old.others.number)) }
-        ensures failed { IfErr result (λ e. e ≡ DeviceFault.Failed) }
-        ensures seen { self.new.seen ≡ min (self.old.seen + 1) u64.MAX }
-        ensures same { self.new.at ≡ self.old.at }
-        ensures fails { self.new.seen ≡ self.old.at → IsErrOf result DeviceFault.Failed }
-        ensures passes { (self.new.seen ≡ self.old.at → ⊥) → self.new.others.number ≡ self.old.others.number }
+        ensures cleared { let s = ⟦<Faulty<D> as Spool>⟧ in HasCleared s.written s.gone s.cuts result self.old self.new }
+        ensures counted { let s = ⟦<Faulty<D> as Spool>⟧ in HasCountedClear s.size s.given s.reads s.writes s.read_faults s.write_faults
+            s.full_faults s.clears s.clear_faults result self.old self.new }
+        ensures once { FailsOnce result self.old.at self.new.at self.old.seen self.new.seen self.old.others.number
+            self.new.others.number }
     {
         if self.fails() {
             self.others.add(1);

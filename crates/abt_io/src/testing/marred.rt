@@ -1,12 +1,9 @@
 //! A partition whose first write over one byte fails and leaves something else there.
 
-ghost use Rattle.std.specs.Prelude.{◌≡◌, ◌<◌, ◌≤◌, ◌+◌, IsTrue, IfOk, IfErr, OnOk, OnErr, IsErrOf, false, true};
-ghost use Rattle.std.specs.Prelude.{length, take};
-ghost use Rattle.abt_io.specs.Count.{count_of};
+ghost use Rattle.std.specs.Prelude.{◌≡◌, ◌<◌, ◌≤◌, ◌+◌, IsTrue, IsErrOf, false, true, length};
+ghost use Rattle.abt_io.specs.Calls.{HasLaid, HasPut};
 ghost use Rattle.abt_io.specs.Crash.{IsTorn};
 ghost use Rattle.abt_io.specs.FrameLaws.{marred_partition};
-ghost use Rattle.abt_io.specs.Moment.{Keeps, EachSince, IsNewest, MayLeave, StaysPending, AllPending};
-ghost use Rattle.abt_io.specs.Moment.{in_range, moment_of, put_at};
 
 use crate::laying::lay_byte;
 use crate::{DeviceFault, Partition, Source, Tally, Window};
@@ -94,43 +91,9 @@ impl<P: Partition> Partition for Marred<P> {
     fn write_at(&mut self, at: u64, bytes: &[u8]) -> Result<usize, DeviceFault>
         requires window { length bytes.now ≤ 65536 }
         requires fits { at + length bytes.now ≤ P.size self.old.partition }
-        ensures within { count_of result ≤ length bytes.now }
-        ensures progress { IfOk result (λ n. 0 < length bytes.now → 0 < n) }
-        ensures size { P.size self.new.partition ≡ P.size self.old.partition }
-        ensures written { IsTrue P.tells →
-            IfOk result (λ n. P.content self.new.partition
-            ≡ put_at (P.content self.old.partition) at (take n bytes.now)) }
-        ensures kept { IsTrue P.tells →
-            Keeps (in_range at (length bytes.now))
-            (moment_of (P.past self.old.partition) (P.content self.old.partition))
-            (moment_of (P.past self.new.partition) (P.content self.new.partition)) }
-        ensures moments { IsTrue P.tells →
-            EachSince (P.past self.old.partition).moments (P.past self.new.partition).moments (λ m. m
-            ≡ moment_of (P.past self.new.partition) (P.content self.new.partition)) }
-        ensures newest { IsTrue P.tells →
-            OnOk result (IsNewest (moment_of (P.past self.new.partition) (P.content self.new.partition))
-            (P.past self.new.partition).moments) }
-        ensures pending { IsTrue P.tells →
-            AllPending (in_range at (count_of result)) (P.past self.new.partition).pending }
-        ensures stays { IsTrue P.tells →
-            StaysPending (P.past self.old.partition).pending (P.past self.new.partition).pending }
-        ensures unsettled { IsTrue P.tells →
-            MayLeave (moment_of (P.past self.new.partition) (P.content self.new.partition))
-            (P.content self.old.partition) }
-        ensures synced { (P.past self.new.partition).synced ≡ (P.past self.old.partition).synced }
-        ensures calls { P.puts self.new.partition ≡ P.puts self.old.partition + 1 }
-        ensures counted { self.new.taken.number ≡ self.old.taken.number + count_of result }
-        ensures sync_calls { P.syncs self.new.partition ≡ P.syncs self.old.partition }
-        ensures reads { P.reads self.new.partition ≡ P.reads self.old.partition }
-        ensures given { P.given self.new.partition ≡ P.given self.old.partition }
-        ensures read_faults { P.read_faults self.new.partition ≡ P.read_faults self.old.partition }
-        ensures faults { (P.put_faults self.old.partition + self.old.faults.number)
-            ≤ (P.put_faults self.new.partition + self.new.faults.number) }
-        ensures cause { OnErr result ((P.put_faults self.old.partition + self.old.faults.number)
-            < (P.put_faults self.new.partition + self.new.faults.number)) }
-        ensures clean { OnOk result ((P.put_faults self.new.partition + self.new.faults.number)
-            ≡ (P.put_faults self.old.partition + self.old.faults.number)) }
-        ensures failed { IfErr result (λ e. e ≡ DeviceFault.Failed) }
+        ensures laid { let p = ⟦<Marred<P> as Partition>⟧ in HasLaid p.tells p.content p.past result self.old self.new at bytes.now }
+        ensures put { let p = ⟦<Marred<P> as Partition>⟧ in HasPut p.size p.reads p.given p.read_faults p.puts p.taken
+            p.syncs p.put_faults result self.old self.new (length bytes.now) }
         ensures tears { self.old.is_done ≡ false → at ≤ self.old.at → self.old.at < at + length bytes.now →
             IsErrOf result DeviceFault.Failed × (self.new.is_done ≡ true) }
         ensures torn { IsTrue P.tells → self.old.is_done ≡ false → at ≤ self.old.at →

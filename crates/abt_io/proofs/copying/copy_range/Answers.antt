@@ -15,9 +15,6 @@ returns-in_err-got-clause-front g c tells =
     let long : length w2 - length w0 ≡ at + d = omega arith in
     as_front_of w0 w2 _ (at + d) c.args.n (copied_more w0 w1 w2 _ _ c.args.from at d (i.content tells) (i.written tells) (e.front tells)) long (omega arith)
 
-pub returns-in_err-got-clause-grown : goal.returns-in_err-got-clause-grown
-returns-in_err-got-clause-grown g c = grown_more _ _ _ c.loop-at.invariant.grown c.in_err-got.ensures.grown (omega arith)
-
 pub loop-at-preserved : goal.loop-at-preserved
 loop-at-preserved g c =
     let e = c.in_ok-got.ensures in
@@ -33,12 +30,12 @@ loop-at-preserved g c =
       given = omega arith;
       long = omega arith;
       present = λ tells. omega (arith, e.present tells, i.present tells, ap length (i.content tells));
-      content = λ tells. e.content tells ∙ i.content tells;
-      size = λ tells. e.size tells ∙ i.size tells;
+      content = λ tells. e.reads.content tells ∙ i.content tells;
+      size = λ tells. e.reads.size tells ∙ i.size tells;
       written = λ tells. copied_more _ w1 w2 _ _ c.args.from at got (i.content tells) (i.written tells) (rw more at (e.front tells));
       grown = grown_more _ w1 w2 i.grown e.grown (omega arith);
-      frame = e.frame ∙ i.frame;
-      write_frame = e.write_frame ∙ i.write_frame;
+      frame = e.reads.frame ∙ i.frame;
+      write_frame = e.writes.frame ∙ i.write_frame;
       read_faults = omega arith;
       write_faults = omega arith;
       full_faults = omega arith;

@@ -3,21 +3,14 @@ use Rattle.std.proofs.lemmas.List.{length-replicate}
 use Rattle.abt_io.proofs.Copied.{zeros_part, zeros_more, zeros_stay, zeros_all}
 use Rattle.abt_io.proofs.copying.write_zeros.Goals as goal
 
-pub write_zeros-requires-clause-zeros : goal.write_zeros-requires-clause-zeros
-write_zeros-requires-clause-zeros g c =
-    let front = c.min-front.result in
-    let bytes = c.lay_byte.new.w.bytes in
-    let part_is : c.part.result.now ≡ take front bytes = c.part.ensures.value ∙ ap (λ (k : ℕ). take k bytes) (let z : front - 0 ≡ front = omega arith in z) in
-    zeros_all _ front (zeros_part bytes c.part.result.now front front c.lay_byte.ensures part_is (let le : front ≤ front = omega arith in le)) (omega arith)
-
 pub returns-in-Err-clause-front : goal.returns-in-Err-clause-front
 returns-in-Err-clause-front g c =
     let i = c.loop-at.invariant in
-    zeros_stay _ _ _ c.loop-at.at c.args.n i.written (rw c.in-Err.is at c.write_zeros.ensures.written) i.within i.long
+    zeros_stay _ _ _ c.loop-at.at c.args.n i.written (rw c.in-Err.is at c.write_zeros.ensures.wrote.written) i.within i.long
 
 pub loop-at-preserved : goal.loop-at-preserved
 loop-at-preserved g c =
-    let e = c.in-Ok.ensures in
+    let e = c.in-Ok.ensures.wrote in
     let i = c.loop-at.invariant in
     let some = c.in-Ok.some in
     let written = g.O.Output.written in

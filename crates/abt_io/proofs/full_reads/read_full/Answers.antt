@@ -5,7 +5,7 @@ use Rattle.abt_io.proofs.full_reads.read_full.Goals as goal
 
 pub loop-at-preserved : goal.loop-at-preserved
 loop-at-preserved g c =
-    let e = c.in-Ok.ensures in
+    let e = c.in-Ok.ensures.passed in
     let i = c.loop-at.invariant in
     let at = c.loop-at.at in
     let long = c.read.auto.out ∙ length_rest at c.loop-at.out in
@@ -14,7 +14,7 @@ loop-at-preserved g c =
       within = omega arith;
       given = omega arith;
       present = λ tells. omega (arith, e.present tells, ap length (i.rest tells), length-drop at (g.I.Input.remaining c.args.input.now));
-      bytes = λ tells. filled c.loop-at.out c.read.new.out _ _ at c.in-Ok.n i.within e.within (i.bytes tells) (i.rest tells) (e.bytes tells);
+      bytes = λ tells. filled c.loop-at.out c.read.new.out _ _ at c.in-Ok.n i.within e.within (i.bytes tells) (i.rest tells) (c.in-Ok.ensures.bytes tells);
       rest = λ tells. rest_more _ _ _ at _ _ (i.rest tells) (e.rest tells) (omega arith);
       none = λ z. absurd (omega arith);
       frame = e.frame ∙ i.frame;

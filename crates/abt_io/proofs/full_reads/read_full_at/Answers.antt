@@ -6,7 +6,7 @@ use Rattle.abt_io.proofs.full_reads.read_full_at.Goals as goal
 
 pub loop-done-preserved : goal.loop-done-preserved
 loop-done-preserved g c =
-    let e = c.in-Ok.ensures in
+    let e = c.in-Ok.ensures.has_read in
     let i = c.loop-done.invariant in
     let done = c.loop-done.done in
     let long = c.read_at.auto.out ∙ length_rest done c.loop-done.out in

@@ -8,28 +8,29 @@ use Rattle.abt_io.proofs.writing.write_all_at.Goals as goal
 pub returns-in_err-done-clause-moments : goal.returns-in_err-done-clause-moments
 returns-in_err-done-clause-moments g c tells =
     let left = length_rest c.loop-done.done c.args.bytes.now in
-    let e = c.write_at.ensures in
+    let e = c.write_at.ensures.laid in
     let i = c.loop-done.invariant in
     (unsynced_more (in_range c.args.at (length c.args.bytes.now)) _ _ _ _ _ _ _ (λ k. within_part c.args.at c.loop-done.done _ (length c.args.bytes.now) k (omega arith)) (i.kept tells) (e.kept tells) (i.moments tells) (e.moments tells) (e.synced ∙ i.synced)).1
 
 pub loop-done-preserved : goal.loop-done-preserved
 loop-done-preserved g c =
-    let e = c.in_ok-done.ensures in
+    let e = c.in_ok-done.ensures.laid in
+    let p = c.in_ok-done.ensures.put in
     let i = c.loop-done.invariant in
     let left = length_rest c.loop-done.done c.args.bytes.now in
     let more = λ (tells : IsTrue g.P.Source.tells). unsynced_more (in_range c.args.at (length c.args.bytes.now)) _ _ _ _ _ _ _ (λ k. within_part c.args.at c.loop-done.done _ (length c.args.bytes.now) k (omega arith)) (i.kept tells) (e.kept tells) (i.moments tells) (e.moments tells) (e.synced ∙ i.synced) in
     record {
       within = omega arith;
-      size = e.size ∙ i.size;
+      size = p.size ∙ i.size;
       written = λ tells. put_on _ _ _ _ c.args.at c.loop-done.done c.in_ok-done.field-0 i.within (omega (arith, g.met.P.Source.sized c.args.partition.now tells)) (i.written tells) (e.written tells);
       kept = λ tells. (more tells).0;
       moments = λ tells. (more tells).1;
       synced = e.synced ∙ i.synced;
       calls = omega arith;
-      syncs = e.sync_calls ∙ i.syncs;
-      reads = e.reads ∙ i.reads;
-      given = e.given ∙ i.given;
-      read_faults = e.read_faults ∙ i.read_faults;
+      syncs = p.sync_calls ∙ i.syncs;
+      reads = p.reads ∙ i.reads;
+      given = p.given ∙ i.given;
+      read_faults = p.read_faults ∙ i.read_faults;
       faults = omega arith;
       taken = omega arith;
       steps = omega arith;

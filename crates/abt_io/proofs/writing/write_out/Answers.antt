@@ -5,7 +5,7 @@ use Rattle.abt_io.proofs.writing.write_out.Goals as goal
 
 pub loop-at-preserved : goal.loop-at-preserved
 loop-at-preserved g c =
-    let e = c.in-Ok.ensures in
+    let e = c.in-Ok.ensures.wrote in
     let bytes = c.args.bytes.now in
     let rest = take (length bytes - c.loop-at.at) (drop c.loop-at.at bytes) in
     let left = length_rest c.loop-at.at bytes in

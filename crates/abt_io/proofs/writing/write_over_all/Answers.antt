@@ -6,30 +6,9 @@ use Rattle.abt_io.specs.Moment.{put_at}
 use Rattle.std.proofs.lemmas.List.{length-take-le, take_all}
 use Rattle.abt_io.proofs.writing.write_over_all.Goals as goal
 
-pub write_over-requires-clause-stands : goal.write_over-requires-clause-stands
-write_over-requires-clause-stands g c =
-    let left = length_rest c.loop-done.done c.args.bytes.now in
-    let i = c.loop-done.invariant in
-    omega arith
-
-pub loop-done-init : goal.loop-done-init
-loop-done-init g c = record {
-  within = omega arith;
-  written = sym (put_none (g.O.Output.written c.args.output.now) c.args.at);
-  long = refl;
-  before = refl;
-  frame = refl;
-  clean = refl;
-  full_faults = refl;
-  calls = omega arith;
-  turns = omega arith;
-  steps = refl;
-  greatest = refl;
-}
-
 pub loop-done-preserved : goal.loop-done-preserved
 loop-done-preserved g c =
-    let e = c.in-Ok.ensures in
+    let e = c.in-Ok.ensures.wrote in
     let i = c.loop-done.invariant in
     let left = length_rest c.loop-done.done c.args.bytes.now in
     let room : c.in-Ok.n ≤ length c.args.bytes.now - c.loop-done.done = omega arith in
@@ -49,19 +28,3 @@ loop-done-preserved g c =
       steps = omega arith;
       greatest = omega arith;
     }
-
-pub returns-in-Err-clause-before : goal.returns-in-Err-clause-before
-returns-in-Err-clause-before g c =
-    ap (take c.args.at) ((rw c.in-Err.is at c.write_over.ensures.written) ∙ put_none (g.O.Output.written c.loop-done.output) (c.args.at + c.loop-done.done)) ∙ c.loop-done.invariant.before
-
-pub returns-in-Err-clause-front : goal.returns-in-Err-clause-front
-returns-in-Err-clause-front g c = record {
-  count = c.loop-done.done;
-  short = omega arith;
-  written = (rw c.in-Err.is at c.write_over.ensures.written) ∙ put_none (g.O.Output.written c.loop-done.output) (c.args.at + c.loop-done.done) ∙ c.loop-done.invariant.written;
-}
-
-pub returns-clause-ok : goal.returns-clause-ok
-returns-clause-ok g c =
-    let i = c.loop-done.invariant in
-    i.written ∙ ap (λ (l : List ℕ). put_at (g.O.Output.written c.args.output.now) c.args.at l) (take_all c.loop-done.done c.args.bytes.now (omega arith))

@@ -1,5 +1,7 @@
-use Rattle.std.proofs.Common.{rules, length, ◌≡◌, ◌∷◌}
-use Rattle.abt_io.specs.Moment.{wrote}
+use Rattle.std.proofs.Common.{rules, length, ◌∙◌, ap, sym, List, ℕ, ◌≡◌, ◌∷◌}
+use Rattle.std.proofs.Math.Nat.{le_refl}
+use Rattle.std.proofs.lemmas.List.{take_all}
+use Rattle.abt_io.specs.Moment.{wrote, put_at}
 use Rattle.abt_io.proofs.Moments.{one_wrote}
 use Rattle.abt_io.proofs.Tracked.{tracked_more, kept_wrote, unsettled_wrote}
 use Rattle.abt_io.proofs.testing.crash.CrashPartitionPartition.write_at.Goals as goal
@@ -11,17 +13,22 @@ invariant_of-self c =
     let pending : c.wrote.new.self.past.pending ≡ (c.args.at, n) ∷ s.history.past.pending = search rules in
     record { tracked = rw (c.put.ensures.value, c.fill.ensures.value, pending) (tracked_more s.now.bytes.now s.stable.bytes.now s.touched.bytes.now s.history.past.pending c.args.at c.args.bytes.now s.tracked c.requires.fits) }
 
-pub returns-clause-kept : goal.returns-clause-kept
-returns-clause-kept c _ =
+pub returns-clause-laid : goal.returns-clause-laid
+returns-clause-laid c =
     let s = c.args.self.now in
-    let past : c.wrote.new.self.past ≡ wrote s.history.past c.put.new.self.bytes.now c.args.at (length c.args.bytes.now) = search rules in
-    rw c.put.ensures.value (kept_wrote s.history.past c.wrote.new.self.past s.now.bytes.now c.args.bytes.now c.args.at c.requires.fits (rw c.put.ensures.value at past))
-
-pub returns-clause-moments : goal.returns-clause-moments
-returns-clause-moments c _ = one_wrote c.args.self.now.history.past c.wrote.new.self.past c.put.new.self.bytes.now c.args.at (length c.args.bytes.now) (search rules)
-
-pub returns-clause-unsettled : goal.returns-clause-unsettled
-returns-clause-unsettled c _ =
-    let s = c.args.self.now in
-    let past : c.wrote.new.self.past ≡ wrote s.history.past c.put.new.self.bytes.now c.args.at (length c.args.bytes.now) = search rules in
-    rw c.put.ensures.value (unsettled_wrote s.history.past c.wrote.new.self.past s.now.bytes.now c.args.bytes.now c.args.at c.requires.fits (rw c.put.ensures.value at past))
+    let n = length c.args.bytes.now in
+    let past : c.wrote.new.self.past ≡ wrote s.history.past c.put.new.self.bytes.now c.args.at n = search rules in
+    let laid = rw c.put.ensures.value at past in
+    record {
+      written = λ tells. c.put.ensures.value
+          ∙ ap (λ (l : List ℕ). put_at s.now.bytes.now c.args.at l) (sym (take_all (length c.args.bytes.now) c.args.bytes.now (le_refl _)));
+      kept = λ tells. rw c.put.ensures.value
+          (kept_wrote s.history.past c.wrote.new.self.past s.now.bytes.now c.args.bytes.now c.args.at c.requires.fits laid);
+      moments = λ tells. one_wrote s.history.past c.wrote.new.self.past c.put.new.self.bytes.now c.args.at n past;
+      newest = λ tells. search rules;
+      pending = λ tells. search rules;
+      stays = λ tells. search rules;
+      unsettled = λ tells. rw c.put.ensures.value
+          (unsettled_wrote s.history.past c.wrote.new.self.past s.now.bytes.now c.args.bytes.now c.args.at c.requires.fits laid);
+      synced = search rules;
+    }
